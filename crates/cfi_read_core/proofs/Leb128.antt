@@ -1,0 +1,264 @@
+-- An unsigned LEB128 number, byte by byte.
+use Rattle.std.proofs.Common.{◌≡◌, ◌≤◌, ◌<◌, ◌+◌, ◌-◌, ◌*◌, ◌^◌, ◌%◌, ℕ, zero, suc, Bool, true, false, List, [], ◌∷◌, length, take, drop, get_or, Ok, Err, cond, refl, sym, ap, ◌∙◌, arith, add-zero, drop-cons, ⊎_elim}
+use Rattle.std.specs.Prelude.{nat_lt, nat_le, slice_index, slice_range, if◌then◌else◌}
+use Rattle.std.specs.List.{prefix_len}
+use Rattle.std.proofs.lemmas.Bool.{cases_lt}
+use Rattle.std.proofs.Math.Nat.{pow-le-pow_right, pow-suc, mul-le-mul_right}
+use Rattle.cfi_read_core.specs.declared.error.Error.{Error}
+use Rattle.cfi_read_core.specs.declared.error.Error.TheVariants.{BadUnsignedLeb128}
+use Rattle.cfi_read_core.specs.Reading.{Read, Source, Outcome, ended, rest, carry_on, refuse_if, refuse, give, ◌>>◌}
+use Rattle.std.specs.Int.{w8}
+use Rattle.cfi_read_core.specs.Numbers.{unsigned, number_of, leb128_sum, going_on, leb128_bytes, unsigned_leb128}
+use borrow.Author.Tests.{le-leb, lt-leb, lt-ltb, le-ltb}
+
+abbrev pub goes_on : ℕ → Bool
+goes_on b = nat_le 128 b
+
+-- what is given where n bytes go on: bs are they and the last one, which may be the tenth only if it is small
+abbrev given : Bool → Bool → ℕ → ℕ → ℕ → Outcome ℕ
+given true true n number place = record { value = Err BadUnsignedLeb128; place = place + n + 1 }
+given true false n number place = record { value = Ok number; place = place + n + 1 }
+given false large n number place = record { value = Err (ended (place + n)); place = place + n }
+
+-- What is left of a number gives, where m bytes at most may still go on, the next byte counts w, and those before
+-- it count v.
+abbrev pub left_gives : ℕ → ℕ → ℕ → List ℕ → ℕ → Outcome ℕ
+left_gives m w v left place =
+    let n = prefix_len goes_on (take m left) in
+    let bs = take (n + 1) left in
+    given (nat_lt n (length left)) (nat_lt 1 (slice_index bs m)) n (v + w * leb128_sum bs) place
+
+pub nothing_left : (m w v place : ℕ) → left_gives m w v [] place ≡ record { value = Err (ended place); place = place }
+nothing_left zero w v place = ap (λ (p : ℕ). let o : Outcome ℕ = record { value = Err (ended p); place = p } in o) (add-zero place)
+nothing_left (suc m) w v place = ap (λ (p : ℕ). let o : Outcome ℕ = record { value = Err (ended p); place = p } in o) (add-zero place)
+
+pub same_test : (a b : ℕ) → nat_lt (suc a) (suc b) ≡ nat_lt a b
+same_test a b =
+    ⊎_elim
+    (λ less. lt-ltb (suc a) (suc b) (omega arith) ∙ sym (lt-ltb a b less))
+    (λ more. le-ltb (suc a) (suc b) (omega arith) ∙ sym (le-ltb a b more))
+    (cases_lt a b)
+
+shifted : (t large : Bool) (n number place : ℕ) → given t large (suc n) number place ≡ given t large n number (place + 1)
+shifted true true n number place = ap (λ (p : ℕ). let o : Outcome ℕ = record { value = Err BadUnsignedLeb128; place = p } in o) (omega arith)
+shifted true false n number place = ap (λ (p : ℕ). let o : Outcome ℕ = record { value = Ok number; place = p } in o) (omega arith)
+shifted false large n number place = ap (λ (p : ℕ). let o : Outcome ℕ = record { value = Err (ended p); place = p } in o) (omega arith)
+
+abbrev gives_at : ℕ → ℕ → ℕ → ℕ → List ℕ → ℕ → Outcome ℕ
+gives_at n m w v left place = given (nat_lt n (length left)) (nat_lt 1 (slice_index (take (n + 1) left) m)) n (v + w * leb128_sum (take (n + 1) left)) place
+
+further_at : (n m w v b place : ℕ) (bs : List ℕ) → gives_at (suc n) (suc m) w v (b ∷ bs) place ≡ gives_at n m (w * 128) (v + w * (b % 128)) bs (place + 1)
+further_at n m w v b place bs =
+    let over : suc n + 1 ≡ suc (n + 1) = omega arith in
+    let sum = leb128_sum (take (n + 1) bs) in
+    let number : v + w * (b % 128 + 128 * sum) ≡ v + w * (b % 128) + w * 128 * sum = omega arith in
+    let large = nat_lt 1 (slice_index (take (n + 1) bs) m) in
+    ap (λ (k : ℕ). given (nat_lt (suc n) (suc (length bs))) (nat_lt 1 (slice_index (take k (b ∷ bs)) (suc m))) (suc n) (v + w * leb128_sum (take k (b ∷ bs))) place) over
+    ∙ ap (λ (t : Bool). given t large (suc n) (v + w * (b % 128 + 128 * sum)) place) (same_test n (length bs))
+    ∙ ap (λ (x : ℕ). given (nat_lt n (length bs)) large (suc n) x place) number
+    ∙ shifted (nat_lt n (length bs)) large n (v + w * (b % 128) + w * 128 * sum) place
+
+pub goes_further : (m w v b place : ℕ) (bs : List ℕ) → 128 ≤ b → left_gives (suc m) w v (b ∷ bs) place ≡ left_gives m (w * 128) (v + w * (b % 128)) bs (place + 1)
+goes_further m w v b place bs h =
+    let n = prefix_len goes_on (take m bs) in
+    let longer : 1 + n ≡ suc n = omega arith in
+    ap (λ (t : Bool). gives_at (cond t (1 + n) 0) (suc m) w v (b ∷ bs) place) (le-leb 128 b h)
+    ∙ ap (λ (k : ℕ). gives_at k (suc m) w v (b ∷ bs) place) longer
+    ∙ further_at n m w v b place bs
+
+last_at : (large : Bool) (m w v b place : ℕ) (bs : List ℕ) → given (nat_lt 0 (suc (length bs))) large 0 (v + w * (b % 128 + 0)) place ≡ given true large 0 (v + w * (b % 128)) place
+last_at large m w v b place bs =
+    let some : nat_lt 0 (suc (length bs)) ≡ true = lt-ltb _ _ (omega arith) in
+    let number : v + w * (b % 128 + 0) ≡ v + w * (b % 128) = ap (λ (x : ℕ). v + w * x) (omega arith) in
+    rw (some, number) refl
+
+ok_at : (w v b place : ℕ) → b < 128 → given true false 0 (v + w * (b % 128)) place ≡ record { value = Ok (v + w * b); place = place + 1 }
+ok_at w v b place h =
+    let low : b % 128 ≡ b = omega arith in
+    let next : place + 0 + 1 ≡ place + 1 = omega arith in
+    rw (low, next) refl
+
+pub ends_here : (m w v b place : ℕ) (bs : List ℕ) → b < 128 → left_gives (suc m) w v (b ∷ bs) place ≡ record { value = Ok (v + w * b); place = place + 1 }
+ends_here m w v b place bs h =
+    ap (λ (t : Bool). gives_at (cond t (1 + prefix_len goes_on (take m bs)) 0) (suc m) w v (b ∷ bs) place) (lt-leb 128 b h)
+    ∙ (last_at false m w v b place bs ∙ ok_at w v b place h)
+
+pub tenth_ends : (w v b place : ℕ) (bs : List ℕ) → b ≤ 1 → left_gives 0 w v (b ∷ bs) place ≡ record { value = Ok (v + w * b); place = place + 1 }
+tenth_ends w v b place bs h =
+    last_at (nat_lt 1 b) 0 w v b place bs
+    ∙ (ap (λ (large : Bool). given true large 0 (v + w * (b % 128)) place) (le-ltb 1 b h) ∙ ok_at w v b place (omega arith))
+
+pub tenth_too_large : (w v b place : ℕ) (bs : List ℕ) → 1 < b → left_gives 0 w v (b ∷ bs) place ≡ record { value = Err BadUnsignedLeb128; place = place + 1 }
+tenth_too_large w v b place bs h =
+    let next : place + 0 + 1 ≡ place + 1 = omega arith in
+    last_at (nat_lt 1 b) 0 w v b place bs
+    ∙ (ap (λ (large : Bool). given true large 0 (v + w * (b % 128)) place) (lt-ltb 1 b h) ∙ (rw next refl))
+
+abbrev finish : List ℕ → Read ℕ
+finish bs = refuse_if (nat_lt 1 (slice_index bs 9)) BadUnsignedLeb128 >> give (leb128_sum bs)
+
+finished : (source : Source) (place : ℕ) (bs : List ℕ) (large : Bool) → carry_on (λ _. give (leb128_sum bs)) source ((if large then refuse BadUnsignedLeb128 else give large) source place).value ((if large then refuse BadUnsignedLeb128 else give large) source place).place ≡
+    (let o : Outcome ℕ = record { value = if large then Err BadUnsignedLeb128 else Ok (0 + 1 * leb128_sum bs); place = place } in o)
+finished source place bs true = refl
+finished source place bs false = ap (λ (x : ℕ). let o : Outcome ℕ = record { value = Ok x; place = place } in o) (omega arith)
+
+chosen : (t large : Bool) (n number place : ℕ) → given t large n number place ≡
+    (if t then (let o : Outcome ℕ = record { value = if large then Err BadUnsignedLeb128 else Ok number; place = place + n + 1 } in o) else record { value = Err (ended (place + n)); place = place + n })
+chosen true true n number place = refl
+chosen true false n number place = refl
+chosen false large n number place = refl
+
+by_test : (source : Source) (place n : ℕ) (bs : List ℕ) (t : Bool) →
+    let o : Outcome (List ℕ) = if t then record { value = Ok bs; place = place + n + 1 } else record { value = Err (ended (place + n)); place = place + n } in
+    carry_on finish source o.value o.place ≡ given t (nat_lt 1 (slice_index bs 9)) n (0 + 1 * leb128_sum bs) place
+by_test source place n bs true = finished source (place + n + 1) bs (nat_lt 1 (slice_index bs 9)) ∙ sym (chosen true (nat_lt 1 (slice_index bs 9)) n (0 + 1 * leb128_sum bs) place)
+by_test source place n bs false = refl
+
+pub whole_number : (source : Source) (place : ℕ) → unsigned_leb128 source place ≡ left_gives 9 1 0 (rest source place) place
+unfolding unsigned_leb128 leb128_bytes
+whole_number source place =
+    let left = rest source place in
+    let n = going_on left in
+    by_test source place n (take (n + 1) left) (nat_lt n (length left))
+
+-- ---- one byte
+
+pub unsigned_room : (source : Source) (place : ℕ) → place < source.last →
+    unsigned w8 source place ≡ record { value = Ok (number_of w8 source.big_endian (slice_range source.whole place (place + 1))); place = place + 1 }
+unfolding unsigned
+unsigned_room source place h =
+    let room : nat_le 1 (source.last - place) ≡ true = le-leb _ _ (omega arith) in
+    rw room refl
+
+pub unsigned_ended : (source : Source) (place : ℕ) → source.last ≤ place → unsigned w8 source place ≡ record { value = Err (ended place); place = place }
+unfolding unsigned
+unsigned_ended source place h =
+    let none : nat_le 1 (source.last - place) ≡ false = lt-leb _ _ (omega arith) in
+    rw none refl
+
+one_byte : (big_endian : Bool) (b : ℕ) (bs : List ℕ) → number_of w8 big_endian (b ∷ bs) ≡ b
+one_byte true b bs = refl
+one_byte false b bs = refl
+
+first_byte : (source : Source) (place : ℕ) → place < length source.whole → slice_range source.whole place (place + 1) ≡ get_or source.whole place 0 ∷ []
+first_byte source place h =
+    let one : place + 1 - place ≡ 1 = omega arith in
+    ap (λ (n : ℕ). take n (drop place source.whole)) one ∙ ap (take 1) (drop-cons source.whole place 0 h)
+
+rest_cons : (source : Source) (place : ℕ) → place < source.last → source.last ≤ length source.whole → rest source place ≡ get_or source.whole place 0 ∷ rest source (place + 1)
+rest_cons source place h inside =
+    let inside' : place < length source.whole = omega arith in
+    let more : source.last - place ≡ suc (source.last - (place + 1)) = omega arith in
+    let next : place + 1 ≡ suc place = omega arith in
+    ap (λ (n : ℕ). take n (drop place source.whole)) more
+    ∙ ap (take (suc (source.last - (place + 1)))) (drop-cons source.whole place 0 inside')
+    ∙ ap (λ (i : ℕ). get_or source.whole place 0 ∷ take (source.last - (place + 1)) (drop i source.whole)) (sym next)
+
+-- a byte that is read is the first of what is left
+pub byte_there : (source : Source) (place b : ℕ) → source.last ≤ length source.whole → (unsigned w8 source place).value ≡ Ok b →
+    (rest source place ≡ b ∷ rest source (place + 1)) × ((unsigned w8 source place).place ≡ place + 1)
+byte_there source place b inside e =
+    ⊎_elim
+    (λ less.
+    let read = unsigned_room source place less in
+    let inside' : place < length source.whole = omega arith in
+    let is : get_or source.whole place 0 ≡ b =
+    let number : number_of w8 source.big_endian (slice_range source.whole place (place + 1)) ≡ get_or source.whole place 0 = ap (number_of w8 source.big_endian) (first_byte source place inside') ∙ one_byte source.big_endian _ [] in
+    let value : (unsigned w8 source place).value ≡ Ok (number_of w8 source.big_endian (slice_range source.whole place (place + 1))) = ap (λ (o : Outcome ℕ). o.value) read in cc in
+    (rest_cons source place less inside ∙ ap (λ (x : ℕ). x ∷ rest source (place + 1)) is, ap (λ (o : Outcome ℕ). o.place) read))
+    (λ more. let value : (unsigned w8 source place).value ≡ Err (ended place) = ap (λ (o : Outcome ℕ). o.value) (unsigned_ended source place more) in absurd (cc))
+    (cases_lt place source.last)
+
+rest_nil : (source : Source) (place : ℕ) → source.last ≤ place → rest source place ≡ []
+rest_nil source place h = let none : source.last - place ≡ 0 = omega arith in ap (λ (n : ℕ). take n (drop place source.whole)) none
+
+-- where none is read nothing is left
+pub no_byte_there : (source : Source) (place : ℕ) (e : Error) → (unsigned w8 source place).value ≡ Err e →
+    (rest source place ≡ []) × (ended place ≡ e) × ((unsigned w8 source place).place ≡ place)
+no_byte_there source place e is =
+    ⊎_elim
+    (λ less. let value : (unsigned w8 source place).value ≡ Ok _ = ap (λ (o : Outcome ℕ). o.value) (unsigned_room source place less) in absurd (cc))
+    (λ more.
+    let read = unsigned_ended source place more in
+    let value : (unsigned w8 source place).value ≡ Err (ended place) = ap (λ (o : Outcome ℕ). o.value) read in
+    (rest_nil source place more, cc, ap (λ (o : Outcome ℕ). o.place) read))
+    (cases_lt place source.last)
+
+-- ---- the turns of the loop: i bytes are read, and count v; whole is what the number gives
+
+module _ (source : Source) (inside : source.last ≤ length source.whole) (place i w v : ℕ) (whole : Outcome ℕ)
+    (number : left_gives (9 - i) w v (rest source place) place ≡ whole) where
+  pub turn_ended : (e : Error) → (unsigned w8 source place).value ≡ Err e → whole ≡ record { value = Err e; place = place }
+  turn_ended e is =
+      let there = no_byte_there source place e is in
+      sym number ∙ ap (λ (left : List ℕ). left_gives (9 - i) w v left place) there.0
+      ∙ (nothing_left (9 - i) w v place ∙ ap (λ (r : Error). let o : Outcome ℕ = record { value = Err r; place = place } in o) there.1)
+
+  pub turn_too_large : (b : ℕ) → (unsigned w8 source place).value ≡ Ok b → i ≡ 9 → 1 < b → whole ≡ record { value = Err BadUnsignedLeb128; place = place + 1 }
+  turn_too_large b is tenth large =
+      let there = byte_there source place b inside is in
+      let none : 9 - i ≡ 0 = omega arith in
+      sym number ∙ ap (λ (left : List ℕ). left_gives (9 - i) w v left place) there.0
+      ∙ ap (λ (m : ℕ). left_gives m w v (b ∷ rest source (place + 1)) place) none
+      ∙ tenth_too_large w v b place (rest source (place + 1)) large
+
+  last_turn : (m b : ℕ) → 9 - i ≡ m → rest source place ≡ b ∷ rest source (place + 1) → b < 128 → (m ≡ 0 → b ≤ 1) → whole ≡ record { value = Ok (v + w * b); place = place + 1 }
+  last_turn zero b left there small tenth =
+      sym number ∙ ap (λ (l : List ℕ). left_gives (9 - i) w v l place) there
+      ∙ ap (λ (m : ℕ). left_gives m w v (b ∷ rest source (place + 1)) place) left
+      ∙ tenth_ends w v b place (rest source (place + 1)) (tenth refl)
+  last_turn (suc m) b left there small tenth =
+      sym number ∙ ap (λ (l : List ℕ). left_gives (9 - i) w v l place) there
+      ∙ ap (λ (m : ℕ). left_gives m w v (b ∷ rest source (place + 1)) place) left
+      ∙ ends_here m w v b place (rest source (place + 1)) small
+
+  pub turn_last : (b : ℕ) → (unsigned w8 source place).value ≡ Ok b → b < 128 → i ≤ 9 → (i ≡ 9 → b ≤ 1) → whole ≡ record { value = Ok (v + w * b); place = place + 1 }
+  turn_last b is small few tenth = last_turn (9 - i) b refl (byte_there source place b inside is).0 small (λ z. tenth (omega arith))
+
+  pub turn_further : (b : ℕ) → (unsigned w8 source place).value ≡ Ok b → 128 ≤ b → i < 9 →
+      left_gives (9 - (i + 1)) (w * 128) (v + w * (b % 128)) (rest source (place + 1)) (place + 1) ≡ whole
+  turn_further b is more few =
+      let there = byte_there source place b inside is in
+      let left : 9 - i ≡ suc (9 - (i + 1)) = omega arith in
+      sym (goes_further (9 - (i + 1)) w v b place (rest source (place + 1)) more)
+      ∙ (ap (λ (m : ℕ). left_gives m w v (b ∷ rest source (place + 1)) place) (sym left)
+      ∙ (ap (λ (l : List ℕ). left_gives (9 - i) w v l place) (sym there.0) ∙ number))
+
+-- ---- sums that fit
+
+tenth_power : 128 ^ 9 ≡ 9223372036854775808
+tenth_power = refl
+
+-- a byte that may be the last adds no more than 64 bits hold
+pub room : (i w v b : ℕ) → i ≤ 9 → w ≡ 128 ^ i → v < w → b < 256 → (i ≡ 9 → b ≤ 1) → v + b % 128 * w < 18446744073709551616
+room i w v b few weighs bound byte tenth =
+    ⊎_elim
+    (λ (before : i < 9).
+    let grows : 128 ^ suc i ≤ 128 ^ 9 = pow-le-pow_right {n = 128} (omega arith) {i = suc i} {j = 9} (omega arith) in
+    let next : 128 ^ suc i ≡ 128 ^ i * 128 = pow-suc 128 i in
+    let low : b % 128 ≤ 127 = omega arith in
+    let product : b % 128 * w ≤ 127 * w = mul-le-mul_right w low in
+    omega (arith, tenth_power))
+    (λ (last : 9 ≤ i).
+    let here : i ≡ 9 = omega arith in
+    let small : b ≤ 1 = tenth here in
+    let same : b % 128 ≡ b = omega arith in
+    let weight : w ≡ 9223372036854775808 = weighs ∙ (ap (λ (n : ℕ). 128 ^ n) here ∙ tenth_power) in
+    let product : b % 128 * w ≤ 1 * w = mul-le-mul_right w (omega arith) in
+    omega arith)
+    (cases_lt i 9)
+
+pub weight_grows : (i w : ℕ) → i < 9 → w ≡ 128 ^ i → (w * 128 ≡ 128 ^ (i + 1)) × (w * 128 < 18446744073709551616)
+weight_grows i w few weighs =
+    let grows : 128 ^ suc i ≤ 128 ^ 9 = pow-le-pow_right {n = 128} (omega arith) {i = suc i} {j = 9} (omega arith) in
+    let next : 128 ^ suc i ≡ 128 ^ i * 128 = pow-suc 128 i in
+    let same : i + 1 ≡ suc i = omega arith in
+    let sum : w * 128 ≡ 128 ^ suc i = ap (λ (n : ℕ). n * 128) weighs ∙ sym next in
+    (sum ∙ ap (λ (n : ℕ). 128 ^ n) (sym same), omega (arith, tenth_power))
+
+-- what counts so far is below what the next byte counts
+pub bounded : (v w b : ℕ) → v < w → v + b % 128 * w < w * 128
+bounded v w b h =
+    let low : b % 128 ≤ 127 = omega arith in
+    let product : b % 128 * w ≤ 127 * w = mul-le-mul_right w low in
+    omega arith

@@ -1,0 +1,7 @@
+pub mod Given
+pub mod Leb128
+pub mod Onward
+pub mod Repeating
+mod Vectors
+pub mod Texts
+pub mod SignedLeb128

@@ -1,0 +1,90 @@
+//! Addresses of 1, 2, 4 or 8 bytes, and their sums.
+ghost use Rattle.std.specs.Prelude.{◌≡◌, ⊤, ℕ, true};
+ghost use Rattle.cfi_read_core.specs.Addresses.{IsAddressSize, is_sized, wrap, checked_sum};
+ghost use Rattle.cfi_read_core.specs.Readers.{map_ok};
+
+use crate::error::{Error, Result};
+use std::alloc::AllocError;
+
+/// The size of an address in bytes: 1, 2, 4 or 8.
+#[derive(Debug, PartialEq, Eq)]
+pub struct AddressSize {
+    bytes: u8,
+    ghost sized: { is_sized bytes ≡ true },
+}
+
+impl Clone for AddressSize {
+    ghost is_clone = { λ x y. y ≡ x };
+
+    ghost is_infallible = { λ _. ⊤ };
+
+    fn clone(&self) -> std::result::Result<Self, AllocError> {
+        Ok(*self)
+    }
+}
+
+impl Copy for AddressSize {}
+
+impl AddressSize {
+    /// A size that is known to be 1, 2, 4 or 8.
+    pub fn new(bytes: u8) -> Self
+        requires { IsAddressSize bytes }
+        ensures { result.bytes ≡ bytes }
+    {
+        AddressSize { bytes }
+    }
+
+    /// How many bytes an address takes.
+    pub fn bytes(self) -> u8
+        ensures { result ≡ self.bytes }
+    {
+        self.bytes
+    }
+}
+
+/// An address, whose sums are bounded by its size in bytes: 1, 2, 4 or 8.
+pub trait ReaderAddress: Copy {
+    /// The number.
+    ghost number: { Self → ℕ };
+
+    /// The sum, or `AddressOverflow` where it is no address of the size.
+    fn add_sized(self, length: u64, size: u8) -> Result<Self>
+        requires { IsAddressSize size }
+        ensures { map_ok number result ≡ checked_sum (number self) length size };
+
+    /// The sum, which wraps at the size.
+    fn wrapping_add_sized(self, length: u64, size: u8) -> Self
+        requires { IsAddressSize size }
+        ensures { number result ≡ wrap (number self) length size };
+}
+
+impl ReaderAddress for u64 {
+    ghost number = { λ n. n };
+
+    fn add_sized(self, length: u64, size: u8) -> Result<u64> {
+        let Some(sum) = self.checked_add(length) else {
+            return Err(Error::AddressOverflow);
+        };
+        let fits = match size {
+            1 => sum <= 0xff,
+            2 => sum <= 0xffff,
+            4 => sum <= 0xffff_ffff,
+            _ => true,
+        };
+        if fits {
+            Ok(sum)
+        } else {
+            Err(Error::AddressOverflow)
+        }
+    }
+
+    fn wrapping_add_sized(self, length: u64, size: u8) -> u64 {
+        let sum = self.wrapping_add(length);
+        match size {
+            1 => sum % 0x100,
+            2 => sum % 0x1_0000,
+            4 => sum % 0x1_0000_0000,
+            _ => sum,
+        }
+    }
+}

@@ -1,0 +1,90 @@
+//! The plain types that every layer names.
+ghost use Rattle.std.specs.Prelude.{◌≡◌, ◌≤◌, Ok, Err, nat_le, if◌then◌else◌};
+ghost use Rattle.cfi_read_core.specs.Numbers.{register_of};
+
+use crate::error::{Error, Result};
+
+/// Whether lengths and section offsets take four bytes or eight (DWARF 5 section 7.4).
+#[derive(Clone, Copy, Debug, PartialEq, Eq)]
+pub enum Format {
+    /// 32-bit DWARF: four bytes.
+    Dwarf32,
+    /// 64-bit DWARF: eight bytes.
+    Dwarf64,
+}
+
+/// The parameters of an entry's encoding.
+#[derive(Clone, Copy, Debug, PartialEq, Eq)]
+pub struct Encoding {
+    /// The format of lengths and offsets.
+    pub format: Format,
+    /// The version field.
+    pub version: u16,
+    /// How many bytes an address takes: 1, 2, 4 or 8.
+    pub address_size: u8,
+}
+
+/// The number of a register, as the processor's ABI gives it (DWARF 5 section 2.6.1.1.3).
+#[derive(Clone, Copy, Debug, Default, PartialEq, Eq)]
+pub struct Register(pub u16);
+
+impl Register {
+    /// The register of a number. Numbers above 65535 are refused with `UnsupportedRegister`.
+    pub fn from_u64(number: u64) -> Result<Register>
+        ensures { result ≡ register_of number }
+    {
+        if number <= 0xffff {
+            Ok(Register(number as u16))
+        } else {
+            Err(Error::UnsupportedRegister(number))
+        }
+    }
+}
+
+/// Whose vendor opcodes are read (DWARF 5 section 7.24, `DW_CFA_lo_user` to `DW_CFA_hi_user`).
+#[derive(Clone, Copy, Debug, PartialEq, Eq)]
+pub enum Vendor {
+    /// No vendor's but GNU's.
+    Default,
+    /// Those of the AArch64 ABI too.
+    AArch64,
+}
+
+/// Which section a reader is over.
+#[derive(Clone, Copy, Debug, PartialEq, Eq)]
+pub enum SectionId {
+    /// `.debug_frame` (DWARF 5 section 6.4).
+    DebugFrame,
+    /// `.eh_frame` (LSB Core, "The .eh_frame section").
+    EhFrame,
+    /// `.eh_frame_hdr` (LSB Core, "The .eh_frame_hdr section").
+    EhFrameHdr,
+}
+
+/// An offset in `.debug_frame`.
+#[derive(Clone, Copy, Debug, PartialEq, Eq)]
+pub struct DebugFrameOffset<T>(pub T);
+
+/// An offset in `.eh_frame`.
+#[derive(Clone, Copy, Debug, PartialEq, Eq)]
+pub struct EhFrameOffset<T>(pub T);
+
+impl<T> From<T> for DebugFrameOffset<T> {
+    ghost from_gives = { λ x y. y.0 ≡ x };
+
+    fn from(offset: T) -> Self {
+        DebugFrameOffset(offset)
+    }
+}
+
+impl<T> From<T> for EhFrameOffset<T> {
+    ghost from_gives = { λ x y. y.0 ≡ x };
+
+    fn from(offset: T) -> Self {
+        EhFrameOffset(offset)
+    }
+}
+
+/// The storage with room for 192 register rules a row and 4 rows, the rows on the heap.
+#[derive(Clone, Copy, Debug, PartialEq, Eq)]
+pub struct StoreOnHeap;

@@ -1,0 +1,132 @@
+//! The constants of DWARF 5 and of the LSB that the layer names.
+ghost use Rattle.std.specs.Prelude.{◌≡◌, ◌*◌};
+ghost use Rattle.cfi_read_core.specs.Encodings.{format_of, application_of, is_indirect, is_valid_encoding};
+
+/// The encoding of a pointer (LSB Core, "DWARF Exception Header Encoding").
+#[derive(Clone, Copy, Debug, PartialEq, Eq)]
+pub struct DwEhPe(pub u8);
+
+/// The opcode of a call frame instruction (DWARF 5 section 7.24).
+#[derive(Clone, Copy, Debug, PartialEq, Eq)]
+pub struct DwCfa(pub u8);
+
+/// An address of the section's size.
+pub const DW_EH_PE_absptr: DwEhPe = DwEhPe(0x00);
+/// An unsigned LEB128 number.
+pub const DW_EH_PE_uleb128: DwEhPe = DwEhPe(0x01);
+/// Two bytes.
+pub const DW_EH_PE_udata2: DwEhPe = DwEhPe(0x02);
+/// Four bytes.
+pub const DW_EH_PE_udata4: DwEhPe = DwEhPe(0x03);
+/// Eight bytes.
+pub const DW_EH_PE_udata8: DwEhPe = DwEhPe(0x04);
+/// A signed LEB128 number.
+pub const DW_EH_PE_sleb128: DwEhPe = DwEhPe(0x09);
+/// Two bytes, signed.
+pub const DW_EH_PE_sdata2: DwEhPe = DwEhPe(0x0a);
+/// Four bytes, signed.
+pub const DW_EH_PE_sdata4: DwEhPe = DwEhPe(0x0b);
+/// Eight bytes, signed.
+pub const DW_EH_PE_sdata8: DwEhPe = DwEhPe(0x0c);
+/// Relative to the address of the value itself.
+pub const DW_EH_PE_pcrel: DwEhPe = DwEhPe(0x10);
+/// Relative to the text section.
+pub const DW_EH_PE_textrel: DwEhPe = DwEhPe(0x20);
+/// Relative to the data section, or to the header.
+pub const DW_EH_PE_datarel: DwEhPe = DwEhPe(0x30);
+/// Relative to the function.
+pub const DW_EH_PE_funcrel: DwEhPe = DwEhPe(0x40);
+/// Aligned to an address.
+pub const DW_EH_PE_aligned: DwEhPe = DwEhPe(0x50);
+/// The value is where the pointer points.
+pub const DW_EH_PE_indirect: DwEhPe = DwEhPe(0x80);
+/// There is no value.
+pub const DW_EH_PE_omit: DwEhPe = DwEhPe(0xff);
+
+/// Moves on by the low six bits.
+pub const DW_CFA_advance_loc: DwCfa = DwCfa(0x40);
+/// The register of the low six bits is saved at an offset.
+pub const DW_CFA_offset: DwCfa = DwCfa(0x80);
+/// The register of the low six bits takes back its first rule.
+pub const DW_CFA_restore: DwCfa = DwCfa(0xc0);
+/// Nothing.
+pub const DW_CFA_nop: DwCfa = DwCfa(0x00);
+/// Moves to an address.
+pub const DW_CFA_set_loc: DwCfa = DwCfa(0x01);
+/// Moves on by one byte.
+pub const DW_CFA_advance_loc1: DwCfa = DwCfa(0x02);
+/// Moves on by two bytes.
+pub const DW_CFA_advance_loc2: DwCfa = DwCfa(0x03);
+/// Moves on by four bytes.
+pub const DW_CFA_advance_loc4: DwCfa = DwCfa(0x04);
+/// A register is saved at an offset.
+pub const DW_CFA_offset_extended: DwCfa = DwCfa(0x05);
+/// A register takes back its first rule.
+pub const DW_CFA_restore_extended: DwCfa = DwCfa(0x06);
+/// A register is lost.
+pub const DW_CFA_undefined: DwCfa = DwCfa(0x07);
+/// A register is as it was.
+pub const DW_CFA_same_value: DwCfa = DwCfa(0x08);
+/// A register is saved in another.
+pub const DW_CFA_register: DwCfa = DwCfa(0x09);
+/// The rules are remembered.
+pub const DW_CFA_remember_state: DwCfa = DwCfa(0x0a);
+/// The remembered rules come back.
+pub const DW_CFA_restore_state: DwCfa = DwCfa(0x0b);
+/// The CFA is a register and an offset.
+pub const DW_CFA_def_cfa: DwCfa = DwCfa(0x0c);
+/// The register of the CFA.
+pub const DW_CFA_def_cfa_register: DwCfa = DwCfa(0x0d);
+/// The offset of the CFA.
+pub const DW_CFA_def_cfa_offset: DwCfa = DwCfa(0x0e);
+/// The CFA is an expression.
+pub const DW_CFA_def_cfa_expression: DwCfa = DwCfa(0x0f);
+/// A register is saved at the address of an expression.
+pub const DW_CFA_expression: DwCfa = DwCfa(0x10);
+/// A register is saved at a signed offset.
+pub const DW_CFA_offset_extended_sf: DwCfa = DwCfa(0x11);
+/// The CFA is a register and a signed offset.
+pub const DW_CFA_def_cfa_sf: DwCfa = DwCfa(0x12);
+/// The signed offset of the CFA.
+pub const DW_CFA_def_cfa_offset_sf: DwCfa = DwCfa(0x13);
+/// A register is the CFA and an offset.
+pub const DW_CFA_val_offset: DwCfa = DwCfa(0x14);
+/// A register is the CFA and a signed offset.
+pub const DW_CFA_val_offset_sf: DwCfa = DwCfa(0x15);
+/// A register is the value of an expression.
+pub const DW_CFA_val_expression: DwCfa = DwCfa(0x16);
+/// The sign state of the return address turns (AArch64).
+pub const DW_CFA_AARCH64_negate_ra_state: DwCfa = DwCfa(0x2d);
+/// The size of the arguments on the stack (GNU).
+pub const DW_CFA_GNU_args_size: DwCfa = DwCfa(0x2e);
+
+impl DwEhPe {
+    /// The format alone, the low four bits.
+    pub fn format(self) -> DwEhPe
+        ensures { result.0 ≡ format_of self.0 }
+    {
+        DwEhPe(self.0 % 16)
+    }
+
+    /// The application alone, bits 4 to 6.
+    pub fn application(self) -> DwEhPe
+        ensures { result.0 ≡ 16 * application_of self.0 }
+    {
+        DwEhPe(self.0 / 16 % 8 * 16)
+    }
+
+    /// Whether bit 7 is set: the value is where the pointer points.
+    pub fn is_indirect(self) -> bool
+        ensures { result ≡ is_indirect self.0 }
+    {
+        self.0 >= 0x80
+    }
+
+    /// Whether the encoding is omit, or its format and its application are known.
+    pub fn is_valid_encoding(self) -> bool
+        ensures { result ≡ is_valid_encoding self.0 }
+    {
+        self.0 == 0xff
+            || (matches!(self.0 % 16, 0 | 1 | 2 | 3 | 4 | 9 | 10 | 11 | 12) && self.0 / 16 % 8 <= 5)
+    }
+}

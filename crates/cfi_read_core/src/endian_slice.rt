@@ -1,0 +1,116 @@
+//! Readers over a slice.
+ghost use Rattle.std.specs.Prelude.{◌≡◌, refl};
+ghost use Rattle.std.specs.Ordering.{on};
+ghost use Rattle.std.specs.Cmp.{on_per, on_equiv};
+ghost use Rattle.cfi_read_core.specs.Readers.{all_of, bytes_left};
+ghost use Rattle.cfi_read_core.specs.Readers.{same_reader, same_reader-per, same_reader-equiv};
+ghost use Rattle.cfi_read_core.specs.Windows.{slice_standing};
+
+use crate::endianity::Endianity;
+use crate::error::{Error, ReaderOffsetId, Result};
+use crate::reader::Reader;
+use crate::window::Window;
+
+/// A reader over a slice, with offsets of the machine's word.
+#[derive(Clone, Copy, Debug)]
+pub struct EndianSlice<'input, E> {
+    window: Window<'input, { usize::MAX }>,
+    endian: E,
+}
+
+impl<'input, E: Endianity> EndianSlice<'input, E> {
+    /// A reader over all of the slice.
+    pub fn new(slice: &'input [u8], endian: E) -> Self
+        ensures { slice_standing E.big_endian result ≡ all_of slice.now (E.big_endian endian) 18446744073709551615 }
+    {
+        EndianSlice {
+            window: Window::new(slice),
+            endian,
+        }
+    }
+
+    /// The bytes that are left.
+    pub fn slice(&self) -> &'input [u8]
+        ensures { result.now ≡ bytes_left (slice_standing E.big_endian self.now) }
+    {
+        self.window.slice()
+    }
+}
+
+impl<E: Endianity> PartialEq for EndianSlice<'_, E> {
+    ghost eq = { on (slice_standing E.big_endian) same_reader };
+
+    ghost laws = { on_per (slice_standing E.big_endian) same_reader-per };
+
+    fn eq(&self, other: &Self) -> bool {
+        self.slice() == other.slice() && self.endian.is_big_endian() == other.endian.is_big_endian()
+    }
+}
+
+impl<E: Endianity> Eq for EndianSlice<'_, E> {
+    ghost laws = { on_equiv (slice_standing E.big_endian) same_reader-equiv };
+}
+
+impl<'input, E: Endianity> Reader for EndianSlice<'input, E> {
+    type Offset = usize;
+
+    type Endian = E;
+
+    ghost standing = { slice_standing E.big_endian };
+
+    fn endian(&self) -> E {
+        self.endian
+    }
+
+    fn len(&self) -> usize {
+        self.window.len()
+    }
+
+    fn place(&self) -> usize {
+        self.window.place()
+    }
+
+    fn find(&self, byte: u8) -> Result<usize> {
+        match self.window.find(byte) {
+            Some(before) => Ok(before),
+            None => Err(Error::UnexpectedEof(ReaderOffsetId(self.window.place() as u64))),
+        }
+    }
+
+    fn skip(&mut self, len: usize) -> Result<()> {
+        self.window.skip(len)
+    }
+
+    fn split(&mut self, len: usize) -> Result<Self> {
+        let window = self.window.split(len)?;
+        Ok(EndianSlice {
+            window,
+            endian: self.endian,
+        })
+    }
+
+    fn read_u8(&mut self) -> Result<u8> {
+        self.window.read_u8()
+    }
+
+    fn read_u16(&mut self) -> Result<u16> {
+        let big_endian = self.endian.is_big_endian();
+        self.window.read_u16(big_endian)
+    }
+
+    fn read_u32(&mut self) -> Result<u32> {
+        let big_endian = self.endian.is_big_endian();
+        self.window.read_u32(big_endian)
+    }
+
+    fn read_u64(&mut self) -> Result<u64> {
+        let big_endian = self.endian.is_big_endian();
+        self.window.read_u64(big_endian)
+    }
+
+    ghost sound = { λ r. record { ordered = r.window.ordered; within = r.window.within; fits = r.window.fits } };
+
+    ghost equal = { λ x y. refl };
+
+    ghost greatest = { λ r. refl };
+}

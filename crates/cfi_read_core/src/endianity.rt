@@ -1,0 +1,59 @@
+//! Byte orders.
+ghost use Rattle.std.specs.Prelude.{◌≡◌, Bool, true, false};
+ghost use Rattle.cfi_read_core.specs.ByteOrder.{is_big};
+
+use std::fmt::Debug;
+
+/// The order of the bytes of a number.
+pub trait Endianity: Copy + Debug + Eq {
+    /// Whether the most significant byte stands first.
+    ghost big_endian: { Self → Bool };
+
+    /// Whether the most significant byte stands first.
+    fn is_big_endian(self) -> bool
+        ensures { result ≡ big_endian self };
+}
+
+/// The least significant byte stands first.
+#[derive(Clone, Copy, Debug, PartialEq, Eq)]
+pub struct LittleEndian;
+
+/// The most significant byte stands first.
+#[derive(Clone, Copy, Debug, PartialEq, Eq)]
+pub struct BigEndian;
+
+/// A byte order that is known when the program runs.
+#[derive(Clone, Copy, Debug, PartialEq, Eq)]
+pub enum RunTimeEndian {
+    /// The least significant byte stands first.
+    Little,
+    /// The most significant byte stands first.
+    Big,
+}
+
+impl Endianity for LittleEndian {
+    ghost big_endian = { λ _. false };
+
+    fn is_big_endian(self) -> bool {
+        false
+    }
+}
+
+impl Endianity for BigEndian {
+    ghost big_endian = { λ _. true };
+
+    fn is_big_endian(self) -> bool {
+        true
+    }
+}
+
+impl Endianity for RunTimeEndian {
+    ghost big_endian = { is_big };
+
+    fn is_big_endian(self) -> bool {
+        match self {
+            RunTimeEndian::Little => false,
+            RunTimeEndian::Big => true,
+        }
+    }
+}

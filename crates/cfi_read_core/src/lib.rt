@@ -1,0 +1,28 @@
+//! Readers over bytes, the numbers of DWARF, addresses, constants, and the refusals of the call frame layer.
+#![tactic(auto)]
+
+pub mod address;
+mod bytes;
+pub mod common;
+pub mod constants;
+pub mod endian_slice;
+pub mod endianity;
+pub mod error;
+pub mod narrow_slice;
+pub mod offset;
+pub mod reader;
+pub mod section;
+mod window;
+
+pub use address::ReaderAddress;
+pub use common::{
+    DebugFrameOffset, EhFrameOffset, Encoding, Format, Register, SectionId, StoreOnHeap, Vendor,
+};
+pub use constants::{DwCfa, DwEhPe};
+pub use endian_slice::EndianSlice;
+pub use endianity::{BigEndian, Endianity, LittleEndian, RunTimeEndian};
+pub use error::{Error, ReaderOffsetId, Result};
+pub use narrow_slice::NarrowSlice;
+pub use offset::ReaderOffset;
+pub use reader::Reader;
+pub use section::Section;

@@ -1,0 +1,82 @@
+//! Offsets of readers.
+ghost use Rattle.std.specs.Prelude.{◌≡◌, ℕ, ◌≤◌, ◌<◌, ◌^◌, Result, Ok, Err, true, ◌↔◌, refl};
+ghost use Rattle.std.specs.Option.{option_map};
+ghost use Rattle.cfi_read_core.specs.Offsets.{offset_up_to, difference};
+ghost use Rattle.cfi_read_core.specs.Readers.{map_ok};
+
+use crate::error::{Error, Result};
+use std::fmt::Debug;
+
+/// A number that counts bytes of a reader.
+pub trait ReaderOffset: Copy + Eq + Ord + Debug {
+    /// The number.
+    ghost number: { Self → ℕ };
+
+    /// The type's greatest number.
+    ghost GREATEST: { ℕ };
+
+    /// The type's greatest number.
+    const GREATEST: u64;
+
+    /// The number as an offset, unless it is above the greatest one.
+    fn from_u64(value: u64) -> Result<Self>
+        ensures { map_ok number result ≡ offset_up_to GREATEST value };
+
+    fn into_u64(self) -> u64
+        ensures value { result ≡ number self }
+        ensures bound { result ≤ GREATEST };
+
+    fn checked_sub(self, other: Self) -> Option<Self>
+        ensures { option_map number result ≡ difference (number self) (number other) };
+
+    /// Offsets of one number are one.
+    ghost exact: { (x y : Self) → number x ≡ number y → x ≡ y };
+}
+
+impl ReaderOffset for usize {
+    ghost number = { λ n. n };
+
+    ghost GREATEST = { 18446744073709551615 };
+
+    const GREATEST: u64 = 18446744073709551615;
+
+    fn from_u64(value: u64) -> Result<usize> {
+        Ok(value as usize)
+    }
+
+    fn into_u64(self) -> u64 {
+        self as u64
+    }
+
+    fn checked_sub(self, other: usize) -> Option<usize> {
+        self.checked_sub(other)
+    }
+
+    ghost exact = { λ x y e. e };
+}
+
+impl ReaderOffset for u32 {
+    ghost number = { λ n. n };
+
+    ghost GREATEST = { 4294967295 };
+
+    const GREATEST: u64 = 4294967295;
+
+    fn from_u64(value: u64) -> Result<u32> {
+        if value <= 4294967295 {
+            Ok(value as u32)
+        } else {
+            Err(Error::UnsupportedOffset)
+        }
+    }
+
+    fn into_u64(self) -> u64 {
+        self as u64
+    }
+
+    fn checked_sub(self, other: u32) -> Option<u32> {
+        self.checked_sub(other)
+    }
+
+    ghost exact = { λ x y e. e };
+}

@@ -1,0 +1,240 @@
+//! Readers: places in bytes from which numbers are read.
+ghost use Rattle.std.specs.Prelude.{◌≡◌, ℕ, ◌-◌, ◌≤◌, ◌==◌, IfOk};
+ghost use Rattle.std.specs.Int.{w8, w16, w32, w64};
+ghost use Rattle.cfi_read_core.specs.Reading.{Standing, skip, split};
+ghost use Rattle.cfi_read_core.specs.Numbers.{InitialLength, unsigned, signed, unsigned_leb128, signed_leb128, initial_length, text};
+ghost use Rattle.cfi_read_core.specs.Addresses.{address, address_size};
+ghost use Rattle.cfi_read_core.specs.Readers.{IsSound, IsPartOf, Reads, bytes_left, exhausted, extent_of, find_byte, left, map_ok, same_reader};
+ghost use Rattle.std.specs.Prelude.{◌<◌};
+ghost use Rattle.cfi_read_core.specs.Numbers.{number_by};
+
+use crate::common::Format;
+use crate::endianity::Endianity;
+use crate::error::{Error, Result};
+use crate::offset::ReaderOffset;
+use std::fmt::Debug;
+
+/// A place in bytes, and the bytes that are left from there.
+///
+/// A refused `skip`, `split`, `find`, fixed-width read, address or text leaves the reader where it was. A read
+/// made of several parts leaves it behind the parts that succeeded. `UnexpectedEof` names the place, in the whole
+/// bytes, of the first byte of what couldn't be read.
+pub trait Reader: Copy + Debug + Eq {
+    /// How the reader counts its bytes.
+    type Offset: ReaderOffset;
+
+    /// The order of the bytes of a number.
+    type Endian: Endianity;
+
+    /// Where the reader stands.
+    ghost standing: { Self → Standing };
+
+    /// The order of the bytes of a number.
+    fn endian(&self) -> Self::Endian
+        ensures { Self.Endian.big_endian result ≡ (standing self.now).source.big_endian };
+
+    /// How many bytes are left.
+    fn len(&self) -> Self::Offset
+        ensures { Self.Offset.number result ≡ left (standing self.now) };
+
+    /// The place in the whole bytes.
+    fn place(&self) -> Self::Offset
+        ensures { Self.Offset.number result ≡ (standing self.now).place };
+
+    /// How many bytes stand before the first one of this value.
+    fn find(&self, byte: u8) -> Result<Self::Offset>
+        ensures { map_ok Self.Offset.number result ≡ find_byte byte (standing self.now) };
+
+    /// Passes so many bytes.
+    fn skip(&mut self, len: Self::Offset) -> Result<()>
+        ensures { Reads (λ x. x) (skip (Self.Offset.number len)) (standing self.old) result (standing self.new) };
+
+    /// Passes so many bytes, and answers a reader of them.
+    fn split(&mut self, len: Self::Offset) -> Result<Self>
+        ensures read { Reads (λ r. extent_of (standing r)) (split (Self.Offset.number len)) (standing self.old) result (standing self.new) }
+        ensures part { IfOk result (λ r. IsPartOf (standing r) (standing self.old)) };
+
+    /// A byte.
+    fn read_u8(&mut self) -> Result<u8>
+        ensures { Reads (λ x. x) (unsigned w8) (standing self.old) result (standing self.new) };
+
+    /// Two bytes as a number.
+    fn read_u16(&mut self) -> Result<u16>
+        ensures { Reads (λ x. x) (unsigned w16) (standing self.old) result (standing self.new) };
+
+    /// Four bytes as a number.
+    fn read_u32(&mut self) -> Result<u32>
+        ensures { Reads (λ x. x) (unsigned w32) (standing self.old) result (standing self.new) };
+
+    /// Eight bytes as a number.
+    fn read_u64(&mut self) -> Result<u64>
+        ensures { Reads (λ x. x) (unsigned w64) (standing self.old) result (standing self.new) };
+
+    /// Whether nothing is left.
+    fn is_empty(&self) -> bool
+        ensures { result ≡ (left (standing self.now) == 0) }
+    {
+        self.len().into_u64() == 0
+    }
+
+    /// Passes all that is left.
+    fn empty(&mut self)
+        ensures { standing self.new ≡ exhausted (standing self.old) }
+    {
+        let _ = self.skip(self.len());
+    }
+
+    /// How far the place is behind that of another reader of the same bytes.
+    fn offset_from(&self, base: &Self) -> Self::Offset
+        requires { (standing base.now).place ≤ (standing self.now).place }
+        ensures { Self.Offset.number result ≡ (standing self.now).place - (standing base.now).place }
+    {
+        match self.place().checked_sub(base.place()) {
+            Some(offset) => offset,
+            None => unreachable!(),
+        }
+    }
+
+    /// Two bytes as a number in two's complement.
+    #[tactic(auto, unfolding(crate::specs::Numbers::signed))]
+    fn read_i16(&mut self) -> Result<i16>
+        ensures { Reads (λ x. x) (signed w16) (standing self.old) result (standing self.new) }
+    {
+        Ok(self.read_u16()?.cast_signed())
+    }
+
+    /// Four bytes as a number in two's complement.
+    #[tactic(auto, unfolding(crate::specs::Numbers::signed))]
+    fn read_i32(&mut self) -> Result<i32>
+        ensures { Reads (λ x. x) (signed w32) (standing self.old) result (standing self.new) }
+    {
+        Ok(self.read_u32()?.cast_signed())
+    }
+
+    /// Eight bytes as a number in two's complement.
+    #[tactic(auto, unfolding(crate::specs::Numbers::signed))]
+    fn read_i64(&mut self) -> Result<i64>
+        ensures { Reads (λ x. x) (signed w64) (standing self.old) result (standing self.new) }
+    {
+        Ok(self.read_u64()?.cast_signed())
+    }
+
+    /// An unsigned LEB128 number of at most ten bytes (DWARF 5 section 7.6). Padding is accepted; a tenth byte
+    /// that doesn't fit 64 bits is refused with `BadUnsignedLeb128`, and counts as read.
+    fn read_uleb128(&mut self) -> Result<u64>
+        ensures { Reads (λ x. x) unsigned_leb128 (standing self.old) result (standing self.new) }
+    {
+        let mut value = 0u64;
+        let mut weight = 1u64;
+        for index in 0..10u32 {
+            let byte = self.read_u8()?;
+            if index == 9 && byte > 1 {
+                return Err(Error::BadUnsignedLeb128);
+            }
+            value += u64::from(byte % 128) * weight;
+            if byte < 128 {
+                return Ok(value);
+            }
+            weight *= 128;
+        }
+        unreachable!()
+    }
+
+    /// A signed LEB128 number of at most ten bytes (DWARF 5 section 7.6). Padding is accepted; a tenth byte that
+    /// doesn't repeat the sign is refused with `BadSignedLeb128`, and counts as read.
+    fn read_sleb128(&mut self) -> Result<i64>
+        ensures { Reads (λ x. x) signed_leb128 (standing self.old) result (standing self.new) }
+    {
+        let mut value = 0u64;
+        let mut weight = 1u64;
+        for index in 0..9u32 {
+            let byte = self.read_u8()?;
+            value += u64::from(byte % 128) * weight;
+            weight *= 128;
+            if byte < 128 {
+                return Ok(with_sign(byte >= 64, value, weight));
+            }
+        }
+        let tenth = self.read_u8()?;
+        if tenth != 0 && tenth != 0x7f {
+            return Err(Error::BadSignedLeb128);
+        }
+        Ok(with_sign(tenth != 0, value, weight))
+    }
+
+    /// The length of a unit, and its format (DWARF 5 section 7.4).
+    #[tactic(auto, unfolding(crate::specs::Numbers::initial_length))]
+    fn read_initial_length(&mut self) -> Result<(Self::Offset, Format)>
+        ensures { Reads (λ p. record { length = Self.Offset.number p.0; format = p.1 }) initial_length (standing self.old) result (standing self.new) }
+    {
+        let word = self.read_u32()?;
+        if word < 0xffff_fff0 {
+            Ok((Self::Offset::from_u64(u64::from(word))?, Format::Dwarf32))
+        } else if word == 0xffff_ffff {
+            let long = self.read_u64()?;
+            Ok((Self::Offset::from_u64(long)?, Format::Dwarf64))
+        } else {
+            Err(Error::UnknownReservedLength(word))
+        }
+    }
+
+    /// An address of 1, 2, 4 or 8 bytes. Other sizes are refused with `UnsupportedAddressSize`.
+    #[tactic(auto, unfolding(crate::specs::Addresses::address))]
+    fn read_address(&mut self, size: u8) -> Result<u64>
+        ensures { Reads (λ x. x) (address size) (standing self.old) result (standing self.new) }
+    {
+        match size {
+            1 => Ok(u64::from(self.read_u8()?)),
+            2 => Ok(u64::from(self.read_u16()?)),
+            4 => Ok(u64::from(self.read_u32()?)),
+            8 => self.read_u64(),
+            _ => Err(Error::UnsupportedAddressSize(size)),
+        }
+    }
+
+    /// A byte that is an address size: 1, 2, 4 or 8. Others are refused with `UnsupportedAddressSize`, and count as read.
+    #[tactic(auto, unfolding(crate::specs::Addresses::address_size))]
+    fn read_address_size(&mut self) -> Result<u8>
+        ensures { Reads (λ x. x) address_size (standing self.old) result (standing self.new) }
+    {
+        let size = self.read_u8()?;
+        match size {
+            1 | 2 | 4 | 8 => Ok(size),
+            _ => Err(Error::UnsupportedAddressSize(size)),
+        }
+    }
+
+    /// The bytes before the next zero, which is passed.
+    #[tactic(auto, unfolding(crate::specs::Numbers::text))]
+    fn read_null_terminated_slice(&mut self) -> Result<Self>
+        ensures read { Reads (λ r. bytes_left (standing r)) text (standing self.old) result (standing self.new) }
+        ensures part { IfOk result (λ r. IsPartOf (standing r) (standing self.old)) }
+    {
+        let len = self.find(0)?;
+        let text = self.split(len)?;
+        let _zero = self.read_u8()?;
+        Ok(text)
+    }
+
+    /// A reader's places are in order, within its bytes, and offsets.
+    ghost sound: { (r : Self) → IsSound (standing r) };
+
+    /// Readers are equal where what is left and the byte order are.
+    ghost equal: { (x y : Self) → Self.PartialEq.eq x y ≡ same_reader (standing x) (standing y) };
+
+    /// The greatest offset is the offset type's.
+    ghost greatest: { (r : Self) → (standing r).source.greatest ≡ Self.Offset.GREATEST };
+}
+
+/// The number of these bits below the weight, less the weight where the sign is set.
+fn with_sign(is_negative: bool, value: u64, weight: u64) -> i64
+    requires below { value < weight }
+    requires room { weight ≤ 9223372036854775808 }
+    ensures { result ≡ number_by is_negative value weight }
+{
+    if is_negative {
+        (u64::MAX - (weight - 1 - value)).cast_signed()
+    } else {
+        value.cast_signed()
+    }
+}
