@@ -1,0 +1,4 @@
+pub mod Behind
+pub mod InstructionLemmas
+pub mod Walk
+mod Vectors

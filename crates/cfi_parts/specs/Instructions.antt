@@ -1,0 +1,126 @@
+-- Call frame instructions (DWARF 5 sections 6.4.2 and 7.24).
+use Rattle.std.specs.Prelude.{ℕ, ◌-◌, ◌/◌, ◌%◌, Option, Some, None, List, [], ◌∷◌, ◌++◌, ◌==◌, if◌then◌else◌}
+use Rattle.std.specs.Int.{w8, w16, w32}
+use Rattle.cfi_read_core.specs.declared.common.Register.{Register as RegisterNumber}
+use Rattle.cfi_read_core.specs.declared.common.Vendor.{Vendor}
+use Rattle.cfi_read_core.specs.declared.common.Vendor.TheVariants as vendors
+use Rattle.cfi_read_core.specs.declared.error.Error.TheVariants.{UnknownCallFrameInstruction}
+use Rattle.cfi_read_core.specs.Reading.{Read, Source, Extent, Readings, repeated_over, ◌>>=◌, give, refuse, of_result, split, chosen_from}
+use Rattle.cfi_read_core.specs.Numbers.{unsigned, unsigned_leb128, signed_leb128, offset_leb128, register_leb128}
+use Rattle.cfi_read_core.specs.Addresses.{address}
+use Rattle.cfi_parts.specs.declared.instruction.UnwindExpression.{UnwindExpression}
+use Rattle.cfi_parts.specs.declared.instruction.CallFrameInstruction.{CallFrameInstruction}
+use Rattle.cfi_parts.specs.declared.instruction.CallFrameInstruction.TheVariants.{SetLoc, AdvanceLoc, DefCfa, DefCfaSf, DefCfaRegister, DefCfaOffset, DefCfaOffsetSf, DefCfaExpression, Undefined, SameValue, Offset, OffsetExtendedSf, ValOffset, ValOffsetSf, Register, Expression, ValExpression, Restore, RememberState, RestoreState, ArgsSize, NegateRaState, Nop}
+use Rattle.cfi_parts.specs.Pointers.{PointerContext, pointer, direct}
+
+-- What the instructions of an entry are read with.
+pub record InstructionContext : Type 0 where
+  pub pointers : PointerContext
+  pub address_encoding : Option ℕ  -- in an FDE whose CIE gives one
+  pub vendor : Vendor
+
+abbrev pub Instruction : Type 0
+Instruction = CallFrameInstruction ℕ
+
+-- ---- operands
+
+-- where the expression stands: a length and so many bytes, which are passed
+unfoldable pub expression : PointerContext → Read (UnwindExpression ℕ)
+expression context = do
+  length ← offset_leb128
+  extent ← split length
+  give (record { offset = extent.first - context.section; length = length })
+
+abbrev pub location_by : PointerContext → Option ℕ → Read ℕ
+location_by context None = address context.size
+location_by context (Some encoding) = pointer encoding context >>= λ p. of_result (direct p)
+
+-- ---- opcodes
+
+abbrev pub unknown_opcode : {A : Type 0} → ℕ → Read A
+unknown_opcode opcode = refuse (UnknownCallFrameInstruction (record { 0 = opcode }))
+
+abbrev pub negate_ra_state : Vendor → Read Instruction
+negate_ra_state vendors.AArch64 = give NegateRaState
+negate_ra_state vendors.Default = unknown_opcode 0x2d
+
+abbrev pub advance : ℕ → Read Instruction
+advance delta = give (AdvanceLoc delta)
+
+-- DW_CFA_offset and its kin: a register and a number that is read behind it
+abbrev pub register_and : {A : Type 0} → Read A → (RegisterNumber → A → Instruction) → Read Instruction
+register_and operand made = do
+  r ← register_leb128
+  n ← operand
+  give (made r n)
+
+-- row creation (DWARF 5 section 6.4.2.1)
+abbrev pub row_creation : InstructionContext → List (ℕ × Read Instruction)
+row_creation c =
+    (0x01, location_by c.pointers c.address_encoding >>= λ a. give (SetLoc a))
+    ∷ (0x02, unsigned w8 >>= advance)
+    ∷ (0x03, unsigned w16 >>= advance)
+    ∷ (0x04, unsigned w32 >>= advance)
+    ∷ []
+
+-- the definition of the CFA (section 6.4.2.2)
+abbrev pub cfa_definition : InstructionContext → List (ℕ × Read Instruction)
+cfa_definition c =
+    (0x0c, register_and unsigned_leb128 DefCfa)
+    ∷ (0x0d, register_leb128 >>= λ r. give (DefCfaRegister r))
+    ∷ (0x0e, unsigned_leb128 >>= λ n. give (DefCfaOffset n))
+    ∷ (0x0f, expression c.pointers >>= λ e. give (DefCfaExpression e))
+    ∷ (0x12, register_and signed_leb128 DefCfaSf)
+    ∷ (0x13, signed_leb128 >>= λ z. give (DefCfaOffsetSf z))
+    ∷ []
+
+-- the rules of registers (section 6.4.2.3), with an offset from the CFA and without
+abbrev pub offset_rules : List (ℕ × Read Instruction)
+offset_rules =
+    (0x05, register_and unsigned_leb128 Offset)
+    ∷ (0x11, register_and signed_leb128 OffsetExtendedSf)
+    ∷ (0x14, register_and unsigned_leb128 ValOffset)
+    ∷ (0x15, register_and signed_leb128 ValOffsetSf)
+    ∷ []
+
+abbrev pub register_rules : InstructionContext → List (ℕ × Read Instruction)
+register_rules c =
+    (0x06, register_leb128 >>= λ r. give (Restore r))
+    ∷ (0x07, register_leb128 >>= λ r. give (Undefined r))
+    ∷ (0x08, register_leb128 >>= λ r. give (SameValue r))
+    ∷ (0x09, register_and register_leb128 Register)
+    ∷ (0x10, register_and (expression c.pointers) Expression)
+    ∷ (0x16, register_and (expression c.pointers) ValExpression)
+    ∷ []
+
+-- the state of a row (section 6.4.2.4), padding (section 6.4.2.5), and the opcodes of vendors
+abbrev pub state_and_others : InstructionContext → List (ℕ × Read Instruction)
+state_and_others c =
+    (0x00, give Nop)
+    ∷ (0x0a, give RememberState)
+    ∷ (0x0b, give RestoreState)
+    ∷ (0x2d, negate_ra_state c.vendor)
+    ∷ (0x2e, unsigned_leb128 >>= λ n. give (ArgsSize n))
+    ∷ []
+
+-- the opcodes whose two high bits are 0, with what is read behind them
+abbrev pub extended_opcodes : InstructionContext → List (ℕ × Read Instruction)
+extended_opcodes c = row_creation c ++ cfa_definition c ++ offset_rules ++ register_rules c ++ state_and_others c
+
+-- the low six bits of a primary opcode are its first operand
+abbrev pub by_opcode : InstructionContext → ℕ → Read Instruction
+by_opcode c opcode =
+    let low = opcode % 64 in
+    if opcode / 64 == 1 then advance low
+    else if opcode / 64 == 2 then (unsigned_leb128 >>= λ n. give (Offset (record { 0 = low }) n))
+    else if opcode / 64 == 3 then give (Restore (record { 0 = low }))
+    else chosen_from opcode (extended_opcodes c) (unknown_opcode opcode)
+
+unfoldable pub instruction : InstructionContext → Read Instruction
+instruction c = do
+  opcode ← unsigned w8
+  by_opcode c opcode
+
+-- the instructions of an extent, up to its end or to the first that can't be read
+abbrev pub instructions : InstructionContext → Extent → Source → Readings Instruction
+instructions c extent source = repeated_over extent (instruction c) source

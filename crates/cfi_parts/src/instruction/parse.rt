@@ -1,0 +1,269 @@
+//! One call frame instruction (DWARF 5 sections 6.4.2 and 7.24).
+ghost use Rattle.std.specs.Prelude.{◌≡◌, ◌≤◌, ◌++◌};
+ghost use Rattle.cfi_read_core.specs.Addresses.{IsAddressSize};
+ghost use Rattle.cfi_read_core.specs.Numbers.{offset_leb128, register_leb128};
+ghost use Rattle.cfi_read_core.specs.Reading.{chosen_from};
+ghost use Rattle.cfi_read_core.specs.Readers.{Reads};
+ghost use Rattle.cfi_parts.specs.Contexts.{instruction_context, pointer_context};
+ghost use Rattle.cfi_parts.specs.Instructions.{cfa_definition, expression, instruction, location_by, offset_rules, register_rules, row_creation, state_and_others, unknown_opcode};
+ghost use Rattle.cfi_parts.specs.Views.{map_expression, map_instruction};
+
+use crate::instruction::{CallFrameInstruction, UnwindExpression};
+use crate::pointer::{PointerEncodingParameters, parse_encoded_pointer};
+use cfi_read_core::constants::{
+    DW_CFA_AARCH64_negate_ra_state, DW_CFA_GNU_args_size, DW_CFA_advance_loc1, DW_CFA_advance_loc2,
+    DW_CFA_advance_loc4, DW_CFA_def_cfa, DW_CFA_def_cfa_expression, DW_CFA_def_cfa_offset,
+    DW_CFA_def_cfa_offset_sf, DW_CFA_def_cfa_register, DW_CFA_def_cfa_sf, DW_CFA_expression,
+    DW_CFA_nop, DW_CFA_offset_extended, DW_CFA_offset_extended_sf, DW_CFA_register,
+    DW_CFA_remember_state, DW_CFA_restore_extended, DW_CFA_restore_state, DW_CFA_same_value,
+    DW_CFA_set_loc, DW_CFA_undefined, DW_CFA_val_expression, DW_CFA_val_offset,
+    DW_CFA_val_offset_sf,
+};
+use cfi_read_core::{DwCfa, DwEhPe, Error, Reader, ReaderOffset, Register, Result, Vendor};
+
+/// What the instructions of an entry are read with.
+#[derive(Clone, Copy, Debug)]
+pub struct InstructionParameters<'a, R> {
+    /// How the address of `DW_CFA_set_loc` is encoded; a plain address where there is no encoding.
+    pub address_encoding: Option<DwEhPe>,
+    /// What pointers are read with.
+    pub pointers: PointerEncodingParameters<'a, R>,
+    /// Whose vendor opcodes are known.
+    pub vendor: Vendor,
+}
+
+#[tactic(auto, unfolding(cfi_read_core::specs::Numbers::register_leb128))]
+fn read_register<R: Reader>(input: &mut R) -> Result<Register>
+    ensures { Reads (λ x. x) register_leb128 (R.standing input.old) result (R.standing input.new) }
+{
+    Register::from_u64(input.read_uleb128()?)
+}
+
+#[tactic(auto, unfolding(cfi_read_core::specs::Numbers::offset_leb128))]
+fn read_offset<R: Reader>(input: &mut R) -> Result<R::Offset>
+    ensures { Reads R.Offset.number offset_leb128 (R.standing input.old) result (R.standing input.new) }
+{
+    R::Offset::from_u64(input.read_uleb128()?)
+}
+
+/// Passes an expression, and answers where it stands in the section.
+#[tactic(auto, unfolding(crate::specs::Instructions::expression))]
+fn parse_expression<R: Reader>(
+    pointers: &PointerEncodingParameters<'_, R>,
+    input: &mut R,
+) -> Result<UnwindExpression<R::Offset>>
+    requires { (R.standing pointers.now.section.now).place ≤ (R.standing input.old).place }
+    ensures { Reads (map_expression R.Offset.number) (expression (pointer_context R.standing pointers.now)) (R.standing input.old) result (R.standing input.new) }
+{
+    let length = read_offset(input)?;
+    let offset = input.offset_from(pointers.section);
+    input.skip(length)?;
+    Ok(UnwindExpression { offset, length })
+}
+
+/// Reads the address of `DW_CFA_set_loc`.
+fn parse_location<R: Reader>(
+    parameters: &InstructionParameters<'_, R>,
+    input: &mut R,
+) -> Result<u64>
+    requires sized { IsAddressSize parameters.now.pointers.address_size }
+    requires behind { (R.standing parameters.now.pointers.section.now).place ≤ (R.standing input.old).place }
+    ensures { let c = instruction_context R.standing parameters.now in
+        Reads (λ x. x) (location_by c.pointers c.address_encoding) (R.standing input.old) result (R.standing input.new) }
+{
+    match parameters.address_encoding {
+        Some(encoding) => parse_encoded_pointer(encoding, &parameters.pointers, input)?.direct(),
+        None => input.read_address(parameters.pointers.address_size),
+    }
+}
+
+/// Reads an instruction: its opcode and its operands.
+#[tactic(auto, unfolding(crate::specs::Instructions::instruction))]
+pub fn parse_instruction<R: Reader>(
+    parameters: &InstructionParameters<'_, R>,
+    input: &mut R,
+) -> Result<CallFrameInstruction<R::Offset>>
+    requires sized { IsAddressSize parameters.now.pointers.address_size }
+    requires behind { (R.standing parameters.now.pointers.section.now).place ≤ (R.standing input.old).place }
+    ensures { Reads (map_instruction R.Offset.number) (instruction (instruction_context R.standing parameters.now)) (R.standing input.old) result (R.standing input.new) }
+{
+    let opcode = input.read_u8()?;
+    // A primary opcode is the two high bits alone; the low six bits are its first operand.
+    let low = opcode % 0x40;
+    match opcode / 0x40 {
+        1 => Ok(CallFrameInstruction::AdvanceLoc {
+            delta: u32::from(low),
+        }),
+        2 => Ok(CallFrameInstruction::Offset {
+            register: Register(u16::from(low)),
+            factored_offset: input.read_uleb128()?,
+        }),
+        3 => Ok(CallFrameInstruction::Restore {
+            register: Register(u16::from(low)),
+        }),
+        _ => parse_row_creation(DwCfa(opcode), parameters, input),
+    }
+}
+
+/// Reads the operands of an instruction that creates a row, or of another extended opcode.
+fn parse_row_creation<R: Reader>(
+    opcode: DwCfa,
+    parameters: &InstructionParameters<'_, R>,
+    input: &mut R,
+) -> Result<CallFrameInstruction<R::Offset>>
+    requires sized { IsAddressSize parameters.now.pointers.address_size }
+    requires behind { (R.standing parameters.now.pointers.section.now).place ≤ (R.standing input.old).place }
+    ensures { let c = instruction_context R.standing parameters.now in
+        Reads (map_instruction R.Offset.number)
+        (chosen_from opcode.0 (row_creation c ++ cfa_definition c ++ offset_rules ++ register_rules c ++ state_and_others c) (unknown_opcode opcode.0))
+        (R.standing input.old) result (R.standing input.new) }
+{
+    match opcode {
+        DW_CFA_set_loc => Ok(CallFrameInstruction::SetLoc {
+            address: parse_location(parameters, input)?,
+        }),
+        DW_CFA_advance_loc1 => Ok(CallFrameInstruction::AdvanceLoc {
+            delta: u32::from(input.read_u8()?),
+        }),
+        DW_CFA_advance_loc2 => Ok(CallFrameInstruction::AdvanceLoc {
+            delta: u32::from(input.read_u16()?),
+        }),
+        DW_CFA_advance_loc4 => Ok(CallFrameInstruction::AdvanceLoc {
+            delta: input.read_u32()?,
+        }),
+        _ => parse_cfa_definition(opcode, parameters, input),
+    }
+}
+
+/// Reads the operands of an instruction that defines the CFA, or of another one behind that in the standard.
+fn parse_cfa_definition<R: Reader>(
+    opcode: DwCfa,
+    parameters: &InstructionParameters<'_, R>,
+    input: &mut R,
+) -> Result<CallFrameInstruction<R::Offset>>
+    requires { (R.standing parameters.now.pointers.section.now).place ≤ (R.standing input.old).place }
+    ensures { let c = instruction_context R.standing parameters.now in
+        Reads (map_instruction R.Offset.number)
+        (chosen_from opcode.0 (cfa_definition c ++ offset_rules ++ register_rules c ++ state_and_others c) (unknown_opcode opcode.0))
+        (R.standing input.old) result (R.standing input.new) }
+{
+    match opcode {
+        DW_CFA_def_cfa => Ok(CallFrameInstruction::DefCfa {
+            register: read_register(input)?,
+            offset: input.read_uleb128()?,
+        }),
+        DW_CFA_def_cfa_register => Ok(CallFrameInstruction::DefCfaRegister {
+            register: read_register(input)?,
+        }),
+        DW_CFA_def_cfa_offset => Ok(CallFrameInstruction::DefCfaOffset {
+            offset: input.read_uleb128()?,
+        }),
+        DW_CFA_def_cfa_expression => Ok(CallFrameInstruction::DefCfaExpression {
+            expression: parse_expression(&parameters.pointers, input)?,
+        }),
+        DW_CFA_def_cfa_sf => Ok(CallFrameInstruction::DefCfaSf {
+            register: read_register(input)?,
+            factored_offset: input.read_sleb128()?,
+        }),
+        DW_CFA_def_cfa_offset_sf => Ok(CallFrameInstruction::DefCfaOffsetSf {
+            factored_offset: input.read_sleb128()?,
+        }),
+        _ => parse_offset_rule(opcode, parameters, input),
+    }
+}
+
+/// Reads the operands of a register rule with an offset from the CFA, or of another one behind that in the standard.
+fn parse_offset_rule<R: Reader>(
+    opcode: DwCfa,
+    parameters: &InstructionParameters<'_, R>,
+    input: &mut R,
+) -> Result<CallFrameInstruction<R::Offset>>
+    requires { (R.standing parameters.now.pointers.section.now).place ≤ (R.standing input.old).place }
+    ensures { let c = instruction_context R.standing parameters.now in
+        Reads (map_instruction R.Offset.number)
+        (chosen_from opcode.0 (offset_rules ++ register_rules c ++ state_and_others c) (unknown_opcode opcode.0))
+        (R.standing input.old) result (R.standing input.new) }
+{
+    match opcode {
+        DW_CFA_offset_extended => Ok(CallFrameInstruction::Offset {
+            register: read_register(input)?,
+            factored_offset: input.read_uleb128()?,
+        }),
+        DW_CFA_offset_extended_sf => Ok(CallFrameInstruction::OffsetExtendedSf {
+            register: read_register(input)?,
+            factored_offset: input.read_sleb128()?,
+        }),
+        DW_CFA_val_offset => Ok(CallFrameInstruction::ValOffset {
+            register: read_register(input)?,
+            factored_offset: input.read_uleb128()?,
+        }),
+        DW_CFA_val_offset_sf => Ok(CallFrameInstruction::ValOffsetSf {
+            register: read_register(input)?,
+            factored_offset: input.read_sleb128()?,
+        }),
+        _ => parse_register_rule(opcode, parameters, input),
+    }
+}
+
+/// Reads the operands of another register rule, or of another one behind that in the standard.
+fn parse_register_rule<R: Reader>(
+    opcode: DwCfa,
+    parameters: &InstructionParameters<'_, R>,
+    input: &mut R,
+) -> Result<CallFrameInstruction<R::Offset>>
+    requires { (R.standing parameters.now.pointers.section.now).place ≤ (R.standing input.old).place }
+    ensures { let c = instruction_context R.standing parameters.now in
+        Reads (map_instruction R.Offset.number)
+        (chosen_from opcode.0 (register_rules c ++ state_and_others c) (unknown_opcode opcode.0))
+        (R.standing input.old) result (R.standing input.new) }
+{
+    match opcode {
+        DW_CFA_restore_extended => Ok(CallFrameInstruction::Restore {
+            register: read_register(input)?,
+        }),
+        DW_CFA_undefined => Ok(CallFrameInstruction::Undefined {
+            register: read_register(input)?,
+        }),
+        DW_CFA_same_value => Ok(CallFrameInstruction::SameValue {
+            register: read_register(input)?,
+        }),
+        DW_CFA_register => Ok(CallFrameInstruction::Register {
+            dest_register: read_register(input)?,
+            src_register: read_register(input)?,
+        }),
+        DW_CFA_expression => Ok(CallFrameInstruction::Expression {
+            register: read_register(input)?,
+            expression: parse_expression(&parameters.pointers, input)?,
+        }),
+        DW_CFA_val_expression => Ok(CallFrameInstruction::ValExpression {
+            register: read_register(input)?,
+            expression: parse_expression(&parameters.pointers, input)?,
+        }),
+        _ => parse_state_or_other(opcode, parameters, input),
+    }
+}
+
+/// Reads the operands of an instruction on a row's state, of padding, or of a vendor's opcode.
+fn parse_state_or_other<R: Reader>(
+    opcode: DwCfa,
+    parameters: &InstructionParameters<'_, R>,
+    input: &mut R,
+) -> Result<CallFrameInstruction<R::Offset>>
+    ensures { Reads (map_instruction R.Offset.number)
+        (chosen_from opcode.0 (state_and_others (instruction_context R.standing parameters.now)) (unknown_opcode opcode.0))
+        (R.standing input.old) result (R.standing input.new) }
+{
+    match opcode {
+        DW_CFA_nop => Ok(CallFrameInstruction::Nop),
+        DW_CFA_remember_state => Ok(CallFrameInstruction::RememberState),
+        DW_CFA_restore_state => Ok(CallFrameInstruction::RestoreState),
+        DW_CFA_AARCH64_negate_ra_state => match parameters.vendor {
+            Vendor::AArch64 => Ok(CallFrameInstruction::NegateRaState),
+            Vendor::Default => Err(Error::UnknownCallFrameInstruction(opcode)),
+        },
+        DW_CFA_GNU_args_size => Ok(CallFrameInstruction::ArgsSize {
+            size: input.read_uleb128()?,
+        }),
+        _ => Err(Error::UnknownCallFrameInstruction(opcode)),
+    }
+}

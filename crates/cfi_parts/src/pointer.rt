@@ -1,0 +1,234 @@
+//! Encoded pointers (LSB Core, "DWARF Exception Header Encoding").
+ghost use Rattle.std.specs.Prelude.{◌≡◌, ◌≤◌, ℕ};
+ghost use Rattle.cfi_read_core.specs.Addresses.{IsAddressSize};
+ghost use Rattle.cfi_read_core.specs.Readers.{Reads};
+ghost use Rattle.cfi_parts.specs.Contexts.{pointer_context};
+ghost use Rattle.cfi_parts.specs.Pointers.{base_of, direct, encoding_byte, formatted, pointed, pointer};
+
+use cfi_read_core::constants::{
+    DW_EH_PE_absptr, DW_EH_PE_aligned, DW_EH_PE_datarel, DW_EH_PE_funcrel, DW_EH_PE_omit,
+    DW_EH_PE_pcrel, DW_EH_PE_sdata2, DW_EH_PE_sdata4, DW_EH_PE_sdata8, DW_EH_PE_sleb128,
+    DW_EH_PE_textrel, DW_EH_PE_udata2, DW_EH_PE_udata4, DW_EH_PE_udata8, DW_EH_PE_uleb128,
+};
+use cfi_read_core::{DwEhPe, Error, Reader, ReaderAddress, ReaderOffset, Result};
+
+/// A decoded pointer: the value itself, or the address at which the value is found.
+#[derive(Clone, Copy, Debug, PartialEq, Eq)]
+pub enum Pointer {
+    /// The value.
+    Direct(u64),
+    /// The address of the value.
+    Indirect(u64),
+}
+
+impl Default for Pointer {
+    ghost use Rattle.cfi_parts.specs.declared.pointer.Pointer.TheVariants.{Direct};
+
+    ghost is_default = { λ p. p ≡ Direct 0 };
+
+    fn default() -> Pointer {
+        Pointer::Direct(0)
+    }
+}
+
+impl Pointer {
+    /// The value of a direct pointer. An indirect one is refused with `UnsupportedIndirectPointer`, since the
+    /// memory at which it points isn't at hand.
+    pub fn direct(self) -> Result<u64>
+        ensures { result ≡ direct self }
+    {
+        match self {
+            Pointer::Direct(address) => Ok(address),
+            Pointer::Indirect(_) => Err(Error::UnsupportedIndirectPointer),
+        }
+    }
+
+    /// The value of a direct pointer, or the address at which that of an indirect one is found.
+    pub fn pointer(self) -> u64
+        ensures { result ≡ pointed self }
+    {
+        match self {
+            Pointer::Direct(address) => address,
+            Pointer::Indirect(address) => address,
+        }
+    }
+}
+
+/// The bases of the pointers in one section.
+#[derive(Clone, Copy, Debug, Default, PartialEq, Eq)]
+pub struct SectionBaseAddresses {
+    /// The address of the section, to which `DW_EH_PE_pcrel` counts.
+    pub section: Option<u64>,
+    /// The address of the code, to which `DW_EH_PE_textrel` counts.
+    pub text: Option<u64>,
+    /// The address to which `DW_EH_PE_datarel` counts.
+    pub data_base: Option<u64>,
+}
+
+/// The bases of the pointers in the header and in the entries.
+///
+/// Where a base is missing, pointers that need it are refused. All are missing by default.
+#[derive(Clone, Copy, Debug, Default, PartialEq, Eq)]
+pub struct BaseAddresses {
+    /// The bases of the pointers in `.eh_frame_hdr`.
+    pub eh_frame_hdr: SectionBaseAddresses,
+    /// The bases of the pointers in `.eh_frame` and `.debug_frame`.
+    pub eh_frame: SectionBaseAddresses,
+}
+
+impl BaseAddresses {
+    /// Sets the address of `.eh_frame_hdr`, to which the header's data-relative pointers count too.
+    pub fn set_eh_frame_hdr(self, addr: u64) -> BaseAddresses
+        ensures { result ≡ record self { eh_frame_hdr = record self.eh_frame_hdr { section = Some addr; data_base = Some addr } } }
+    {
+        let mut bases = self;
+        bases.eh_frame_hdr.section = Some(addr);
+        bases.eh_frame_hdr.data_base = Some(addr);
+        bases
+    }
+
+    /// Sets the address of `.eh_frame`.
+    pub fn set_eh_frame(self, addr: u64) -> BaseAddresses
+        ensures { result ≡ record self { eh_frame = record self.eh_frame { section = Some addr } } }
+    {
+        let mut bases = self;
+        bases.eh_frame.section = Some(addr);
+        bases
+    }
+
+    /// Sets the address of the code, for the header and the entries.
+    pub fn set_text(self, addr: u64) -> BaseAddresses
+        ensures { result ≡ record self {
+          eh_frame_hdr = record self.eh_frame_hdr { text = Some addr };
+          eh_frame = record self.eh_frame { text = Some addr };
+        } }
+    {
+        let mut bases = self;
+        bases.eh_frame_hdr.text = Some(addr);
+        bases.eh_frame.text = Some(addr);
+        bases
+    }
+
+    /// Sets the address to which the data-relative pointers of entries count, usually that of `.got`.
+    pub fn set_got(self, addr: u64) -> BaseAddresses
+        ensures { result ≡ record self { eh_frame = record self.eh_frame { data_base = Some addr } } }
+    {
+        let mut bases = self;
+        bases.eh_frame.data_base = Some(addr);
+        bases
+    }
+}
+
+/// What the pointers of a section are read with.
+#[derive(Clone, Copy, Debug)]
+pub struct PointerEncodingParameters<'a, R> {
+    /// The bases of the section.
+    pub bases: &'a SectionBaseAddresses,
+    /// The first address of the function, to which `DW_EH_PE_funcrel` counts.
+    pub func_base: Option<u64>,
+    /// How many bytes an address takes: 1, 2, 4 or 8.
+    pub address_size: u8,
+    /// The section, from whose first place `DW_EH_PE_pcrel` counts.
+    pub section: &'a R,
+}
+
+/// Reads a byte that is a pointer encoding. Another one is refused with `UnknownPointerEncoding`, and counts as read.
+#[tactic(auto, unfolding(crate::specs::Pointers::encoding_byte))]
+pub fn parse_pointer_encoding<R: Reader>(input: &mut R) -> Result<DwEhPe>
+    ensures { Reads (λ e. e.0) encoding_byte (R.standing input.old) result (R.standing input.new) }
+{
+    let encoding = DwEhPe(input.read_u8()?);
+    if encoding.is_valid_encoding() {
+        Ok(encoding)
+    } else {
+        Err(Error::UnknownPointerEncoding(encoding))
+    }
+}
+
+/// Reads a value by the format of an encoding alone, without base or indirection. A signed value is extended to
+/// 64 bits. A format that isn't known is refused with `UnknownPointerEncoding`, and an address of a size other than
+/// 1, 2, 4 and 8 with `UnsupportedAddressSize`, before any byte is read.
+#[tactic(auto, unfolding(crate::specs::Pointers::formatted))]
+pub fn parse_encoded_value<R: Reader>(
+    encoding: DwEhPe,
+    address_size: u8,
+    input: &mut R,
+) -> Result<u64>
+    ensures { Reads (λ x. x) (formatted encoding.0 address_size) (R.standing input.old) result (R.standing input.new) }
+{
+    match encoding.format() {
+        DW_EH_PE_absptr => input.read_address(address_size),
+        DW_EH_PE_uleb128 => input.read_uleb128(),
+        DW_EH_PE_udata2 => Ok(u64::from(input.read_u16()?)),
+        DW_EH_PE_udata4 => Ok(u64::from(input.read_u32()?)),
+        DW_EH_PE_udata8 => input.read_u64(),
+        DW_EH_PE_sleb128 => Ok(input.read_sleb128()?.cast_unsigned()),
+        DW_EH_PE_sdata2 => Ok(i64::from(input.read_i16()?).cast_unsigned()),
+        DW_EH_PE_sdata4 => Ok(i64::from(input.read_i32()?).cast_unsigned()),
+        DW_EH_PE_sdata8 => Ok(input.read_i64()?.cast_unsigned()),
+        _ => Err(Error::UnknownPointerEncoding(encoding)),
+    }
+}
+
+/// What is added to a value at the place of the input.
+#[tactic(auto, unfolding(crate::specs::Pointers::base_of))]
+fn pointer_base<R: Reader>(
+    encoding: DwEhPe,
+    parameters: &PointerEncodingParameters<'_, R>,
+    input: &R,
+) -> Result<u64>
+    requires sized { IsAddressSize parameters.now.address_size }
+    requires behind { (R.standing parameters.now.section.now).place ≤ (R.standing input.now).place }
+    ensures { Reads (λ x. x) (base_of encoding.0 (pointer_context R.standing parameters.now)) (R.standing input.now) result (R.standing input.now) }
+{
+    let bases = parameters.bases;
+    match encoding.application() {
+        DW_EH_PE_absptr => Ok(0),
+        DW_EH_PE_pcrel => {
+            let base = bases
+                .section
+                .ok_or(Error::PcRelativePointerButSectionBaseIsUndefined)?;
+            let place = input.offset_from(parameters.section).into_u64();
+            Ok(base.wrapping_add_sized(place, parameters.address_size))
+        }
+        DW_EH_PE_textrel => bases
+            .text
+            .ok_or(Error::TextRelativePointerButTextBaseIsUndefined),
+        DW_EH_PE_datarel => bases
+            .data_base
+            .ok_or(Error::DataRelativePointerButDataBaseIsUndefined),
+        DW_EH_PE_funcrel => parameters
+            .func_base
+            .ok_or(Error::FuncRelativePointerInBadContext),
+        DW_EH_PE_aligned => Err(Error::UnsupportedPointerEncoding(encoding)),
+        _ => Err(Error::UnknownPointerEncoding(encoding)),
+    }
+}
+
+/// Reads a pointer: its base and its value, which are added modulo the size of an address.
+///
+/// Refused with `CannotParseOmitPointerEncoding` where the encoding is omit; then, before any byte is read, where the
+/// base that the encoding names is missing, with `UnsupportedPointerEncoding` for an aligned value, and with
+/// `UnknownPointerEncoding` for an application that isn't known; then as `parse_encoded_value`.
+#[tactic(auto, unfolding(crate::specs::Pointers::pointer))]
+pub fn parse_encoded_pointer<R: Reader>(
+    encoding: DwEhPe,
+    parameters: &PointerEncodingParameters<'_, R>,
+    input: &mut R,
+) -> Result<Pointer>
+    requires sized { IsAddressSize parameters.now.address_size }
+    requires behind { (R.standing parameters.now.section.now).place ≤ (R.standing input.old).place }
+    ensures { Reads (λ p. p) (pointer encoding.0 (pointer_context R.standing parameters.now)) (R.standing input.old) result (R.standing input.new) }
+{
+    if encoding == DW_EH_PE_omit {
+        return Err(Error::CannotParseOmitPointerEncoding);
+    }
+    let base = pointer_base(encoding, parameters, input)?;
+    let value = parse_encoded_value(encoding, parameters.address_size, input)?;
+    let address = base.wrapping_add_sized(value, parameters.address_size);
+    if encoding.is_indirect() {
+        Ok(Pointer::Indirect(address))
+    } else {
+        Ok(Pointer::Direct(address))
+    }
+}

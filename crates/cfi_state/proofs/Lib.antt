@@ -1,0 +1,26 @@
+-- Proofs about the meaning of call frame instructions.
+pub mod RuleMaps
+pub mod Examples
+pub mod BracketCounts
+pub mod BracketEnds
+pub mod Ranges
+pub mod BracketPlaces
+pub mod WriterEnds
+pub mod PartsEnds
+pub mod Law
+pub mod CieEnd
+pub mod StandsBehind
+pub mod MachineSteps
+pub mod RowLaws
+pub mod NumberedMaps
+pub mod NumberedSteps
+pub mod RunSteps
+pub mod NumberedRuns
+pub mod RunAnswers
+pub mod KeptAnswers
+pub mod FixedStorage
+pub mod MemoryExamples
+pub mod Entries
+pub mod Registers
+pub mod Contexts
+pub mod Evaluation

@@ -1,0 +1,41 @@
+-- Memory that is refused where a state is remembered, over a storage that grows: the instruction is left out, so that the
+-- next restore has nothing to bring back.
+use Rattle.std.proofs.Common.{ℕ, false, pos, negsuc, List, [], ◌∷◌, Option, Some, None, Result, Ok, Err, refl, inl, inr}
+use Rattle.cfi_read_core.specs.Reading.{Readings}
+use Rattle.cfi_read_core.specs.declared.error.Error.{Error}
+use Rattle.cfi_read_core.specs.declared.error.Error.TheVariants.{OutOfMemory, PopWithEmptyStack}
+use Rattle.cfi_parts.specs.declared.instruction.CallFrameInstruction.{CallFrameInstruction}
+use Rattle.cfi_parts.specs.declared.instruction.CallFrameInstruction.TheVariants as instruction
+use Rattle.cfi_state.specs.declared.table.rules.CfaRule.TheVariants as cfa
+use Rattle.cfi_state.specs.Row.{Row}
+use Rattle.cfi_state.specs.Operands.{Setting}
+use Rattle.cfi_state.specs.Machine.{State, no_rules}
+use Rattle.cfi_state.specs.Places.{Place, going, ended}
+use Rattle.cfi_state.specs.Runs.{NextAnswer, passes, refuses, last_row, wants_memory}
+
+-- no limits, and copies of rules want memory; the FDE covers 0x1000 up to 0x1020
+abbrev growing : Setting
+growing = record { address_size = 8; code_alignment_factor = 1; data_alignment_factor = negsuc 7; initial_address = 4096; end_address = 4128; rule_limit = None; stack_limit = None }
+
+abbrev at_offset : ℕ → State ℕ
+at_offset offset = record {
+  location = 4096;
+  parts = record { cfa = cfa.RegisterAndOffset (record { 0 = 7 }) (pos offset); rules = no_rules; args_size = 0 };
+  remembered = [];
+  initial_rules = Some no_rules;
+}
+
+abbrev reads : List (CallFrameInstruction ℕ) → Readings (CallFrameInstruction ℕ)
+reads xs = record { values = xs; refusal = None }
+
+abbrev Answers : Place (State ℕ) ℕ → Result (Option (Row ℕ)) Error → Place (State ℕ) ℕ → Type 0
+Answers = NextAnswer (wants_memory growing false) growing
+
+remember_refused : Answers (going (at_offset 8) (reads (instruction.RememberState ∷ instruction.DefCfaOffset 32 ∷ instruction.RestoreState ∷ []))) (Err OutOfMemory) (going (at_offset 8) (reads (instruction.DefCfaOffset 32 ∷ instruction.RestoreState ∷ [])))
+remember_refused = refuses _ _ _ _ (inr (refl, refl, refl))
+
+restore_refused : Answers (going (at_offset 8) (reads (instruction.DefCfaOffset 32 ∷ instruction.RestoreState ∷ []))) (Err PopWithEmptyStack) (going (at_offset 32) (reads []))
+restore_refused = passes _ (at_offset 32) _ _ _ _ refl refl (refuses _ _ _ _ (inl refl))
+
+row_with_offset : Answers (going (at_offset 32) (reads [])) (Ok (Some (record { start_address = 4096; end_address = 4128; parts = (at_offset 32).parts }))) (ended (at_offset 32) (reads []))
+row_with_offset = last_row _

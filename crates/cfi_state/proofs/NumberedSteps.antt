@@ -1,0 +1,211 @@
+-- The machine does the same along a map of the offsets.
+use Rattle.std.proofs.Common.{◌≡◌, ℕ, ◌+◌, Bool, true, false, cond, not, ◌&&◌, leb, ℤ, List, [], ◌∷◌, ◌++◌, map, Option, Some, None, Result, Ok, Err, bit_xor, refl, sym, ap, ◌∙◌}
+use Rattle.std.specs.Option.{option_map}
+use Rattle.std.specs.FinMap as map
+use Rattle.std.proofs.lemmas.List.{length-map}
+use Rattle.cfi_read_core.specs.Readers.{map_ok}
+use Rattle.cfi_read_core.specs.Reading.{Readings}
+use Rattle.cfi_read_core.specs.declared.common.Register.{Register}
+use Rattle.cfi_read_core.specs.declared.error.Error.{Error}
+use Rattle.cfi_read_core.specs.declared.error.Error.TheVariants.{StackFull, TooManyRegisterRules}
+use Rattle.cfi_parts.specs.declared.instruction.CallFrameInstruction.{CallFrameInstruction}
+use Rattle.cfi_parts.specs.declared.instruction.CallFrameInstruction.TheVariants as instruction
+use Rattle.cfi_state.specs.declared.table.rules.CfaRule.{CfaRule}
+use Rattle.cfi_state.specs.declared.table.rules.CfaRule.TheVariants as cfa
+use Rattle.cfi_state.specs.declared.table.rules.RegisterRule.{RegisterRule}
+use Rattle.cfi_state.specs.declared.table.rules.RegisterRule.TheVariants as rule
+use Rattle.cfi_state.specs.Operands.{Setting, ra_sign_state, is_at_limit, is_move}
+use Rattle.cfi_state.specs.Machine.{Rules, Parts, State, fresh_state, copies_held, rows_held, with_rules, set_rule, set_or_remove_rule, restore_rule, set_cfa_register, set_cfa_offset, toggle, restore_state, step, end_of_cie}
+use Rattle.cfi_state.specs.Row.{Row}
+use Rattle.cfi_state.specs.Rows.{on_result, on_option, row_ended, run_answers_of, run_answers, run_all, run_cie, row_contains, answer_at, run_fde_answer}
+use Rattle.cfi_state.specs.Numbered.{map_instruction, map_cfa, map_rule, map_rules, map_parts, map_state, map_row, map_program_reads}
+use Rattle.cfi_state.proofs.NumberedMaps.{get-map_values, len-map_values, contains-map_values, insert-map_values, remove-map_values, empty-map_values}
+
+map_ok-cond : {A B : Type 0} (g : A → B) (b : Bool) (e : Error) (x : A) → map_ok g (cond b (Err e) (Ok x)) ≡ cond b (Err e) (Ok (g x))
+map_ok-cond g true e x = refl
+map_ok-cond g false e x = refl
+
+map_ok-cond_not : {A B : Type 0} (g : A → B) (b : Bool) (e : Error) (x : A) → map_ok g (cond b (Ok x) (Err e)) ≡ cond b (Ok (g x)) (Err e)
+map_ok-cond_not g true e x = refl
+map_ok-cond_not g false e x = refl
+
+module _ {A B : Type 0} (f : A → B) where
+  abbrev mapped : State A → State B
+  mapped = map_state f
+
+  set_rule-mapped : (s : Setting) (x : State A) (r : ℕ) (v : RegisterRule A) → set_rule s (mapped x) r (map_rule f v) ≡ map_ok mapped (set_rule s x r v)
+  set_rule-mapped s x r v =
+      let full : Bool = not (map.contains_key x.parts.rules r) && is_at_limit s.rule_limit (map.len x.parts.rules) in
+      (λ i. cond (not (contains-map_values (map_rule f) x.parts.rules r i) && is_at_limit s.rule_limit (len-map_values (map_rule f) x.parts.rules i)) (Err TooManyRegisterRules)
+      (Ok (with_rules (mapped x) (sym (insert-map_values (map_rule f) x.parts.rules r v) i))))
+      ∙ sym (map_ok-cond mapped full TooManyRegisterRules (with_rules x (map.insert x.parts.rules r v)))
+
+  set_or_remove-mapped : (s : Setting) (x : State A) (r : ℕ) (o : Option (RegisterRule A)) → set_or_remove_rule s (mapped x) r (option_map (map_rule f) o) ≡ map_ok mapped (set_or_remove_rule s x r o)
+  set_or_remove-mapped s x r None = λ i. Ok (with_rules (mapped x) (sym (remove-map_values (map_rule f) x.parts.rules r) i))
+  set_or_remove-mapped s x r (Some v) = set_rule-mapped s x r v
+
+  restore_rule-mapped : (s : Setting) (x : State A) (r : ℕ) (o : Option (Rules A)) → restore_rule s (mapped x) r (option_map (map_rules f) o) ≡ map_ok mapped (restore_rule s x r o)
+  restore_rule-mapped s x r None = refl
+  restore_rule-mapped s x r (Some initial) = ap (set_or_remove_rule s (mapped x) r) (get-map_values (map_rule f) initial r) ∙ set_or_remove-mapped s x r (map.get initial r)
+
+  cfa_register-mapped : (x : State A) (r : Register) (c : CfaRule A) → set_cfa_register (mapped x) r (map_cfa f c) ≡ map_ok mapped (set_cfa_register x r c)
+  cfa_register-mapped x r (cfa.RegisterAndOffset q offset) = refl
+  cfa_register-mapped x r (cfa.Expression e) = refl
+
+  cfa_offset-mapped : (x : State A) (offset : ℤ) (c : CfaRule A) → set_cfa_offset (mapped x) offset (map_cfa f c) ≡ map_ok mapped (set_cfa_offset x offset c)
+  cfa_offset-mapped x offset (cfa.RegisterAndOffset q before) = refl
+  cfa_offset-mapped x offset (cfa.Expression e) = refl
+
+  toggle-mapped : (s : Setting) (x : State A) (o : Option (RegisterRule A)) → toggle s (mapped x) (option_map (map_rule f) o) ≡ map_ok mapped (toggle s x o)
+  toggle-mapped s x None = set_rule-mapped s x ra_sign_state (rule.Constant 1)
+  toggle-mapped s x (Some (rule.Constant value)) = set_rule-mapped s x ra_sign_state (rule.Constant (bit_xor value 1))
+  toggle-mapped s x (Some _) = refl
+
+  restore_state-mapped : (x : State A) (remembered : List (Parts A)) → restore_state (mapped x) (map (map_parts f) remembered) ≡ map_ok mapped (restore_state x remembered)
+  restore_state-mapped x [] = refl
+  restore_state-mapped x (parts ∷ remembered) = refl
+
+  copies-mapped : (o : Option (Rules A)) → copies_held (option_map (map_rules f) o) ≡ copies_held o
+  copies-mapped None = refl
+  copies-mapped (Some rules) = ap (λ n. cond (leb 2 n) 1 0) (len-map_values (map_rule f) rules)
+
+  pub rows_held-mapped : (x : State A) → rows_held (mapped x) ≡ rows_held x
+  rows_held-mapped x = λ i. 1 + length-map x.remembered (map_parts f) i + copies-mapped x.initial_rules i
+
+  -- one instruction
+  pub step-mapped : (s : Setting) (x : State A) (i : CallFrameInstruction A) → step s (mapped x) (map_instruction f i) ≡ map_ok mapped (step s x i)
+  step-mapped s x (instruction.SetLoc address) = sym (map_ok-cond mapped _ _ _)
+  step-mapped s x (instruction.AdvanceLoc delta) = sym (map_ok-cond_not mapped _ _ _)
+  step-mapped s x (instruction.DefCfa r offset) = refl
+  step-mapped s x (instruction.DefCfaSf r offset) = refl
+  step-mapped s x (instruction.DefCfaRegister r) = cfa_register-mapped x r x.parts.cfa
+  step-mapped s x (instruction.DefCfaOffset offset) = cfa_offset-mapped x _ x.parts.cfa
+  step-mapped s x (instruction.DefCfaOffsetSf offset) = cfa_offset-mapped x _ x.parts.cfa
+  step-mapped s x (instruction.DefCfaExpression e) = refl
+  step-mapped s x (instruction.Undefined r) = set_rule-mapped s x _ rule.Undefined
+  step-mapped s x (instruction.SameValue r) = set_rule-mapped s x _ rule.SameValue
+  step-mapped s x (instruction.Offset r n) = set_rule-mapped s x _ (rule.Offset _)
+  step-mapped s x (instruction.OffsetExtendedSf r n) = set_rule-mapped s x _ (rule.Offset _)
+  step-mapped s x (instruction.ValOffset r n) = set_rule-mapped s x _ (rule.ValOffset _)
+  step-mapped s x (instruction.ValOffsetSf r n) = set_rule-mapped s x _ (rule.ValOffset _)
+  step-mapped s x (instruction.Register r source) = set_rule-mapped s x _ (rule.Register source)
+  step-mapped s x (instruction.Expression r e) = set_rule-mapped s x _ (rule.Expression e)
+  step-mapped s x (instruction.ValExpression r e) = set_rule-mapped s x _ (rule.ValExpression e)
+  step-mapped s x (instruction.Restore r) = restore_rule-mapped s x r.0 x.initial_rules
+  step-mapped s x instruction.RememberState =
+      (λ i. cond (is_at_limit s.stack_limit (rows_held-mapped x i)) (Err StackFull) (Ok (record (mapped x) { remembered = map_parts f x.parts ∷ map (map_parts f) x.remembered })))
+      ∙ sym (map_ok-cond mapped _ _ _)
+  step-mapped s x instruction.RestoreState = restore_state-mapped x x.remembered
+  step-mapped s x (instruction.ArgsSize size) = refl
+  step-mapped s x instruction.NegateRaState = ap (toggle s (mapped x)) (get-map_values (map_rule f) x.parts.rules ra_sign_state) ∙ toggle-mapped s x (map.get x.parts.rules ra_sign_state)
+  step-mapped s x instruction.Nop = refl
+
+  -- the end of the CIE's program
+  pub end_of_cie-mapped : (s : Setting) (x : State A) → end_of_cie s (mapped x) ≡ map_ok mapped (end_of_cie s x)
+  end_of_cie-mapped s x =
+      (λ i. cond (leb 2 (len-map_values (map_rule f) x.parts.rules i) && is_at_limit s.stack_limit (rows_held-mapped x i)) (Err StackFull) (Ok (record (mapped x) { location = s.initial_address; initial_rules = Some (map_rules f x.parts.rules) })))
+      ∙ sym (map_ok-cond mapped _ _ _)
+
+  pub fresh-mapped : mapped fresh_state ≡ fresh_state
+  fresh-mapped = λ i. record { location = 0; parts = record fresh_state.parts { rules = empty-map_values (map_rule f) i }; remembered = []; initial_rules = None }
+
+  pub is_move-mapped : (i : CallFrameInstruction A) → is_move (map_instruction f i) ≡ is_move i
+  is_move-mapped (instruction.SetLoc address) = refl
+  is_move-mapped (instruction.AdvanceLoc delta) = refl
+  is_move-mapped (instruction.DefCfa r offset) = refl
+  is_move-mapped (instruction.DefCfaSf r offset) = refl
+  is_move-mapped (instruction.DefCfaRegister r) = refl
+  is_move-mapped (instruction.DefCfaOffset offset) = refl
+  is_move-mapped (instruction.DefCfaOffsetSf offset) = refl
+  is_move-mapped (instruction.DefCfaExpression e) = refl
+  is_move-mapped (instruction.Undefined r) = refl
+  is_move-mapped (instruction.SameValue r) = refl
+  is_move-mapped (instruction.Offset r n) = refl
+  is_move-mapped (instruction.OffsetExtendedSf r n) = refl
+  is_move-mapped (instruction.ValOffset r n) = refl
+  is_move-mapped (instruction.ValOffsetSf r n) = refl
+  is_move-mapped (instruction.Register r source) = refl
+  is_move-mapped (instruction.Expression r e) = refl
+  is_move-mapped (instruction.ValExpression r e) = refl
+  is_move-mapped (instruction.Restore r) = refl
+  is_move-mapped instruction.RememberState = refl
+  is_move-mapped instruction.RestoreState = refl
+  is_move-mapped (instruction.ArgsSize size) = refl
+  is_move-mapped instruction.NegateRaState = refl
+  is_move-mapped instruction.Nop = refl
+
+  -- ---- whole runs
+
+  run_all-step : (s : Setting) (xs : List (CallFrameInstruction A)) (r : Result (State A) Error) → ((y : State A) → run_all s (mapped y) (map (map_instruction f) xs) ≡ map_ok mapped (run_all s y xs)) →
+      on_result (λ y. run_all s y (map (map_instruction f) xs)) (λ e. Err e) (map_ok mapped r) ≡ map_ok mapped (on_result (λ y. run_all s y xs) (λ e. Err e) r)
+  run_all-step s xs (Ok y) rest = rest y
+  run_all-step s xs (Err e) rest = refl
+
+  run_all-mapped : (s : Setting) (xs : List (CallFrameInstruction A)) (x : State A) → run_all s (mapped x) (map (map_instruction f) xs) ≡ map_ok mapped (run_all s x xs)
+  run_all-mapped s [] x = refl
+  run_all-mapped s (i ∷ xs) x = ap (on_result (λ y. run_all s y (map (map_instruction f) xs)) (λ e. Err e)) (step-mapped s x i) ∙ run_all-step s xs (step s x i) (run_all-mapped s xs)
+
+  ended-mapped : (s : Setting) (unread : Option Error) (x : State A) → on_option (end_of_cie s (mapped x)) (λ e. Err e) unread ≡ map_ok mapped (on_option (end_of_cie s x) (λ e. Err e) unread)
+  ended-mapped s None x = end_of_cie-mapped s x
+  ended-mapped s (Some e) x = refl
+
+  run_cie-step : (s : Setting) (unread : Option Error) (r : Result (State A) Error) → on_result (λ x. on_option (end_of_cie s x) (λ e. Err e) unread) (λ e. Err e) (map_ok mapped r) ≡ map_ok mapped (on_result (λ x. on_option (end_of_cie s x) (λ e. Err e) unread) (λ e. Err e) r)
+  run_cie-step s unread (Ok x) = ended-mapped s unread x
+  run_cie-step s unread (Err e) = refl
+
+  pub run_cie-mapped : (s : Setting) (reads : Readings (CallFrameInstruction A)) → run_cie s (map_program_reads f reads) ≡ map_ok mapped (run_cie s reads)
+  run_cie-mapped s reads =
+      ap (on_result (λ x. on_option (end_of_cie s x) (λ e. Err e) reads.refusal) (λ e. Err e))
+      (ap (λ x. run_all s x (map (map_instruction f) reads.values)) (sym fresh-mapped) ∙ run_all-mapped s reads.values fresh_state)
+      ∙ run_cie-step s reads.refusal (run_all s fresh_state reads.values)
+
+  abbrev mapped_answers : List (Result (Row A) Error) → List (Result (Row B) Error)
+  mapped_answers = map (map_ok (map_row f))
+
+  ended_row-mapped : (x y : State A) (b : Bool) (l : List (Result (Row A) Error)) →
+      cond b (Ok (record { start_address = x.location; end_address = y.location; parts = map_parts f x.parts }) ∷ []) [] ++ mapped_answers l
+      ≡ mapped_answers (cond b (Ok (record { start_address = x.location; end_address = y.location; parts = x.parts }) ∷ []) [] ++ l)
+  ended_row-mapped x y true l = refl
+  ended_row-mapped x y false l = refl
+
+  abbrev RunsAlike : Setting → List (CallFrameInstruction A) → Option Error → State A → Type 0
+  RunsAlike s xs unread y = run_answers_of s (mapped y) (map (map_instruction f) xs) unread ≡ mapped_answers (run_answers_of s y xs unread)
+
+  answers-step : (s : Setting) (x : State A) (i : CallFrameInstruction A) (xs : List (CallFrameInstruction A)) (unread : Option Error) (r : Result (State A) Error) → ((y : State A) → RunsAlike s xs unread y) →
+      on_result (λ y. row_ended (mapped x) (map_instruction f i) y ++ run_answers_of s y (map (map_instruction f) xs) unread) (λ e. Err e ∷ run_answers_of s (mapped x) (map (map_instruction f) xs) unread) (map_ok mapped r)
+      ≡ mapped_answers (on_result (λ y. row_ended x i y ++ run_answers_of s y xs unread) (λ e. Err e ∷ run_answers_of s x xs unread) r)
+  answers-step s x i xs unread (Ok y) rest =
+      (λ k. cond (is_move-mapped i k) (Ok (record { start_address = x.location; end_address = y.location; parts = map_parts f x.parts }) ∷ []) [] ++ rest y k)
+      ∙ ended_row-mapped x y (is_move i) (run_answers_of s y xs unread)
+  answers-step s x i xs unread (Err e) rest = ap (λ l. Err e ∷ l) (rest x)
+
+  last-mapped : (s : Setting) (unread : Option Error) (x : State A) → RunsAlike s [] unread x
+  last-mapped s None x = refl
+  last-mapped s (Some e) x = refl
+
+  answers_of-mapped : (s : Setting) (xs : List (CallFrameInstruction A)) (unread : Option Error) (x : State A) → RunsAlike s xs unread x
+  answers_of-mapped s [] unread x = last-mapped s unread x
+  answers_of-mapped s (i ∷ xs) unread x =
+      ap (on_result (λ y. row_ended (mapped x) (map_instruction f i) y ++ run_answers_of s y (map (map_instruction f) xs) unread) (λ e. Err e ∷ run_answers_of s (mapped x) (map (map_instruction f) xs) unread)) (step-mapped s x i)
+      ∙ answers-step s x i xs unread (step s x i) (answers_of-mapped s xs unread)
+
+  pub run_answers-mapped : (s : Setting) (x : State A) (reads : Readings (CallFrameInstruction A)) → run_answers s (mapped x) (map_program_reads f reads) ≡ map (map_ok (map_row f)) (run_answers s x reads)
+  run_answers-mapped s x reads = answers_of-mapped s reads.values reads.refusal x
+
+  answer_at-step : (address : ℕ) (row : Row A) (b : Bool) (r : Result (Row A) Error) → cond b (Ok (map_row f row)) (map_ok (map_row f) r) ≡ map_ok (map_row f) (cond b (Ok row) r)
+  answer_at-step address row true r = refl
+  answer_at-step address row false r = refl
+
+  pub answer_at-mapped : (address : ℕ) (l : List (Result (Row A) Error)) → answer_at address (map (map_ok (map_row f)) l) ≡ map_ok (map_row f) (answer_at address l)
+  answer_at-mapped address [] = refl
+  answer_at-mapped address (Err e ∷ l) = refl
+  answer_at-mapped address (Ok row ∷ l) = ap (cond (row_contains address row) (Ok (map_row f row))) (answer_at-mapped address l) ∙ answer_at-step address row (row_contains address row) (answer_at address l)
+
+  fde_answer-step : (s : Setting) (fde : Readings (CallFrameInstruction A)) (address : ℕ) (r : Result (State A) Error) →
+      on_result (λ x. answer_at address (run_answers s x (map_program_reads f fde))) (λ e. Err e) (map_ok mapped r) ≡ map_ok (map_row f) (on_result (λ x. answer_at address (run_answers s x fde)) (λ e. Err e) r)
+  fde_answer-step s fde address (Ok x) = ap (answer_at address) (run_answers-mapped s x fde) ∙ answer_at-mapped address (run_answers s x fde)
+  fde_answer-step s fde address (Err e) = refl
+
+  pub run_fde_answer-mapped : (s : Setting) (cie fde : Readings (CallFrameInstruction A)) (address : ℕ) → run_fde_answer s (map_program_reads f cie) (map_program_reads f fde) address ≡ map_ok (map_row f) (run_fde_answer s cie fde address)
+  run_fde_answer-mapped s cie fde address =
+      ap (on_result (λ x. answer_at address (run_answers s x (map_program_reads f fde))) (λ e. Err e)) (run_cie-mapped s cie) ∙ fde_answer-step s fde address (run_cie s cie)

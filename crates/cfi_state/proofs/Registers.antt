@@ -1,0 +1,155 @@
+-- Lists of registers with their rules, and the maps that they stand for.
+use Rattle.std.proofs.Common.{◌≡◌, ◌≢◌, ℕ, ◌+◌, Bool, true, false, eqb, Option, Some, None, IsNone, IsSomeAnd, is_some, List, [], ◌∷◌, ◌++◌, length, map, get_or, refl, sym, ap, ◌∙◌, subst, cond, Result, Ok, Err, ◌↔◌, arith}
+use Rattle.std.proofs.Math.ListN.{set}
+use Rattle.std.proofs.lemmas.List.{map-set, map-append, length-map}
+use Rattle.std.proofs.lemmas.List.Elements.{All-head, All-tail}
+use Rattle.std.proofs.lemmas.List.Sorted.{IsPermutation-swap_remove, IsPermutation-map}
+use Rattle.std.proofs.lemmas.Option.{slice_get_within, get_or_from_slice_get, slice_get-map}
+use Rattle.std.proofs.lemmas.Bool.Decides.{nat_tests}
+use Rattle.std.specs.Option.{option_map}
+use Rattle.std.specs.Ordering.{nat_cmp, eq_by_cmp}
+use Rattle.std.specs.Bool.{then_some}
+use Rattle.std.specs.Cmp.{nat_cmp_total, unsigned_ties}
+use Rattle.std.specs.List.{All, IsDistinct, slice_get, swap_remove}
+use Rattle.std.specs.List.Sorted.{IsPermutation}
+use Rattle.std.specs.FinMap.{nat_cmp-IsAntisymmetric, find, get, insert, remove, contains_key, get-from_entries, len}
+use Rattle.cfi_read_core.specs.declared.common.Register.{Register}
+use Rattle.cfi_read_core.specs.declared.error.Error.{Error}
+use Rattle.cfi_read_core.specs.declared.error.Error.TheVariants.{TooManyRegisterRules}
+use Rattle.cfi_state.specs.declared.table.rules.RegisterRule.{RegisterRule}
+use Rattle.cfi_state.specs.declared.storage.Why.{Why}
+use Rattle.cfi_state.specs.declared.storage.Why.TheVariants.{Full, Memory}
+use Rattle.cfi_state.specs.Outcome.{Performs}
+use Rattle.cfi_state.specs.Refusal.{refusal_for}
+use Rattle.cfi_state.specs.Limit.{IsAtLimit}
+use Rattle.cfi_state.specs.Operands.{is_at_limit}
+use Rattle.cfi_state.specs.Machine.{Rules}
+use Rattle.cfi_state.specs.Rules.{numbered, rules_of, set_rule, IsDistinctRegisters, AddsRule}
+use Rattle.cfi_state.proofs.Entries.{find_at, find-absent, from_entries-set, distinct-set, from_entries-push, distinct-push, from_entries-without, distinct-without, remove-absent, len-from_entries}
+
+module _ {T : Type 0} (pairs : List (Register × RegisterRule T)) where
+  pub distinct-empty : pairs ≡ [] → IsDistinctRegisters pairs
+  unfolding IsDistinct
+  distinct-empty none = subst IsDistinctRegisters (sym none) tt
+
+  -- the pair at the place where a register was found
+  pub pair_at : (place : ℕ) (register : Register) → IsSomeAnd (slice_get pairs place) (λ pair. pair.0 ≡ register)
+      → (rule : RegisterRule T) × (slice_get pairs place ≡ Some (register, rule))
+  pair_at place register found =
+      elim (slice_get pairs place) as (λ o. slice_get pairs place ≡ o → IsSomeAnd o (λ pair. pair.0 ≡ register) → (rule : RegisterRule T) × (slice_get pairs place ≡ Some (register, rule))) [
+        | None ↦ λ at is. absurd is
+        | Some pair ↦ λ at is. (pair.1, at ∙ ap (λ r. Some (r, pair.1)) is)
+      ] refl found
+
+  pub entry_at : (place : ℕ) (register : Register) (rule : RegisterRule T) → slice_get pairs place ≡ Some (register, rule)
+      → slice_get (map numbered pairs) place ≡ Some (register.0, rule)
+  entry_at place register rule at = slice_get-map numbered pairs place ∙ ap (option_map numbered) at
+
+  pub get-found : (place : ℕ) (register : Register) (rule : RegisterRule T) → IsDistinctRegisters pairs → slice_get pairs place ≡ Some (register, rule)
+      → get (rules_of pairs) register.0 ≡ Some rule
+  get-found place register rule distinct at =
+      get-from_entries nat_cmp_total (map numbered pairs) register.0
+      ∙ find_at nat_cmp_total nat_cmp-IsAntisymmetric (map numbered pairs) place register.0 rule distinct (entry_at place register rule at)
+
+same_register : (a b : Register) → a.0 ≡ b.0 → a ≡ b
+same_register a b same = λ i. record { 0 = same i }
+
+pub find-none : {T : Type 0} (pairs : List (Register × RegisterRule T)) (register : Register) → All (λ pair. pair.0 ≢ register) pairs
+    → find nat_cmp register.0 (map numbered pairs) ≡ None
+find-none [] register absent = refl
+find-none {T = T} (pair ∷ pairs) register absent =
+    let other : ¬ (pair.0.0 ≡ register.0) =
+    λ same. All-head (λ (p : Register × RegisterRule T). p.0 ≢ register) pair pairs absent (same_register _ _ same) in
+    let rest = find-none pairs register (All-tail (λ (p : Register × RegisterRule T). p.0 ≢ register) pair pairs absent) in
+    let apart : eq_by_cmp nat_cmp register.0 pair.0.0 ≡ false = sym (unsigned_ties register.0 pair.0.0) ∙ grind (arith, nat_tests) in
+    rw (apart, rest) refl
+
+module _ {T : Type 0} (pairs : List (Register × RegisterRule T)) where
+  pub get-absent : (register : Register) → All (λ pair. pair.0 ≢ register) pairs → get (rules_of pairs) register.0 ≡ None
+  get-absent register absent =
+      get-from_entries nat_cmp_total (map numbered pairs) register.0 ∙ find-none pairs register absent
+
+  pub len-rules_of : IsDistinctRegisters pairs → len (rules_of pairs) ≡ length pairs
+  len-rules_of distinct =
+      len-from_entries nat_cmp_total nat_cmp-IsAntisymmetric (map numbered pairs) distinct ∙ length-map pairs numbered
+
+module _ {T : Type 0} (pairs : List (Register × RegisterRule T)) (distinct : IsDistinctRegisters pairs) (register : Register) where
+  -- the pair taken out stands in front of the rest
+  taken : (place : ℕ) (pair : Register × RegisterRule T) → slice_get pairs place ≡ Some pair
+      → IsPermutation (map numbered pairs) (numbered pair ∷ map numbered (swap_remove pairs place pair))
+  taken place pair at =
+      IsPermutation-map numbered pairs (pair ∷ swap_remove pairs place pair)
+      (IsPermutation-swap_remove pairs place pair (slice_get_within pairs place pair at) (sym (get_or_from_slice_get pairs place pair pair at)))
+
+  pub distinct-removed : (place : ℕ) (pair : Register × RegisterRule T) → slice_get pairs place ≡ Some pair → IsDistinctRegisters (swap_remove pairs place pair)
+  distinct-removed place pair at =
+      distinct-without nat_cmp_total nat_cmp-IsAntisymmetric (map numbered pairs) (map numbered (swap_remove pairs place pair)) (numbered pair) distinct (taken place pair at)
+
+  pub rules_of-removed : (place : ℕ) (pair : Register × RegisterRule T) → slice_get pairs place ≡ Some pair
+      → IsSomeAnd (slice_get pairs place) (λ other. other.0 ≡ register) → rules_of (swap_remove pairs place pair) ≡ remove (rules_of pairs) register.0
+  rules_of-removed place pair at found =
+      let is : pair.0 ≡ register = rw at at found in
+      from_entries-without nat_cmp_total nat_cmp-IsAntisymmetric (map numbered pairs) (map numbered (swap_remove pairs place pair)) (numbered pair) distinct (taken place pair at)
+      ∙ ap (λ (r : Register). remove (rules_of pairs) r.0) is
+
+  pub rules_of-kept : All (λ pair. pair.0 ≢ register) pairs → rules_of pairs ≡ remove (rules_of pairs) register.0
+  rules_of-kept absent =
+      sym (remove-absent nat_cmp_total nat_cmp-IsAntisymmetric (rules_of pairs) register.0 (get-absent pairs register absent))
+
+-- whether a list is full, as a test and as a fact
+pub at_limit-true : {A : Type 0} (limit : Option ℕ) (items : List A) → IsAtLimit limit items → is_at_limit limit (length items) ≡ true
+at_limit-true None items at = cc
+at_limit-true (Some most) items at = let same : most ≡ length items = cc in grind (arith, nat_tests)
+
+pub at_limit-false : {A : Type 0} (limit : Option ℕ) (items : List A) → ¬ IsAtLimit limit items → is_at_limit limit (length items) ≡ false
+at_limit-false None items below = refl
+at_limit-false (Some most) items below = let other : ¬ (length items ≡ most) = λ e. below (ap Some (sym e)) in grind (arith, nat_tests)
+
+module _ {T : Type 0} (limit : Option ℕ) (pairs : List (Register × RegisterRule T)) (distinct : IsDistinctRegisters pairs) (register : Register) (rule : RegisterRule T) where
+  abbrev Sets : Rules T → Result (Unit {0}) Error → Type 0
+  Sets new result =
+      Performs (AddsRule limit (rules_of pairs) register.0) (set_rule limit (rules_of pairs) register.0 rule) (rules_of pairs) new result
+
+  set_rule-found : (old : RegisterRule T) (place : ℕ) → slice_get pairs place ≡ Some (register, old)
+      → set_rule limit (rules_of pairs) register.0 rule ≡ Ok (insert (rules_of pairs) register.0 rule)
+  set_rule-found old place at = rw (get-found pairs place register old distinct at) refl
+
+  set_rule-absent : All (λ pair. pair.0 ≢ register) pairs → (full : Bool) → is_at_limit limit (length pairs) ≡ full
+      → set_rule limit (rules_of pairs) register.0 rule ≡ cond full (Err TooManyRegisterRules) (Ok (insert (rules_of pairs) register.0 rule))
+  set_rule-absent absent full is = rw (get-absent pairs register absent, len-rules_of pairs distinct, is) refl
+
+  pub distinct-written : (place : ℕ) → IsSomeAnd (slice_get pairs place) (λ pair. pair.0 ≡ register) → IsDistinctRegisters (set pairs place (register, rule))
+  distinct-written place found =
+      let at = pair_at pairs place register found in
+      subst (λ (es : List (ℕ × RegisterRule T)). IsDistinct (eq_by_cmp nat_cmp) (map (λ e. e.0) es)) (sym (map-set numbered pairs place (register, rule)))
+      (distinct-set nat_cmp_total nat_cmp-IsAntisymmetric (map numbered pairs) place register.0 at.0 rule distinct (entry_at pairs place register at.0 at.1))
+
+  pub sets-written : (place : ℕ) → IsSomeAnd (slice_get pairs place) (λ pair. pair.0 ≡ register) → Sets (rules_of (set pairs place (register, rule))) (Ok tt)
+  sets-written place found =
+      let at = pair_at pairs place register found in
+      rw (set_rule-found at.0 place at.1, map-set numbered pairs place (register, rule))
+      (from_entries-set nat_cmp_total nat_cmp-IsAntisymmetric (map numbered pairs) place register.0 at.0 rule distinct (entry_at pairs place register at.0 at.1))
+
+  pub distinct-pushed : All (λ pair. pair.0 ≢ register) pairs → IsDistinctRegisters (pairs ++ (register, rule) ∷ [])
+  distinct-pushed absent =
+      subst (λ (es : List (ℕ × RegisterRule T)). IsDistinct (eq_by_cmp nat_cmp) (map (λ e. e.0) es)) (sym (map-append numbered pairs ((register, rule) ∷ [])))
+      (distinct-push nat_cmp_total nat_cmp-IsAntisymmetric (map numbered pairs) register.0 rule distinct (find-none pairs register absent))
+
+  pub sets-pushed : All (λ pair. pair.0 ≢ register) pairs → ¬ IsAtLimit limit pairs → Sets (rules_of (pairs ++ (register, rule) ∷ [])) (Ok tt)
+  sets-pushed absent below =
+      rw (set_rule-absent absent false (at_limit-false limit pairs below), map-append numbered pairs ((register, rule) ∷ []))
+      (from_entries-push nat_cmp_total nat_cmp-IsAntisymmetric (map numbered pairs) register.0 rule (find-none pairs register absent))
+
+  pub sets-refused : All (λ pair. pair.0 ≢ register) pairs → (why : Why) → (why ≡ Full (record {})) ↔ IsAtLimit limit pairs → (why ≡ Memory → IsNone limit)
+      → Sets (rules_of pairs) (Err (refusal_for why TooManyRegisterRules))
+  sets-refused absent (Full _) full memory =
+      rw (set_rule-absent absent true (at_limit-true limit pairs (full.0 refl))) (refl, refl)
+  sets-refused absent Memory full memory =
+      let below : ¬ IsAtLimit limit pairs = λ at. let e = full.1 at in cc in
+      let absent_key : contains_key (rules_of pairs) register.0 ≡ false = ap is_some (get-absent pairs register absent) in
+      rw (set_rule-absent absent false (at_limit-false limit pairs below)) (refl, refl, (memory refl, absent_key))
+
+pub then_some-tied : {A : Type 0} (a b : ℕ) (x : A) → then_some (eqb a b) x ≡ cond (eq_by_cmp nat_cmp a b) (Some x) None
+then_some-tied a b x =
+    let chosen : (test : Bool) → then_some test x ≡ cond test (Some x) None = elim [ true ↦ refl | false ↦ refl ] in
+    chosen (eqb a b) ∙ ap (λ test. cond test (Some x) None) (unsigned_ties a b)

@@ -1,0 +1,140 @@
+-- Laws of an FDE's rows: they follow each other from its initial address to its end, each address that it contains lies
+-- in exactly one of them, and an answer for an address contains it.
+use Rattle.std.proofs.Common.{◌≡◌, ℕ, ◌+◌, ◌<◌, ◌≤◌, Bool, true, false, cond, ◌&&◌, List, [], ◌∷◌, ◌++◌, ltb, leb, Option, Some, None, Result, Ok, Err, refl, sym, ap, subst, ◌∙◌, arith, zero-add, inl, inr, ◌⊎◌}
+use Rattle.std.specs.List.{count_by}
+use Rattle.std.proofs.lemmas.List.Sums.{sum_by-cons}
+use Rattle.std.proofs.lemmas.Bool.{false≢true, and_from, cases_lt, lt-ltb, le-ltb, ltb-false, le-leb, lt-leb, cases_Bool}
+use Rattle.cfi_read_core.specs.Reading.{Readings}
+use Rattle.cfi_read_core.specs.declared.error.Error.{Error}
+use Rattle.cfi_parts.specs.declared.instruction.CallFrameInstruction.{CallFrameInstruction}
+use Rattle.cfi_parts.specs.declared.instruction.CallFrameInstruction.TheVariants as instruction
+use Rattle.cfi_state.specs.Row.{Row}
+use Rattle.cfi_state.specs.Operands.{Setting, moved, is_move}
+use Rattle.cfi_state.specs.Program.{Program, in_fde, refused_if, followed_by, location_of, refusal}
+use Rattle.cfi_state.specs.Rows.{or_refused, on_option, on_result, refusals, row_until, rows_ended, answers_of, answers, cie_refusal, run_answers, state_of, rows_of, row_contains, AreConsecutive, answer_at, fde_answer, run_fde_answer}
+use Rattle.cfi_state.proofs.Law.{location_push}
+use Rattle.cfi_state.proofs.StandsBehind.{cie_law, cie_accepted, run_law}
+
+not_refused : (b : Bool) (e : Error) → refused_if b e ≡ None → b ≡ false
+not_refused true e h = absurd (let wrong : Some e ≡ None = h in cc)
+not_refused false e h = refl
+
+module _ {T : Type 0} where
+  -- ---- the next answer
+
+  -- an accepted instruction that is no move gives none
+  pub answers-other : (s : Setting) (p : Program T) (i : CallFrameInstruction T) (xs : List (CallFrameInstruction T)) (unread : Option Error) → refusal s p i ≡ None → is_move i ≡ false → answers_of s p (i ∷ xs) unread ≡ answers_of s (followed_by p i) xs unread
+  answers-other s p i xs unread accepted still =
+      ap (on_option (rows_ended s p i ++ answers_of s (followed_by p i) xs unread) (λ e. Err e ∷ answers_of s p xs unread)) accepted
+      ∙ ap (λ b. cond b (Ok (row_until s p (location_of s (followed_by p i))) ∷ []) [] ++ answers_of s (followed_by p i) xs unread) still
+
+  -- an accepted move gives the row that it ends
+  pub answers-move : (s : Setting) (p : Program T) (i : CallFrameInstruction T) (xs : List (CallFrameInstruction T)) (unread : Option Error) → refusal s p i ≡ None → is_move i ≡ true → answers_of s p (i ∷ xs) unread ≡ Ok (row_until s p (location_of s (followed_by p i))) ∷ answers_of s (followed_by p i) xs unread
+  answers-move s p i xs unread accepted moves =
+      ap (on_option (rows_ended s p i ++ answers_of s (followed_by p i) xs unread) (λ e. Err e ∷ answers_of s p xs unread)) accepted
+      ∙ ap (λ b. cond b (Ok (row_until s p (location_of s (followed_by p i))) ∷ []) [] ++ answers_of s (followed_by p i) xs unread) moves
+
+  -- a refused instruction gives its refusal, and the program stays
+  pub answers-refused : (s : Setting) (p : Program T) (i : CallFrameInstruction T) (xs : List (CallFrameInstruction T)) (unread : Option Error) (e : Error) → refusal s p i ≡ Some e → answers_of s p (i ∷ xs) unread ≡ Err e ∷ answers_of s p xs unread
+  answers-refused s p i xs unread e refused = ap (on_option (rows_ended s p i ++ answers_of s (followed_by p i) xs unread) (λ d. Err d ∷ answers_of s p xs unread)) refused
+
+  -- ---- consecutive rows
+
+  -- an accepted instruction does not move back
+  moves_on : (s : Setting) (p : Program T) (i : CallFrameInstruction T) → refusal s p i ≡ None → location_of s p ≤ moved s (location_of s p) i
+  moves_on s p (instruction.SetLoc address) e = ltb-false address (location_of s p) (not_refused _ _ e)
+  moves_on s p (instruction.AdvanceLoc delta) e = omega arith
+  moves_on s p _ e = omega arith
+
+  still_there : (s : Setting) (location : ℕ) (i : CallFrameInstruction T) → is_move i ≡ false → moved s location i ≡ location
+  still_there s location (instruction.SetLoc address) e = absurd (false≢true (sym e))
+  still_there s location (instruction.AdvanceLoc delta) e = absurd (false≢true (sym e))
+  still_there s location _ e = refl
+
+  consecutive_more : (row : Row T) (rows : List (Row T)) (to : ℕ) → row.start_address ≤ row.end_address → AreConsecutive row.end_address rows to → AreConsecutive row.start_address (row ∷ rows) to
+  consecutive_more row [] to h rest = absurd rest
+  consecutive_more row (next ∷ rows) to h rest = (refl, h, rest)
+
+  consecutive_step : (s : Setting) (p : Program T) (i : CallFrameInstruction T) (xs : List (CallFrameInstruction T)) (unread o : Option Error) → refusal s p i ≡ o →
+      ((q : Program T) → AreConsecutive (location_of s q) (rows_of (answers_of s q xs unread)) s.end_address) →
+      AreConsecutive (location_of s p) (rows_of (answers_of s p (i ∷ xs) unread)) s.end_address
+  consecutive_step s p i xs unread (Some e) h rest = subst (λ l. AreConsecutive (location_of s p) (rows_of l) s.end_address) (sym (answers-refused s p i xs unread e h)) (rest p)
+  consecutive_step s p i xs unread None h rest =
+      let still : is_move i ≡ false → AreConsecutive (location_of s p) (rows_of (answers_of s p (i ∷ xs) unread)) s.end_address = λ e.
+      subst (λ l. AreConsecutive (location_of s p) (rows_of l) s.end_address) (sym (answers-other s p i xs unread h e))
+      (subst (λ a. AreConsecutive a (rows_of (answers_of s (followed_by p i) xs unread)) s.end_address) (location_push s p i ∙ still_there s (location_of s p) i e) (rest (followed_by p i))) in
+      let moves : is_move i ≡ true → AreConsecutive (location_of s p) (rows_of (answers_of s p (i ∷ xs) unread)) s.end_address = λ e.
+      subst (λ l. AreConsecutive (location_of s p) (rows_of l) s.end_address) (sym (answers-move s p i xs unread h e))
+      (consecutive_more (row_until s p (location_of s (followed_by p i))) (rows_of (answers_of s (followed_by p i) xs unread)) s.end_address
+      (subst (λ a. location_of s p ≤ a) (sym (location_push s p i)) (moves_on s p i h)) (rest (followed_by p i))) in
+      let pick : (is_move i ≡ true) ⊎ (is_move i ≡ false) → AreConsecutive (location_of s p) (rows_of (answers_of s p (i ∷ xs) unread)) s.end_address = elim [ inl e ↦ moves e | inr e ↦ still e ] in
+      pick (cases_Bool (is_move i))
+
+  last_row : (s : Setting) (p : Program T) (unread : Option Error) → AreConsecutive (location_of s p) (rows_of (refusals unread ++ Ok (row_until s p s.end_address) ∷ [])) s.end_address
+  last_row s p None = (refl, refl)
+  last_row s p (Some e) = (refl, refl)
+
+  pub answers_consecutive : (s : Setting) (xs : List (CallFrameInstruction T)) (unread : Option Error) (p : Program T) → AreConsecutive (location_of s p) (rows_of (answers_of s p xs unread)) s.end_address
+  answers_consecutive s [] unread p = last_row s p unread
+  answers_consecutive s (i ∷ xs) unread p = consecutive_step s p i xs unread (refusal s p i) refl (answers_consecutive s xs unread)
+
+  -- the rows of an FDE run from its initial address to its end
+  pub rows_consecutive : (s : Setting) (cie : List (CallFrameInstruction T)) (fde : Readings (CallFrameInstruction T)) → AreConsecutive s.initial_address (rows_of (answers s (in_fde cie []) fde)) s.end_address
+  rows_consecutive s cie fde = answers_consecutive s fde.values fde.refusal (in_fde cie [])
+
+  -- ---- exactly one row
+
+  outside_below : (address : ℕ) (row : Row T) → address < row.start_address → row_contains address row ≡ false
+  outside_below address row h = ap (λ b. b && ltb address row.end_address) (lt-leb row.start_address address h)
+
+  outside_above : (address : ℕ) (row : Row T) → row.start_address ≤ address → row.end_address ≤ address → row_contains address row ≡ false
+  outside_above address row low high = ap (λ b. b && ltb address row.end_address) (le-leb row.start_address address low) ∙ le-ltb address row.end_address high
+
+  inside : (address : ℕ) (row : Row T) → row.start_address ≤ address → address < row.end_address → row_contains address row ≡ true
+  inside address row low high = and_from (leb row.start_address address) _ (le-leb _ _ low) (lt-ltb _ _ high)
+
+  count_one : (address : ℕ) (row : Row T) (rows : List (Row T)) (b : Bool) → row_contains address row ≡ b → count_by (row_contains address) (row ∷ rows) ≡ cond b 1 0 + count_by (row_contains address) rows
+  count_one address row rows b e = sum_by-cons (λ r. cond (row_contains address r) 1 0) row rows ∙ ap (λ c. cond c 1 0 + count_by (row_contains address) rows) e
+
+  none_below : (address from : ℕ) (rows : List (Row T)) (to : ℕ) → AreConsecutive from rows to → address < from → count_by (row_contains address) rows ≡ 0
+  none_below address from [] to c h = absurd c
+  none_below address from (row ∷ []) to c h = count_one address row [] false (outside_below address row (omega (arith, c.0)))
+  none_below address from (row ∷ next ∷ rows) to c h =
+      count_one address row (next ∷ rows) false (outside_below address row (omega (arith, c.0))) ∙ zero-add _ ∙ none_below address row.end_address (next ∷ rows) to c.2 (omega (arith, c.0, c.1))
+
+  one_row_case : (address : ℕ) (row next : Row T) (rows : List (Row T)) (from to : ℕ) → AreConsecutive from (row ∷ next ∷ rows) to → from ≤ address → (row.end_address ≤ address → count_by (row_contains address) (next ∷ rows) ≡ 1) → (address < row.end_address) ⊎ (row.end_address ≤ address) → count_by (row_contains address) (row ∷ next ∷ rows) ≡ 1
+  one_row_case address row next rows from to c low rest (inl here) = count_one address row (next ∷ rows) true (inside address row (omega (arith, c.0)) here) ∙ ap (λ n. 1 + n) (none_below address row.end_address (next ∷ rows) to c.2 here)
+  one_row_case address row next rows from to c low rest (inr later) = count_one address row (next ∷ rows) false (outside_above address row (omega (arith, c.0)) later) ∙ zero-add _ ∙ rest later
+
+  one_row : (address : ℕ) (rows : List (Row T)) (from to : ℕ) → AreConsecutive from rows to → from ≤ address → address < to → count_by (row_contains address) rows ≡ 1
+  one_row address [] from to c low high = absurd c
+  one_row address (row ∷ []) from to c low high = count_one address row [] true (inside address row (omega (arith, c.0)) (omega (arith, c.1)))
+  one_row address (row ∷ next ∷ rows) from to c low high =
+      one_row_case address row next rows from to c low (λ h. one_row address (next ∷ rows) row.end_address to c.2 h high) (cases_lt address row.end_address)
+
+  -- each address that the FDE contains lies in exactly one of its rows
+  pub in_one_row : (s : Setting) (cie : List (CallFrameInstruction T)) (fde : Readings (CallFrameInstruction T)) (address : ℕ) → s.initial_address ≤ address → address < s.end_address → count_by (row_contains address) (rows_of (answers s (in_fde cie []) fde)) ≡ 1
+  in_one_row s cie fde address low high = one_row address (rows_of (answers s (in_fde cie []) fde)) s.initial_address s.end_address (rows_consecutive s cie fde) low high
+
+  -- ---- the answer for an address
+
+  same_row : (first row : Row T) → ◌≡◌ {A = Result (Row T) Error} (Ok first) (Ok row) → first ≡ row
+  same_row first row e = cc
+
+  answer_case : (address : ℕ) (first row : Row T) (l : List (Result (Row T) Error)) (b : Bool) → row_contains address first ≡ b → (answer_at address l ≡ Ok row → row_contains address row ≡ true) → cond b (Ok first) (answer_at address l) ≡ Ok row → row_contains address row ≡ true
+  answer_case address first row l true h rest e = ap (row_contains address) (sym (same_row first row e)) ∙ h
+  answer_case address first row l false h rest e = rest e
+
+  pub answer_contains : (address : ℕ) (l : List (Result (Row T) Error)) (row : Row T) → answer_at address l ≡ Ok row → row_contains address row ≡ true
+  answer_contains address [] row e = absurd (let wrong : ◌≡◌ {A = Result (Row T) Error} (answer_at address []) (Ok row) = e in cc)
+  answer_contains address (Err d ∷ l) row e = absurd (let wrong : ◌≡◌ {A = Result (Row T) Error} (Err d) (Ok row) = e in cc)
+  answer_contains address (Ok first ∷ l) row e = answer_case address first row l (row_contains address first) refl (answer_contains address l row) e
+
+  fde_answer_step : (s : Setting) (cie fde : Readings (CallFrameInstruction T)) (address : ℕ) (o : Option Error) → cie_refusal s cie ≡ o →
+      on_result (λ x. answer_at address (run_answers s x fde)) (λ e. Err e) (or_refused o (state_of s (in_fde cie.values []))) ≡ on_option (answer_at address (answers s (in_fde cie.values []) fde)) (λ e. Err e) o
+  fde_answer_step s cie fde address None e = ap (answer_at address) (run_law s fde.values fde.refusal (in_fde cie.values []) (cie_accepted s cie e))
+  fde_answer_step s cie fde address (Some d) e = refl
+
+  -- the machine's answer for an address is that of the struck-out form
+  pub fde_answer_law : (s : Setting) (cie fde : Readings (CallFrameInstruction T)) (address : ℕ) → run_fde_answer s cie fde address ≡ fde_answer s cie fde address
+  fde_answer_law s cie fde address = ap (on_result (λ x. answer_at address (run_answers s x fde)) (λ e. Err e)) (cie_law s cie) ∙ fde_answer_step s cie fde address (cie_refusal s cie) refl

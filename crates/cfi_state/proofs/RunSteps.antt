@@ -1,0 +1,77 @@
+-- How the evaluation of single instructions makes up a run, for loops whose invariant goes backwards: what comes next from
+-- where the loop is, also comes next from where it began.
+--     LeadsTo, leads-on, next-row, next-refused, next-unreadable, next-last      the rows of an FDE
+--     LeadsToCie, cie-leads-on, cie-refused, cie-unreadable, cie-ended, cie-end-refused      the program of a CIE
+--     LeadsToRow, row-leads-on      the search for the row of an address
+use Rattle.std.proofs.Common.{◌≡◌, ℕ, true, false, Option, Some, None, Result, Ok, Err, sym, subst}
+use Rattle.cfi_read_core.specs.Reading.{Readings, with_first, no_values}
+use Rattle.cfi_read_core.specs.declared.error.Error.{Error}
+use Rattle.cfi_parts.specs.declared.instruction.CallFrameInstruction.{CallFrameInstruction}
+use Rattle.cfi_state.specs.Row.{Row}
+use Rattle.cfi_state.specs.Operands.{Setting, is_move}
+use Rattle.cfi_state.specs.Machine.{State, step, end_of_cie}
+use Rattle.cfi_state.specs.Outcome.{IsRefusal}
+use Rattle.cfi_state.specs.Rows.{row_contains}
+use Rattle.cfi_state.specs.Places.{Place, going, ended}
+use Rattle.cfi_state.specs.Runs.{Wants, current_row, NextAnswer, passes, ends_row, refuses, cannot_read, last_row, RunsCie, cie_passes, cie_refuses, cie_cannot_read, cie_ends, cie_end_refused, FindsRow, goes_on}
+
+module _ {T : Type 0} (wants : Wants T) (s : Setting) where
+  -- ---- the rows of an FDE
+
+  -- what comes next at the place q also comes next at the place p
+  abbrev pub LeadsTo : Place (State T) T → Place (State T) T → Type 0
+  LeadsTo p q = (answer : Result (Option (Row T)) Error) (after : Place (State T) T) → NextAnswer wants s q answer after → NextAnswer wants s p answer after
+
+  module _ (p : Place (State T) T) (x : State T) (left : Readings (CallFrameInstruction T)) (leads : LeadsTo p (going x left)) where
+    at_place : (rest : Readings (CallFrameInstruction T)) (answer : Result (Option (Row T)) Error) (after : Place (State T) T) → left ≡ rest → NextAnswer wants s (going x rest) answer after → NextAnswer wants s p answer after
+    at_place rest answer after is next = leads answer after (subst (λ l. NextAnswer wants s (going x l) answer after) (sym is) next)
+
+    pub next-unreadable : (e : Error) → left ≡ no_values (Some e) → NextAnswer wants s p (Err e) (going x (no_values None))
+    next-unreadable e is = at_place _ _ _ is (cannot_read x e)
+
+    pub next-last : left ≡ no_values None → NextAnswer wants s p (Ok (Some (current_row x s.end_address))) (ended x (no_values None))
+    next-last is = at_place _ _ _ is (last_row x)
+
+    module _ (i : CallFrameInstruction T) (rest : Readings (CallFrameInstruction T)) (reads : left ≡ with_first i rest) where
+      pub leads-on : (y : State T) → is_move i ≡ false → step s x i ≡ Ok y → LeadsTo p (going y rest)
+      leads-on y still stepped answer after next = at_place _ _ _ reads (passes x y i rest answer after still stepped next)
+
+      pub next-row : (y : State T) → is_move i ≡ true → step s x i ≡ Ok y → NextAnswer wants s p (Ok (Some (current_row x y.location))) (going y rest)
+      next-row y moves stepped = at_place _ _ _ reads (ends_row x y i rest moves stepped)
+
+      pub next-refused : (e : Error) → IsRefusal (wants.at x i) (step s x i) e → NextAnswer wants s p (Err e) (going x rest)
+      next-refused e refusal = at_place _ _ _ reads (refuses x i rest e refusal)
+
+  -- ---- the program of a CIE
+
+  abbrev pub LeadsToCie : State T → Readings (CallFrameInstruction T) → State T → Readings (CallFrameInstruction T) → Type 0
+  LeadsToCie first all x left = (result : Result (State T) Error) → RunsCie wants s x left result → RunsCie wants s first all result
+
+  module _ (first : State T) (all : Readings (CallFrameInstruction T)) (x : State T) (left : Readings (CallFrameInstruction T)) (leads : LeadsToCie first all x left) where
+    at_reads : (rest : Readings (CallFrameInstruction T)) (result : Result (State T) Error) → left ≡ rest → RunsCie wants s x rest result → RunsCie wants s first all result
+    at_reads rest result is runs = leads result (subst (λ l. RunsCie wants s x l result) (sym is) runs)
+
+    pub cie-unreadable : (e : Error) → left ≡ no_values (Some e) → RunsCie wants s first all (Err e)
+    cie-unreadable e is = at_reads _ _ is (cie_cannot_read x e)
+
+    pub cie-ended : (y : State T) → left ≡ no_values None → end_of_cie s x ≡ Ok y → RunsCie wants s first all (Ok y)
+    cie-ended y is ends = at_reads _ _ is (cie_ends x y ends)
+
+    pub cie-end-refused : (e : Error) → left ≡ no_values None → IsRefusal (wants.at_end x) (end_of_cie s x) e → RunsCie wants s first all (Err e)
+    cie-end-refused e is refusal = at_reads _ _ is (cie_end_refused x e refusal)
+
+    module _ (i : CallFrameInstruction T) (rest : Readings (CallFrameInstruction T)) (reads : left ≡ with_first i rest) where
+      pub cie-leads-on : (y : State T) → step s x i ≡ Ok y → LeadsToCie first all y rest
+      cie-leads-on y stepped result runs = at_reads _ _ reads (cie_passes x y i rest result stepped runs)
+
+      pub cie-refused : (e : Error) → IsRefusal (wants.at x i) (step s x i) e → RunsCie wants s first all (Err e)
+      cie-refused e refusal = at_reads _ _ reads (cie_refuses x i rest e refusal)
+
+-- ---- the search for the row of an address
+
+module _ {T P : Type 0} (Next : P → Result (Option (Row T)) Error → P → Type 0) (address : ℕ) where
+  abbrev pub LeadsToRow : P → P → Type 0
+  LeadsToRow p q = (result : Result (Row T) Error) → FindsRow Next address q result → FindsRow Next address p result
+
+  pub row-leads-on : (first p q : P) (row : Row T) → LeadsToRow first p → Next p (Ok (Some row)) q → row_contains address row ≡ false → LeadsToRow first q
+  row-leads-on first p q row leads next outside result finds = leads result (goes_on p q row result next outside finds)

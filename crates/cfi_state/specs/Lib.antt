@@ -1,0 +1,21 @@
+-- What call frame instructions mean (DWARF 5 section 6.4): the machine that runs them, and the form without a machine.
+pub mod Operands
+pub mod Machine
+pub mod Row
+pub mod Outcome
+pub mod Memory
+pub mod Brackets
+pub mod Writers
+pub mod Program
+pub mod Rows
+pub mod Numbered
+pub mod Places
+pub mod Runs
+pub mod Kept
+pub mod Limit
+pub mod Refill
+pub mod Refusal
+pub mod Rules
+pub mod Context
+pub mod Groups
+pub mod Evaluation

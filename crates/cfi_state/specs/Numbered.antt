@@ -1,0 +1,61 @@
+-- The same instructions, rules, states and rows with their offsets in another type.
+-- The code's offsets are of a reader's type and the definitions' are numbers. An offset and a length stand only in
+-- expressions, so a map along `f` changes nothing else.
+--     map_instruction f, map_rule f, map_rules f, map_parts f, map_state f, map_row f      along f : A → B
+--     map_readings f      what was read, each value by f
+use Rattle.std.specs.Prelude.{map}
+use Rattle.std.specs.Option.{option_map}
+use Rattle.std.specs.Ordering.{nat_cmp}
+use Rattle.std.specs.FinMap.{FinMap, entries, from_sorted}
+use Rattle.cfi_read_core.specs.Reading.{Readings}
+use Rattle.cfi_parts.specs.declared.instruction.CallFrameInstruction.{CallFrameInstruction}
+pub use Rattle.cfi_parts.specs.Views.{map_expression, map_instruction}
+use Rattle.cfi_state.specs.declared.table.rules.CfaRule.{CfaRule}
+use Rattle.cfi_state.specs.declared.table.rules.CfaRule.TheVariants as cfa
+use Rattle.cfi_state.specs.declared.table.rules.RegisterRule.{RegisterRule}
+use Rattle.cfi_state.specs.declared.table.rules.RegisterRule.TheVariants as rule
+use Rattle.cfi_state.specs.Row.{Row}
+use Rattle.cfi_state.specs.Machine.{Rules, Parts, State}
+
+-- a map with the same keys
+abbrev pub map_values : {X Y : Type 0} → (X → Y) → FinMap nat_cmp X → FinMap nat_cmp Y
+map_values f m = from_sorted (map (λ e. (e.0, f e.1)) (entries m))
+
+abbrev pub map_readings : {X Y : Type 0} → (X → Y) → Readings X → Readings Y
+map_readings f reads = record { values = map f reads.values; refusal = reads.refusal }
+
+module _ {A B : Type 0} (f : A → B) where
+  abbrev pub map_cfa : CfaRule A → CfaRule B
+  map_cfa (cfa.RegisterAndOffset r offset) = cfa.RegisterAndOffset r offset
+  map_cfa (cfa.Expression e) = cfa.Expression (map_expression f e)
+
+  abbrev pub map_rule : RegisterRule A → RegisterRule B
+  map_rule rule.Undefined = rule.Undefined
+  map_rule rule.SameValue = rule.SameValue
+  map_rule (rule.Offset offset) = rule.Offset offset
+  map_rule (rule.ValOffset offset) = rule.ValOffset offset
+  map_rule (rule.Register r) = rule.Register r
+  map_rule (rule.Expression e) = rule.Expression (map_expression f e)
+  map_rule (rule.ValExpression e) = rule.ValExpression (map_expression f e)
+  map_rule rule.Architectural = rule.Architectural
+  map_rule (rule.Constant value) = rule.Constant value
+
+  abbrev pub map_rules : Rules A → Rules B
+  map_rules = map_values map_rule
+
+  abbrev pub map_parts : Parts A → Parts B
+  map_parts parts = record { cfa = map_cfa parts.cfa; rules = map_rules parts.rules; args_size = parts.args_size }
+
+  abbrev pub map_state : State A → State B
+  map_state x = record {
+    location = x.location;
+    parts = map_parts x.parts;
+    remembered = map map_parts x.remembered;
+    initial_rules = option_map map_rules x.initial_rules;
+  }
+
+  abbrev pub map_row : Row A → Row B
+  map_row row = record { start_address = row.start_address; end_address = row.end_address; parts = map_parts row.parts }
+
+  abbrev pub map_program_reads : Readings (CallFrameInstruction A) → Readings (CallFrameInstruction B)
+  map_program_reads = map_readings (map_instruction f)

@@ -1,0 +1,138 @@
+-- A program of call frame instructions: those of the CIE, and behind its end those of an FDE (DWARF 5, section 6.4.3).
+-- What it leaves, and which instruction it refuses next, is said without a machine.
+--     Program, followed_by      the instructions so far, and one more
+--     parts_of s p, location_of s p      the row's parts and the location behind the program
+--     refusal s p i, refusal_at_end s p      why the next instruction, or the end of the CIE's program, is refused
+--     IsAccepted s p      none of its instructions was refused behind those before it
+--     kept s p xs      the program followed by those of xs that are not refused
+use Rattle.std.specs.Prelude.{◌≡◌, ℕ, ◌+◌, Bool, true, false, cond, not, ◌&&◌, nat_lt, nat_le, ◌==◌, List, [], ◌∷◌, ◌++◌, length, fold, Option, Some, None, is_some}
+use Rattle.std.specs.Option.{option_or}
+use Rattle.cfi_read_core.specs.declared.error.Error.{Error}
+use Rattle.cfi_read_core.specs.declared.error.Error.TheVariants.{AddressOverflow, InvalidCfiSetLoc, CfiInstructionInInvalidContext, StackFull, PopWithEmptyStack, TooManyRegisterRules}
+use Rattle.cfi_parts.specs.declared.instruction.CallFrameInstruction.{CallFrameInstruction}
+use Rattle.cfi_parts.specs.declared.instruction.CallFrameInstruction.TheVariants as instruction
+use Rattle.cfi_state.specs.declared.table.rules.CfaRule.{CfaRule}
+use Rattle.cfi_state.specs.declared.table.rules.CfaRule.TheVariants as cfa
+use Rattle.cfi_state.specs.declared.table.rules.RegisterRule.{RegisterRule}
+use Rattle.cfi_state.specs.declared.table.rules.RegisterRule.TheVariants as rule
+use Rattle.cfi_state.specs.Machine.{Parts}
+use Rattle.cfi_state.specs.Operands.{Setting, ra_sign_state, is_at_limit, advanced, fits_address, moved}
+use Rattle.cfi_state.specs.Brackets.{survivors, open_places}
+use Rattle.cfi_state.specs.Writers.{cfa_left, rule_left, registers_with_rule, parts_left}
+
+-- the instructions of a CIE before its end, or all of them and those of an FDE
+pub data Program (T : Type 0) : Type 0 where
+  in_cie : List (CallFrameInstruction T) → Program T
+  in_fde : List (CallFrameInstruction T) → List (CallFrameInstruction T) → Program T
+
+-- `Some` where the test fails the instruction
+abbrev pub refused_if : Bool → Error → Option Error
+refused_if true e = Some e
+refused_if false e = None
+
+module _ {T : Type 0} where
+  abbrev pub instructions : Program T → List (CallFrameInstruction T)
+  instructions (in_cie cie) = cie
+  instructions (in_fde cie fde) = cie ++ fde
+
+  abbrev pub followed_by : Program T → CallFrameInstruction T → Program T
+  followed_by (in_cie cie) i = in_cie (cie ++ i ∷ [])
+  followed_by (in_fde cie fde) i = in_fde cie (fde ++ i ∷ [])
+
+  abbrev pub location_of : Setting → Program T → ℕ
+  location_of s (in_cie cie) = fold (moved s) 0 cie
+  location_of s (in_fde cie fde) = fold (moved s) s.initial_address fde
+
+  abbrev pub no_rule : ℕ → Option (RegisterRule T)
+  no_rule r = None
+
+  -- the rules that the CIE's program left when it ended, whatever the FDE strikes
+  abbrev pub initial_rule : Setting → Program T → ℕ → Option (RegisterRule T)
+  initial_rule s (in_cie cie) = no_rule
+  initial_rule s (in_fde cie fde) = rule_left s no_rule (survivors cie)
+
+  abbrev pub cfa_of : Setting → Program T → CfaRule T
+  cfa_of s p = cfa_left s (survivors (instructions p))
+
+  abbrev pub rule_of : Setting → Program T → ℕ → Option (RegisterRule T)
+  rule_of s p = rule_left s (initial_rule s p) (survivors (instructions p))
+
+  abbrev pub parts_of : Setting → Program T → Parts T
+  parts_of s p = parts_left s (initial_rule s p) (survivors (instructions p))
+
+  -- ---- counts
+
+  abbrev pub open_count : Program T → ℕ
+  open_count p = length (open_places (instructions p))
+
+  abbrev pub rule_count : Setting → Program T → ℕ
+  rule_count s p = length (registers_with_rule s (initial_rule s p) (survivors (instructions p)))
+
+  -- the copy of the CIE's rules that takes a row of the stack, where they are two or more
+  abbrev pub extra_count : Setting → Program T → ℕ
+  extra_count s (in_cie cie) = 0
+  extra_count s (in_fde cie fde) = cond (nat_le 2 (rule_count s (in_cie cie))) 1 0
+
+  abbrev pub is_stack_full : Setting → Program T → Bool
+  is_stack_full s p = is_at_limit s.stack_limit (1 + open_count p + extra_count s p)
+
+  -- ---- refusals
+
+  abbrev pub is_expression : CfaRule T → Bool
+  is_expression (cfa.RegisterAndOffset r offset) = false
+  is_expression (cfa.Expression e) = true
+
+  abbrev pub is_no_constant : Option (RegisterRule T) → Bool
+  is_no_constant None = false
+  is_no_constant (Some (rule.Constant value)) = false
+  is_no_constant (Some _) = true
+
+  abbrev pub is_in_cie : Program T → Bool
+  is_in_cie (in_cie cie) = true
+  is_in_cie (in_fde cie fde) = false
+
+  -- register r has no rule, and no register more may have one
+  abbrev pub has_no_room : Setting → Program T → ℕ → Bool
+  has_no_room s p r = not (is_some (rule_of s p r)) && is_at_limit s.rule_limit (rule_count s p)
+
+  abbrev pub refusal : Setting → Program T → CallFrameInstruction T → Option Error
+  refusal s p (instruction.SetLoc address) = refused_if (nat_lt address (location_of s p)) (InvalidCfiSetLoc address)
+  refusal s p (instruction.AdvanceLoc delta) = refused_if (not (fits_address s (advanced s (location_of s p) delta))) AddressOverflow
+  refusal s p (instruction.DefCfa r offset) = None
+  refusal s p (instruction.DefCfaSf r offset) = None
+  refusal s p (instruction.DefCfaRegister r) = refused_if (is_expression (cfa_of s p)) CfiInstructionInInvalidContext
+  refusal s p (instruction.DefCfaOffset offset) = refused_if (is_expression (cfa_of s p)) CfiInstructionInInvalidContext
+  refusal s p (instruction.DefCfaOffsetSf offset) = refused_if (is_expression (cfa_of s p)) CfiInstructionInInvalidContext
+  refusal s p (instruction.DefCfaExpression e) = None
+  refusal s p (instruction.Undefined r) = refused_if (has_no_room s p r.0) TooManyRegisterRules
+  refusal s p (instruction.SameValue r) = refused_if (has_no_room s p r.0) TooManyRegisterRules
+  refusal s p (instruction.Offset r n) = refused_if (has_no_room s p r.0) TooManyRegisterRules
+  refusal s p (instruction.OffsetExtendedSf r n) = refused_if (has_no_room s p r.0) TooManyRegisterRules
+  refusal s p (instruction.ValOffset r n) = refused_if (has_no_room s p r.0) TooManyRegisterRules
+  refusal s p (instruction.ValOffsetSf r n) = refused_if (has_no_room s p r.0) TooManyRegisterRules
+  refusal s p (instruction.Register r source) = refused_if (has_no_room s p r.0) TooManyRegisterRules
+  refusal s p (instruction.Expression r e) = refused_if (has_no_room s p r.0) TooManyRegisterRules
+  refusal s p (instruction.ValExpression r e) = refused_if (has_no_room s p r.0) TooManyRegisterRules
+  refusal s p (instruction.Restore r) = option_or (refused_if (is_in_cie p) CfiInstructionInInvalidContext) (refused_if (is_some (initial_rule s p r.0) && has_no_room s p r.0) TooManyRegisterRules)
+  refusal s p instruction.RememberState = refused_if (is_stack_full s p) StackFull
+  refusal s p instruction.RestoreState = refused_if (open_count p == 0) PopWithEmptyStack
+  refusal s p (instruction.ArgsSize size) = None
+  refusal s p instruction.NegateRaState = option_or (refused_if (is_no_constant (rule_of s p ra_sign_state)) CfiInstructionInInvalidContext) (refused_if (has_no_room s p ra_sign_state) TooManyRegisterRules)
+  refusal s p instruction.Nop = None
+
+  -- the end of the CIE's program
+  abbrev pub refusal_at_end : Setting → List (CallFrameInstruction T) → Option Error
+  refusal_at_end s cie = refused_if (nat_le 2 (rule_count s (in_cie cie)) && is_stack_full s (in_cie cie)) StackFull
+
+  -- ---- accepted and kept
+
+  pub data IsAccepted (s : Setting) : Program T → Type 0 where
+    nothing : IsAccepted s (in_cie [])
+    one_more : (p : Program T) (i : CallFrameInstruction T) → IsAccepted s p → refusal s p i ≡ None → IsAccepted s (followed_by p i)
+    cie_ended : (cie : List (CallFrameInstruction T)) → IsAccepted s (in_cie cie) → refusal_at_end s cie ≡ None → IsAccepted s (in_fde cie [])
+
+  abbrev pub kept_one : Setting → Program T → CallFrameInstruction T → Program T
+  kept_one s p i = cond (is_some (refusal s p i)) p (followed_by p i)
+
+  abbrev pub kept : Setting → Program T → List (CallFrameInstruction T) → Program T
+  kept s p xs = fold (kept_one s) p xs

@@ -1,0 +1,32 @@
+-- The rules of a row, as a map from registers' numbers, and as the list of pairs that keeps them.
+--     rules_of pairs      the map that the pairs stand for
+--     IsDistinctRegisters pairs      no register stands twice
+use Rattle.std.specs.Prelude.{◌≡◌, ℕ, false, List, map, Option, IsNone, Result, Ok, Err, not, ◌&&◌, cond}
+use Rattle.std.specs.List.{IsDistinct}
+use Rattle.std.specs.Ordering.{nat_cmp, eq_by_cmp}
+use Rattle.std.specs.FinMap.{from_entries, insert, len, contains_key}
+use Rattle.cfi_read_core.specs.declared.common.Register.{Register}
+use Rattle.cfi_read_core.specs.declared.error.Error.{Error}
+use Rattle.cfi_read_core.specs.declared.error.Error.TheVariants.{TooManyRegisterRules}
+use Rattle.cfi_state.specs.declared.table.rules.RegisterRule.{RegisterRule}
+use Rattle.cfi_state.specs.Operands.{is_at_limit}
+use Rattle.cfi_state.specs.Machine.{Rules}
+
+module _ {T : Type 0} where
+  abbrev pub numbered : Register × RegisterRule T → ℕ × RegisterRule T
+  numbered pair = (pair.0.0, pair.1)
+
+  abbrev pub rules_of : List (Register × RegisterRule T) → Rules T
+  rules_of pairs = from_entries (map numbered pairs)
+
+  abbrev pub IsDistinctRegisters : List (Register × RegisterRule T) → Type 0
+  IsDistinctRegisters pairs = IsDistinct (eq_by_cmp nat_cmp) (map (λ entry. entry.0) (map numbered pairs))
+
+  -- the rules with one set; only a register without a rule needs room
+  abbrev pub set_rule : Option ℕ → Rules T → ℕ → RegisterRule T → Result (Rules T) Error
+  set_rule limit rules register rule =
+      cond (not (contains_key rules register) && is_at_limit limit (len rules)) (Err TooManyRegisterRules) (Ok (insert rules register rule))
+
+  -- memory may be wanting for a rule only where no limit bounds the list and the register has no rule yet
+  abbrev pub AddsRule : Option ℕ → Rules T → ℕ → Type 0
+  AddsRule limit rules register = IsNone limit × (contains_key rules register ≡ false)

@@ -1,0 +1,320 @@
+//! The machine of call frame instructions (DWARF 5 section 6.4.2): one step for each instruction.
+//!
+//! What the crates above this one do to a context stands here, as free functions: a user of an unwind context has
+//! no business with them.
+ghost use Rattle.std.specs.Prelude.{◌≡◌, ℕ, None, IfOk, is_some, false};
+ghost use Rattle.std.specs.Int.{w64, int_wrapping_mul};
+ghost use Rattle.cfi_read_core.specs.Addresses.{IsAddressSize};
+ghost use Rattle.cfi_state.specs.Operands.{is_move};
+ghost use Rattle.cfi_parts.specs.declared.instruction.CallFrameInstruction.TheVariants as instruction;
+ghost use Rattle.cfi_state.specs.Row.{at_start, at_end};
+ghost use Rattle.cfi_state.specs.Context.{empty_context, state_of, with_row};
+ghost use Rattle.cfi_state.specs.declared.table.machine.Parameters.{Parameters};
+ghost use Rattle.cfi_state.specs.Evaluation.{setting_of, Changes, Evaluates, EndsCie};
+ghost use Rattle.cfi_state.specs.Groups as groups;
+
+use super::context::UnwindContext;
+use super::row::UnwindTableRow;
+use super::rules::{CfaRule, RA_SIGN_STATE, RegisterRule};
+use crate::storage::UnwindContextStorage;
+use cfi_parts::instruction::CallFrameInstruction;
+use cfi_read_core::{Error, ReaderAddress, ReaderOffset, Register, Result};
+
+/// What stays fixed while the programs of a CIE and an FDE run.
+#[derive(Clone, Copy, Debug, PartialEq, Eq)]
+pub struct Parameters {
+    /// How far a location moves for each unit of an operand (DWARF 5 section 6.4.1).
+    pub code_alignment_factor: u64,
+    /// What one unit of a factored offset is, in bytes (DWARF 5 section 6.4.1).
+    pub data_alignment_factor: i64,
+    /// How many bytes an address takes: 1, 2, 4 or 8.
+    pub address_size: u8,
+    /// The FDE's first address.
+    pub initial_address: u64,
+    /// The first address behind the FDE's range.
+    pub end_address: u64,
+}
+
+impl Parameters {
+    // The product wraps.
+    fn factored(&self, operand: i64) -> i64
+        ensures { result ≡ int_wrapping_mul w64 operand self.now.data_alignment_factor }
+    {
+        operand.wrapping_mul(self.data_alignment_factor)
+    }
+}
+
+/// Empties the context for the next unwind: no rule, no remembered row, and no CIE that has ended. It takes no memory.
+pub fn reset<T: ReaderOffset, S: UnwindContextStorage<T>>(context: &mut UnwindContext<T, S>)
+    ensures { context.new ≡ empty_context }
+{
+    context.reset();
+}
+
+/// The current row, lent from the context.
+pub fn current_row<T: ReaderOffset, S: UnwindContextStorage<T>>(
+    context: &UnwindContext<T, S>,
+) -> &UnwindTableRow<T, S::Rules>
+    ensures { result.now ≡ context.now.row }
+{
+    context.row()
+}
+
+/// Writes the current row's start address.
+pub fn set_start_address<T: ReaderOffset, S: UnwindContextStorage<T>>(
+    context: &mut UnwindContext<T, S>,
+    address: u64,
+)
+    ensures { context.new ≡ with_row context.old (at_start context.old.row address) }
+{
+    context.set_start_address(address);
+}
+
+/// Writes the current row's end address.
+pub fn set_end_address<T: ReaderOffset, S: UnwindContextStorage<T>>(
+    context: &mut UnwindContext<T, S>,
+    address: u64,
+)
+    ensures { context.new ≡ with_row context.old (at_end context.old.row address) }
+{
+    context.set_end_address(address);
+}
+
+/// Runs one instruction at a location (DWARF 5 section 6.4.2), and answers the address that it moves to, if it does.
+///
+/// A move leaves the context as it is. So does every refusal: `InvalidCfiSetLoc` of an address below the location,
+/// `AddressOverflow` of a location past the address size, `CfiInstructionInInvalidContext` of half a CFA where the CFA is an
+/// expression, of a rule to restore in a CIE, and of a sign state that is no constant, `TooManyRegisterRules`, `StackFull`
+/// and `PopWithEmptyStack`. `OutOfMemory` comes only where a list without a limit grows, or where a row is remembered
+/// whose copy takes memory.
+pub fn evaluate<T: ReaderOffset, S: UnwindContextStorage<T>>(
+    context: &mut UnwindContext<T, S>,
+    parameters: &Parameters,
+    location: u64,
+    instruction: CallFrameInstruction<T>,
+) -> Result<Option<u64>>
+    requires { IsAddressSize parameters.now.address_size }
+    ensures step { Evaluates (setting_of parameters.now S.Rules.limit S.Stack.limit) S.Rules.copies_free
+        location instruction context.old context.new result }
+    ensures moves { IfOk result (λ moved. is_some moved ≡ is_move instruction) }
+{
+    if let Some(address) = target(parameters, location, instruction)? {
+        return Ok(Some(address));
+    }
+    change(context, parameters, instruction)?;
+    Ok(None)
+}
+
+// Runs an instruction that is no move.
+fn change<T: ReaderOffset, S: UnwindContextStorage<T>>(
+    context: &mut UnwindContext<T, S>,
+    parameters: &Parameters,
+    instruction: CallFrameInstruction<T>,
+) -> Result<()>
+    requires { is_move instruction ≡ false }
+    ensures { (location : ℕ) → Changes (setting_of parameters.now S.Rules.limit S.Stack.limit) S.Rules.copies_free
+        location instruction context.old context.new result }
+{
+    if let Some(cfa) = cfa_given(parameters, *context.row().cfa(), instruction)? {
+        context.set_cfa(cfa);
+        return Ok(());
+    }
+    if let Some((register, rule)) = rule_given(parameters, instruction) {
+        return context.set_rule(register, rule);
+    }
+    match instruction {
+        CallFrameInstruction::Restore { register } => restore_rule(context, register),
+        CallFrameInstruction::NegateRaState => negate_ra_state(context),
+        CallFrameInstruction::RememberState => context.remember(),
+        CallFrameInstruction::RestoreState => context.restore(),
+        CallFrameInstruction::ArgsSize { size } => {
+            context.set_saved_args_size(size);
+            Ok(())
+        }
+        _ => Ok(()),
+    }
+}
+
+/// Keeps the rules with which the CIE's program ended, for `DW_CFA_restore` in the FDE's. `StackFull` where two rules or more
+/// would take one row too many; `OutOfMemory` only where they take a row and the stack has no limit or a row's copy takes
+/// memory. A refusal leaves the context as it is.
+pub fn end_cie<T: ReaderOffset, S: UnwindContextStorage<T>>(
+    context: &mut UnwindContext<T, S>,
+) -> Result<()>
+    requires { context.old.initial_rules ≡ None }
+    ensures { (p : Parameters) (location : ℕ) → EndsCie (setting_of p S.Rules.limit S.Stack.limit) S.Rules.copies_free
+        location context.old context.new result }
+{
+    context.save_initial_rules()
+}
+
+// Where a move goes (DWARF 5 section 6.4.2.1), `None` where the instruction is no move.
+fn target<T: ReaderOffset>(
+    parameters: &Parameters,
+    location: u64,
+    instruction: CallFrameInstruction<T>,
+) -> Result<Option<u64>>
+    requires { IsAddressSize parameters.now.address_size }
+    ensures { result ≡ groups.target (setting_of parameters.now None None) location instruction }
+{
+    match instruction {
+        CallFrameInstruction::SetLoc { address } => {
+            if address < location {
+                return Err(Error::InvalidCfiSetLoc(address));
+            }
+            Ok(Some(address))
+        }
+        CallFrameInstruction::AdvanceLoc { delta } => {
+            let distance = u64::from(delta).wrapping_mul(parameters.code_alignment_factor);
+            let address = location.add_sized(distance, parameters.address_size)?;
+            Ok(Some(address))
+        }
+        _ => Ok(None),
+    }
+}
+
+// The rule of the CFA that the instruction gives (DWARF 5 section 6.4.2.2), `None` where it gives none.
+fn cfa_given<T: ReaderOffset>(
+    parameters: &Parameters,
+    old: CfaRule<T>,
+    instruction: CallFrameInstruction<T>,
+) -> Result<Option<CfaRule<T>>>
+    ensures { result ≡ groups.cfa_given (setting_of parameters.now None None) old instruction }
+{
+    match instruction {
+        CallFrameInstruction::DefCfa { register, offset } => {
+            let offset = offset.cast_signed();
+            Ok(Some(CfaRule::RegisterAndOffset { register, offset }))
+        }
+        CallFrameInstruction::DefCfaSf {
+            register,
+            factored_offset,
+        } => {
+            let offset = parameters.factored(factored_offset);
+            Ok(Some(CfaRule::RegisterAndOffset { register, offset }))
+        }
+        CallFrameInstruction::DefCfaRegister { register } => with_register(old, register),
+        CallFrameInstruction::DefCfaOffset { offset } => with_offset(old, offset.cast_signed()),
+        CallFrameInstruction::DefCfaOffsetSf { factored_offset } => {
+            with_offset(old, parameters.factored(factored_offset))
+        }
+        CallFrameInstruction::DefCfaExpression { expression } => {
+            Ok(Some(CfaRule::Expression(expression)))
+        }
+        _ => Ok(None),
+    }
+}
+
+// The offset stays, which an expression hasn't.
+fn with_register<T: ReaderOffset>(
+    old: CfaRule<T>,
+    register: Register,
+) -> Result<Option<CfaRule<T>>>
+    ensures { result ≡ groups.with_register old register }
+{
+    match old {
+        CfaRule::RegisterAndOffset { offset, .. } => {
+            Ok(Some(CfaRule::RegisterAndOffset { register, offset }))
+        }
+        CfaRule::Expression(_) => Err(Error::CfiInstructionInInvalidContext),
+    }
+}
+
+// The register stays, which an expression hasn't.
+fn with_offset<T: ReaderOffset>(old: CfaRule<T>, offset: i64) -> Result<Option<CfaRule<T>>>
+    ensures { result ≡ groups.with_offset old offset }
+{
+    match old {
+        CfaRule::RegisterAndOffset { register, .. } => {
+            Ok(Some(CfaRule::RegisterAndOffset { register, offset }))
+        }
+        CfaRule::Expression(_) => Err(Error::CfiInstructionInInvalidContext),
+    }
+}
+
+// The register that the instruction gives a rule, and the rule (DWARF 5 section 6.4.2.3).
+fn rule_given<T: ReaderOffset>(
+    parameters: &Parameters,
+    instruction: CallFrameInstruction<T>,
+) -> Option<(Register, RegisterRule<T>)>
+    ensures { result ≡ groups.rule_given (setting_of parameters.now None None) instruction }
+{
+    match instruction {
+        CallFrameInstruction::Undefined { register } => Some((register, RegisterRule::Undefined)),
+        CallFrameInstruction::SameValue { register } => Some((register, RegisterRule::SameValue)),
+        CallFrameInstruction::Offset {
+            register,
+            factored_offset,
+        } => {
+            let offset = parameters.factored(factored_offset.cast_signed());
+            Some((register, RegisterRule::Offset(offset)))
+        }
+        CallFrameInstruction::OffsetExtendedSf {
+            register,
+            factored_offset,
+        } => {
+            let offset = parameters.factored(factored_offset);
+            Some((register, RegisterRule::Offset(offset)))
+        }
+        CallFrameInstruction::ValOffset {
+            register,
+            factored_offset,
+        } => {
+            let offset = parameters.factored(factored_offset.cast_signed());
+            Some((register, RegisterRule::ValOffset(offset)))
+        }
+        CallFrameInstruction::ValOffsetSf {
+            register,
+            factored_offset,
+        } => {
+            let offset = parameters.factored(factored_offset);
+            Some((register, RegisterRule::ValOffset(offset)))
+        }
+        CallFrameInstruction::Register {
+            dest_register,
+            src_register,
+        } => Some((dest_register, RegisterRule::Register(src_register))),
+        CallFrameInstruction::Expression {
+            register,
+            expression,
+        } => Some((register, RegisterRule::Expression(expression))),
+        CallFrameInstruction::ValExpression {
+            register,
+            expression,
+        } => Some((register, RegisterRule::ValExpression(expression))),
+        _ => None,
+    }
+}
+
+// Gives the register the rule that it had when the CIE's program ended, which may be none (DWARF 5 section 6.4.2.3).
+fn restore_rule<T: ReaderOffset, S: UnwindContextStorage<T>>(
+    context: &mut UnwindContext<T, S>,
+    register: Register,
+) -> Result<()>
+    ensures { (p : Parameters) (location : ℕ) → Changes (setting_of p S.Rules.limit S.Stack.limit) S.Rules.copies_free
+        location (instruction.Restore register) context.old context.new result }
+{
+    match context.initial_rule(register)? {
+        Some(rule) => context.set_rule(register, rule),
+        None => {
+            context.clear_rule(register);
+            Ok(())
+        }
+    }
+}
+
+// Toggles whether the return address is signed ("DWARF for the Arm 64-bit Architecture").
+fn negate_ra_state<T: ReaderOffset, S: UnwindContextStorage<T>>(
+    context: &mut UnwindContext<T, S>,
+) -> Result<()>
+    ensures { (p : Parameters) (location : ℕ) → Changes (setting_of p S.Rules.limit S.Stack.limit) S.Rules.copies_free
+        location instruction.NegateRaState context.old context.new result }
+{
+    match context.row().register(RA_SIGN_STATE) {
+        None => context.set_rule(RA_SIGN_STATE, RegisterRule::Constant(1)),
+        Some(RegisterRule::Constant(value)) => {
+            context.set_rule(RA_SIGN_STATE, RegisterRule::Constant(value ^ 1))
+        }
+        Some(_) => Err(Error::CfiInstructionInInvalidContext),
+    }
+}

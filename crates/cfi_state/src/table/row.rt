@@ -1,0 +1,188 @@
+//! A row of an unwind table.
+ghost use Rattle.std.specs.Prelude.{◌≡◌, ◌<◌, ◌≤◌, ◌↔◌, false, IsTrue, IfOk, IfErr, IsNone};
+
+use super::rules::{CfaRule, RegisterRule, RegisterRuleMap};
+use crate::storage::{ArrayLike, CopyList};
+use arrayvec::ArrayVec;
+use cfi_read_core::{Error, ReaderOffset, Register, Result};
+use std::alloc::Global;
+use std::marker::Model;
+
+/// How to unwind the code between two addresses.
+#[derive(Drop)]
+pub struct UnwindTableRow<T: ReaderOffset, A: ArrayLike<Item = (Register, RegisterRule<T>)>> {
+    start_address: u64,
+    end_address: u64,
+    saved_args_size: u64,
+    cfa: CfaRule<T>,
+    registers: RegisterRuleMap<T, A>,
+}
+
+impl<T: ReaderOffset, A: ArrayLike<Item = (Register, RegisterRule<T>)>> Model
+    for UnwindTableRow<T, A> {
+    ghost use Rattle.std.specs.FinMap as map;
+    ghost use Rattle.std.specs.Coded.{codes};
+    ghost use Rattle.cfi_state.specs.Row.{Row};
+
+    ghost Value = { Row T };
+
+    ghost coded = { Prim.hlevel (codes, T.code, map.code) };
+
+    ghost view = { λ row. record {
+      start_address = row.start_address;
+      end_address = row.end_address;
+      parts = record { cfa = row.cfa; rules = row.registers; args_size = row.saved_args_size };
+    } };
+}
+
+impl<T: ReaderOffset, A: ArrayLike<Item = (Register, RegisterRule<T>)>> UnwindTableRow<T, A> {
+    ghost use Rattle.std.specs.FinMap as map;
+    ghost use Rattle.cfi_state.specs.Outcome.{Performs, result_map};
+    ghost use Rattle.cfi_state.specs.Rules.{set_rule, AddsRule};
+    ghost use Rattle.cfi_state.specs.Row.{empty_row, with_cfa, with_args_size, with_parts, with_rules, at_start, at_end};
+
+    pub(crate) fn make(alloc: Global) -> Result<Self>
+        ensures ok { IfOk result (λ row. row ≡ empty_row) }
+        ensures err { IfErr result (λ error. error ≡ Error.OutOfMemory) }
+    {
+        Ok(UnwindTableRow {
+            start_address: 0,
+            end_address: 0,
+            saved_args_size: 0,
+            cfa: CfaRule::default(),
+            registers: RegisterRuleMap::make(alloc)?,
+        })
+    }
+
+    pub fn start_address(&self) -> u64
+        ensures { result ≡ self.now.start_address }
+    {
+        self.start_address
+    }
+
+    pub fn end_address(&self) -> u64
+        ensures { result ≡ self.now.end_address }
+    {
+        self.end_address
+    }
+
+    pub fn contains(&self, address: u64) -> bool
+        ensures { IsTrue result ↔ ((self.now.start_address ≤ address) × (address < self.now.end_address)) }
+    {
+        self.start_address <= address && address < self.end_address
+    }
+
+    pub fn saved_args_size(&self) -> u64
+        ensures { result ≡ self.now.parts.args_size }
+    {
+        self.saved_args_size
+    }
+
+    pub fn cfa(&self) -> &CfaRule<T>
+        ensures { result.now ≡ self.now.parts.cfa }
+    {
+        &self.cfa
+    }
+
+    pub fn register(&self, register: Register) -> Option<RegisterRule<T>>
+        ensures { result ≡ map.get self.now.parts.rules register.0 }
+    {
+        self.registers.get(register)
+    }
+
+    /// Makes the row what it was before the first instruction. It takes no memory.
+    pub(crate) fn reset(&mut self)
+        ensures { self.new ≡ empty_row }
+    {
+        self.start_address = 0;
+        self.end_address = 0;
+        self.saved_args_size = 0;
+        self.cfa = CfaRule::default();
+        self.registers.clear();
+    }
+
+    pub(crate) fn set_start_address(&mut self, address: u64)
+        ensures { self.new ≡ at_start self.old address }
+    {
+        self.start_address = address;
+    }
+
+    pub(crate) fn set_end_address(&mut self, address: u64)
+        ensures { self.new ≡ at_end self.old address }
+    {
+        self.end_address = address;
+    }
+
+    /// Puts the row where `other` is.
+    pub(crate) fn take_addresses(&mut self, other: &Self)
+        ensures { self.new ≡ with_parts other.now self.old.parts }
+    {
+        self.start_address = other.start_address;
+        self.end_address = other.end_address;
+    }
+
+    pub(crate) fn set_cfa(&mut self, cfa: CfaRule<T>)
+        ensures { self.new ≡ with_cfa self.old cfa }
+    {
+        self.cfa = cfa;
+    }
+
+    pub(crate) fn set_saved_args_size(&mut self, size: u64)
+        ensures { self.new ≡ with_args_size self.old size }
+    {
+        self.saved_args_size = size;
+    }
+
+    pub(crate) fn set_rule(&mut self, register: Register, rule: RegisterRule<T>) -> Result<()>
+        ensures { Performs (AddsRule A.limit self.old.parts.rules register.0)
+            (result_map (with_rules self.old) (set_rule A.limit self.old.parts.rules register.0 rule))
+            self.old self.new result }
+    {
+        self.registers.set(register, rule)
+    }
+
+    pub(crate) fn clear_rule(&mut self, register: Register)
+        ensures { self.new ≡ with_rules self.old (map.remove self.old.parts.rules register.0) }
+    {
+        self.registers.remove(register);
+    }
+
+    pub(crate) fn rules(&self) -> &RegisterRuleMap<T, A>
+        ensures { result.now ≡ self.now.parts.rules }
+    {
+        &self.registers
+    }
+}
+
+impl<T: ReaderOffset, A: ArrayLike<Item = (Register, RegisterRule<T>)> + CopyList> UnwindTableRow<
+    T,
+    A,
+> {
+    /// An equal row.
+    pub fn try_clone(&self) -> Result<Self>
+        ensures ok { IfOk result (λ row. row ≡ self.now) }
+        ensures err { IfErr result (λ error. (error ≡ Error.OutOfMemory) × (A.copies_free ≡ false)) }
+    {
+        Ok(UnwindTableRow {
+            start_address: self.start_address,
+            end_address: self.end_address,
+            saved_args_size: self.saved_args_size,
+            cfa: self.cfa,
+            registers: self.registers.copy()?,
+        })
+    }
+}
+
+/// What fills the unused places of an `ArrayVec` of rows.
+impl<T: ReaderOffset, const N: usize> Default
+    for UnwindTableRow<T, ArrayVec<(Register, RegisterRule<T>), N>> {
+    fn default() -> Self {
+        UnwindTableRow {
+            start_address: 0,
+            end_address: 0,
+            saved_args_size: 0,
+            cfa: CfaRule::default(),
+            registers: RegisterRuleMap::default(),
+        }
+    }
+}
