@@ -1,4 +1,5 @@
 pub mod Behind
+pub mod Expressions
 pub mod InstructionLemmas
 pub mod Walk
 mod Vectors

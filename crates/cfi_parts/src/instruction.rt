@@ -1,101 +1,158 @@
 //! Call frame instructions (DWARF 5 section 6.4.2).
-ghost use Rattle.std.specs.Prelude.{◌≡◌, ◌≤◌, ◌<◌, true, ⊤, IfOk, IfSome};
+ghost use Rattle.std.specs.Prelude.{◌≡◌, ◌≤◌, ◌<◌, ◌-◌, ℕ, true, ⊤, IfOk, IfSome};
 ghost use Rattle.cfi_read_core.specs.Addresses.{IsAddressSize, is_sized};
-ghost use Rattle.cfi_read_core.specs.Readers.{left, map_ok};
+ghost use Rattle.cfi_read_core.specs.Readers.{IsPartOf, Reads, extent_of, left, map_ok};
 ghost use Rattle.cfi_parts.specs.Contexts.{instruction_context};
+ghost use Rattle.cfi_parts.specs.Instructions.{IsReadIn, expression_bytes};
 ghost use Rattle.cfi_parts.specs.Programs.{Meets, instructions_left, items};
-ghost use Rattle.cfi_parts.specs.Views.{map_instruction};
+ghost use Rattle.cfi_parts.specs.Views.{map_expression, map_instruction};
 
 mod parse;
 
 use crate::pointer::PointerEncodingParameters;
+use cfi_read_core::section::Expression;
 use cfi_read_core::{DwEhPe, Reader, Register, Result, Vendor};
 use parse::{InstructionParameters, parse_instruction};
 use std::alloc::AllocError;
 
-/// An expression, by its offset in the section and its length.
+/// A DWARF expression (DWARF 5 section 2.5), by where it stands.
 #[derive(Clone, Copy, Debug, PartialEq, Eq)]
 pub struct UnwindExpression<T> {
+    /// Where the expression begins, in bytes from the section's first place.
     pub offset: T,
+    /// How many bytes it takes.
     pub length: T,
 }
 
-/// A call frame instruction.
+impl<T: Copy> UnwindExpression<T> {
+    /// The bytes of the expression, by a reader of the section in which it was read.
+    ///
+    /// Refused with `UnexpectedEof` at the section's first place where the offset goes past its end, and at the
+    /// expression's place where the length does: never for an expression that was read in that section.
+    pub fn bytes_in<R: Reader<Offset = T>>(&self, section: &R) -> Result<Expression<R>>
+        ensures bytes { map_ok (λ e. extent_of (R.standing e.0)) result
+            ≡ (expression_bytes (map_expression T.number self.now) (R.standing section.now).source (R.standing section.now).place).value }
+        ensures part { IfOk result (λ e. IsPartOf (R.standing e.0) (R.standing section.now)) }
+        ensures read_there { (after : ℕ) → IsReadIn (R.standing section.now) (map_expression T.number self.now) after
+            → map_ok (λ e. extent_of (R.standing e.0)) result ≡ Ok (record { first = after - T.number self.now.length; last = after }) }
+    {
+        let mut input = *section;
+        Ok(Expression(split_expression(self, &mut input)?))
+    }
+}
+
+/// Passes the bytes before an expression, and splits off its own.
+#[tactic(auto, unfolding(crate::specs::Instructions::expression_bytes))]
+fn split_expression<R: Reader>(expression: &UnwindExpression<R::Offset>, input: &mut R) -> Result<R>
+    ensures read { Reads (λ r. extent_of (R.standing r)) (expression_bytes (map_expression R.Offset.number expression.now)) (R.standing input.old) result (R.standing input.new) }
+    ensures part { IfOk result (λ r. IsPartOf (R.standing r) (R.standing input.old)) }
+{
+    input.skip(expression.offset)?;
+    input.split(expression.length)
+}
+
+/// A call frame instruction (DWARF 5 section 6.4.2), over the offsets of its reader. Addresses, deltas and sizes are
+/// those that were read: nothing is factored yet.
 #[derive(Clone, Copy, Debug, PartialEq, Eq)]
 pub enum CallFrameInstruction<T> {
+    /// A new row begins at the address.
     SetLoc {
         address: u64,
     },
+    /// A new row begins so many code units further on: the delta counts the code alignment factor.
     AdvanceLoc {
         delta: u32,
     },
+    /// The CFA is the register and the offset.
     DefCfa {
         register: Register,
         offset: u64,
     },
+    /// The CFA is the register and the offset, which counts the data alignment factor.
     DefCfaSf {
         register: Register,
         factored_offset: i64,
     },
+    /// The CFA's register changes, and its offset stays.
     DefCfaRegister {
         register: Register,
     },
+    /// The CFA's offset changes, and its register stays.
     DefCfaOffset {
         offset: u64,
     },
+    /// The CFA's offset changes, and its register stays. The offset counts the data alignment factor.
     DefCfaOffsetSf {
         factored_offset: i64,
     },
+    /// The CFA is the value of the expression.
     DefCfaExpression {
         expression: UnwindExpression<T>,
     },
+    /// The register's value in the caller can't be had.
     Undefined {
         register: Register,
     },
+    /// The register has the caller's value.
     SameValue {
         register: Register,
     },
+    /// The register is saved at an offset from the CFA, which counts the data alignment factor.
     Offset {
         register: Register,
         factored_offset: u64,
     },
+    /// The register is saved at a signed offset from the CFA, which counts the data alignment factor.
     OffsetExtendedSf {
         register: Register,
         factored_offset: i64,
     },
+    /// The register's value is the CFA and an offset, which counts the data alignment factor.
     ValOffset {
         register: Register,
         factored_offset: u64,
     },
+    /// The register's value is the CFA and a signed offset, which counts the data alignment factor.
     ValOffsetSf {
         register: Register,
         factored_offset: i64,
     },
+    /// The register is saved in another one.
     Register {
         dest_register: Register,
         src_register: Register,
     },
+    /// The register is saved at the address that the expression gives.
     Expression {
         register: Register,
         expression: UnwindExpression<T>,
     },
+    /// The register's value is the value of the expression.
     ValExpression {
         register: Register,
         expression: UnwindExpression<T>,
     },
+    /// The register takes back the rule that the CIE gave it.
     Restore {
         register: Register,
     },
+    /// The row's rules are remembered.
     RememberState,
+    /// The rules that were remembered last come back.
     RestoreState,
+    /// The size in bytes of the arguments on the stack (GNU).
     ArgsSize {
         size: u64,
     },
+    /// The sign state of the return address turns (AArch64).
     NegateRaState,
+    /// Nothing, for padding.
     Nop,
 }
 
-/// The instructions of an entry, one behind the other.
+/// The instructions of an entry, one behind the other (DWARF 5 sections 6.4.2 and 7.24).
+///
+/// Each takes a byte at least, so there are no more than bytes. Nothing is allocated.
 #[derive(Debug)]
 pub struct CallFrameInstructionIter<'a, R: Reader> {
     input: R,
@@ -122,10 +179,10 @@ impl<R: Reader> Copy for CallFrameInstructionIter<'_, R> {}
 impl<'a, R: Reader> CallFrameInstructionIter<'a, R> {
     ghost use Rattle.cfi_parts.specs.Iterators.{program};
 
-    /// All instructions that are left in the input.
+    /// The instructions in what is left of the input, which stands in the section of the pointers.
     ///
-    /// The input stands in the section of the pointers, whose address size is 1, 2, 4 or 8. The address of
-    /// `DW_CFA_set_loc` is a pointer of the encoding, or a plain address where there is none.
+    /// The size of an address is 1, 2, 4 or 8. The address of `DW_CFA_set_loc` is a pointer of the encoding, or a plain
+    /// address where there is none.
     pub fn new(
         input: R,
         address_encoding: Option<DwEhPe>,
@@ -150,6 +207,11 @@ impl<'a, R: Reader> CallFrameInstructionIter<'a, R> {
     }
 
     /// The next instruction, or none at the end. After a refusal or the end there is none for good.
+    ///
+    /// Refused with `UnexpectedEof` where the bytes end in an instruction, `UnknownCallFrameInstruction` for an opcode
+    /// that isn't known to the vendor, `BadUnsignedLeb128`, `BadSignedLeb128` or `UnsupportedRegister` for an operand,
+    /// `UnsupportedOffset` for the length of an expression that is no offset, and for the address of `DW_CFA_set_loc`
+    /// as `parse_encoded_pointer` and `Pointer::direct`.
     pub fn next(&mut self) -> Result<Option<CallFrameInstruction<R::Offset>>>
         ensures met { Meets (map_instruction R.Offset.number) result (instructions_left (program R.standing self.old)) (instructions_left (program R.standing self.new)) }
         ensures context { (program R.standing self.new).context ≡ (program R.standing self.old).context }

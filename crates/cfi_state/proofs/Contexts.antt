@@ -1,6 +1,6 @@
 -- How the rows of a stack show a context.
-use Rattle.std.proofs.Common.{◌≡◌, Result, Ok, Err, ℕ, ◌+◌, ◌-◌, ◌≤◌, false, nat_le, ◌==◌, eqb, Option, Some, None, List, [], ◌∷◌, ◌++◌, length, reverse, refl, sym, ap, ◌∙◌, subst, arith}
-use Rattle.std.proofs.lemmas.List.{length-reverse, length-append, reverse-append, nil_from_length}
+use Rattle.std.proofs.Common.{◌≡◌, Result, Ok, Err, ℕ, ◌+◌, ◌-◌, ◌≤◌, false, nat_le, ◌==◌, eqb, Option, Some, None, List, [], ◌∷◌, ◌++◌, length, reverse, take, drop, refl, sym, ap, ◌∙◌, subst, arith}
+use Rattle.std.proofs.lemmas.List.{length-drop, take_all, length-reverse, length-append, reverse-append, nil_from_length}
 use Rattle.std.proofs.lemmas.Bool.Decides.{nat_tests}
 use Rattle.std.specs.FinMap.{empty, insert, len, len-empty, len-insert, get-empty}
 use Rattle.std.specs.Ordering.{nat_cmp}
@@ -199,3 +199,27 @@ module _ {T : Type 0} where
       let count : length (held ++ last ∷ []) ≡ length held + 1 = length-append held (last ∷ []) in
       subst (λ xs. IsContext limit xs kept) (sym pushed)
       (subst (λ n. HasRoomFor limit (n + 1)) (sym count) room, kept-push held kept last context.1)
+
+  -- ---- the remembered rows
+
+  shown-drop : (rows : List (Row T)) (kept : InitialRules T) → IsKept rows kept → drop (copies_held (initial_of rows kept)) rows ≡ shown_rows rows kept
+  shown-drop rows NotYet is = refl
+  shown-drop rows NoRule is = ap (λ n. drop n rows) (sym (copies_held-none T))
+  shown-drop rows (OneRule register rule) is = ap (λ n. drop n rows) (sym (copies_held-one register rule))
+  shown-drop [] AtTheBottom is = absurd (omega (arith, is.0))
+  shown-drop (row ∷ rows) AtTheBottom is = ap (λ n. drop n (row ∷ rows)) (sym (copies_held-two row.parts.rules is.1))
+
+  module _ (row : Row T) (rows : List (Row T)) (kept : InitialRules T) (context : ContextState T)
+      (shows : context_of row rows kept ≡ context) (is : IsKept rows kept) (held : List (Row T)) (same : held ≡ rows) (hidden : ℕ) (count : hidden ≡ copies_held context.initial_rules) where
+    copies : hidden ≡ copies_held (initial_of rows kept)
+    copies = count ∙ ap (λ (x : ContextState T). copies_held x.initial_rules) (sym shows)
+
+    pub hidden-within : hidden ≤ length held
+    hidden-within = let all = hidden_and_shown rows kept is in let lengths = ap length same in let c = copies in omega arith
+
+    pub shown-remembered : reverse (take (length held - hidden) (drop hidden held)) ≡ context.remembered
+    shown-remembered =
+        let enough : length (drop hidden held) ≤ length held - hidden = omega (arith, length-drop hidden held) in
+        ap reverse (take_all (length held - hidden) (drop hidden held) enough)
+        ∙ ap reverse (ap (drop hidden) same ∙ ap (λ n. drop n rows) copies ∙ shown-drop rows kept is)
+        ∙ ap (λ (x : ContextState T). x.remembered) shows

@@ -1,17 +1,18 @@
 -- Finite maps made of lists whose keys differ.
-use Rattle.std.proofs.Common.{◌≡◌, ◌≢◌, ℕ, ◌+◌, ◌<◌, Bool, true, false, cond, zero, suc, Option, Some, None, is_some, List, [], ◌∷◌, ◌++◌, length, map, get_or, refl, sym, ap, ◌∙◌, subst, add-one}
+use Rattle.std.proofs.Common.{◌≡◌, ◌≢◌, ℕ, ◌+◌, ◌<◌, ◌&&◌, Bool, true, false, cond, zero, suc, Option, Some, None, is_some, List, [], ◌∷◌, ◌++◌, length, map, get_or, refl, sym, ap, ◌∙◌, subst, add-one}
 use Rattle.std.proofs.Math.ListN.{set}
-use Rattle.std.specs.Ordering.{eq_by_cmp}
+use Rattle.std.specs.Ordering.{eq_by_cmp, is_eq}
 use Rattle.std.specs.declared.cmp.Ordering.{Ordering}
+use Rattle.std.specs.declared.cmp.Ordering.TheVariants.{Less, Equal, Greater}
 use Rattle.std.specs.Cmp.{IsTotalOrder, eq_by_cmp_equiv, Equal-is}
 use Rattle.std.proofs.lemmas.List.Elements.{All-head, All-tail}
-use Rattle.std.specs.List.{All, IsDistinct, Contains, slice_get, list_any}
-use Rattle.std.specs.FinMap.Entries.{is_some-find}
+use Rattle.std.specs.List.{All, IsDistinct, Contains, slice_get, list_any, list_all}
+use Rattle.std.specs.FinMap.Entries.{is_some-find, by_order}
 use Rattle.std.proofs.Math.Seq.{map-set_same}
-use Rattle.std.proofs.lemmas.List.{map-append}
+use Rattle.std.proofs.lemmas.List.{map-append, nil_from_length}
 use Rattle.std.specs.List.Sorted.{IsPermutation}
 use Rattle.std.specs.Map.{lookup}
-use Rattle.std.specs.FinMap.{FinMap, IsAntisymmetric, find, from_entries, get, insert, remove, len, same_map, get_tied, get-from_entries, get-insert, get-remove, len-insert, len-empty, from_entries_push}
+use Rattle.std.specs.FinMap.{FinMap, IsAntisymmetric, find, put, keys, entries, get-entries, len-entries, entries-insert, from_entries, get, insert, remove, len, same_map, get_tied, get-from_entries, get-insert, get-remove, len-insert, len-empty, from_entries_push}
 use Rattle.std.proofs.lemmas.Map.{lookup-none}
 use Rattle.std.proofs.lemmas.Map.Entries.{lookup_from_place, place_from_lookup, none_past_head}
 use Rattle.std.proofs.lemmas.Map.Keys.{IsDistinct-IsPermutation, IsDistinct-push, IsDistinct-tail}
@@ -34,6 +35,11 @@ swapped : {A : Type 0} (a b : Bool) (x y z : A) → (a ≡ true → b ≡ false)
 swapped true true x y z apart = let e = apart refl in cc
 swapped true false x y z apart = refl
 swapped false b x y z apart = refl
+
+both_later : (a b c : Bool) → (a && (b && c)) ≡ (b && (a && c))
+both_later true b c = refl
+both_later false true c = refl
+both_later false false c = refl
 
 module _ {K X : Type 0} {R : K → K → Ordering} (o : IsTotalOrder R) (same : IsAntisymmetric R) where
   abbrev HasDistinctKeys : List (K × X) → Type 0
@@ -71,7 +77,7 @@ module _ {K X : Type 0} {R : K → K → Ordering} (o : IsTotalOrder R) (same : 
       (λ v found. found_in es q v distinct (Contains-permutation fs es (q, v) (IsPermutation-sym es fs moved) (contains_found fs q v found)))
 
   -- no later key ties with the first
-  find-past_head : (q : K) (e : K × X) (es : List (K × X)) → HasDistinctKeys (e ∷ es) → eq_by_cmp R q e.0 ≡ true → find R q es ≡ None
+  pub find-past_head : (q : K) (e : K × X) (es : List (K × X)) → HasDistinctKeys (e ∷ es) → eq_by_cmp R q e.0 ≡ true → find R q es ≡ None
   find-past_head q e es distinct ties =
       find-lookup q es ∙ lookup-none _ es (none_past_head (eq_by_cmp_equiv o) q e es distinct ties)
 
@@ -163,3 +169,25 @@ module _ {K X : Type 0} {R : K → K → Ordering} (o : IsTotalOrder R) (same : 
       ∙ ap (λ found. cond (is_some found) (len (from_entries {R = R} es)) (len (from_entries {R = R} es) + 1)) (get-from_entries o es e.0 ∙ find-past_head e.0 e es distinct ((eq_by_cmp_equiv o).refl e.0))
       ∙ ap (λ n. n + 1) (len-from_entries es (IsDistinct-tail (eq_by_cmp R) e.0 _ distinct))
       ∙ add-one (length es)
+
+  -- ---- a test of the keys
+
+  all-put : (t : K → Bool) (k : K) (v : X) (es : List (K × X)) → find R k es ≡ None
+      → list_all t (map (λ e. e.0) (put R k v es)) ≡ (t k && list_all t (map (λ e. e.0) es))
+  all-put t k v [] none = refl
+  all-put t k v (e ∷ es) none =
+      elim (R k e.0) as (λ r. cond (is_eq r) (Some e.1) (find R k es) ≡ None
+      → list_all t (map (λ e. e.0) (by_order r ((k, v) ∷ e ∷ es) ((e.0, v) ∷ es) (e ∷ put R k v es))) ≡ (t k && (t e.0 && list_all t (map (λ e. e.0) es)))) [
+        | Less ↦ λ none. refl
+        | Equal ↦ λ none. cc
+        | Greater ↦ λ none. ap (λ b. t e.0 && b) (all-put t k v es none) ∙ both_later (t e.0) (t k) (list_all t (map (λ e. e.0) es))
+      ] none
+
+  pub all-from_entries : (t : K → Bool) (es : List (K × X)) → HasDistinctKeys es → list_all t (keys (from_entries {R = R} es)) ≡ list_all t (map (λ e. e.0) es)
+  all-from_entries t [] distinct =
+      ap (λ xs. list_all t (map (λ (x : K × X). x.0) xs)) (nil_from_length (entries (from_entries {R = R} [])) (sym (len-entries (from_entries {R = R} [])) ∙ len-empty R X))
+  all-from_entries t (e ∷ es) distinct =
+      let none = sym (get-entries (from_entries {R = R} es) e.0) ∙ get-from_entries o es e.0 ∙ find-past_head e.0 e es distinct ((eq_by_cmp_equiv o).refl e.0) in
+      ap (λ xs. list_all t (map (λ (x : K × X). x.0) xs)) (entries-insert o (from_entries es) e.0 e.1)
+      ∙ all-put t e.0 e.1 (entries (from_entries {R = R} es)) none
+      ∙ ap (λ b. t e.0 && b) (all-from_entries t es (IsDistinct-tail (eq_by_cmp R) e.0 _ distinct))

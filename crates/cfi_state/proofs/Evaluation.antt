@@ -19,7 +19,8 @@ use Rattle.cfi_state.specs.Row.{with_rules}
 use Rattle.cfi_state.specs.Context.{ContextState, state_of, with_row}
 use Rattle.cfi_state.specs.Memory.{adds_rule, wants_at}
 use Rattle.cfi_state.specs.Groups.{rule_given}
-use Rattle.cfi_state.specs.Evaluation.{setting_of, IsRefusal, Changes, remembered_after}
+use Rattle.cfi_state.specs.Outcome.{IsRefusal}
+use Rattle.cfi_state.specs.Evaluation.{setting_of, Changes, remembered_after}
 
 adds : {T : Type 0} (limit : Option ℕ) (m : Rules T) (register : ℕ) → AddsRule limit m register
     → IsTrue (not (is_some limit) && not (contains_key m register))
@@ -47,11 +48,10 @@ module _ {T : Type 0} (p : Parameters) (rule_limit stack_limit : Option ℕ) (co
       → Sets register (cond test (Err TooManyRegisterRules) (Ok (machine.with_rules (state_of location old) rules))) result
   by_test register rules true (Ok _) performs = absurd performs
   by_test register rules true (Err error) performs = (performs.1, inl (ap Err (sym performs.0)))
-  by_test register rules false (Ok _) performs =
-      (
-        ap (λ x. Ok (state_of location x)) (sym performs),
-        (ap (λ x. x.row.start_address) performs, (ap (λ x. x.row.end_address) performs, (ap (λ x. x.remembered) performs, ap (λ x. x.initial_rules) performs))),
-      )
+  by_test register rules false (Ok _) performs = (
+    ap (λ x. Ok (state_of location x)) (sym performs),
+    (ap (λ x. x.row.start_address) performs, (ap (λ x. x.row.end_address) performs, (ap (λ x. x.remembered) performs, ap (λ x. x.initial_rules) performs))),
+  )
   by_test register rules false (Err error) performs =
       (performs.1, inr (adds rule_limit old.row.parts.rules register.0 performs.2, refl, performs.0))
 
@@ -67,9 +67,11 @@ module _ {T : Type 0} (p : Parameters) (rule_limit stack_limit : Option ℕ) (co
       → old.remembered ≡ remembered_after i old → Sets register expected result → Changes (setting_of p rule_limit stack_limit) copies_free location i old new result
   of_sets i register expected (Ok _) is wants kept set =
       record { accepted = is ∙ set.0; start_address = set.1.0; end_address = set.1.1.0; remembered_rows = set.1.1.1.0 ∙ kept; initial_rules = set.1.1.1.1 }
-  of_sets i register expected (Err error) is wants kept set =
-      (set.0, subst (λ w. IsRefusal w (step (setting_of p rule_limit stack_limit) (state_of location old) i) error) (sym wants)
-      (subst (λ due. IsRefusal (adds_rule (setting_of p rule_limit stack_limit) (state_of location old) register.0) due error) (sym is) set.1))
+  of_sets i register expected (Err error) is wants kept set = (
+    set.0,
+    subst (λ w. IsRefusal w (step (setting_of p rule_limit stack_limit) (state_of location old) i) error) (sym wants)
+        (subst (λ due. IsRefusal (adds_rule (setting_of p rule_limit stack_limit) (state_of location old) register.0) due error) (sym is) set.1),
+  )
 
   gives : (i : CallFrameInstruction T) (register : Register) (rule : RegisterRule T) (result : Result (Unit {0}) Error)
       → step (setting_of p rule_limit stack_limit) (state_of location old) i ≡ machine.set_rule (setting_of p rule_limit stack_limit) (state_of location old) register.0 rule

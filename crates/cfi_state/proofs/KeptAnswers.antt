@@ -1,6 +1,6 @@
 -- What the machine answers next is what the struck-out form answers next, and the machine then stands behind the program
 -- with the instructions kept on the way.
-use Rattle.std.proofs.Common.{◌≡◌, ℕ, Bool, false, cond, List, [], ◌∷◌, ◌++◌, Option, Some, None, Result, Ok, Err, is_some, append_assoc, refl, sym, ap, subst, ◌∙◌, inl, inr}
+use Rattle.std.proofs.Common.{◌≡◌, ℕ, Bool, false, cond, List, [], ◌∷◌, ◌++◌, Option, Some, None, Result, Ok, Err, is_some, append_assoc, refl, sym, ap, subst, ◌∙◌, inl, inr, ◌⊎◌, IfOk}
 use Rattle.std.specs.Bool.{IsTrue}
 use Rattle.std.specs.Option.{option_or}
 use Rattle.std.specs.Result.{IsOk}
@@ -8,6 +8,7 @@ use Rattle.std.proofs.lemmas.Bool.{false≢true}
 use Rattle.std.proofs.lemmas.List.{append-nil}
 use Rattle.cfi_read_core.specs.Reading.{Readings, with_first, no_values}
 use Rattle.cfi_read_core.specs.declared.error.Error.{Error}
+use Rattle.cfi_read_core.specs.declared.error.Error.TheVariants.{OutOfMemory}
 use Rattle.cfi_parts.specs.declared.instruction.CallFrameInstruction.{CallFrameInstruction}
 use Rattle.cfi_state.specs.Row.{Row}
 use Rattle.cfi_state.specs.Operands.{Setting}
@@ -17,16 +18,12 @@ use Rattle.cfi_state.specs.Rows.{or_refused, on_option, row_until, answer_at, fd
 use Rattle.cfi_state.specs.Outcome.{IsRefusal}
 use Rattle.cfi_state.specs.Places.{Place, going, ended, run_to_come, to_come, IsNext}
 use Rattle.cfi_state.specs.Runs.{Wants, AreNever, current_row, NextAnswer, passes, ends_row, refuses, cannot_read, last_row, no_row, RunsCie, cie_passes, cie_refuses, cie_cannot_read, cie_ends, cie_end_refused, FindsRow, contains_it, goes_on, is_refused, comes_to_end, AnswersFde, by_cie, by_rows}
-use Rattle.cfi_state.specs.Kept.{IsLeftOut, KeepsNext, keeps, keeps_move, leaves_out, finds_unreadable, gives_last_row, gives_no_row, KeepsCie, cie_keeps, cie_leaves_out, cie_finds_unreadable, cie_is_kept, cie_end_left_out, AnswersByKept, refused_by_cie, found_in_rows}
+use Rattle.cfi_state.specs.Kept.{at_program, StandsOn, IsLeftOut, KeepsNext, keeps, keeps_move, leaves_out, finds_unreadable, gives_last_row, gives_no_row, KeepsCie, cie_keeps, cie_leaves_out, cie_finds_unreadable, cie_is_kept, cie_end_left_out, AnswersByKept, refused_by_cie, found_in_rows}
 use Rattle.cfi_state.proofs.Law.{step_law}
 use Rattle.cfi_state.proofs.CieEnd.{end_law}
 use Rattle.cfi_state.proofs.StandsBehind.{accepted_value, refused_error, stands_next, stands_refused, stands_at_end, stands_fresh, stands_answers}
-use Rattle.cfi_state.proofs.RunAnswers.{finds_is}
-use Rattle.cfi_state.proofs.RowLaws.{answers-other, answers-move, answers-refused}
-
--- the same place behind a program
-abbrev pub at_program : {T : Type 0} → Place (State T) T → Program T → Place (Program T) T
-at_program p g = record { behind = g; left = p.left; has_ended = p.has_ended }
+use Rattle.cfi_state.proofs.RunAnswers.{finds_is, fde_answer_or_memory}
+use Rattle.cfi_state.proofs.RowLaws.{answers-other, answers-move, answers-refused, fde_answer_law}
 
 none_refused : {A : Type 0} (o : Option Error) (a : A) → IsOk (or_refused o a) → o ≡ None
 none_refused None a ok = refl
@@ -45,8 +42,7 @@ module _ {T : Type 0} (wants : Wants T) (s : Setting) where
   accepted_next x y g i h stepped = (accepted_value (refusal s g i) (state_of s (followed_by g i)) y (sym (step_law s g i h.0) ∙ ap (λ z. step s z i) (sym h.1) ∙ stepped)).0
 
   -- the machine's next answer is the program's
-  pub keeps_next : (p : Place (State T) T) (answer : Result (Option (Row T)) Error) (q : Place (State T) T) → NextAnswer wants s p answer q → (g : Program T) → StandsBehind s p.behind g →
-      (after : Program T) × KeepsNext wants s (at_program p g) answer (at_program q after) × StandsBehind s q.behind after
+  pub keeps_next : (p : Place (State T) T) (answer : Result (Option (Row T)) Error) (q : Place (State T) T) → NextAnswer wants s p answer q → StandsOn wants s p answer q
   keeps_next p answer q (passes x y i rest answer' q' still stepped next) g h =
       let more = keeps_next (going y rest) answer' q' next (followed_by g i) (stands_next s x y g i h stepped) in
       (more.0, keeps g i rest answer' (at_program q' more.0) still (accepted_next x y g i h stepped) more.1, more.2)
@@ -93,6 +89,21 @@ module _ {T : Type 0} (wants : Wants T) (s : Setting) where
   keeps_cie x reads result (cie_cannot_read x' e) cie h = cie_finds_unreadable cie e
   keeps_cie x reads result (cie_ends x' y is) cie h = (cie, cie_is_kept cie (accepted_end x' y cie h is), stands_at_end s x' y cie h is)
   keeps_cie x reads result (cie_end_refused x' e refusal) cie h = cie_end_left_out cie e (end_left_out x' cie e h refusal)
+
+  -- a CIE's program that is not refused is kept whole
+  kept_whole : (cie : List (CallFrameInstruction T)) (reads : Readings (CallFrameInstruction T)) (result : Result (List (CallFrameInstruction T)) Error) → KeepsCie wants s cie reads result → IfOk result (λ all. all ≡ cie ++ reads.values)
+  kept_whole cie reads result (cie_keeps cie' i rest result' accepted keeps_rest) =
+      subst (λ l. IfOk result' (λ all. all ≡ l)) (append_assoc cie' (i ∷ []) rest.values) (kept_whole (cie' ++ i ∷ []) rest result' keeps_rest)
+  kept_whole cie reads result (cie_leaves_out cie' i rest e out) = tt
+  kept_whole cie reads result (cie_finds_unreadable cie' e) = tt
+  kept_whole cie reads result (cie_is_kept cie' accepted) = sym (append-nil cie')
+  kept_whole cie reads result (cie_end_left_out cie' e out) = tt
+
+  -- behind it the machine stands behind the CIE's instructions
+  pub cie_stands : (cie : Readings (CallFrameInstruction T)) (x : State T) → RunsCie wants s fresh_state cie (Ok x) → StandsBehind s x (in_fde cie.values [])
+  cie_stands cie x runs =
+      let all = keeps_cie fresh_state cie (Ok x) runs [] (stands_fresh s) in
+      subst (λ l. StandsBehind s x (in_fde l [])) (kept_whole [] cie (Ok all.0) all.1) all.2
 
   -- of the search for an address
   pub finds_kept : (address : ℕ) (p : Place (State T) T) (result : Result (Row T) Error) → FindsRow (NextAnswer wants s) address p result → (g : Program T) → StandsBehind s p.behind g → FindsRow (KeepsNext wants s) address (at_program p g) result
@@ -178,6 +189,14 @@ module _ {T : Type 0} (wants : Wants T) (s : Setting) (never : AreNever wants) w
   answers_by_kept_is cie fde address result (found_in_rows all result' keeps_all finds) =
       accepted_cie cie fde address all (cie_refusal s cie) (kept_cie_is cie (Ok all) keeps_all)
       ∙ finds_is (KeepsNext wants s) (to_come s) address (kept_next_is wants s never) (going (in_fde all []) fde) result' finds
+
+-- the answer of the runs is that of the struck-out form
+pub fde_answer_kept : {T : Type 0} (wants : Wants T) (s : Setting) → AreNever wants → (cie fde : Readings (CallFrameInstruction T)) (address : ℕ) (result : Result (Row T) Error) → AnswersFde wants s cie fde address result → fde_answer s cie fde address ≡ result
+fde_answer_kept wants s never cie fde address result answers_it = answers_by_kept_is wants s never cie fde address result (answers_by_kept wants s cie fde address result answers_it)
+
+-- and so it is where memory may be wanting, but for one that is refused for want of it
+pub fde_answer_kept_or_memory : {T : Type 0} (wants : Wants T) (s : Setting) (cie fde : Readings (CallFrameInstruction T)) (address : ℕ) (result : Result (Row T) Error) → AnswersFde wants s cie fde address result → (fde_answer s cie fde address ≡ result) ⊎ (result ≡ Err OutOfMemory)
+fde_answer_kept_or_memory wants s cie fde address result answers_it = subst (λ r. (r ≡ result) ⊎ (result ≡ Err OutOfMemory)) (fde_answer_law s cie fde address) (fde_answer_or_memory wants s cie fde address result answers_it)
 
 -- what is still to come of the machine is what is still to come of the program behind which it stands
 pub to_come_law : {T : Type 0} (s : Setting) (p : Place (State T) T) (g : Program T) → StandsBehind s p.behind g → run_to_come s p ≡ to_come s (at_program p g)

@@ -22,5 +22,8 @@ pub mod FixedStorage
 pub mod MemoryExamples
 pub mod Entries
 pub mod Registers
+pub mod Lists
+pub mod Equal
 pub mod Contexts
 pub mod Evaluation
+pub mod ContextRuns

@@ -7,11 +7,12 @@ use Rattle.cfi_read_core.specs.Reading.{Readings}
 use Rattle.cfi_read_core.specs.declared.error.Error.{Error}
 use Rattle.cfi_parts.specs.declared.instruction.CallFrameInstruction.{CallFrameInstruction}
 use Rattle.cfi_parts.specs.declared.instruction.CallFrameInstruction.TheVariants as instruction
+use Rattle.cfi_parts.specs.Views.{map_instruction}
 use Rattle.cfi_state.specs.Row.{Row}
 use Rattle.cfi_state.specs.Operands.{Setting}
 use Rattle.cfi_state.specs.Machine.{Rules, State, fresh_state, step, end_of_cie}
 use Rattle.cfi_state.specs.Outcome.{IsRefusal}
-use Rattle.cfi_state.specs.Numbered.{map_instruction, map_rule, map_rules, map_state, map_row, map_program_reads}
+use Rattle.cfi_state.specs.Numbered.{map_rule, map_rules, map_state, map_row, map_program_reads}
 use Rattle.cfi_state.specs.Places.{Place, going}
 use Rattle.cfi_state.specs.Memory.{adds_rule, has_initial_rule, copies_row, wants_at, wants_at_end}
 use Rattle.cfi_state.specs.Runs.{Wants, wants_memory, NextAnswer, passes, ends_row, refuses, cannot_read, last_row, no_row, RunsCie, cie_passes, cie_refuses, cie_cannot_read, cie_ends, cie_end_refused, FindsRow, contains_it, goes_on, is_refused, comes_to_end, AnswersFde, by_cie, by_rows}

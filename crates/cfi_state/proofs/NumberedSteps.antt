@@ -16,9 +16,10 @@ use Rattle.cfi_state.specs.declared.table.rules.RegisterRule.{RegisterRule}
 use Rattle.cfi_state.specs.declared.table.rules.RegisterRule.TheVariants as rule
 use Rattle.cfi_state.specs.Operands.{Setting, ra_sign_state, is_at_limit, is_move}
 use Rattle.cfi_state.specs.Machine.{Rules, Parts, State, fresh_state, copies_held, rows_held, with_rules, set_rule, set_or_remove_rule, restore_rule, set_cfa_register, set_cfa_offset, toggle, restore_state, step, end_of_cie}
+use Rattle.cfi_parts.specs.Views.{map_instruction}
 use Rattle.cfi_state.specs.Row.{Row}
 use Rattle.cfi_state.specs.Rows.{on_result, on_option, row_ended, run_answers_of, run_answers, run_all, run_cie, row_contains, answer_at, run_fde_answer}
-use Rattle.cfi_state.specs.Numbered.{map_instruction, map_cfa, map_rule, map_rules, map_parts, map_state, map_row, map_program_reads}
+use Rattle.cfi_state.specs.Numbered.{map_cfa, map_rule, map_rules, map_parts, map_state, map_row, map_program_reads}
 use Rattle.cfi_state.proofs.NumberedMaps.{get-map_values, len-map_values, contains-map_values, insert-map_values, remove-map_values, empty-map_values}
 
 map_ok-cond : {A B : Type 0} (g : A → B) (b : Bool) (e : Error) (x : A) → map_ok g (cond b (Err e) (Ok x)) ≡ cond b (Err e) (Ok (g x))

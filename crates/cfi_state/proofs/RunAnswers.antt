@@ -1,8 +1,9 @@
 -- Where memory is never wanting, the runs give exactly the answers of the machine's functions.
-use Rattle.std.proofs.Common.{◌≡◌, ℕ, Bool, true, false, cond, List, [], ◌∷◌, ◌++◌, Option, Some, None, Result, Ok, Err, refl, sym, ap, subst, ◌∙◌, inl, inr}
+use Rattle.std.proofs.Common.{◌≡◌, ℕ, Bool, true, false, cond, List, [], ◌∷◌, ◌++◌, Option, Some, None, Result, Ok, Err, refl, sym, ap, subst, ◌∙◌, inl, inr, ◌⊎◌, IfOk}
 use Rattle.std.proofs.lemmas.Bool.{false≢true}
-use Rattle.cfi_read_core.specs.Reading.{Readings, no_values}
+use Rattle.cfi_read_core.specs.Reading.{Readings, with_first, no_values}
 use Rattle.cfi_read_core.specs.declared.error.Error.{Error}
+use Rattle.cfi_read_core.specs.declared.error.Error.TheVariants.{OutOfMemory, NoUnwindInfoForAddress}
 use Rattle.cfi_parts.specs.declared.instruction.CallFrameInstruction.{CallFrameInstruction}
 use Rattle.cfi_state.specs.Row.{Row}
 use Rattle.cfi_state.specs.Operands.{Setting, is_move}
@@ -30,6 +31,13 @@ finds_is Next still address is p result (comes_to_end p' q next) = ap (answer_at
 
 abbrev run_from : {T : Type 0} → Setting → State T → Readings (CallFrameInstruction T) → Result (State T) Error
 run_from s x reads = on_result (λ y. on_option (end_of_cie s y) (λ e. Err e) reads.refusal) (λ e. Err e) (run_all s x reads.values)
+
+-- a row that is found contains the address
+pub found_contains : {T P : Type 0} (Next : P → Result (Option (Row T)) Error → P → Type 0) (address : ℕ) (p : P) (result : Result (Row T) Error) → FindsRow Next address p result → IfOk result (λ row. row_contains address row ≡ true)
+found_contains Next address p result (contains_it p' q row next inside) = inside
+found_contains Next address p result (goes_on p' q row result' next outside finds) = found_contains Next address q result' finds
+found_contains Next address p result (is_refused p' q e next) = tt
+found_contains Next address p result (comes_to_end p' q next) = tt
 
 module _ {T : Type 0} (wants : Wants T) (s : Setting) (never : AreNever wants) where
   -- the next answer is the first of those still to come
@@ -61,6 +69,86 @@ module _ {T : Type 0} (wants : Wants T) (s : Setting) (never : AreNever wants) w
   fde_answer_is cie fde address result (by_cie e runs) = ap (on_result (λ x. answer_at address (run_answers s x fde)) (λ d. Err d)) (cie_is cie (Err e) runs)
   fde_answer_is cie fde address result (by_rows x result' runs finds) =
       ap (on_result (λ y. answer_at address (run_answers s y fde)) (λ d. Err d)) (cie_is cie (Ok x) runs) ∙ finds_answer address (going x fde) result' finds
+
+-- ---- want of memory apart, they are the same: one that is refused for want of memory is answered so
+
+due_or_memory : {A : Type 0} (w : Bool) (due : Result A Error) (e : Error) → IsRefusal w due e → (due ≡ Err e) ⊎ (e ≡ OutOfMemory)
+due_or_memory w due e (inl is) = inl is
+due_or_memory w due e (inr wanting) = inr wanting.2
+
+module _ {T : Type 0} (wants : Wants T) (s : Setting) where
+  refused_or_memory : (x : State T) (i : CallFrameInstruction T) (xs : List (CallFrameInstruction T)) (unread : Option Error) (e : Error) → (step s x i ≡ Err e) ⊎ (e ≡ OutOfMemory) →
+      (run_answers_of s x (i ∷ xs) unread ≡ Err e ∷ run_answers_of s x xs unread) ⊎ (◌≡◌ {A = Result (Option (Row T)) Error} (Err e) (Err OutOfMemory))
+  refused_or_memory x i xs unread e (inl is) = inl (run_answers-refused s x i xs unread e is)
+  refused_or_memory x i xs unread e (inr is) = inr (ap Err is)
+
+  pub next_or_memory : (p : Place (State T) T) (answer : Result (Option (Row T)) Error) (q : Place (State T) T) → NextAnswer wants s p answer q → IsNext (run_to_come s p) answer (run_to_come s q) ⊎ (answer ≡ Err OutOfMemory)
+  next_or_memory p answer q (passes x y i rest answer' q' still stepped next) =
+      subst (λ l. IsNext l answer' (run_to_come s q') ⊎ (answer' ≡ Err OutOfMemory)) (sym (run_answers-other s x y i rest.values rest.refusal stepped still)) (next_or_memory (going y rest) answer' q' next)
+  next_or_memory p answer q (ends_row x y i rest moves stepped) = inl (run_answers-move s x y i rest.values rest.refusal stepped moves)
+  next_or_memory p answer q (refuses x i rest e refusal) = refused_or_memory x i rest.values rest.refusal e (due_or_memory (wants.at x i) (step s x i) e refusal)
+  next_or_memory p answer q (cannot_read x e) = inl refl
+  next_or_memory p answer q (last_row x) = inl refl
+  next_or_memory p answer q (no_row x left) = inl (refl, refl)
+
+  row_or_memory : (address : ℕ) (before after : List (Result (Row T) Error)) (row : Row T) (result others : Result (Row T) Error) → row_contains address row ≡ false →
+      IsNext before (Ok (Some row)) after ⊎ (◌≡◌ {A = Result (Option (Row T)) Error} (Ok (Some row)) (Err OutOfMemory)) → (answer_at address after ≡ result) ⊎ (result ≡ Err OutOfMemory) → (answer_at address before ≡ result) ⊎ (result ≡ Err OutOfMemory)
+  row_or_memory address before after row result others outside (inl is) (inl found) = inl (ap (answer_at address) is ∙ ap (λ b. cond b (Ok row) (answer_at address after)) outside ∙ found)
+  row_or_memory address before after row result others outside (inl is) (inr memory) = inr memory
+  row_or_memory address before after row result others outside (inr wrong) found = absurd (let no_refusal : ◌≡◌ {A = Result (Option (Row T)) Error} (Ok (Some row)) (Err OutOfMemory) = wrong in cc)
+
+  at_answer : (address : ℕ) (before after : List (Result (Row T) Error)) (row : Row T) → row_contains address row ≡ true → IsNext before (Ok (Some row)) after ⊎ (◌≡◌ {A = Result (Option (Row T)) Error} (Ok (Some row)) (Err OutOfMemory)) →
+      (answer_at address before ≡ Ok row) ⊎ (◌≡◌ {A = Result (Row T) Error} (Ok row) (Err OutOfMemory))
+  at_answer address before after row inside (inl is) = inl (ap (answer_at address) is ∙ ap (λ b. cond b (Ok row) (answer_at address after)) inside)
+  at_answer address before after row inside (inr wrong) = absurd (let no_refusal : ◌≡◌ {A = Result (Option (Row T)) Error} (Ok (Some row)) (Err OutOfMemory) = wrong in cc)
+
+  at_refusal : (address : ℕ) (before after : List (Result (Row T) Error)) (e : Error) → IsNext before (Err e) after ⊎ (◌≡◌ {A = Result (Option (Row T)) Error} (Err e) (Err OutOfMemory)) → (answer_at address before ≡ Err e) ⊎ (◌≡◌ {A = Result (Row T) Error} (Err e) (Err OutOfMemory))
+  at_refusal address before after e (inl is) = inl (ap (answer_at address) is)
+  at_refusal address before after e (inr is) = let memory : ◌≡◌ {A = Result (Option (Row T)) Error} (Err e) (Err OutOfMemory) = is in let same : e ≡ OutOfMemory = cc in inr (ap Err same)
+
+  at_the_end : (address : ℕ) (before after : List (Result (Row T) Error)) → IsNext before (Ok None) after ⊎ (◌≡◌ {A = Result (Option (Row T)) Error} (Ok None) (Err OutOfMemory)) → answer_at address before ≡ Err NoUnwindInfoForAddress
+  at_the_end address before after (inl is) = ap (answer_at address) is.0
+  at_the_end address before after (inr wrong) = absurd (let no_refusal : ◌≡◌ {A = Result (Option (Row T)) Error} (Ok None) (Err OutOfMemory) = wrong in cc)
+
+  pub finds_or_memory : (address : ℕ) (p : Place (State T) T) (result : Result (Row T) Error) → FindsRow (NextAnswer wants s) address p result → (answer_at address (run_to_come s p) ≡ result) ⊎ (result ≡ Err OutOfMemory)
+  finds_or_memory address p result (contains_it p' q row next inside) = at_answer address (run_to_come s p') (run_to_come s q) row inside (next_or_memory p' (Ok (Some row)) q next)
+  finds_or_memory address p result (goes_on p' q row result' next outside finds) =
+      row_or_memory address (run_to_come s p') (run_to_come s q) row result' result' outside (next_or_memory p' (Ok (Some row)) q next) (finds_or_memory address q result' finds)
+  finds_or_memory address p result (is_refused p' q e next) = at_refusal address (run_to_come s p') (run_to_come s q) e (next_or_memory p' (Err e) q next)
+  finds_or_memory address p result (comes_to_end p' q next) = inl (at_the_end address (run_to_come s p') (run_to_come s q) (next_or_memory p' (Ok None) q next))
+
+  cie_due : (x : State T) (i : CallFrameInstruction T) (rest : Readings (CallFrameInstruction T)) (e : Error) → (step s x i ≡ Err e) ⊎ (e ≡ OutOfMemory) → (run_from s x (with_first i rest) ≡ Err e) ⊎ (◌≡◌ {A = Result (State T) Error} (Err e) (Err OutOfMemory))
+  cie_due x i rest e (inl is) = inl (ap (λ r. on_result (λ z. on_option (end_of_cie s z) (λ d. Err d) rest.refusal) (λ d. Err d) (on_result (λ z. run_all s z rest.values) (λ d. Err d) r)) is)
+  cie_due x i rest e (inr is) = inr (ap Err is)
+
+  end_due : (x : State T) (e : Error) → (end_of_cie s x ≡ Err e) ⊎ (e ≡ OutOfMemory) → (end_of_cie s x ≡ Err e) ⊎ (◌≡◌ {A = Result (State T) Error} (Err e) (Err OutOfMemory))
+  end_due x e (inl is) = inl is
+  end_due x e (inr is) = inr (ap Err is)
+
+  cie_or_memory_from : (x : State T) (reads : Readings (CallFrameInstruction T)) (result : Result (State T) Error) → RunsCie wants s x reads result → (run_from s x reads ≡ result) ⊎ (result ≡ Err OutOfMemory)
+  cie_or_memory_from x reads result (cie_passes x' y i rest result' stepped runs) =
+      subst (λ r. (on_result (λ z. on_option (end_of_cie s z) (λ d. Err d) rest.refusal) (λ d. Err d) (on_result (λ z. run_all s z rest.values) (λ d. Err d) r) ≡ result') ⊎ (result' ≡ Err OutOfMemory)) (sym stepped) (cie_or_memory_from y rest result' runs)
+  cie_or_memory_from x reads result (cie_refuses x' i rest e refusal) = cie_due x' i rest e (due_or_memory (wants.at x' i) (step s x' i) e refusal)
+  cie_or_memory_from x reads result (cie_cannot_read x' e) = inl refl
+  cie_or_memory_from x reads result (cie_ends x' y is) = inl is
+  cie_or_memory_from x reads result (cie_end_refused x' e refusal) = end_due x' e (due_or_memory (wants.at_end x') (end_of_cie s x') e refusal)
+
+  pub cie_or_memory : (reads : Readings (CallFrameInstruction T)) (result : Result (State T) Error) → RunsCie wants s fresh_state reads result → (run_cie s reads ≡ result) ⊎ (result ≡ Err OutOfMemory)
+  cie_or_memory reads = cie_or_memory_from fresh_state reads
+
+  by_cie_refusal : (cie fde : Readings (CallFrameInstruction T)) (address : ℕ) (e : Error) → (run_cie s cie ≡ Err e) ⊎ (◌≡◌ {A = Result (State T) Error} (Err e) (Err OutOfMemory)) → (run_fde_answer s cie fde address ≡ Err e) ⊎ (◌≡◌ {A = Result (Row T) Error} (Err e) (Err OutOfMemory))
+  by_cie_refusal cie fde address e (inl is) = inl (ap (on_result (λ x. answer_at address (run_answers s x fde)) (λ d. Err d)) is)
+  by_cie_refusal cie fde address e (inr is) = let memory : ◌≡◌ {A = Result (State T) Error} (Err e) (Err OutOfMemory) = is in let same : e ≡ OutOfMemory = cc in inr (ap Err same)
+
+  by_cie_end : (cie fde : Readings (CallFrameInstruction T)) (address : ℕ) (x : State T) (result : Result (Row T) Error) → (run_cie s cie ≡ Ok x) ⊎ (◌≡◌ {A = Result (State T) Error} (Ok x) (Err OutOfMemory)) →
+      (answer_at address (run_answers s x fde) ≡ result) ⊎ (result ≡ Err OutOfMemory) → (run_fde_answer s cie fde address ≡ result) ⊎ (result ≡ Err OutOfMemory)
+  by_cie_end cie fde address x result (inl is) (inl found) = inl (ap (on_result (λ y. answer_at address (run_answers s y fde)) (λ d. Err d)) is ∙ found)
+  by_cie_end cie fde address x result (inl is) (inr memory) = inr memory
+  by_cie_end cie fde address x result (inr wrong) found = absurd (let no_refusal : ◌≡◌ {A = Result (State T) Error} (Ok x) (Err OutOfMemory) = wrong in cc)
+
+  pub fde_answer_or_memory : (cie fde : Readings (CallFrameInstruction T)) (address : ℕ) (result : Result (Row T) Error) → AnswersFde wants s cie fde address result → (run_fde_answer s cie fde address ≡ result) ⊎ (result ≡ Err OutOfMemory)
+  fde_answer_or_memory cie fde address result (by_cie e runs) = by_cie_refusal cie fde address e (cie_or_memory cie (Err e) runs)
+  fde_answer_or_memory cie fde address result (by_rows x result' runs finds) = by_cie_end cie fde address x result' (cie_or_memory cie (Ok x) runs) (finds_or_memory address (going x fde) result' finds)
 
 -- ---- and the functions' answers are always among those of the runs
 

@@ -26,11 +26,11 @@ module _ {T : Type 0} (wants : Wants T) (s : Setting) where
     at_place : (rest : Readings (CallFrameInstruction T)) (answer : Result (Option (Row T)) Error) (after : Place (State T) T) → left ≡ rest → NextAnswer wants s (going x rest) answer after → NextAnswer wants s p answer after
     at_place rest answer after is next = leads answer after (subst (λ l. NextAnswer wants s (going x l) answer after) (sym is) next)
 
-    pub next-unreadable : (e : Error) → left ≡ no_values (Some e) → NextAnswer wants s p (Err e) (going x (no_values None))
-    next-unreadable e is = at_place _ _ _ is (cannot_read x e)
+    pub next-unreadable : (rest : Readings (CallFrameInstruction T)) (e : Error) → left ≡ no_values (Some e) → rest ≡ no_values None → NextAnswer wants s p (Err e) (going x rest)
+    next-unreadable rest e is none = subst (λ l. NextAnswer wants s p (Err e) (going x l)) (sym none) (at_place _ _ _ is (cannot_read x e))
 
-    pub next-last : left ≡ no_values None → NextAnswer wants s p (Ok (Some (current_row x s.end_address))) (ended x (no_values None))
-    next-last is = at_place _ _ _ is (last_row x)
+    pub next-last : (rest : Readings (CallFrameInstruction T)) → left ≡ no_values None → rest ≡ no_values None → NextAnswer wants s p (Ok (Some (current_row x s.end_address))) (ended x rest)
+    next-last rest is none = subst (λ l. NextAnswer wants s p (Ok (Some (current_row x s.end_address))) (ended x l)) (sym none) (at_place _ _ _ is (last_row x))
 
     module _ (i : CallFrameInstruction T) (rest : Readings (CallFrameInstruction T)) (reads : left ≡ with_first i rest) where
       pub leads-on : (y : State T) → is_move i ≡ false → step s x i ≡ Ok y → LeadsTo p (going y rest)
@@ -39,8 +39,8 @@ module _ {T : Type 0} (wants : Wants T) (s : Setting) where
       pub next-row : (y : State T) → is_move i ≡ true → step s x i ≡ Ok y → NextAnswer wants s p (Ok (Some (current_row x y.location))) (going y rest)
       next-row y moves stepped = at_place _ _ _ reads (ends_row x y i rest moves stepped)
 
-      pub next-refused : (e : Error) → IsRefusal (wants.at x i) (step s x i) e → NextAnswer wants s p (Err e) (going x rest)
-      next-refused e refusal = at_place _ _ _ reads (refuses x i rest e refusal)
+      pub next-refused : (y : State T) (e : Error) → IsRefusal (wants.at x i) (step s x i) e → y ≡ x → NextAnswer wants s p (Err e) (going y rest)
+      next-refused y e refusal stays = subst (λ z. NextAnswer wants s p (Err e) (going z rest)) (sym stays) (at_place _ _ _ reads (refuses x i rest e refusal))
 
   -- ---- the program of a CIE
 

@@ -11,6 +11,7 @@ use Rattle.cfi_state.specs.declared.table.machine.Parameters.{Parameters}
 use Rattle.cfi_state.specs.Operands.{Setting}
 use Rattle.cfi_state.specs.Machine.{State, step, end_of_cie}
 use Rattle.cfi_state.specs.Memory.{wants_at, wants_at_end}
+use Rattle.cfi_state.specs.Outcome.{IsRefusal}
 use Rattle.cfi_state.specs.Row.{Row}
 use Rattle.cfi_state.specs.Context.{ContextState, state_of, later_rows}
 
@@ -24,10 +25,6 @@ setting_of parameters rule_limit stack_limit = record {
   rule_limit = rule_limit;
   stack_limit = stack_limit;
 }
-
--- the refusal that is due or, where none is due and memory may be wanting, `OutOfMemory`
-abbrev pub IsRefusal : {A : Type 0} → Bool → Result A Error → Error → Type 0
-IsRefusal wants_memory due error = (due ≡ Err error) ⊎ (IsTrue wants_memory × IsOk due × (error ≡ OutOfMemory))
 
 module _ {T : Type 0} where
   -- the remembered rows after an instruction; they keep the addresses that they had

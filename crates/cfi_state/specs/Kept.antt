@@ -1,6 +1,7 @@
 -- The next answer of an FDE without a machine: the program so far, followed by the instructions that are kept on the way.
 -- Left out are those that the program refuses and, where memory may be wanting, those that memory refused.
 --     KeepsNext wants s p answer q      the next answer at the place p, and then the place is q
+--     StandsOn wants s p answer q      the answer that takes a machine from p to q is that of any program behind which it stands
 --     KeepsCie, AnswersByKept      the program of a CIE, and the answer for an address
 use Rattle.std.specs.Prelude.{◌≡◌, ℕ, Bool, true, false, List, [], ◌∷◌, ◌++◌, Option, Some, None, IsTrue, Result, Ok, Err, ◌⊎◌}
 use Rattle.cfi_read_core.specs.Reading.{Readings, with_first, no_values}
@@ -9,8 +10,9 @@ use Rattle.cfi_read_core.specs.declared.error.Error.TheVariants.{OutOfMemory}
 use Rattle.cfi_parts.specs.declared.instruction.CallFrameInstruction.{CallFrameInstruction}
 use Rattle.cfi_state.specs.Row.{Row}
 use Rattle.cfi_state.specs.Operands.{Setting, is_move}
+use Rattle.cfi_state.specs.Machine.{State}
 use Rattle.cfi_state.specs.Program.{Program, in_cie, in_fde, followed_by, location_of, refusal, refusal_at_end}
-use Rattle.cfi_state.specs.Rows.{row_until, state_of}
+use Rattle.cfi_state.specs.Rows.{row_until, state_of, StandsBehind}
 use Rattle.cfi_state.specs.Places.{Place, going, ended}
 use Rattle.cfi_state.specs.Runs.{Wants, FindsRow}
 
@@ -30,6 +32,15 @@ module _ {T : Type 0} where
     finds_unreadable : (p : Program T) (e : Error) → KeepsNext wants s (going p (no_values (Some e))) (Err e) (going p (no_values None))
     gives_last_row : (p : Program T) → KeepsNext wants s (going p (no_values None)) (Ok (Some (row_until s p s.end_address))) (ended p (no_values None))
     gives_no_row : (p : Program T) (left : Readings (CallFrameInstruction T)) → KeepsNext wants s (ended p left) (Ok None) (ended p left)
+
+  -- the same place behind a program
+  abbrev pub at_program : Place (State T) T → Program T → Place (Program T) T
+  at_program p g = record { behind = g; left = p.left; has_ended = p.has_ended }
+
+  -- whatever program the machine stood behind, it now stands behind that program with what was kept
+  abbrev pub StandsOn : Wants T → Setting → Place (State T) T → Result (Option (Row T)) Error → Place (State T) T → Type 0
+  StandsOn wants s p answer q =
+      (g : Program T) → StandsBehind s p.behind g → (after : Program T) × KeepsNext wants s (at_program p g) answer (at_program q after) × StandsBehind s q.behind after
 
   -- `cie` are the CIE's instructions so far
   pub data KeepsCie (wants : Wants T) (s : Setting) : List (CallFrameInstruction T) → Readings (CallFrameInstruction T) → Result (List (CallFrameInstruction T)) Error → Type 0 where

@@ -19,3 +19,5 @@ pub mod Rules
 pub mod Context
 pub mod Groups
 pub mod Evaluation
+pub mod Equality
+pub mod EqualityLaws

@@ -1,15 +1,15 @@
--- The same instructions, rules, states and rows with their offsets in another type.
--- The code's offsets are of a reader's type and the definitions' are numbers. An offset and a length stand only in
--- expressions, so a map along `f` changes nothing else.
---     map_instruction f, map_rule f, map_rules f, map_parts f, map_state f, map_row f      along f : A → B
---     map_readings f      what was read, each value by f
+-- The same rules, states and rows with their offsets in another type.
+-- The code's offsets are of a reader's type and the definitions' are numbers. Offsets stand only in expressions, so a
+-- map along `f` changes nothing else.
+--     map_rule f, map_rules f, map_parts f, map_state f, map_row f      along f : A → B
+--     map_readings f, map_program_reads f      what was read, each value by f, and instructions along f
 use Rattle.std.specs.Prelude.{map}
 use Rattle.std.specs.Option.{option_map}
 use Rattle.std.specs.Ordering.{nat_cmp}
 use Rattle.std.specs.FinMap.{FinMap, entries, from_sorted}
 use Rattle.cfi_read_core.specs.Reading.{Readings}
 use Rattle.cfi_parts.specs.declared.instruction.CallFrameInstruction.{CallFrameInstruction}
-pub use Rattle.cfi_parts.specs.Views.{map_expression, map_instruction}
+use Rattle.cfi_parts.specs.Views.{map_expression, map_instruction}
 use Rattle.cfi_state.specs.declared.table.rules.CfaRule.{CfaRule}
 use Rattle.cfi_state.specs.declared.table.rules.CfaRule.TheVariants as cfa
 use Rattle.cfi_state.specs.declared.table.rules.RegisterRule.{RegisterRule}

@@ -105,7 +105,7 @@ pub fn parse_instruction<R: Reader>(
     }
 }
 
-/// Reads the operands of an instruction that creates a row, or of another extended opcode.
+/// Reads the operands of an opcode for row creation (DWARF 5 section 6.4.2.1), and hands on others.
 fn parse_row_creation<R: Reader>(
     opcode: DwCfa,
     parameters: &InstructionParameters<'_, R>,
@@ -135,7 +135,7 @@ fn parse_row_creation<R: Reader>(
     }
 }
 
-/// Reads the operands of an instruction that defines the CFA, or of another one behind that in the standard.
+/// Reads the operands of an opcode for the CFA's definition (section 6.4.2.2), and hands on others.
 fn parse_cfa_definition<R: Reader>(
     opcode: DwCfa,
     parameters: &InstructionParameters<'_, R>,
@@ -172,7 +172,7 @@ fn parse_cfa_definition<R: Reader>(
     }
 }
 
-/// Reads the operands of a register rule with an offset from the CFA, or of another one behind that in the standard.
+/// Reads the operands of an opcode for a rule with an offset from the CFA (section 6.4.2.3), and hands on others.
 fn parse_offset_rule<R: Reader>(
     opcode: DwCfa,
     parameters: &InstructionParameters<'_, R>,
@@ -205,7 +205,7 @@ fn parse_offset_rule<R: Reader>(
     }
 }
 
-/// Reads the operands of another register rule, or of another one behind that in the standard.
+/// Reads the operands of an opcode for another register rule (section 6.4.2.3), and hands on others.
 fn parse_register_rule<R: Reader>(
     opcode: DwCfa,
     parameters: &InstructionParameters<'_, R>,
@@ -243,7 +243,7 @@ fn parse_register_rule<R: Reader>(
     }
 }
 
-/// Reads the operands of an instruction on a row's state, of padding, or of a vendor's opcode.
+/// Reads the operands of an opcode for a row's state (section 6.4.2.4), of padding, or of a vendor's opcode.
 fn parse_state_or_other<R: Reader>(
     opcode: DwCfa,
     parameters: &InstructionParameters<'_, R>,

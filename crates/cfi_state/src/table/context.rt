@@ -7,6 +7,7 @@ use super::rules::{CfaRule, RegisterRule, RegisterRuleMap, refusal_of};
 use crate::storage::{ArrayLike, CopyList, UnwindContextStorage};
 use cfi_read_core::{Error, ReaderOffset, Register, Result, StoreOnHeap};
 use std::alloc::Global;
+use std::fmt::{Debug, Formatter, Write};
 use std::marker::Model;
 
 /// Where the rules that a CIE's program ended with are kept.
@@ -28,6 +29,16 @@ pub struct UnwindContext<T: ReaderOffset, S: UnwindContextStorage<T> = StoreOnHe
     // ended with, where it has two rules or more.
     stack: S::Stack,
     initial_rules: InitialRules<T>,
+}
+
+impl<T: ReaderOffset, S: UnwindContextStorage<T>> Debug for UnwindContext<T, S> {
+    fn fmt<W: Write>(&self, f: &mut Formatter<W>) -> std::fmt::Result {
+        f.debug_struct("UnwindContext")
+            .field("row", &self.row)
+            .field("stack", &self.stack.as_slice())
+            .field("initial_rules", &self.initial_rules)
+            .finish()
+    }
 }
 
 impl<T: ReaderOffset, S: UnwindContextStorage<T>> Model for UnwindContext<T, S> {
@@ -74,6 +85,18 @@ impl<T: ReaderOffset, S: UnwindContextStorage<T>> UnwindContext<T, S> {
             row: UnwindTableRow::make(alloc)?,
             stack: S::Stack::make(alloc)?,
             initial_rules: InitialRules::NotYet,
+        })
+    }
+
+    /// An equal context, with room of its own. `OutOfMemory` where that isn't to be had.
+    pub fn try_clone(&self, alloc: Global) -> Result<Self>
+        ensures ok { IfOk result (λ context. context ≡ self.now) }
+        ensures err { IfErr result (λ error. error ≡ Error.OutOfMemory) }
+    {
+        Ok(UnwindContext {
+            row: self.row.try_clone()?,
+            stack: copy_of::<T, S>(self.stack.as_slice(), alloc)?,
+            initial_rules: self.initial_rules,
         })
     }
 
@@ -229,6 +252,24 @@ impl<T: ReaderOffset, S: UnwindContextStorage<T>> UnwindContext<T, S> {
             InitialRules::AtTheBottom => Ok(self.stack.as_slice()[0].register(register)),
         }
     }
+}
+
+// A list of equal rows.
+fn copy_of<T: ReaderOffset, S: UnwindContextStorage<T>>(
+    rows: &[UnwindTableRow<T, S::Rules>],
+    alloc: Global,
+) -> Result<S::Stack>
+    ensures ok { IfOk result (λ stack. S.Stack.items stack ≡ rows.now) }
+    ensures err { IfErr result (λ error. error ≡ Error.OutOfMemory) }
+{
+    let mut stack = S::Stack::make(alloc)?;
+    for row in rows {
+        let Err(_refused) = stack.try_push(row.try_clone()?) else {
+            continue;
+        };
+        return Err(Error::OutOfMemory);
+    }
+    Ok(stack)
 }
 
 // How the rules are kept.

@@ -206,10 +206,7 @@ fn cfa_given<T: ReaderOffset>(
 }
 
 // The offset stays, which an expression hasn't.
-fn with_register<T: ReaderOffset>(
-    old: CfaRule<T>,
-    register: Register,
-) -> Result<Option<CfaRule<T>>>
+fn with_register<T: ReaderOffset>(old: CfaRule<T>, register: Register) -> Result<Option<CfaRule<T>>>
     ensures { result ≡ groups.with_register old register }
 {
     match old {

@@ -1,15 +1,17 @@
 //! A row of an unwind table.
 ghost use Rattle.std.specs.Prelude.{◌≡◌, ◌<◌, ◌≤◌, ◌↔◌, false, IsTrue, IfOk, IfErr, IsNone};
+ghost use Rattle.std.specs.Cmp.{partial_equiv_from_equiv};
 
-use super::rules::{CfaRule, RegisterRule, RegisterRuleMap};
+use super::rules::{CfaRule, RegisterRule, RegisterRuleIter, RegisterRuleMap};
 use crate::storage::{ArrayLike, CopyList};
 use arrayvec::ArrayVec;
 use cfi_read_core::{Error, ReaderOffset, Register, Result};
 use std::alloc::Global;
 use std::marker::Model;
 
-/// How to unwind the code between two addresses.
+/// How to unwind the code between two addresses (DWARF 5 section 6.4.1).
 #[derive(Drop)]
+#[derive_where(Debug)]
 pub struct UnwindTableRow<T: ReaderOffset, A: ArrayLike<Item = (Register, RegisterRule<T>)>> {
     start_address: u64,
     end_address: u64,
@@ -38,7 +40,7 @@ impl<T: ReaderOffset, A: ArrayLike<Item = (Register, RegisterRule<T>)>> Model
 impl<T: ReaderOffset, A: ArrayLike<Item = (Register, RegisterRule<T>)>> UnwindTableRow<T, A> {
     ghost use Rattle.std.specs.FinMap as map;
     ghost use Rattle.cfi_state.specs.Outcome.{Performs, result_map};
-    ghost use Rattle.cfi_state.specs.Rules.{set_rule, AddsRule};
+    ghost use Rattle.cfi_state.specs.Rules.{rules_of, set_rule, AddsRule, IsDistinctRegisters};
     ghost use Rattle.cfi_state.specs.Row.{empty_row, with_cfa, with_args_size, with_parts, with_rules, at_start, at_end};
 
     pub(crate) fn make(alloc: Global) -> Result<Self>
@@ -54,43 +56,57 @@ impl<T: ReaderOffset, A: ArrayLike<Item = (Register, RegisterRule<T>)>> UnwindTa
         })
     }
 
+    /// The first address for which the row holds.
     pub fn start_address(&self) -> u64
         ensures { result ≡ self.now.start_address }
     {
         self.start_address
     }
 
+    /// The first address behind those for which the row holds.
     pub fn end_address(&self) -> u64
         ensures { result ≡ self.now.end_address }
     {
         self.end_address
     }
 
+    /// Whether the row holds for the address: from the start address up to, and without, the end address.
     pub fn contains(&self, address: u64) -> bool
         ensures { IsTrue result ↔ ((self.now.start_address ≤ address) × (address < self.now.end_address)) }
     {
         self.start_address <= address && address < self.end_address
     }
 
+    /// How many bytes of arguments have been pushed (`DW_CFA_GNU_args_size`).
     pub fn saved_args_size(&self) -> u64
         ensures { result ≡ self.now.parts.args_size }
     {
         self.saved_args_size
     }
 
+    /// How the canonical frame address is found.
     pub fn cfa(&self) -> &CfaRule<T>
         ensures { result.now ≡ self.now.parts.cfa }
     {
         &self.cfa
     }
 
+    /// The rule of the register, `None` where it has none.
     pub fn register(&self, register: Register) -> Option<RegisterRule<T>>
         ensures { result ≡ map.get self.now.parts.rules register.0 }
     {
         self.registers.get(register)
     }
 
-    /// Makes the row what it was before the first instruction. It takes no memory.
+    /// The registers that have a rule, each once with its rule. The order is open.
+    pub fn registers(&self) -> RegisterRuleIter<'_, T>
+        ensures rules { rules_of result.rules.now ≡ self.now.parts.rules }
+        ensures distinct { IsDistinctRegisters result.rules.now }
+    {
+        self.registers.iter()
+    }
+
+    // Makes the row what it was before the first instruction. It takes no memory.
     pub(crate) fn reset(&mut self)
         ensures { self.new ≡ empty_row }
     {
@@ -113,7 +129,7 @@ impl<T: ReaderOffset, A: ArrayLike<Item = (Register, RegisterRule<T>)>> UnwindTa
         self.end_address = address;
     }
 
-    /// Puts the row where `other` is.
+    // Puts the row where `other` is.
     pub(crate) fn take_addresses(&mut self, other: &Self)
         ensures { self.new ≡ with_parts other.now self.old.parts }
     {
@@ -154,11 +170,37 @@ impl<T: ReaderOffset, A: ArrayLike<Item = (Register, RegisterRule<T>)>> UnwindTa
     }
 }
 
+/// Rows are equal that have both addresses, the argument size, the CFA and the rules alike, whatever order keeps the rules.
+impl<T: ReaderOffset, A: ArrayLike<Item = (Register, RegisterRule<T>)>> PartialEq
+    for UnwindTableRow<T, A> {
+    ghost use Rattle.cfi_state.specs.Equality.{row_eq};
+    ghost use Rattle.cfi_state.specs.EqualityLaws.{row_equiv};
+
+    ghost eq = { row_eq T.eq };
+
+    ghost laws = { partial_equiv_from_equiv (row_equiv T.Eq.laws) };
+
+    fn eq(&self, other: &Self) -> bool {
+        self.start_address == other.start_address
+            && self.end_address == other.end_address
+            && self.saved_args_size == other.saved_args_size
+            && self.cfa == other.cfa
+            && self.registers == other.registers
+    }
+}
+
+impl<T: ReaderOffset, A: ArrayLike<Item = (Register, RegisterRule<T>)>> Eq
+    for UnwindTableRow<T, A> {
+    ghost use Rattle.cfi_state.specs.EqualityLaws.{row_equiv};
+
+    ghost laws = { row_equiv T.Eq.laws };
+}
+
 impl<T: ReaderOffset, A: ArrayLike<Item = (Register, RegisterRule<T>)> + CopyList> UnwindTableRow<
     T,
     A,
 > {
-    /// An equal row.
+    /// An equal row. `OutOfMemory` only where a copy of the rules takes memory.
     pub fn try_clone(&self) -> Result<Self>
         ensures ok { IfOk result (λ row. row ≡ self.now) }
         ensures err { IfErr result (λ error. (error ≡ Error.OutOfMemory) × (A.copies_free ≡ false)) }
@@ -173,7 +215,7 @@ impl<T: ReaderOffset, A: ArrayLike<Item = (Register, RegisterRule<T>)> + CopyLis
     }
 }
 
-/// What fills the unused places of an `ArrayVec` of rows.
+// What fills the unused places of an `ArrayVec` of rows.
 impl<T: ReaderOffset, const N: usize> Default
     for UnwindTableRow<T, ArrayVec<(Register, RegisterRule<T>), N>> {
     fn default() -> Self {

@@ -1,13 +1,20 @@
 //! The rules of a row.
 ghost use Rattle.std.specs.Prelude.{◌≡◌, ◌≢◌, ◌<◌, false, All, IfOk, IfErr, IfSome, IfNone, IsSomeAnd, slice_get, length, pos};
 ghost use Rattle.cfi_state.specs.declared.table.rules.CfaRule.TheVariants.{RegisterAndOffset};
+ghost use Rattle.std.specs.Iterator.{YieldsFirstRef, item_count};
+ghost use Rattle.std.specs.Cmp.{partial_equiv_from_equiv};
+ghost use Rattle.std.specs.FinMap.{get};
 ghost use Rattle.cfi_state.specs.Refusal.{refusal_for};
+ghost use Rattle.cfi_state.specs.Rules.{rules_of, IsDistinctRegisters};
+ghost use Rattle.cfi_state.specs.Equality.{is_within, rule_eq, rules_eq};
+ghost use Rattle.cfi_state.specs.EqualityLaws.{rules_equiv};
 
 use crate::storage::{ArrayLike, CopyList, Refused, Why, write_at};
 use arrayvec::ArrayVec;
 use cfi_parts::instruction::UnwindExpression;
 use cfi_read_core::{Error, ReaderOffset, Register, Result};
 use std::alloc::Global;
+use std::fmt::{Debug, Formatter, Write};
 use std::marker::Model;
 
 /// The register that holds whether the return address is signed (AArch64 ABI, "DWARF for the Arm 64-bit
@@ -77,6 +84,13 @@ pub(crate) struct RegisterRuleMap<
     pairs: A,
 }
 
+impl<T: ReaderOffset, A: ArrayLike<Item = (Register, RegisterRule<T>)>> Debug
+    for RegisterRuleMap<T, A> {
+    fn fmt<W: Write>(&self, f: &mut Formatter<W>) -> std::fmt::Result {
+        f.debug_list().entries(self.pairs()).finish()
+    }
+}
+
 impl<T: ReaderOffset, A: ArrayLike<Item = (Register, RegisterRule<T>)>> Model
     for RegisterRuleMap<T, A> {
     ghost use Rattle.std.specs.FinMap as map;
@@ -115,14 +129,19 @@ impl<T: ReaderOffset, A: ArrayLike<Item = (Register, RegisterRule<T>)>> Register
         self.pairs.as_slice()
     }
 
+    pub(crate) fn iter(&self) -> RegisterRuleIter<'_, T>
+        ensures rules { rules_of result.rules.now ≡ self.now }
+        ensures distinct { IsDistinctRegisters result.rules.now }
+    {
+        RegisterRuleIter {
+            rules: self.pairs(),
+        }
+    }
+
     pub(crate) fn get(&self, register: Register) -> Option<RegisterRule<T>>
         ensures { result ≡ map.get self.now register.0 }
     {
-        let pairs = self.pairs();
-        match place_of(pairs, register) {
-            Some(place) => Some(pairs[place].1),
-            None => None,
-        }
+        rule_of(self.pairs(), register)
     }
 
     pub(crate) fn set(&mut self, register: Register, rule: RegisterRule<T>) -> Result<()>
@@ -164,6 +183,88 @@ impl<T: ReaderOffset, A: ArrayLike<Item = (Register, RegisterRule<T>)> + CopyLis
         Ok(RegisterRuleMap {
             pairs: self.pairs.copy()?,
         })
+    }
+}
+
+/// The registers that have a rule, each once with its rule. The order is open.
+#[derive(Clone, Copy, Debug)]
+pub struct RegisterRuleIter<'iter, T: ReaderOffset> {
+    rules: &'iter [(Register, RegisterRule<T>)],
+}
+
+impl<'iter, T: ReaderOffset> Iterator for RegisterRuleIter<'iter, T> {
+    type Item = &'iter (Register, RegisterRule<T>);
+
+    ghost next_gives = { YieldsFirstRef (λ iterator. iterator.rules.now) };
+
+    ghost remaining = { item_count (λ iterator. iterator.rules.now) };
+
+    fn next(&mut self) -> Option<&'iter (Register, RegisterRule<T>)> {
+        let (first, others) = self.rules.split_first()?;
+        self.rules = others;
+        Some(first)
+    }
+}
+
+impl<T: ReaderOffset, A: ArrayLike<Item = (Register, RegisterRule<T>)>> PartialEq
+    for RegisterRuleMap<T, A> {
+    ghost eq = { rules_eq T.eq };
+
+    ghost laws = { partial_equiv_from_equiv (rules_equiv T.Eq.laws) };
+
+    fn eq(&self, other: &Self) -> bool {
+        is_same_rules(self.pairs(), other.pairs())
+    }
+}
+
+impl<T: ReaderOffset, A: ArrayLike<Item = (Register, RegisterRule<T>)>> Eq
+    for RegisterRuleMap<T, A> {
+    ghost laws = { rules_equiv T.Eq.laws };
+}
+
+// Whether two lists stand for equal maps, in whatever order.
+pub(crate) fn is_same_rules<T: ReaderOffset>(
+    a: &[(Register, RegisterRule<T>)],
+    b: &[(Register, RegisterRule<T>)],
+) -> bool
+    requires a { IsDistinctRegisters a.now }
+    requires b { IsDistinctRegisters b.now }
+    ensures { result ≡ rules_eq T.eq (rules_of a.now) (rules_of b.now) }
+{
+    has_same_rules(a, b) && has_same_rules(b, a)
+}
+
+// Whether each register of `pairs` has an equal rule in `others`.
+fn has_same_rules<T: ReaderOffset>(
+    pairs: &[(Register, RegisterRule<T>)],
+    others: &[(Register, RegisterRule<T>)],
+) -> bool
+    requires pairs { IsDistinctRegisters pairs.now }
+    requires others { IsDistinctRegisters others.now }
+    ensures { result ≡ is_within (rule_eq T.eq) (rules_of pairs.now) (rules_of others.now) }
+{
+    for pair in pairs {
+        let Some(rule) = rule_of(others, pair.0) else {
+            return false;
+        };
+        if pair.1 != rule {
+            return false;
+        }
+    }
+    true
+}
+
+// The rule of the register in a list of pairs.
+pub(crate) fn rule_of<T: ReaderOffset>(
+    pairs: &[(Register, RegisterRule<T>)],
+    register: Register,
+) -> Option<RegisterRule<T>>
+    requires { IsDistinctRegisters pairs.now }
+    ensures { result ≡ get (rules_of pairs.now) register.0 }
+{
+    match place_of(pairs, register) {
+        Some(place) => Some(pairs[place].1),
+        None => None,
     }
 }
 
