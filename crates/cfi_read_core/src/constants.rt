@@ -119,14 +119,14 @@ impl DwEhPe {
     pub fn is_indirect(self) -> bool
         ensures { result ≡ is_indirect self.0 }
     {
-        self.0 >= 0x80
+        self.0 >= DW_EH_PE_indirect.0
     }
 
     /// Whether the encoding is omit, or its format and its application are known.
     pub fn is_valid_encoding(self) -> bool
         ensures { result ≡ is_valid_encoding self.0 }
     {
-        self.0 == 0xff
+        self.0 == DW_EH_PE_omit.0
             || (matches!(self.0 % 16, 0 | 1 | 2 | 3 | 4 | 9 | 10 | 11 | 12) && self.0 / 16 % 8 <= 5)
     }
 }

@@ -209,6 +209,7 @@ pub trait Reader: Copy + Debug + Eq {
     fn read_null_terminated_slice(&mut self) -> Result<Self>
         ensures read { Reads (λ r. bytes_left (standing r)) text (standing self.old) result (standing self.new) }
         ensures part { IfOk result (λ r. IsPartOf (standing r) (standing self.old)) }
+        ensures place { IfOk result (λ r. (standing r).place ≡ (standing self.old).place) }
     {
         let len = self.find(0)?;
         let text = self.split(len)?;

@@ -11,7 +11,7 @@ use Rattle.cfi_state.specs.declared.table.rules.RegisterRule.{RegisterRule}
 use Rattle.cfi_state.specs.declared.table.rules.RegisterRule.TheVariants as rule
 use Rattle.cfi_state.specs.declared.table.machine.Parameters.{Parameters}
 use Rattle.cfi_state.specs.Outcome.{Performs, result_map}
-use Rattle.cfi_state.specs.Operands.{is_at_limit, factored, unsigned_factored}
+use Rattle.cfi_state.specs.Operands.{Setting, is_at_limit, factored, unsigned_factored}
 use Rattle.cfi_state.specs.Machine.{Rules, State, step}
 use Rattle.cfi_state.specs.Machine as machine
 use Rattle.cfi_state.specs.Rules.{set_rule, AddsRule}
@@ -92,3 +92,9 @@ module _ {T : Type 0} (p : Parameters) (rule_limit stack_limit : Option ℕ) (co
   sets-given (instruction.Expression r e) result = gives (instruction.Expression r e) r (rule.Expression e) result refl refl refl
   sets-given (instruction.ValExpression r e) result = gives (instruction.ValExpression r e) r (rule.ValExpression e) result refl refl refl
   sets-given _ result = tt
+
+-- no instruction changes the rules that a CIE's program ended with
+pub changes-initial : {T : Type 0} (s : Setting) (copies_free : Bool) (location : ℕ) (i : CallFrameInstruction T) (old new : ContextState T) (result : Result (Unit {0}) Error)
+    → Changes s copies_free location i old new result → new.initial_rules ≡ old.initial_rules
+changes-initial s copies_free location i old new (Ok _) changes = changes.initial_rules
+changes-initial {T = T} s copies_free location i old new (Err error) changes = ap (λ (x : ContextState T). x.initial_rules) changes.0

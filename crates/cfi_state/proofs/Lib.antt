@@ -27,3 +27,4 @@ pub mod Equal
 pub mod Contexts
 pub mod Evaluation
 pub mod ContextRuns
+pub mod NumberedSame

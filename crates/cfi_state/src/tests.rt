@@ -1,5 +1,6 @@
 //! The machine over concrete storages.
 
+ghost use Rattle.std.specs.Prelude.{◌≡◌};
 ghost use Rattle.std.proofs.Common.{lit≤};
 
 use super::storage::{StoreGrowing, UnwindContextStorage};
@@ -41,7 +42,9 @@ fn offset(number: u16) -> CallFrameInstruction<usize> {
 fn run<S: UnwindContextStorage<usize>>(
     context: &mut UnwindContext<usize, S>,
     instruction: CallFrameInstruction<usize>,
-) -> Result<Option<u64>> {
+) -> Result<Option<u64>>
+    ensures { context.new.initial_rules ≡ context.old.initial_rules }
+{
     evaluate(context, &PARAMETERS, 0x1000, instruction)
 }
 

@@ -97,6 +97,7 @@ pub fn evaluate<T: ReaderOffset, S: UnwindContextStorage<T>>(
     ensures step { Evaluates (setting_of parameters.now S.Rules.limit S.Stack.limit) S.Rules.copies_free
         location instruction context.old context.new result }
     ensures moves { IfOk result (λ moved. is_some moved ≡ is_move instruction) }
+    ensures initial_rules { context.new.initial_rules ≡ context.old.initial_rules }
 {
     if let Some(address) = target(parameters, location, instruction)? {
         return Ok(Some(address));

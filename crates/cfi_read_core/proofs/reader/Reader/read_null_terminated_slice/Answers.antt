@@ -1,6 +1,6 @@
 use Rattle.std.proofs.Common.{◌≡◌, ◌+◌, ℕ, Ok, List, sym, ap, subst, ◌∙◌}
 use Rattle.std.specs.Int.{w8}
-use Rattle.cfi_read_core.specs.Reading.{Source, Outcome}
+use Rattle.cfi_read_core.specs.Reading.{Source, Outcome, Extent}
 use Rattle.cfi_read_core.specs.Numbers.{unsigned}
 use Rattle.cfi_read_core.specs.Readers.{bytes_left, extent_of}
 use Rattle.cfi_read_core.proofs.Texts.{text_there, split_gives, front_bytes, zero_read, zero_there}
@@ -28,3 +28,9 @@ returns-clause-read g c =
           ∙ ap (λ (p : ℕ). let o : Outcome (List ℕ) = record { value = Ok (bytes_left (g.Self.Reader.standing c.in_ok-text.text)); place = p } in o) (sym next),
       c.in_ok-_zero.ensures.1 ∙ c.in_ok-text.ensures.read.1,
     )
+
+pub returns-clause-place : goal.returns-clause-place
+returns-clause-place g c =
+    let s = g.Self.Reader.standing c.args.self.now in
+    let n = g.Self.Offset.ReaderOffset.number c.in_ok-len.len in
+    ap (λ (e : Extent). e.first) (split_gives s.source s.place n _ _ c.in_ok-text.ensures.read.0).1
