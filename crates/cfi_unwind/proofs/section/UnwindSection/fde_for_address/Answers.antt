@@ -1,0 +1,140 @@
+use Rattle.std.proofs.Common.{◌≡◌, ◌∙◌, Err, Ok, ap, of_calls, refl, rules, sym}
+use Rattle.cfi_read_core.specs.Readers.{map_ok}
+use Rattle.cfi_unwind.specs.Entries.{entries_left}
+use Rattle.cfi_unwind.specs.EntryViews.{partial_of}
+use Rattle.cfi_unwind.specs.Sections.{section_of}
+use Rattle.cfi_unwind.specs.Views.{cie_view, fde_view}
+use Rattle.cfi_unwind.proofs.ScanSteps.{scans_at, scans_cie_at, scans_end, scans_found, scans_passed, scans_refusal, scans_refused_fde}
+use Rattle.cfi_unwind.proofs.section.UnwindSection.fde_for_address.Goals as goal
+
+pub returns-in_err-entry-clause-scan : goal.returns-in_err-entry-clause-scan
+returns-in_err-entry-clause-scan g c =
+    let gives : c.from_residual.result ≡ Err c.in_err-entry.field-0.0 = search rules in
+    let met = rw (c.loop-get_cie.invariant.same_section, c.loop-get_cie.invariant.same_bases) at c.in_err-entry.ensures.met.0 in (
+      c.loop-get_cie.get_cie,
+      c.loop-get_cie.invariant.leads_back _ _ (scans_at _ _ _ met (ap (map_ok (fde_view g.R.Reader.standing g.R.Offset.ReaderOffset.number)) gives) (scans_refusal _ _ _ _ _)),
+    )
+
+pub returns-in_err-cie-clause-scan : goal.returns-in_err-cie-clause-scan
+returns-in_err-cie-clause-scan g c =
+    let gives : c.from_residual-in_err-cie.result ≡ Err c.in_err-cie.field-0.0 = search rules in
+    let section = section_of (g.Self._UnwindSectionPrivate.frame c.args.self.now) c.args.bases.now in
+    let others = entries_left section (g.R.Reader.standing c.next.new.self.input).place in
+    let met = rw (c.next.ensures.section, c.next.ensures.bases, c.loop-get_cie.invariant.same_section, c.loop-get_cie.invariant.same_bases, c.in-Some.is, c.in-Fde.is) at c.in_ok-entry.ensures.met in (
+      c.get_cie.new.self,
+      c.loop-get_cie.invariant.leads_back _ _
+          (scans_at _ _ _ met (ap (map_ok (fde_view g.R.Reader.standing g.R.Offset.ReaderOffset.number)) gives) (scans_refused_fde _ section _ (partial_of g.R.Reader.standing g.R.Offset.ReaderOffset.number c.in-Fde.partial.found c.in-Fde.partial.cie_offset) others (Err c.in_err-cie.field-0.0) _ _ (record {
+            shown_section = _;
+            shown_bases = _;
+            asked = _;
+            answer = c.get_cie.result;
+            at_section = refl;
+            at_bases = refl;
+            at_offset = ap g.R.Offset.ReaderOffset.number (g.met.Self.Offset.UnwindOffset.inverse _ _ c.from.ensures);
+            seen = ap (map_ok (cie_view g.R.Reader.standing g.R.Offset.ReaderOffset.number)) c.in_err-cie.was;
+            call = c.get_cie.ensures;
+          }) _ refl)),
+    )
+
+pub returns-in_err-fde-clause-scan : goal.returns-in_err-fde-clause-scan
+returns-in_err-fde-clause-scan g c =
+    let gives : c.from_residual-in_err-fde.result ≡ Err c.in_err-fde.field-0.0 = search rules in
+    let section = section_of (g.Self._UnwindSectionPrivate.frame c.args.self.now) c.args.bases.now in
+    let others = entries_left section (g.R.Reader.standing c.next.new.self.input).place in
+    let met = rw (c.next.ensures.section, c.next.ensures.bases, c.loop-get_cie.invariant.same_section, c.loop-get_cie.invariant.same_bases, c.in-Some.is, c.in-Fde.is) at c.in_ok-entry.ensures.met in
+    let tied = rw (c.in-Some.is, c.in-Fde.is) at c.in_ok-entry.ensures.tied in
+    let read = rw (tied.0 ∙ c.loop-get_cie.invariant.same_section, tied.1 ∙ c.loop-get_cie.invariant.same_bases) at c.in_err-fde.ensures.read in (
+      c.get_cie.new.self,
+      c.loop-get_cie.invariant.leads_back _ _
+          (scans_at _ _ _ met (ap (map_ok (fde_view g.R.Reader.standing g.R.Offset.ReaderOffset.number)) gives) (scans_refused_fde _ section _ (partial_of g.R.Reader.standing g.R.Offset.ReaderOffset.number c.in-Fde.partial.found c.in-Fde.partial.cie_offset) others (Ok (cie_view g.R.Reader.standing g.R.Offset.ReaderOffset.number c.in_ok-cie.cie)) _ _ (record {
+            shown_section = _;
+            shown_bases = _;
+            asked = _;
+            answer = c.get_cie.result;
+            at_section = refl;
+            at_bases = refl;
+            at_offset = ap g.R.Offset.ReaderOffset.number (g.met.Self.Offset.UnwindOffset.inverse _ _ c.from.ensures);
+            seen = ap (map_ok (cie_view g.R.Reader.standing g.R.Offset.ReaderOffset.number)) c.in_ok-cie.was;
+            call = c.get_cie.ensures;
+          }) _ (sym read))),
+    )
+
+pub returns-then-contains-clause-scan : goal.returns-then-contains-clause-scan
+returns-then-contains-clause-scan g c =
+    let section = section_of (g.Self._UnwindSectionPrivate.frame c.args.self.now) c.args.bases.now in
+    let others = entries_left section (g.R.Reader.standing c.next.new.self.input).place in
+    let met = rw (c.next.ensures.section, c.next.ensures.bases, c.loop-get_cie.invariant.same_section, c.loop-get_cie.invariant.same_bases, c.in-Some.is, c.in-Fde.is) at c.in_ok-entry.ensures.met in
+    let tied = rw (c.in-Some.is, c.in-Fde.is) at c.in_ok-entry.ensures.tied in
+    let read = rw (tied.0 ∙ c.loop-get_cie.invariant.same_section, tied.1 ∙ c.loop-get_cie.invariant.same_bases) at c.in_ok-fde.ensures.read in (
+      c.get_cie.new.self,
+      c.loop-get_cie.invariant.leads_back _ _
+          (scans_at _ _ _ met refl (scans_found _ section _ (partial_of g.R.Reader.standing g.R.Offset.ReaderOffset.number c.in-Fde.partial.found c.in-Fde.partial.cie_offset) others (Ok (cie_view g.R.Reader.standing g.R.Offset.ReaderOffset.number c.in_ok-cie.cie)) _ _ (record {
+            shown_section = _;
+            shown_bases = _;
+            asked = _;
+            answer = c.get_cie.result;
+            at_section = refl;
+            at_bases = refl;
+            at_offset = ap g.R.Offset.ReaderOffset.number (g.met.Self.Offset.UnwindOffset.inverse _ _ c.from.ensures);
+            seen = ap (map_ok (cie_view g.R.Reader.standing g.R.Offset.ReaderOffset.number)) c.in_ok-cie.was;
+            call = c.get_cie.ensures;
+          }) _ (sym read) (sym c.contains.ensures ∙ c.if-contains.true))),
+    )
+
+pub returns-then-contains-clause-cie : goal.returns-then-contains-clause-cie
+returns-then-contains-clause-cie g c =
+    rw c.in_ok-fde.ensures.cie (record {
+      before = _;
+      after = _;
+      shown_section = _;
+      shown_bases = _;
+      asked = _;
+      at_section = refl;
+      at_bases = refl;
+      call = c.in_ok-cie.ensures;
+    })
+
+pub loop-get_cie-preserved-else-contains : goal.loop-get_cie-preserved-else-contains
+loop-get_cie-preserved-else-contains g c =
+    let section = section_of (g.Self._UnwindSectionPrivate.frame c.args.self.now) c.args.bases.now in
+    let others = entries_left section (g.R.Reader.standing c.next.new.self.input).place in
+    let met = rw (c.next.ensures.section, c.next.ensures.bases, c.loop-get_cie.invariant.same_section, c.loop-get_cie.invariant.same_bases, c.in-Some.is, c.in-Fde.is) at c.in_ok-entry.ensures.met in
+    let tied = rw (c.in-Some.is, c.in-Fde.is) at c.in_ok-entry.ensures.tied in
+    let read = rw (tied.0 ∙ c.loop-get_cie.invariant.same_section, tied.1 ∙ c.loop-get_cie.invariant.same_bases) at c.in_ok-fde.ensures.read in
+    record {
+      callable = search of_calls;
+      same_section = c.next.ensures.section ∙ c.loop-get_cie.invariant.same_section;
+      same_bases = c.next.ensures.bases ∙ c.loop-get_cie.invariant.same_bases;
+      leads_back = λ r last behind. c.loop-get_cie.invariant.leads_back r last
+          (scans_at _ _ _ met refl (scans_passed _ section _ (partial_of g.R.Reader.standing g.R.Offset.ReaderOffset.number c.in-Fde.partial.found c.in-Fde.partial.cie_offset) others (Ok (cie_view g.R.Reader.standing g.R.Offset.ReaderOffset.number c.in_ok-cie.cie)) _ _ (record {
+            shown_section = _;
+            shown_bases = _;
+            asked = _;
+            answer = c.get_cie.result;
+            at_section = refl;
+            at_bases = refl;
+            at_offset = ap g.R.Offset.ReaderOffset.number (g.met.Self.Offset.UnwindOffset.inverse _ _ c.from.ensures);
+            seen = ap (map_ok (cie_view g.R.Reader.standing g.R.Offset.ReaderOffset.number)) c.in_ok-cie.was;
+            call = c.get_cie.ensures;
+          }) _ r last (sym read) (sym c.contains.ensures ∙ c.if-contains.false) behind));
+    }
+
+pub loop-get_cie-preserved : goal.loop-get_cie-preserved
+loop-get_cie-preserved g c =
+    let section = section_of (g.Self._UnwindSectionPrivate.frame c.args.self.now) c.args.bases.now in
+    let others = entries_left section (g.R.Reader.standing c.next.new.self.input).place in
+    let met = rw (c.next.ensures.section, c.next.ensures.bases, c.loop-get_cie.invariant.same_section, c.loop-get_cie.invariant.same_bases, c.in-Some.is, c.in_default-entry.is) at c.in_ok-entry.ensures.met in
+    record {
+      callable = c.loop-get_cie.invariant.callable;
+      same_section = c.next.ensures.section ∙ c.loop-get_cie.invariant.same_section;
+      same_bases = c.next.ensures.bases ∙ c.loop-get_cie.invariant.same_bases;
+      leads_back = λ r last behind. c.loop-get_cie.invariant.leads_back r last
+          (scans_cie_at _ section _ _ others _ r last met behind);
+    }
+
+pub returns-clause-scan : goal.returns-clause-scan
+returns-clause-scan g c =
+    let met = rw (c.loop-get_cie.invariant.same_section, c.loop-get_cie.invariant.same_bases, c.in_default.is) at c.in_ok-entry.ensures.met in (
+      c.loop-get_cie.get_cie,
+      c.loop-get_cie.invariant.leads_back _ _ (scans_at _ _ _ met.0 refl (scans_end _ _ _ _)),
+    )

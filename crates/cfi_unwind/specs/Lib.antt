@@ -1,0 +1,14 @@
+pub mod Sections
+pub mod Prefixes
+pub mod Cies
+pub mod Fdes
+pub mod Programs
+pub mod Entries
+pub mod Scan
+pub mod Views
+pub mod EntryViews
+pub mod Walks
+pub mod Asking
+pub mod Answers
+pub mod Tables
+pub mod TablePlaces

@@ -1,0 +1,17 @@
+//! The entries of a call frame section (DWARF 5 section 6.4.1; LSB Core, "The .eh_frame section").
+
+pub(crate) mod augmentation;
+pub(crate) mod cie;
+pub(crate) mod context;
+pub(crate) mod entries;
+pub(crate) mod fde;
+mod instructions;
+pub(crate) mod partial;
+pub(crate) mod prefix;
+mod rows;
+
+pub use augmentation::Augmentation;
+pub use cie::CommonInformationEntry;
+pub use entries::{CfiEntriesIter, CieOrFde};
+pub use fde::FrameDescriptionEntry;
+pub use partial::PartialFrameDescriptionEntry;

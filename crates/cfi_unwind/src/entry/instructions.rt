@@ -1,0 +1,65 @@
+//! The instructions of entries (DWARF 5 section 6.4.2).
+ghost use Rattle.std.specs.Prelude.{◌≡◌};
+ghost use Rattle.cfi_parts.specs.Frames.{IsOf};
+ghost use Rattle.cfi_parts.specs.Iterators.{program};
+ghost use Rattle.cfi_parts.specs.Programs.{instructions_left};
+ghost use Rattle.cfi_unwind.specs.Sections.{section_of};
+ghost use Rattle.cfi_unwind.specs.Programs.{cie_instructions, fde_instructions};
+ghost use Rattle.cfi_unwind.specs.Views.{cie_view, fde_view};
+
+use crate::entry::cie::CommonInformationEntry;
+use crate::entry::fde::FrameDescriptionEntry;
+use cfi_parts::instruction::CallFrameInstructionIter;
+use cfi_parts::pointer::{BaseAddresses, PointerEncodingParameters};
+use cfi_parts::section::_UnwindSectionPrivate;
+use cfi_read_core::Reader;
+
+impl<R: Reader> CommonInformationEntry<R> {
+    /// The instructions with which the program of each of the CIE's FDEs begins. None is read yet.
+    ///
+    /// The entry is of the section; the bases are those of the section's entries.
+    pub fn instructions<'a, Section: _UnwindSectionPrivate<R>>(
+        &self,
+        section: &'a Section,
+        bases: &'a BaseAddresses,
+    ) -> CallFrameInstructionIter<'a, R>
+        requires { IsOf (R.standing self.now.instructions) (Section.frame section.now).standing }
+        ensures { instructions_left (program R.standing result)
+            ≡ cie_instructions (section_of (Section.frame section.now) bases.now) (cie_view R.standing R.Offset.number self.now) }
+    {
+        let pointers = PointerEncodingParameters {
+            bases: &bases.eh_frame,
+            func_base: None,
+            address_size: self.address_size.bytes(),
+            section: section.section(),
+        };
+        CallFrameInstructionIter::new(self.instructions, None, pointers, section.vendor())
+    }
+}
+
+impl<R: Reader> FrameDescriptionEntry<R> {
+    /// The FDE's own instructions, which follow those of its CIE. None is read yet.
+    ///
+    /// The entry is of the section; the bases are those of the section's entries.
+    pub fn instructions<'a, Section: _UnwindSectionPrivate<R>>(
+        &self,
+        section: &'a Section,
+        bases: &'a BaseAddresses,
+    ) -> CallFrameInstructionIter<'a, R>
+        requires { IsOf (R.standing self.now.instructions) (Section.frame section.now).standing }
+        ensures { instructions_left (program R.standing result)
+            ≡ fde_instructions (section_of (Section.frame section.now) bases.now) (fde_view R.standing R.Offset.number self.now) }
+    {
+        let pointers = PointerEncodingParameters {
+            bases: &bases.eh_frame,
+            func_base: None,
+            address_size: self.cie.address_size.bytes(),
+            section: section.section(),
+        };
+        let encoding = match self.cie.augmentation {
+            Some(augmentation) => augmentation.fde_address_encoding,
+            None => None,
+        };
+        CallFrameInstructionIter::new(self.instructions, encoding, pointers, section.vendor())
+    }
+}

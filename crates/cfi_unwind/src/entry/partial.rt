@@ -1,0 +1,133 @@
+//! Frame description entries as far as the offset of their CIE.
+ghost use Rattle.std.specs.Prelude.{◌≡◌, ⊤};
+ghost use Rattle.cfi_parts.specs.Frames.{IsOf, IsOf_prop};
+
+use crate::entry::cie::CommonInformationEntry;
+use crate::entry::context::InSection;
+use crate::entry::fde::{FrameDescriptionEntry, read_fde};
+use crate::entry::prefix::EntryPrefix;
+use crate::section::UnwindSection;
+use cfi_parts::pointer::BaseAddresses;
+use cfi_parts::section::_UnwindSectionPrivate;
+use cfi_read_core::{Reader, Result};
+use std::alloc::AllocError;
+
+/// A frame description entry as far as the offset of its CIE, over its section, its reader and the reader's offsets.
+#[derive(Debug, PartialEq, Eq)]
+pub struct PartialFdeParts<'bases, S: _UnwindSectionPrivate<R>, R: Reader, O> {
+    pub(crate) section: S,
+    pub(crate) bases: &'bases BaseAddresses,
+    pub(crate) found: EntryPrefix<R, O>,
+    pub(crate) cie_offset: O,
+    ghost of_section: { IsOf (R.standing found.rest) (S.frame section).standing } by { IsOf_prop (R.standing found.rest) (S.frame section).standing },
+}
+
+impl<S: _UnwindSectionPrivate<R> + Copy, R: Reader, O: Copy> Clone
+    for PartialFdeParts<'_, S, R, O> {
+    ghost is_clone = { λ x y. y ≡ x };
+
+    ghost is_infallible = { λ _. ⊤ };
+
+    fn clone(&self) -> std::result::Result<Self, AllocError> {
+        Ok(PartialFdeParts {
+            section: self.section,
+            bases: self.bases,
+            found: self.found,
+            cie_offset: self.cie_offset,
+        })
+    }
+}
+
+impl<S: _UnwindSectionPrivate<R> + Copy, R: Reader, O: Copy> Copy
+    for PartialFdeParts<'_, S, R, O> {}
+
+/// A frame description entry as far as the offset of its CIE: not yet read are its addresses, the augmentation data
+/// and the instructions, since how they are read is for the CIE to say.
+pub type PartialFrameDescriptionEntry<'bases, Section, R> = PartialFdeParts<
+    'bases,
+    Section,
+    R,
+    <R as Reader>::Offset,
+>;
+
+impl<'bases, Section: _UnwindSectionPrivate<R> + Copy, R: Reader> PartialFrameDescriptionEntry<
+    'bases,
+    Section,
+    R,
+> {
+    ghost use Rattle.std.specs.Prelude.{IfOk};
+    ghost use Rattle.cfi_read_core.specs.Readers.{map_ok};
+    ghost use Rattle.cfi_unwind.specs.Sections.{section_of};
+    ghost use Rattle.cfi_unwind.specs.Fdes.{fde_of};
+    ghost use Rattle.cfi_unwind.specs.Views.{cie_view, fde_view};
+    ghost use Rattle.cfi_unwind.specs.EntryViews.{partial_of};
+
+    /// Where the entry begins in its section.
+    pub fn offset(&self) -> R::Offset
+        ensures { result ≡ self.now.found.offset }
+    {
+        self.found.offset
+    }
+
+    /// The value of the entry's length field.
+    pub fn entry_len(&self) -> R::Offset
+        ensures { result ≡ self.now.found.length }
+    {
+        self.found.length
+    }
+
+    /// The whole entry, with its CIE.
+    pub(crate) fn with_cie(
+        &self,
+        cie: CommonInformationEntry<R>,
+    ) -> Result<FrameDescriptionEntry<R>>
+        ensures read { map_ok (fde_view R.standing R.Offset.number) result
+            ≡ fde_of (section_of (Section.frame self.now.section) self.now.bases.now) (partial_of R.standing R.Offset.number self.now.found self.now.cie_offset) (cie_view R.standing R.Offset.number cie) }
+        ensures part { IfOk result (λ fde. IsOf (R.standing fde.instructions) (Section.frame self.now.section).standing) }
+        ensures cie { IfOk result (λ fde. fde.cie ≡ cie) }
+    {
+        let context = InSection {
+            section: self.section,
+            bases: self.bases,
+        };
+        read_fde(&context, &self.found, cie)
+    }
+}
+
+impl<'bases, Section: UnwindSection<R>, R: Reader> PartialFrameDescriptionEntry<
+    'bases,
+    Section,
+    R,
+> {
+    ghost use Rattle.std.specs.Prelude.{IfOk, Ok};
+    ghost use Rattle.cfi_read_core.specs.Readers.{map_ok};
+    ghost use Rattle.cfi_unwind.specs.Sections.{section_of};
+    ghost use Rattle.cfi_unwind.specs.Asking.{Asks, IsAnswered, ReadsWith};
+    ghost use Rattle.cfi_unwind.specs.Views.{cie_view, fde_view};
+    ghost use Rattle.cfi_unwind.specs.EntryViews.{partial_of};
+
+    /// Where the entry's CIE begins in its section.
+    pub fn cie_offset(&self) -> Section::Offset
+        ensures { Section.Offset.offset result ≡ self.now.cie_offset }
+    {
+        Section::Offset::from(self.cie_offset)
+    }
+
+    /// The whole entry, with the CIE that is answered for its offset, which is asked once.
+    ///
+    /// Refused with the refusal of `get_cie`, and as the bytes of the entry show.
+    pub fn parse<F>(&self, mut get_cie: F) -> Result<FrameDescriptionEntry<R>>
+    where
+        F: FnMut(&Section, &BaseAddresses, Section::Offset) -> Result<CommonInformationEntry<R>>,
+        requires { F.IsAlwaysCallable get_cie }
+        ensures read { (last : F) × ReadsWith
+            (Asks F.FnMut (λ o. R.Offset.number (Section.Offset.offset o)) (cie_view R.standing R.Offset.number) self.now.section self.now.bases.now)
+            (section_of (Section.frame self.now.section) self.now.bases.now) (Ok (partial_of R.standing R.Offset.number self.now.found self.now.cie_offset))
+            get_cie (map_ok (fde_view R.standing R.Offset.number) result) last }
+        ensures cie { IfOk result (λ fde. IsAnswered F.FnMut self.now.section self.now.bases.now fde.cie) }
+        ensures part { IfOk result (λ fde. IsOf (R.standing fde.instructions) (Section.frame self.now.section).standing) }
+    {
+        let cie = get_cie(&self.section, self.bases, self.cie_offset())?;
+        self.with_cie(cie)
+    }
+}

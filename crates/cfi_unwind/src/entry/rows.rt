@@ -1,0 +1,69 @@
+//! The row that an FDE gives for an address (DWARF 5 section 6.4.1).
+ghost use Rattle.std.specs.Prelude.{◌≡◌, ℕ, Option};
+ghost use Rattle.cfi_read_core.specs.Addresses.{IsAddressSize};
+ghost use Rattle.cfi_read_core.specs.Readers.{map_ok};
+ghost use Rattle.cfi_parts.specs.Frames.{IsOf};
+ghost use Rattle.cfi_state.specs.Evaluation.{setting_of};
+ghost use Rattle.cfi_state.specs.Limit.{IsFixed};
+ghost use Rattle.cfi_state.specs.Numbered.{map_row};
+ghost use Rattle.cfi_unwind.specs.Sections.{section_of};
+ghost use Rattle.cfi_unwind.specs.Answers.{IsRowOfFde, RunsToRowOfFde, row_of_fde, setting};
+ghost use Rattle.cfi_unwind.specs.Views.{fde_view};
+
+use crate::entry::fde::FrameDescriptionEntry;
+use crate::section::UnwindSection;
+use crate::table;
+use cfi_parts::pointer::BaseAddresses;
+use cfi_read_core::{Reader, Result};
+use cfi_state::storage::UnwindContextStorage;
+use cfi_state::table::context::UnwindContext;
+use cfi_state::table::machine::Parameters;
+use cfi_state::table::row::UnwindTableRow;
+
+impl<R: Reader> FrameDescriptionEntry<R> {
+    // What stays fixed while the programs of the FDE and its CIE run.
+    fn parameters(&self) -> Parameters
+        ensures setting { (rules stack : Option ℕ) → setting_of result rules stack ≡ setting rules stack (fde_view R.standing R.Offset.number self.now) }
+        ensures sized { IsAddressSize result.address_size }
+    {
+        Parameters {
+            code_alignment_factor: self.cie.code_alignment_factor,
+            data_alignment_factor: self.cie.data_alignment_factor,
+            address_size: self.cie.address_size.bytes(),
+            initial_address: self.initial_address,
+            end_address: self.end_address(),
+        }
+    }
+
+    /// The row of the FDE's table that contains the address, lent from the context, which is emptied first.
+    ///
+    /// The FDE and its CIE are of the section; the bases are those of the section's entries. Refused with the first
+    /// refusal of the CIE's program; else with the first refusal of the FDE's program before the row; else, where no row
+    /// contains the address, with `NoUnwindInfoForAddress`, also for an address outside the FDE. Nothing behind the
+    /// row is judged. Over a fixed storage it takes no memory; over another one it may be refused with `OutOfMemory`.
+    pub fn unwind_info_for_address<
+        'ctx,
+        Section: UnwindSection<R>,
+        S: UnwindContextStorage<R::Offset>,
+    >(
+        &self,
+        section: &Section,
+        bases: &BaseAddresses,
+        ctx: &'ctx mut UnwindContext<R::Offset, S>,
+        address: u64,
+    ) -> Result<&'ctx UnwindTableRow<R::Offset, S::Rules>>
+        requires own { IsOf (R.standing self.now.instructions) (Section.frame section.now).standing }
+        requires cie { IsOf (R.standing self.now.cie.instructions) (Section.frame section.now).standing }
+        ensures row { IsRowOfFde S.Rules.limit S.Stack.limit S.Rules.copies_free (section_of (Section.frame section.now) bases.now) address
+            (fde_view R.standing R.Offset.number self.now) (map_ok (λ row. map_row R.Offset.number row.now) result) }
+        ensures run { RunsToRowOfFde S.Rules.limit S.Stack.limit S.Rules.copies_free (section_of (Section.frame section.now) bases.now) address
+            (fde_view R.standing R.Offset.number self.now) (map_ok (λ row. map_row R.Offset.number row.now) result) }
+        ensures fixed { IsFixed S.Rules.limit S.Stack.limit S.Rules.copies_free →
+            map_ok (λ row. map_row R.Offset.number row.now) result
+            ≡ row_of_fde S.Rules.limit S.Stack.limit (section_of (Section.frame section.now) bases.now) address (fde_view R.standing R.Offset.number self.now) }
+    {
+        let initial = self.cie.instructions(section, bases);
+        let instructions = self.instructions(section, bases);
+        table::unwind_info_for_address(self.parameters(), initial, instructions, ctx, address)
+    }
+}

@@ -1,0 +1,6 @@
+#![tactic(auto)]
+//! Call frame sections, their entries, and the FDE for an address.
+
+pub mod entry;
+pub mod section;
+pub mod table;

@@ -1,0 +1,170 @@
+//! Call frame sections.
+ghost use Rattle.std.specs.Prelude.{◌≡◌, IfOk};
+ghost use Rattle.cfi_read_core.specs.Readers.{map_ok};
+ghost use Rattle.cfi_parts.specs.Frames.{IsOf};
+ghost use Rattle.cfi_unwind.specs.Sections.{section_of};
+ghost use Rattle.cfi_unwind.specs.Fdes.{Covers};
+ghost use Rattle.cfi_unwind.specs.Entries.{cie_at, entries, partial_fde_at};
+ghost use Rattle.cfi_unwind.specs.Scan.{chosen};
+ghost use Rattle.cfi_unwind.specs.Asking.{Asks, IsAnswered, ReadsWith, Scans};
+ghost use Rattle.cfi_unwind.specs.Views.{cie_view, fde_view};
+ghost use Rattle.cfi_unwind.specs.EntryViews.{partial_of};
+
+mod debug_frame;
+mod eh_frame;
+
+use crate::entry::context::InSection;
+use crate::entry::entries::{cie_at, partial_fde_at};
+use crate::entry::{
+    CfiEntriesIter, CieOrFde, CommonInformationEntry, FrameDescriptionEntry,
+    PartialFrameDescriptionEntry,
+};
+use cfi_parts::pointer::BaseAddresses;
+use cfi_parts::section::{_UnwindSectionPrivate, UnwindOffset};
+use cfi_read_core::{Error, Reader, Result};
+pub use debug_frame::DebugFrame;
+pub use eh_frame::EhFrame;
+use std::fmt::Debug;
+
+/// A call frame section (DWARF 5 section 6.4.1; LSB Core, "The .eh_frame section").
+///
+/// The bases are those of the pointers in the section's entries, in `BaseAddresses::eh_frame` for both sections.
+/// No call takes memory.
+pub trait UnwindSection<R: Reader>: Copy + Debug + _UnwindSectionPrivate<R> {
+    /// An offset in the section.
+    type Offset: UnwindOffset<R::Offset>;
+
+    /// All entries of the section, from its beginning. None is read yet.
+    fn entries<'bases>(&self, bases: &'bases BaseAddresses) -> CfiEntriesIter<'bases, Self, R>
+        ensures section { result.section ≡ self.now }
+        ensures bases { result.bases.now ≡ bases.now }
+        ensures all { R.standing result.input ≡ (Self.frame self.now).standing }
+    {
+        CfiEntriesIter::new(self, bases)
+    }
+
+    /// The CIE at an offset of the section.
+    ///
+    /// Refused with `UnexpectedEof` of the section's first place where the offset lies behind the section's end, with
+    /// `NoEntryAtGivenOffset` at a length of zero, with `NotCieId` where the id there is no CIE's, and as the bytes of
+    /// the CIE show.
+    fn cie_from_offset(
+        &self,
+        bases: &BaseAddresses,
+        offset: Self::Offset,
+    ) -> Result<CommonInformationEntry<R>>
+        ensures read { map_ok (cie_view R.standing R.Offset.number) result ≡ cie_at (section_of (Self.frame self.now) bases.now) (R.Offset.number (Self.Offset.offset offset)) }
+        ensures part { IfOk result (λ cie. IsOf (R.standing cie.instructions) (Self.frame self.now).standing) }
+    {
+        let context = InSection {
+            section: *self,
+            bases,
+        };
+        cie_at(&context, UnwindOffset::into(offset))
+    }
+
+    /// The FDE at an offset of the section, as far as the offset of its CIE.
+    ///
+    /// Refused as `cie_from_offset`, but with `NotCiePointer` where the id there is a CIE's; then with
+    /// `UnsupportedOffset` where the id is no offset, and with `OffsetOutOfBounds` where the CIE would lie before the
+    /// section.
+    fn partial_fde_from_offset<'bases>(
+        &self,
+        bases: &'bases BaseAddresses,
+        offset: Self::Offset,
+    ) -> Result<PartialFrameDescriptionEntry<'bases, Self, R>>
+        ensures read { map_ok (λ p. partial_of R.standing R.Offset.number p.found p.cie_offset) result
+            ≡ partial_fde_at (section_of (Self.frame self.now) bases.now) (R.Offset.number (Self.Offset.offset offset)) }
+        ensures tied { IfOk result (λ p. (p.section ≡ self.now) × (p.bases.now ≡ bases.now)) }
+    {
+        let context = InSection {
+            section: *self,
+            bases,
+        };
+        partial_fde_at(&context, UnwindOffset::into(offset))
+    }
+
+    /// The FDE at an offset of the section, with the CIE that is answered for the offset to which it points.
+    ///
+    /// Refused as `partial_fde_from_offset`, before anything is asked; then with the refusal of `get_cie`, and as the
+    /// bytes of the entry show.
+    final fn fde_from_offset<F>(
+        &self,
+        bases: &BaseAddresses,
+        offset: Self::Offset,
+        get_cie: F,
+    ) -> Result<FrameDescriptionEntry<R>>
+    where
+        F: FnMut(&Self, &BaseAddresses, Self::Offset) -> Result<CommonInformationEntry<R>>,
+        requires { F.IsAlwaysCallable get_cie }
+        ensures read { (last : F) × ReadsWith
+            (Asks F.FnMut (λ o. R.Offset.number (Self.Offset.offset o)) (cie_view R.standing R.Offset.number) self.now bases.now)
+            (section_of (Self.frame self.now) bases.now) (partial_fde_at (section_of (Self.frame self.now) bases.now) (R.Offset.number (Self.Offset.offset offset)))
+            get_cie (map_ok (fde_view R.standing R.Offset.number) result) last }
+        ensures cie { IfOk result (λ fde. IsAnswered F.FnMut self.now bases.now fde.cie) }
+        ensures part { IfOk result (λ fde. IsOf (R.standing fde.instructions) (Self.frame self.now).standing) }
+    {
+        let partial = self.partial_fde_from_offset(bases, offset)?;
+        partial.parse(get_cie)
+    }
+
+    /// The first FDE, in the order of the entries, that contains the address, with the CIEs that are answered for the
+    /// offsets of the FDEs before it and its own.
+    ///
+    /// Refused with the first refusal of an entry, of `get_cie` or of an FDE before it, and with
+    /// `NoUnwindInfoForAddress` where no FDE contains the address.
+    final fn fde_for_address<F>(
+        &self,
+        bases: &BaseAddresses,
+        address: u64,
+        mut get_cie: F,
+    ) -> Result<FrameDescriptionEntry<R>>
+    where
+        F: FnMut(&Self, &BaseAddresses, Self::Offset) -> Result<CommonInformationEntry<R>>,
+        requires { F.IsAlwaysCallable get_cie }
+        ensures scan { (last : F) × Scans
+            (Asks F.FnMut (λ o. R.Offset.number (Self.Offset.offset o)) (cie_view R.standing R.Offset.number) self.now bases.now)
+            (section_of (Self.frame self.now) bases.now) address (entries (section_of (Self.frame self.now) bases.now))
+            get_cie (map_ok (fde_view R.standing R.Offset.number) result) last }
+        ensures cie { IfOk result (λ fde. IsAnswered F.FnMut self.now bases.now fde.cie) }
+        ensures part { IfOk result (λ fde. IsOf (R.standing fde.instructions) (Self.frame self.now).standing) }
+        ensures contains { IfOk result (λ fde. Covers (fde_view R.standing R.Offset.number fde) address) }
+    {
+        let mut entries = self.entries(bases);
+        while let Some(entry) = entries.next()? {
+            if let CieOrFde::Fde(partial) = entry {
+                let cie = get_cie(self, bases, Self::Offset::from(partial.cie_offset))?;
+                let fde = partial.with_cie(cie)?;
+                if fde.contains(address) {
+                    return Ok(fde);
+                }
+            }
+        }
+        Err(Error::NoUnwindInfoForAddress)
+    }
+}
+
+/// The first FDE of the section that contains the address, each with the CIE to which it points.
+///
+/// Refused with the first refusal of an entry before it, and with `NoUnwindInfoForAddress` where no FDE contains the
+/// address.
+pub fn fde_by_scan_of<R: Reader, S: UnwindSection<R>>(
+    section: &S,
+    bases: &BaseAddresses,
+    address: u64,
+) -> Result<FrameDescriptionEntry<R>>
+    ensures scan { map_ok (fde_view R.standing R.Offset.number) result ≡ chosen (section_of (S.frame section.now) bases.now) address }
+    ensures part { IfOk result (λ fde. IsOf (R.standing fde.instructions) (S.frame section.now).standing) }
+    ensures cie_part { IfOk result (λ fde. IsOf (R.standing fde.cie.instructions) (S.frame section.now).standing) }
+    ensures contains { IfOk result (λ fde. Covers (fde_view R.standing R.Offset.number fde) address) }
+{
+    let reader = *section.section();
+    section.fde_for_address(
+        bases,
+        address,
+        |from: &S, bases: &BaseAddresses, offset: S::Offset| {
+            let _reader = reader;
+            from.cie_from_offset(bases, offset)
+        },
+    )
+}

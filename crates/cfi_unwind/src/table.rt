@@ -1,0 +1,262 @@
+//! The rows of an FDE (DWARF 5 section 6.4.1), and the row of an address.
+ghost use Rattle.std.specs.Prelude.{◌≡◌, true, false, IfOk, IfSome, IfNone, IsTrue, [], MatchResult};
+ghost use Rattle.std.specs.Borrow.{sem};
+ghost use Rattle.std.specs.Io.BufRead.{Rests};
+ghost use mir.Syntax.{named};
+ghost use Rattle.cfi_read_core.specs.Addresses.{IsAddressSize, is_sized};
+ghost use Rattle.cfi_parts.specs.Iterators.{program};
+ghost use Rattle.cfi_parts.specs.Programs.{instructions_left};
+ghost use Rattle.cfi_state.specs.Context.{empty_context};
+ghost use Rattle.cfi_state.specs.Evaluation.{setting_of};
+ghost use Rattle.cfi_state.specs.Kept.{AnswersByKept};
+ghost use Rattle.cfi_state.specs.Limit.{IsFixed};
+ghost use Rattle.cfi_state.specs.Machine.{fresh_state};
+ghost use Rattle.cfi_state.specs.Numbered.{map_row};
+ghost use Rattle.cfi_state.specs.Places.{going};
+ghost use Rattle.cfi_state.specs.Rows.{fde_answer};
+ghost use Rattle.cfi_state.specs.Runs.{wants_memory, RunsCie, FindsRow, AnswersFde};
+ghost use Rattle.cfi_read_core.specs.Readers.{map_ok};
+ghost use Rattle.cfi_unwind.specs.Tables.{GivesNext, KeepsOn, KeepsProgram, seen, row_due, row_given, place_behind, HandsOut};
+
+use cfi_parts::instruction::CallFrameInstructionIter;
+use cfi_read_core::{Error, Reader, Result, StoreOnHeap};
+use cfi_state::storage::UnwindContextStorage;
+use cfi_state::table::context::UnwindContext;
+use cfi_state::table::machine::{
+    Parameters, current_row, end_cie, evaluate, reset, set_end_address, set_start_address,
+};
+use cfi_state::table::row::UnwindTableRow;
+
+// Parameters whose address size is 1, 2, 4 or 8.
+#[derive(Drop, Debug)]
+struct SizedParameters {
+    values: Parameters,
+    ghost sized: { is_sized values.address_size ≡ true },
+}
+
+/// The rows of an FDE, one after the other (DWARF 5 section 6.4.1).
+///
+/// The rows are made in an unwind context, from which each is lent until the next call. Nothing is copied, and no memory is
+/// taken but by lists of the context without a limit, and by a storage whose copies of rows take memory.
+#[derive(Drop)]
+pub struct UnwindTable<'a, 'ctx, R: Reader, S: UnwindContextStorage<R::Offset> = StoreOnHeap> {
+    parameters: SizedParameters,
+    instructions: CallFrameInstructionIter<'a, R>,
+    next_start_address: u64,
+    // Whether the last row was handed out.
+    has_ended: bool,
+    // Whether the context's row is the one that was handed out last.
+    holds_row: bool,
+    context: &'ctx mut UnwindContext<R::Offset, S>,
+}
+
+impl<'a, 'ctx, R: Reader, S: UnwindContextStorage<R::Offset>> UnwindTable<'a, 'ctx, R, S> {
+    ghost use Rattle.cfi_unwind.specs.contracts.table.UnwindTable.{the_row};
+    ghost use Rattle.cfi_unwind.specs.TablePlaces.{place_of};
+
+    /// The table over the instructions of a CIE and of an FDE, whose address size is 1, 2, 4 or 8 bytes.
+    ///
+    /// The context is emptied, so nothing of its past counts; then the CIE's program runs, whose final rules are kept for
+    /// `DW_CFA_restore`, and the table stands before the FDE's first row. Of the FDE's instructions none is read yet.
+    ///
+    /// A refusal is the first of the CIE's program: an instruction that can't be read, one that is refused, or `StackFull`
+    /// where its final rules find no room. Where the context's lists want memory it may be `OutOfMemory`.
+    pub fn over(
+        parameters: Parameters,
+        cie_instructions: CallFrameInstructionIter<'_, R>,
+        fde_instructions: CallFrameInstructionIter<'a, R>,
+        context: &'ctx mut UnwindContext<R::Offset, S>,
+    ) -> Result<Self>
+        requires { IsAddressSize parameters.address_size }
+        ensures cie { let s = setting_of parameters S.Rules.limit S.Stack.limit in
+            RunsCie (wants_memory s S.Rules.copies_free) s fresh_state (instructions_left (program R.standing cie_instructions.entry))
+            (map_ok (λ table. (place_of R.standing R.Offset.number table).behind) result) }
+        ensures kept { KeepsProgram (setting_of parameters S.Rules.limit S.Stack.limit) S.Rules.copies_free (instructions_left (program R.standing cie_instructions.entry))
+            (map_ok (λ table. (place_of R.standing R.Offset.number table).behind) result) }
+        ensures fde { IfOk result (λ table. table.instructions ≡ fde_instructions.entry) }
+        ensures parameters { IfOk result (λ table. table.parameters.values ≡ parameters) }
+        ensures has_ended { IfOk result (λ table. table.has_ended ≡ false) }
+        ensures holds_row { IfOk result (λ table. table.holds_row ≡ false) }
+        ensures same_reference { IfOk result (λ table. table.context.ghost_name ≡ context.entry.ghost_name) }
+    {
+        reset(context);
+        run_initial(context, &parameters, cie_instructions)?;
+        Ok(UnwindTable {
+            parameters: SizedParameters { values: parameters },
+            instructions: fde_instructions,
+            next_start_address: parameters.initial_address,
+            has_ended: false,
+            holds_row: false,
+            context,
+        })
+    }
+
+    // Goes on to the next row, and answers whether there is one.
+    fn advance(&mut self) -> Result<bool>
+        ensures next { GivesNext (setting_of self.old.parameters.values S.Rules.limit S.Stack.limit) S.Rules.copies_free
+            (place_of R.standing R.Offset.number self.old)
+            (row_given R.Offset.number self.new.context.now result)
+            (place_of R.standing R.Offset.number self.new) }
+        ensures kept { KeepsOn (setting_of self.old.parameters.values S.Rules.limit S.Stack.limit) S.Rules.copies_free
+            (place_of R.standing R.Offset.number self.old)
+            (row_given R.Offset.number self.new.context.now result)
+            (place_of R.standing R.Offset.number self.new) }
+        ensures holds_row { MatchResult result (λ found. self.new.holds_row ≡ found) (λ _. self.new.holds_row ≡ false) }
+        ensures parameters { self.new.parameters.values ≡ self.old.parameters.values }
+        ensures same_reference { self.new.context.ghost_name ≡ self.old.context.ghost_name }
+    {
+        self.holds_row = false;
+        if self.has_ended {
+            return Ok(false);
+        }
+        let location = self.next_start_address;
+        set_start_address(self.context, location);
+        let moved = run_to_move(
+            self.context,
+            &self.parameters.values,
+            location,
+            &mut self.instructions,
+        )?;
+        match moved {
+            Some(address) => {
+                set_end_address(self.context, address);
+                self.next_start_address = address;
+                self.holds_row = true;
+                Ok(true)
+            }
+            None => {
+                set_end_address(self.context, self.parameters.values.end_address);
+                self.has_ended = true;
+                self.holds_row = true;
+                Ok(true)
+            }
+        }
+    }
+
+    /// The next row, lent from the context; `None` behind the last one, for good.
+    ///
+    /// It runs the FDE's program up to the next instruction that moves the location, or to its end, where the row reaches up to
+    /// the end of the FDE's range. A refused instruction changes nothing, and the next call goes on behind it. After one that
+    /// can't be read only the last row is to come. `OutOfMemory` comes only where an instruction wants memory.
+    pub fn next_row(&mut self) -> Result<Option<&UnwindTableRow<R::Offset, S::Rules>>>
+        ensures* after_borrow { sem 𝓛 (Rests
+            (the_row (record { mir = named 1; lft = [] }) (record { mir = named 2; lft = [] })
+            R.row S.row R.Offset.row R.Endian.row S.Rules.row S.Stack.row
+            R.Reader.own R.Debug R.PartialEq
+            R.Offset.ReaderOffset.own R.Offset.PartialEq R.Offset.Ord.own R.Offset.PartialOrd.own R.Offset.Debug
+            R.Endian.Endianity.own R.Endian.Debug R.Endian.PartialEq
+            S.Rules.ArrayLike S.Rules.CopyList.own S.Stack.ArrayLike)
+            self.entry
+            (λ new. HandsOut R.Offset.number (setting_of self.old.parameters.values S.Rules.limit S.Stack.limit) S.Rules.copies_free
+            (place_of R.standing R.Offset.number self.old) result (place_of R.standing R.Offset.number new) new.context.now new.holds_row
+            × (new.parameters.values ≡ self.old.parameters.values) × (new.context.ghost_name ≡ self.old.context.ghost_name))) }
+    {
+        if self.advance()? {
+            Ok(Some(current_row(self.context)))
+        } else {
+            Ok(None)
+        }
+    }
+
+    /// The row that the last call of `next_row` handed out, lent from the context for as long as that is. `None` where that call
+    /// answered `None` or a refusal, and where there was no such call.
+    pub fn into_current_row(self) -> Option<&'ctx UnwindTableRow<R::Offset, S::Rules>>
+        ensures some { IfSome result (λ row. (row.now ≡ self.entry.context.now.row) × IsTrue self.entry.holds_row) }
+        ensures none { IfNone result (self.entry.holds_row ≡ false) }
+    {
+        let UnwindTable {
+            context,
+            holds_row,
+            ..
+        } = self;
+        if holds_row {
+            Some(current_row(context))
+        } else {
+            None
+        }
+    }
+}
+
+// Runs the instructions up to the first that moves, is refused or can't be read, or to the end. It answers the address
+// of the move.
+fn run_to_move<'a, R: Reader, S: UnwindContextStorage<R::Offset>>(
+    context: &mut UnwindContext<R::Offset, S>,
+    parameters: &Parameters,
+    location: u64,
+    instructions: &mut CallFrameInstructionIter<'a, R>,
+) -> Result<Option<u64>>
+    requires { IsAddressSize parameters.now.address_size }
+    ensures next { let s = setting_of parameters.now S.Rules.limit S.Stack.limit in
+        GivesNext s S.Rules.copies_free
+        (going (seen R.Offset.number location context.old) (instructions_left (program R.standing instructions.old)))
+        (row_due R.Offset.number s location context.new result)
+        (place_behind R.Offset.number location context.new (instructions_left (program R.standing instructions.new)) result) }
+    ensures start { context.new.row.start_address ≡ context.old.row.start_address }
+{
+    while let Some(instruction) = instructions.next()? {
+        if let Some(address) = evaluate(context, parameters, location, instruction)? {
+            return Ok(Some(address));
+        }
+    }
+    Ok(None)
+}
+
+// Runs the CIE's program, whose moves end no rows, in an empty context.
+fn run_initial<R: Reader, S: UnwindContextStorage<R::Offset>>(
+    context: &mut UnwindContext<R::Offset, S>,
+    parameters: &Parameters,
+    instructions: CallFrameInstructionIter<'_, R>,
+) -> Result<()>
+    requires sized { IsAddressSize parameters.now.address_size }
+    requires empty { context.old ≡ empty_context }
+    ensures { let s = setting_of parameters.now S.Rules.limit S.Stack.limit in
+        RunsCie (wants_memory s S.Rules.copies_free) s fresh_state (instructions_left (program R.standing instructions.entry))
+        (map_ok (λ _. seen R.Offset.number s.initial_address context.new) result) }
+{
+    let mut rest = instructions;
+    let mut location = 0;
+    while let Some(instruction) = rest.next()? {
+        if let Some(address) = evaluate(context, parameters, location, instruction)? {
+            location = address;
+        }
+    }
+    end_cie(context)
+}
+
+/// The row of an address, lent from the context: of nothing but the two programs, the parameters and the storage's limits.
+///
+/// The answer is the CIE's first refusal; else the first refusal or row with the address that the FDE's table gives, also for
+/// an address outside the FDE; else `NoUnwindInfoForAddress`. Rows behind the answer are not run. `OutOfMemory` comes only
+/// where an instruction, or the end of the CIE's program, wants memory, so never over a fixed storage.
+pub fn unwind_info_for_address<'cie, 'fde, 'ctx, R: Reader, S: UnwindContextStorage<R::Offset>>(
+    parameters: Parameters,
+    cie_instructions: CallFrameInstructionIter<'cie, R>,
+    fde_instructions: CallFrameInstructionIter<'fde, R>,
+    context: &'ctx mut UnwindContext<R::Offset, S>,
+    address: u64,
+) -> Result<&'ctx UnwindTableRow<R::Offset, S::Rules>>
+    requires { IsAddressSize parameters.address_size }
+    ensures run { let s = setting_of parameters S.Rules.limit S.Stack.limit in
+        AnswersFde (wants_memory s S.Rules.copies_free) s
+        (instructions_left (program R.standing cie_instructions.entry)) (instructions_left (program R.standing fde_instructions.entry))
+        address (map_ok (λ row. map_row R.Offset.number row.now) result) }
+    ensures kept { let s = setting_of parameters S.Rules.limit S.Stack.limit in
+        AnswersByKept (wants_memory s S.Rules.copies_free) s
+        (instructions_left (program R.standing cie_instructions.entry)) (instructions_left (program R.standing fde_instructions.entry))
+        address (map_ok (λ row. map_row R.Offset.number row.now) result) }
+    ensures fixed { let s = setting_of parameters S.Rules.limit S.Stack.limit in
+        IsFixed S.Rules.limit S.Stack.limit S.Rules.copies_free →
+        map_ok (λ row. map_row R.Offset.number row.now) result
+        ≡ fde_answer s (instructions_left (program R.standing cie_instructions.entry)) (instructions_left (program R.standing fde_instructions.entry)) address }
+{
+    let mut table = UnwindTable::over(parameters, cie_instructions, fde_instructions, context)?;
+    while let Some(row) = table.next_row()? {
+        if row.contains(address) {
+            let Some(current) = table.into_current_row() else {
+                unreachable!()
+            };
+            return Ok(current);
+        }
+    }
+    Err(Error::NoUnwindInfoForAddress)
+}

@@ -1,0 +1,6 @@
+//! Entries of a call frame section.
+
+pub use cfi_unwind::entry::{
+    Augmentation, CfiEntriesIter, CieOrFde, CommonInformationEntry, FrameDescriptionEntry,
+    PartialFrameDescriptionEntry,
+};

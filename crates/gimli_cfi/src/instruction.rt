@@ -1,0 +1,5 @@
+//! Call frame instructions.
+
+pub use cfi_parts::instruction::{
+    CallFrameInstruction, CallFrameInstructionIter, UnwindExpression,
+};

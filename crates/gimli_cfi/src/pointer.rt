@@ -1,0 +1,3 @@
+//! Encoded pointers and their bases.
+
+pub use cfi_parts::pointer::{BaseAddresses, Pointer, SectionBaseAddresses};

@@ -1,0 +1,50 @@
+//! Unwind contexts, rows and tables, and the row of an address.
+ghost use Rattle.std.specs.Prelude.{◌≡◌};
+ghost use Rattle.cfi_read_core.specs.Readers.{map_ok};
+ghost use Rattle.cfi_state.specs.Limit.{IsFixed};
+ghost use Rattle.cfi_state.specs.Numbered.{map_row};
+ghost use Rattle.cfi_unwind.specs.Sections.{section_of};
+ghost use Rattle.cfi_unwind.specs.Answers as answers;
+
+pub use cfi_state::table::context::UnwindContext;
+pub use cfi_state::table::row::UnwindTableRow;
+pub use cfi_state::table::rules::{CfaRule, RA_SIGN_STATE, RegisterRule, RegisterRuleIter};
+pub use cfi_unwind::table::UnwindTable;
+
+use cfi_parts::pointer::BaseAddresses;
+use cfi_read_core::{Reader, Result};
+use cfi_state::storage::UnwindContextStorage;
+use cfi_unwind::section::{UnwindSection, fde_by_scan_of};
+
+/// The unwind row of the address in the section, lent from the context.
+///
+/// It is the row of the first FDE, in the order of the entries, that contains the address: each part of it is as its
+/// last writer left it, among the instructions up to the row's end that are left once remembered and restored
+/// stretches are struck out (DWARF 5 section 6.4.2.4). Nothing that the context held before counts. Else it is the
+/// first refusal on the way: of an entry before the FDE, of the FDE or its CIE, of the CIE's program, or of the FDE's
+/// program before the row; `NoUnwindInfoForAddress` where no FDE contains the address. Nothing behind the row is judged.
+///
+/// The bases are those of the pointers in the section's entries. Over a fixed storage it takes no memory; over another
+/// one an instruction that needs more room may be refused with `OutOfMemory`.
+pub fn row_by_scan<
+    'ctx,
+    R: Reader,
+    Section: UnwindSection<R>,
+    S: UnwindContextStorage<R::Offset>,
+>(
+    section: &Section,
+    bases: &BaseAddresses,
+    ctx: &'ctx mut UnwindContext<R::Offset, S>,
+    address: u64,
+) -> Result<&'ctx UnwindTableRow<R::Offset, S::Rules>>
+    ensures scan { answers.IsRowByScan S.Rules.limit S.Stack.limit S.Rules.copies_free
+        (section_of (Section.frame section.now) bases.now) address (map_ok (λ row. map_row R.Offset.number row.now) result) }
+    ensures run { answers.RunsToRowByScan S.Rules.limit S.Stack.limit S.Rules.copies_free
+        (section_of (Section.frame section.now) bases.now) address (map_ok (λ row. map_row R.Offset.number row.now) result) }
+    ensures fixed { IsFixed S.Rules.limit S.Stack.limit S.Rules.copies_free →
+        map_ok (λ row. map_row R.Offset.number row.now) result
+        ≡ answers.row_by_scan S.Rules.limit S.Stack.limit (section_of (Section.frame section.now) bases.now) address }
+{
+    let fde = fde_by_scan_of(section, bases, address)?;
+    fde.unwind_info_for_address(section, bases, ctx, address)
+}
