@@ -1,0 +1,173 @@
+-- What a run prints.
+use Rattle.std.proofs.Common.{◌≡◌, ◌⊎◌, inl, inr, ◌≤◌, ◌<◌, ℕ, List, [], ◌++◌, get_or, Option, Some, None, Result, Ok, Err, refl, sym, ◌∙◌, ap, subst, arith, append-nil, append_assoc, IfSome}
+use Rattle.std.specs.Option.{IsSome}
+use Rattle.std.specs.Result.{IsErr}
+use Rattle.std.specs.Io.KnownBytes.{Appends, Keeps}
+use Rattle.hex.specs.declared.error.FromHexError.{FromHexError}
+use Rattle.cfi_read_core.specs.declared.error.Error.{Error}
+use Rattle.cfi_read_core.specs.declared.error.Error.TheVariants.{OutOfMemory}
+use Rattle.cfi_state.specs.Row.{Row}
+use Rattle.cfi_rows.specs.declared.words.Request.{Request}
+use Rattle.cfi_rows.specs.Answers.{RequestAnswer, IsOwed, IsRun, LineOfInput, LineOfRequest, LineOfWords, out_of_memory, section_alone, IsLineFor}
+use Rattle.cfi_rows.specs.Input.{Bytes, bytes_by, with_header, decoded}
+use Rattle.cfi_rows.specs.Lines.{Line, answer_line, wrong_words, wrong_hexadecimal, wrong_input}
+use Rattle.cfi_rows.specs.Words.{CanBeAnswered, asked}
+use Rattle.cfi_rows.specs.Written.{IsBeginning, Writes, Prints}
+use Rattle.cfi_rows.proofs.WrittenLemmas.{appends_then, keeps_is}
+
+-- ---- the line that is owed
+
+no_bytes : (d : Result (List ℕ) FromHexError) → IsErr d → with_header d (Ok []) ≡ None
+no_bytes (Ok bytes) h = cc
+no_bytes (Err e) h = refl
+
+bytes_is : (d : Result (List ℕ) FromHexError) (section : List ℕ) → d ≡ Ok section → with_header d (Ok []) ≡ Some (record { section = section; header = [] })
+bytes_is d section e = rw e refl
+
+input_is : (h : Option ℕ) (input : List ℕ) → h ≡ None → bytes_by h input ≡ with_header (decoded input) (Ok [])
+input_is h input e = rw e refl
+
+owed_hexadecimal : (answers : RequestAnswer) (r : Request) (input : List ℕ) → r.header ≡ None → IsErr (decoded input) → LineOfRequest answers (Some r) input wrong_hexadecimal
+owed_hexadecimal answers r input e h =
+    let P : Option Bytes → Type 0 = λ bytes. LineOfInput answers r bytes wrong_hexadecimal in
+    subst P (sym (input_is r.header input e ∙ no_bytes (decoded input) h)) refl
+
+owed_answer : (answers : RequestAnswer) (r : Request) (input section : List ℕ) (printed : Line) → r.header ≡ None → decoded input ≡ Ok section →
+    ((answer : Result (Row ℕ) Error) × answers r (section_alone section) answer × (printed ≡ answer_line answer)) → LineOfRequest answers (Some r) input printed
+owed_answer answers r input section printed e d is =
+    let P : Option Bytes → Type 0 = λ bytes. LineOfInput answers r bytes printed in
+    subst P (sym (input_is r.header input e ∙ bytes_is (decoded input) section d)) is
+
+pub known_of : (o : Option Request) (r : Request) → o ≡ Some r → IfSome o CanBeAnswered → CanBeAnswered r
+known_of o r e h =
+    let P : Option Request → Type 0 = λ asked_for. IfSome asked_for CanBeAnswered in
+    subst P e h
+
+pub owes_hexadecimal : (answers : RequestAnswer) (o : Option Request) (r : Request) (input : List ℕ) → o ≡ Some r → IfSome o CanBeAnswered → IsErr (decoded input) →
+    IsOwed answers o input wrong_hexadecimal
+owes_hexadecimal answers o r input e h wrong =
+    let P : Option Request → Type 0 = λ asked_for. IsOwed answers asked_for input wrong_hexadecimal in
+    subst P (sym e) (inl (owed_hexadecimal answers r input (known_of o r e h).no_header wrong))
+
+owes_line : (answers : RequestAnswer) (r : Request) (input section shown : List ℕ) (printed : Line) → r.header ≡ None → decoded input ≡ Ok section → shown ≡ section →
+    IsLineFor answers r shown printed → IsOwed answers (Some r) input printed
+owes_line answers r input section shown printed h d s (inl (answer, is, p)) =
+    let P : List ℕ → Type 0 = λ bytes. answers r (section_alone bytes) answer in
+    inl (owed_answer answers r input section printed h d (answer, subst P s is, p))
+owes_line answers r input section shown printed h d s (inr memory) = inr (refl, inl memory)
+
+pub owes_answer : (Q : Line → Type 0) (answers : RequestAnswer) (o : Option Request) (r : Request) (input section shown : List ℕ) → o ≡ Some r → IfSome o CanBeAnswered →
+    decoded input ≡ Ok section → shown ≡ section → ((printed : Line) × Q printed × IsLineFor answers r shown printed) → (printed : Line) × Q printed × IsOwed answers o input printed
+owes_answer Q answers o r input section shown e h d s (printed, shows, which) =
+    let P : Option Request → Type 0 = λ asked_for. IsOwed answers asked_for input printed in
+    (printed, shows, subst P (sym e) (owes_line answers r input section shown printed (known_of o r e h).no_header d s which))
+
+-- ---- a line that begins with the text of another
+
+line_is : (text : List ℕ) (status : ℕ) (printed : Line) → text ≡ printed.text → status ≡ printed.status → record { text = text; status = status } ≡ printed
+line_is text status printed p q = rw (p, q) refl
+
+-- the code at a place of a line that begins with a text
+code_at : (k : ℕ) (front rest text : List ℕ) (printed : Line) → front ++ rest ≡ printed.text → front ≡ text → get_or printed.text k 0 ≡ get_or (text ++ rest) k 0
+code_at k front rest text printed e p = ap (λ xs. get_or xs k 0) (sym e ∙ ap (λ xs. xs ++ rest) p)
+
+first_of_answer : (answer : Result (Row ℕ) Error) → get_or (answer_line answer).text 0 0 ≡ 119 → ⊥
+first_of_answer (Ok row) e = absurd (omega arith)
+first_of_answer (Err error) e = absurd (omega arith)
+
+first_of : (printed line : Line) (k code : ℕ) → get_or printed.text k 0 ≡ code → printed ≡ line → get_or line.text k 0 ≡ code
+first_of printed line k code e p = rw (← p) e
+
+-- a line that is owed where the words are right, of two that begin with w
+owed_right : (answers : RequestAnswer) (r : Request) (bytes : Option Bytes) (printed : Line) → LineOfInput answers r bytes printed → get_or printed.text 0 0 ≡ 119 →
+    (printed ≡ wrong_hexadecimal) × LineOfInput answers r bytes wrong_hexadecimal
+owed_right answers r None printed h e = (h, refl)
+owed_right answers r (Some bytes) printed (answer, is, p) e = absurd (first_of_answer answer (first_of printed (answer_line answer) 0 119 e p))
+
+words_wrong : (answers : RequestAnswer) (asked_for : Option Request) (input : List ℕ) (printed : Line) → IsOwed answers asked_for input printed →
+    get_or printed.text 0 0 ≡ 119 → get_or printed.text 6 0 ≡ 119 → LineOfRequest answers asked_for input wrong_words
+words_wrong answers None input printed owed first seventh = refl
+words_wrong answers (Some r) input printed (inl line) first seventh =
+    let e : ◌≡◌ {A = ℕ} 104 119 = first_of printed wrong_hexadecimal 6 119 seventh (owed_right answers r (bytes_by r.header input) printed line first).0 in
+    absurd (omega arith)
+words_wrong answers (Some r) input printed (inr (some, inl memory)) first seventh = absurd (first_of_answer (Err OutOfMemory) (first_of printed out_of_memory 0 119 first memory))
+words_wrong answers (Some r) input printed (inr (some, inr unread)) first seventh =
+    let e : ◌≡◌ {A = ℕ} 105 119 = first_of printed wrong_input 6 119 seventh unread in
+    absurd (omega arith)
+
+hexadecimal_wrong : (answers : RequestAnswer) (asked_for : Option Request) (input : List ℕ) (printed : Line) → IsOwed answers asked_for input printed →
+    get_or printed.text 0 0 ≡ 119 → get_or printed.text 6 0 ≡ 104 → LineOfRequest answers asked_for input wrong_hexadecimal
+hexadecimal_wrong answers None input printed (inl line) first seventh =
+    let e : ◌≡◌ {A = ℕ} 119 104 = first_of printed wrong_words 6 104 seventh line in
+    absurd (omega arith)
+hexadecimal_wrong answers None input printed (inr (none, line)) first seventh = cc
+hexadecimal_wrong answers (Some r) input printed (inl line) first seventh = (owed_right answers r (bytes_by r.header input) printed line first).1
+hexadecimal_wrong answers (Some r) input printed (inr (some, inl memory)) first seventh = absurd (first_of_answer (Err OutOfMemory) (first_of printed out_of_memory 0 119 first memory))
+hexadecimal_wrong answers (Some r) input printed (inr (some, inr unread)) first seventh =
+    let e : ◌≡◌ {A = ℕ} 105 104 = first_of printed wrong_input 6 104 seventh unread in
+    absurd (omega arith)
+
+status_of : (printed line : Line) → printed.status ≤ 1 → printed ≡ line → line.status ≤ 1
+status_of printed line h p = rw (← p) h
+
+answered : (answers : RequestAnswer) (asked_for : Option Request) (input : List ℕ) (printed : Line) → IsOwed answers asked_for input printed → printed.status ≤ 1 →
+    IsSome asked_for × (LineOfRequest answers asked_for input printed ⊎ (printed ≡ out_of_memory))
+answered answers None input printed (inl line) low = (let h : 2 ≤ 1 = status_of printed wrong_words low line in absurd (omega arith))
+answered answers None input printed (inr (none, line)) low = cc
+answered answers (Some r) input printed (inl line) low = (refl, inl line)
+answered answers (Some r) input printed (inr (some, inl memory)) low = (refl, inr memory)
+answered answers (Some r) input printed (inr (some, inr unread)) low = (let h : 2 ≤ 1 = status_of printed wrong_input low unread in absurd (omega arith))
+
+-- ---- the run
+
+is_run : (answers : RequestAnswer) (words : Option (List (List ℕ))) (input written : List ℕ) (status : ℕ) (printed : Line) → IsOwed answers (asked words) input printed →
+    IsBeginning written printed.text → (status ≤ 1 → (written ≡ printed.text) × (status ≡ printed.status)) → (1 < status → status ≡ 2) → IsRun answers words input written status
+is_run answers words input written status printed owed (rest, begins) whole high = record {
+  answered = λ low.
+      let is : record { text = written; status = status } ≡ printed = line_is written status printed (whole low).0 (whole low).1 in
+      let P : Line → Type 0 = λ shown. IsSome (asked words) × (LineOfWords answers words input shown ⊎ (shown ≡ out_of_memory)) in
+      subst P (sym is) (answered answers (asked words) input printed owed (rw (← (whole low).1) low));
+  otherwise = high;
+  words_wrong = λ _ e. words_wrong answers (asked words) input printed owed (code_at 0 written rest wrong_words.text printed begins e) (code_at 6 written rest wrong_words.text printed begins e);
+  hexadecimal_wrong = λ _ e. hexadecimal_wrong answers (asked words) input printed owed (code_at 0 written rest wrong_hexadecimal.text printed begins e) (code_at 6 written rest wrong_hexadecimal.text printed begins e);
+}
+
+-- what was written, and that it begins the line
+front_of : {E : Type 0} (old mid new : Option (List ℕ)) (result : Result ℕ E) (text : List ℕ) → Keeps mid new → Writes old mid result text →
+    (written : List ℕ) × Appends old new written × IsBeginning written text
+front_of old mid new (Ok status) text keeps writes = (text ++ [], appends_then old mid new text [] writes (keeps_is mid new keeps), ([], append-nil (text ++ []) ∙ append-nil text))
+front_of old mid new (Err e) text keeps (front, writes, (rest, begins)) = (front ++ [], appends_then old mid new front [] writes (keeps_is mid new keeps), (rest, append_assoc front [] rest ∙ begins))
+
+pub run_fails : {E : Type 0} (answers : RequestAnswer) (words : Option (List (List ℕ))) (input : List ℕ) (old mid new : Option (List ℕ)) (result : Result ℕ E) → Keeps mid new →
+    ((printed : Line) × Prints printed old mid result × IsOwed answers (asked words) input printed) → (written : List ℕ) × Appends old new written × IsRun answers words input written 2
+run_fails answers words input old mid new result keeps (printed, prints, owed) =
+    let front = front_of old mid new result printed.text keeps prints.0 in
+    (front.0, front.1, is_run answers words input front.0 2 printed owed front.2 (λ low. absurd (omega arith)) (λ _. refl))
+
+bound_by : (printed line : Line) → line.status ≤ 2 → printed ≡ line → printed.status ≤ 2
+bound_by printed line h e = rw e h
+
+answer_bound : (answer : Result (Row ℕ) Error) → (answer_line answer).status ≤ 2
+answer_bound (Ok row) = omega arith
+answer_bound (Err error) = omega arith
+
+input_bound : (answers : RequestAnswer) (r : Request) (bytes : Option Bytes) (printed : Line) → LineOfInput answers r bytes printed → printed.status ≤ 2
+input_bound answers r None printed e = bound_by printed wrong_hexadecimal (omega arith) e
+input_bound answers r (Some bytes) printed (answer, is, e) = bound_by printed (answer_line answer) (answer_bound answer) e
+
+status_bound : (answers : RequestAnswer) (asked_for : Option Request) (input : List ℕ) (printed : Line) → IsOwed answers asked_for input printed → printed.status ≤ 2
+status_bound answers None input printed (inl e) = bound_by printed wrong_words (omega arith) e
+status_bound answers (Some r) input printed (inl line) = input_bound answers r (bytes_by r.header input) printed line
+status_bound answers asked_for input printed (inr (some, inl e)) = bound_by printed out_of_memory (omega arith) e
+status_bound answers asked_for input printed (inr (some, inr e)) = bound_by printed wrong_input (omega arith) e
+
+pub run_ends : {E : Type 0} (answers : RequestAnswer) (words : Option (List (List ℕ))) (input : List ℕ) (old mid new : Option (List ℕ)) (result : Result ℕ E) (status : ℕ) → result ≡ Ok status → Keeps mid new →
+    ((printed : Line) × Prints printed old mid result × IsOwed answers (asked words) input printed) → (written : List ℕ) × Appends old new written × IsRun answers words input written status
+run_ends answers words input old mid new (Ok answered) status e keeps (printed, prints, owed) =
+    let same : answered ≡ status = cc in
+    let is : status ≡ printed.status = sym same ∙ prints.1 in
+    let P : List ℕ → Type 0 = λ xs. Appends old new xs in
+    let whole : Appends old new printed.text = subst P (append-nil printed.text) (appends_then old mid new printed.text [] prints.0 (keeps_is mid new keeps)) in
+    let bound : printed.status ≤ 2 = status_bound answers (asked words) input printed owed in
+    (printed.text, whole, is_run answers words input printed.text status printed owed ([], append-nil printed.text) (λ low. (refl, is)) (λ high. omega arith))
+run_ends answers words input old mid new (Err error) status e keeps (printed, prints, owed) = cc

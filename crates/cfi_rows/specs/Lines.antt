@@ -1,0 +1,123 @@
+-- The line that is printed.
+use Rattle.std.specs.Prelude.{ℕ, zero, suc, ◌+◌, false, ℤ, pos, negsuc, Option, Some, None, List, [], ◌∷◌, ◌++◌, Result, Ok, Err, codes}
+use Rattle.std.specs.FinMap as map
+use Rattle.std.specs.Fmt.{digits, decimal, signed_decimal}
+use Rattle.cfi_read_core.specs.declared.error.Error.{Error}
+use Rattle.cfi_read_core.specs.declared.error.Error.TheVariants.{UnexpectedEof, BadUnsignedLeb128, BadSignedLeb128, UnknownReservedLength, UnsupportedAddressSize, UnsupportedOffset, UnsupportedRegister, AddressOverflow, UnknownVersion, UnsupportedSegmentSize, UnknownAugmentation, UnknownPointerEncoding, CannotParseOmitPointerEncoding, UnsupportedPointerEncoding, PcRelativePointerButSectionBaseIsUndefined, TextRelativePointerButTextBaseIsUndefined, DataRelativePointerButDataBaseIsUndefined, FuncRelativePointerInBadContext, UnsupportedIndirectPointer, NotCieId, NotCiePointer, NoEntryAtGivenOffset, OffsetOutOfBounds, UnknownCallFrameInstruction, CfiInstructionInInvalidContext, InvalidCfiSetLoc, StackFull, PopWithEmptyStack, TooManyRegisterRules, NoUnwindInfoForAddress, OutOfMemory}
+use Rattle.cfi_parts.specs.declared.instruction.UnwindExpression.{UnwindExpression}
+use Rattle.cfi_state.specs.declared.table.rules.CfaRule.{CfaRule}
+use Rattle.cfi_state.specs.declared.table.rules.CfaRule.TheVariants as cfas
+use Rattle.cfi_state.specs.declared.table.rules.RegisterRule.{RegisterRule}
+use Rattle.cfi_state.specs.declared.table.rules.RegisterRule.TheVariants as rules
+use Rattle.cfi_state.specs.Row.{Row}
+
+-- ---- the parts
+
+abbrev pub address_text : ℕ → List ℕ
+address_text a = codes "0x" ++ digits 16 false a
+
+-- behind a register, with its sign
+abbrev pub offset_text : ℤ → List ℕ
+offset_text (pos n) = codes "+" ++ decimal n
+offset_text (negsuc n) = codes "-" ++ decimal (suc n)
+
+abbrev pub register_text : ℕ → List ℕ
+register_text r = codes "r" ++ decimal r
+
+-- the offset in the section, and the length
+abbrev pub expression_text : UnwindExpression ℕ → List ℕ
+expression_text e = codes "expr@" ++ decimal e.offset ++ codes ":" ++ decimal e.length
+
+abbrev pub cfa_text : CfaRule ℕ → List ℕ
+cfa_text (cfas.RegisterAndOffset r n) = register_text r.0 ++ offset_text n
+cfa_text (cfas.Expression e) = expression_text e
+
+abbrev pub rule_text : RegisterRule ℕ → List ℕ
+rule_text rules.Undefined = codes "undefined"
+rule_text rules.SameValue = codes "same"
+rule_text (rules.Offset n) = codes "offset(" ++ signed_decimal n ++ codes ")"
+rule_text (rules.ValOffset n) = codes "val_offset(" ++ signed_decimal n ++ codes ")"
+rule_text (rules.Register r) = register_text r.0
+rule_text (rules.Expression e) = expression_text e
+rule_text (rules.ValExpression e) = codes "val_" ++ expression_text e
+rule_text rules.Architectural = codes "architectural"
+rule_text (rules.Constant n) = codes "constant(" ++ decimal n ++ codes ")"
+
+abbrev pub ruled : ℕ → Option (RegisterRule ℕ) → List ℕ
+ruled r None = []
+ruled r (Some rule) = codes " " ++ register_text r ++ codes "=" ++ rule_text rule
+
+-- the n registers from r on that have a rule
+unfoldable pub rules_text : ℕ → ℕ → (ℕ → Option (RegisterRule ℕ)) → List ℕ
+rules_text zero r rule_of = []
+rules_text (suc n) r rule_of = ruled r (rule_of r) ++ rules_text n (r + 1) rule_of
+
+-- what stands before the rules
+abbrev pub row_head : Row ℕ → List ℕ
+row_head row =
+    address_text row.start_address ++ codes " " ++ address_text row.end_address ++ codes " cfa=" ++ cfa_text row.parts.cfa
+    ++ codes " args=" ++ decimal row.parts.args_size
+
+-- the rules of all registers, by rising number
+abbrev pub row_rules : Row ℕ → List ℕ
+row_rules row = rules_text 65536 0 (map.get row.parts.rules)
+
+abbrev pub row_text : Row ℕ → List ℕ
+row_text row = row_head row ++ row_rules row
+
+-- ---- refusals
+
+abbrev pub name_of : Error → List ℕ
+name_of (UnexpectedEof place) = codes "UnexpectedEof"
+name_of BadUnsignedLeb128 = codes "BadUnsignedLeb128"
+name_of BadSignedLeb128 = codes "BadSignedLeb128"
+name_of (UnknownReservedLength n) = codes "UnknownReservedLength"
+name_of (UnsupportedAddressSize n) = codes "UnsupportedAddressSize"
+name_of UnsupportedOffset = codes "UnsupportedOffset"
+name_of (UnsupportedRegister n) = codes "UnsupportedRegister"
+name_of AddressOverflow = codes "AddressOverflow"
+name_of (UnknownVersion n) = codes "UnknownVersion"
+name_of (UnsupportedSegmentSize n) = codes "UnsupportedSegmentSize"
+name_of UnknownAugmentation = codes "UnknownAugmentation"
+name_of (UnknownPointerEncoding e) = codes "UnknownPointerEncoding"
+name_of CannotParseOmitPointerEncoding = codes "CannotParseOmitPointerEncoding"
+name_of (UnsupportedPointerEncoding e) = codes "UnsupportedPointerEncoding"
+name_of PcRelativePointerButSectionBaseIsUndefined = codes "PcRelativePointerButSectionBaseIsUndefined"
+name_of TextRelativePointerButTextBaseIsUndefined = codes "TextRelativePointerButTextBaseIsUndefined"
+name_of DataRelativePointerButDataBaseIsUndefined = codes "DataRelativePointerButDataBaseIsUndefined"
+name_of FuncRelativePointerInBadContext = codes "FuncRelativePointerInBadContext"
+name_of UnsupportedIndirectPointer = codes "UnsupportedIndirectPointer"
+name_of (NotCieId n) = codes "NotCieId"
+name_of (NotCiePointer n) = codes "NotCiePointer"
+name_of (NoEntryAtGivenOffset n) = codes "NoEntryAtGivenOffset"
+name_of (OffsetOutOfBounds n) = codes "OffsetOutOfBounds"
+name_of (UnknownCallFrameInstruction opcode) = codes "UnknownCallFrameInstruction"
+name_of CfiInstructionInInvalidContext = codes "CfiInstructionInInvalidContext"
+name_of (InvalidCfiSetLoc n) = codes "InvalidCfiSetLoc"
+name_of StackFull = codes "StackFull"
+name_of PopWithEmptyStack = codes "PopWithEmptyStack"
+name_of TooManyRegisterRules = codes "TooManyRegisterRules"
+name_of NoUnwindInfoForAddress = codes "NoUnwindInfoForAddress"
+name_of OutOfMemory = codes "OutOfMemory"
+
+-- ---- the line, with its line feed, and the status
+
+pub record Line : Type 0 where
+  pub text : List ℕ
+  pub status : ℕ
+
+abbrev pub line : List ℕ → ℕ → Line
+line text status = record { text = text ++ 10 ∷ []; status = status }
+
+abbrev pub answer_line : Result (Row ℕ) Error → Line
+answer_line (Ok row) = line (row_text row) 0
+answer_line (Err e) = line (codes "refused " ++ name_of e) 1
+
+abbrev pub wrong_words : Line
+wrong_words = line (codes "wrong words") 2
+
+abbrev pub wrong_hexadecimal : Line
+wrong_hexadecimal = line (codes "wrong hexadecimal") 2
+
+abbrev pub wrong_input : Line
+wrong_input = line (codes "wrong input") 2

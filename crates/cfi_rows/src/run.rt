@@ -1,0 +1,75 @@
+//! The whole program, over any reader and writer.
+ghost use Rattle.std.specs.Prelude.{◌≡◌, ◌⊎◌, ◌≤◌, ℕ, List, IfSome, IsNone, None, option_map};
+ghost use Rattle.std.specs.Io.KnownBytes.{Appends};
+ghost use Rattle.cfi_rows.specs.Answers.{answers, IsRun, IsOwed, LineOfRequest};
+ghost use Rattle.cfi_rows.specs.Lines.{Line};
+ghost use Rattle.cfi_rows.specs.Words.{CanBeAnswered, asked, texts};
+ghost use Rattle.cfi_rows.specs.Written.{Prints};
+ghost use Rattle.cfi_read_core.specs.Readers.{map_ok};
+ghost use Rattle.cfi_rows.specs.Input.{IsDecoded};
+
+use crate::answer::print_answer;
+use crate::input::{InputError, decode, read_all};
+use crate::line::{write_refusal, write_wrong_hexadecimal, write_wrong_input, write_wrong_words};
+use crate::words::{Request, asked_for};
+use cfi_read_core::Error;
+use std::alloc::Global;
+use std::io;
+use std::io::{Read, Write};
+
+/// Runs the program and answers its status. `words` are those behind the program's name, `None` where they are not
+/// to be had.
+///
+/// One line is printed. Status 0: the row of the address. Status 1: `refused` and a name, of the first refusal, or of
+/// want of memory. Status 2: `wrong words`, `wrong hexadecimal` or `wrong input`, or the output can't be written.
+/// The words are judged before the input is read, and the input is read to its end before it is decoded.
+///
+/// Memory is taken for the input, for the decoded bytes and for the unwind. The line takes none.
+pub fn run<R: Read, W: Write>(
+    alloc: Global,
+    words: Option<&[&str]>,
+    input: &mut R,
+    output: &mut W,
+) -> u8
+    ensures printed { IfSome (R.remaining input.old) (λ bytes. (written : List ℕ)
+        × Appends (W.contents output.old) (W.contents output.new) written
+        × IsRun answers (option_map (λ list. texts list.now) words.entry) bytes written result) }
+    ensures unread { IsNone (asked (option_map (λ list. texts list.now) words.entry)) → input.new ≡ input.old }
+{
+    let printed = print_line(alloc, asked_for(words), input, output);
+    let flushed = output.flush();
+    match (printed, flushed) {
+        (Ok(status), Ok(())) => status,
+        _ => 2,
+    }
+}
+
+fn print_line<R: Read, W: Write>(
+    alloc: Global,
+    request: Option<Request>,
+    input: &mut R,
+    output: &mut W,
+) -> io::Result<u8>
+    requires { IfSome request CanBeAnswered }
+    ensures printed { IfSome (R.remaining input.old) (λ bytes. (printed : Line)
+        × Prints printed (W.contents output.old) (W.contents output.new) result
+        × IsOwed answers request bytes printed) }
+    ensures unread { IsNone request → input.new ≡ input.old }
+{
+    let Some(request) = request else {
+        return write_wrong_words(output);
+    };
+    match section_bytes(alloc, input) {
+        Ok(section) => print_answer(alloc, &request, section.as_slice(), output),
+        Err(InputError::Unreadable) => write_wrong_input(output),
+        Err(InputError::NotHexadecimal) => write_wrong_hexadecimal(output),
+        Err(InputError::OutOfMemory) => write_refusal(output, Error::OutOfMemory),
+    }
+}
+
+fn section_bytes<R: Read>(alloc: Global, input: &mut R) -> Result<Vec<u8>, InputError>
+    ensures { IfSome (R.remaining input.old) (λ bytes. IsDecoded bytes (map_ok (λ section. section.items) result)) }
+{
+    let text = read_all(alloc, input)?;
+    decode(alloc, text)
+}
