@@ -22,7 +22,7 @@ pub copies_held-none : (T : Type 0) → 0 ≡ copies_held {T = T} (Some empty)
 copies_held-none T = rw (len-empty nat_cmp (RegisterRule T)) refl
 
 module _ {T : Type 0} where
-  len-one : (register : Register) (rule : RegisterRule T) → len (insert {R = nat_cmp} empty register.0 rule) ≡ 1
+  pub len-one : (register : Register) (rule : RegisterRule T) → len (insert {R = nat_cmp} empty register.0 rule) ≡ 1
   len-one register rule =
       len-insert nat_cmp_total empty register.0 rule
       ∙ rw (get-empty nat_cmp register.0, len-empty nat_cmp (RegisterRule T)) refl

@@ -36,7 +36,7 @@ module _ {X : Type 0} (E : X → X → Bool) where
   both_some None (Some y) f g = let no = g refl in cc
   both_some (Some x) q f g = f refl
 
-  from_map_eq : (a b : FinMap nat_cmp X) → map_eq E a b ≡ true → (r : ℕ) → option_eq E (get a r) (get b r) ≡ true
+  pub from_map_eq : (a b : FinMap nat_cmp X) → map_eq E a b ≡ true → (r : ℕ) → option_eq E (get a r) (get b r) ≡ true
   from_map_eq a b same r =
       both_some (get a r) (get b r)
       (λ has. at_key (λ q. option_eq E (get a q) (get b q)) r (keys a) (sym (contains_key-keys a r) ∙ has) (first_so (is_within E a b) (is_within E b a) same))
@@ -97,7 +97,7 @@ module _ {T : Type 0} {eq : T → T → Bool} (e : IsEquivalence eq) where
   rule_refl rule.Architectural = refl
   rule_refl (rule.Constant x) = nat_eq_equiv.refl x
 
-  rule_symm : (a b : RegisterRule T) → rule_eq eq a b ≡ rule_eq eq b a
+  pub rule_symm : (a b : RegisterRule T) → rule_eq eq a b ≡ rule_eq eq b a
   rule_symm rule.Undefined rule.Undefined = refl
   rule_symm rule.SameValue rule.SameValue = refl
   rule_symm rule.Architectural rule.Architectural = refl

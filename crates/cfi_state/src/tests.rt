@@ -78,7 +78,7 @@ fn remembered_rows_are_counted(rt: HostRuntime) -> std::result::Result<(), Fail>
     );
     assert_eq!(rt; current_row(&context).registers().count(), 2);
     let copy = context.try_clone(rt.alloc())?;
-    assert!(rt; *current_row(&copy) == *current_row(&context));
+    assert!(rt; copy == context);
     reset(&mut context);
     assert_eq!(rt; current_row(&context).registers().count(), 0);
     Ok(())

@@ -1,6 +1,9 @@
 //! The state of an unwind that is kept from one entry to the next.
-ghost use Rattle.std.specs.Prelude.{◌≡◌, ◌≤◌, None, IfOk, IfErr, false};
+ghost use Rattle.std.specs.Prelude.{◌≡◌, ◌≤◌, None, IfOk, IfErr, false, reverse};
+ghost use Rattle.std.specs.Option.{option_eq};
+ghost use Rattle.std.specs.Cmp.{partial_equiv_from_equiv};
 ghost use Rattle.cfi_state.specs.Context.{KeepsRules};
+ghost use Rattle.cfi_state.specs.Equality.{kept_eq};
 
 use super::row::UnwindTableRow;
 use super::rules::{CfaRule, RegisterRule, RegisterRuleMap, refusal_of};
@@ -251,6 +254,74 @@ impl<T: ReaderOffset, S: UnwindContextStorage<T>> UnwindContext<T, S> {
             InitialRules::OneRule(only, rule) => Ok((register == only).then_some(rule)),
             InitialRules::AtTheBottom => Ok(self.stack.as_slice()[0].register(register)),
         }
+    }
+}
+
+/// Contexts are equal whose rows are equal one by one, and of which both or neither have ended a CIE, with equal rules.
+impl<T: ReaderOffset, S: UnwindContextStorage<T>> PartialEq for UnwindContext<T, S> {
+    ghost use Rattle.cfi_state.specs.Equality.{context_eq};
+    ghost use Rattle.cfi_state.specs.EqualityLaws.{context_equiv};
+
+    ghost eq = { context_eq T.eq };
+
+    ghost laws = { partial_equiv_from_equiv (context_equiv T.Eq.laws) };
+
+    fn eq(&self, other: &Self) -> bool {
+        if self.row != other.row {
+            return false;
+        }
+        if self.remembered() != other.remembered() {
+            return false;
+        }
+        self.has_initial_rules_of(other)
+    }
+}
+
+impl<T: ReaderOffset, S: UnwindContextStorage<T>> Eq for UnwindContext<T, S> {
+    ghost use Rattle.cfi_state.specs.EqualityLaws.{context_equiv};
+
+    ghost laws = { context_equiv T.Eq.laws };
+}
+
+impl<T: ReaderOffset, S: UnwindContextStorage<T>> UnwindContext<T, S> {
+    ghost use Rattle.cfi_state.specs.Equality.{rules_eq};
+
+    // The remembered rows, the last one last.
+    fn remembered(&self) -> &[UnwindTableRow<T, S::Rules>]
+        ensures { reverse result.now ≡ self.now.remembered }
+    {
+        let hidden = self.hidden_rows();
+        &self.stack.as_slice()[hidden..]
+    }
+
+    // Whether both or neither have ended a CIE, with equal rules.
+    fn has_initial_rules_of(&self, other: &Self) -> bool
+        ensures { result ≡ option_eq (rules_eq T.eq) self.now.initial_rules other.now.initial_rules }
+    {
+        if !is_kept_alike(self.initial_rules, other.initial_rules) {
+            return false;
+        }
+        let InitialRules::AtTheBottom = self.initial_rules else {
+            return true;
+        };
+        let row = &self.stack.as_slice()[0];
+        let others = &other.stack.as_slice()[0];
+        row.rules() == others.rules()
+    }
+}
+
+// Whether two contexts keep the rules in the same place, and the same rule where it is one.
+fn is_kept_alike<T: ReaderOffset>(a: InitialRules<T>, b: InitialRules<T>) -> bool
+    ensures { result ≡ kept_eq T.eq a b }
+{
+    match a {
+        InitialRules::NotYet => matches!(b, InitialRules::NotYet),
+        InitialRules::NoRule => matches!(b, InitialRules::NoRule),
+        InitialRules::OneRule(register, rule) => match b {
+            InitialRules::OneRule(other, others) => register == other && rule == others,
+            _ => false,
+        },
+        InitialRules::AtTheBottom => matches!(b, InitialRules::AtTheBottom),
     }
 }
 

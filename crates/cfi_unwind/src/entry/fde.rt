@@ -107,15 +107,16 @@ pub(crate) fn read_fde<R: Reader, S: _UnwindSectionPrivate<R>>(
         Some(known) => known.fde_address_encoding,
         None => None,
     };
+    let address_size = cie.address_size;
     let (initial_address, address_range) = read_addresses(
         context,
-        cie.address_size,
+        address_size,
         encoding,
         &mut input,
     )?;
     let lsda = read_lsda(
         context,
-        cie.address_size,
+        address_size,
         initial_address,
         cie.augmentation,
         &mut input,
