@@ -24,7 +24,7 @@ use Rattle.cfi_state.specs.Rows.{row_contains, fde_answer}
 use Rattle.cfi_state.specs.Limit.{IsFixed}
 use Rattle.cfi_state.proofs.NumberedRuns.{step_ok-mapped, end_ok-mapped, step_refusal-mapped, end_refusal-mapped}
 use Rattle.cfi_state.proofs.NumberedSteps.{is_move-mapped, fresh-mapped}
-use Rattle.cfi_state.proofs.RunSteps.{LeadsTo, leads-on, next-row, next-refused, next-unreadable, next-last, LeadsToCie, cie-leads-on, cie-refused, cie-unreadable, cie-ended, cie-end-refused}
+use Rattle.cfi_state.proofs.RunSteps.{LeadsTo, leads-on, next-row, LeadsToCie, cie-leads-on, cie-refused, cie-unreadable, cie-ended, cie-end-refused}
 use Rattle.cfi_state.proofs.KeptAnswers.{keeps_next, keeps_cie, answers_by_kept, answers_by_kept_is}
 use Rattle.cfi_state.proofs.StandsBehind.{stands_fresh}
 use Rattle.cfi_state.proofs.FixedStorage.{fixed_never}
@@ -93,8 +93,9 @@ module _ {T : Type 0} (number : T → ℕ) where
       pub row-refused : (e : Error) → answer ≡ Err e → NextAnswer (wants_memory s free) s first (Err e) (going (seen number location new) rest)
       row-refused e is =
           let refusal = subst (λ r. Evaluates s free location i old new r) is evaluated in
-          next-refused (wants_memory s free) s first _ left leads (map_instruction number i) rest reads (seen number location new) e
-          (step_refusal-mapped number s free (state_of location old) i e refusal.1) (ap (seen number location) refusal.0)
+          subst (λ c. NextAnswer (wants_memory s free) s first (Err e) (going (seen number location c) rest)) (sym refusal.0)
+          (leads (Err e) (going (seen number location old) rest) (subst (λ l. NextAnswer (wants_memory s free) s (going (seen number location old) l) (Err e) (going (seen number location old) rest)) (sym reads)
+          (refuses (seen number location old) (map_instruction number i) rest e (step_refusal-mapped number s free (state_of location old) i e refusal.1))))
 
     -- ---- as part of a CIE's program
 
@@ -128,15 +129,20 @@ module _ {T : Type 0} (number : T → ℕ) where
 -- the loops' ends
 module _ {T : Type 0} (number : T → ℕ) (given : Result (Option (CallFrameInstruction T)) Error) (before after : Readings Instruction) (met : Meets (map_instruction number) given before after) where
   module _ (wants : Wants ℕ) (s : Setting) (first : Place (State ℕ) ℕ) (location : ℕ) (context : ContextState T) (leads : LeadsTo wants s first (going (seen number location context) before)) where
+    comes-next : (left : Readings Instruction) (answer : Result (Option (Row ℕ)) Error) (q : Readings Instruction → Place (State ℕ) ℕ) → before ≡ left → after ≡ no_values None → NextAnswer wants s (going (seen number location context) left) answer (q (no_values None)) → NextAnswer wants s first answer (q after)
+    comes-next left answer q was is next =
+        subst (λ l. NextAnswer wants s first answer (q l)) (sym is)
+        (leads answer (q (no_values None)) (subst (λ l. NextAnswer wants s (going (seen number location context) l) answer (q (no_values None))) (sym was) next))
+
     pub row-unreadable : (e : Error) → given ≡ Err e → NextAnswer wants s first (Err e) (going (seen number location context) after)
     row-unreadable e is =
         let nothing = reads-refusal number given before after met e is in
-        next-unreadable wants s first _ before leads after e nothing.0 nothing.1
+        comes-next (no_values (Some e)) (Err e) (going (seen number location context)) nothing.0 nothing.1 (cannot_read (seen number location context) e)
 
     pub row-last : given ≡ Ok None → NextAnswer wants s first (row_due number s location context (Ok None)) (place_behind number location context after (Ok None))
     row-last is =
         let nothing = reads-none number given before after met is in
-        next-last wants s first _ before leads after nothing.0 nothing.1
+        comes-next (no_values None) (row_due number s location context (Ok None)) (ended (seen number location context)) nothing.0 nothing.1 (last_row (seen number location context))
 
   pub cie-unread : (wants : Wants ℕ) (s : Setting) (all : Readings Instruction) (x : State ℕ) → LeadsToCie wants s fresh_state all x before → (e : Error) → given ≡ Err e → RunsCie wants s fresh_state all (Err e)
   cie-unread wants s all x leads e is = cie-unreadable wants s fresh_state all x before leads e (reads-refusal number given before after met e is).0

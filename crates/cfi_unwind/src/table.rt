@@ -39,6 +39,7 @@ struct SizedParameters {
 /// The rows are made in an unwind context, from which each is lent until the next call. Nothing is copied, and no memory is
 /// taken but by lists of the context without a limit, and by a storage whose copies of rows take memory.
 #[derive(Drop)]
+#[derive_where(Debug)]
 pub struct UnwindTable<'a, 'ctx, R: Reader, S: UnwindContextStorage<R::Offset> = StoreOnHeap> {
     parameters: SizedParameters,
     instructions: CallFrameInstructionIter<'a, R>,

@@ -1,0 +1,10 @@
+//! Tests that cross crates: readings, instructions, entries and rows, whose answers stand in the standards or were
+//! worked out by hand.
+#![tactic(auto)]
+
+#[cfg(test)]
+mod instructions;
+#[cfg(test)]
+mod reads;
+#[cfg(test)]
+mod sections;

@@ -1,0 +1,156 @@
+//! Numbers and texts over both readers.
+use cfi_read_core::common::Format;
+use cfi_read_core::{
+    BigEndian, EndianSlice, Error, LittleEndian, NarrowSlice, Reader, ReaderAddress,
+    ReaderOffsetId, Register, RunTimeEndian,
+};
+use std::test::Fail;
+
+/// What an unsigned LEB128 number gives, and the place behind it.
+fn uleb128<R: Reader>(reader: R) -> (Result<u64, Error>, u64) {
+    let mut reader = reader;
+    let read = reader.read_uleb128();
+    (read, place(&reader))
+}
+
+/// The same of a signed one.
+fn sleb128<R: Reader>(reader: R) -> (Result<i64, Error>, u64) {
+    let mut reader = reader;
+    let read = reader.read_sleb128();
+    (read, place(&reader))
+}
+
+fn place<R: Reader>(reader: &R) -> u64 {
+    use cfi_read_core::ReaderOffset;
+    reader.place().into_u64()
+}
+
+fn ended(place: u64) -> Error {
+    Error::UnexpectedEof(ReaderOffsetId(place))
+}
+
+#[test]
+fn unsigned_leb128(rt: HostRuntime) -> Result<(), Fail> {
+    // The examples of DWARF 5 section 7.6, padding, and the greatest number.
+    let numbers: [(&[u8], Result<u64, Error>, u64); 9] = [
+        (&[2], Ok(2), 1),
+        (&[127], Ok(127), 1),
+        (&[0x80, 1], Ok(128), 2),
+        (&[0xb9, 0x64], Ok(12857), 2),
+        (&[0x90, 0x80, 0x00], Ok(16), 3),
+        (
+            &[0xff, 0xff, 0xff, 0xff, 0xff, 0xff, 0xff, 0xff, 0xff, 1],
+            Ok(u64::MAX),
+            10,
+        ),
+        (
+            &[0x80, 0x80, 0x80, 0x80, 0x80, 0x80, 0x80, 0x80, 0x80, 2],
+            Err(Error::BadUnsignedLeb128),
+            10,
+        ),
+        (&[0x80, 0x80], Err(ended(2)), 2),
+        (&[], Err(ended(0)), 0),
+    ];
+    for (bytes, read, behind) in numbers {
+        assert_eq!(rt;
+            uleb128(EndianSlice::new(bytes, LittleEndian)),
+            (read, behind)
+        );
+        assert_eq!(rt;
+            uleb128(NarrowSlice::new(bytes, BigEndian)?),
+            (read, behind)
+        );
+    }
+    Ok(())
+}
+
+#[test]
+fn signed_leb128(rt: HostRuntime) -> Result<(), Fail> {
+    let numbers: [(&[u8], Result<i64, Error>, u64); 10] = [
+        (&[2], Ok(2), 1),
+        (&[0x7e], Ok(-2), 1),
+        (&[0xff, 0], Ok(127), 2),
+        (&[0x81, 0x7f], Ok(-127), 2),
+        (&[0x80, 1], Ok(128), 2),
+        (&[0x80, 0x7f], Ok(-128), 2),
+        (&[0x85, 0x80, 0x80, 0x00], Ok(5), 4),
+        (
+            &[0x80, 0x80, 0x80, 0x80, 0x80, 0x80, 0x80, 0x80, 0x80, 0x7f],
+            Ok(i64::MIN),
+            10,
+        ),
+        (
+            &[0x80, 0x80, 0x80, 0x80, 0x80, 0x80, 0x80, 0x80, 0x80, 1],
+            Err(Error::BadSignedLeb128),
+            10,
+        ),
+        (&[0xff], Err(ended(1)), 1),
+    ];
+    for (bytes, read, behind) in numbers {
+        assert_eq!(rt;
+            sleb128(EndianSlice::new(bytes, LittleEndian)),
+            (read, behind)
+        );
+        assert_eq!(rt;
+            sleb128(NarrowSlice::new(bytes, RunTimeEndian::Big)?),
+            (read, behind)
+        );
+    }
+    Ok(())
+}
+
+#[test]
+fn lengths_and_fixed_widths(rt: HostRuntime) -> Result<(), Fail> {
+    let bytes = [0xff, 0xff, 0xff, 0xff, 1, 0, 0, 0, 0, 0, 0, 0, 0x12, 0x34];
+    let mut reader = EndianSlice::new(&bytes, LittleEndian);
+    assert_eq!(rt; reader.read_initial_length(), Ok((1, Format::Dwarf64)));
+    let mut big = EndianSlice::new(&bytes[12..], BigEndian);
+    assert_eq!(rt; big.read_u16(), Ok(0x1234));
+    assert_eq!(rt; reader.read_u16(), Ok(0x3412));
+    assert_eq!(rt; reader.read_u8(), Err(ended(14)));
+    let mut reserved = EndianSlice::new(&[0xf5, 0xff, 0xff, 0xff], LittleEndian);
+    let refused = reserved.read_initial_length();
+    assert_eq!(rt; refused, Err(Error::UnknownReservedLength(0xffff_fff5)));
+    assert_eq!(rt; reserved.place(), 4);
+    let mut negative = EndianSlice::new(&[0xfe, 0xff, 0xff, 0xff], LittleEndian);
+    assert_eq!(rt; negative.read_i32(), Ok(-2));
+    Ok(())
+}
+
+#[test]
+fn texts_parts_and_places(rt: HostRuntime) -> Result<(), Fail> {
+    let mut reader = EndianSlice::new(b"zR\x00x", LittleEndian);
+    let text = reader.read_null_terminated_slice()?;
+    assert_eq!(rt; text.slice(), b"zR".as_slice());
+    assert_eq!(rt; reader.place(), 3);
+    assert_eq!(rt; reader.read_null_terminated_slice(), Err(ended(3)));
+    assert_eq!(rt; reader.place(), 3);
+    assert_eq!(rt; reader.split(2), Err(ended(3)));
+    assert_eq!(rt; reader.skip(1), Ok(()));
+    assert!(rt; reader.is_empty());
+    let mut sizes = EndianSlice::new(&[8, 3], LittleEndian);
+    assert_eq!(rt; sizes.read_address_size(), Ok(8));
+    assert_eq!(rt;
+        sizes.read_address_size(),
+        Err(Error::UnsupportedAddressSize(3))
+    );
+    assert_eq!(rt; sizes.place(), 2);
+    Ok(())
+}
+
+#[test]
+fn sums_and_registers(rt: HostRuntime) -> Result<(), Fail> {
+    assert_eq!(rt;
+        0xffff_fff0_u64.add_sized(0x10, 4),
+        Err(Error::AddressOverflow)
+    );
+    assert_eq!(rt; 0xffff_fff0_u64.add_sized(0xf, 4), Ok(0xffff_ffff));
+    assert_eq!(rt; 0xffff_fff0_u64.wrapping_add_sized(0x20, 4), 0x10);
+    assert_eq!(rt; u64::MAX.add_sized(1, 8), Err(Error::AddressOverflow));
+    assert_eq!(rt; Register::from_u64(65535), Ok(Register(65535)));
+    assert_eq!(rt;
+        Register::from_u64(65536),
+        Err(Error::UnsupportedRegister(65536))
+    );
+    Ok(())
+}
