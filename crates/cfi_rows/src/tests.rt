@@ -625,20 +625,14 @@ fn ends_at_a_failed_write(rt: HostRuntime) {
             calls,
             kind: ErrorKind::Other,
         };
-        assert_eq!(rt;
-            run(rt.alloc(), Some(words), &mut input, &mut output),
-            2
-        );
+        assert_eq!(rt; run(rt.alloc(), Some(words), &mut input, &mut output), 2);
         let mut input: &[u8] = b"";
         let mut output = RefusesAt {
             taken: 0,
             calls,
             kind: ErrorKind::Interrupted,
         };
-        assert_eq!(rt;
-            run(rt.alloc(), Some(words), &mut input, &mut output),
-            1
-        );
+        assert_eq!(rt; run(rt.alloc(), Some(words), &mut input, &mut output), 1);
         assert_eq!(rt; output.taken, REFUSED.len() + 1);
     }
 }

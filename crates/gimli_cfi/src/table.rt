@@ -6,15 +6,14 @@ ghost use Rattle.cfi_state.specs.Numbered.{map_row};
 ghost use Rattle.cfi_unwind.specs.Sections.{section_of};
 ghost use Rattle.cfi_unwind.specs.Answers as answers;
 
-pub use cfi_state::table::context::UnwindContext;
-pub use cfi_state::table::row::UnwindTableRow;
-pub use cfi_state::table::rules::{CfaRule, RA_SIGN_STATE, RegisterRule, RegisterRuleIter};
-pub use cfi_unwind::table::UnwindTable;
-
 use cfi_parts::pointer::BaseAddresses;
 use cfi_read_core::{Reader, Result};
 use cfi_state::storage::UnwindContextStorage;
+pub use cfi_state::table::context::UnwindContext;
+pub use cfi_state::table::row::UnwindTableRow;
+pub use cfi_state::table::rules::{CfaRule, RA_SIGN_STATE, RegisterRule, RegisterRuleIter};
 use cfi_unwind::section::{UnwindSection, fde_by_scan_of};
+pub use cfi_unwind::table::UnwindTable;
 
 /// The unwind row of the address in the section, lent from the context.
 ///
@@ -26,12 +25,7 @@ use cfi_unwind::section::{UnwindSection, fde_by_scan_of};
 ///
 /// The bases are those of the pointers in the section's entries. Over a fixed storage it takes no memory; over another
 /// one an instruction that needs more room may be refused with `OutOfMemory`.
-pub fn row_by_scan<
-    'ctx,
-    R: Reader,
-    Section: UnwindSection<R>,
-    S: UnwindContextStorage<R::Offset>,
->(
+pub fn row_by_scan<'ctx, R: Reader, Section: UnwindSection<R>, S: UnwindContextStorage<R::Offset>>(
     section: &Section,
     bases: &BaseAddresses,
     ctx: &'ctx mut UnwindContext<R::Offset, S>,

@@ -10,7 +10,9 @@ ghost use Rattle.cfi_parts.specs.Frames.{DebugFrame as debug_frame};
 use crate::section::UnwindSection;
 use cfi_parts::section::{_UnwindSectionPrivate, CieOffsetEncoding};
 use cfi_read_core::address::AddressSize;
-use cfi_read_core::{DebugFrameOffset, EndianSlice, Endianity, Format, Reader, Section, SectionId, Vendor};
+use cfi_read_core::{
+    DebugFrameOffset, EndianSlice, Endianity, Format, Reader, Section, SectionId, Vendor,
+};
 
 /// The section `.debug_frame` (DWARF 5 section 6.4.1).
 ///

@@ -10,7 +10,9 @@ ghost use Rattle.cfi_parts.specs.Frames.{EhFrame as eh_frame};
 use crate::section::UnwindSection;
 use cfi_parts::section::{_UnwindSectionPrivate, CieOffsetEncoding};
 use cfi_read_core::address::AddressSize;
-use cfi_read_core::{EhFrameOffset, EndianSlice, Endianity, Format, Reader, ReaderOffset, Section, SectionId, Vendor};
+use cfi_read_core::{
+    EhFrameOffset, EndianSlice, Endianity, Format, Reader, ReaderOffset, Section, SectionId, Vendor,
+};
 
 /// The section `.eh_frame` (LSB Core, "The .eh_frame section").
 ///
