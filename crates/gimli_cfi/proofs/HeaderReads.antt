@@ -1,13 +1,11 @@
--- The reads of a header and of its rows never go back, and an encoding stands for itself where it has neither
--- application nor indirection.
-use Rattle.std.proofs.Common.{◌≡◌, ◌≢◌, ◌≤◌, ◌<◌, ◌+◌, ◌*◌, ◌/◌, ◌%◌, ℕ, Bool, true, false, not, Option, Some, None, refl, sym, ap, ◌∙◌, arith}
-use Rattle.std.proofs.lemmas.Bool.{eqb-true, eq-eqb}
-use borrow.Author.Tests.{le-leb, lt-leb}
-use Rattle.std.specs.Prelude.{◌==◌, ◌||◌, nat_le, if◌then◌else◌}
-use Rattle.cfi_read_core.specs.Reading.{Read, ◌>>=◌, give, refuse, refuse_if}
+-- The reads of a header and of its rows never go back.
+use Rattle.std.proofs.Common.{ℕ, refl, arith}
+use Rattle.std.specs.Prelude.{◌||◌}
+use Rattle.cfi_read_core.specs.Reading.{Standing, give, refuse_if}
+use Rattle.cfi_read_core.specs.Readers.{IsSound}
 use Rattle.cfi_read_core.specs.Encodings.{is_omitted}
-use Rattle.cfi_read_core.proofs.Onward.{IsOnward, onward_give, onward_refuse, onward_refuse_if, onward_if, onward_bind}
-use Rattle.cfi_parts.specs.declared.pointer.Pointer.{Pointer}
+use Rattle.cfi_parts.specs.Frames.{IsOf}
+use Rattle.cfi_read_core.proofs.Onward.{IsOnward, onward_give, onward_refuse_if, onward_if, onward_bind}
 use Rattle.cfi_parts.specs.Pointers.{PointerContext, formatted, pointer}
 use Rattle.cfi_parts.proofs.InstructionLemmas.{onward_formatted, onward_pointer}
 use Rattle.gimli_cfi.specs.Headers.{has_base, row_by, row_count}
@@ -24,27 +22,6 @@ onward_row context encoding =
     onward_bind (pointer encoding context) _ (onward_pointer encoding context) (λ start.
     onward_bind (pointer encoding context) (λ target. give (start, target)) (onward_pointer encoding context) (λ target. onward_give (start, target)))
 
--- ---- encodings without application and indirection
-
-neither : (a b : Bool) → a ≡ true → b ≡ false → (not a || b) ≡ false
-neither true false e f = refl
-neither true true e f = absurd (cc)
-neither false b e f = absurd (cc)
-
-either_one : (a b : Bool) → (a ≡ true → b ≡ true) → (not a || b) ≡ true
-either_one false b f = refl
-either_one true b f = f refl
-
-pub stands_alone : (e : ℕ) → e ≡ e % 16 → has_base e ≡ false
-stands_alone e h =
-    let below : e < 16 = omega arith in
-    let none : e / 16 % 8 ≡ 0 = omega arith in
-    neither (e / 16 % 8 == 0) (nat_le 0x80 e) (eq-eqb _ _ none) (lt-leb _ _ (omega arith))
-
-pub stands_on_base : (e : ℕ) → e < 256 → e ≢ e % 16 → has_base e ≡ true
-stands_on_base e small h =
-    let above : 16 ≤ e = omega arith in
-    either_one (e / 16 % 8 == 0) (nat_le 0x80 e) (λ none.
-    let no_application : e / 16 % 8 ≡ 0 = eqb-true _ _ none in
-    let indirect : 128 ≤ e = omega arith in
-    le-leb _ _ indirect)
+-- a reader is of the section that it reads from its beginning
+pub whole_of : {s : Standing} → IsSound s → IsOf s s
+whole_of sound = record { source = refl; first = omega arith; last = omega arith }

@@ -1,11 +1,10 @@
 -- Going through the rows of a table, a step at a time; it takes as many steps as there are rows.
-use Rattle.std.proofs.Common.{◌≡◌, ◌≤◌, ◌<◌, ◌+◌, ◌-◌, ℕ, zero, suc, Bool, true, false, List, [], ◌∷◌, length, Option, Some, None, Result, Ok, Err, refl, sym, ap, ◌∙◌, arith}
-use Rattle.std.specs.Prelude.{◌==◌}
+use Rattle.std.proofs.Common.{◌≡◌, ◌+◌, ℕ, zero, suc, [], ◌∷◌, length, Result, refl, sym, ap, ◌∙◌, arith}
 use Rattle.cfi_read_core.specs.declared.error.Error.{Error}
-use Rattle.cfi_read_core.specs.Reading.{Source, Standing, Outcome, Read, ◌>>=◌, carry_on, give}
+use Rattle.cfi_read_core.specs.Reading.{Source, Standing, Outcome}
 use Rattle.cfi_parts.specs.declared.pointer.Pointer.{Pointer}
 use Rattle.gimli_cfi.specs.Headers.{HeaderSection, row}
-use Rattle.gimli_cfi.specs.Rows.{Walk, next_row, rows_from, rows_left}
+use Rattle.gimli_cfi.specs.Rows.{Walk, rows_from, rows_left}
 
 pub as_many : (section : HeaderSection) (encoding n : ℕ) (source : Source) (place : ℕ) → length (rows_from section encoding n source place) ≡ n
 unfolding rows_from
@@ -20,10 +19,6 @@ pub none_left : (section : HeaderSection) (encoding n : ℕ) (s : Standing) → 
 unfolding rows_from
 none_left section encoding n s e = ap (λ (m : ℕ). rows_from section encoding m s.source s.place) e
 
-pub none_read : (walk : Walk) (source : Source) (place : ℕ) → walk.count ≡ 0 → next_row walk source place ≡ record { value = Ok None; place = place }
-unfolding next_row
-none_read walk source place e = rw e refl
-
 -- the first of those that remain, given or refused
 module _ (section : HeaderSection) (encoding : ℕ) (old new : Standing) (v : Result (Pointer × Pointer) Error) (read : row section encoding old.source old.place ≡ record { value = v; place = new.place }) where
   behind_suc : (m : ℕ) → new.source ≡ old.source → rows_from section encoding (suc m) old.source old.place ≡ v ∷ rows_from section encoding m new.source new.place
@@ -36,11 +31,3 @@ module _ (section : HeaderSection) (encoding : ℕ) (old new : Standing) (v : Re
   first_left n m e same =
       let e' : n ≡ suc m = omega arith in
       ap (λ (k : ℕ). rows_from section encoding k old.source old.place) e' ∙ behind_suc m same
-
-  first_by : (n : ℕ) (b : Bool) → (n == 0) ≡ b → b ≡ false → next_row (walk_at section encoding n old) old.source old.place ≡ carry_on (λ found. give (Some found)) old.source v new.place
-  unfolding next_row
-  first_by n true e f = absurd (cc)
-  first_by n false e f = rw e (ap (λ (o : Outcome (Pointer × Pointer)). carry_on (λ found. give (Some found)) old.source o.value o.place) read)
-
-  pub first_read : (n : ℕ) → (n == 0) ≡ false → next_row (walk_at section encoding n old) old.source old.place ≡ carry_on (λ found. give (Some found)) old.source v new.place
-  first_read n e = first_by n false e refl

@@ -1,7 +1,7 @@
 -- Going through the rows of a header table, one behind the other (LSB Core, "The .eh_frame_hdr section").
 use Rattle.std.specs.Prelude.{ℕ, zero, suc, ◌-◌, List, [], ◌∷◌, Option, Some, None, Result, Ok, Err, ◌≡◌, ◌+◌, ◌==◌, if◌then◌else◌}
 use Rattle.cfi_read_core.specs.declared.error.Error.{Error}
-use Rattle.cfi_read_core.specs.Reading.{Read, Source, Standing, Outcome, ◌>>=◌, give}
+use Rattle.cfi_read_core.specs.Reading.{Read, Source, Standing, ◌>>=◌, give}
 use Rattle.cfi_parts.specs.declared.pointer.Pointer.{Pointer}
 use Rattle.gimli_cfi.specs.Headers.{HeaderSection, Table, row}
 

@@ -71,6 +71,7 @@ impl<R: Reader> EhFrameHdr<R> {
     /// neither the count nor the rows are omitted, with `UnsupportedPointerEncoding` for a count that is relative or
     /// indirect, and as `parse_encoded_value` for the count; and with `UnexpectedEof` wherever the bytes end. It takes
     /// no memory.
+    #[tactic(auto, unfolding(crate::specs::Headers::header_fields))]
     pub fn parse(&self, bases: &BaseAddresses, address_size: u8) -> Result<ParsedEhFrameHdr<R>>
         requires { IsAddressSize address_size }
         ensures read { map_ok (header_view R.standing) result ≡ header_of (header_section (R.standing self.now.0) address_size bases.now.eh_frame_hdr) }

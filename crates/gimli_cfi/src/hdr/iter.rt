@@ -46,6 +46,7 @@ impl<'a, 'bases, R: Reader> EhHdrTableIter<'a, 'bases, R> {
     ///
     /// A row may be refused, as `parse_encoded_pointer` for its start and then its target. It counts as a row: there is
     /// one fewer behind it, which is read from where the refused read left the reader. It takes no memory.
+    #[tactic(auto, unfolding(crate::specs::Rows::next_row))]
     pub fn next(&mut self) -> Result<Option<(Pointer, Pointer)>>
         ensures read { Reads (λ found. found) (next_row (walk_view R.standing self.old)) (R.standing self.old.table) result (R.standing self.new.table) }
         ensures met { Meets result (walk_view R.standing self.old) (walk_view R.standing self.new) }
