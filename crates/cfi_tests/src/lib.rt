@@ -5,6 +5,8 @@
 #[cfg(test)]
 mod entries;
 #[cfg(test)]
+mod headers;
+#[cfg(test)]
 mod instructions;
 #[cfg(test)]
 mod reads;

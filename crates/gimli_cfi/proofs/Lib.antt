@@ -3,6 +3,8 @@ pub mod Halving
 pub mod Rising
 pub mod Agreement
 pub mod Computing
+pub mod HeaderReads
+pub mod RowWalk
 pub mod WorkedEntries
 pub mod WorkedTable
 pub mod WorkedRows

@@ -17,6 +17,7 @@ use Rattle.cfi_unwind.specs.Entries.{Entry, CieEntry, FdeEntry, entries, cie_at,
 use Rattle.cfi_unwind.specs.Programs.{cie_instructions, fde_instructions}
 use Rattle.cfi_unwind.specs.Scan.{chosen}
 use Rattle.gimli_cfi.specs.Headers.{HeaderSection, Header, Table, header_of, row, start_of, target_of, offset_of_pointer}
+use Rattle.gimli_cfi.specs.Rows.{rows_left, walk_of}
 use Rattle.gimli_cfi.specs.Steps.{steps}
 use Rattle.gimli_cfi.specs.Tables.{fde_by_row}
 use Rattle.gimli_cfi.proofs.Computing.{computing, debug_frame, eh_frame, section_at, narrow, header_at, three, three_header, three_rows}
@@ -189,6 +190,20 @@ three_header_read = refl
 three_rows_walked : row three_header 0x3b three_header.source 12 ≡ record { value = Ok (Direct 0x1000, Direct 0x2018); place = 20 }
 unfolding computing
 three_rows_walked = refl
+
+three_rows_left : rows_left (walk_of three_header three_rows) ≡ Ok (Direct 0x1000, Direct 0x2018) ∷ Ok (Direct 0x1010, Direct 0x202c) ∷ Ok (Direct 0x1020, Direct 0x2040) ∷ []
+unfolding computing
+three_rows_left = refl
+
+-- the bytes of the fourth row aren't there
+one_row_missing : rows_left (walk_of three_header (record three_rows { count = 4 })) ≡ Ok (Direct 0x1000, Direct 0x2018) ∷ Ok (Direct 0x1010, Direct 0x202c) ∷ Ok (Direct 0x1020, Direct 0x2040) ∷ Err (ended 36) ∷ []
+unfolding computing
+one_row_missing = refl
+
+-- the start of the second row is refused behind its ten bytes, and the third row begins there
+refused_row : rows_left (walk_of (header_at None 1 (codes "01 02 80808080808080808002 05 06 07")) (record { encoding = 0x01; count = 3; rows = record { first = 0; last = 15 } })) ≡ Ok (Direct 1, Direct 2) ∷ Err BadUnsignedLeb128 ∷ Ok (Direct 5, Direct 6) ∷ []
+unfolding computing
+refused_row = refl
 
 three_starts : map (start_of three_header three_rows) (0 ∷ 1 ∷ 2 ∷ []) ≡ Ok 0x1000 ∷ Ok 0x1010 ∷ Ok 0x1020 ∷ []
 unfolding computing

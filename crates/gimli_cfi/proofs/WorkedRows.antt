@@ -1,5 +1,5 @@
 -- Rows worked out, by computation.
-use Rattle.std.proofs.Common.{◌≡◌, ℕ, List, [], ◌∷◌, Some, None, Result, Ok, Err, ℤ, pos, negsuc, refl, codes}
+use Rattle.std.proofs.Common.{◌≡◌, ℕ, List, [], ◌∷◌, Some, Result, Ok, Err, ℤ, pos, negsuc, refl, codes}
 use Rattle.std.specs.FinMap.{from_entries}
 use Rattle.cfi_read_core.specs.declared.error.Error.{Error}
 use Rattle.cfi_read_core.specs.declared.error.Error.TheVariants.{AddressOverflow, BadUnsignedLeb128, CfiInstructionInInvalidContext, NoUnwindInfoForAddress, StackFull, UnknownCallFrameInstruction}

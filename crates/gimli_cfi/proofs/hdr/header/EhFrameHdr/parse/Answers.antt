@@ -1,0 +1,26 @@
+use Rattle.cfi_read_core.proofs.Onward.{onward_unsigned}
+use Rattle.cfi_parts.proofs.InstructionLemmas.{onward_pointer}
+use Rattle.cfi_unwind.proofs.EntryReads.{onward_encoding_byte}
+use Rattle.cfi_unwind.proofs.Within.{behind_of}
+use Rattle.gimli_cfi.proofs.HeaderReads.{onward_row_count, whole_of}
+use Rattle.gimli_cfi.proofs.hdr.header.EhFrameHdr.parse.Goals as goal
+
+pub parse_encoded_pointer-requires-clause-behind :
+    goal.parse_encoded_pointer-requires-clause-behind
+parse_encoded_pointer-requires-clause-behind g c =
+    let sound = g.met.R.Reader.sound c.args.self.now.0 in
+    let version = behind_of (onward_unsigned _) c.read_u8.ensures (whole_of sound) in
+    let first = behind_of onward_encoding_byte c.parse_pointer_encoding.ensures version in
+    let second = behind_of onward_encoding_byte c.parse_pointer_encoding-2.ensures first in
+    let third = behind_of onward_encoding_byte c.parse_pointer_encoding-3.ensures second in
+    third.first
+
+pub invariant_of-result : goal.invariant_of-result
+invariant_of-result g c =
+    let sound = g.met.R.Reader.sound c.args.self.now.0 in
+    let version = behind_of (onward_unsigned _) c.read_u8.ensures (whole_of sound) in
+    let first = behind_of onward_encoding_byte c.parse_pointer_encoding.ensures version in
+    let second = behind_of onward_encoding_byte c.parse_pointer_encoding-2.ensures first in
+    let third = behind_of onward_encoding_byte c.parse_pointer_encoding-3.ensures second in
+    let pointer = behind_of (onward_pointer _ _) c.parse_encoded_pointer.ensures third in
+    record { of_section = behind_of (onward_row_count _ _ _) c.read_row_count.ensures pointer }

@@ -1,0 +1,41 @@
+-- Headers, tables and their iterators as the code has them, as what they mean.
+use Rattle.cfi_read_core.specs.Reading.{Standing}
+use Rattle.cfi_read_core.specs.Readers.{extent_of}
+use Rattle.cfi_parts.specs.declared.pointer.BaseAddresses.{BaseAddresses}
+use Rattle.gimli_cfi.specs.declared.hdr.header.ParsedEhFrameHdr.{ParsedEhFrameHdr}
+use Rattle.gimli_cfi.specs.declared.hdr.table.EhHdrTable.{EhHdrTable}
+use Rattle.gimli_cfi.specs.declared.hdr.iter.EhHdrTableIter.{EhHdrTableIter}
+use Rattle.gimli_cfi.specs.Headers.{HeaderSection, Header, Table, header_section, table_of}
+use Rattle.gimli_cfi.specs.Rows.{Walk}
+
+-- In each type the reader's offset and byte order follow the reader; the braces have what the traits of the three say.
+
+-- the header
+abbrev pub header_view : {R O E : Type 0} {a : _} {b : _} {c : _} {d : _} {e : _} {f : _} {g : _} {h : _} {i : _} {j : _} {k : _} →
+    (R → Standing) → ParsedEhFrameHdr R O E a b c d e f g h i j k → Header
+header_view standing p = record { eh_frame = p.eh_frame_ptr; table = table_of p.table_enc.0 p.fde_count (extent_of (standing p.table)) }
+
+-- its section, with the bases with which the rows are read
+abbrev pub section_view : {R O E : Type 0} {a : _} {b : _} {c : _} {d : _} {e : _} {f : _} {g : _} {h : _} {i : _} {j : _} {k : _} →
+    (R → Standing) → ParsedEhFrameHdr R O E a b c d e f g h i j k → BaseAddresses → HeaderSection
+section_view standing p bases = header_section (standing p.section) p.address_size.bytes bases.eh_frame_hdr
+
+-- its rows
+abbrev pub rows_view : {R O E : Type 0} {a : _} {b : _} {c : _} {d : _} {e : _} {f : _} {g : _} {h : _} {i : _} {j : _} {k : _} →
+    (R → Standing) → ParsedEhFrameHdr R O E a b c d e f g h i j k → Table
+rows_view standing p = record { encoding = p.table_enc.0; count = p.fde_count; rows = extent_of (standing p.table) }
+
+-- the table of a header
+abbrev pub table_view : {R O E : Type 0} {a : _} {b : _} {c : _} {d : _} {e : _} {f : _} {g : _} {h : _} {i : _} {j : _} {k : _} →
+    (R → Standing) → EhHdrTable R O E a b c d e f g h i j k → Table
+table_view standing t = rows_view standing t.hdr.now
+
+-- the rows that remain
+abbrev pub walk_view : {R O E : Type 0} {a : _} {b : _} {c : _} {d : _} {e : _} {f : _} {g : _} {h : _} {i : _} {j : _} {k : _} →
+    (R → Standing) → EhHdrTableIter R O E a b c d e f g h i j k → Walk
+walk_view standing it = record {
+  section = section_view standing it.hdr.now it.bases.now;
+  encoding = it.hdr.now.table_enc.0;
+  count = it.remain;
+  standing = standing it.table;
+}

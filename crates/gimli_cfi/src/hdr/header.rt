@@ -1,0 +1,179 @@
+//! The section `.eh_frame_hdr` and its header, as far as the rows.
+ghost use Rattle.std.specs.Prelude.{◌≡◌, ⊤, IfOk, IfSome};
+ghost use Rattle.std.specs.Option.{option_map};
+ghost use Rattle.cfi_read_core.specs.Addresses.{IsAddressSize};
+ghost use Rattle.cfi_read_core.specs.Readers.{Reads, all_of, map_ok};
+ghost use Rattle.cfi_read_core.specs.Windows.{slice_standing};
+ghost use Rattle.cfi_read_core.specs.declared.common.SectionId.TheVariants.{EhFrameHdr as eh_frame_hdr_id};
+ghost use Rattle.cfi_parts.specs.Frames.{IsOf, IsOf_prop};
+ghost use Rattle.gimli_cfi.specs.Headers.{header_of, header_section, row_count};
+
+use crate::hdr::table::EhHdrTable;
+use cfi_parts::pointer::{
+    BaseAddresses, Pointer, PointerEncodingParameters, parse_encoded_pointer, parse_encoded_value,
+    parse_pointer_encoding,
+};
+use cfi_read_core::address::AddressSize;
+use cfi_read_core::constants::DW_EH_PE_omit;
+use cfi_read_core::{DwEhPe, EndianSlice, Endianity, Error, Reader, Result, Section, SectionId};
+use std::alloc::AllocError;
+
+/// The section `.eh_frame_hdr` (LSB Core, "The .eh_frame_hdr section").
+///
+/// It points to `.eh_frame`, and may have a table of rows by which an FDE is found without going through that section.
+#[derive(Clone, Copy, Debug, PartialEq, Eq)]
+pub struct EhFrameHdr<R>(R);
+
+impl<'input, E: Endianity> EhFrameHdr<EndianSlice<'input, E>> {
+    /// The section of these bytes in this byte order. It holds no copy of them.
+    pub fn new(section: &'input [u8], endian: E) -> Self
+        ensures { slice_standing E.big_endian result.0 ≡ all_of section.now (E.big_endian endian) 18446744073709551615 }
+    {
+        Self::from(EndianSlice::new(section, endian))
+    }
+}
+
+impl<R> From<R> for EhFrameHdr<R> {
+    ghost from_gives = { λ r s. s.0 ≡ r };
+
+    fn from(section: R) -> Self {
+        EhFrameHdr(section)
+    }
+}
+
+impl<R> Section<R> for EhFrameHdr<R> {
+    ghost bytes = { λ s. s.0 };
+
+    ghost KIND = { eh_frame_hdr_id };
+
+    fn id() -> SectionId {
+        SectionId::EhFrameHdr
+    }
+
+    fn reader(&self) -> &R {
+        &self.0
+    }
+
+    ghost of_reader = { λ r s e. e };
+}
+
+impl<R: Reader> EhFrameHdr<R> {
+    ghost use Rattle.gimli_cfi.specs.Views.{header_view};
+
+    /// Reads the header as far as the rows of its table, of which none is read yet.
+    ///
+    /// The bases are those in `BaseAddresses::eh_frame_hdr`. The address size is 1, 2, 4 or 8, that of the section's
+    /// pointers: the section doesn't give it.
+    ///
+    /// Refused, in the order of the bytes, with `UnknownVersion` for a version other than 1; with
+    /// `UnknownPointerEncoding` for a byte that is no pointer encoding, in the three encodings of the pointer, the
+    /// count and the rows; as `parse_encoded_pointer` for the pointer to `.eh_frame`, which can't be omitted; where
+    /// neither the count nor the rows are omitted, with `UnsupportedPointerEncoding` for a count that is relative or
+    /// indirect, and as `parse_encoded_value` for the count; and with `UnexpectedEof` wherever the bytes end. It takes
+    /// no memory.
+    #[tactic(auto, unfolding(crate::specs::Headers::header_fields))]
+    pub fn parse(&self, bases: &BaseAddresses, address_size: u8) -> Result<ParsedEhFrameHdr<R>>
+        requires { IsAddressSize address_size }
+        ensures read { map_ok (header_view R.standing) result ≡ header_of (header_section (R.standing self.now.0) address_size bases.now.eh_frame_hdr) }
+        ensures section { IfOk result (λ header. header.section ≡ self.now.0) }
+        ensures size { IfOk result (λ header. header.address_size.bytes ≡ address_size) }
+    {
+        let mut reader = self.0;
+        let version = reader.read_u8()?;
+        if version != 1 {
+            return Err(Error::UnknownVersion(u64::from(version)));
+        }
+        let pointer_encoding = parse_pointer_encoding(&mut reader)?;
+        let count_encoding = parse_pointer_encoding(&mut reader)?;
+        let table_enc = parse_pointer_encoding(&mut reader)?;
+        let parameters = PointerEncodingParameters {
+            bases: &bases.eh_frame_hdr,
+            func_base: None,
+            address_size,
+            section: &self.0,
+        };
+        let eh_frame_ptr = parse_encoded_pointer(pointer_encoding, &parameters, &mut reader)?;
+        let fde_count = read_row_count(count_encoding, table_enc, address_size, &mut reader)?;
+        Ok(ParsedEhFrameHdr {
+            address_size: AddressSize::new(address_size),
+            section: self.0,
+            eh_frame_ptr,
+            fde_count,
+            table_enc,
+            table: reader,
+        })
+    }
+}
+
+/// How many rows the table has: none where the count or the rows are omitted.
+#[tactic(auto, unfolding(crate::specs::Headers::row_count))]
+fn read_row_count<R: Reader>(
+    count_encoding: DwEhPe,
+    table_encoding: DwEhPe,
+    address_size: u8,
+    input: &mut R,
+) -> Result<u64>
+    ensures { Reads (λ x. x) (row_count address_size count_encoding.0 table_encoding.0) (R.standing input.old) result (R.standing input.new) }
+{
+    if count_encoding == DW_EH_PE_omit || table_encoding == DW_EH_PE_omit {
+        return Ok(0);
+    }
+    if count_encoding != count_encoding.format() {
+        return Err(Error::UnsupportedPointerEncoding(count_encoding));
+    }
+    parse_encoded_value(count_encoding, address_size, input)
+}
+
+/// A header as it was read: where `.eh_frame` is, and the rows of its table.
+#[derive(Debug)]
+pub struct ParsedEhFrameHdr<R: Reader> {
+    pub(crate) address_size: AddressSize,
+    pub(crate) section: R,
+    pub(crate) eh_frame_ptr: Pointer,
+    pub(crate) fde_count: u64,
+    pub(crate) table_enc: DwEhPe,
+    pub(crate) table: R,
+    ghost of_section: { IsOf (R.standing table) (R.standing section) } by { IsOf_prop (R.standing table) (R.standing section) },
+}
+
+impl<R: Reader> Clone for ParsedEhFrameHdr<R> {
+    ghost is_clone = { λ x y. y ≡ x };
+
+    ghost is_infallible = { λ _. ⊤ };
+
+    fn clone(&self) -> std::result::Result<Self, AllocError> {
+        Ok(ParsedEhFrameHdr {
+            address_size: self.address_size,
+            section: self.section,
+            eh_frame_ptr: self.eh_frame_ptr,
+            fde_count: self.fde_count,
+            table_enc: self.table_enc,
+            table: self.table,
+        })
+    }
+}
+
+impl<R: Reader> Copy for ParsedEhFrameHdr<R> {}
+
+impl<R: Reader> ParsedEhFrameHdr<R> {
+    ghost use Rattle.gimli_cfi.specs.Views.{header_view, table_view};
+
+    /// Where `.eh_frame` is.
+    pub fn eh_frame_ptr(&self) -> Pointer
+        ensures { result ≡ (header_view R.standing self.now).eh_frame }
+    {
+        self.eh_frame_ptr
+    }
+
+    /// The table, `None` where it has no rows: the count is 0 or omitted, or the rows are omitted.
+    pub fn table(&self) -> Option<EhHdrTable<'_, R>>
+        ensures rows { option_map (table_view R.standing) result ≡ (header_view R.standing self.now).table }
+        ensures header { IfSome result (λ table. table.hdr.now ≡ self.now) }
+    {
+        if self.fde_count == 0 {
+            None
+        } else {
+            Some(EhHdrTable::new(self))
+        }
+    }
+}

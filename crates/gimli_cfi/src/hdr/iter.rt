@@ -1,0 +1,112 @@
+//! The rows of a table, one behind the other.
+ghost use Rattle.std.specs.Prelude.{◌≡◌, ◌≤◌, IfSome, Some};
+ghost use Rattle.std.specs.Iterator.{UpTo, YieldsFirst, at_most};
+ghost use Rattle.std.specs.Iterator.SizeHint.{IsWithinCount};
+ghost use Rattle.cfi_read_core.specs.Addresses.{IsAddressSize};
+ghost use Rattle.cfi_read_core.specs.Readers.{Reads};
+ghost use Rattle.cfi_parts.specs.Contexts.{pointer_context};
+ghost use Rattle.cfi_parts.specs.Frames.{IsOf, IsOf_prop};
+ghost use Rattle.gimli_cfi.specs.Headers.{row_by};
+ghost use Rattle.gimli_cfi.specs.Rows.{Meets, next_row, rows_left, walk_behind, walk_of};
+
+use crate::hdr::header::ParsedEhFrameHdr;
+use cfi_parts::pointer::{
+    BaseAddresses, Pointer, PointerEncodingParameters, parse_encoded_pointer,
+};
+use cfi_read_core::{DwEhPe, Reader, Result};
+
+/// The rows of a table, one behind the other: start and target of each.
+///
+/// After a refused row it goes on from where the refused read left it.
+#[derive(Debug, Drop)]
+pub struct EhHdrTableIter<'a, 'bases, R: Reader> {
+    pub(crate) hdr: &'a ParsedEhFrameHdr<R>,
+    pub(crate) table: R,
+    pub(crate) bases: &'bases BaseAddresses,
+    pub(crate) remain: u64,
+    ghost of_section: { IsOf (R.standing table) (R.standing hdr.now.section) } by { IsOf_prop (R.standing table) (R.standing hdr.now.section) },
+}
+
+impl<'a, 'bases, R: Reader> EhHdrTableIter<'a, 'bases, R> {
+    ghost use Rattle.gimli_cfi.specs.Views.{rows_view, section_view, walk_view};
+
+    /// All rows of the header's table.
+    pub(crate) fn new(hdr: &'a ParsedEhFrameHdr<R>, bases: &'bases BaseAddresses) -> Self
+        ensures all { walk_view R.standing result ≡ walk_of (section_view R.standing hdr.now bases.now) (rows_view R.standing hdr.now) }
+    {
+        EhHdrTableIter {
+            hdr,
+            table: hdr.table,
+            bases,
+            remain: hdr.fde_count,
+        }
+    }
+
+    /// The next row: its start and its target. `None` for good once there have been as many as the count.
+    ///
+    /// A row may be refused, as `parse_encoded_pointer` for its start and then its target. It counts as a row: there is
+    /// one fewer behind it, which is read from where the refused read left the reader. It takes no memory.
+    #[tactic(auto, unfolding(crate::specs::Rows::next_row))]
+    pub fn next(&mut self) -> Result<Option<(Pointer, Pointer)>>
+        ensures read { Reads (λ found. found) (next_row (walk_view R.standing self.old)) (R.standing self.old.table) result (R.standing self.new.table) }
+        ensures met { Meets result (walk_view R.standing self.old) (walk_view R.standing self.new) }
+        ensures after { walk_view R.standing self.new ≡ walk_behind (walk_view R.standing self.old) (R.standing self.new.table) }
+        ensures tied { (self.new.hdr.now ≡ self.old.hdr.now) × (self.new.bases.now ≡ self.old.bases.now) }
+    {
+        if self.remain == 0 {
+            return Ok(None);
+        }
+        self.remain -= 1;
+        let parameters = PointerEncodingParameters {
+            bases: &self.bases.eh_frame_hdr,
+            func_base: None,
+            address_size: self.hdr.address_size.bytes(),
+            section: &self.hdr.section,
+        };
+        let mut table = self.table;
+        let found = read_row(self.hdr.table_enc, &parameters, &mut table);
+        self.table = table;
+        Ok(Some(found?))
+    }
+}
+
+impl<R: Reader> Iterator for EhHdrTableIter<'_, '_, R> {
+    type Item = Result<(Pointer, Pointer)>;
+
+    ghost use Rattle.gimli_cfi.specs.Views.{walk_view};
+
+    ghost next_gives = { λ s r t. YieldsFirst (λ it. rows_left (walk_view R.standing it)) s r t
+        × (walk_view R.standing t ≡ walk_behind (walk_view R.standing s) (R.standing t.table)) };
+
+    ghost remaining = { λ it. at_most it.remain };
+
+    fn next(&mut self) -> Option<Result<(Pointer, Pointer)>> {
+        EhHdrTableIter::next(self).transpose()
+    }
+
+    /// The count of the rows that remain, for both bounds: refused rows count too.
+    fn size_hint(&self) -> (usize, Option<usize>)
+        ensures lower { IsWithinCount result.0 (at_most self.now.remain) }
+        ensures upper { IfSome result.1 (UpTo (at_most self.now.remain)) }
+        ensures exact { result ≡ (self.now.remain, Some self.now.remain) }
+    {
+        let rows = self.remain as usize;
+        (rows, Some(rows))
+    }
+}
+
+/// Reads a row: its start and its target.
+#[tactic(auto, unfolding(crate::specs::Headers::row_by))]
+fn read_row<R: Reader>(
+    encoding: DwEhPe,
+    parameters: &PointerEncodingParameters<'_, R>,
+    input: &mut R,
+) -> Result<(Pointer, Pointer)>
+    requires sized { IsAddressSize parameters.now.address_size }
+    requires behind { (R.standing parameters.now.section.now).place ≤ (R.standing input.old).place }
+    ensures { Reads (λ found. found) (row_by (pointer_context R.standing parameters.now) encoding.0) (R.standing input.old) result (R.standing input.new) }
+{
+    let start = parse_encoded_pointer(encoding, parameters, input)?;
+    let target = parse_encoded_pointer(encoding, parameters, input)?;
+    Ok((start, target))
+}

@@ -1,0 +1,60 @@
+//! The search in the rows of a header table.
+
+ghost use Rattle.std.specs.Prelude.{◌≡◌, ℕ, ◌+◌, ◌≤◌, ◌<◌, IfOk, IfErr, Result};
+ghost use Rattle.cfi_read_core.specs.declared.error.Error.{Error};
+ghost use Rattle.gimli_cfi.specs.Boundary.{IsBoundaryRow, IsRefusalOfRow};
+ghost use Rattle.gimli_cfi.specs.Steps.{steps};
+ghost use Rattle.gimli_cfi.specs.Headers.{HeaderSection, Table};
+ghost use Rattle.gimli_cfi.specs.Tables.{IsFaithful, ReachesAll, AgreesWithScan, RefusesNoStart};
+ghost use Rattle.cfi_unwind.specs.Sections.{Section};
+
+use cfi_read_core::error::Result;
+
+/// The starts of rows, read one a call.
+pub trait StartSource {
+    /// What each index is answered, however often it is asked for.
+    ghost answer: { Self → ℕ → Result ℕ Error };
+
+    /// How many calls were made, refused ones too.
+    ghost calls: { Self → ℕ };
+
+    /// The start of a row.
+    fn start(&mut self, index: u64) -> Result<u64>
+        ensures answered { result ≡ answer self.old index }
+        ensures same { answer self.new ≡ answer self.old }
+        ensures counted { calls self.new ≡ calls self.old + 1 };
+}
+
+/// A boundary row for an address among the first `count` rows, found by halving.
+pub fn search_starts<S: StartSource>(source: &mut S, count: u64, address: u64) -> Result<u64>
+    requires { 1 ≤ count }
+    ensures found { IfOk result (IsBoundaryRow (S.answer source.old) count address) }
+    ensures refused { IfErr result (IsRefusalOfRow (S.answer source.old) count) }
+    ensures calls { S.calls source.new ≤ S.calls source.old + steps count }
+    ensures same { S.answer source.new ≡ S.answer source.old }
+{
+    let mut first = 0;
+    let mut len = count;
+    while len > 1 {
+        let half = len / 2;
+        let middle = first + half;
+        let start = source.start(middle)?;
+        if start == address {
+            return Ok(middle);
+        }
+        if start < address {
+            first = middle;
+            len -= half;
+        } else {
+            len = half;
+        }
+    }
+    Ok(first)
+}
+
+/// Where a table lists the FDEs of a section faithfully, each boundary row gives what going through the section
+/// gives.
+pub fn faithful_table_agrees_with_scan()
+    ensures agrees { (header : HeaderSection) (table : Table) (eh_frame : ℕ) (section : Section) → IsFaithful header table eh_frame section → ReachesAll header section → AgreesWithScan header table eh_frame section }
+    ensures no_refusal { (header : HeaderSection) (table : Table) (eh_frame : ℕ) (section : Section) → IsFaithful header table eh_frame section → RefusesNoStart header table }
+{}
