@@ -6,9 +6,11 @@ use Rattle.cfi_read_core.specs.declared.error.Error.{Error}
 use Rattle.cfi_read_core.specs.declared.error.Error.TheVariants.{BadUnsignedLeb128, UnsupportedOffset}
 use Rattle.cfi_read_core.specs.Reading.{Read, Source, Standing, Extent, Outcome, carry_on, ◌>>=◌, ◌>>◌, split, give, refuse, refuse_if, ended, offset, rest}
 use Rattle.cfi_read_core.specs.Numbers.{going_on, leb128_bytes, leb128_sum, unsigned_leb128, offset_leb128}
+use Rattle.cfi_read_core.specs.Readers.{IsPartOf, extent_of}
 use Rattle.cfi_read_core.proofs.Onward.{onward_offset_leb128}
 use Rattle.cfi_parts.specs.declared.instruction.UnwindExpression.{UnwindExpression}
 use Rattle.cfi_parts.specs.Pointers.{PointerContext}
+use Rattle.cfi_parts.specs.Frames.{IsOf}
 use Rattle.cfi_parts.specs.Instructions.{expression, expression_bytes, IsReadIn}
 
 -- ---- a read that gives a value stays within the bytes
@@ -122,7 +124,7 @@ stands section e after h =
     let begins = h.begins in
     (length.place, omega arith, omega arith, record { offset_is = offset; inside = omega arith; after_is = f.after_is })
 
-pub bytes_are_there : (section : Standing) (e : UnwindExpression ℕ) (after : ℕ) → IsReadIn section e after →
+bytes_are_there : (section : Standing) (e : UnwindExpression ℕ) (after : ℕ) → IsReadIn section e after →
     (expression_bytes e section.source section.place).value ≡ Ok (record { first = after - e.length; last = after })
 bytes_are_there section e after h =
     let found = stands section e after h in
@@ -137,3 +139,46 @@ bytes_are_there section e after h =
     let end : section.place + e.offset + e.length ≡ after = omega arith in
     ap (λ (o : Outcome Extent). o.value) (bytes_at e section.source section.place (omega arith) (omega arith))
     ∙ (rw (end, here) refl)
+
+-- the same of a reader that stands as the section
+pub bytes_are_read : {there section : Standing} (e : UnwindExpression ℕ) (after : ℕ) → there ≡ section → IsReadIn section e after →
+    (expression_bytes e there.source there.place).value ≡ Ok (record { first = after - e.length; last = after })
+bytes_are_read {there = there} {section = section} e after same h = bytes_are_there there e after (subst (λ (s : Standing). IsReadIn s e after) (sym same) h)
+
+-- ---- what is split off lies in the section
+
+given_part : (b : Bool) (n p : ℕ) (x : Extent) (after : ℕ) →
+    (let o : Outcome Extent = if b then record { value = Ok (record { first = p; last = p + n }); place = p + n } else record { value = Err (ended p); place = p } in o ≡ record { value = Ok x; place = after }) →
+    (b ≡ true) × (record { first = p; last = p + n } ≡ x)
+given_part true n p x after is = (refl, let value = ap (λ (o : Outcome Extent). o.value) is in cc)
+given_part false n p x after is = let value = ap (λ (o : Outcome Extent). o.value) is in absurd (cc)
+
+-- n bytes passed, then m split off
+passed_then : (source : Source) (n m p : ℕ) → Bool → Outcome Extent
+passed_then source n m p b =
+    let o : Outcome Extent = if b then record { value = Ok (record { first = p; last = p + n }); place = p + n } else record { value = Err (ended p); place = p } in
+    let s = carry_on {B = Unit {0}} (λ _. give tt) source o.value o.place in
+    carry_on (λ _. split m) source s.value s.place
+
+behind_skip : (source : Source) (n m p : ℕ) (b : Bool) (x : Extent) (after : ℕ) → passed_then source n m p b ≡ record { value = Ok x; place = after } →
+    (b ≡ true) × (split m source (p + n) ≡ record { value = Ok x; place = after })
+unfolding passed_then
+behind_skip source n m p true x after is = (refl, is)
+behind_skip source n m p false x after is = let value = ap (λ (o : Outcome Extent). o.value) is in absurd (cc)
+
+bytes_of_section : (section part : Standing) (e : UnwindExpression ℕ) (after : ℕ) → section.place ≤ section.source.last →
+    expression_bytes e section.source section.place ≡ record { value = Ok (extent_of part); place = after } → IsPartOf part section → IsOf part section
+unfolding expression_bytes passed_then
+bytes_of_section section part e after ordered is same =
+    let passed = behind_skip section.source e.offset e.length section.place (nat_le e.offset (section.source.last - section.place)) (extent_of part) after is in
+    let taken = given_part (nat_le e.length (section.source.last - (section.place + e.offset))) e.length (section.place + e.offset) (extent_of part) after passed.1 in
+    let room = leb-true _ _ passed.0 in
+    let fits = leb-true _ _ taken.0 in
+    let first = ap (λ (x : Extent). x.first) taken.1 in
+    let last = ap (λ (x : Extent). x.last) taken.1 in
+    record { source = same; first = omega arith; last = omega arith }
+
+pub bytes_lie_in : {there section part : Standing} (e : UnwindExpression ℕ) {after : ℕ} → there ≡ section → there.place ≤ there.source.last →
+    expression_bytes e there.source there.place ≡ record { value = Ok (extent_of part); place = after } → IsPartOf part there → IsOf part section
+bytes_lie_in {there = there} {section = section} {part = part} e {after = after} at ordered is same =
+    subst (λ (s : Standing). IsOf part s) at (bytes_of_section there part e after ordered is same)

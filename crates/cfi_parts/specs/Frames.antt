@@ -1,6 +1,8 @@
 -- The two sections of call frame information, and how they differ (DWARF 5 section 6.4.1; LSB Core, "The .eh_frame section").
 use Rattle.std.specs.Prelude.{ℕ, ◌≤◌, ◌-◌, Bool, true, false, Result, Ok, Err, nat_le, ◌==◌, if◌then◌else◌}
 use Rattle.std.specs.Int.{Width, w32, w64}
+use Rattle.cfi_read_core.specs.declared.common.SectionId.{SectionId}
+use Rattle.cfi_read_core.specs.declared.common.SectionId.TheVariants as names
 use Rattle.cfi_read_core.specs.declared.common.Vendor.{Vendor}
 use Rattle.cfi_read_core.specs.declared.common.Format.{Format}
 use Rattle.cfi_read_core.specs.declared.common.Format.TheVariants.{Dwarf32, Dwarf64}
@@ -30,6 +32,11 @@ pub record IsOf (part section : Standing) : Type 0 where
   pub last : part.source.last ≤ section.source.last
 
 -- ---- what differs between the two
+
+-- the section's name
+abbrev pub section_id : Kind → SectionId
+section_id DebugFrame = names.DebugFrame
+section_id EhFrame = names.EhFrame
 
 -- the id of an entry
 abbrev pub id_width : Kind → Format → Width

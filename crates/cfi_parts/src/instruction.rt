@@ -3,6 +3,7 @@ ghost use Rattle.std.specs.Prelude.{◌≡◌, ◌≤◌, ◌<◌, ◌-◌, ℕ,
 ghost use Rattle.cfi_read_core.specs.Addresses.{IsAddressSize, is_sized};
 ghost use Rattle.cfi_read_core.specs.Readers.{IsPartOf, Reads, extent_of, left, map_ok};
 ghost use Rattle.cfi_parts.specs.Contexts.{instruction_context};
+ghost use Rattle.cfi_parts.specs.Frames.{IsOf};
 ghost use Rattle.cfi_parts.specs.Instructions.{IsReadIn, expression_bytes};
 ghost use Rattle.cfi_parts.specs.Programs.{Meets, instructions_left, items};
 ghost use Rattle.cfi_parts.specs.Views.{map_expression, map_instruction};
@@ -10,6 +11,7 @@ ghost use Rattle.cfi_parts.specs.Views.{map_expression, map_instruction};
 mod parse;
 
 use crate::pointer::PointerEncodingParameters;
+use crate::section::_UnwindSectionPrivate;
 use cfi_read_core::section::Expression;
 use cfi_read_core::{DwEhPe, Reader, Register, Result, Vendor};
 use parse::{InstructionParameters, parse_instruction};
@@ -25,18 +27,21 @@ pub struct UnwindExpression<T> {
 }
 
 impl<T: Copy> UnwindExpression<T> {
-    /// The bytes of the expression, by a reader of the section in which it was read.
+    /// The bytes of the expression, in the section in which it was read. Nothing is copied.
     ///
-    /// Refused with `UnexpectedEof` at the section's first place where the offset goes past its end, and at the
-    /// expression's place where the length does: never for an expression that was read in that section.
-    pub fn bytes_in<R: Reader<Offset = T>>(&self, section: &R) -> Result<Expression<R>>
+    /// Refused with `UnexpectedEof` of the section's first place where the offset goes past the section's end, and of
+    /// the expression's own place where the length does: never for an expression that was read in that section.
+    pub fn get<R: Reader<Offset = T>, Section: _UnwindSectionPrivate<R>>(
+        &self,
+        section: &Section,
+    ) -> Result<Expression<R>>
         ensures bytes { map_ok (λ e. extent_of (R.standing e.0)) result
-            ≡ (expression_bytes (map_expression T.number self.now) (R.standing section.now).source (R.standing section.now).place).value }
-        ensures part { IfOk result (λ e. IsPartOf (R.standing e.0) (R.standing section.now)) }
-        ensures read_there { (after : ℕ) → IsReadIn (R.standing section.now) (map_expression T.number self.now) after
+            ≡ (expression_bytes (map_expression T.number self.now) (Section.frame section.now).standing.source (Section.frame section.now).standing.place).value }
+        ensures part { IfOk result (λ e. IsOf (R.standing e.0) (Section.frame section.now).standing) }
+        ensures read_there { (after : ℕ) → IsReadIn (Section.frame section.now).standing (map_expression T.number self.now) after
             → map_ok (λ e. extent_of (R.standing e.0)) result ≡ Ok (record { first = after - T.number self.now.length; last = after }) }
     {
-        let mut input = *section;
+        let mut input = *section.section();
         Ok(Expression(split_expression(self, &mut input)?))
     }
 }

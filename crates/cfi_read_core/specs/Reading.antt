@@ -22,15 +22,6 @@ pub record Extent : Type 0 where
   pub first : ℕ
   pub last : ℕ
 
--- The inner reader has the whole of the outer one and lies within its places.
-pub record LiesWithin (inner outer : Standing) : Type 0 where
-  pub whole : inner.source.whole ≡ outer.source.whole
-  pub big_endian : inner.source.big_endian ≡ outer.source.big_endian
-  pub greatest : inner.source.greatest ≡ outer.source.greatest
-  pub first : outer.place ≤ inner.place
-  pub inside : inner.place ≤ inner.source.last
-  pub last : inner.source.last ≤ outer.source.last
-
 abbrev pub bytes_of : Source → Extent → List ℕ
 bytes_of source extent = slice_range source.whole extent.first extent.last
 

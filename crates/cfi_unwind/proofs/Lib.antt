@@ -6,3 +6,4 @@ pub mod WalkLemmas
 pub mod Within
 pub mod TableSteps
 pub mod RowLemmas
+pub mod StartLemmas

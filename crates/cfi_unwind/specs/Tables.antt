@@ -3,6 +3,7 @@
 --     place_of standing number table      the place of a table
 --     GivesNext s copies_free p answer q      over a storage, a table at the place p answers next, and then is at the place q
 --     KeepsOn, KeepsProgram      the same without a machine, and of the program of a CIE
+--     StartsRows      what making the table of an FDE answers
 --     HandsOut      what a call of `next_row` hands out
 use Rattle.std.specs.Prelude.{◌≡◌, ℕ, Bool, true, false, List, [], Option, Some, None, is_some, IfSome, Result, Ok, Err, IfOk, MatchResult}
 use Rattle.std.specs.Option.{option_map}
@@ -13,14 +14,17 @@ use Rattle.cfi_read_core.specs.declared.error.Error.{Error}
 use Rattle.cfi_parts.specs.Instructions.{Instruction}
 use Rattle.cfi_state.specs.Row.{Row}
 use Rattle.cfi_state.specs.Operands.{Setting}
-use Rattle.cfi_state.specs.Machine.{State}
+use Rattle.cfi_state.specs.Machine.{State, fresh_state}
 use Rattle.cfi_state.specs.Context.{ContextState, state_of}
 use Rattle.cfi_state.specs.Numbered.{map_state, map_row}
 use Rattle.cfi_state.specs.Places.{Place, going, ended}
 use Rattle.cfi_state.specs.Program.{Program, in_fde}
 use Rattle.cfi_state.specs.Rows.{StandsBehind}
-use Rattle.cfi_state.specs.Runs.{current_row, NextAnswer, wants_memory}
+use Rattle.cfi_state.specs.Runs.{current_row, NextAnswer, RunsCie, wants_memory}
 use Rattle.cfi_state.specs.Kept.{KeepsNext, KeepsCie}
+use Rattle.cfi_unwind.specs.Sections.{Section}
+use Rattle.cfi_unwind.specs.Fdes.{Fde}
+use Rattle.cfi_unwind.specs.Programs.{cie_instructions, fde_instructions}
 
 abbrev pub GivesNext : Setting → Bool → Place (State ℕ) ℕ → Result (Option (Row ℕ)) Error → Place (State ℕ) ℕ → Type 0
 GivesNext s copies_free = NextAnswer (wants_memory s copies_free) s
@@ -62,6 +66,16 @@ pub record KeepsOn (s : Setting) (copies_free : Bool) (p : Place (State ℕ) ℕ
 abbrev pub KeepsProgram : Setting → Bool → Readings Instruction → Result (State ℕ) Error → Type 0
 KeepsProgram s copies_free cie (Ok x) = (kept : List Instruction) × KeepsCie (wants_memory s copies_free) s [] cie (Ok kept) × StandsBehind s x (in_fde kept [])
 KeepsProgram s copies_free cie (Err e) = KeepsCie (wants_memory s copies_free) s [] cie (Err e)
+
+-- ---- the table of an FDE
+
+-- What making the table of an FDE answered: the refusal of the CIE's program, or a table that stands behind that program
+-- and before all of the FDE's instructions.
+pub record StartsRows {X : Type 0} (place : X → Place (State ℕ) ℕ) (s : Setting) (copies_free : Bool) (section : Section) (fde : Fde) (made : Result X Error) : Type 0 where
+  pub run : RunsCie (wants_memory s copies_free) s fresh_state (cie_instructions section fde.cie) (map_ok (λ x. (place x).behind) made)
+  pub kept : KeepsProgram s copies_free (cie_instructions section fde.cie) (map_ok (λ x. (place x).behind) made)
+  pub left : IfOk made (λ x. (place x).left ≡ fde_instructions section fde)
+  pub going : IfOk made (λ x. (place x).has_ended ≡ false)
 
 -- ---- rows that are lent
 

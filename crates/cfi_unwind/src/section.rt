@@ -1,9 +1,13 @@
 //! Call frame sections.
-ghost use Rattle.std.specs.Prelude.{◌≡◌, IfOk};
+ghost use Rattle.std.specs.Prelude.{◌≡◌, IfOk, Result};
 ghost use Rattle.cfi_read_core.specs.Readers.{map_ok};
+ghost use Rattle.cfi_read_core.specs.declared.error.Error.{Error};
 ghost use Rattle.cfi_parts.specs.Frames.{IsOf};
 ghost use Rattle.cfi_unwind.specs.Sections.{section_of};
-ghost use Rattle.cfi_unwind.specs.Fdes.{Covers};
+ghost use Rattle.cfi_state.specs.Numbered.{map_row};
+ghost use Rattle.cfi_unwind.specs.declared.entry.cie.CieParts.{CieParts};
+ghost use Rattle.cfi_unwind.specs.Answers.{IsRowOfFound};
+ghost use Rattle.cfi_unwind.specs.Fdes.{Covers, Fde};
 ghost use Rattle.cfi_unwind.specs.Entries.{cie_at, entries, partial_fde_at};
 ghost use Rattle.cfi_unwind.specs.Scan.{chosen};
 ghost use Rattle.cfi_unwind.specs.Asking.{Asks, IsAnswered, ReadsWith, Scans};
@@ -22,6 +26,9 @@ use crate::entry::{
 use cfi_parts::pointer::BaseAddresses;
 use cfi_parts::section::{_UnwindSectionPrivate, UnwindOffset};
 use cfi_read_core::{Error, Reader, Result};
+use cfi_state::storage::UnwindContextStorage;
+use cfi_state::table::context::UnwindContext;
+use cfi_state::table::row::UnwindTableRow;
 pub use debug_frame::DebugFrame;
 pub use eh_frame::EhFrame;
 use std::fmt::Debug;
@@ -141,6 +148,34 @@ pub trait UnwindSection<R: Reader>: Copy + Debug + _UnwindSectionPrivate<R> {
             }
         }
         Err(Error::NoUnwindInfoForAddress)
+    }
+
+    /// The row of that FDE for the address, lent from the context, which is emptied first.
+    ///
+    /// Each CIE that `get_cie` answers is of this section. Refused as `fde_for_address`; else as the FDE's own
+    /// `unwind_info_for_address`, behind which nothing more is asked. Nothing that the context held before counts. Over a
+    /// fixed storage it takes no memory; over another one it may be refused with `OutOfMemory`.
+    final fn unwind_info_for_address<'ctx, S, F>(
+        &self,
+        bases: &BaseAddresses,
+        ctx: &'ctx mut UnwindContext<R::Offset, S>,
+        address: u64,
+        get_cie: F,
+    ) -> Result<&'ctx UnwindTableRow<R::Offset, S::Rules>>
+    where
+        S: UnwindContextStorage<R::Offset>,
+        F: FnMut(&Self, &BaseAddresses, Self::Offset) -> Result<CommonInformationEntry<R>>,
+        requires callable { F.IsAlwaysCallable get_cie }
+        requires of_section { (cie : CieParts R R.Offset) → IsAnswered F.FnMut self.now bases.now cie → IsOf (R.standing cie.instructions) (Self.frame self.now).standing }
+        ensures row { (found : Result Fde Error) × (last : F) × Scans
+            (Asks F.FnMut (λ o. R.Offset.number (Self.Offset.offset o)) (cie_view R.standing R.Offset.number) self.now bases.now)
+            (section_of (Self.frame self.now) bases.now) address (entries (section_of (Self.frame self.now) bases.now))
+            get_cie found last
+            × IsRowOfFound S.Rules.limit S.Stack.limit S.Rules.copies_free (section_of (Self.frame self.now) bases.now) address
+            found (map_ok (λ row. map_row R.Offset.number row.now) result) }
+    {
+        let fde = self.fde_for_address(bases, address, get_cie)?;
+        fde.unwind_info_for_address(self, bases, ctx, address)
     }
 }
 

@@ -1,9 +1,10 @@
 //! The rows of an FDE (DWARF 5 section 6.4.1), and the row of an address.
-ghost use Rattle.std.specs.Prelude.{◌≡◌, true, false, IfOk, IfSome, IfNone, IsTrue, [], MatchResult};
+ghost use Rattle.std.specs.Prelude.{◌≡◌, ℕ, Option, true, false, IfOk, IfSome, IfNone, IsTrue, [], MatchResult};
 ghost use Rattle.std.specs.Borrow.{sem};
 ghost use Rattle.std.specs.Io.BufRead.{Rests};
 ghost use mir.Syntax.{named};
 ghost use Rattle.cfi_read_core.specs.Addresses.{IsAddressSize, is_sized};
+ghost use Rattle.cfi_parts.specs.Frames.{IsOf};
 ghost use Rattle.cfi_parts.specs.Iterators.{program};
 ghost use Rattle.cfi_parts.specs.Programs.{instructions_left};
 ghost use Rattle.cfi_state.specs.Context.{empty_context};
@@ -16,9 +17,15 @@ ghost use Rattle.cfi_state.specs.Places.{going};
 ghost use Rattle.cfi_state.specs.Rows.{fde_answer};
 ghost use Rattle.cfi_state.specs.Runs.{wants_memory, RunsCie, FindsRow, AnswersFde};
 ghost use Rattle.cfi_read_core.specs.Readers.{map_ok};
-ghost use Rattle.cfi_unwind.specs.Tables.{GivesNext, KeepsOn, KeepsProgram, seen, row_due, row_given, place_behind, HandsOut};
+ghost use Rattle.cfi_unwind.specs.Answers.{setting};
+ghost use Rattle.cfi_unwind.specs.Sections.{section_of};
+ghost use Rattle.cfi_unwind.specs.Views.{fde_view};
+ghost use Rattle.cfi_unwind.specs.Tables.{GivesNext, KeepsOn, KeepsProgram, StartsRows, seen, row_due, row_given, place_behind, HandsOut};
 
+use crate::entry::FrameDescriptionEntry;
+use crate::section::UnwindSection;
 use cfi_parts::instruction::CallFrameInstructionIter;
+use cfi_parts::pointer::BaseAddresses;
 use cfi_read_core::{Error, Reader, Result, StoreOnHeap};
 use cfi_state::storage::UnwindContextStorage;
 use cfi_state::table::context::UnwindContext;
@@ -55,14 +62,37 @@ impl<'a, 'ctx, R: Reader, S: UnwindContextStorage<R::Offset>> UnwindTable<'a, 'c
     ghost use Rattle.cfi_unwind.specs.contracts.table.UnwindTable.{the_row};
     ghost use Rattle.cfi_unwind.specs.TablePlaces.{place_of};
 
-    /// The table over the instructions of a CIE and of an FDE, whose address size is 1, 2, 4 or 8 bytes.
+    /// The table of an FDE, whose rows are made in the context.
     ///
     /// The context is emptied, so nothing of its past counts; then the CIE's program runs, whose final rules are kept for
     /// `DW_CFA_restore`, and the table stands before the FDE's first row. Of the FDE's instructions none is read yet.
     ///
-    /// A refusal is the first of the CIE's program: an instruction that can't be read, one that is refused, or `StackFull`
-    /// where its final rules find no room. Where the context's lists want memory it may be `OutOfMemory`.
-    pub fn over(
+    /// The FDE and its CIE are of the section; the bases are those of the section's entries. A refusal is the first of the
+    /// CIE's program: an instruction that can't be read, one that is refused, or `StackFull` where its final rules find no
+    /// room. Over a fixed storage it takes no memory; over another one it may be refused with `OutOfMemory`.
+    pub fn new<Section: UnwindSection<R>>(
+        section: &'a Section,
+        bases: &'a BaseAddresses,
+        ctx: &'ctx mut UnwindContext<R::Offset, S>,
+        fde: &FrameDescriptionEntry<R>,
+    ) -> Result<Self>
+        requires own { IsOf (R.standing fde.now.instructions) (Section.frame section.now).standing }
+        requires cie { IsOf (R.standing fde.now.cie.instructions) (Section.frame section.now).standing }
+        ensures starts { StartsRows (λ table. place_of R.standing R.Offset.number table)
+            (setting S.Rules.limit S.Stack.limit (fde_view R.standing R.Offset.number fde.now)) S.Rules.copies_free
+            (section_of (Section.frame section.now) bases.now) (fde_view R.standing R.Offset.number fde.now) result }
+        ensures setting { IfOk result (λ table. (rules stack : Option ℕ) →
+            setting_of table.parameters.values rules stack ≡ setting rules stack (fde_view R.standing R.Offset.number fde.now)) }
+        ensures holds_row { IfOk result (λ table. table.holds_row ≡ false) }
+        ensures same_reference { IfOk result (λ table. table.context.ghost_name ≡ ctx.entry.ghost_name) }
+    {
+        let initial = fde.cie().instructions(section, bases);
+        let instructions = fde.instructions(section, bases);
+        Self::over(fde.parameters(), initial, instructions, ctx)
+    }
+
+    // The same over the instructions of the two.
+    fn over(
         parameters: Parameters,
         cie_instructions: CallFrameInstructionIter<'_, R>,
         fde_instructions: CallFrameInstructionIter<'a, R>,
@@ -229,7 +259,7 @@ fn run_initial<R: Reader, S: UnwindContextStorage<R::Offset>>(
 /// The answer is the CIE's first refusal; else the first refusal or row with the address that the FDE's table gives, also for
 /// an address outside the FDE; else `NoUnwindInfoForAddress`. Rows behind the answer are not run. `OutOfMemory` comes only
 /// where an instruction, or the end of the CIE's program, wants memory, so never over a fixed storage.
-pub fn unwind_info_for_address<'cie, 'fde, 'ctx, R: Reader, S: UnwindContextStorage<R::Offset>>(
+pub(crate) fn unwind_info_for_address<'cie, 'fde, 'ctx, R: Reader, S: UnwindContextStorage<R::Offset>>(
     parameters: Parameters,
     cie_instructions: CallFrameInstructionIter<'cie, R>,
     fde_instructions: CallFrameInstructionIter<'fde, R>,

@@ -33,28 +33,28 @@ fn read_letter<R: Reader, S: _UnwindSectionPrivate<R>>(
     address_size: AddressSize,
     byte: u8,
     known: Augmentation,
-    data: &mut R,
+    input: &mut R,
 ) -> Result<Augmentation>
-    requires { (S.frame context.now.section).standing.place ≤ (R.standing data.old).place }
-    ensures { Reads augmentation_view (letter (pointer_context (section_in S.frame context.now) None address_size.bytes) byte (augmentation_view known)) (R.standing data.old) result (R.standing data.new) }
+    requires { (S.frame context.now.section).standing.place ≤ (R.standing input.old).place }
+    ensures { Reads augmentation_view (letter (pointer_context (section_in S.frame context.now) None address_size.bytes) byte (augmentation_view known)) (R.standing input.old) result (R.standing input.new) }
 {
     let mut known = known;
     match byte {
         b'S' => known.is_signal_trampoline = true,
         _ if !known.has_data => return Err(Error::UnknownAugmentation),
-        b'L' => known.lsda = Some(parse_pointer_encoding(data)?),
+        b'L' => known.lsda = Some(parse_pointer_encoding(input)?),
         b'P' => {
-            let encoding = parse_pointer_encoding(data)?;
+            let encoding = parse_pointer_encoding(input)?;
             let parameters = PointerEncodingParameters {
                 bases: &context.bases.eh_frame,
                 func_base: None,
                 address_size: address_size.bytes(),
                 section: context.section.section(),
             };
-            let personality = parse_encoded_pointer(encoding, &parameters, data)?;
+            let personality = parse_encoded_pointer(encoding, &parameters, input)?;
             known.personality = Some((encoding, personality));
         }
-        b'R' => known.fde_address_encoding = Some(parse_pointer_encoding(data)?),
+        b'R' => known.fde_address_encoding = Some(parse_pointer_encoding(input)?),
         _ => return Err(Error::UnknownAugmentation),
     }
     Ok(known)
@@ -66,15 +66,15 @@ fn read_letters<R: Reader, S: _UnwindSectionPrivate<R>>(
     address_size: AddressSize,
     text: R,
     known: Augmentation,
-    data: &mut R,
+    input: &mut R,
 ) -> Result<Augmentation>
-    requires { (S.frame context.now.section).standing.place ≤ (R.standing data.old).place }
-    ensures { Reads augmentation_view (letters (pointer_context (section_in S.frame context.now) None address_size.bytes) (bytes_left (R.standing text)) (augmentation_view known)) (R.standing data.old) result (R.standing data.new) }
+    requires { (S.frame context.now.section).standing.place ≤ (R.standing input.old).place }
+    ensures { Reads augmentation_view (letters (pointer_context (section_in S.frame context.now) None address_size.bytes) (bytes_left (R.standing text)) (augmentation_view known)) (R.standing input.old) result (R.standing input.new) }
 {
     let mut text = text;
     let mut known = known;
     while let Ok(byte) = text.read_u8() {
-        known = read_letter(context, address_size, byte, known, data)?;
+        known = read_letter(context, address_size, byte, known, input)?;
     }
     Ok(known)
 }

@@ -1,5 +1,5 @@
-//! The row that an FDE gives for an address (DWARF 5 section 6.4.1).
-ghost use Rattle.std.specs.Prelude.{◌≡◌, ℕ, Option};
+//! The rows of an FDE, and the row that it gives for an address (DWARF 5 section 6.4.1).
+ghost use Rattle.std.specs.Prelude.{◌≡◌, ℕ, Option, IfOk, false};
 ghost use Rattle.cfi_read_core.specs.Addresses.{IsAddressSize};
 ghost use Rattle.cfi_read_core.specs.Readers.{map_ok};
 ghost use Rattle.cfi_parts.specs.Frames.{IsOf};
@@ -9,10 +9,12 @@ ghost use Rattle.cfi_state.specs.Numbered.{map_row};
 ghost use Rattle.cfi_unwind.specs.Sections.{section_of};
 ghost use Rattle.cfi_unwind.specs.Answers.{IsRowOfFde, RunsToRowOfFde, row_of_fde, setting};
 ghost use Rattle.cfi_unwind.specs.Views.{fde_view};
+ghost use Rattle.cfi_unwind.specs.Tables.{StartsRows};
+ghost use Rattle.cfi_unwind.specs.TablePlaces.{place_of};
 
 use crate::entry::fde::FrameDescriptionEntry;
 use crate::section::UnwindSection;
-use crate::table;
+use crate::table::{self, UnwindTable};
 use cfi_parts::pointer::BaseAddresses;
 use cfi_read_core::{Reader, Result};
 use cfi_state::storage::UnwindContextStorage;
@@ -22,7 +24,7 @@ use cfi_state::table::row::UnwindTableRow;
 
 impl<R: Reader> FrameDescriptionEntry<R> {
     // What stays fixed while the programs of the FDE and its CIE run.
-    fn parameters(&self) -> Parameters
+    pub(crate) fn parameters(&self) -> Parameters
         ensures setting { (rules stack : Option ℕ) → setting_of result rules stack ≡ setting rules stack (fde_view R.standing R.Offset.number self.now) }
         ensures sized { IsAddressSize result.address_size }
     {
@@ -33,6 +35,30 @@ impl<R: Reader> FrameDescriptionEntry<R> {
             initial_address: self.initial_address,
             end_address: self.end_address(),
         }
+    }
+
+    /// The FDE's rows, one after the other, made in the context, which is emptied first: `UnwindTable::new`.
+    ///
+    /// The FDE and its CIE are of the section; the bases are those of the section's entries. Refused with the first
+    /// refusal of the CIE's program. Of the FDE's instructions none is read yet. Over a fixed storage it takes no memory;
+    /// over another one it may be refused with `OutOfMemory`.
+    pub fn rows<'a, 'ctx, Section: UnwindSection<R>, S: UnwindContextStorage<R::Offset>>(
+        &self,
+        section: &'a Section,
+        bases: &'a BaseAddresses,
+        ctx: &'ctx mut UnwindContext<R::Offset, S>,
+    ) -> Result<UnwindTable<'a, 'ctx, R, S>>
+        requires own { IsOf (R.standing self.now.instructions) (Section.frame section.now).standing }
+        requires cie { IsOf (R.standing self.now.cie.instructions) (Section.frame section.now).standing }
+        ensures starts { StartsRows (λ table. place_of R.standing R.Offset.number table)
+            (setting S.Rules.limit S.Stack.limit (fde_view R.standing R.Offset.number self.now)) S.Rules.copies_free
+            (section_of (Section.frame section.now) bases.now) (fde_view R.standing R.Offset.number self.now) result }
+        ensures setting { IfOk result (λ table. (rules stack : Option ℕ) →
+            setting_of table.parameters.values rules stack ≡ setting rules stack (fde_view R.standing R.Offset.number self.now)) }
+        ensures holds_row { IfOk result (λ table. table.holds_row ≡ false) }
+        ensures same_reference { IfOk result (λ table. table.context.ghost_name ≡ ctx.entry.ghost_name) }
+    {
+        UnwindTable::new(section, bases, ctx, self)
     }
 
     /// The row of the FDE's table that contains the address, lent from the context, which is emptied first.

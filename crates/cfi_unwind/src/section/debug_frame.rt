@@ -1,11 +1,10 @@
 //! The section `.debug_frame`.
 ghost use Rattle.std.specs.Prelude.{◌≡◌, refl};
 ghost use Rattle.cfi_read_core.specs.Addresses.{IsAddressSize, sized_by};
-ghost use Rattle.cfi_read_core.specs.declared.common.SectionId.TheVariants.{DebugFrame as debug_frame_id};
 ghost use Rattle.cfi_read_core.specs.declared.common.Vendor.TheVariants.{Default as no_vendor};
 ghost use Rattle.cfi_read_core.specs.Readers.{all_of};
 ghost use Rattle.cfi_read_core.specs.Windows.{slice_standing};
-ghost use Rattle.cfi_parts.specs.Frames.{DebugFrame as debug_frame};
+ghost use Rattle.cfi_parts.specs.Frames.{DebugFrame as debug_frame, section_id};
 
 use crate::section::UnwindSection;
 use cfi_parts::section::{_UnwindSectionPrivate, CieOffsetEncoding};
@@ -71,7 +70,7 @@ impl<R> From<R> for DebugFrame<R> {
 impl<R> Section<R> for DebugFrame<R> {
     ghost bytes = { λ s. s.section };
 
-    ghost KIND = { debug_frame_id };
+    ghost KIND = { section_id debug_frame };
 
     fn id() -> SectionId {
         SectionId::DebugFrame

@@ -1,11 +1,10 @@
 //! The section `.eh_frame`.
 ghost use Rattle.std.specs.Prelude.{◌≡◌, refl};
 ghost use Rattle.cfi_read_core.specs.Addresses.{IsAddressSize, sized_by};
-ghost use Rattle.cfi_read_core.specs.declared.common.SectionId.TheVariants.{EhFrame as eh_frame_id};
 ghost use Rattle.cfi_read_core.specs.declared.common.Vendor.TheVariants.{Default as no_vendor};
 ghost use Rattle.cfi_read_core.specs.Readers.{all_of};
 ghost use Rattle.cfi_read_core.specs.Windows.{slice_standing};
-ghost use Rattle.cfi_parts.specs.Frames.{EhFrame as eh_frame};
+ghost use Rattle.cfi_parts.specs.Frames.{EhFrame as eh_frame, section_id};
 
 use crate::section::UnwindSection;
 use cfi_parts::section::{_UnwindSectionPrivate, CieOffsetEncoding};
@@ -71,7 +70,7 @@ impl<R> From<R> for EhFrame<R> {
 impl<R> Section<R> for EhFrame<R> {
     ghost bytes = { λ s. s.section };
 
-    ghost KIND = { eh_frame_id };
+    ghost KIND = { section_id eh_frame };
 
     fn id() -> SectionId {
         SectionId::EhFrame

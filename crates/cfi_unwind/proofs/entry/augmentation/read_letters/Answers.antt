@@ -10,7 +10,7 @@ use Rattle.cfi_unwind.proofs.entry.augmentation.read_letters.Goals as goal
 pub returns-in_err-known : goal.returns-in_err-known
 returns-in_err-known g c =
     let pointers = pointer_context (section_in g.S._UnwindSectionPrivate.frame c.args.context.now) None c.args.address_size.bytes in
-    let stands = g.R.Reader.standing c.loop-byte.data in
+    let stands = g.R.Reader.standing c.loop-byte.input in
     let gives : c.from_residual.result ≡ Err c.in_err-known.field-0.0 = search rules in
     let taken = byte_taken (g.met.R.Reader.sound c.loop-byte.text) c.in-Ok.ensures in
     rw gives (
@@ -24,7 +24,7 @@ loop-byte-smaller g c = fewer_left _ _ (g.met.R.Reader.sound c.loop-byte.text) c
 pub loop-byte-preserved : goal.loop-byte-preserved
 loop-byte-preserved g c =
     let pointers = pointer_context (section_in g.S._UnwindSectionPrivate.frame c.args.context.now) None c.args.address_size.bytes in
-    let stands = g.R.Reader.standing c.loop-byte.data in
+    let stands = g.R.Reader.standing c.loop-byte.input in
     let taken = byte_taken (g.met.R.Reader.sound c.loop-byte.text) c.in-Ok.ensures in
     let behind = not_before (onward_letter pointers c.in-Ok.byte (augmentation_view c.loop-byte.known)) c.in_ok-known.ensures in
     record {

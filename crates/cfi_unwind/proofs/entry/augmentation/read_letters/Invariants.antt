@@ -11,10 +11,10 @@ invariant-loop-byte g l =
     let standing = g.R.Reader.standing in
     let pointers = pointer_context (section_in g.S._UnwindSectionPrivate.frame l.context) None l.address_size.bytes in
     record {
-      same : letters pointers (bytes_left (standing l.text)) (augmentation_view l.known) (standing l.data).source (standing l.data).place
-          ≡ letters pointers (bytes_left (standing l.initial.text)) (augmentation_view l.initial.known) (standing l.initial.data).source (standing l.initial.data).place;
-      source : (standing l.data).source ≡ (standing l.initial.data).source;
-      behind : (g.S._UnwindSectionPrivate.frame l.context.section).standing.place ≤ (standing l.data).place;
+      same : letters pointers (bytes_left (standing l.text)) (augmentation_view l.known) (standing l.input).source (standing l.input).place
+          ≡ letters pointers (bytes_left (standing l.initial.text)) (augmentation_view l.initial.known) (standing l.initial.input).source (standing l.initial.input).place;
+      source : (standing l.input).source ≡ (standing l.initial.input).source;
+      behind : (g.S._UnwindSectionPrivate.frame l.context.section).standing.place ≤ (standing l.input).place;
     }
 
 abbrev pub decreases-loop-byte : goal.decreases-loop-byte

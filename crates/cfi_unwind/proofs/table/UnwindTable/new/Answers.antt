@@ -1,0 +1,14 @@
+use Rattle.std.proofs.Common.{ap, ◌∙◌}
+use Rattle.cfi_parts.specs.Iterators.{program}
+use Rattle.cfi_parts.specs.Programs.{instructions_left}
+use Rattle.cfi_unwind.specs.TablePlaces.{place_of}
+use Rattle.cfi_unwind.proofs.ScanSteps.{if_ok}
+use Rattle.cfi_unwind.proofs.StartLemmas.{starts_rows}
+use Rattle.cfi_unwind.proofs.table.UnwindTable.new.Goals as goal
+
+pub returns-clause-starts : goal.returns-clause-starts
+returns-clause-starts g c =
+    starts_rows (λ table. place_of g.R.Reader.standing g.R.Offset.ReaderOffset.number table) c.over.result _ _ (c.parameters.ensures.setting _ _) _ _ _ _ c.instructions.ensures
+    c.over.ensures.cie c.over.ensures.kept
+    (if_ok c.over.result (λ table same. ap (λ i. instructions_left (program g.R.Reader.standing i)) same ∙ c.instructions-instructions.ensures) c.over.ensures.fde)
+    c.over.ensures.has_ended
