@@ -66,11 +66,10 @@ impl<R: Reader> EhFrameHdr<R> {
     /// pointers: the section doesn't give it.
     ///
     /// Refused, in the order of the bytes, with `UnknownVersion` for a version other than 1; with
-    /// `UnknownPointerEncoding` for a byte that is no pointer encoding, in the three encodings of the pointer, the
-    /// count and the rows; as `parse_encoded_pointer` for the pointer to `.eh_frame`, which can't be omitted; where
-    /// neither the count nor the rows are omitted, with `UnsupportedPointerEncoding` for a count that is relative or
-    /// indirect, and as `parse_encoded_value` for the count; and with `UnexpectedEof` wherever the bytes end. It takes
-    /// no memory.
+    /// `UnknownPointerEncoding` for an encoding that isn't known, of the pointer to `.eh_frame`, of the count or of the
+    /// rows; as any pointer of the section for the pointer to `.eh_frame`; and, where neither the count nor the rows are
+    /// omitted, with `UnsupportedPointerEncoding` for a count that is relative or indirect, then as the value of any
+    /// pointer for the count. `UnexpectedEof` is answered where the bytes of a part end. It takes no memory.
     #[tactic(auto, unfolding(crate::specs::Headers::header_fields))]
     pub fn parse(&self, bases: &BaseAddresses, address_size: u8) -> Result<ParsedEhFrameHdr<R>>
         requires { IsAddressSize address_size }
@@ -85,7 +84,7 @@ impl<R: Reader> EhFrameHdr<R> {
         }
         let pointer_encoding = parse_pointer_encoding(&mut reader)?;
         let count_encoding = parse_pointer_encoding(&mut reader)?;
-        let table_enc = parse_pointer_encoding(&mut reader)?;
+        let table_encoding = parse_pointer_encoding(&mut reader)?;
         let parameters = PointerEncodingParameters {
             bases: &bases.eh_frame_hdr,
             func_base: None,
@@ -93,13 +92,13 @@ impl<R: Reader> EhFrameHdr<R> {
             section: &self.0,
         };
         let eh_frame_ptr = parse_encoded_pointer(pointer_encoding, &parameters, &mut reader)?;
-        let fde_count = read_row_count(count_encoding, table_enc, address_size, &mut reader)?;
+        let fde_count = read_row_count(count_encoding, table_encoding, address_size, &mut reader)?;
         Ok(ParsedEhFrameHdr {
             address_size: AddressSize::new(address_size),
             section: self.0,
             eh_frame_ptr,
             fde_count,
-            table_enc,
+            table_enc: table_encoding,
             table: reader,
         })
     }

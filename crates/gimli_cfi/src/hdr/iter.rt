@@ -17,7 +17,7 @@ use cfi_read_core::{DwEhPe, Reader, Result};
 
 /// The rows of a table, one behind the other: start and target of each.
 ///
-/// After a refused row it goes on from where the refused read left it.
+/// It ends after as many rows as the count, refused ones among them.
 #[derive(Debug, Drop)]
 pub struct EhHdrTableIter<'a, 'bases, R: Reader> {
     pub(crate) hdr: &'a ParsedEhFrameHdr<R>,
@@ -44,8 +44,8 @@ impl<'a, 'bases, R: Reader> EhHdrTableIter<'a, 'bases, R> {
 
     /// The next row: its start and its target. `None` for good once there have been as many as the count.
     ///
-    /// A row may be refused, as `parse_encoded_pointer` for its start and then its target. It counts as a row: there is
-    /// one fewer behind it, which is read from where the refused read left the reader. It takes no memory.
+    /// A row is refused as any pointer of the section, for its start and then for its target. It counts as a row: one
+    /// fewer remains, and the next is read from where the refused read stood. It takes no memory.
     #[tactic(auto, unfolding(crate::specs::Rows::next_row))]
     pub fn next(&mut self) -> Result<Option<(Pointer, Pointer)>>
         ensures read { Reads (λ found. found) (next_row (walk_view R.standing self.old)) (R.standing self.old.table) result (R.standing self.new.table) }
