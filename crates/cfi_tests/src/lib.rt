@@ -11,4 +11,6 @@ mod instructions;
 #[cfg(test)]
 mod reads;
 #[cfg(test)]
+mod rows;
+#[cfg(test)]
 mod sections;

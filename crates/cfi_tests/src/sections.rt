@@ -3,6 +3,7 @@ use cfi_read_core::{
     DebugFrameOffset, EhFrameOffset, EndianSlice, Error, Format, LittleEndian, NarrowSlice, Reader,
     ReaderOffsetId, Register, Section, SectionId,
 };
+use gimli_cfi::entry::CieOrFde;
 use gimli_cfi::pointer::{BaseAddresses, Pointer};
 use gimli_cfi::section::{DebugFrame, EhFrame, UnwindSection};
 use gimli_cfi::storage::{StoreGrowing, UnwindContextStorage};
@@ -11,7 +12,7 @@ use std::test::Fail;
 
 /// A CIE of version 4 (addresses of 8 bytes, factors 1 and -8, return register 16; r7+8, r16 at -8), and an FDE from
 /// 0x1000 up to 0x1020 whose program makes three rows.
-const THREE_ROWS: [u8; 52] = [
+pub const THREE_ROWS: [u8; 52] = [
     0x10, 0, 0, 0, 0xff, 0xff, 0xff, 0xff, 4, 0, 8, 0, 1, 0x78, 0x10, 0x0c, 7, 8, 0x90, 1, 0x1c, 0,
     0, 0, 0, 0, 0, 0, 0, 0x10, 0, 0, 0, 0, 0, 0, 0x20, 0, 0, 0, 0, 0, 0, 0, 0x41, 0x0e, 0x10, 0x86,
     2, 0x43, 0x0d, 6,
@@ -98,6 +99,27 @@ fn calls_by_offset(rt: HostRuntime) -> Result<(), Fail> {
     }
     let partial = section.partial_fde_from_offset(&bases, DebugFrameOffset(0));
     assert_eq!(rt; partial.err(), Some(Error::NotCiePointer(0)));
+    let gap = DebugFrame::new(&[0, 0, 0, 0], LittleEndian);
+    let read = gap.cie_from_offset(&bases, DebugFrameOffset(0));
+    assert_eq!(rt; read.err(), Some(Error::NoEntryAtGivenOffset(0)));
+    Ok(())
+}
+
+#[test]
+fn a_cie_of_the_64_bit_format(rt: HostRuntime) -> Result<(), Fail> {
+    let bytes = [
+        0xff, 0xff, 0xff, 0xff, 9, 0, 0, 0, 0, 0, 0, 0, 0, 0, 0, 0, 1, 0, 1, 0x78, 0x10,
+    ];
+    let section = EhFrame::new(&bytes, LittleEndian);
+    let bases = BaseAddresses::default();
+    let cie = section.cie_from_offset(&bases, EhFrameOffset(0))?;
+    assert_eq!(rt; cie.encoding().format, Format::Dwarf64);
+    assert_eq!(rt; cie.entry_len(), 9);
+    assert_eq!(rt; cie.version(), 1);
+    assert_eq!(rt; cie.return_address_register(), Register(16));
+    let mut entries = section.entries(&bases);
+    assert_eq!(rt; entries.next()?, Some(CieOrFde::Cie(cie)));
+    assert_eq!(rt; entries.next()?, None);
     Ok(())
 }
 

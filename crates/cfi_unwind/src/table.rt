@@ -86,7 +86,7 @@ impl<'a, 'ctx, R: Reader, S: UnwindContextStorage<R::Offset>> UnwindTable<'a, 'c
         ensures holds_row { IfOk result (λ table. table.holds_row ≡ false) }
         ensures same_reference { IfOk result (λ table. table.context.ghost_name ≡ ctx.entry.ghost_name) }
     {
-        let initial = fde.cie().instructions(section, bases);
+        let initial = fde.cie.instructions(section, bases);
         let instructions = fde.instructions(section, bases);
         Self::over(fde.parameters(), initial, instructions, ctx)
     }

@@ -1,0 +1,223 @@
+//! The rows of an FDE one after the other, and the row of an address with any `get_cie`.
+use crate::sections::THREE_ROWS;
+use cfi_parts::instruction::UnwindExpression;
+use cfi_read_core::section::Expression;
+use cfi_read_core::{
+    DebugFrameOffset, EndianSlice, Error, LittleEndian, ReaderOffsetId, Register, StoreOnHeap,
+};
+use gimli_cfi::entry::FrameDescriptionEntry;
+use gimli_cfi::pointer::BaseAddresses;
+use gimli_cfi::section::{DebugFrame, UnwindSection};
+use gimli_cfi::table::{CfaRule, RegisterRule, UnwindContext, UnwindTable};
+use std::test::Fail;
+
+type Slice<'a> = EndianSlice<'a, LittleEndian>;
+
+/// The CIE; an FDE that remembers a row, sets the CFA, moves and restores.
+const REMEMBERED: [u8; 49] = [
+    0x10, 0, 0, 0, 0xff, 0xff, 0xff, 0xff, 4, 0, 8, 0, 1, 0x78, 0x10, 0x0c, 7, 8, 0x90, 1, 0x19, 0, 0, 0, 0, 0, 0, 0, 0, 0x10, 0, 0, 0, 0, 0, 0, 0x20, 0, 0, 0, 0, 0, 0, 0, 0x0a, 0x0e, 0x20, 0x42, 0x0b,
+];
+
+/// A CIE whose program moves, and an FDE without instructions.
+const CIE_MOVES: [u8; 45] = [
+    0x11, 0, 0, 0, 0xff, 0xff, 0xff, 0xff, 4, 0, 8, 0, 1, 0x78, 0x10, 0x0c, 7, 8, 0x90, 1, 0x41, 0x14, 0, 0, 0, 0, 0, 0, 0, 0, 0x10, 0, 0, 0, 0, 0, 0, 0x20, 0, 0, 0, 0, 0, 0, 0,
+];
+
+/// The CIE; an FDE whose CFA is an expression, of which the register is set behind it.
+const EXPRESSION: [u8; 51] = [
+    0x10, 0, 0, 0, 0xff, 0xff, 0xff, 0xff, 4, 0, 8, 0, 1, 0x78, 0x10, 0x0c, 7, 8, 0x90, 1, 0x1b, 0, 0, 0, 0, 0, 0, 0, 0, 0x10, 0, 0, 0, 0, 0, 0, 0x20, 0, 0, 0, 0, 0, 0, 0, 0x86, 2, 0x0f, 1, 0x30, 0x0d, 6,
+];
+
+/// Two CIEs at 0 and 20, whose CFAs are r7+8 and r7+16; FDEs of the first for 0x1000 and 0x2000.
+const TWO_CIES: [u8; 88] = [
+    0x10, 0, 0, 0, 0xff, 0xff, 0xff, 0xff, 4, 0, 8, 0, 1, 0x78, 0x10, 0x0c, 7, 8, 0x90, 1, 0x10, 0, 0, 0, 0xff, 0xff, 0xff, 0xff, 4, 0, 8, 0, 1, 0x78, 0x10, 0x0c, 7, 0x10, 0x90, 1, 0x14, 0, 0, 0, 0, 0, 0, 0, 0, 0x10, 0, 0, 0, 0, 0, 0, 0x20, 0, 0, 0, 0, 0, 0, 0, 0x14, 0, 0, 0, 0, 0, 0, 0, 0, 0x20, 0, 0, 0, 0, 0, 0, 0x20, 0, 0, 0, 0, 0, 0, 0,
+];
+
+/// A row: its addresses, its CFA, and the rules of registers 6 and 16.
+type Shown = (
+    u64,
+    u64,
+    CfaRule<usize>,
+    Option<RegisterRule<usize>>,
+    Option<RegisterRule<usize>>,
+);
+
+/// The next row of a table.
+fn next_shown(table: &mut UnwindTable<'_, '_, Slice, StoreOnHeap>) -> Result<Option<Shown>, Error> {
+    match table.next_row()? {
+        Some(row) => Ok(Some((
+            row.start_address(),
+            row.end_address(),
+            *row.cfa(),
+            row.register(Register(6)),
+            row.register(Register(16)),
+        ))),
+        None => Ok(None),
+    }
+}
+
+/// A CFA of a register and an offset.
+fn cfa(register: u16, offset: i64) -> CfaRule<usize> {
+    CfaRule::RegisterAndOffset {
+        register: Register(register),
+        offset,
+    }
+}
+
+#[test]
+fn rows_one_by_one(rt: HostRuntime) -> Result<(), Fail> {
+    let saved = Some(RegisterRule::Offset(-16));
+    let address = Some(RegisterRule::Offset(-8));
+    let expression = CfaRule::Expression(UnwindExpression {
+        offset: 48,
+        length: 1,
+    });
+    let tables: [(&[u8], &[Result<Option<Shown>, Error>]); 4] = [
+        (
+            &THREE_ROWS,
+            &[
+                Ok(Some((0x1000, 0x1001, cfa(7, 8), None, address))),
+                Ok(Some((0x1001, 0x1004, cfa(7, 16), saved, address))),
+                Ok(Some((0x1004, 0x1020, cfa(6, 16), saved, address))),
+                Ok(None),
+                Ok(None),
+            ],
+        ),
+        (
+            &REMEMBERED,
+            &[
+                Ok(Some((0x1000, 0x1002, cfa(7, 32), None, address))),
+                Ok(Some((0x1002, 0x1020, cfa(7, 8), None, address))),
+                Ok(None),
+            ],
+        ),
+        (
+            &CIE_MOVES,
+            &[
+                Ok(Some((0x1000, 0x1020, cfa(7, 8), None, address))),
+                Ok(None),
+            ],
+        ),
+        (
+            &EXPRESSION,
+            &[
+                Err(Error::CfiInstructionInInvalidContext),
+                Ok(Some((0x1000, 0x1020, expression, saved, address))),
+                Ok(None),
+            ],
+        ),
+    ];
+    let bases = BaseAddresses::default();
+    let mut context: UnwindContext<usize> = UnwindContext::new(rt.alloc())?;
+    for (bytes, rows) in tables {
+        let section = DebugFrame::new(bytes, LittleEndian);
+        let fde = section.fde_for_address(&bases, 0x1000, |from, bases, offset| {
+            from.cie_from_offset(bases, offset)
+        })?;
+        let mut table = fde.rows(&section, &bases, &mut context)?;
+        for row in rows {
+            assert_eq!(rt; next_shown(&mut table), *row);
+        }
+        assert!(rt; table.into_current_row().is_none());
+    }
+    Ok(())
+}
+
+#[test]
+fn the_current_row_outlives_the_table(rt: HostRuntime) -> Result<(), Fail> {
+    let section = DebugFrame::new(&THREE_ROWS, LittleEndian);
+    let bases = BaseAddresses::default();
+    let mut context: UnwindContext<usize> = UnwindContext::new(rt.alloc())?;
+    let fde = section.fde_from_offset(&bases, DebugFrameOffset(20), |from, bases, offset| {
+        from.cie_from_offset(bases, offset)
+    })?;
+    let mut table = UnwindTable::new(&section, &bases, &mut context, &fde)?;
+    let _first = next_shown(&mut table)?;
+    let row = table.into_current_row();
+    assert_eq!(rt; row.map(|row| row.end_address()), Some(0x1001));
+    Ok(())
+}
+
+#[test]
+fn the_bytes_of_an_expression(rt: HostRuntime) -> Result<(), Fail> {
+    let section = DebugFrame::new(&EXPRESSION, LittleEndian);
+    let there = UnwindExpression {
+        offset: 48,
+        length: 1,
+    };
+    let Expression(read) = there.get(&section)?;
+    assert_eq!(rt; read.slice(), [0x30].as_slice());
+    let refusals: [(usize, usize, u64); 3] = [(52, 0, 0), (48, 4, 48), (51, 1, 51)];
+    for (offset, length, place) in refusals {
+        let expression = UnwindExpression { offset, length };
+        let read = expression.get(&section);
+        assert_eq!(rt; read.err(), Some(Error::UnexpectedEof(ReaderOffsetId(place))));
+    }
+    Ok(())
+}
+
+/// The row that the two CIEs give for an address, the first call being answered by the CIE at 0 and each further one by
+/// that at 20; and how many calls there were.
+fn with_changing_cies(
+    context: &mut UnwindContext<usize>,
+    address: u64,
+) -> (Result<Shown, Error>, u32) {
+    let section = DebugFrame::new(&TWO_CIES, LittleEndian);
+    let bases = BaseAddresses::default();
+    let mut asked = 0u32;
+    let found = section.unwind_info_for_address(&bases, context, address, |from, bases, _| {
+        let offset = if asked == 0 { 0 } else { 20 };
+        asked = asked.saturating_add(1);
+        from.cie_from_offset(bases, DebugFrameOffset(offset))
+    });
+    let shown = match found {
+        Ok(row) => Ok((
+            row.start_address(),
+            row.end_address(),
+            *row.cfa(),
+            row.register(Register(6)),
+            row.register(Register(16)),
+        )),
+        Err(refusal) => Err(refusal),
+    };
+    (shown, asked)
+}
+
+#[test]
+fn a_get_cie_that_changes(rt: HostRuntime) -> Result<(), Fail> {
+    let mut context: UnwindContext<usize> = UnwindContext::new(rt.alloc())?;
+    let address = Some(RegisterRule::Offset(-8));
+    let rows: [(u64, Result<Shown, Error>, u32); 3] = [
+        (0x1000, Ok((0x1000, 0x1020, cfa(7, 8), None, address)), 1),
+        (0x2000, Ok((0x2000, 0x2020, cfa(7, 16), None, address)), 2),
+        (0x3000, Err(Error::NoUnwindInfoForAddress), 2),
+    ];
+    for (address, row, asked) in rows {
+        assert_eq!(rt; with_changing_cies(&mut context, address), (row, asked));
+    }
+    Ok(())
+}
+
+#[test]
+fn a_get_cie_that_refuses(rt: HostRuntime) -> Result<(), Fail> {
+    let section = DebugFrame::new(&TWO_CIES, LittleEndian);
+    let bases = BaseAddresses::default();
+    let mut context: UnwindContext<usize> = UnwindContext::new(rt.alloc())?;
+    for address in [0x1000, 0x2000] {
+        let mut asked = 0u32;
+        let found = section.unwind_info_for_address(
+            &bases,
+            &mut context,
+            address,
+            |from, bases, offset| {
+                if asked == 0 {
+                    asked = 1;
+                    return Err(Error::UnknownAugmentation);
+                }
+                from.cie_from_offset(bases, offset)
+            },
+        );
+        assert_eq!(rt; found.err(), Some(Error::UnknownAugmentation));
+    }
+    Ok(())
+}
