@@ -16,7 +16,7 @@ use Rattle.cfi_unwind.specs.Sections.{Kind, Section}
 use Rattle.cfi_unwind.specs.Scan.{chosen}
 use Rattle.cfi_unwind.specs.Fdes.{Fde}
 use Rattle.cfi_unwind.specs.Programs.{cie_instructions, fde_instructions}
-use Rattle.cfi_unwind.specs.Answers.{setting, IsRowOfFde, IsOfChosen, IsRowByScan}
+use Rattle.cfi_unwind.specs.Answers.{setting, IsRowOfFde, IsOfFound, IsRowByScan}
 use Rattle.cfi_rows.specs.Lines.{Line}
 use Rattle.cfi_rows.specs.declared.words.Request.{Request}
 use Rattle.cfi_rows.specs.declared.words.Storage.{Storage}
@@ -50,7 +50,7 @@ of_fde room section a fde answer allowed =
     }
 
 of_chosen : (room : Room) (section : Section) (a : ℕ) (found : Result Fde Error) (answer : Result (Row ℕ) Error)
-    → IsOfChosen (IsRowOfFde room.rule_limit room.stack_limit room.copies_free section a) found answer → IsOfChosen (IsOfFde room section a) found answer
+    → IsOfFound (IsRowOfFde room.rule_limit room.stack_limit room.copies_free section a) found answer → IsOfFound (IsOfFde room section a) found answer
 of_chosen room section a (Ok fde) answer is = of_fde room section a fde answer is
 of_chosen room section a (Err e) answer is = is
 

@@ -11,7 +11,7 @@ use Rattle.cfi_unwind.specs.Sections.{Section}
 use Rattle.cfi_unwind.specs.Fdes.{Fde}
 use Rattle.cfi_state.specs.Limit.{IsFixed}
 use Rattle.cfi_unwind.specs.Scan.{chosen}
-use Rattle.cfi_unwind.specs.Answers.{row_of_fde, IsRowOfFde, IsOfChosen}
+use Rattle.cfi_unwind.specs.Answers.{row_of_fde, IsRowOfFde, IsOfFound}
 use Rattle.gimli_cfi.specs.Headers.{HeaderSection, Header, Table, header_of, value_size}
 use Rattle.gimli_cfi.specs.Tables.{IsTableAnswer}
 use Rattle.cfi_rows.specs.declared.words.Kind.{Kind}
@@ -80,13 +80,13 @@ pub record IsOfFde (room : Room) (section : Section) (a : ℕ) (fde : Fde) (answ
 
 -- that of the FDE that is found by going through the section
 abbrev pub ByScan : FdeAnswer → Request → List ℕ → Result (Row ℕ) Error → Type 0
-ByScan of_fde r bytes answer = IsOfChosen (of_fde (section_of r bytes) r.address) (chosen (section_of r bytes) r.address) answer
+ByScan of_fde r bytes answer = IsOfFound (of_fde (section_of r bytes) r.address) (chosen (section_of r bytes) r.address) answer
 
 abbrev pub ByTable : FdeAnswer → Request → HeaderSection → Pointer → Table → List ℕ → Option ℕ → Result (Row ℕ) Error → Type 0
 ByTable of_fde r header eh_frame table bytes None answer = answer ≡ Err (UnsupportedPointerEncoding (record { 0 = table.encoding }))
 ByTable of_fde r header eh_frame table bytes (Some size) answer =
     (found : Result Fde Error) × IsTableAnswer Ok header table eh_frame (section_of r bytes) r.address found
-    × IsOfChosen (of_fde (section_of r bytes) r.address) found answer
+    × IsOfFound (of_fde (section_of r bytes) r.address) found answer
 
 abbrev pub ByRows : FdeAnswer → Request → HeaderSection → Pointer → Option Table → List ℕ → Result (Row ℕ) Error → Type 0
 ByRows of_fde r header eh_frame None bytes answer = ByScan of_fde r bytes answer
