@@ -141,14 +141,7 @@ impl<R: Reader> Clone for ParsedEhFrameHdr<R> {
     ghost is_infallible = { λ _. ⊤ };
 
     fn clone(&self) -> std::result::Result<Self, AllocError> {
-        Ok(ParsedEhFrameHdr {
-            address_size: self.address_size,
-            section: self.section,
-            eh_frame_ptr: self.eh_frame_ptr,
-            fde_count: self.fde_count,
-            table_enc: self.table_enc,
-            table: self.table,
-        })
+        Ok(*self)
     }
 }
 

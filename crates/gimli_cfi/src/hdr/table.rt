@@ -24,7 +24,7 @@ impl<R: Reader> Clone for EhHdrTable<'_, R> {
     ghost is_infallible = { λ _. ⊤ };
 
     fn clone(&self) -> std::result::Result<Self, AllocError> {
-        Ok(EhHdrTable { hdr: self.hdr })
+        Ok(*self)
     }
 }
 
