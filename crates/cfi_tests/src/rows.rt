@@ -3,15 +3,13 @@ use crate::sections::THREE_ROWS;
 use cfi_parts::instruction::UnwindExpression;
 use cfi_read_core::section::Expression;
 use cfi_read_core::{
-    DebugFrameOffset, EndianSlice, Error, LittleEndian, ReaderOffsetId, Register, StoreOnHeap,
+    DebugFrameOffset, Error, LittleEndian, Reader, ReaderOffsetId, Register, StoreOnHeap,
 };
-use gimli_cfi::entry::FrameDescriptionEntry;
+use cfi_unwind::section::fde_by_scan_of;
 use gimli_cfi::pointer::BaseAddresses;
 use gimli_cfi::section::{DebugFrame, UnwindSection};
 use gimli_cfi::table::{CfaRule, RegisterRule, UnwindContext, UnwindTable};
 use std::test::Fail;
-
-type Slice<'a> = EndianSlice<'a, LittleEndian>;
 
 /// The CIE; an FDE that remembers a row, sets the CFA, moves and restores.
 const REMEMBERED: [u8; 49] = [
@@ -43,7 +41,9 @@ type Shown = (
 );
 
 /// The next row of a table.
-fn next_shown(table: &mut UnwindTable<'_, '_, Slice, StoreOnHeap>) -> Result<Option<Shown>, Error> {
+fn next_shown<R: Reader<Offset = usize>>(
+    table: &mut UnwindTable<'_, '_, R, StoreOnHeap>,
+) -> Result<Option<Shown>, Error> {
     match table.next_row()? {
         Some(row) => Ok(Some((
             row.start_address(),
@@ -52,6 +52,38 @@ fn next_shown(table: &mut UnwindTable<'_, '_, Slice, StoreOnHeap>) -> Result<Opt
             row.register(Register(6)),
             row.register(Register(16)),
         ))),
+        None => Ok(None),
+    }
+}
+
+/// Whether the FDE for 0x1000 hands out these answers one after the other, and no current row behind the last.
+fn hands_out<R: Reader<Offset = usize>>(
+    section: &DebugFrame<R>,
+    context: &mut UnwindContext<usize>,
+    answers: &[Result<Option<Shown>, Error>],
+) -> Result<bool, Error> {
+    let bases = BaseAddresses::default();
+    let fde = fde_by_scan_of(section, &bases, 0x1000)?;
+    let mut table = fde.rows(section, &bases, context)?;
+    for answer in answers {
+        if next_shown(&mut table) != *answer {
+            return Ok(false);
+        }
+    }
+    Ok(table.into_current_row().is_none())
+}
+
+/// Where the first row of the FDE for 0x1000 ends, by the row that the table leaves behind.
+fn first_end<R: Reader<Offset = usize>>(
+    section: &DebugFrame<R>,
+    context: &mut UnwindContext<usize>,
+) -> Result<Option<u64>, Error> {
+    let bases = BaseAddresses::default();
+    let fde = fde_by_scan_of(section, &bases, 0x1000)?;
+    let mut table = UnwindTable::new(section, &bases, context, &fde)?;
+    let _first = next_shown(&mut table)?;
+    match table.into_current_row() {
+        Some(row) => Ok(Some(row.end_address())),
         None => Ok(None),
     }
 }
@@ -107,18 +139,10 @@ fn rows_one_by_one(rt: HostRuntime) -> Result<(), Fail> {
             ],
         ),
     ];
-    let bases = BaseAddresses::default();
     let mut context: UnwindContext<usize> = UnwindContext::new(rt.alloc())?;
-    for (bytes, rows) in tables {
+    for (bytes, answers) in tables {
         let section = DebugFrame::new(bytes, LittleEndian);
-        let fde = section.fde_for_address(&bases, 0x1000, |from, bases, offset| {
-            from.cie_from_offset(bases, offset)
-        })?;
-        let mut table = fde.rows(&section, &bases, &mut context)?;
-        for row in rows {
-            assert_eq!(rt; next_shown(&mut table), *row);
-        }
-        assert!(rt; table.into_current_row().is_none());
+        assert_eq!(rt; hands_out(&section, &mut context, answers), Ok(true));
     }
     Ok(())
 }
@@ -126,15 +150,8 @@ fn rows_one_by_one(rt: HostRuntime) -> Result<(), Fail> {
 #[test]
 fn the_current_row_outlives_the_table(rt: HostRuntime) -> Result<(), Fail> {
     let section = DebugFrame::new(&THREE_ROWS, LittleEndian);
-    let bases = BaseAddresses::default();
     let mut context: UnwindContext<usize> = UnwindContext::new(rt.alloc())?;
-    let fde = section.fde_from_offset(&bases, DebugFrameOffset(20), |from, bases, offset| {
-        from.cie_from_offset(bases, offset)
-    })?;
-    let mut table = UnwindTable::new(&section, &bases, &mut context, &fde)?;
-    let _first = next_shown(&mut table)?;
-    let row = table.into_current_row();
-    assert_eq!(rt; row.map(|row| row.end_address()), Some(0x1001));
+    assert_eq!(rt; first_end(&section, &mut context), Ok(Some(0x1001)));
     Ok(())
 }
 

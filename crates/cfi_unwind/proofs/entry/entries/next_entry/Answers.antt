@@ -23,7 +23,7 @@ returns-then-has_zero_terminator-clause-met g c =
     let read = rw c.in-Ok-None.field-0-is at c.in-Ok-None.ensures.read in
     let kind = g.met.S._UnwindSectionPrivate.kind c.args.context.now.section in
     let ends = ap zero_length_ends kind ∙ sym c.has_zero_terminator.ensures ∙ c.if-has_zero_terminator.true in (
-      sym c.loop-input.invariant.same ∙ step_terminator section (g.R.Reader.standing c.loop-input.input) (g.R.Reader.standing c.read_entry.new.input) c.loop-input.invariant.through.source some_left read.0 ends,
+      cc (c.loop-input.invariant.same, step_terminator section (g.R.Reader.standing c.loop-input.input) (g.R.Reader.standing c.read_entry.new.input) c.loop-input.invariant.through.source some_left read.0 ends),
       exhausted_left section (g.R.Reader.standing c.read_entry.new.input) _ (read.1 ∙ c.loop-input.invariant.through.source) c.empty.ensures,
     )
 

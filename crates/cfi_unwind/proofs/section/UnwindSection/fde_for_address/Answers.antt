@@ -29,9 +29,9 @@ returns-in_err-cie-clause-scan g c =
             asked = _;
             answer = c.get_cie.result;
             at_section = refl;
-            at_bases = refl;
-            at_offset = ap g.R.Offset.ReaderOffset.number (g.met.Self.Offset.UnwindOffset.inverse _ _ c.from.ensures);
-            seen = ap (map_ok (cie_view g.R.Reader.standing g.R.Offset.ReaderOffset.number)) c.in_err-cie.was;
+            at_bases = search;
+            at_offset = search (ap g.R.Offset.ReaderOffset.number (g.met.Self.Offset.UnwindOffset.inverse _ _ c.from.ensures));
+            seen = search (ap (map_ok (cie_view g.R.Reader.standing g.R.Offset.ReaderOffset.number)) c.in_err-cie.was);
             call = c.get_cie.ensures;
           }) _ refl)),
     )

@@ -19,7 +19,7 @@ returns-in_err-cie-clause-read g c =
           at_section = refl;
           at_bases = refl;
           at_offset = ap number c.cie_offset.ensures;
-          seen = ap (map_ok (cie_view g.R.Reader.standing number)) c.in_err-cie.was;
+          seen = cc c.in_err-cie.was;
           call = c.get_cie.ensures;
         },
         ap (map_ok (fde_view g.R.Reader.standing number)) gives,
