@@ -5,6 +5,7 @@ pub mod Agreement
 pub mod Computing
 pub mod HeaderReads
 pub mod RowWalk
+pub mod RowReads
 pub mod WorkedEntries
 pub mod WorkedTable
 pub mod WorkedRows
