@@ -6,6 +6,7 @@ pub mod Computing
 pub mod HeaderReads
 pub mod RowWalk
 pub mod RowReads
+pub mod Searches
 pub mod WorkedEntries
 pub mod WorkedTable
 pub mod WorkedRows
