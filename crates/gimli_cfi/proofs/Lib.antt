@@ -7,6 +7,8 @@ pub mod HeaderReads
 pub mod RowWalk
 pub mod RowReads
 pub mod Searches
+pub mod TableFinds
+pub mod TableRows
 pub mod WorkedEntries
 pub mod WorkedTable
 pub mod WorkedRows
