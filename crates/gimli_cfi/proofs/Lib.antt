@@ -6,6 +6,7 @@ pub mod Computing
 pub mod HeaderReads
 pub mod RowWalk
 pub mod RowReads
+pub mod PassingRows
 pub mod Searches
 pub mod TableFinds
 pub mod TableRows
