@@ -9,4 +9,6 @@ mod instructions;
 #[cfg(test)]
 mod reads;
 #[cfg(test)]
+mod searches;
+#[cfg(test)]
 mod sections;
