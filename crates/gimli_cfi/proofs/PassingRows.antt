@@ -1,9 +1,9 @@
 -- Passing rows of a table at once: each way in which it ends.
 use Rattle.std.proofs.Common.{◌≡◌, ◌≤◌, ◌<◌, ◌-◌, ℕ, Option, Some, None, Result, Ok, Err, refl, sym, ap, ◌∙◌, subst}
-use Rattle.std.specs.Prelude.{ok_or, nat_le, if◌then◌else◌}
+use Rattle.std.specs.Prelude.{ok_or}
 use borrow.Author.Tests.{lt-leb, le-leb}
 use Rattle.cfi_read_core.specs.declared.error.Error.{Error}
-use Rattle.cfi_read_core.specs.Reading.{Standing, Source, Outcome}
+use Rattle.cfi_read_core.specs.Reading.{Standing, Source}
 use Rattle.cfi_parts.specs.declared.pointer.Pointer.{Pointer}
 use Rattle.gimli_cfi.specs.Headers.{rows_passed, value_size}
 use Rattle.gimli_cfi.specs.Rows.{Walk, next_row}

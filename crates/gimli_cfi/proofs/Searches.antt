@@ -1,8 +1,8 @@
 -- What a search in the rows comes to.
-use Rattle.std.proofs.Common.{◌≡◌, ℕ, Option, Some, None, Result, Ok, Err, refl, sym, ap, ◌∙◌, inr, ⊎_elim}
+use Rattle.std.proofs.Common.{◌≡◌, ℕ, Option, Some, None, Result, Ok, inr, ⊎_elim}
 use Rattle.std.specs.Prelude.{IsSome, ok_or}
 use Rattle.cfi_read_core.specs.declared.error.Error.{Error}
-use Rattle.gimli_cfi.specs.Boundary.{IsBoundaryRow, IsRefusalOfRow, AreRising, IsLastUpTo}
+use Rattle.gimli_cfi.specs.Boundary.{IsBoundaryRow, AreRising, IsLastUpTo}
 use Rattle.gimli_cfi.specs.Headers.{Table}
 use Rattle.gimli_cfi.specs.Tables.{SearchedBy}
 use Rattle.gimli_cfi.proofs.Rising.{last_up_to}

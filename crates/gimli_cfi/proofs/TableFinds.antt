@@ -1,6 +1,5 @@
 -- What the table finds, by reading the FDE that a target names.
-use Rattle.std.proofs.Common.{◌≡◌, ◌≤◌, ◌<◌, ◌-◌, ℕ, Bool, true, false, Option, Some, None, Result, Ok, Err, refl, sym, ap, ◌∙◌, subst, inl, inr, ⊎_elim, arith}
-use Rattle.std.specs.Prelude.{if◌then◌else◌}
+use Rattle.std.proofs.Common.{◌≡◌, ℕ, true, false, Option, Some, None, Result, Ok, Err, refl, sym, ap, ◌∙◌, subst, inl, inr, ⊎_elim}
 use Rattle.cfi_read_core.specs.declared.error.Error.{Error}
 use Rattle.cfi_read_core.specs.declared.error.Error.TheVariants.{NoUnwindInfoForAddress}
 use Rattle.cfi_parts.specs.declared.pointer.Pointer.{Pointer}
@@ -9,7 +8,7 @@ use Rattle.cfi_unwind.specs.Cies.{Cie}
 use Rattle.cfi_unwind.specs.Fdes.{PartialFde, Fde, covers}
 use Rattle.cfi_unwind.specs.Entries.{cie_at, fde_with, fde_by, partial_fde_at}
 use Rattle.cfi_unwind.specs.Asking.{ReadsWith}
-use Rattle.gimli_cfi.specs.Headers.{HeaderSection, Table, value_size, target_of, offset_of_pointer}
+use Rattle.gimli_cfi.specs.Headers.{HeaderSection, Table, value_size, target_of}
 use Rattle.gimli_cfi.specs.Tables.{SearchedBy, IsFoundBySearch, IsFoundByTable, ReadsAt, covering, fde_at_pointer, fde_by_target, fde_by_row}
 
 -- ---- one FDE

@@ -1,5 +1,5 @@
 -- By a faithful table the row for an address is that by going through the section.
-use Rattle.std.proofs.Common.{◌≡◌, ◌≤◌, ◌<◌, ◌-◌, ℕ, Bool, Option, Result, sym, subst, ◌∙◌, ap, arith}
+use Rattle.std.proofs.Common.{◌≡◌, ◌≤◌, ◌<◌, ◌-◌, ℕ, Bool, Option, Result, subst, arith}
 use Rattle.cfi_read_core.specs.declared.error.Error.{Error}
 use Rattle.cfi_read_core.specs.Readers.{IsSound}
 use Rattle.cfi_read_core.specs.Reading.{Standing}
@@ -29,6 +29,6 @@ module _ (rule_limit stack_limit : Option ℕ) (copies_free : Bool) (section : S
       IsAsByScan rule_limit stack_limit copies_free section a row
   as_by_scan header table pointer eh_frame source found at faithful reaches same searched is =
       let searched' : IsFoundByTable source header table (Direct eh_frame) section a found =
-          subst (λ (p : Pointer). IsFoundByTable source header table p section a found) at searched in
+      subst (λ (p : Pointer). IsFoundByTable source header table p section a found) at searched in
       let scanned : found ≡ chosen section a = found_as_scan header table eh_frame section faithful a source found reaches same searched' in
       row_of_chosen (subst (λ (r : Result Fde Error). IsRowOfFound rule_limit stack_limit copies_free section a r row) scanned is)

@@ -2,7 +2,7 @@
 use Rattle.std.specs.Prelude.{◌≡◌, ℕ, ◌-◌, Option, Some, None, Result, Ok, Err, nat_le, if◌then◌else◌}
 use Rattle.cfi_read_core.specs.declared.error.Error.{Error}
 use Rattle.cfi_read_core.specs.declared.error.Error.TheVariants.{UnsupportedPointerEncoding}
-use Rattle.cfi_read_core.specs.Reading.{Standing, Outcome}
+use Rattle.cfi_read_core.specs.Reading.{Outcome}
 use Rattle.cfi_read_core.specs.Readers.{Reads, map_ok}
 use Rattle.cfi_parts.specs.declared.pointer.Pointer.{Pointer}
 use Rattle.gimli_cfi.specs.Headers.{rows_passed, value_size}

@@ -18,11 +18,11 @@ ghost use Rattle.gimli_cfi.specs.Views.{frame_view, section_view, table_view};
 use crate::hdr::search::StartSource;
 use crate::hdr::table::EhHdrTable;
 use cfi_parts::pointer::{BaseAddresses, Pointer};
+use cfi_parts::section::_UnwindSectionPrivate;
 use cfi_read_core::{EhFrameOffset, Error, Reader, Result};
 use cfi_state::storage::UnwindContextStorage;
 use cfi_state::table::context::UnwindContext;
 use cfi_state::table::row::UnwindTableRow;
-use cfi_parts::section::_UnwindSectionPrivate;
 use cfi_unwind::entry::{CommonInformationEntry, FrameDescriptionEntry};
 use cfi_unwind::section::{EhFrame, UnwindSection};
 

@@ -1,4 +1,3 @@
-use Rattle.std.proofs.Common.{◌≡◌, rules}
 use Rattle.gimli_cfi.specs.Headers.{value_size, target_of}
 use Rattle.gimli_cfi.specs.Views.{section_view, starts_view, table_view}
 use Rattle.gimli_cfi.proofs.Searches.{rising_row}
