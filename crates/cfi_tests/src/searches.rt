@@ -46,9 +46,9 @@ fn ended(place: u64) -> Error {
 /// The addresses of a row, and the offset of its CFA from register 7.
 type Shown = (u64, u64, Option<i64>);
 
-fn shown<A: gimli_cfi::storage::ArrayLike<Item = (Register, gimli_cfi::table::RegisterRule<usize>)>>(
-    row: &UnwindTableRow<usize, A>,
-) -> Shown {
+fn shown<
+    A: gimli_cfi::storage::ArrayLike<Item = (Register, gimli_cfi::table::RegisterRule<usize>)>,
+>(row: &UnwindTableRow<usize, A>) -> Shown {
     let offset = match *row.cfa() {
         CfaRule::RegisterAndOffset {
             register: Register(7),
@@ -130,8 +130,14 @@ fn lookups(rt: HostRuntime) -> Result<(), Fail> {
     let offsets: [(Pointer, Result<usize, Error>); 4] = [
         (Pointer::Direct(0x2018), Ok(24)),
         (Pointer::Direct(0x2000), Ok(0)),
-        (Pointer::Direct(0x1fff), Err(Error::OffsetOutOfBounds(0x1fff))),
-        (Pointer::Indirect(0x2018), Err(Error::UnsupportedIndirectPointer)),
+        (
+            Pointer::Direct(0x1fff),
+            Err(Error::OffsetOutOfBounds(0x1fff)),
+        ),
+        (
+            Pointer::Indirect(0x2018),
+            Err(Error::UnsupportedIndirectPointer),
+        ),
     ];
     for (pointer, offset) in offsets {
         let found = table.pointer_to_offset(pointer);
@@ -256,8 +262,11 @@ fn rows_passed_at_once(rt: HostRuntime) -> Result<(), Fail> {
     let parsed = EhFrameHdr::new(&HEADER, LittleEndian).parse(&bases, 8)?;
     let second = (Pointer::Direct(0x1010), Pointer::Direct(0x202c));
     let third = (Pointer::Direct(0x1020), Pointer::Direct(0x2040));
-    let counts: [(usize, Option<(Pointer, Pointer)>, usize); 3] =
-        [(1, Some(second), 1), (2, Some(third), 0), (3, None, 0)];
+    let counts: [(usize, Option<(Pointer, Pointer)>, usize); 3] = [
+        (1, Some(second), 1),
+        (2, Some(third), 0),
+        (3, None, 0),
+    ];
     for (count, row, left) in counts {
         assert_eq!(rt; passed(&parsed, &bases, count), Some((Ok(row), left)));
     }
@@ -286,10 +295,16 @@ fn rows_that_are_not_there(rt: HostRuntime) -> Result<(), Fail> {
     fewer[16] = 0x20;
     let parsed = EhFrameHdr::new(&fewer, LittleEndian).parse(&bases, 8)?;
     let count: usize = 0x20_0000_0000;
-    assert_eq!(rt; passed(&parsed, &bases, 0x1000_0000), Some((Err(ended(20)), count)));
+    assert_eq!(rt;
+        passed(&parsed, &bases, 0x1000_0000),
+        Some((Err(ended(20)), count))
+    );
     let narrow = EhFrameHdr::from(NarrowSlice::new(&fewer, LittleEndian)?).parse(&bases, 8)?;
     let refusal = Error::UnsupportedOffset;
-    assert_eq!(rt; passed(&narrow, &bases, 0x1000_0000), Some((Err(refusal), count)));
+    assert_eq!(rt;
+        passed(&narrow, &bases, 0x1000_0000),
+        Some((Err(refusal), count))
+    );
     Ok(())
 }
 
