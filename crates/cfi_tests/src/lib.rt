@@ -15,4 +15,6 @@ mod reads;
 #[cfg(test)]
 mod rows;
 #[cfg(test)]
+mod searches;
+#[cfg(test)]
 mod sections;

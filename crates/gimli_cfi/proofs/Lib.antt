@@ -5,6 +5,11 @@ pub mod Agreement
 pub mod Computing
 pub mod HeaderReads
 pub mod RowWalk
+pub mod RowReads
+pub mod PassingRows
+pub mod Searches
+pub mod TableFinds
+pub mod TableRows
 pub mod WorkedEntries
 pub mod WorkedTable
 pub mod WorkedRows

@@ -1,11 +1,16 @@
 -- Headers, tables and their iterators as the code has them, as what they mean.
+use Rattle.std.specs.Prelude.{ℕ, Result}
+use Rattle.cfi_read_core.specs.declared.error.Error.{Error}
 use Rattle.cfi_read_core.specs.Reading.{Standing}
 use Rattle.cfi_read_core.specs.Readers.{extent_of}
 use Rattle.cfi_parts.specs.declared.pointer.BaseAddresses.{BaseAddresses}
+use Rattle.cfi_parts.specs.Frames.{EhFrame as of_eh_frame}
+use Rattle.cfi_unwind.specs.declared.section.eh_frame.EhFrame.{EhFrame}
+use Rattle.cfi_unwind.specs.Sections.{Section, section_of}
 use Rattle.gimli_cfi.specs.declared.hdr.header.ParsedEhFrameHdr.{ParsedEhFrameHdr}
 use Rattle.gimli_cfi.specs.declared.hdr.table.EhHdrTable.{EhHdrTable}
 use Rattle.gimli_cfi.specs.declared.hdr.iter.EhHdrTableIter.{EhHdrTableIter}
-use Rattle.gimli_cfi.specs.Headers.{HeaderSection, Header, Table, header_section, table_of}
+use Rattle.gimli_cfi.specs.Headers.{HeaderSection, Header, Table, header_section, start_of, table_of}
 use Rattle.gimli_cfi.specs.Rows.{Walk}
 
 -- In each type the reader's offset and byte order follow the reader; the braces have what the traits of the three say.
@@ -29,6 +34,15 @@ rows_view standing p = record { encoding = p.table_enc.0; count = p.fde_count; r
 abbrev pub table_view : {R O E : Type 0} {a : _} {b : _} {c : _} {d : _} {e : _} {f : _} {g : _} {h : _} {i : _} {j : _} {k : _} →
     (R → Standing) → EhHdrTable R O E a b c d e f g h i j k → Table
 table_view standing t = rows_view standing t.hdr.now
+
+-- the start that each row has
+abbrev pub starts_view : {R O E : Type 0} {a : _} {b : _} {c : _} {d : _} {e : _} {f : _} {g : _} {h : _} {i : _} {j : _} {k : _} →
+    (R → Standing) → ParsedEhFrameHdr R O E a b c d e f g h i j k → BaseAddresses → ℕ → Result ℕ Error
+starts_view standing p bases = start_of (section_view standing p bases) (rows_view standing p)
+
+-- the section of the entries, as the code has it
+abbrev pub frame_view : {R : Type 0} → (R → Standing) → EhFrame R → BaseAddresses → Section
+frame_view standing frame bases = section_of (record { kind = of_eh_frame; standing = standing frame.section; address_size = frame.address_size.bytes; vendor = frame.vendor }) bases
 
 -- the rows that remain
 abbrev pub walk_view : {R O E : Type 0} {a : _} {b : _} {c : _} {d : _} {e : _} {f : _} {g : _} {h : _} {i : _} {j : _} {k : _} →

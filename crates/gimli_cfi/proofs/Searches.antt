@@ -1,0 +1,26 @@
+-- What a search in the rows comes to.
+use Rattle.std.proofs.Common.{◌≡◌, ℕ, Option, Some, None, Result, Ok, inr, ⊎_elim}
+use Rattle.std.specs.Prelude.{IsSome, ok_or}
+use Rattle.cfi_read_core.specs.declared.error.Error.{Error}
+use Rattle.gimli_cfi.specs.Boundary.{IsBoundaryRow, AreRising, IsLastUpTo}
+use Rattle.gimli_cfi.specs.Headers.{Table}
+use Rattle.gimli_cfi.specs.Tables.{SearchedBy}
+use Rattle.gimli_cfi.proofs.Rising.{last_up_to}
+
+-- by a boundary row, in a format that can be searched
+pub by_row : {A : Type 0} (size : Option ℕ) (n : ℕ) (e : Error) (start : ℕ → Result ℕ Error) (table : Table) (a : ℕ) (of_row : ℕ → Result A Error) (found : Result A Error) (k : ℕ) →
+    ok_or size e ≡ Ok n → IsBoundaryRow start table.count a k → found ≡ of_row k → SearchedBy size start table a of_row found
+by_row None n e start table a of_row found k searchable boundary same = absurd (cc)
+by_row (Some size) n e start table a of_row found k searchable boundary same = inr (k, boundary, same)
+
+-- where the starts rise, by the last row at or below the address
+pub rising_row : {A : Type 0} (size : Option ℕ) (start : ℕ → Result ℕ Error) (table : Table) (a : ℕ) (of_row : ℕ → Result A Error) (found : Result A Error) →
+    IsSome size → AreRising start table.count → SearchedBy size start table a of_row found → (k : ℕ) × IsLastUpTo start table.count a k × (found ≡ of_row k)
+rising_row None start table a of_row found searchable rising searched = absurd (cc)
+rising_row (Some size) start table a of_row found searchable rising searched =
+    ⊎_elim
+    (λ refused.
+    let given = (rising.given refused.1.0 refused.1.1).1 in
+    let not_given = refused.1.2 in absurd (cc))
+    (λ row. (row.0, last_up_to start table.count a row.0 rising row.1, row.2))
+    searched

@@ -1,0 +1,79 @@
+//! Looking up an address in the rows of a table.
+ghost use Rattle.std.specs.Prelude.{◌≡◌, ℕ, ◌+◌, ◌≤◌, IsSome, None};
+ghost use Rattle.cfi_read_core.specs.Readers.{map_ok};
+ghost use Rattle.gimli_cfi.specs.Boundary.{AreRising, IsLastUpTo};
+ghost use Rattle.gimli_cfi.specs.Headers.{offset_of_pointer, target_of, value_size};
+ghost use Rattle.gimli_cfi.specs.Steps.{steps};
+ghost use Rattle.gimli_cfi.specs.Tables.{IsFoundBySearch};
+
+use crate::hdr::fields::{searchable_size, target_of_row};
+use crate::hdr::search::{StartSource, search_starts};
+use crate::hdr::starts::TableStarts;
+use crate::hdr::table::EhHdrTable;
+use cfi_parts::pointer::{BaseAddresses, Pointer};
+use cfi_read_core::{EhFrameOffset, Error, Reader, ReaderOffset, Result};
+
+impl<R: Reader> EhHdrTable<'_, R> {
+    ghost use Rattle.gimli_cfi.specs.Views.{section_view, starts_view, table_view};
+
+    /// The target of a boundary row for the address: where the FDE for the address is, if the table names one.
+    ///
+    /// A boundary row is the first one or starts at or below the address; and it is the last one, or starts at the
+    /// address, or the next one starts above it. Where the starts rise, that is the last row that starts at or below the
+    /// address, or the first row if there is none. The FDE there need not contain the address.
+    ///
+    /// Refused with `UnsupportedPointerEncoding` of the table's encoding where the values of its format differ in size;
+    /// with the refusal of a start, as `TableStarts` says, that the search read; else of the boundary row's target: with
+    /// `UnsupportedOffset` and `UnexpectedEof` as a start, with `UnexpectedEof` of the row's place where the target isn't
+    /// there, and as `parse_encoded_pointer`. It reads as many starts as halving the rows takes, and takes no memory
+    /// (LSB Core, "The .eh_frame_hdr section").
+    pub fn lookup(&self, address: u64, bases: &BaseAddresses) -> Result<Pointer>
+        ensures found { IsFoundBySearch (starts_view R.standing self.now.hdr.now bases.now) (table_view R.standing self.now) address
+            (target_of (section_view R.standing self.now.hdr.now bases.now) (table_view R.standing self.now)) result }
+        ensures rising { IsSome (value_size (table_view R.standing self.now).encoding) →
+            AreRising (starts_view R.standing self.now.hdr.now bases.now) (table_view R.standing self.now).count →
+            (k : ℕ) × IsLastUpTo (starts_view R.standing self.now.hdr.now bases.now) (table_view R.standing self.now).count address k
+            × (result ≡ target_of (section_view R.standing self.now.hdr.now bases.now) (table_view R.standing self.now) k) }
+    {
+        let mut starts = TableStarts::new(self, bases)?;
+        self.lookup_in(&mut starts, address, bases)
+    }
+
+    /// The same with the answers of a source in place of the starts.
+    ///
+    /// The source is asked for rows below the count alone, and at most as often as halving the rows takes; where the
+    /// format is refused it isn't asked.
+    pub fn lookup_in<St: StartSource>(
+        &self,
+        starts: &mut St,
+        address: u64,
+        bases: &BaseAddresses,
+    ) -> Result<Pointer>
+        ensures found { IsFoundBySearch (St.answer starts.old) (table_view R.standing self.now) address
+            (target_of (section_view R.standing self.now.hdr.now bases.now) (table_view R.standing self.now)) result }
+        ensures calls { St.calls starts.new ≤ St.calls starts.old + steps (table_view R.standing self.now).count }
+        ensures not_asked { value_size (table_view R.standing self.now).encoding ≡ None → St.calls starts.new ≡ St.calls starts.old }
+        ensures same { St.answer starts.new ≡ St.answer starts.old }
+    {
+        let size = searchable_size(self.hdr.table_enc)?;
+        let row = search_starts(starts, self.hdr.fde_count, address)?;
+        target_of_row(self.hdr, bases, size, row)
+    }
+
+    /// The offset in `.eh_frame` of what a pointer names: how far it is above the header's pointer to `.eh_frame`.
+    ///
+    /// Refused with `UnsupportedIndirectPointer` where one of the two is indirect, with `OffsetOutOfBounds` of the
+    /// pointer where it is below the other, and with `UnsupportedOffset` where the difference is no offset of the reader.
+    /// It takes no memory.
+    pub fn pointer_to_offset(&self, ptr: Pointer) -> Result<EhFrameOffset<R::Offset>>
+        ensures { map_ok (λ offset. R.Offset.number offset.0) result
+            ≡ offset_of_pointer (R.standing self.now.hdr.now.section).source.greatest self.now.hdr.now.eh_frame_ptr ptr }
+    {
+        let base = self.hdr.eh_frame_ptr.direct()?;
+        let address = ptr.direct()?;
+        let Some(distance) = address.checked_sub(base) else {
+            return Err(Error::OffsetOutOfBounds(address));
+        };
+        Ok(EhFrameOffset(R::Offset::from_u64(distance)?))
+    }
+}
