@@ -3,6 +3,8 @@
 //! The words name the section, its byte order, the size of an address and the address; standard input holds the
 //! section in hexadecimal. `run` says what is printed.
 #![tactic(auto)]
+ghost use Rattle.std.specs.Prelude.{◌≡◌, IfOk, map, string_bytes};
+ghost use Rattle.cfi_rows.specs.Words.{texts};
 
 mod answer;
 mod input;
@@ -38,6 +40,9 @@ fn words_behind_name(rt: &(impl Env + AllocGlobal)) -> io::Result<Vec<String>> {
     Ok(words)
 }
 
-fn texts_of(alloc: Global, words: &[String]) -> Result<Vec<&str>, AllocError> {
+/// The words as texts, each in its place.
+fn texts_of(alloc: Global, words: &[String]) -> Result<Vec<&str>, AllocError>
+    ensures { IfOk result (λ list. texts list.items ≡ map string_bytes words.now) }
+{
     words.iter().map(|word| word.as_str()).collect(alloc)
 }

@@ -218,6 +218,10 @@ impl<T: ReaderOffset, A: ArrayLike<Item = (Register, RegisterRule<T>)> + CopyLis
 // What fills the unused places of an `ArrayVec` of rows.
 impl<T: ReaderOffset, const N: usize> Default
     for UnwindTableRow<T, ArrayVec<(Register, RegisterRule<T>), N>> {
+    ghost use Rattle.cfi_state.specs.Row.{empty_row};
+
+    ghost is_default = { λ row. row ≡ empty_row };
+
     fn default() -> Self {
         UnwindTableRow {
             start_address: 0,

@@ -1,6 +1,7 @@
 //! The rules of a row.
 ghost use Rattle.std.specs.Prelude.{◌≡◌, ◌≢◌, ◌<◌, false, All, IfOk, IfErr, IfSome, IfNone, IsSomeAnd, slice_get, length, pos};
 ghost use Rattle.cfi_state.specs.declared.table.rules.CfaRule.TheVariants.{RegisterAndOffset};
+ghost use Rattle.cfi_state.specs.declared.table.rules.RegisterRule.TheVariants.{Undefined};
 ghost use Rattle.std.specs.Iterator.{YieldsFirstRef, item_count};
 ghost use Rattle.std.specs.Cmp.{partial_equiv_from_equiv};
 ghost use Rattle.std.specs.FinMap.{get};
@@ -70,6 +71,8 @@ pub enum RegisterRule<T> {
 }
 
 impl<T> Default for RegisterRule<T> {
+    ghost is_default = { λ rule. rule ≡ Undefined };
+
     fn default() -> Self {
         RegisterRule::Undefined
     }
@@ -297,6 +300,10 @@ pub(crate) fn refusal_of<T: Drop>(refused: Refused<T>, full: Error) -> Error
 
 impl<T: ReaderOffset, const N: usize> Default
     for RegisterRuleMap<T, ArrayVec<(Register, RegisterRule<T>), N>> {
+    ghost use Rattle.std.specs.FinMap as map;
+
+    ghost is_default = { λ rules. rules ≡ map.empty };
+
     fn default() -> Self {
         RegisterRuleMap {
             pairs: ArrayVec::new(),
