@@ -2,8 +2,9 @@
 --     setting rule_limit stack_limit fde      what stays fixed while the programs of an FDE and its CIE run
 --     row_of_fde .. fde      the answer of one FDE: the refusal of its CIE's program, else its first refusal or row with the address
 --     row_by_scan .. section a      that of the first FDE that covers the address, or the first refusal before it
---     IsRowOfFde, IsRowByScan      the same where memory may be wanting; RunsToRowOfFde, RunsToRowByScan by the machine
---     IsRowOfFound      all three, of what going through the section found
+--     IsRowOfFde      the same of one FDE where memory may be wanting; RunsToRowOfFde by the machine
+--     IsRowOfFound      both, and the equation over a fixed storage, of an FDE or refusal that was found
+--     IsRowByScan      that, of what going through the section finds
 use Rattle.std.specs.Prelude.{◌≡◌, ℕ, Bool, Option, Result, Ok, Err}
 use Rattle.cfi_read_core.specs.declared.error.Error.{Error}
 use Rattle.cfi_state.specs.Operands.{Setting}
@@ -55,14 +56,12 @@ abbrev pub IsOfFound : {A : Type 0} → (Fde → Result A Error → Type 0) → 
 IsOfFound of_fde (Ok fde) answer = of_fde fde answer
 IsOfFound of_fde (Err e) answer = answer ≡ Err e
 
--- The row for an address, going through the section having found this FDE or refusal.
+-- The row for an address where this FDE or refusal was found.
 pub record IsRowOfFound (rule_limit stack_limit : Option ℕ) (copies_free : Bool) (section : Section) (a : ℕ) (found : Result Fde Error) (row : Result (Row ℕ) Error) : Type 0 where
   pub kept : IsOfFound (IsRowOfFde rule_limit stack_limit copies_free section a) found row
   pub run : IsOfFound (RunsToRowOfFde rule_limit stack_limit copies_free section a) found row
   pub fixed : IsFixed rule_limit stack_limit copies_free → row ≡ answer_by (row_of_fde rule_limit stack_limit section a) found
 
+-- that of the FDE that is chosen by going through the section, each with the CIE to which it points
 abbrev pub IsRowByScan : Option ℕ → Option ℕ → Bool → Section → ℕ → Result (Row ℕ) Error → Type 0
-IsRowByScan rule_limit stack_limit copies_free section a row = IsOfFound (IsRowOfFde rule_limit stack_limit copies_free section a) (chosen section a) row
-
-abbrev pub RunsToRowByScan : Option ℕ → Option ℕ → Bool → Section → ℕ → Result (Row ℕ) Error → Type 0
-RunsToRowByScan rule_limit stack_limit copies_free section a row = IsOfFound (RunsToRowOfFde rule_limit stack_limit copies_free section a) (chosen section a) row
+IsRowByScan rule_limit stack_limit copies_free section a row = IsRowOfFound rule_limit stack_limit copies_free section a (chosen section a) row

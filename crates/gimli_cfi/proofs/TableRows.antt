@@ -1,4 +1,4 @@
--- By a faithful table the row for an address is that by going through the section.
+-- The row of an address, by what was found: going through the section, and by a faithful table.
 use Rattle.std.proofs.Common.{◌≡◌, ◌≤◌, ◌<◌, ◌-◌, ℕ, Bool, Option, Result, subst, arith}
 use Rattle.cfi_read_core.specs.declared.error.Error.{Error}
 use Rattle.cfi_read_core.specs.Readers.{IsSound}
@@ -11,7 +11,7 @@ use Rattle.cfi_unwind.specs.Fdes.{Fde}
 use Rattle.cfi_unwind.specs.Scan.{chosen}
 use Rattle.gimli_cfi.specs.Headers.{HeaderSection, Table, start_of}
 use Rattle.gimli_cfi.specs.Tables.{IsFaithful, IsFoundByTable, ReachesAll}
-use Rattle.gimli_cfi.specs.Found.{IsRowOfFound, IsAsByScan}
+use Rattle.cfi_unwind.specs.Answers.{IsRowOfFound, IsRowByScan}
 use Rattle.gimli_cfi.proofs.Agreement.{found_as_scan}
 
 -- the offsets of a header count every byte of a section of the same offsets
@@ -19,16 +19,18 @@ pub reaches_all : (s header : Standing) (greatest : ℕ) → IsSound s → s.sou
 reaches_all s header greatest sound own others = omega (arith, sound.within, sound.fits, own, others)
 
 module _ (rule_limit stack_limit : Option ℕ) (copies_free : Bool) (section : Section) (a : ℕ) (row : Result (Row ℕ) Error) where
-  row_of_chosen : IsRowOfFound rule_limit stack_limit copies_free section a (chosen section a) row → IsAsByScan rule_limit stack_limit copies_free section a row
-  row_of_chosen is = record { scan = is.kept; run = is.run; fixed = is.fixed }
+  -- what is found by going through the section is the chosen FDE
+  pub by_scan : (found : Result Fde Error) → found ≡ chosen section a → IsRowOfFound rule_limit stack_limit copies_free section a found row →
+      IsRowByScan rule_limit stack_limit copies_free section a row
+  by_scan found is row_of_found = subst (λ (r : Result Fde Error). IsRowOfFound rule_limit stack_limit copies_free section a r row) is row_of_found
 
   pub as_by_scan : (header : HeaderSection) (table : Table) (pointer : Pointer) (eh_frame : ℕ) (source : ℕ → Result ℕ Error) (found : Result Fde Error) →
       pointer ≡ Direct eh_frame → IsFaithful header table eh_frame section → ReachesAll header section →
       ((k : ℕ) → k < table.count → source k ≡ start_of header table k) →
       IsFoundByTable source header table pointer section a found → IsRowOfFound rule_limit stack_limit copies_free section a found row →
-      IsAsByScan rule_limit stack_limit copies_free section a row
+      IsRowByScan rule_limit stack_limit copies_free section a row
   as_by_scan header table pointer eh_frame source found at faithful reaches same searched is =
       let searched' : IsFoundByTable source header table (Direct eh_frame) section a found =
       subst (λ (p : Pointer). IsFoundByTable source header table p section a found) at searched in
       let scanned : found ≡ chosen section a = found_as_scan header table eh_frame section faithful a source found reaches same searched' in
-      row_of_chosen (subst (λ (r : Result Fde Error). IsRowOfFound rule_limit stack_limit copies_free section a r row) scanned is)
+      by_scan found scanned is

@@ -1,10 +1,8 @@
 //! Unwind contexts, rows and tables, and the row of an address.
-ghost use Rattle.std.specs.Prelude.{◌≡◌};
 ghost use Rattle.cfi_read_core.specs.Readers.{map_ok};
-ghost use Rattle.cfi_state.specs.Limit.{IsFixed};
 ghost use Rattle.cfi_state.specs.Numbered.{map_row};
 ghost use Rattle.cfi_unwind.specs.Sections.{section_of};
-ghost use Rattle.cfi_unwind.specs.Answers as answers;
+ghost use Rattle.cfi_unwind.specs.Answers.{IsRowByScan};
 
 use cfi_parts::pointer::BaseAddresses;
 use cfi_read_core::{Reader, Result};
@@ -31,13 +29,8 @@ pub fn row_by_scan<'ctx, R: Reader, Section: UnwindSection<R>, S: UnwindContextS
     ctx: &'ctx mut UnwindContext<R::Offset, S>,
     address: u64,
 ) -> Result<&'ctx UnwindTableRow<R::Offset, S::Rules>>
-    ensures scan { answers.IsRowByScan S.Rules.limit S.Stack.limit S.Rules.copies_free
+    ensures row { IsRowByScan S.Rules.limit S.Stack.limit S.Rules.copies_free
         (section_of (Section.frame section.now) bases.now) address (map_ok (λ row. map_row R.Offset.number row.now) result) }
-    ensures run { answers.RunsToRowByScan S.Rules.limit S.Stack.limit S.Rules.copies_free
-        (section_of (Section.frame section.now) bases.now) address (map_ok (λ row. map_row R.Offset.number row.now) result) }
-    ensures fixed { IsFixed S.Rules.limit S.Stack.limit S.Rules.copies_free →
-        map_ok (λ row. map_row R.Offset.number row.now) result
-        ≡ answers.row_by_scan S.Rules.limit S.Stack.limit (section_of (Section.frame section.now) bases.now) address }
 {
     let fde = fde_by_scan_of(section, bases, address)?;
     fde.unwind_info_for_address(section, bases, ctx, address)

@@ -9,7 +9,7 @@ ghost use Rattle.cfi_unwind.specs.declared.entry.cie.CieParts.{CieParts};
 ghost use Rattle.cfi_unwind.specs.Asking.{Asks, IsAnswered};
 ghost use Rattle.cfi_unwind.specs.Fdes.{Covers, Fde};
 ghost use Rattle.cfi_unwind.specs.Views.{cie_view, fde_view};
-ghost use Rattle.gimli_cfi.specs.Found.{IsAsByScan, IsRowOfFound};
+ghost use Rattle.cfi_unwind.specs.Answers.{IsRowByScan, IsRowOfFound};
 ghost use Rattle.gimli_cfi.specs.Headers.{offset_of_pointer, start_of, value_size};
 ghost use Rattle.gimli_cfi.specs.Steps.{steps};
 ghost use Rattle.gimli_cfi.specs.Tables.{FindsByTable, IsFaithful, IsFoundByTable, ReadsAt};
@@ -55,7 +55,7 @@ pub fn row_by_table<'ctx, R: Reader, St: StartSource, S: UnwindContextStorage<R:
         IsFaithful (section_view R.standing table.now.hdr.now bases.now) (table_view R.standing table.now) eh_frame (frame_view R.standing frame.now bases.now) →
         ((k : ℕ) → k < (table_view R.standing table.now).count →
         St.answer starts.old k ≡ start_of (section_view R.standing table.now.hdr.now bases.now) (table_view R.standing table.now) k) →
-        IsAsByScan S.Rules.limit S.Stack.limit S.Rules.copies_free (frame_view R.standing frame.now bases.now) address
+        IsRowByScan S.Rules.limit S.Stack.limit S.Rules.copies_free (frame_view R.standing frame.now bases.now) address
         (map_ok (λ row. map_row R.Offset.number row.now) result) }
     ensures calls { St.calls starts.new ≤ St.calls starts.old + steps (table_view R.standing table.now).count }
     ensures not_asked { value_size (table_view R.standing table.now).encoding ≡ None → St.calls starts.new ≡ St.calls starts.old }
