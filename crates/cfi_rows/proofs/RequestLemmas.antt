@@ -1,5 +1,5 @@
 -- What is asked for can be answered.
-use Rattle.std.proofs.Common.{◌≡◌, inl, inr, ℕ, Bool, true, false, ◌&&◌, cond, List, [], ◌∷◌, Option, Some, None, IfSome, codes, option_map, refl}
+use Rattle.std.proofs.Common.{◌≡◌, inl, inr, ℕ, Bool, true, false, cond, List, [], ◌∷◌, Option, Some, None, IfSome, codes, option_map, refl}
 use Rattle.std.specs.Option.{option_and_then, is_none}
 use Rattle.std.specs.Str.{bytes_eq}
 use Rattle.cfi_read_core.specs.Addresses.{IsAddressSize}
@@ -10,7 +10,7 @@ use Rattle.cfi_rows.specs.declared.words.Kind.TheVariants.{DebugFrame, EhFrame}
 use Rattle.cfi_rows.specs.declared.words.Storage.{Storage}
 use Rattle.cfi_rows.specs.declared.words.Storage.TheVariants.{OnHeap, Growing}
 use Rattle.cfi_rows.specs.declared.words.Request.{Request}
-use Rattle.cfi_rows.specs.Words.{CanBeAnswered, asked, behind, either, first_words, is_offered, is_on_heap, kind_of, number, offered, once_given, option_word, option_words, order_of, request_of, set_data_base, set_header, set_section, set_storage, set_text, set_vendor, size_of}
+use Rattle.cfi_rows.specs.Words.{CanBeAnswered, asked, behind, either, first_words, is_offered, kind_of, number, offered, once_given, option_word, option_words, order_of, request_of, set_data_base, set_header, set_section, set_storage, set_text, set_vendor, size_of}
 
 -- ---- steps that may give nothing
 
@@ -89,17 +89,12 @@ request_sized (a ∷ b ∷ c ∷ []) = tt
 
 -- ---- what is offered today has no header
 
-header_by : (h : Option ℕ) (b : Bool) → (is_none h && b) ≡ true → h ≡ None
-header_by None b e = refl
-header_by (Some n) b e = cc
-
-storage_by : (storage : Storage) (b : Bool) → (b && is_on_heap storage) ≡ true → storage ≡ OnHeap
-storage_by OnHeap b e = refl
-storage_by Growing true e = cc
-storage_by Growing false e = cc
+header_by : (h : Option ℕ) → is_none h ≡ true → h ≡ None
+header_by None e = refl
+header_by (Some n) e = cc
 
 offered_by : (r : Request) (b : Bool) → IsSized r → is_offered r ≡ b → IfSome (cond b (Some r) None) CanBeAnswered
-offered_by r true sized e = record { no_header = header_by r.header (is_on_heap r.storage) e; on_heap = storage_by r.storage (is_none r.header) e; sized = sized }
+offered_by r true sized e = record { no_header = header_by r.header e; sized = sized }
 offered_by r false sized e = tt
 
 pub can_be_answered : (asked_for : Option Request) (words : Option (List (List ℕ))) → asked_for ≡ asked words → IfSome asked_for CanBeAnswered

@@ -1,5 +1,5 @@
 -- Which line is right for words and input.
-use Rattle.std.specs.Prelude.{◌≡◌, ◌⊎◌, ℕ, ◌≤◌, ◌<◌, Option, Some, None, List, [], length, Result, Ok, Err, IsSome}
+use Rattle.std.specs.Prelude.{◌≡◌, ◌⊎◌, ℕ, ◌≤◌, ◌<◌, Bool, true, false, Option, Some, None, List, [], length, Result, Ok, Err, IsSome}
 use Rattle.cfi_read_core.specs.declared.error.Error.{Error}
 use Rattle.cfi_read_core.specs.declared.error.Error.TheVariants.{UnsupportedPointerEncoding, OutOfMemory}
 use Rattle.cfi_read_core.specs.ByteOrder.{is_big}
@@ -9,8 +9,9 @@ use Rattle.cfi_state.specs.Row.{Row}
 use Rattle.cfi_unwind.specs.Sections as sections
 use Rattle.cfi_unwind.specs.Sections.{Section}
 use Rattle.cfi_unwind.specs.Fdes.{Fde}
-use Rattle.cfi_unwind.specs.Scan.{scan_answer}
-use Rattle.cfi_unwind.specs.Answers.{row_of_fde}
+use Rattle.cfi_state.specs.Limit.{IsFixed}
+use Rattle.cfi_unwind.specs.Scan.{chosen}
+use Rattle.cfi_unwind.specs.Answers.{row_of_fde, IsRowOfFde, IsOfChosen}
 use Rattle.gimli_cfi.specs.Headers.{HeaderSection, Header, Table, header_of, value_size}
 use Rattle.gimli_cfi.specs.Tables.{IsTableAnswer}
 use Rattle.cfi_rows.specs.declared.words.Kind.{Kind}
@@ -51,49 +52,58 @@ header_section_of r base bytes = record {
   bases = record { section = Some base; text = r.text; data_base = Some base };
 }
 
+-- ---- the room for an unwind
+
+pub record Room : Type 0 where
+  pub rule_limit : Option ℕ  -- the most rules of a row; none where only memory bounds them
+  pub stack_limit : Option ℕ  -- the most rows, as well
+  pub copies_free : Bool  -- a row's rules are copied without taking memory
+
+abbrev pub room : Option ℕ → Option ℕ → Bool → Room
+room rule_limit stack_limit copies_free = record { rule_limit = rule_limit; stack_limit = stack_limit; copies_free = copies_free }
+
+abbrev pub room_of : Storage → Room
+room_of OnHeap = room (Some 192) (Some 4) true
+room_of Growing = room None None false
+
 -- ---- the answer
 
--- what one FDE of a section answers for an address, over a storage
-abbrev pub FdeAnswer : Type 0
-FdeAnswer = Storage → Section → ℕ → Fde → Result (Row ℕ) Error
+-- the answers that an FDE of a section may give for an address
+abbrev pub FdeAnswer : Type 1
+FdeAnswer = Section → ℕ → Fde → Result (Row ℕ) Error → Type 0
 
--- the answer of the FDE that is found by going through the section
-abbrev pub answer_by_scan : FdeAnswer → Request → List ℕ → Result (Row ℕ) Error
-answer_by_scan answer_of r bytes = scan_answer (answer_of r.storage (section_of r bytes) r.address) (section_of r bytes) r.address
+-- An FDE's answer: only an instruction that may want memory may be refused for want of it. Where the room is fixed none
+-- is, and the answer is that of the bytes alone.
+pub record IsOfFde (room : Room) (section : Section) (a : ℕ) (fde : Fde) (answer : Result (Row ℕ) Error) : Type 0 where
+  pub allowed : IsRowOfFde room.rule_limit room.stack_limit room.copies_free section a fde answer
+  pub fixed : IsFixed room.rule_limit room.stack_limit room.copies_free → answer ≡ row_of_fde room.rule_limit room.stack_limit section a fde
+
+-- that of the FDE that is found by going through the section
+abbrev pub ByScan : FdeAnswer → Request → List ℕ → Result (Row ℕ) Error → Type 0
+ByScan of_fde r bytes answer = IsOfChosen (of_fde (section_of r bytes) r.address) (chosen (section_of r bytes) r.address) answer
 
 abbrev pub ByTable : FdeAnswer → Request → HeaderSection → Pointer → Table → List ℕ → Option ℕ → Result (Row ℕ) Error → Type 0
-ByTable answer_of r header eh_frame table bytes None answer = answer ≡ Err (UnsupportedPointerEncoding (record { 0 = table.encoding }))
-ByTable answer_of r header eh_frame table bytes (Some size) answer =
-    IsTableAnswer (answer_of r.storage (section_of r bytes) r.address) header table eh_frame (section_of r bytes) r.address answer
+ByTable of_fde r header eh_frame table bytes None answer = answer ≡ Err (UnsupportedPointerEncoding (record { 0 = table.encoding }))
+ByTable of_fde r header eh_frame table bytes (Some size) answer =
+    (found : Result Fde Error) × IsTableAnswer Ok header table eh_frame (section_of r bytes) r.address found
+    × IsOfChosen (of_fde (section_of r bytes) r.address) found answer
 
 abbrev pub ByRows : FdeAnswer → Request → HeaderSection → Pointer → Option Table → List ℕ → Result (Row ℕ) Error → Type 0
-ByRows answer_of r header eh_frame None bytes answer = answer ≡ answer_by_scan answer_of r bytes
-ByRows answer_of r header eh_frame (Some table) bytes answer = ByTable answer_of r header eh_frame table bytes (value_size table.encoding) answer
+ByRows of_fde r header eh_frame None bytes answer = ByScan of_fde r bytes answer
+ByRows of_fde r header eh_frame (Some table) bytes answer = ByTable of_fde r header eh_frame table bytes (value_size table.encoding) answer
 
 abbrev pub ByHeader : FdeAnswer → Request → HeaderSection → Result Header Error → List ℕ → Result (Row ℕ) Error → Type 0
-ByHeader answer_of r header (Err e) bytes answer = answer ≡ Err e
-ByHeader answer_of r header (Ok read) bytes answer = ByRows answer_of r header read.eh_frame read.table bytes answer
+ByHeader of_fde r header (Err e) bytes answer = answer ≡ Err e
+ByHeader of_fde r header (Ok read) bytes answer = ByRows of_fde r header read.eh_frame read.table bytes answer
 
 abbrev pub ByBase : FdeAnswer → Request → Option ℕ → Bytes → Result (Row ℕ) Error → Type 0
-ByBase answer_of r None bytes answer = answer ≡ answer_by_scan answer_of r bytes.section
-ByBase answer_of r (Some base) bytes answer =
-    ByHeader answer_of r (header_section_of r base bytes.header) (header_of (header_section_of r base bytes.header)) bytes.section answer
+ByBase of_fde r None bytes answer = ByScan of_fde r bytes.section answer
+ByBase of_fde r (Some base) bytes answer =
+    ByHeader of_fde r (header_section_of r base bytes.header) (header_of (header_section_of r base bytes.header)) bytes.section answer
 
--- what the program answers to a request
+-- what may be answered to a request
 abbrev pub IsAnswer : FdeAnswer → Request → Bytes → Result (Row ℕ) Error → Type 0
-IsAnswer answer_of r bytes answer = ByBase answer_of r r.header bytes answer
-
--- the room of a storage: for the rules of a row, and for rows; none where only memory bounds it
-abbrev pub rule_limit : Storage → Option ℕ
-rule_limit OnHeap = Some 192
-rule_limit Growing = None
-
-abbrev pub stack_limit : Storage → Option ℕ
-stack_limit OnHeap = Some 4
-stack_limit Growing = None
-
-abbrev pub answer_of : FdeAnswer
-answer_of storage section a fde = row_of_fde (rule_limit storage) (stack_limit storage) section a fde
+IsAnswer of_fde r bytes answer = ByBase of_fde r r.header bytes answer
 
 -- ---- the line
 
@@ -113,9 +123,13 @@ LineOfRequest answers (Some r) input printed = LineOfInput answers r (bytes_by r
 abbrev pub LineOfWords : RequestAnswer → Option (List (List ℕ)) → List ℕ → Line → Type 0
 LineOfWords answers words input printed = LineOfRequest answers (asked words) input printed
 
+-- in the given room
+abbrev pub answers_in : Room → RequestAnswer
+answers_in room = IsAnswer (IsOfFde room)
+
 -- what the program answers
 abbrev pub answers : RequestAnswer
-answers = IsAnswer answer_of
+answers r = answers_in (room_of r.storage) r
 
 -- the line where memory was refused
 abbrev pub out_of_memory : Line

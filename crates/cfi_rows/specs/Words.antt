@@ -1,5 +1,5 @@
 -- The words of the command line.
-use Rattle.std.specs.Prelude.{◌≡◌, ℕ, ◌^◌, Bool, true, false, ◌&&◌, Option, Some, None, List, [], ◌∷◌, length, take, drop, map, nat_le, nat_lt, codes, if◌then◌else◌}
+use Rattle.std.specs.Prelude.{◌≡◌, ℕ, ◌^◌, Bool, ◌&&◌, Option, Some, None, List, [], ◌∷◌, length, take, drop, map, nat_le, nat_lt, codes, if◌then◌else◌}
 use Rattle.std.specs.Borrow.{Bor}
 use Rattle.std.specs.Char.{is_ascii_digit, is_ascii_hexdigit}
 use Rattle.std.specs.List.{list_all}
@@ -143,13 +143,9 @@ request_of words = None
 
 -- ---- what is answered today
 
-abbrev pub is_on_heap : Storage → Bool
-is_on_heap OnHeap = true
-is_on_heap Growing = false
-
--- neither a header nor another storage
+-- no header
 abbrev pub is_offered : Request → Bool
-is_offered r = is_none r.header && is_on_heap r.storage
+is_offered r = is_none r.header
 
 abbrev pub offered : Request → Option Request
 offered r = if is_offered r then Some r else None
@@ -161,5 +157,4 @@ asked words = option_and_then offered (option_and_then request_of words)
 -- what holds of each request that is asked for
 pub record CanBeAnswered (r : Request) : Type 0 where
   pub no_header : r.header ≡ None
-  pub on_heap : r.storage ≡ OnHeap
   pub sized : IsAddressSize r.address_size

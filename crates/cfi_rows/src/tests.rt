@@ -404,6 +404,28 @@ const WORKED: &[Case] = &[
     },
 ];
 
+/// Sections that are answered otherwise where the room for rows grows.
+const GROWING: &[Case] = &[
+    Case {
+        words: "debug_frame le 8 0x1000 store=vec",
+        input: FOUR_REMEMBERED,
+        line: "0x1000 0x1020 cfa=r7+8 args=0 r16=offset(-8)",
+        status: 0,
+    },
+    Case {
+        words: "debug_frame le 8 0x1000 store=vec",
+        input: TWO_RULES,
+        line: "0x1000 0x1020 cfa=r7+8 args=0 r6=offset(-16) r16=offset(-8)",
+        status: 0,
+    },
+    Case {
+        words: "debug_frame le 8 0x1000 store=vec",
+        input: FULL_CIE,
+        line: "0x1000 0x1020 cfa=r7+8 args=0 r6=offset(-16) r16=offset(-8)",
+        status: 0,
+    },
+];
+
 /// Wrong words and input, and the least of right input.
 const WRONG: &[Case] = &[
     Case {
@@ -438,6 +460,12 @@ const WRONG: &[Case] = &[
     },
     Case {
         words: "debug_frame le 8 0 text=1 text=1",
+        input: NO_INPUT,
+        line: "wrong words",
+        status: 2,
+    },
+    Case {
+        words: "debug_frame le 8 0 store=vec store=vec",
         input: NO_INPUT,
         line: "wrong words",
         status: 2,
@@ -531,9 +559,13 @@ impl Write for RefusesAt {
 }
 
 fn run_case(alloc: Global, case: &Case) -> Result<(u8, Vec<u8>), AllocError> {
-    let words: Vec<&str> = case.words.split(' ').collect(alloc)?;
+    run_words(alloc, case.words, case.input)
+}
+
+fn run_words(alloc: Global, words: &str, parts: &[&str]) -> Result<(u8, Vec<u8>), AllocError> {
+    let words: Vec<&str> = words.split(' ').collect(alloc)?;
     let mut text = String::new(alloc);
-    for part in case.input {
+    for part in parts {
         text.push_str(part)?;
         text.push_str("\n")?;
     }
@@ -546,6 +578,33 @@ fn run_case(alloc: Global, case: &Case) -> Result<(u8, Vec<u8>), AllocError> {
 #[test]
 fn answers_worked_sections(rt: HostRuntime) -> Result<(), Fail> {
     for case in WORKED {
+        let (status, output) = run_case(rt.alloc(), case)?;
+        assert_eq!(rt; status, case.status, "{}", case.words);
+        let line = format!(in rt.alloc(); "{}\n", case.line)?;
+        assert_eq!(rt; output.as_slice(), line.as_bytes(), "{}", case.words);
+    }
+    Ok(())
+}
+
+/// Where no limit is met, a storage that grows answers the same.
+#[test]
+fn answers_worked_sections_in_growing_room(rt: HostRuntime) -> Result<(), Fail> {
+    for case in WORKED {
+        if case.line == "refused StackFull" {
+            continue;
+        }
+        let words = format!(in rt.alloc(); "{} store=vec", case.words)?;
+        let (status, output) = run_words(rt.alloc(), words.as_str(), case.input)?;
+        assert_eq!(rt; status, case.status, "{}", words);
+        let line = format!(in rt.alloc(); "{}\n", case.line)?;
+        assert_eq!(rt; output.as_slice(), line.as_bytes(), "{}", words);
+    }
+    Ok(())
+}
+
+#[test]
+fn answers_beyond_the_fixed_room(rt: HostRuntime) -> Result<(), Fail> {
+    for case in GROWING {
         let (status, output) = run_case(rt.alloc(), case)?;
         assert_eq!(rt; status, case.status, "{}", case.words);
         let line = format!(in rt.alloc(); "{}\n", case.line)?;

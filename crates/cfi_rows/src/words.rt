@@ -295,8 +295,5 @@ pub fn asked_for(words: Option<&[&str]>) -> Option<Request>
 fn is_offered_today(request: &Request) -> bool
     ensures { result ≡ is_offered request.now }
 {
-    match request.storage {
-        Storage::OnHeap => request.header.is_none(),
-        Storage::Growing => false,
-    }
+    request.header.is_none()
 }
