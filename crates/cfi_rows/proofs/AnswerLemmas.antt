@@ -1,33 +1,38 @@
 -- The answer to a request is the row that the section gives.
-use Rattle.std.proofs.Common.{◌≡◌, ℕ, List, Result, Ok, Err, refl, sym, ap, subst}
+use Rattle.std.proofs.Common.{◌∙◌, ◌≡◌, ℕ, List, Option, Some, None, Result, Ok, Err, refl, sym, ap, subst}
+use Rattle.std.specs.Option.{IsSome}
+use Rattle.std.specs.Prelude.{ok_or}
 use Rattle.cfi_read_core.specs.declared.common.Vendor.{Vendor}
 use Rattle.cfi_read_core.specs.declared.error.Error.{Error}
+use Rattle.cfi_read_core.specs.declared.error.Error.TheVariants.{UnsupportedPointerEncoding}
+use Rattle.cfi_parts.specs.declared.pointer.Pointer.{Pointer}
 use Rattle.cfi_read_core.specs.ByteOrder.{is_big}
 use Rattle.cfi_read_core.specs.Reading.{Standing}
 use Rattle.cfi_read_core.specs.Readers.{all_of, map_ok}
 use Rattle.cfi_parts.specs.declared.pointer.SectionBaseAddresses.{SectionBaseAddresses}
 use Rattle.cfi_state.specs.Row.{Row}
 use Rattle.cfi_state.specs.Numbered.{map_row}
-use Rattle.cfi_state.specs.Runs.{wants_memory}
-use Rattle.cfi_state.proofs.FixedStorage.{fixed_never}
-use Rattle.cfi_state.proofs.KeptAnswers.{answers_by_kept_is}
 use Rattle.cfi_state.proofs.NumberedSame.{as_it_is, same_row}
-use Rattle.cfi_unwind.specs.Sections.{Kind, Section}
+use Rattle.cfi_unwind.specs.Sections as sections
+use Rattle.cfi_unwind.specs.Sections.{Section}
 use Rattle.cfi_unwind.specs.Scan.{chosen}
 use Rattle.cfi_unwind.specs.Fdes.{Fde}
-use Rattle.cfi_unwind.specs.Programs.{cie_instructions, fde_instructions}
-use Rattle.cfi_unwind.specs.Answers.{setting, IsRowOfFde, IsOfFound, IsRowByScan}
+use Rattle.gimli_cfi.specs.Headers.{HeaderSection, Header, Table, header_of, header_section, start_of, value_size}
+use Rattle.gimli_cfi.specs.Tables.{IsFoundByTable, SearchedBy, fde_by_row}
+use Rattle.cfi_unwind.specs.Answers.{IsRowOfFound}
 use Rattle.cfi_rows.specs.Lines.{Line}
+use Rattle.cfi_rows.specs.Input.{Bytes}
+use Rattle.cfi_rows.specs.declared.words.Kind.{Kind}
+use Rattle.cfi_rows.specs.declared.words.Kind.TheVariants.{DebugFrame, EhFrame}
 use Rattle.cfi_rows.specs.declared.words.Request.{Request}
 use Rattle.cfi_rows.specs.declared.words.Storage.{Storage}
-use Rattle.cfi_rows.specs.Words.{CanBeAnswered}
-use Rattle.cfi_rows.specs.Answers.{ByBase, IsOfFde, IsLineFor, Room, room_of, answers, answers_in, kind_of_section, section_alone, section_of}
+use Rattle.cfi_rows.specs.Answers.{FoundByBase, FoundByHeader, FoundByRows, IsLineFor, IsRowByHeader, Room, room_of, IsAnswer, answers, header_section_of, kind_of_section, section_of}
 
 -- a section by its parts
-abbrev pub of_parts : Kind → Standing → ℕ → Vendor → SectionBaseAddresses → Section
+abbrev pub of_parts : sections.Kind → Standing → ℕ → Vendor → SectionBaseAddresses → Section
 of_parts kind standing size vendor bases = record { kind = kind; source = standing.source; first = standing.place; address_size = size; vendor = vendor; bases = bases }
 
-pub same_section : (r : Request) (bytes : List ℕ) (kind : Kind) (standing : Standing) (size : ℕ) (vendor : Vendor) (bases : SectionBaseAddresses)
+pub same_section : (r : Request) (bytes : List ℕ) (kind : sections.Kind) (standing : Standing) (size : ℕ) (vendor : Vendor) (bases : SectionBaseAddresses)
     → kind_of_section r.kind ≡ kind → standing ≡ all_of bytes (is_big r.endian) 18446744073709551615 → size ≡ r.address_size → vendor ≡ r.vendor
     → bases ≡ record { section = r.section; text = r.text; data_base = r.data_base }
     → of_parts kind standing size vendor bases ≡ section_of r bytes
@@ -38,31 +43,85 @@ pub same_rows : {B : Type 0} (now : B → Row ℕ) (r : Result B Error) → map_
 same_rows now (Ok row) = ap Ok (same_row (now row))
 same_rows now (Err e) = refl
 
--- over a fixed storage the answer of an FDE is one
-of_fde : (room : Room) (section : Section) (a : ℕ) (fde : Fde) (answer : Result (Row ℕ) Error)
-    → IsRowOfFde room.rule_limit room.stack_limit room.copies_free section a fde answer → IsOfFde room section a fde answer
-of_fde room section a fde answer allowed =
-    let s = setting room.rule_limit room.stack_limit fde in
+-- a header's section by its parts
+pub same_header_section : (r : Request) (base : ℕ) (bytes : List ℕ) (standing : Standing) (bases : SectionBaseAddresses)
+    → standing ≡ all_of bytes (is_big r.endian) 18446744073709551615 → bases ≡ record { section = r.header; text = r.text; data_base = r.header } → r.header ≡ Some base
+    → header_section standing r.address_size bases ≡ header_section_of r base bytes
+same_header_section r base bytes standing bases stands based given =
+    (λ i. header_section (stands i) r.address_size (based i)) ∙ ap (λ at. header_section (all_of bytes (is_big r.endian) 18446744073709551615) r.address_size (record { section = at; text = r.text; data_base = at })) given
+
+-- ---- without a header
+
+pub no_header : (header : Option ℕ) (kind : Kind) → (IsSome header → kind ≡ EhFrame) → kind ≡ DebugFrame → header ≡ None
+no_header None kind h e = refl
+no_header (Some base) kind h e =
+    let clash : DebugFrame ≡ EhFrame = sym e ∙ h refl in
+    cc
+
+pub answered : (r : Request) (bytes : Bytes) (shown : List ℕ) (room : Room) (section : Section) (answer : Result (Row ℕ) Error) → r.header ≡ None → shown ≡ bytes.section → section ≡ section_of r shown
+    → IsRowOfFound room.rule_limit room.stack_limit room.copies_free section r.address (chosen section r.address) answer → IsAnswer room r bytes answer
+answered r bytes shown room section answer none whole same is =
+    let of_bytes : section ≡ section_of r bytes.section = same ∙ ap (section_of r) whole in
     record {
-      allowed = allowed;
-      fixed = λ fixed. sym (answers_by_kept_is (wants_memory s room.copies_free) s (fixed_never s room.copies_free fixed.0 fixed.1 fixed.2)
-          (cie_instructions section fde.cie) (fde_instructions section fde) a answer allowed);
+      found = chosen (section_of r bytes.section) r.address;
+      finds = subst (λ h. FoundByBase r bytes h (chosen (section_of r bytes.section) r.address)) (sym none) refl;
+      answers = subst (λ s. IsRowOfFound room.rule_limit room.stack_limit room.copies_free s r.address (chosen s r.address) answer) of_bytes is;
     }
 
-of_chosen : (room : Room) (section : Section) (a : ℕ) (found : Result Fde Error) (answer : Result (Row ℕ) Error)
-    → IsOfFound (IsRowOfFde room.rule_limit room.stack_limit room.copies_free section a) found answer → IsOfFound (IsOfFde room section a) found answer
-of_chosen room section a (Ok fde) answer is = of_fde room section a fde answer is
-of_chosen room section a (Err e) answer is = is
+-- ---- with a header
 
-pub answered : (r : Request) (bytes : List ℕ) (room : Room) (section : Section) (answer : Result (Row ℕ) Error) → CanBeAnswered r → section ≡ section_of r bytes
-    → IsRowByScan room.rule_limit room.stack_limit room.copies_free section r.address answer → answers_in room r (section_alone bytes) answer
-answered r bytes room section answer known same is =
-    subst (λ h. ByBase (IsOfFde room) r h (section_alone bytes) answer) (sym known.no_header)
-    (of_chosen room (section_of r bytes) r.address (chosen (section_of r bytes) r.address) answer
-    (subst (λ s. IsRowByScan room.rule_limit room.stack_limit room.copies_free s r.address answer) same is))
+pub answered_by_header : (r : Request) (base : ℕ) (bytes : Bytes) (shown headed : List ℕ) (room : Room) (section : Section) (header : HeaderSection) (answer : Result (Row ℕ) Error) → r.header ≡ Some base
+    → shown ≡ bytes.section → section ≡ section_of r shown → headed ≡ bytes.header → header ≡ header_section_of r base headed → IsRowByHeader room section r.address header answer → IsAnswer room r bytes answer
+answered_by_header r base bytes shown headed room section header answer given whole same all same_header is =
+    let of_section : section ≡ section_of r bytes.section = same ∙ ap (section_of r) whole in
+    let of_header : header ≡ header_section_of r base bytes.header = same_header ∙ ap (header_section_of r base) all in
+    let so : IsRowByHeader room (section_of r bytes.section) r.address (header_section_of r base bytes.header) answer =
+    subst (λ s. IsRowByHeader room s r.address (header_section_of r base bytes.header) answer) of_section
+    (subst (λ h. IsRowByHeader room section r.address h answer) of_header is) in
+    record {
+      found = so.0;
+      finds = subst (λ h. FoundByBase r bytes h so.0) (sym given) so.1;
+      answers = so.2;
+    }
+
+pub refused_by_header : (room : Room) (section : Section) (a : ℕ) (header : HeaderSection) (e : Error) → Err e ≡ header_of header → IsRowByHeader room section a header (Err e)
+refused_by_header room section a header e is =
+    (Err e, subst (λ read. FoundByHeader section a header read (Err e)) is refl, record { kept = refl; run = refl; fixed = λ _. refl })
+
+pub found_by_header : (room : Room) (section : Section) (a : ℕ) (header : HeaderSection) (h : Header) (t : Option Table) (found : Result Fde Error) (answer : Result (Row ℕ) Error) → Ok h ≡ header_of header
+    → h.table ≡ t → FoundByRows section a header h.eh_frame t found → IsRowOfFound room.rule_limit room.stack_limit room.copies_free section a found answer → IsRowByHeader room section a header answer
+found_by_header room section a header h t found answer is rows finds answers =
+    (found, subst (λ read. FoundByHeader section a header read found) is (subst (λ o. FoundByRows section a header h.eh_frame o found) (sym rows) finds), answers)
+
+-- no format that can be searched
+pub unsearchable : (size : Option ℕ) (start : ℕ → Result ℕ Error) (t : Table) (a : ℕ) (of_row : ℕ → Result Fde Error) (e : Error)
+    → ◌≡◌ {A = Result ℕ Error} (Err e) (ok_or size (UnsupportedPointerEncoding (record { 0 = t.encoding }))) → SearchedBy size start t a of_row (Err e)
+unsearchable None start t a of_row e h =
+    let same : e ≡ UnsupportedPointerEncoding (record { 0 = t.encoding }) = cc in
+    ap Err same
+unsearchable (Some size) start t a of_row e h = cc
+
+pub refused_by_table : (room : Room) (section : Section) (a : ℕ) (header : HeaderSection) (h : Header) (t : Table) (e : Error) → Ok h ≡ header_of header → Some t ≡ h.table
+    → ◌≡◌ {A = Result ℕ Error} (Err e) (ok_or (value_size t.encoding) (UnsupportedPointerEncoding (record { 0 = t.encoding }))) → IsRowByHeader room section a header (Err e)
+refused_by_table room section a header h t e is rows refused =
+    found_by_header room section a header h (Some t) (Err e) (Err e) is (sym rows)
+    (unsearchable (value_size t.encoding) (start_of header t) t a (fde_by_row header t h.eh_frame section a) e refused)
+    (record { kept = refl; run = refl; fixed = λ _. refl })
+
+pub answered_by_table : (room : Room) (section : Section) (a : ℕ) (header source : HeaderSection) (h : Header) (t : Table) (start : ℕ → Result ℕ Error) (eh_frame : Pointer) (answer : Result (Row ℕ) Error)
+    → Ok h ≡ header_of header → Some t ≡ h.table → start ≡ start_of source t → source ≡ header → eh_frame ≡ h.eh_frame
+    → ((found : Result Fde Error) × IsFoundByTable start source t eh_frame section a found × IsRowOfFound room.rule_limit room.stack_limit room.copies_free section a found answer)
+    → IsRowByHeader room section a header answer
+answered_by_table room section a header source h t start eh_frame answer is rows starts same points found =
+    let Q : Result Fde Error → Type 0 = λ x. IsRowOfFound room.rule_limit room.stack_limit room.copies_free section a x answer in
+    let so : (x : Result Fde Error) × IsFoundByTable (start_of header t) header t h.eh_frame section a x × Q x =
+    subst (λ s. (x : Result Fde Error) × IsFoundByTable (start_of s t) s t h.eh_frame section a x × Q x) same
+    (subst (λ p. (x : Result Fde Error) × IsFoundByTable (start_of source t) source t p section a x × Q x) points
+    (subst (λ s. (x : Result Fde Error) × IsFoundByTable s source t eh_frame section a x × Q x) starts found)) in
+    found_by_header room section a header h (Some t) so.0 answer is (sym rows) so.1 so.2
 
 -- the line of the storage that is asked for
-pub in_storage : (Q : Line → Type 0) (r : Request) (s : Storage) (section : List ℕ) → r.storage ≡ s
-    → ((printed : Line) × Q printed × IsLineFor (answers_in (room_of s)) r section printed) → (printed : Line) × Q printed × IsLineFor answers r section printed
-in_storage Q r s section e h =
-    subst (λ storage. (printed : Line) × Q printed × IsLineFor (answers_in (room_of storage)) r section printed) (sym e) h
+pub in_storage : (Q : Line → Type 0) (r : Request) (s : Storage) (bytes : Bytes) → r.storage ≡ s
+    → ((printed : Line) × Q printed × IsLineFor (IsAnswer (room_of s)) r bytes printed) → (printed : Line) × Q printed × IsLineFor answers r bytes printed
+in_storage Q r s bytes e h =
+    subst (λ storage. (printed : Line) × Q printed × IsLineFor (IsAnswer (room_of storage)) r bytes printed) (sym e) h

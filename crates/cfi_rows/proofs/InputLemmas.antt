@@ -1,5 +1,11 @@
 -- What is read of the input.
-use Rattle.std.proofs.Common.{◌≡◌, ◌≢◌, ◌⊎◌, inl, inr, ℕ, List, Result, Err, refl}
+use Rattle.std.proofs.Common.{◌≡◌, ◌≢◌, ◌⊎◌, inl, inr, ℕ, ◌+◌, ◌<◌, ◌≤◌, Bool, true, false, List, length, take, drop, get_or, Option, Some, None, Result, Ok, Err, refl, sym, ap, subst, ◌∙◌, arith, add-one, nat_lt}
+use Rattle.std.proofs.Math.Seq.{drop-cons}
+use Rattle.std.proofs.lemmas.Bool.Decides.{nat_tests}
+use Rattle.std.proofs.lemmas.List.{drop_all, get_or-take, length-take-le}
+use Rattle.std.proofs.lemmas.List.Sums.{passes_at_first, position_or_len_is}
+use Rattle.std.specs.List.{All, after_first, position_or_len}
+use Rattle.cfi_rows.specs.Input.{Bytes, decoded, is_line_feed, with_header, IsReading}
 use Rattle.std.specs.Result.{IsErr}
 use Rattle.hex.specs.declared.error.FromHexError.{FromHexError}
 use Rattle.hex.specs.declared.error.FromHexError.TheVariants as hex
@@ -17,3 +23,51 @@ refused_why d hex.OutOfMemory r memory text (inr h) = inl (memory refl)
 refused_why d (hex.InvalidHexCharacter c i) r memory text (inr h) = inr (text (λ p. cc), err_is d _ h)
 refused_why d hex.OddLength r memory text (inr h) = inr (text (λ p. cc), err_is d _ h)
 refused_why d hex.InvalidStringLength r memory text (inr h) = inr (text (λ p. cc), err_is d _ h)
+
+-- ---- two parts
+
+at_place : (xs : List ℕ) (n : ℕ) (b : Bool) → nat_lt n (length xs) ≡ b → (n < length xs → is_line_feed (get_or xs n 0) ≡ true) → decoded (drop n xs) ≡ decoded (drop (n + 1) xs)
+at_place xs n true e is =
+    let inside : n < length xs = grind (arith, nat_tests) in
+    let found : is_line_feed (get_or xs n 0) ≡ true = is inside in
+    let feed : get_or xs n 0 ≡ 10 = grind (arith, nat_tests) in
+    rw (drop-cons xs n 0 inside, feed, add-one) refl
+at_place xs n false e is =
+    let outside : length xs ≤ n = grind (arith, nat_tests) in
+    ap decoded (drop_all n xs outside ∙ sym (drop_all (n + 1) xs (omega arith)))
+
+-- what stands behind the first line means the same with its line feed
+pub behind_line : (input : List ℕ) → decoded (drop (position_or_len is_line_feed input) input) ≡ decoded (after_first is_line_feed input)
+behind_line input = at_place input (position_or_len is_line_feed input) _ refl (λ inside. passes_at_first is_line_feed input 0 inside)
+
+pub line_end : (xs : List ℕ) (n : ℕ) → n ≤ length xs → All (λ byte. byte ≢ 10) (take n xs) → (n < length xs → get_or xs n 0 ≡ 10) → position_or_len is_line_feed xs ≡ n
+line_end xs n le before found =
+    position_or_len_is is_line_feed xs n 0 le
+    (λ k h.
+    let other : get_or xs k 0 ≢ 10 = rw get_or-take at (before k 0 (omega (arith, length-take-le n xs le))) in
+    grind (arith, nat_tests))
+    (λ h. let feed : get_or xs n 0 ≡ 10 = found h in grind (arith, nat_tests))
+
+-- ---- what comes of the parts
+
+none_first : (section header : Result (List ℕ) FromHexError) → IsErr section → with_header section header ≡ None
+none_first (Ok bytes) header h = cc
+none_first (Err e) header h = refl
+
+none_second : (section header : Result (List ℕ) FromHexError) → IsErr header → with_header section header ≡ None
+none_second (Ok bytes) (Ok more) h = cc
+none_second (Ok bytes) (Err e) h = refl
+none_second (Err e) header h = refl
+
+not_read : (meant : Option Bytes) (d : Result (List ℕ) FromHexError) (e : InputError) → (IsErr d → meant ≡ None) → (e ≡ errors.OutOfMemory) ⊎ ((e ≡ errors.NotHexadecimal) × IsErr d) → IsReading meant (Err e)
+not_read meant d e none (inl memory) = subst (λ refusal. IsReading meant (Err refusal)) (sym memory) tt
+not_read meant d e none (inr (text, bad)) = subst (λ refusal. IsReading meant (Err refusal)) (sym text) (none bad)
+
+pub section_refused : (section header : Result (List ℕ) FromHexError) (e : InputError) → (e ≡ errors.OutOfMemory) ⊎ ((e ≡ errors.NotHexadecimal) × IsErr section) → IsReading (with_header section header) (Err e)
+section_refused section header e why = not_read (with_header section header) section e (none_first section header) why
+
+pub header_refused : (section header : Result (List ℕ) FromHexError) (e : InputError) → (e ≡ errors.OutOfMemory) ⊎ ((e ≡ errors.NotHexadecimal) × IsErr header) → IsReading (with_header section header) (Err e)
+header_refused section header e why = not_read (with_header section header) header e (none_second section header) why
+
+pub both_read : (section header : Result (List ℕ) FromHexError) (first second : List ℕ) → section ≡ Ok first → header ≡ Ok second → with_header section header ≡ Some (record { section = first; header = second })
+both_read section header first second p q = rw (p, q) refl

@@ -7,3 +7,4 @@ pub mod RunLemmas
 pub mod WordLemmas
 pub mod WrittenLemmas
 pub mod AnswerLemmas
+mod OnHeap

@@ -1,15 +1,13 @@
 -- What a run prints.
 use Rattle.std.proofs.Common.{◌≡◌, ◌⊎◌, inl, inr, ◌≤◌, ◌<◌, ℕ, List, [], ◌++◌, get_or, Option, Some, None, Result, Ok, Err, refl, sym, ◌∙◌, ap, subst, arith, append-nil, append_assoc, IfSome}
 use Rattle.std.specs.Option.{IsSome}
-use Rattle.std.specs.Result.{IsErr}
 use Rattle.std.specs.Io.KnownBytes.{Appends, Keeps}
-use Rattle.hex.specs.declared.error.FromHexError.{FromHexError}
 use Rattle.cfi_read_core.specs.declared.error.Error.{Error}
 use Rattle.cfi_read_core.specs.declared.error.Error.TheVariants.{OutOfMemory}
 use Rattle.cfi_state.specs.Row.{Row}
 use Rattle.cfi_rows.specs.declared.words.Request.{Request}
-use Rattle.cfi_rows.specs.Answers.{RequestAnswer, IsOwed, IsRun, LineOfInput, LineOfRequest, LineOfWords, out_of_memory, section_alone, IsLineFor}
-use Rattle.cfi_rows.specs.Input.{Bytes, bytes_by, with_header, decoded}
+use Rattle.cfi_rows.specs.Answers.{RequestAnswer, IsOwed, IsRun, LineOfInput, LineOfRequest, LineOfWords, out_of_memory, IsLineFor}
+use Rattle.cfi_rows.specs.Input.{Bytes, bytes_by}
 use Rattle.cfi_rows.specs.Lines.{Line, answer_line, wrong_words, wrong_hexadecimal, wrong_input}
 use Rattle.cfi_rows.specs.Words.{CanBeAnswered, asked}
 use Rattle.cfi_rows.specs.Written.{IsBeginning, Writes, Prints}
@@ -17,50 +15,37 @@ use Rattle.cfi_rows.proofs.WrittenLemmas.{appends_then, keeps_is}
 
 -- ---- the line that is owed
 
-no_bytes : (d : Result (List ℕ) FromHexError) → IsErr d → with_header d (Ok []) ≡ None
-no_bytes (Ok bytes) h = cc
-no_bytes (Err e) h = refl
-
-bytes_is : (d : Result (List ℕ) FromHexError) (section : List ℕ) → d ≡ Ok section → with_header d (Ok []) ≡ Some (record { section = section; header = [] })
-bytes_is d section e = rw e refl
-
-input_is : (h : Option ℕ) (input : List ℕ) → h ≡ None → bytes_by h input ≡ with_header (decoded input) (Ok [])
-input_is h input e = rw e refl
-
-owed_hexadecimal : (answers : RequestAnswer) (r : Request) (input : List ℕ) → r.header ≡ None → IsErr (decoded input) → LineOfRequest answers (Some r) input wrong_hexadecimal
-owed_hexadecimal answers r input e h =
+owed_hexadecimal : (answers : RequestAnswer) (r : Request) (input : List ℕ) → bytes_by r.header input ≡ None → LineOfRequest answers (Some r) input wrong_hexadecimal
+owed_hexadecimal answers r input e =
     let P : Option Bytes → Type 0 = λ bytes. LineOfInput answers r bytes wrong_hexadecimal in
-    subst P (sym (input_is r.header input e ∙ no_bytes (decoded input) h)) refl
+    subst P (sym e) refl
 
-owed_answer : (answers : RequestAnswer) (r : Request) (input section : List ℕ) (printed : Line) → r.header ≡ None → decoded input ≡ Ok section →
-    ((answer : Result (Row ℕ) Error) × answers r (section_alone section) answer × (printed ≡ answer_line answer)) → LineOfRequest answers (Some r) input printed
-owed_answer answers r input section printed e d is =
-    let P : Option Bytes → Type 0 = λ bytes. LineOfInput answers r bytes printed in
-    subst P (sym (input_is r.header input e ∙ bytes_is (decoded input) section d)) is
+owed_answer : (answers : RequestAnswer) (r : Request) (input : List ℕ) (bytes : Bytes) (printed : Line) → bytes_by r.header input ≡ Some bytes →
+    ((answer : Result (Row ℕ) Error) × answers r bytes answer × (printed ≡ answer_line answer)) → LineOfRequest answers (Some r) input printed
+owed_answer answers r input bytes printed e is =
+    let P : Option Bytes → Type 0 = λ read. LineOfInput answers r read printed in
+    subst P (sym e) is
 
 pub known_of : (o : Option Request) (r : Request) → o ≡ Some r → IfSome o CanBeAnswered → CanBeAnswered r
 known_of o r e h =
     let P : Option Request → Type 0 = λ asked_for. IfSome asked_for CanBeAnswered in
     subst P e h
 
-pub owes_hexadecimal : (answers : RequestAnswer) (o : Option Request) (r : Request) (input : List ℕ) → o ≡ Some r → IfSome o CanBeAnswered → IsErr (decoded input) →
-    IsOwed answers o input wrong_hexadecimal
-owes_hexadecimal answers o r input e h wrong =
+pub owes_hexadecimal : (answers : RequestAnswer) (o : Option Request) (r : Request) (input : List ℕ) → o ≡ Some r → bytes_by r.header input ≡ None → IsOwed answers o input wrong_hexadecimal
+owes_hexadecimal answers o r input e wrong =
     let P : Option Request → Type 0 = λ asked_for. IsOwed answers asked_for input wrong_hexadecimal in
-    subst P (sym e) (inl (owed_hexadecimal answers r input (known_of o r e h).no_header wrong))
+    subst P (sym e) (inl (owed_hexadecimal answers r input wrong))
 
-owes_line : (answers : RequestAnswer) (r : Request) (input section shown : List ℕ) (printed : Line) → r.header ≡ None → decoded input ≡ Ok section → shown ≡ section →
-    IsLineFor answers r shown printed → IsOwed answers (Some r) input printed
-owes_line answers r input section shown printed h d s (inl (answer, is, p)) =
-    let P : List ℕ → Type 0 = λ bytes. answers r (section_alone bytes) answer in
-    inl (owed_answer answers r input section printed h d (answer, subst P s is, p))
-owes_line answers r input section shown printed h d s (inr memory) = inr (refl, inl memory)
+owes_line : (answers : RequestAnswer) (r : Request) (input : List ℕ) (bytes : Bytes) (printed : Line) → bytes_by r.header input ≡ Some bytes →
+    IsLineFor answers r bytes printed → IsOwed answers (Some r) input printed
+owes_line answers r input bytes printed d (inl is) = inl (owed_answer answers r input bytes printed d is)
+owes_line answers r input bytes printed d (inr memory) = inr (refl, inl memory)
 
-pub owes_answer : (Q : Line → Type 0) (answers : RequestAnswer) (o : Option Request) (r : Request) (input section shown : List ℕ) → o ≡ Some r → IfSome o CanBeAnswered →
-    decoded input ≡ Ok section → shown ≡ section → ((printed : Line) × Q printed × IsLineFor answers r shown printed) → (printed : Line) × Q printed × IsOwed answers o input printed
-owes_answer Q answers o r input section shown e h d s (printed, shows, which) =
+pub owes_answer : (Q : Line → Type 0) (answers : RequestAnswer) (o : Option Request) (r : Request) (input : List ℕ) (bytes : Bytes) → o ≡ Some r →
+    bytes_by r.header input ≡ Some bytes → ((printed : Line) × Q printed × IsLineFor answers r bytes printed) → (printed : Line) × Q printed × IsOwed answers o input printed
+owes_answer Q answers o r input bytes e d (printed, shows, which) =
     let P : Option Request → Type 0 = λ asked_for. IsOwed answers asked_for input printed in
-    (printed, shows, subst P (sym e) (owes_line answers r input section shown printed (known_of o r e h).no_header d s which))
+    (printed, shows, subst P (sym e) (owes_line answers r input bytes printed d which))
 
 -- ---- a line that begins with the text of another
 

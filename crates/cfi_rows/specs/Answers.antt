@@ -1,7 +1,7 @@
 -- Which line is right for words and input.
-use Rattle.std.specs.Prelude.{◌≡◌, ◌⊎◌, ℕ, ◌≤◌, ◌<◌, Bool, true, false, Option, Some, None, List, [], length, Result, Ok, Err, IsSome}
+use Rattle.std.specs.Prelude.{◌≡◌, ◌⊎◌, ℕ, ◌≤◌, ◌<◌, Bool, true, false, Option, Some, None, List, length, Result, Ok, Err, IsSome}
 use Rattle.cfi_read_core.specs.declared.error.Error.{Error}
-use Rattle.cfi_read_core.specs.declared.error.Error.TheVariants.{UnsupportedPointerEncoding, OutOfMemory}
+use Rattle.cfi_read_core.specs.declared.error.Error.TheVariants.{OutOfMemory}
 use Rattle.cfi_read_core.specs.ByteOrder.{is_big}
 use Rattle.cfi_read_core.specs.Reading.{Source}
 use Rattle.cfi_parts.specs.declared.pointer.Pointer.{Pointer}
@@ -9,11 +9,10 @@ use Rattle.cfi_state.specs.Row.{Row}
 use Rattle.cfi_unwind.specs.Sections as sections
 use Rattle.cfi_unwind.specs.Sections.{Section}
 use Rattle.cfi_unwind.specs.Fdes.{Fde}
-use Rattle.cfi_state.specs.Limit.{IsFixed}
 use Rattle.cfi_unwind.specs.Scan.{chosen}
-use Rattle.cfi_unwind.specs.Answers.{row_of_fde, IsRowOfFde, IsOfFound}
-use Rattle.gimli_cfi.specs.Headers.{HeaderSection, Header, Table, header_of, value_size}
-use Rattle.gimli_cfi.specs.Tables.{IsTableAnswer}
+use Rattle.gimli_cfi.specs.Headers.{HeaderSection, Header, Table, header_of, start_of}
+use Rattle.gimli_cfi.specs.Tables.{IsFoundByTable}
+use Rattle.cfi_unwind.specs.Answers.{IsRowOfFound}
 use Rattle.cfi_rows.specs.declared.words.Kind.{Kind}
 use Rattle.cfi_rows.specs.declared.words.Kind.TheVariants.{DebugFrame, EhFrame}
 use Rattle.cfi_rows.specs.declared.words.Storage.{Storage}
@@ -56,7 +55,7 @@ header_section_of r base bytes = record {
 
 pub record Room : Type 0 where
   pub rule_limit : Option ℕ  -- the most rules of a row; none where only memory bounds them
-  pub stack_limit : Option ℕ  -- the most rows, as well
+  pub stack_limit : Option ℕ  -- the most rows at once, likewise
   pub copies_free : Bool  -- a row's rules are copied without taking memory
 
 abbrev pub room : Option ℕ → Option ℕ → Bool → Room
@@ -68,42 +67,33 @@ room_of Growing = room None None false
 
 -- ---- the answer
 
--- the answers that an FDE of a section may give for an address
-abbrev pub FdeAnswer : Type 1
-FdeAnswer = Section → ℕ → Fde → Result (Row ℕ) Error → Type 0
+-- the FDE for the address, or the refusal in its place: without rows by going through the section
+abbrev pub FoundByRows : Section → ℕ → HeaderSection → Pointer → Option Table → Result Fde Error → Type 0
+FoundByRows section a header eh_frame None found = found ≡ chosen section a
+FoundByRows section a header eh_frame (Some table) found = IsFoundByTable (start_of header table) header table eh_frame section a found
 
--- An FDE's answer: only an instruction that may want memory may be refused for want of it. Where the room is fixed none
--- is, and the answer is that of the bytes alone.
-pub record IsOfFde (room : Room) (section : Section) (a : ℕ) (fde : Fde) (answer : Result (Row ℕ) Error) : Type 0 where
-  pub allowed : IsRowOfFde room.rule_limit room.stack_limit room.copies_free section a fde answer
-  pub fixed : IsFixed room.rule_limit room.stack_limit room.copies_free → answer ≡ row_of_fde room.rule_limit room.stack_limit section a fde
+abbrev pub FoundByHeader : Section → ℕ → HeaderSection → Result Header Error → Result Fde Error → Type 0
+FoundByHeader section a header (Err e) found = found ≡ Err e
+FoundByHeader section a header (Ok read) found = FoundByRows section a header read.eh_frame read.table found
 
--- that of the FDE that is found by going through the section
-abbrev pub ByScan : FdeAnswer → Request → List ℕ → Result (Row ℕ) Error → Type 0
-ByScan of_fde r bytes answer = IsOfFound (of_fde (section_of r bytes) r.address) (chosen (section_of r bytes) r.address) answer
+-- what a section with this header answers
+abbrev pub IsRowByHeader : Room → Section → ℕ → HeaderSection → Result (Row ℕ) Error → Type 0
+IsRowByHeader room section a header answer =
+    (found : Result Fde Error) × FoundByHeader section a header (header_of header) found
+    × IsRowOfFound room.rule_limit room.stack_limit room.copies_free section a found answer
 
-abbrev pub ByTable : FdeAnswer → Request → HeaderSection → Pointer → Table → List ℕ → Option ℕ → Result (Row ℕ) Error → Type 0
-ByTable of_fde r header eh_frame table bytes None answer = answer ≡ Err (UnsupportedPointerEncoding (record { 0 = table.encoding }))
-ByTable of_fde r header eh_frame table bytes (Some size) answer =
-    (found : Result Fde Error) × IsTableAnswer Ok header table eh_frame (section_of r bytes) r.address found
-    × IsOfFound (of_fde (section_of r bytes) r.address) found answer
+-- the base is that of the header, where there is one
+abbrev pub FoundByBase : Request → Bytes → Option ℕ → Result Fde Error → Type 0
+FoundByBase r bytes None found = found ≡ chosen (section_of r bytes.section) r.address
+FoundByBase r bytes (Some base) found =
+    FoundByHeader (section_of r bytes.section) r.address (header_section_of r base bytes.header) (header_of (header_section_of r base bytes.header)) found
 
-abbrev pub ByRows : FdeAnswer → Request → HeaderSection → Pointer → Option Table → List ℕ → Result (Row ℕ) Error → Type 0
-ByRows of_fde r header eh_frame None bytes answer = ByScan of_fde r bytes answer
-ByRows of_fde r header eh_frame (Some table) bytes answer = ByTable of_fde r header eh_frame table bytes (value_size table.encoding) answer
-
-abbrev pub ByHeader : FdeAnswer → Request → HeaderSection → Result Header Error → List ℕ → Result (Row ℕ) Error → Type 0
-ByHeader of_fde r header (Err e) bytes answer = answer ≡ Err e
-ByHeader of_fde r header (Ok read) bytes answer = ByRows of_fde r header read.eh_frame read.table bytes answer
-
-abbrev pub ByBase : FdeAnswer → Request → Option ℕ → Bytes → Result (Row ℕ) Error → Type 0
-ByBase of_fde r None bytes answer = ByScan of_fde r bytes.section answer
-ByBase of_fde r (Some base) bytes answer =
-    ByHeader of_fde r (header_section_of r base bytes.header) (header_of (header_section_of r base bytes.header)) bytes.section answer
-
--- what may be answered to a request
-abbrev pub IsAnswer : FdeAnswer → Request → Bytes → Result (Row ℕ) Error → Type 0
-IsAnswer of_fde r bytes answer = ByBase of_fde r r.header bytes answer
+-- What may be answered to a request: the row of the FDE that is found, or the first refusal on the way. Only an
+-- instruction that may want memory may be refused for want of it; where the room is fixed none is.
+pub record IsAnswer (room : Room) (r : Request) (bytes : Bytes) (answer : Result (Row ℕ) Error) : Type 0 where
+  pub found : Result Fde Error
+  pub finds : FoundByBase r bytes r.header found
+  pub answers : IsRowOfFound room.rule_limit room.stack_limit room.copies_free (section_of r bytes.section) r.address found answer
 
 -- ---- the line
 
@@ -123,13 +113,9 @@ LineOfRequest answers (Some r) input printed = LineOfInput answers r (bytes_by r
 abbrev pub LineOfWords : RequestAnswer → Option (List (List ℕ)) → List ℕ → Line → Type 0
 LineOfWords answers words input printed = LineOfRequest answers (asked words) input printed
 
--- in the given room
-abbrev pub answers_in : Room → RequestAnswer
-answers_in room = IsAnswer (IsOfFde room)
-
 -- what the program answers
 abbrev pub answers : RequestAnswer
-answers r = answers_in (room_of r.storage) r
+answers r = IsAnswer (room_of r.storage) r
 
 -- the line where memory was refused
 abbrev pub out_of_memory : Line
@@ -137,13 +123,9 @@ out_of_memory = answer_line (Err OutOfMemory)
 
 -- ---- what a run prints
 
--- the bytes of a section alone
-abbrev pub section_alone : List ℕ → Bytes
-section_alone section = record { section = section; header = [] }
-
--- the line of an answer for the bytes of a section, or that memory was refused
-abbrev pub IsLineFor : RequestAnswer → Request → List ℕ → Line → Type 0
-IsLineFor answers r section printed = ((answer : Result (Row ℕ) Error) × answers r (section_alone section) answer × (printed ≡ answer_line answer)) ⊎ (printed ≡ out_of_memory)
+-- the line of an answer for the bytes of the input, or that memory was refused
+abbrev pub IsLineFor : RequestAnswer → Request → Bytes → Line → Type 0
+IsLineFor answers r bytes printed = ((answer : Result (Row ℕ) Error) × answers r bytes answer × (printed ≡ answer_line answer)) ⊎ (printed ≡ out_of_memory)
 
 -- a line that is right, or that there was no memory or no input
 abbrev pub IsOwed : RequestAnswer → Option Request → List ℕ → Line → Type 0

@@ -3,7 +3,7 @@ use Rattle.std.specs.Prelude.{◌≡◌, ℕ, ◌^◌, Bool, ◌&&◌, Option, S
 use Rattle.std.specs.Borrow.{Bor}
 use Rattle.std.specs.Char.{is_ascii_digit, is_ascii_hexdigit}
 use Rattle.std.specs.List.{list_all}
-use Rattle.std.specs.Option.{option_and_then, option_map, is_none}
+use Rattle.std.specs.Option.{option_and_then, option_map, IsSome}
 use Rattle.std.specs.Str.{bytes_eq}
 use Rattle.std.specs.Str.Parse.{digits_value}
 use Rattle.cfi_read_core.specs.Addresses.{IsAddressSize}
@@ -141,20 +141,10 @@ unfoldable pub request_of : List (List ℕ) → Option Request
 request_of (kind ∷ order ∷ size ∷ address ∷ options) = option_and_then (option_words options) (first_words kind order size address)
 request_of words = None
 
--- ---- what is answered today
-
--- no header
-abbrev pub is_offered : Request → Bool
-is_offered r = is_none r.header
-
-abbrev pub offered : Request → Option Request
-offered r = if is_offered r then Some r else None
-
 -- what is asked for by the words, which may not be to be had
 abbrev pub asked : Option (List (List ℕ)) → Option Request
-asked words = option_and_then offered (option_and_then request_of words)
+asked words = option_and_then request_of words
 
--- what holds of each request that is asked for
-pub record CanBeAnswered (r : Request) : Type 0 where
-  pub no_header : r.header ≡ None
-  pub sized : IsAddressSize r.address_size
+-- What holds of each request that is asked for: the size of an address is known, and only .eh_frame has a header.
+abbrev pub CanBeAnswered : Request → Type 0
+CanBeAnswered r = IsAddressSize r.address_size × (IsSome r.header → r.kind ≡ EhFrame)

@@ -1,8 +1,10 @@
-//! The input: a section in hexadecimal.
-ghost use Rattle.std.specs.Prelude.{◌≡◌, ◌≢◌, ℕ, ◌⊎◌, List, IfOk, IfErr, IsErr, Ok, OnErr, IfSome, vec_items};
+//! The input: a section in hexadecimal, and behind its first line its header where one is asked for.
+ghost use Rattle.std.specs.Prelude.{◌≡◌, ◌≢◌, ℕ, ◌⊎◌, ◌<◌, ◌≤◌, List, length, take, slice_index, IfOk, IfErr, IsErr, Some, Ok, OnErr, IfSome, vec_items};
 ghost use Rattle.std.specs.Io.KnownBytes.{Consumes, IsAtEnd};
 ghost use Rattle.hex.specs.declared.error.FromHexError.TheVariants.{OutOfMemory};
-ghost use Rattle.cfi_rows.specs.Input.{is_space, decoded};
+ghost use Rattle.std.specs.List.{All, before_first, after_first};
+ghost use Rattle.cfi_read_core.specs.Readers.{map_ok};
+ghost use Rattle.cfi_rows.specs.Input.{is_space, is_line_feed, decoded, bytes_of, IsDecoded};
 
 use hex::FromHexError;
 use std::alloc::Global;
@@ -43,8 +45,72 @@ pub fn read_all<R: Read>(alloc: Global, input: &mut R) -> Result<Vec<u8>, InputE
     Err(InputError::Unreadable)
 }
 
+/// What the input holds.
+#[derive(Debug, Drop)]
+pub struct Sections {
+    /// The bytes of the section.
+    pub section: Vec<u8>,
+    /// The bytes of its header; none where the input has no header.
+    pub header: Vec<u8>,
+}
+
+/// The bytes that the text of the input writes: the section, and where a header is asked for, the section in the first
+/// line and the header behind it.
+pub fn decode_sections(
+    alloc: Global,
+    header: Option<u64>,
+    text: Vec<u8>,
+) -> Result<Sections, InputError>
+    ensures read { IsDecoded header text.items (map_ok bytes_of result) }
+    ensures refused { IfErr result (λ e. e ≢ InputError.Unreadable) }
+{
+    match header {
+        None => Ok(Sections {
+            section: decode(alloc, text)?,
+            header: Vec::new(alloc),
+        }),
+        Some(_) => decode_lines(alloc, text),
+    }
+}
+
+/// The bytes of the section in the first line, and of the header behind it.
+fn decode_lines(alloc: Global, text: Vec<u8>) -> Result<Sections, InputError>
+    ensures read { IsDecoded (Some 0) text.items (map_ok bytes_of result) }
+    ensures refused { IfErr result (λ e. e ≢ InputError.Unreadable) }
+{
+    let mut first_line = text;
+    let rest = split_behind_first_line(&mut first_line)?;
+    let section = decode(alloc, first_line)?;
+    let header = decode(alloc, rest)?;
+    Ok(Sections { section, header })
+}
+
+/// Takes what stands behind the first line, with the line feed between.
+fn split_behind_first_line(text: &mut Vec<u8>) -> Result<Vec<u8>, InputError>
+    ensures first { IfOk result (λ rest. text.new.items ≡ before_first is_line_feed text.old.items) }
+    ensures rest { IfOk result (λ rest. decoded rest.items ≡ decoded (after_first is_line_feed text.old.items)) }
+    ensures refused { IfErr result (λ e. e ≡ InputError.OutOfMemory) }
+{
+    let end = first_line_len(text.as_slice());
+    match text.split_off(end) {
+        Ok(rest) => Ok(rest),
+        Err(_) => Err(InputError::OutOfMemory),
+    }
+}
+
+/// How many bytes the first line has, its line feed left out.
+fn first_line_len(text: &[u8]) -> usize
+    ensures within { result ≤ length text.now }
+    ensures before { All (λ byte. byte ≢ 10) (take result text.now) }
+    ensures found { result < length text.now → slice_index text.now result ≡ 10 }
+{
+    text.iter()
+        .position(|byte| *byte == b'\n')
+        .unwrap_or(text.len())
+}
+
 /// The bytes that hexadecimal text writes, spaces left out.
-pub fn decode(alloc: Global, text: Vec<u8>) -> Result<Vec<u8>, InputError>
+fn decode(alloc: Global, text: Vec<u8>) -> Result<Vec<u8>, InputError>
     ensures value { IfOk result (λ bytes. decoded text.items ≡ Ok bytes.items) }
     ensures refused { IfErr result (λ e. (e ≡ InputError.OutOfMemory) ⊎ ((e ≡ InputError.NotHexadecimal) × IsErr (decoded text.items))) }
 {

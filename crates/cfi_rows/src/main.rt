@@ -1,7 +1,8 @@
 //! Prints the unwind row of an address.
 //!
 //! The words name the section, its byte order, the size of an address and the address; standard input holds the
-//! section in hexadecimal. `run` says what is printed.
+//! section in hexadecimal, and where a header of `.eh_frame` is asked for, the header behind the first line. `run` says
+//! what is printed.
 #![tactic(auto)]
 ghost use Rattle.std.specs.Prelude.{◌≡◌, IfOk, map, string_bytes};
 ghost use Rattle.cfi_rows.specs.Words.{texts};

@@ -6,10 +6,10 @@ ghost use Rattle.cfi_rows.specs.Lines.{Line};
 ghost use Rattle.cfi_rows.specs.Words.{CanBeAnswered, asked, texts};
 ghost use Rattle.cfi_rows.specs.Written.{Prints};
 ghost use Rattle.cfi_read_core.specs.Readers.{map_ok};
-ghost use Rattle.cfi_rows.specs.Input.{IsDecoded};
+ghost use Rattle.cfi_rows.specs.Input.{IsDecoded, bytes_of};
 
 use crate::answer::print_answer;
-use crate::input::{InputError, decode, read_all};
+use crate::input::{InputError, Sections, decode_sections, read_all};
 use crate::line::{write_refusal, write_wrong_hexadecimal, write_wrong_input, write_wrong_words};
 use crate::words::{Request, asked_for};
 use cfi_read_core::Error;
@@ -59,17 +59,21 @@ fn print_line<R: Read, W: Write>(
     let Some(request) = request else {
         return write_wrong_words(output);
     };
-    match section_bytes(alloc, input) {
-        Ok(section) => print_answer(alloc, &request, section.as_slice(), output),
+    match read_sections(alloc, request.header, input) {
+        Ok(sections) => print_answer(alloc, &request, &sections, output),
         Err(InputError::Unreadable) => write_wrong_input(output),
         Err(InputError::NotHexadecimal) => write_wrong_hexadecimal(output),
         Err(InputError::OutOfMemory) => write_refusal(output, Error::OutOfMemory),
     }
 }
 
-fn section_bytes<R: Read>(alloc: Global, input: &mut R) -> Result<Vec<u8>, InputError>
-    ensures { IfSome (R.remaining input.old) (λ bytes. IsDecoded bytes (map_ok (λ section. section.items) result)) }
+fn read_sections<R: Read>(
+    alloc: Global,
+    header: Option<u64>,
+    input: &mut R,
+) -> Result<Sections, InputError>
+    ensures { IfSome (R.remaining input.old) (λ bytes. IsDecoded header bytes (map_ok bytes_of result)) }
 {
     let text = read_all(alloc, input)?;
-    decode(alloc, text)
+    decode_sections(alloc, header, text)
 }

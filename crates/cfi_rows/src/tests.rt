@@ -1,4 +1,6 @@
 //! Whole runs over memory: worked sections, wrong words and input, failing input and output.
+mod header;
+
 use crate::line::{Address, Cfa, Rule, write_part};
 use crate::run::run;
 use cfi_parts::instruction::UnwindExpression;
@@ -563,12 +565,16 @@ fn run_case(alloc: Global, case: &Case) -> Result<(u8, Vec<u8>), AllocError> {
 }
 
 fn run_words(alloc: Global, words: &str, parts: &[&str]) -> Result<(u8, Vec<u8>), AllocError> {
-    let words: Vec<&str> = words.split(' ').collect(alloc)?;
     let mut text = String::new(alloc);
     for part in parts {
         text.push_str(part)?;
         text.push_str("\n")?;
     }
+    run_text(alloc, words, text.as_str())
+}
+
+fn run_text(alloc: Global, words: &str, text: &str) -> Result<(u8, Vec<u8>), AllocError> {
+    let words: Vec<&str> = words.split(' ').collect(alloc)?;
     let mut input = text.as_bytes();
     let mut output = Vec::new(alloc);
     let status = run(alloc, Some(words.as_slice()), &mut input, &mut output);

@@ -2,7 +2,7 @@
 ghost use Rattle.std.specs.Prelude.{◌≡◌, option_map};
 ghost use Rattle.std.specs.Char.{is_ascii_digit, is_ascii_hexdigit};
 ghost use Rattle.std.specs.List.{list_all};
-ghost use Rattle.cfi_rows.specs.Words.{texts, request_of, asked, is_offered, option_word, number, hexadecimal_number, decimal_number, kind_of, order_of, size_of, first_words, option_words, once_given, behind, set_vendor, set_storage, set_section, set_text, set_data_base, set_header};
+ghost use Rattle.cfi_rows.specs.Words.{texts, request_of, asked, option_word, number, hexadecimal_number, decimal_number, kind_of, order_of, size_of, first_words, option_words, once_given, behind, set_vendor, set_storage, set_section, set_text, set_data_base, set_header};
 
 use cfi_read_core::{RunTimeEndian, Vendor};
 
@@ -280,20 +280,9 @@ fn all_decimal(digits: &[u8]) -> bool
     digits.iter().all(|digit| digit.is_ascii_digit())
 }
 
-/// What the words ask for, where it is offered. `None` stands for words that are not to be had, and for wrong ones.
+/// What the words ask for. `None` stands for words that are not to be had, and for wrong ones.
 pub fn asked_for(words: Option<&[&str]>) -> Option<Request>
     ensures { result ≡ asked (option_map (λ list. texts list.now) words.entry) }
 {
-    let request = parse(words?)?;
-    if is_offered_today(&request) {
-        Some(request)
-    } else {
-        None
-    }
-}
-
-fn is_offered_today(request: &Request) -> bool
-    ensures { result ≡ is_offered request.now }
-{
-    request.header.is_none()
+    parse(words?)
 }
