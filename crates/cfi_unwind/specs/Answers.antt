@@ -3,7 +3,7 @@
 --     row_of_fde .. fde      the answer of one FDE: the refusal of its CIE's program, else its first refusal or row with the address
 --     row_by_scan .. section a      that of the first FDE that covers the address, or the first refusal before it
 --     IsRowOfFde, IsRowByScan      the same where memory may be wanting; RunsToRowOfFde, RunsToRowByScan by the machine
---     IsRowOfFound      all three, of what going through the section found
+--     IsRowOfFound      both and an equation without want of memory, of what going through the section answered
 use Rattle.std.specs.Prelude.{◌≡◌, ℕ, Bool, Option, Result, Ok, Err}
 use Rattle.cfi_read_core.specs.declared.error.Error.{Error}
 use Rattle.cfi_state.specs.Operands.{Setting}
@@ -50,19 +50,19 @@ RunsToRowOfFde rule_limit stack_limit copies_free section a fde row =
     let s = setting rule_limit stack_limit fde in
     AnswersFde (wants_memory s copies_free) s (cie_instructions section fde.cie) (fde_instructions section fde) a row
 
--- the answer of the FDE that was found, or the refusal in its place
-abbrev pub IsOfFound : {A : Type 0} → (Fde → Result A Error → Type 0) → Result Fde Error → Result A Error → Type 0
-IsOfFound of_fde (Ok fde) answer = of_fde fde answer
-IsOfFound of_fde (Err e) answer = answer ≡ Err e
+-- the answer of the FDE that was chosen, or the refusal in its place
+abbrev pub IsOfChosen : {A : Type 0} → (Fde → Result A Error → Type 0) → Result Fde Error → Result A Error → Type 0
+IsOfChosen of_fde (Ok fde) answer = of_fde fde answer
+IsOfChosen of_fde (Err e) answer = answer ≡ Err e
 
--- The row for an address, going through the section having found this FDE or refusal.
+-- The row for an address, where going through the section answered this FDE or refusal.
 pub record IsRowOfFound (rule_limit stack_limit : Option ℕ) (copies_free : Bool) (section : Section) (a : ℕ) (found : Result Fde Error) (row : Result (Row ℕ) Error) : Type 0 where
-  pub kept : IsOfFound (IsRowOfFde rule_limit stack_limit copies_free section a) found row
-  pub run : IsOfFound (RunsToRowOfFde rule_limit stack_limit copies_free section a) found row
+  pub kept : IsOfChosen (IsRowOfFde rule_limit stack_limit copies_free section a) found row
+  pub run : IsOfChosen (RunsToRowOfFde rule_limit stack_limit copies_free section a) found row
   pub fixed : IsFixed rule_limit stack_limit copies_free → row ≡ answer_by (row_of_fde rule_limit stack_limit section a) found
 
 abbrev pub IsRowByScan : Option ℕ → Option ℕ → Bool → Section → ℕ → Result (Row ℕ) Error → Type 0
-IsRowByScan rule_limit stack_limit copies_free section a row = IsOfFound (IsRowOfFde rule_limit stack_limit copies_free section a) (chosen section a) row
+IsRowByScan rule_limit stack_limit copies_free section a row = IsOfChosen (IsRowOfFde rule_limit stack_limit copies_free section a) (chosen section a) row
 
 abbrev pub RunsToRowByScan : Option ℕ → Option ℕ → Bool → Section → ℕ → Result (Row ℕ) Error → Type 0
-RunsToRowByScan rule_limit stack_limit copies_free section a row = IsOfFound (RunsToRowOfFde rule_limit stack_limit copies_free section a) (chosen section a) row
+RunsToRowByScan rule_limit stack_limit copies_free section a row = IsOfChosen (RunsToRowOfFde rule_limit stack_limit copies_free section a) (chosen section a) row
