@@ -1,6 +1,6 @@
 -- The bytes of an expression that was read in a section are there.
 use Rattle.std.proofs.Common.{◌≡◌, ◌≤◌, ◌<◌, ◌+◌, ◌-◌, ℕ, Bool, true, false, List, length, Result, Ok, Err, refl, sym, ap, ◌∙◌, subst, arith, nat_lt, length-take, drop}
-use Rattle.std.specs.Prelude.{nat_le, not, ◌||◌, ◌==◌, slice_index, if◌then◌else◌}
+use Rattle.std.specs.Prelude.{nat_le, slice_index, if◌then◌else◌}
 use borrow.Author.Tests.{ltb-true, leb-true, le-leb}
 use Rattle.cfi_read_core.specs.declared.error.Error.{Error}
 use Rattle.cfi_read_core.specs.declared.error.Error.TheVariants.{BadUnsignedLeb128, UnsupportedOffset}
@@ -9,7 +9,6 @@ use Rattle.cfi_read_core.specs.Numbers.{going_on, leb128_bytes, leb128_sum, unsi
 use Rattle.cfi_read_core.specs.Readers.{IsPartOf, extent_of}
 use Rattle.cfi_read_core.proofs.Onward.{onward_offset_leb128}
 use Rattle.cfi_parts.specs.declared.instruction.UnwindExpression.{UnwindExpression}
-use Rattle.cfi_parts.specs.Pointers.{PointerContext}
 use Rattle.cfi_parts.specs.Frames.{IsOf}
 use Rattle.cfi_parts.specs.Instructions.{expression, expression_bytes, IsReadIn}
 

@@ -1,10 +1,10 @@
 -- The instructions that are left, one at a time.
-use Rattle.std.proofs.Common.{◌≡◌, ◌≤◌, ◌<◌, ◌-◌, ℕ, Bool, true, false, Some, None, Ok, Err, refl, sym, ap, ◌∙◌, arith}
+use Rattle.std.proofs.Common.{◌≡◌, ◌<◌, ℕ, Bool, true, false, Some, None, Ok, Err, refl, sym, ap, ◌∙◌, arith}
 use Rattle.std.specs.Prelude.{nat_le, ◌==◌}
 use Rattle.std.proofs.lemmas.Bool.{eqb-true, eqb-false, eq-eqb}
 use borrow.Author.Tests.{le-leb, lt-leb}
 use Rattle.cfi_read_core.specs.declared.error.Error.{Error}
-use Rattle.cfi_read_core.specs.Reading.{Source, Standing, Outcome, Readings, with_first, no_values, listed}
+use Rattle.cfi_read_core.specs.Reading.{Source, Standing, Outcome, with_first, no_values, listed}
 use Rattle.cfi_read_core.specs.Readers.{IsPartOf, extent_of, left, exhausted}
 use Rattle.cfi_read_core.proofs.Repeating.{readings_from, one_turn}
 use Rattle.cfi_parts.specs.Instructions.{Instruction, InstructionContext, instruction, instructions}

@@ -13,22 +13,30 @@ use std::test::Fail;
 
 /// The CIE; an FDE that remembers a row, sets the CFA, moves and restores.
 const REMEMBERED: [u8; 49] = [
-    0x10, 0, 0, 0, 0xff, 0xff, 0xff, 0xff, 4, 0, 8, 0, 1, 0x78, 0x10, 0x0c, 7, 8, 0x90, 1, 0x19, 0, 0, 0, 0, 0, 0, 0, 0, 0x10, 0, 0, 0, 0, 0, 0, 0x20, 0, 0, 0, 0, 0, 0, 0, 0x0a, 0x0e, 0x20, 0x42, 0x0b,
+    0x10, 0, 0, 0, 0xff, 0xff, 0xff, 0xff, 4, 0, 8, 0, 1, 0x78, 0x10, 0x0c, 7, 8, 0x90, 1, 0x19, 0,
+    0, 0, 0, 0, 0, 0, 0, 0x10, 0, 0, 0, 0, 0, 0, 0x20, 0, 0, 0, 0, 0, 0, 0, 0x0a, 0x0e, 0x20, 0x42,
+    0x0b,
 ];
 
 /// A CIE whose program moves, and an FDE without instructions.
 const CIE_MOVES: [u8; 45] = [
-    0x11, 0, 0, 0, 0xff, 0xff, 0xff, 0xff, 4, 0, 8, 0, 1, 0x78, 0x10, 0x0c, 7, 8, 0x90, 1, 0x41, 0x14, 0, 0, 0, 0, 0, 0, 0, 0, 0x10, 0, 0, 0, 0, 0, 0, 0x20, 0, 0, 0, 0, 0, 0, 0,
+    0x11, 0, 0, 0, 0xff, 0xff, 0xff, 0xff, 4, 0, 8, 0, 1, 0x78, 0x10, 0x0c, 7, 8, 0x90, 1, 0x41,
+    0x14, 0, 0, 0, 0, 0, 0, 0, 0, 0x10, 0, 0, 0, 0, 0, 0, 0x20, 0, 0, 0, 0, 0, 0, 0,
 ];
 
 /// The CIE; an FDE whose CFA is an expression, of which the register is set behind it.
 const EXPRESSION: [u8; 51] = [
-    0x10, 0, 0, 0, 0xff, 0xff, 0xff, 0xff, 4, 0, 8, 0, 1, 0x78, 0x10, 0x0c, 7, 8, 0x90, 1, 0x1b, 0, 0, 0, 0, 0, 0, 0, 0, 0x10, 0, 0, 0, 0, 0, 0, 0x20, 0, 0, 0, 0, 0, 0, 0, 0x86, 2, 0x0f, 1, 0x30, 0x0d, 6,
+    0x10, 0, 0, 0, 0xff, 0xff, 0xff, 0xff, 4, 0, 8, 0, 1, 0x78, 0x10, 0x0c, 7, 8, 0x90, 1, 0x1b, 0,
+    0, 0, 0, 0, 0, 0, 0, 0x10, 0, 0, 0, 0, 0, 0, 0x20, 0, 0, 0, 0, 0, 0, 0, 0x86, 2, 0x0f, 1, 0x30,
+    0x0d, 6,
 ];
 
 /// Two CIEs at 0 and 20, whose CFAs are r7+8 and r7+16; FDEs of the first for 0x1000 and 0x2000.
 const TWO_CIES: [u8; 88] = [
-    0x10, 0, 0, 0, 0xff, 0xff, 0xff, 0xff, 4, 0, 8, 0, 1, 0x78, 0x10, 0x0c, 7, 8, 0x90, 1, 0x10, 0, 0, 0, 0xff, 0xff, 0xff, 0xff, 4, 0, 8, 0, 1, 0x78, 0x10, 0x0c, 7, 0x10, 0x90, 1, 0x14, 0, 0, 0, 0, 0, 0, 0, 0, 0x10, 0, 0, 0, 0, 0, 0, 0x20, 0, 0, 0, 0, 0, 0, 0, 0x14, 0, 0, 0, 0, 0, 0, 0, 0, 0x20, 0, 0, 0, 0, 0, 0, 0x20, 0, 0, 0, 0, 0, 0, 0,
+    0x10, 0, 0, 0, 0xff, 0xff, 0xff, 0xff, 4, 0, 8, 0, 1, 0x78, 0x10, 0x0c, 7, 8, 0x90, 1, 0x10, 0,
+    0, 0, 0xff, 0xff, 0xff, 0xff, 4, 0, 8, 0, 1, 0x78, 0x10, 0x0c, 7, 0x10, 0x90, 1, 0x14, 0, 0, 0,
+    0, 0, 0, 0, 0, 0x10, 0, 0, 0, 0, 0, 0, 0x20, 0, 0, 0, 0, 0, 0, 0, 0x14, 0, 0, 0, 0, 0, 0, 0, 0,
+    0x20, 0, 0, 0, 0, 0, 0, 0x20, 0, 0, 0, 0, 0, 0, 0,
 ];
 
 /// A row: its addresses, its CFA, and the rules of registers 6 and 16.
@@ -168,7 +176,10 @@ fn the_bytes_of_an_expression(rt: HostRuntime) -> Result<(), Fail> {
     for (offset, length, place) in refusals {
         let expression = UnwindExpression { offset, length };
         let read = expression.get(&section);
-        assert_eq!(rt; read.err(), Some(Error::UnexpectedEof(ReaderOffsetId(place))));
+        assert_eq!(rt;
+            read.err(),
+            Some(Error::UnexpectedEof(ReaderOffsetId(place)))
+        );
     }
     Ok(())
 }

@@ -1,5 +1,5 @@
 -- The table that was made for an FDE.
-use Rattle.std.proofs.Common.{◌≡◌, ℕ, Bool, Option, Result, Ok, Err, ap, subst, sym, ◌∙◌}
+use Rattle.std.proofs.Common.{◌≡◌, ℕ, Bool, Result, subst}
 use Rattle.std.specs.Prelude.{IfOk, false}
 use Rattle.cfi_read_core.specs.declared.error.Error.{Error}
 use Rattle.cfi_read_core.specs.Reading.{Readings}
@@ -13,7 +13,6 @@ use Rattle.cfi_unwind.specs.Sections.{Section}
 use Rattle.cfi_unwind.specs.Fdes.{Fde}
 use Rattle.cfi_unwind.specs.Programs.{cie_instructions, fde_instructions}
 use Rattle.cfi_unwind.specs.Tables.{KeepsProgram, StartsRows}
-use Rattle.cfi_unwind.proofs.ScanSteps.{if_ok}
 
 -- made under a setting, over the programs of the two
 module _ {X : Type 0} (place : X → Place (State ℕ) ℕ) (made : Result X Error) (s t : Setting) (setting : s ≡ t) (free : Bool) (section : Section) (fde : Fde)

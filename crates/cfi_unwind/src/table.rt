@@ -259,7 +259,13 @@ fn run_initial<R: Reader, S: UnwindContextStorage<R::Offset>>(
 /// The answer is the CIE's first refusal; else the first refusal or row with the address that the FDE's table gives, also for
 /// an address outside the FDE; else `NoUnwindInfoForAddress`. Rows behind the answer are not run. `OutOfMemory` comes only
 /// where an instruction, or the end of the CIE's program, wants memory, so never over a fixed storage.
-pub(crate) fn unwind_info_for_address<'cie, 'fde, 'ctx, R: Reader, S: UnwindContextStorage<R::Offset>>(
+pub(crate) fn unwind_info_for_address<
+    'cie,
+    'fde,
+    'ctx,
+    R: Reader,
+    S: UnwindContextStorage<R::Offset>,
+>(
     parameters: Parameters,
     cie_instructions: CallFrameInstructionIter<'cie, R>,
     fde_instructions: CallFrameInstructionIter<'fde, R>,

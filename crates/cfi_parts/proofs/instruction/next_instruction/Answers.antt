@@ -1,5 +1,4 @@
-use Rattle.std.proofs.Common.{◌≡◌, ◌∙◌, sym, ap, arith}
-use Rattle.std.specs.Prelude.{◌≤◌}
+use Rattle.std.proofs.Common.{◌∙◌, sym, arith}
 use Rattle.cfi_parts.proofs.Walk.{one_read, further, fewer_left, refused, at_end, at_exhausted}
 use Rattle.cfi_parts.proofs.instruction.next_instruction.Goals as goal
 
