@@ -22,11 +22,13 @@ impl<R: Reader> EhHdrTable<'_, R> {
     /// address, or the next one starts above it. Where the starts rise, that is the last row that starts at or below the
     /// address, or the first row if there is none. The FDE there need not contain the address.
     ///
-    /// Refused with `UnsupportedPointerEncoding` of the table's encoding where the values of its format differ in size;
-    /// with the refusal of a start, as `TableStarts` says, that the search read; else of the boundary row's target: with
-    /// `UnsupportedOffset` and `UnexpectedEof` as a start, with `UnexpectedEof` of the row's place where the target isn't
-    /// there, and as `parse_encoded_pointer`. It reads as many starts as halving the rows takes, and takes no memory
-    /// (LSB Core, "The .eh_frame_hdr section").
+    /// Refused with `UnsupportedPointerEncoding` of the table's encoding where its values don't all take two, four or
+    /// eight bytes; with the refusal of the start of a row, as `TableStarts` says; else of the boundary row's target: with
+    /// `UnsupportedOffset` and `UnexpectedEof` as its start, with `UnexpectedEof` of the row's place where the start
+    /// isn't there, and as a pointer of the section. It reads as many starts as halving the rows takes, at most 64, and
+    /// takes no memory (LSB Core, "The .eh_frame_hdr section").
+    ///
+    /// The bases are those in `BaseAddresses::eh_frame_hdr`.
     pub fn lookup(&self, address: u64, bases: &BaseAddresses) -> Result<Pointer>
         ensures found { IsFoundBySearch (starts_view R.standing self.now.hdr.now bases.now) (table_view R.standing self.now) address
             (target_of (section_view R.standing self.now.hdr.now bases.now) (table_view R.standing self.now)) result }
@@ -41,8 +43,8 @@ impl<R: Reader> EhHdrTable<'_, R> {
 
     /// The same with the answers of a source in place of the starts.
     ///
-    /// The source is asked for rows below the count alone, and at most as often as halving the rows takes; where the
-    /// format is refused it isn't asked.
+    /// A refusal of the source that passes on is that of a row below the count. The source is asked at most as often as
+    /// halving the rows takes; where the format is refused it isn't asked.
     pub fn lookup_in<St: StartSource>(
         &self,
         starts: &mut St,

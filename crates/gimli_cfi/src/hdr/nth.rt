@@ -14,8 +14,8 @@ impl<R: Reader> EhHdrTableIter<'_, '_, R> {
     /// The row behind the next `n` rows, which are passed at once and aren't read. `None`, and no rows left, where no
     /// more than `n` remain.
     ///
-    /// Refused with `UnsupportedPointerEncoding` of the table's encoding where the values of its format differ in size,
-    /// whatever remains; with `UnsupportedOffset` where the size of `n` rows is no `u64` or no offset of the reader; and
+    /// Refused with `UnsupportedPointerEncoding` of the table's encoding where its values don't all take two, four or
+    /// eight bytes, whatever remains; with `UnsupportedOffset` where the size of `n` rows is no `u64` or no offset of the reader; and
     /// with `UnexpectedEof` where so many bytes aren't left. These leave the iterator as it was. Then as `next`. It takes
     /// no memory.
     pub fn nth(&mut self, n: usize) -> Result<Option<(Pointer, Pointer)>>

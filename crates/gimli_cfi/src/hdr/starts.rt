@@ -15,8 +15,8 @@ use cfi_read_core::{Reader, Result};
 /// The starts in the rows of a header's table. A call reads that of one row at the row's own place, and no other row.
 ///
 /// A start is refused with `UnsupportedOffset` where the row's distance from the first one is no `u64` or no offset of
-/// the reader, with `UnexpectedEof` of the first row's place where the table ends before the row, as
-/// `parse_encoded_pointer`, and with `UnsupportedIndirectPointer` where it is indirect (LSB Core, "The .eh_frame_hdr
+/// the reader, with `UnexpectedEof` of the first row's place where the table ends before the row, as a pointer of the
+/// section, and with `UnsupportedIndirectPointer` where it is indirect. It takes no memory (LSB Core, "The .eh_frame_hdr
 /// section").
 #[derive(Drop)]
 pub struct TableStarts<'a, 'bases, R: Reader> {

@@ -1,0 +1,158 @@
+//! How many numbers a search in a table reads.
+ghost use Rattle.std.specs.Ordering.{on};
+ghost use Rattle.std.specs.Cmp.{on_per, on_equiv};
+
+use cfi_read_core::{EndianSlice, Error, LittleEndian, Reader};
+use gimli_cfi::hdr::{EhFrameHdr, TableStarts, row_by_table};
+use gimli_cfi::pointer::BaseAddresses;
+use gimli_cfi::section::EhFrame;
+use gimli_cfi::table::UnwindContext;
+use std::cell::Cell;
+use std::test::Fail;
+
+/// A reader that counts the numbers of a fixed width that are read, with all its copies.
+#[derive(Clone, Copy, Debug)]
+struct Counted<'a, R> {
+    inner: R,
+    reads: &'a Cell<u32>,
+}
+
+impl<R> Counted<'_, R> {
+    fn count(&self) {
+        self.reads.set(self.reads.get().saturating_add(1));
+    }
+}
+
+impl<R: Reader> PartialEq for Counted<'_, R> {
+    ghost eq = { on (λ r. r.inner) R.PartialEq.eq };
+
+    ghost laws = { on_per (λ r. r.inner) R.PartialEq.laws };
+
+    fn eq(&self, other: &Self) -> bool {
+        self.inner == other.inner
+    }
+}
+
+impl<R: Reader> Eq for Counted<'_, R> {
+    ghost laws = { on_equiv (λ r. r.inner) R.Eq.laws };
+}
+
+impl<R: Reader> Reader for Counted<'_, R> {
+    type Offset = R::Offset;
+
+    type Endian = R::Endian;
+
+    ghost standing = { λ r. R.standing r.inner };
+
+    fn endian(&self) -> R::Endian {
+        self.inner.endian()
+    }
+
+    fn len(&self) -> R::Offset {
+        self.inner.len()
+    }
+
+    fn place(&self) -> R::Offset {
+        self.inner.place()
+    }
+
+    fn find(&self, byte: u8) -> Result<R::Offset, Error> {
+        self.inner.find(byte)
+    }
+
+    fn skip(&mut self, len: R::Offset) -> Result<(), Error> {
+        self.inner.skip(len)
+    }
+
+    fn split(&mut self, len: R::Offset) -> Result<Self, Error> {
+        let inner = self.inner.split(len)?;
+        Ok(Counted {
+            inner,
+            reads: self.reads,
+        })
+    }
+
+    fn read_u8(&mut self) -> Result<u8, Error> {
+        self.count();
+        self.inner.read_u8()
+    }
+
+    fn read_u16(&mut self) -> Result<u16, Error> {
+        self.count();
+        self.inner.read_u16()
+    }
+
+    fn read_u32(&mut self) -> Result<u32, Error> {
+        self.count();
+        self.inner.read_u32()
+    }
+
+    fn read_u64(&mut self) -> Result<u64, Error> {
+        self.count();
+        self.inner.read_u64()
+    }
+
+    ghost sound = { λ r. R.sound r.inner };
+
+    ghost equal = { λ x y. R.equal x.inner y.inner };
+
+    ghost greatest = { λ r. R.greatest r.inner };
+}
+
+/// How many numbers of the header `lookup` reads for an address, and how many `row_by_table`.
+fn reads_for(
+    header: &[u8],
+    context: &mut UnwindContext<usize>,
+    address: u64,
+) -> Result<Option<(u32, u32)>, Error> {
+    let bases = BaseAddresses::default();
+    let elsewhere = Cell::new(0u32);
+    let reads = Cell::new(0u32);
+    let frame = EhFrame::from(Counted {
+        inner: EndianSlice::new(&[], LittleEndian),
+        reads: &elsewhere,
+    });
+    let section = EhFrameHdr::from(Counted {
+        inner: EndianSlice::new(header, LittleEndian),
+        reads: &reads,
+    });
+    let parsed = section.parse(&bases, 8)?;
+    let Some(table) = parsed.table() else {
+        return Ok(None);
+    };
+    reads.set(0);
+    let _target = table.lookup(address, &bases);
+    let looked_up = reads.get();
+    let mut starts = TableStarts::new(&table, &bases)?;
+    reads.set(0);
+    let _row = row_by_table(&table, &mut starts, &frame, &bases, context, address);
+    Ok(Some((looked_up, reads.get())))
+}
+
+#[test]
+fn starts_are_read_by_halving(rt: HostRuntime) -> Result<(), Fail> {
+    let mut context: UnwindContext<usize> = UnwindContext::new(rt.alloc())?;
+    let one: [u8; 20] = [
+        1, 3, 3, 3, 0, 0, 0, 0, 1, 0, 0, 0, 0, 1, 0, 0, 0, 2, 0, 0,
+    ];
+    assert_eq!(rt; reads_for(&one, &mut context, 0x180)?, Some((1, 1)));
+    // A thousand rows in order, and a thousand whose starts go up and down.
+    for factor in [16u32, 40503] {
+        let mut header = Vec::new(rt.alloc());
+        header.extend_from_slice(&[1, 3, 3, 3, 0, 0, 0, 0, 0xe8, 3, 0, 0])?;
+        for row in 0..1000u32 {
+            let start = row.wrapping_mul(factor) % 65536;
+            header.extend_from_slice(&start.to_le_bytes())?;
+            header.extend_from_slice(&row.to_le_bytes())?;
+        }
+        for address in [0u64, 1, 4000, 8001, 15999, 16000, 40000, 70000] {
+            let Some((looked_up, by_table)) = reads_for(&header, &mut context, address)? else {
+                assert!(rt; false);
+                return Ok(());
+            };
+            assert!(rt; looked_up <= 11);
+            assert!(rt; by_table <= 11);
+        }
+    }
+    Ok(())
+}
