@@ -1,5 +1,6 @@
 //! The rows of a table, one behind the other.
 ghost use Rattle.std.specs.Prelude.{◌≡◌, ◌≤◌, IfSome, Some};
+ghost use Rattle.std.specs.Option.{option_transpose};
 ghost use Rattle.std.specs.Iterator.{UpTo, YieldsFirst, at_most};
 ghost use Rattle.std.specs.Iterator.SizeHint.{IsWithinCount};
 ghost use Rattle.cfi_read_core.specs.Addresses.{IsAddressSize};
@@ -76,7 +77,9 @@ impl<R: Reader> Iterator for EhHdrTableIter<'_, '_, R> {
     ghost use Rattle.gimli_cfi.specs.Views.{walk_view};
 
     ghost next_gives = { λ s r t. YieldsFirst (λ it. rows_left (walk_view R.standing it)) s r t
-        × (walk_view R.standing t ≡ walk_behind (walk_view R.standing s) (R.standing t.table)) };
+        × Reads (λ found. found) (next_row (walk_view R.standing s)) (R.standing s.table) (option_transpose r) (R.standing t.table)
+        × (walk_view R.standing t ≡ walk_behind (walk_view R.standing s) (R.standing t.table))
+        × ((t.hdr.now ≡ s.hdr.now) × (t.bases.now ≡ s.bases.now)) };
 
     ghost remaining = { λ it. at_most it.remain };
 
