@@ -150,7 +150,7 @@ pub trait UnwindSection<R: Reader>: Copy + Debug + _UnwindSectionPrivate<R> {
         Err(Error::NoUnwindInfoForAddress)
     }
 
-    /// The row of that FDE for the address, lent from the context, which is emptied first.
+    /// The row of that FDE for the address, lent from the context.
     ///
     /// Each CIE that `get_cie` answers is of this section. Refused as `fde_for_address`; else as the FDE's own
     /// `unwind_info_for_address`, behind which nothing more is asked. Nothing that the context held before counts. Over a

@@ -22,11 +22,11 @@ impl<R: Reader> EhHdrTable<'_, R> {
     /// address, or the next one starts above it. Where the starts rise, that is the last row that starts at or below the
     /// address, or the first row if there is none. The FDE there need not contain the address.
     ///
-    /// Refused with `UnsupportedPointerEncoding` of the table's encoding where its values don't all take two, four or
-    /// eight bytes; with the refusal of the start of a row, as `TableStarts` says; else of the boundary row's target: with
-    /// `UnsupportedOffset` and `UnexpectedEof` as its start, with `UnexpectedEof` of the row's place where the start
-    /// isn't there, and as a pointer of the section. It reads as many starts as halving the rows takes, at most 64, and
-    /// takes no memory (LSB Core, "The .eh_frame_hdr section").
+    /// Refused with `UnsupportedPointerEncoding` of the table's encoding where its format isn't `udata2`, `sdata2`,
+    /// `udata4`, `sdata4`, `udata8` or `sdata8`; with the refusal of the start of a row, as `TableStarts` says; else of
+    /// the boundary row's target: with `UnsupportedOffset` and `UnexpectedEof` as its start, with `UnexpectedEof` of the
+    /// row's place where the start isn't there, and as a pointer of the section. It reads as many starts as halving the
+    /// rows takes, at most 64, and takes no memory (LSB Core, "The .eh_frame_hdr section").
     ///
     /// The bases are those in `BaseAddresses::eh_frame_hdr`.
     pub fn lookup(&self, address: u64, bases: &BaseAddresses) -> Result<Pointer>

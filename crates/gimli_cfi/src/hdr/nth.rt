@@ -14,10 +14,10 @@ impl<R: Reader> EhHdrTableIter<'_, '_, R> {
     /// The row behind the next `n` rows, which are passed at once and aren't read. `None`, and no rows left, where no
     /// more than `n` remain.
     ///
-    /// Refused with `UnsupportedPointerEncoding` of the table's encoding where its values don't all take two, four or
-    /// eight bytes, whatever remains; with `UnsupportedOffset` where the size of `n` rows is no `u64` or no offset of the reader; and
-    /// with `UnexpectedEof` where so many bytes aren't left. These leave the iterator as it was. Then as `next`. It takes
-    /// no memory.
+    /// Refused with `UnsupportedPointerEncoding` of the table's encoding where its format isn't `udata2`, `sdata2`,
+    /// `udata4`, `sdata4`, `udata8` or `sdata8`, whatever remains; with `UnsupportedOffset` where the size of `n` rows is
+    /// no `u64` or no offset of the reader; and with `UnexpectedEof` where so many bytes aren't left. These leave the
+    /// iterator as it was. Then as `next`. It takes no memory.
     pub fn nth(&mut self, n: usize) -> Result<Option<(Pointer, Pointer)>>
         ensures met { MeetsBehind (walk_past (walk_view R.standing self.old) n) (walk_view R.standing self.old) result (walk_view R.standing self.new) }
         ensures unchanged { (e : Refusal) → walk_past (walk_view R.standing self.old) n ≡ Err e → self.new ≡ self.old }

@@ -164,7 +164,7 @@ impl<R: Reader> EhHdrTable<'_, R> {
         fde_at_target(self, target, frame, bases, address, get_cie)
     }
 
-    /// The row of that FDE for the address, lent from the context, which is emptied first.
+    /// The row of that FDE for the address, lent from the context.
     ///
     /// Each CIE that `get_cie` answers is of the section. Refused as `fde_for_address`, then as the FDE's own
     /// `unwind_info_for_address`. Nothing that the context held before counts. Over a fixed storage it takes no memory;

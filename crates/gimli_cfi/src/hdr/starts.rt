@@ -28,8 +28,8 @@ pub struct TableStarts<'a, 'bases, R: Reader> {
 }
 
 impl<'a, 'bases, R: Reader> TableStarts<'a, 'bases, R> {
-    /// The starts of a table whose format can be searched: each value takes two, four or eight bytes. Another format is
-    /// refused with `UnsupportedPointerEncoding` of the table's encoding.
+    /// The starts of a table whose format can be searched: `udata2`, `sdata2`, `udata4`, `sdata4`, `udata8` or `sdata8`.
+    /// Another format is refused with `UnsupportedPointerEncoding` of the table's encoding.
     ///
     /// The bases are those in `BaseAddresses::eh_frame_hdr`. No start is read yet. It takes no memory.
     pub fn new(table: &EhHdrTable<'a, R>, bases: &'bases BaseAddresses) -> Result<Self>
