@@ -2,6 +2,7 @@
 ghost use Rattle.std.specs.Ordering.{on};
 ghost use Rattle.std.specs.Cmp.{on_per, on_equiv};
 
+use crate::searches::HEADER;
 use cfi_read_core::{EndianSlice, Error, LittleEndian, Reader};
 use gimli_cfi::hdr::{EhFrameHdr, TableStarts, row_by_table};
 use gimli_cfi::pointer::BaseAddresses;
@@ -105,7 +106,7 @@ fn reads_for(
     context: &mut UnwindContext<usize>,
     address: u64,
 ) -> Result<Option<(u32, u32)>, Error> {
-    let bases = BaseAddresses::default();
+    let bases = BaseAddresses::default().set_eh_frame_hdr(0x1f00);
     let elsewhere = Cell::new(0u32);
     let reads = Cell::new(0u32);
     let frame = EhFrame::from(Counted {
@@ -132,10 +133,10 @@ fn reads_for(
 #[test]
 fn starts_are_read_by_halving(rt: HostRuntime) -> Result<(), Fail> {
     let mut context: UnwindContext<usize> = UnwindContext::new(rt.alloc())?;
-    let one: [u8; 20] = [
-        1, 3, 3, 3, 0, 0, 0, 0, 1, 0, 0, 0, 0, 1, 0, 0, 0, 2, 0, 0,
-    ];
+    let one: [u8; 20] = [1, 3, 3, 3, 0, 0, 0, 0, 1, 0, 0, 0, 0, 1, 0, 0, 0, 2, 0, 0];
     assert_eq!(rt; reads_for(&one, &mut context, 0x180)?, Some((1, 1)));
+    // Two starts and the target.
+    assert_eq!(rt; reads_for(&HEADER, &mut context, 0x1018)?, Some((3, 3)));
     // A thousand rows in order, and a thousand whose starts go up and down.
     for factor in [16u32, 40503] {
         let mut header = Vec::new(rt.alloc());
