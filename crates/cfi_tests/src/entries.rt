@@ -40,15 +40,14 @@ fn fde_of_eh_frame(
 /// How many entries there are, and the refusal behind them.
 fn walk<R: cfi_read_core::Reader, S: UnwindSection<R>>(section: &S) -> (u32, Option<Error>) {
     let bases = BaseAddresses::default();
-    let mut entries = section.entries(&bases);
     let mut count = 0u32;
-    loop {
-        match entries.next() {
-            Ok(Some(_)) => count = count.saturating_add(1),
-            Ok(None) => return (count, None),
+    for entry in section.entries(&bases) {
+        match entry {
+            Ok(_) => count = count.saturating_add(1),
             Err(refusal) => return (count, Some(refusal)),
         }
     }
+    (count, None)
 }
 
 #[test]
