@@ -3,6 +3,7 @@
 //! The words name the section, its byte order, the size of an address and the address; standard input holds the
 //! section in hexadecimal. `run` says what is printed.
 #![tactic(auto)]
+
 ghost use Rattle.std.specs.Prelude.{◌≡◌, IfOk, map, string_bytes};
 ghost use Rattle.cfi_rows.specs.Words.{texts};
 
