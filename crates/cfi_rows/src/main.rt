@@ -4,6 +4,7 @@
 //! section in hexadecimal, and where a header of `.eh_frame` is asked for, the header behind the first line. `run` says
 //! what is printed.
 #![tactic(auto)]
+
 ghost use Rattle.std.specs.Prelude.{◌≡◌, IfOk, map, string_bytes};
 ghost use Rattle.cfi_rows.specs.Words.{texts};
 
