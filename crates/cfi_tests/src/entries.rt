@@ -26,10 +26,7 @@ fn bytes_of(alloc: Global, text: &str) -> Result<Vec<u8>, FromHexError> {
 /// an FDE behind it.
 const LSDA_CIE: &str = "0f000000 00000000 01 7a4c5200 017810 02 43 1b";
 
-fn fde_of_eh_frame(
-    bytes: &[u8],
-    offset: usize,
-) -> Result<FrameDescriptionEntry<Slice<'_>>, Error> {
+fn fde_of_eh_frame(bytes: &[u8], offset: usize) -> Result<FrameDescriptionEntry<Slice<'_>>, Error> {
     let section = EhFrame::new(bytes, LittleEndian);
     let bases = BaseAddresses::default().set_eh_frame(0x2000);
     section.fde_from_offset(&bases, EhFrameOffset(offset), |from, bases, offset| {
@@ -89,14 +86,8 @@ fn entries_that_are_cut_short(rt: HostRuntime) -> Result<(), Fail> {
     let cut: [(&str, Error); 5] = [
         ("0500", Error::UnexpectedEof(ReaderOffsetId(0))),
         ("f5ffffff", Error::UnknownReservedLength(0xffff_fff5)),
-        (
-            "ffffffff 39300000",
-            Error::UnexpectedEof(ReaderOffsetId(4)),
-        ),
-        (
-            "000000ff ffffffff",
-            Error::UnexpectedEof(ReaderOffsetId(4)),
-        ),
+        ("ffffffff 39300000", Error::UnexpectedEof(ReaderOffsetId(4))),
+        ("000000ff ffffffff", Error::UnexpectedEof(ReaderOffsetId(4))),
         ("00000000", Error::NoEntryAtGivenOffset(0)),
     ];
     for (text, refusal) in cut {
