@@ -4,12 +4,12 @@ use Rattle.std.specs.Prelude.{nat_le, slice_index, if◌then◌else◌}
 use borrow.Author.Tests.{ltb-true, leb-true, le-leb}
 use Rattle.cfi_read_core.specs.declared.error.Error.{Error}
 use Rattle.cfi_read_core.specs.declared.error.Error.TheVariants.{BadUnsignedLeb128, UnsupportedOffset}
-use Rattle.cfi_read_core.specs.Reading.{Read, Source, Standing, Extent, Outcome, carry_on, ◌>>=◌, ◌>>◌, split, give, refuse, refuse_if, ended, offset, rest}
-use Rattle.cfi_read_core.specs.Numbers.{going_on, leb128_bytes, leb128_sum, unsigned_leb128, offset_leb128}
+use Rattle.cfi_read_core.specs.Reading.{Read, Source, Position, Extent, Outcome, carry_on, ◌>>=◌, ◌>>◌, split, give, refuse, refuse_if, unexpected_eof, offset, rest}
+use Rattle.cfi_read_core.specs.Numbers.{continuation_count, leb128_bytes, leb128_sum, unsigned_leb128, offset_leb128}
 use Rattle.cfi_read_core.specs.Readers.{IsPartOf, extent_of}
 use Rattle.cfi_read_core.proofs.Onward.{onward_offset_leb128}
 use Rattle.cfi_parts.specs.declared.instruction.UnwindExpression.{UnwindExpression}
-use Rattle.cfi_parts.specs.Frames.{IsOf}
+use Rattle.cfi_parts.specs.CallFrameSections.{IsOf}
 use Rattle.cfi_parts.specs.Instructions.{expression, expression_bytes, IsReadIn}
 
 -- ---- a read that gives a value stays within the bytes
@@ -41,7 +41,7 @@ inside_offset : (n : ℕ) → IsInside (offset n)
 inside_offset n = record { kept = λ source. (inside_if (nat_le n source.greatest) (give n) (refuse UnsupportedOffset) (inside_give n) (inside_refuse _)).kept source }
 
 bytes_end : (b : Bool) (n place last room : ℕ) (bs xs : List ℕ) → (b ≡ true → n < room) → place + room ≤ last → place ≤ last →
-    (let o : Outcome (List ℕ) = if b then record { value = Ok bs; place = place + n + 1 } else record { value = Err (ended (place + n)); place = place + n } in
+    (let o : Outcome (List ℕ) = if b then record { value = Ok bs; place = place + n + 1 } else record { value = Err (unexpected_eof (place + n)); place = place + n } in
     o.value ≡ Ok xs → o.place ≤ last)
 bytes_end true n place last room bs xs some fits h e = let more = some refl in omega arith
 bytes_end false n place last room bs xs some fits h e = absurd (cc)
@@ -51,7 +51,7 @@ unfolding leb128_bytes
 inside_leb128_bytes = record {
   kept = λ source place xs e h.
       let room : place + length (rest source place) ≤ source.last = omega (arith, length-take (source.last - place) (drop place source.whole)) in
-      bytes_end (nat_lt (going_on (rest source place)) (length (rest source place))) (going_on (rest source place)) place source.last (length (rest source place)) _ xs
+      bytes_end (nat_lt (continuation_count (rest source place)) (length (rest source place))) (continuation_count (rest source place)) place source.last (length (rest source place)) _ xs
       (λ t. ltb-true _ _ t) room h e;
 }
 
@@ -75,7 +75,7 @@ record Stands (first last : ℕ) (e : UnwindExpression ℕ) (p after : ℕ) : Ty
   after_is : after ≡ p + e.length
 
 at_split : (first last n p : ℕ) (source : Source) (b : Bool) (e : UnwindExpression ℕ) (after : ℕ) → (b ≡ true → n ≤ last - p) →
-    (let o : Outcome Extent = if b then record { value = Ok (record { first = p; last = p + n }); place = p + n } else record { value = Err (ended p); place = p } in
+    (let o : Outcome Extent = if b then record { value = Ok (record { first = p; last = p + n }); place = p + n } else record { value = Err (unexpected_eof p); place = p } in
     let passed : Extent → Read (UnwindExpression ℕ) = λ extent. give (record { offset = extent.first - first; length = n }) in
     carry_on passed source o.value o.place ≡ record { value = Ok e; place = after } → Stands first last e p after)
 at_split first last n p source true e after fits is =
@@ -108,7 +108,7 @@ bytes_at e source first h k =
     let there : nat_le e.length (source.last - (first + e.offset)) ≡ true = le-leb _ _ k in
     rw (skipped, there) refl
 
-stands : (section : Standing) (e : UnwindExpression ℕ) (after : ℕ) → IsReadIn section e after → (p : ℕ) × (section.place ≤ p) × (p ≤ section.source.last) × Stands section.place section.source.last e p after
+stands : (section : Position) (e : UnwindExpression ℕ) (after : ℕ) → IsReadIn section e after → (p : ℕ) × (section.place ≤ p) × (p ≤ section.source.last) × Stands section.place section.source.last e p after
 unfolding expression passed_at
 stands section e after h =
     let reader = h.reader in
@@ -123,7 +123,7 @@ stands section e after h =
     let begins = h.begins in
     (length.place, omega arith, omega arith, record { offset_is = offset; inside = omega arith; after_is = f.after_is })
 
-bytes_are_there : (section : Standing) (e : UnwindExpression ℕ) (after : ℕ) → IsReadIn section e after →
+bytes_are_there : (section : Position) (e : UnwindExpression ℕ) (after : ℕ) → IsReadIn section e after →
     (expression_bytes e section.source section.place).value ≡ Ok (record { first = after - e.length; last = after })
 bytes_are_there section e after h =
     let found = stands section e after h in
@@ -140,14 +140,14 @@ bytes_are_there section e after h =
     ∙ (rw (end, here) refl)
 
 -- the same of a reader that stands as the section
-pub bytes_are_read : {there section : Standing} (e : UnwindExpression ℕ) (after : ℕ) → there ≡ section → IsReadIn section e after →
+pub bytes_are_read : {there section : Position} (e : UnwindExpression ℕ) (after : ℕ) → there ≡ section → IsReadIn section e after →
     (expression_bytes e there.source there.place).value ≡ Ok (record { first = after - e.length; last = after })
-bytes_are_read {there = there} {section = section} e after same h = bytes_are_there there e after (subst (λ (s : Standing). IsReadIn s e after) (sym same) h)
+bytes_are_read {there = there} {section = section} e after same h = bytes_are_there there e after (subst (λ (s : Position). IsReadIn s e after) (sym same) h)
 
 -- ---- what is split off lies in the section
 
 given_part : (b : Bool) (n p : ℕ) (x : Extent) (after : ℕ) →
-    (let o : Outcome Extent = if b then record { value = Ok (record { first = p; last = p + n }); place = p + n } else record { value = Err (ended p); place = p } in o ≡ record { value = Ok x; place = after }) →
+    (let o : Outcome Extent = if b then record { value = Ok (record { first = p; last = p + n }); place = p + n } else record { value = Err (unexpected_eof p); place = p } in o ≡ record { value = Ok x; place = after }) →
     (b ≡ true) × (record { first = p; last = p + n } ≡ x)
 given_part true n p x after is = (refl, let value = ap (λ (o : Outcome Extent). o.value) is in cc)
 given_part false n p x after is = let value = ap (λ (o : Outcome Extent). o.value) is in absurd (cc)
@@ -155,7 +155,7 @@ given_part false n p x after is = let value = ap (λ (o : Outcome Extent). o.val
 -- n bytes passed, then m split off
 passed_then : (source : Source) (n m p : ℕ) → Bool → Outcome Extent
 passed_then source n m p b =
-    let o : Outcome Extent = if b then record { value = Ok (record { first = p; last = p + n }); place = p + n } else record { value = Err (ended p); place = p } in
+    let o : Outcome Extent = if b then record { value = Ok (record { first = p; last = p + n }); place = p + n } else record { value = Err (unexpected_eof p); place = p } in
     let s = carry_on {B = Unit {0}} (λ _. give tt) source o.value o.place in
     carry_on (λ _. split m) source s.value s.place
 
@@ -165,7 +165,7 @@ unfolding passed_then
 behind_skip source n m p true x after is = (refl, is)
 behind_skip source n m p false x after is = let value = ap (λ (o : Outcome Extent). o.value) is in absurd (cc)
 
-bytes_of_section : (section part : Standing) (e : UnwindExpression ℕ) (after : ℕ) → section.place ≤ section.source.last →
+bytes_of_section : (section part : Position) (e : UnwindExpression ℕ) (after : ℕ) → section.place ≤ section.source.last →
     expression_bytes e section.source section.place ≡ record { value = Ok (extent_of part); place = after } → IsPartOf part section → IsOf part section
 unfolding expression_bytes passed_then
 bytes_of_section section part e after ordered is same =
@@ -177,7 +177,7 @@ bytes_of_section section part e after ordered is same =
     let last = ap (λ (x : Extent). x.last) taken.1 in
     record { source = same; first = omega arith; last = omega arith }
 
-pub bytes_lie_in : {there section part : Standing} (e : UnwindExpression ℕ) {after : ℕ} → there ≡ section → there.place ≤ there.source.last →
+pub bytes_lie_in : {there section part : Position} (e : UnwindExpression ℕ) {after : ℕ} → there ≡ section → there.place ≤ there.source.last →
     expression_bytes e there.source there.place ≡ record { value = Ok (extent_of part); place = after } → IsPartOf part there → IsOf part section
 bytes_lie_in {there = there} {section = section} {part = part} e {after = after} at ordered is same =
-    subst (λ (s : Standing). IsOf part s) at (bytes_of_section there part e after ordered is same)
+    subst (λ (s : Position). IsOf part s) at (bytes_of_section there part e after ordered is same)

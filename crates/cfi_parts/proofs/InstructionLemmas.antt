@@ -17,7 +17,7 @@ use Rattle.cfi_read_core.proofs.Repeating.{Advances, advances_bind, advances_uns
 use Rattle.cfi_parts.specs.declared.pointer.Pointer.{Pointer}
 use Rattle.cfi_parts.specs.declared.instruction.UnwindExpression.{UnwindExpression}
 use Rattle.cfi_parts.specs.declared.instruction.CallFrameInstruction.TheVariants.{SetLoc, AdvanceLoc, DefCfa, DefCfaSf, DefCfaRegister, DefCfaOffset, DefCfaOffsetSf, DefCfaExpression, Undefined, SameValue, Offset, OffsetExtendedSf, ValOffset, ValOffsetSf, Register, Expression, ValExpression, Restore, RememberState, RestoreState, ArgsSize, Nop}
-use Rattle.cfi_parts.specs.Pointers.{PointerContext, unknown, in_64_bits, format_table, formatted, defined, pc_base, application_table, base_of, pointer, pointer_to, direct}
+use Rattle.cfi_parts.specs.Pointers.{PointerContext, unknown_encoding, in_64_bits, format_table, encoded_value, required_base, pc_base, application_table, base_of, pointer, pointer_to, direct}
 use Rattle.cfi_parts.specs.Instructions.{Instruction, InstructionContext, expression, location_by, negate_ra_state, advance, register_and, extended_opcodes, unknown_opcode, by_opcode, instruction}
 
 -- ---- pointers
@@ -29,10 +29,10 @@ onward_map read made first = onward_bind read (λ x. give (made x)) first (λ x.
 onward_in_64_bits : (read : Read ℤ) → IsOnward read → IsOnward (in_64_bits read)
 onward_in_64_bits read first = onward_map read (cast_unsigned w64) first
 
-pub onward_formatted : (encoding size : ℕ) → IsOnward (formatted encoding size)
-unfolding formatted
+pub onward_formatted : (encoding size : ℕ) → IsOnward (encoded_value encoding size)
+unfolding encoded_value
 onward_formatted encoding size =
-    onward_from (format_of encoding) (format_table size) (unknown encoding) (
+    onward_from (format_of encoding) (format_table size) (unknown_encoding encoding) (
       onward_address size,
       (
         onward_unsigned_leb128,
@@ -50,29 +50,29 @@ onward_formatted encoding size =
     )
     (onward_refuse _)
 
-onward_defined : (e : Error) (o : Option ℕ) → IsOnward (defined e o)
+onward_defined : (e : Error) (o : Option ℕ) → IsOnward (required_base e o)
 onward_defined e None = onward_refuse e
 onward_defined e (Some base) = onward_give base
 
 onward_pc_base : (context : PointerContext) → IsOnward (pc_base context)
 onward_pc_base context =
-    onward_bind (defined PcRelativePointerButSectionBaseIsUndefined context.bases.section) (λ base. here >>= λ place. give (wrap base (place - context.section) context.size)) (onward_defined _ _) (λ base.
+    onward_bind (required_base PcRelativePointerButSectionBaseIsUndefined context.bases.section) (λ base. here >>= λ place. give (wrap base (place - context.section) context.size)) (onward_defined _ _) (λ base.
     onward_map here (λ place. wrap base (place - context.section) context.size) onward_here)
 
 pub onward_base_of : (encoding : ℕ) (context : PointerContext) → IsOnward (base_of encoding context)
 unfolding base_of
 onward_base_of encoding context =
-    onward_from (application_of encoding) (application_table encoding context) (unknown encoding)
+    onward_from (application_of encoding) (application_table encoding context) (unknown_encoding encoding)
     (onward_give 0, (onward_pc_base context, (onward_defined _ context.bases.text, (onward_defined _ context.bases.data_base, (onward_defined _ context.function, (onward_refuse _, tt))))))
     (onward_refuse _)
 
 pub onward_pointer : (encoding : ℕ) (context : PointerContext) → IsOnward (pointer encoding context)
 unfolding pointer
 onward_pointer encoding context =
-    let value : ℕ → Read Pointer = λ base. formatted encoding context.size >>= λ v. give (pointer_to encoding (wrap base v context.size)) in
+    let value : ℕ → Read Pointer = λ base. encoded_value encoding context.size >>= λ v. give (pointer_to encoding (wrap base v context.size)) in
     onward_bind (refuse_if (is_omitted encoding) CannotParseOmitPointerEncoding) (λ _. base_of encoding context >>= value) (onward_refuse_if _ _) (λ _.
     onward_bind (base_of encoding context) value (onward_base_of encoding context) (λ base.
-    onward_map (formatted encoding context.size) (λ v. pointer_to encoding (wrap base v context.size)) (onward_formatted encoding context.size)))
+    onward_map (encoded_value encoding context.size) (λ v. pointer_to encoding (wrap base v context.size)) (onward_formatted encoding context.size)))
 
 -- ---- operands
 

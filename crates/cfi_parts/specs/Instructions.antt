@@ -5,7 +5,7 @@ use Rattle.cfi_read_core.specs.declared.common.Register.{Register as RegisterNum
 use Rattle.cfi_read_core.specs.declared.common.Vendor.{Vendor}
 use Rattle.cfi_read_core.specs.declared.common.Vendor.TheVariants as vendors
 use Rattle.cfi_read_core.specs.declared.error.Error.TheVariants.{UnknownCallFrameInstruction}
-use Rattle.cfi_read_core.specs.Reading.{Read, Source, Standing, Extent, Readings, repeated_over, ◌>>=◌, ◌>>◌, give, refuse, of_result, skip, split, chosen_from}
+use Rattle.cfi_read_core.specs.Reading.{Read, Source, Position, Extent, Readings, readings_over, ◌>>=◌, ◌>>◌, give, refuse, of_result, skip, split, chosen_from}
 use Rattle.cfi_read_core.specs.Readers.{IsPartOf}
 use Rattle.cfi_read_core.specs.Numbers.{unsigned, unsigned_leb128, signed_leb128, offset_leb128, register_leb128}
 use Rattle.cfi_read_core.specs.Addresses.{address}
@@ -39,9 +39,9 @@ expression_bytes e = do
   split e.length
 
 -- A reader of a part of the section read the expression, and then stood at this place, behind the expression's bytes.
-pub record IsReadIn (section : Standing) (e : UnwindExpression ℕ) (after : ℕ) : Type 0 where
+pub record IsReadIn (section : Position) (e : UnwindExpression ℕ) (after : ℕ) : Type 0 where
   pub context : PointerContext
-  pub reader : Standing
+  pub reader : Position
   pub first : context.section ≡ section.place
   pub part : IsPartOf reader section
   pub begins : section.place ≤ reader.place
@@ -141,4 +141,4 @@ instruction c = do
 
 -- the instructions of an extent, up to its end or to the first that can't be read
 abbrev pub instructions : InstructionContext → Extent → Source → Readings Instruction
-instructions c extent source = repeated_over extent (instruction c) source
+instructions c extent source = readings_over extent (instruction c) source

@@ -1,7 +1,7 @@
 pub mod Pointers
 pub mod Contexts
-pub mod Frames
+pub mod CallFrameSections
 pub mod Instructions
 pub mod Views
-pub mod Programs
+pub mod InstructionReaders
 pub mod Iterators

@@ -1,18 +1,18 @@
 //! Call frame instructions (DWARF 5 section 6.4.2).
 ghost use Rattle.std.specs.Prelude.{◌≡◌, ◌≤◌, ◌<◌, ◌-◌, ℕ, true, ⊤, IfOk, IfSome};
 ghost use Rattle.cfi_read_core.specs.Addresses.{IsAddressSize, is_sized};
-ghost use Rattle.cfi_read_core.specs.Readers.{IsPartOf, Reads, extent_of, left, map_ok};
+ghost use Rattle.cfi_read_core.specs.Readers.{IsPartOf, Reads, extent_of, remaining, map_ok};
 ghost use Rattle.cfi_parts.specs.Contexts.{instruction_context};
-ghost use Rattle.cfi_parts.specs.Frames.{IsOf};
+ghost use Rattle.cfi_parts.specs.CallFrameSections.{IsOf};
 ghost use Rattle.cfi_parts.specs.Instructions.{IsReadIn, expression_bytes};
-ghost use Rattle.cfi_parts.specs.Programs.{Meets, instructions_left, items};
+ghost use Rattle.cfi_parts.specs.InstructionReaders.{Meets, instructions_left, items};
 ghost use Rattle.cfi_parts.specs.Views.{map_expression, map_instruction};
 
 mod parse;
 
 use crate::pointer::PointerEncodingParameters;
-use crate::section::_UnwindSectionPrivate;
-use cfi_read_core::section::Expression;
+use crate::unwind_section::_UnwindSectionPrivate;
+use cfi_read_core::dwarf_section::Expression;
 use cfi_read_core::{DwEhPe, Reader, Register, Result, Vendor};
 use parse::{InstructionParameters, parse_instruction};
 use std::alloc::AllocError;
@@ -35,11 +35,11 @@ impl<T: Copy> UnwindExpression<T> {
         &self,
         section: &Section,
     ) -> Result<Expression<R>>
-        ensures bytes { map_ok (λ e. extent_of (R.standing e.0)) result
-            ≡ (expression_bytes (map_expression T.number self.now) (Section.frame section.now).standing.source (Section.frame section.now).standing.place).value }
-        ensures part { IfOk result (λ e. IsOf (R.standing e.0) (Section.frame section.now).standing) }
-        ensures read_there { (after : ℕ) → IsReadIn (Section.frame section.now).standing (map_expression T.number self.now) after
-            → map_ok (λ e. extent_of (R.standing e.0)) result ≡ Ok (record { first = after - T.number self.now.length; last = after }) }
+        ensures bytes { map_ok (λ e. extent_of (R.position e.0)) result
+            ≡ (expression_bytes (map_expression T.number self.now) (Section.view section.now).position.source (Section.view section.now).position.place).value }
+        ensures part { IfOk result (λ e. IsOf (R.position e.0) (Section.view section.now).position) }
+        ensures read_there { (after : ℕ) → IsReadIn (Section.view section.now).position (map_expression T.number self.now) after
+            → map_ok (λ e. extent_of (R.position e.0)) result ≡ Ok (record { first = after - T.number self.now.length; last = after }) }
     {
         let mut input = *section.section();
         Ok(Expression(split_expression(self, &mut input)?))
@@ -49,8 +49,8 @@ impl<T: Copy> UnwindExpression<T> {
 /// Passes the bytes before an expression, and splits off its own.
 #[tactic(auto, unfolding(crate::specs::Instructions::expression_bytes))]
 fn split_expression<R: Reader>(expression: &UnwindExpression<R::Offset>, input: &mut R) -> Result<R>
-    ensures read { Reads (λ r. extent_of (R.standing r)) (expression_bytes (map_expression R.Offset.number expression.now)) (R.standing input.old) result (R.standing input.new) }
-    ensures part { IfOk result (λ r. IsPartOf (R.standing r) (R.standing input.old)) }
+    ensures read { Reads (λ r. extent_of (R.position r)) (expression_bytes (map_expression R.Offset.number expression.now)) (R.position input.old) result (R.position input.new) }
+    ensures part { IfOk result (λ r. IsPartOf (R.position r) (R.position input.old)) }
 {
     input.skip(expression.offset)?;
     input.split(expression.length)
@@ -163,7 +163,7 @@ pub struct CallFrameInstructionIter<'a, R: Reader> {
     input: R,
     parameters: InstructionParameters<'a, R>,
     ghost sized: { is_sized parameters.pointers.address_size ≡ true },
-    ghost behind: { (R.standing parameters.pointers.section.now).place ≤ (R.standing input).place },
+    ghost behind: { (R.position parameters.pointers.section.now).place ≤ (R.position input).place },
 }
 
 impl<R: Reader> Clone for CallFrameInstructionIter<'_, R> {
@@ -182,7 +182,7 @@ impl<R: Reader> Clone for CallFrameInstructionIter<'_, R> {
 impl<R: Reader> Copy for CallFrameInstructionIter<'_, R> {}
 
 impl<'a, R: Reader> CallFrameInstructionIter<'a, R> {
-    ghost use Rattle.cfi_parts.specs.Iterators.{program};
+    ghost use Rattle.cfi_parts.specs.Iterators.{instruction_reader};
 
     /// The instructions in what is left of the input, which stands in the section of the pointers.
     ///
@@ -195,10 +195,10 @@ impl<'a, R: Reader> CallFrameInstructionIter<'a, R> {
         vendor: Vendor,
     ) -> Self
         requires sized { IsAddressSize pointers.address_size }
-        requires behind { (R.standing pointers.section.now).place ≤ (R.standing input).place }
-        ensures { program R.standing result ≡ record {
-          context = instruction_context R.standing (record { address_encoding = address_encoding; pointers = pointers.entry; vendor = vendor });
-          standing = R.standing input;
+        requires behind { (R.position pointers.section.now).place ≤ (R.position input).place }
+        ensures { instruction_reader R.position result ≡ record {
+          context = instruction_context R.position (record { address_encoding = address_encoding; pointers = pointers.entry; vendor = vendor });
+          position = R.position input;
         } }
     {
         CallFrameInstructionIter {
@@ -218,10 +218,10 @@ impl<'a, R: Reader> CallFrameInstructionIter<'a, R> {
     /// `UnsupportedOffset` for the length of an expression that is no offset, and for the address of `DW_CFA_set_loc`
     /// as `parse_encoded_pointer` and `Pointer::direct`.
     pub fn next(&mut self) -> Result<Option<CallFrameInstruction<R::Offset>>>
-        ensures met { Meets (map_instruction R.Offset.number) result (instructions_left (program R.standing self.old)) (instructions_left (program R.standing self.new)) }
-        ensures context { (program R.standing self.new).context ≡ (program R.standing self.old).context }
-        ensures source { (program R.standing self.new).standing.source ≡ (program R.standing self.old).standing.source }
-        ensures fewer { IfOk result (λ found. IfSome found (λ _. left (program R.standing self.new).standing < left (program R.standing self.old).standing)) }
+        ensures met { Meets (map_instruction R.Offset.number) result (instructions_left (instruction_reader R.position self.old)) (instructions_left (instruction_reader R.position self.new)) }
+        ensures context { (instruction_reader R.position self.new).context ≡ (instruction_reader R.position self.old).context }
+        ensures source { (instruction_reader R.position self.new).position.source ≡ (instruction_reader R.position self.old).position.source }
+        ensures fewer { IfOk result (λ found. IfSome found (λ _. remaining (instruction_reader R.position self.new).position < remaining (instruction_reader R.position self.old).position)) }
     {
         let mut input = self.input;
         let answer = next_instruction(&self.parameters, &mut input);
@@ -234,11 +234,11 @@ impl<R: Reader> Iterator for CallFrameInstructionIter<'_, R> {
     type Item = Result<CallFrameInstruction<R::Offset>>;
 
     ghost use Rattle.std.specs.Iterator.{YieldsFirstBy, item_count};
-    ghost use Rattle.cfi_parts.specs.Iterators.{program};
+    ghost use Rattle.cfi_parts.specs.Iterators.{instruction_reader};
 
-    ghost next_gives = { YieldsFirstBy (map_ok (map_instruction R.Offset.number)) (λ it. items (instructions_left (program R.standing it))) };
+    ghost next_gives = { YieldsFirstBy (map_ok (map_instruction R.Offset.number)) (λ it. items (instructions_left (instruction_reader R.position it))) };
 
-    ghost remaining = { item_count (λ it. items (instructions_left (program R.standing it))) };
+    ghost remaining = { item_count (λ it. items (instructions_left (instruction_reader R.position it))) };
 
     fn next(&mut self) -> Option<Result<CallFrameInstruction<R::Offset>>> {
         CallFrameInstructionIter::next(self).transpose()
@@ -251,14 +251,14 @@ fn next_instruction<R: Reader>(
     input: &mut R,
 ) -> Result<Option<CallFrameInstruction<R::Offset>>>
     requires sized { IsAddressSize parameters.now.pointers.address_size }
-    requires behind { (R.standing parameters.now.pointers.section.now).place ≤ (R.standing input.old).place }
-    ensures met { let c = instruction_context R.standing parameters.now in
+    requires behind { (R.position parameters.now.pointers.section.now).place ≤ (R.position input.old).place }
+    ensures met { let c = instruction_context R.position parameters.now in
         Meets (map_instruction R.Offset.number) result
-        (instructions_left (record { context = c; standing = R.standing input.old }))
-        (instructions_left (record { context = c; standing = R.standing input.new })) }
-    ensures source { (R.standing input.new).source ≡ (R.standing input.old).source }
-    ensures behind { (R.standing parameters.now.pointers.section.now).place ≤ (R.standing input.new).place }
-    ensures fewer { IfOk result (λ found. IfSome found (λ _. left (R.standing input.new) < left (R.standing input.old))) }
+        (instructions_left (record { context = c; position = R.position input.old }))
+        (instructions_left (record { context = c; position = R.position input.new })) }
+    ensures source { (R.position input.new).source ≡ (R.position input.old).source }
+    ensures behind { (R.position parameters.now.pointers.section.now).place ≤ (R.position input.new).place }
+    ensures fewer { IfOk result (λ found. IfSome found (λ _. remaining (R.position input.new) < remaining (R.position input.old))) }
 {
     if input.is_empty() {
         return Ok(None);

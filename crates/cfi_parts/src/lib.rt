@@ -3,4 +3,4 @@
 
 pub mod instruction;
 pub mod pointer;
-pub mod section;
+pub mod unwind_section;

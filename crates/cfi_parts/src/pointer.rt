@@ -3,7 +3,7 @@ ghost use Rattle.std.specs.Prelude.{◌≡◌, ◌≤◌, ℕ};
 ghost use Rattle.cfi_read_core.specs.Addresses.{IsAddressSize};
 ghost use Rattle.cfi_read_core.specs.Readers.{Reads};
 ghost use Rattle.cfi_parts.specs.Contexts.{pointer_context};
-ghost use Rattle.cfi_parts.specs.Pointers.{base_of, direct, encoding_byte, formatted, pointed, pointer};
+ghost use Rattle.cfi_parts.specs.Pointers.{base_of, direct, encoding_byte, encoded_value, pointer_value, pointer};
 
 use cfi_read_core::constants::{
     DW_EH_PE_absptr, DW_EH_PE_aligned, DW_EH_PE_datarel, DW_EH_PE_funcrel, DW_EH_PE_omit,
@@ -45,7 +45,7 @@ impl Pointer {
 
     /// The value of a direct pointer, or the address at which that of an indirect one is found.
     pub fn pointer(self) -> u64
-        ensures { result ≡ pointed self }
+        ensures { result ≡ pointer_value self }
     {
         match self {
             Pointer::Direct(address) => address,
@@ -135,7 +135,7 @@ pub struct PointerEncodingParameters<'a, R> {
 /// Reads a byte that is a pointer encoding. Another one is refused with `UnknownPointerEncoding`, and counts as read.
 #[tactic(auto, unfolding(crate::specs::Pointers::encoding_byte))]
 pub fn parse_pointer_encoding<R: Reader>(input: &mut R) -> Result<DwEhPe>
-    ensures { Reads (λ e. e.0) encoding_byte (R.standing input.old) result (R.standing input.new) }
+    ensures { Reads (λ e. e.0) encoding_byte (R.position input.old) result (R.position input.new) }
 {
     let encoding = DwEhPe(input.read_u8()?);
     if encoding.is_valid_encoding() {
@@ -148,13 +148,13 @@ pub fn parse_pointer_encoding<R: Reader>(input: &mut R) -> Result<DwEhPe>
 /// Reads a value by the format of an encoding alone, without base or indirection. A signed value is extended to
 /// 64 bits. A format that isn't known is refused with `UnknownPointerEncoding`, and an address of a size other than
 /// 1, 2, 4 and 8 with `UnsupportedAddressSize`, before any byte is read.
-#[tactic(auto, unfolding(crate::specs::Pointers::formatted))]
+#[tactic(auto, unfolding(crate::specs::Pointers::encoded_value))]
 pub fn parse_encoded_value<R: Reader>(
     encoding: DwEhPe,
     address_size: u8,
     input: &mut R,
 ) -> Result<u64>
-    ensures { Reads (λ x. x) (formatted encoding.0 address_size) (R.standing input.old) result (R.standing input.new) }
+    ensures { Reads (λ x. x) (encoded_value encoding.0 address_size) (R.position input.old) result (R.position input.new) }
 {
     match encoding.format() {
         DW_EH_PE_absptr => input.read_address(address_size),
@@ -178,8 +178,8 @@ fn pointer_base<R: Reader>(
     input: &R,
 ) -> Result<u64>
     requires sized { IsAddressSize parameters.now.address_size }
-    requires behind { (R.standing parameters.now.section.now).place ≤ (R.standing input.now).place }
-    ensures { Reads (λ x. x) (base_of encoding.0 (pointer_context R.standing parameters.now)) (R.standing input.now) result (R.standing input.now) }
+    requires behind { (R.position parameters.now.section.now).place ≤ (R.position input.now).place }
+    ensures { Reads (λ x. x) (base_of encoding.0 (pointer_context R.position parameters.now)) (R.position input.now) result (R.position input.now) }
 {
     let bases = parameters.bases;
     match encoding.application() {
@@ -217,8 +217,8 @@ pub fn parse_encoded_pointer<R: Reader>(
     input: &mut R,
 ) -> Result<Pointer>
     requires sized { IsAddressSize parameters.now.address_size }
-    requires behind { (R.standing parameters.now.section.now).place ≤ (R.standing input.old).place }
-    ensures { Reads (λ p. p) (pointer encoding.0 (pointer_context R.standing parameters.now)) (R.standing input.old) result (R.standing input.new) }
+    requires behind { (R.position parameters.now.section.now).place ≤ (R.position input.old).place }
+    ensures { Reads (λ p. p) (pointer encoding.0 (pointer_context R.position parameters.now)) (R.position input.old) result (R.position input.new) }
 {
     if encoding == DW_EH_PE_omit {
         return Err(Error::CannotParseOmitPointerEncoding);

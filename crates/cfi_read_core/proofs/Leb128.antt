@@ -6,9 +6,9 @@ use Rattle.std.proofs.lemmas.Bool.{cases_lt}
 use Rattle.std.proofs.Math.Nat.{pow-le-pow_right, pow-suc, mul-le-mul_right}
 use Rattle.cfi_read_core.specs.declared.error.Error.{Error}
 use Rattle.cfi_read_core.specs.declared.error.Error.TheVariants.{BadUnsignedLeb128}
-use Rattle.cfi_read_core.specs.Reading.{Read, Source, Outcome, ended, rest, carry_on, refuse_if, refuse, give, ◌>>◌}
+use Rattle.cfi_read_core.specs.Reading.{Read, Source, Outcome, unexpected_eof, rest, carry_on, refuse_if, refuse, give, ◌>>◌}
 use Rattle.std.specs.Int.{w8}
-use Rattle.cfi_read_core.specs.Numbers.{unsigned, number_of, leb128_sum, going_on, leb128_bytes, unsigned_leb128}
+use Rattle.cfi_read_core.specs.Numbers.{unsigned, number_of, leb128_sum, continuation_count, leb128_bytes, unsigned_leb128}
 use borrow.Author.Tests.{le-leb, lt-leb, lt-ltb, le-ltb}
 
 abbrev pub goes_on : ℕ → Bool
@@ -18,7 +18,7 @@ goes_on b = nat_le 128 b
 abbrev given : Bool → Bool → ℕ → ℕ → ℕ → Outcome ℕ
 given true true n number place = record { value = Err BadUnsignedLeb128; place = place + n + 1 }
 given true false n number place = record { value = Ok number; place = place + n + 1 }
-given false large n number place = record { value = Err (ended (place + n)); place = place + n }
+given false large n number place = record { value = Err (unexpected_eof (place + n)); place = place + n }
 
 -- What is left of a number gives, where m bytes at most may still go on, the next byte counts w, and those before
 -- it count v.
@@ -28,9 +28,9 @@ left_gives m w v left place =
     let bs = take (n + 1) left in
     given (nat_lt n (length left)) (nat_lt 1 (slice_index bs m)) n (v + w * leb128_sum bs) place
 
-pub nothing_left : (m w v place : ℕ) → left_gives m w v [] place ≡ record { value = Err (ended place); place = place }
-nothing_left zero w v place = ap (λ (p : ℕ). let o : Outcome ℕ = record { value = Err (ended p); place = p } in o) (add-zero place)
-nothing_left (suc m) w v place = ap (λ (p : ℕ). let o : Outcome ℕ = record { value = Err (ended p); place = p } in o) (add-zero place)
+pub nothing_left : (m w v place : ℕ) → left_gives m w v [] place ≡ record { value = Err (unexpected_eof place); place = place }
+nothing_left zero w v place = ap (λ (p : ℕ). let o : Outcome ℕ = record { value = Err (unexpected_eof p); place = p } in o) (add-zero place)
+nothing_left (suc m) w v place = ap (λ (p : ℕ). let o : Outcome ℕ = record { value = Err (unexpected_eof p); place = p } in o) (add-zero place)
 
 pub same_test : (a b : ℕ) → nat_lt (suc a) (suc b) ≡ nat_lt a b
 same_test a b =
@@ -42,7 +42,7 @@ same_test a b =
 shifted : (t large : Bool) (n number place : ℕ) → given t large (suc n) number place ≡ given t large n number (place + 1)
 shifted true true n number place = ap (λ (p : ℕ). let o : Outcome ℕ = record { value = Err BadUnsignedLeb128; place = p } in o) (omega arith)
 shifted true false n number place = ap (λ (p : ℕ). let o : Outcome ℕ = record { value = Ok number; place = p } in o) (omega arith)
-shifted false large n number place = ap (λ (p : ℕ). let o : Outcome ℕ = record { value = Err (ended p); place = p } in o) (omega arith)
+shifted false large n number place = ap (λ (p : ℕ). let o : Outcome ℕ = record { value = Err (unexpected_eof p); place = p } in o) (omega arith)
 
 abbrev gives_at : ℕ → ℕ → ℕ → ℕ → List ℕ → ℕ → Outcome ℕ
 gives_at n m w v left place = given (nat_lt n (length left)) (nat_lt 1 (slice_index (take (n + 1) left) m)) n (v + w * leb128_sum (take (n + 1) left)) place
@@ -103,13 +103,13 @@ finished source place bs true = refl
 finished source place bs false = ap (λ (x : ℕ). let o : Outcome ℕ = record { value = Ok x; place = place } in o) (omega arith)
 
 chosen : (t large : Bool) (n number place : ℕ) → given t large n number place ≡
-    (if t then (let o : Outcome ℕ = record { value = if large then Err BadUnsignedLeb128 else Ok number; place = place + n + 1 } in o) else record { value = Err (ended (place + n)); place = place + n })
+    (if t then (let o : Outcome ℕ = record { value = if large then Err BadUnsignedLeb128 else Ok number; place = place + n + 1 } in o) else record { value = Err (unexpected_eof (place + n)); place = place + n })
 chosen true true n number place = refl
 chosen true false n number place = refl
 chosen false large n number place = refl
 
 by_test : (source : Source) (place n : ℕ) (bs : List ℕ) (t : Bool) →
-    let o : Outcome (List ℕ) = if t then record { value = Ok bs; place = place + n + 1 } else record { value = Err (ended (place + n)); place = place + n } in
+    let o : Outcome (List ℕ) = if t then record { value = Ok bs; place = place + n + 1 } else record { value = Err (unexpected_eof (place + n)); place = place + n } in
     carry_on finish source o.value o.place ≡ given t (nat_lt 1 (slice_index bs 9)) n (0 + 1 * leb128_sum bs) place
 by_test source place n bs true = finished source (place + n + 1) bs (nat_lt 1 (slice_index bs 9)) ∙ sym (chosen true (nat_lt 1 (slice_index bs 9)) n (0 + 1 * leb128_sum bs) place)
 by_test source place n bs false = refl
@@ -118,7 +118,7 @@ pub whole_number : (source : Source) (place : ℕ) → unsigned_leb128 source pl
 unfolding unsigned_leb128 leb128_bytes
 whole_number source place =
     let left = rest source place in
-    let n = going_on left in
+    let n = continuation_count left in
     by_test source place n (take (n + 1) left) (nat_lt n (length left))
 
 -- ---- one byte
@@ -130,7 +130,7 @@ unsigned_room source place h =
     let room : nat_le 1 (source.last - place) ≡ true = le-leb _ _ (omega arith) in
     rw room refl
 
-pub unsigned_ended : (source : Source) (place : ℕ) → source.last ≤ place → unsigned w8 source place ≡ record { value = Err (ended place); place = place }
+pub unsigned_ended : (source : Source) (place : ℕ) → source.last ≤ place → unsigned w8 source place ≡ record { value = Err (unexpected_eof place); place = place }
 unfolding unsigned
 unsigned_ended source place h =
     let none : nat_le 1 (source.last - place) ≡ false = lt-leb _ _ (omega arith) in
@@ -166,7 +166,7 @@ byte_there source place b inside e =
     let number : number_of w8 source.big_endian (slice_range source.whole place (place + 1)) ≡ get_or source.whole place 0 = ap (number_of w8 source.big_endian) (first_byte source place inside') ∙ one_byte source.big_endian _ [] in
     let value : (unsigned w8 source place).value ≡ Ok (number_of w8 source.big_endian (slice_range source.whole place (place + 1))) = ap (λ (o : Outcome ℕ). o.value) read in cc in
     (rest_cons source place less inside ∙ ap (λ (x : ℕ). x ∷ rest source (place + 1)) is, ap (λ (o : Outcome ℕ). o.place) read))
-    (λ more. let value : (unsigned w8 source place).value ≡ Err (ended place) = ap (λ (o : Outcome ℕ). o.value) (unsigned_ended source place more) in absurd (cc))
+    (λ more. let value : (unsigned w8 source place).value ≡ Err (unexpected_eof place) = ap (λ (o : Outcome ℕ). o.value) (unsigned_ended source place more) in absurd (cc))
     (cases_lt place source.last)
 
 rest_nil : (source : Source) (place : ℕ) → source.last ≤ place → rest source place ≡ []
@@ -174,13 +174,13 @@ rest_nil source place h = let none : source.last - place ≡ 0 = omega arith in 
 
 -- where none is read nothing is left
 pub no_byte_there : (source : Source) (place : ℕ) (e : Error) → (unsigned w8 source place).value ≡ Err e →
-    (rest source place ≡ []) × (ended place ≡ e) × ((unsigned w8 source place).place ≡ place)
+    (rest source place ≡ []) × (unexpected_eof place ≡ e) × ((unsigned w8 source place).place ≡ place)
 no_byte_there source place e is =
     ⊎_elim
     (λ less. let value : (unsigned w8 source place).value ≡ Ok _ = ap (λ (o : Outcome ℕ). o.value) (unsigned_room source place less) in absurd (cc))
     (λ more.
     let read = unsigned_ended source place more in
-    let value : (unsigned w8 source place).value ≡ Err (ended place) = ap (λ (o : Outcome ℕ). o.value) read in
+    let value : (unsigned w8 source place).value ≡ Err (unexpected_eof place) = ap (λ (o : Outcome ℕ). o.value) read in
     (rest_nil source place more, cc, ap (λ (o : Outcome ℕ). o.place) read))
     (cases_lt place source.last)
 

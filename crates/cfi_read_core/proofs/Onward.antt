@@ -6,7 +6,7 @@ use Rattle.std.specs.Int.{Width, byte_len, cast_signed}
 use Rattle.cfi_read_core.specs.declared.error.Error.{Error}
 use Rattle.cfi_read_core.specs.declared.error.Error.TheVariants.{BadUnsignedLeb128, BadSignedLeb128}
 use Rattle.cfi_read_core.specs.Reading.{Read, Source, Outcome, Extent, carry_on, ◌>>=◌, ◌>>◌, give, refuse, of_result, refuse_if, here, split, bytes, within, offset, rest, chosen_from}
-use Rattle.cfi_read_core.specs.Numbers.{unsigned, signed, going_on, leb128_bytes, leb128_sum, signed_leb128_sum, unsigned_leb128, signed_leb128, offset_leb128, register_of, register_leb128, length_in, initial_length}
+use Rattle.cfi_read_core.specs.Numbers.{unsigned, signed, continuation_count, leb128_bytes, leb128_sum, signed_leb128_sum, unsigned_leb128, signed_leb128, offset_leb128, register_of, register_leb128, length_in, initial_length}
 use Rattle.cfi_read_core.specs.declared.common.Format.{Format}
 use Rattle.cfi_read_core.specs.declared.common.Format.TheVariants.{Dwarf32, Dwarf64}
 use Rattle.cfi_read_core.specs.Addresses.{address, address_width, of_width}
@@ -85,7 +85,7 @@ onward_ended false n place bs e = omega arith
 pub onward_leb128_bytes : IsOnward leb128_bytes
 unfolding leb128_bytes
 onward_leb128_bytes = record {
-  after = λ source place. onward_ended (nat_lt (going_on (rest source place)) (length (rest source place))) (going_on (rest source place)) place _ _;
+  after = λ source place. onward_ended (nat_lt (continuation_count (rest source place)) (length (rest source place))) (continuation_count (rest source place)) place _ _;
 }
 
 pub onward_unsigned_leb128 : IsOnward unsigned_leb128

@@ -8,8 +8,8 @@ use Rattle.std.proofs.Math.Nat.{pow-suc, pow-le-pow_right, mul-le-mul_right}
 use borrow.Author.Tests.{le-leb, lt-leb}
 use Rattle.cfi_read_core.specs.declared.error.Error.{Error}
 use Rattle.cfi_read_core.specs.declared.error.Error.TheVariants.{BadSignedLeb128}
-use Rattle.cfi_read_core.specs.Reading.{Read, Source, Outcome, ended, rest, carry_on, refuse_if, refuse, give, ◌>>◌}
-use Rattle.cfi_read_core.specs.Numbers.{unsigned, leb128_sum, going_on, leb128_bytes, is_below_zero, number_by, signed_leb128_sum, signed_leb128}
+use Rattle.cfi_read_core.specs.Reading.{Read, Source, Outcome, unexpected_eof, rest, carry_on, refuse_if, refuse, give, ◌>>◌}
+use Rattle.cfi_read_core.specs.Numbers.{unsigned, leb128_sum, continuation_count, leb128_bytes, is_below_zero, number_by, signed_leb128_sum, signed_leb128}
 use Rattle.cfi_read_core.proofs.Leb128.{goes_on, same_test, byte_there, no_byte_there}
 
 abbrev pub is_bad : ℕ → Bool
@@ -19,7 +19,7 @@ is_bad tenth = not (tenth == 0 || tenth == 0x7f)
 abbrev given : Bool → Bool → Bool → ℕ → ℕ → ℕ → ℕ → Outcome ℤ
 given true true below n number power place = record { value = Err BadSignedLeb128; place = place + n + 1 }
 given true false below n number power place = record { value = Ok (number_by below number power); place = place + n + 1 }
-given false bad below n number power place = record { value = Err (ended (place + n)); place = place + n }
+given false bad below n number power place = record { value = Err (unexpected_eof (place + n)); place = place + n }
 
 abbrev gives_at : ℕ → ℕ → ℕ → ℕ → List ℕ → ℕ → Outcome ℤ
 gives_at n m w v left place =
@@ -31,14 +31,14 @@ gives_at n m w v left place =
 abbrev pub left_gives : ℕ → ℕ → ℕ → List ℕ → ℕ → Outcome ℤ
 left_gives m w v left place = gives_at (prefix_len goes_on (take m left)) m w v left place
 
-pub nothing_left : (m w v place : ℕ) → left_gives m w v [] place ≡ record { value = Err (ended place); place = place }
-nothing_left zero w v place = let same : place + 0 ≡ place = omega arith in ap (λ (p : ℕ). let o : Outcome ℤ = record { value = Err (ended p); place = p } in o) same
-nothing_left (suc m) w v place = let same : place + 0 ≡ place = omega arith in ap (λ (p : ℕ). let o : Outcome ℤ = record { value = Err (ended p); place = p } in o) same
+pub nothing_left : (m w v place : ℕ) → left_gives m w v [] place ≡ record { value = Err (unexpected_eof place); place = place }
+nothing_left zero w v place = let same : place + 0 ≡ place = omega arith in ap (λ (p : ℕ). let o : Outcome ℤ = record { value = Err (unexpected_eof p); place = p } in o) same
+nothing_left (suc m) w v place = let same : place + 0 ≡ place = omega arith in ap (λ (p : ℕ). let o : Outcome ℤ = record { value = Err (unexpected_eof p); place = p } in o) same
 
 shifted : (t bad below : Bool) (n number power place : ℕ) → given t bad below (suc n) number power place ≡ given t bad below n number power (place + 1)
 shifted true true below n number power place = ap (λ (p : ℕ). let o : Outcome ℤ = record { value = Err BadSignedLeb128; place = p } in o) (omega arith)
 shifted true false below n number power place = ap (λ (p : ℕ). let o : Outcome ℤ = record { value = Ok (number_by below number power); place = p } in o) (omega arith)
-shifted false bad below n number power place = ap (λ (p : ℕ). let o : Outcome ℤ = record { value = Err (ended p); place = p } in o) (omega arith)
+shifted false bad below n number power place = ap (λ (p : ℕ). let o : Outcome ℤ = record { value = Err (unexpected_eof p); place = p } in o) (omega arith)
 
 -- without a last byte the sign doesn't count
 sign_of_none : (bad below below' : Bool) (n number power place : ℕ) → given false bad below n number power place ≡ given false bad below' n number power place
@@ -57,7 +57,7 @@ further_at n m w v b place [] =
     let none' : nat_lt n 0 ≡ false = le-ltb _ _ (omega arith) in
     let bs = take (n + 1) [] in
     ap (λ (t : Bool). given t (is_bad (slice_index (take (suc n + 1) (b ∷ [])) (suc m))) (is_below_zero (take (suc n + 1) (b ∷ []))) (suc n) (v + w * leb128_sum (take (suc n + 1) (b ∷ []))) (w * 128 ^ length (take (suc n + 1) (b ∷ []))) place) none
-    ∙ ap (λ (p : ℕ). let o : Outcome ℤ = record { value = Err (ended p); place = p } in o) (let same : place + suc n ≡ place + 1 + n = omega arith in same)
+    ∙ ap (λ (p : ℕ). let o : Outcome ℤ = record { value = Err (unexpected_eof p); place = p } in o) (let same : place + suc n ≡ place + 1 + n = omega arith in same)
     ∙ sym (ap (λ (t : Bool). given t (is_bad (slice_index bs m)) (is_below_zero bs) n (v + w * (b % 128) + w * 128 * leb128_sum bs) (w * 128 * 128 ^ length bs) (place + 1)) none')
 further_at n m w v b place (c ∷ cs) =
     let bs = c ∷ take n cs in
@@ -133,7 +133,7 @@ finished source place n bs true = refl
 finished source place n bs false = ap (λ (x : ℤ). let o : Outcome ℤ = record { value = Ok x; place = place + n + 1 } in o) (summed (is_below_zero bs) bs)
 
 by_test : (source : Source) (place n : ℕ) (bs : List ℕ) (t : Bool) →
-    let o : Outcome (List ℕ) = if t then record { value = Ok bs; place = place + n + 1 } else record { value = Err (ended (place + n)); place = place + n } in
+    let o : Outcome (List ℕ) = if t then record { value = Ok bs; place = place + n + 1 } else record { value = Err (unexpected_eof (place + n)); place = place + n } in
     carry_on finish source o.value o.place ≡ given t (is_bad (slice_index bs 9)) (is_below_zero bs) n (0 + 1 * leb128_sum bs) (1 * 128 ^ length bs) place
 by_test source place n bs true = finished source place n bs (is_bad (slice_index bs 9))
 by_test source place n bs false = refl
@@ -142,7 +142,7 @@ pub whole_number : (source : Source) (place : ℕ) → signed_leb128 source plac
 unfolding signed_leb128 leb128_bytes
 whole_number source place =
     let left = rest source place in
-    let n = going_on left in
+    let n = continuation_count left in
     by_test source place n (take (n + 1) left) (nat_lt n (length left))
 
 -- ---- the turns of the loop: i bytes are read, and count v; whole is what the number gives

@@ -3,7 +3,7 @@ use Rattle.std.proofs.Common.{◌≡◌, ℕ, List, [], ◌∷◌, length, false
 use Rattle.std.specs.Int.{w16}
 use Rattle.cfi_read_core.specs.declared.error.Error.TheVariants.{BadUnsignedLeb128, BadSignedLeb128, UnknownReservedLength, UnsupportedRegister, UnsupportedOffset}
 use Rattle.cfi_read_core.specs.declared.common.Format.TheVariants.{Dwarf32, Dwarf64}
-use Rattle.cfi_read_core.specs.Reading.{Read, Outcome, ended}
+use Rattle.cfi_read_core.specs.Reading.{Read, Outcome, unexpected_eof}
 use Rattle.cfi_read_core.specs.Numbers.{unsigned, signed, leb128_bytes, unsigned_leb128, signed_leb128, register_leb128, offset_leb128, initial_length, text}
 
 -- a read at the first of little-endian bytes, with offsets of eight bytes, and of four
@@ -43,7 +43,7 @@ no_such_register : wide register_leb128 (0x80 ∷ 0x80 ∷ 0x04 ∷ []) ≡ reco
 unfolding leb128_bytes unsigned_leb128 register_leb128
 no_such_register = refl
 
-missing_byte : wide unsigned_leb128 (0x80 ∷ 0x80 ∷ []) ≡ record { value = Err (ended 2); place = 2 }
+missing_byte : wide unsigned_leb128 (0x80 ∷ 0x80 ∷ []) ≡ record { value = Err (unexpected_eof 2); place = 2 }
 unfolding leb128_bytes unsigned_leb128
 missing_byte = refl
 
@@ -53,7 +53,7 @@ no_narrow_offset = refl
 
 -- ---- fixed widths and initial lengths
 
-number_cut_off : wide (unsigned w16) (1 ∷ []) ≡ record { value = Err (ended 0); place = 0 }
+number_cut_off : wide (unsigned w16) (1 ∷ []) ≡ record { value = Err (unexpected_eof 0); place = 0 }
 unfolding unsigned
 number_cut_off = refl
 
@@ -73,11 +73,11 @@ reserved_length : wide initial_length (0xf5 ∷ 0xff ∷ 0xff ∷ 0xff ∷ []) �
 unfolding unsigned initial_length
 reserved_length = refl
 
-length_cut_off : wide initial_length (5 ∷ 0 ∷ []) ≡ record { value = Err (ended 0); place = 0 }
+length_cut_off : wide initial_length (5 ∷ 0 ∷ []) ≡ record { value = Err (unexpected_eof 0); place = 0 }
 unfolding unsigned initial_length
 length_cut_off = refl
 
-length_64_cut_off : wide initial_length (0xff ∷ 0xff ∷ 0xff ∷ 0xff ∷ 0x39 ∷ 0x30 ∷ 0 ∷ 0 ∷ []) ≡ record { value = Err (ended 4); place = 4 }
+length_64_cut_off : wide initial_length (0xff ∷ 0xff ∷ 0xff ∷ 0xff ∷ 0x39 ∷ 0x30 ∷ 0 ∷ 0 ∷ []) ≡ record { value = Err (unexpected_eof 4); place = 4 }
 unfolding unsigned initial_length
 length_64_cut_off = refl
 

@@ -7,7 +7,7 @@ use Rattle.cfi_read_core.specs.declared.common.Format.TheVariants.{Dwarf32, Dwar
 use Rattle.cfi_read_core.specs.declared.common.Register.{Register}
 use Rattle.cfi_read_core.specs.declared.error.Error.{Error}
 use Rattle.cfi_read_core.specs.declared.error.Error.TheVariants.{BadUnsignedLeb128, BadSignedLeb128, UnknownReservedLength, UnsupportedRegister}
-use Rattle.cfi_read_core.specs.Reading.{Read, ◌>>=◌, ◌>>◌, give, refuse, of_result, refuse_if, ended, bytes, rest, offset}
+use Rattle.cfi_read_core.specs.Reading.{Read, ◌>>=◌, ◌>>◌, give, refuse, of_result, refuse_if, unexpected_eof, bytes, rest, offset}
 
 -- ---- fixed widths
 
@@ -33,17 +33,17 @@ leb128_sum [] = 0
 leb128_sum (b ∷ bs) = b % 128 + 128 * leb128_sum bs
 
 -- how many bytes go on to another one: they have the high bit, and the tenth byte is the last
-abbrev pub going_on : List ℕ → ℕ
-going_on left = prefix_len (λ b. nat_le 128 b) (take 9 left)
+abbrev pub continuation_count : List ℕ → ℕ
+continuation_count left = prefix_len (λ b. nat_le 128 b) (take 9 left)
 
 -- The bytes of a number. A refusal leaves the reader behind the bytes that are there.
 unfoldable pub leb128_bytes : Read (List ℕ)
 leb128_bytes source place =
     let left = rest source place in
-    let n = going_on left in
+    let n = continuation_count left in
     if nat_lt n (length left)
     then record { value = Ok (take (n + 1) left); place = place + n + 1 }
-    else record { value = Err (ended (place + n)); place = place + n }
+    else record { value = Err (unexpected_eof (place + n)); place = place + n }
 
 -- a tenth byte has room for one bit
 unfoldable pub unsigned_leb128 : Read ℕ
@@ -112,4 +112,4 @@ text source place =
     let n = prefix_len (λ b. not (b == 0)) left in
     if nat_lt n (length left)
     then record { value = Ok (take n left); place = place + n + 1 }
-    else record { value = Err (ended place); place = place }
+    else record { value = Err (unexpected_eof place); place = place }

@@ -13,7 +13,7 @@ pub record Source : Type 0 where
   pub greatest : ℕ  -- the greatest number that is an offset
 
 -- A reader stands at a place of its source. Places count from the first byte of the whole.
-pub record Standing : Type 0 where
+pub record Position : Type 0 where
   pub source : Source
   pub place : ℕ
 
@@ -67,8 +67,8 @@ abbrev pub refuse_if : Bool → Error → Read Bool
 refuse_if b e = if b then refuse e else give b
 
 -- the bytes ended at this place
-abbrev pub ended : ℕ → Error
-ended place = UnexpectedEof (record { 0 = place })
+abbrev pub unexpected_eof : ℕ → Error
+unexpected_eof place = UnexpectedEof (record { 0 = place })
 
 abbrev pub here : Read ℕ
 here = λ source place. record { value = Ok place; place = place }
@@ -78,7 +78,7 @@ abbrev pub split : ℕ → Read Extent
 split n = λ source place.
     if nat_le n (source.last - place)
     then record { value = Ok (record { first = place; last = place + n }); place = place + n }
-    else record { value = Err (ended place); place = place }
+    else record { value = Err (unexpected_eof place); place = place }
 
 abbrev pub skip : ℕ → Read Unit
 skip n = split n >>= λ _. give tt
@@ -118,18 +118,18 @@ abbrev pub no_values : {A : Type 0} → Option Error → Readings A
 no_values refusal = record { values = []; refusal = refusal }
 
 -- whether the end was met, what was read where it wasn't, and what is read behind that
-abbrev pub listed : {A : Type 0} → Bool → Result A Error → Readings A → Readings A
-listed true first others = no_values None
-listed false (Err e) others = no_values (Some e)
-listed false (Ok x) others = with_first x others
+abbrev pub readings_with : {A : Type 0} → Bool → Result A Error → Readings A → Readings A
+readings_with true first others = no_values None
+readings_with false (Err e) others = no_values (Some e)
+readings_with false (Ok x) others = with_first x others
 
 -- What the same read gives up to the end, at most n times.
-unfoldable pub repeated : {A : Type 0} → ℕ → Read A → Source → ℕ → Readings A
-repeated zero read source place = no_values None
-repeated (suc n) read source place =
+unfoldable pub readings_up_to : {A : Type 0} → ℕ → Read A → Source → ℕ → Readings A
+readings_up_to zero read source place = no_values None
+readings_up_to (suc n) read source place =
     let first = read source place in
-    listed (nat_le source.last place) first.value (repeated n read source first.place)
+    readings_with (nat_le source.last place) first.value (readings_up_to n read source first.place)
 
 -- What it gives over an extent. Each value is to take a byte at least.
-abbrev pub repeated_over : {A : Type 0} → Extent → Read A → Source → Readings A
-repeated_over extent read source = repeated (extent.last - extent.first) read (record source { last = extent.last }) extent.first
+abbrev pub readings_over : {A : Type 0} → Extent → Read A → Source → Readings A
+readings_over extent read source = readings_up_to (extent.last - extent.first) read (record source { last = extent.last }) extent.first

@@ -1,6 +1,6 @@
 -- A stretch of a slice as a reader.
 use Rattle.std.specs.Prelude.{◌≡◌, ℕ, Bool, List, length, slice_range, nat_lt, if◌then◌else◌, Result, Ok, Err}
-use Rattle.cfi_read_core.specs.Reading.{Read, Standing}
+use Rattle.cfi_read_core.specs.Reading.{Read, Position}
 use Rattle.cfi_read_core.specs.Readers.{Reads, all_of}
 use Rattle.cfi_read_core.specs.declared.error.Error.{Error}
 use Rattle.cfi_read_core.specs.declared.error.Error.TheVariants.{UnsupportedOffset}
@@ -9,8 +9,8 @@ use Rattle.cfi_read_core.specs.declared.endian_slice.EndianSlice.{EndianSlice}
 use Rattle.cfi_read_core.specs.declared.narrow_slice.NarrowSlice.{NarrowSlice}
 
 -- where a reader over a window stands
-abbrev pub standing_of : {greatest : ℕ} → Window greatest → Bool → Standing
-standing_of {greatest} w big =
+abbrev pub position_of : {greatest : ℕ} → Window greatest → Bool → Position
+position_of {greatest} w big =
     record { source = record { whole = w.whole.now; last = w.last; big_endian = big; greatest = greatest }; place = w.first }
 
 -- the bytes of a window
@@ -18,21 +18,21 @@ abbrev pub stretch : {greatest : ℕ} → Window greatest → List ℕ
 stretch w = slice_range w.whole.now w.first w.last
 
 -- where the readers over slices stand, by the test of their byte order
-abbrev pub slice_standing : {E : Type 0} → (E → Bool) → EndianSlice E → Standing
-slice_standing is_big r = standing_of r.window (is_big r.endian)
+abbrev pub slice_position : {E : Type 0} → (E → Bool) → EndianSlice E → Position
+slice_position is_big r = position_of r.window (is_big r.endian)
 
-abbrev pub narrow_standing : {E : Type 0} → (E → Bool) → NarrowSlice E → Standing
-narrow_standing is_big r = standing_of r.window (is_big r.endian)
+abbrev pub narrow_position : {E : Type 0} → (E → Bool) → NarrowSlice E → Position
+narrow_position is_big r = position_of r.window (is_big r.endian)
 
 -- What a call of a window in this byte order answered, and the window after it, are those of the read.
 abbrev pub ReadsIn : {greatest : ℕ} {A : Type 0} → Bool → Read A → Window greatest → Result A Error → Window greatest → Type 0
-ReadsIn big read old answer new = Reads (λ x. x) read (standing_of old big) answer (standing_of new big)
+ReadsIn big read old answer new = Reads (λ x. x) read (position_of old big) answer (position_of new big)
 
 -- the same in every byte order
 abbrev pub ReadsWindow : {greatest : ℕ} {A : Type 0} → Read A → Window greatest → Result A Error → Window greatest → Type 0
 ReadsWindow read old answer new = (big : Bool) → ReadsIn big read old answer new
 
 -- a reader over all of the bytes, if its places are offsets of four bytes
-abbrev pub narrow_over : List ℕ → Bool → Result Standing Error
+abbrev pub narrow_over : List ℕ → Bool → Result Position Error
 narrow_over bytes big =
     if nat_lt 4294967295 (length bytes) then Err UnsupportedOffset else Ok (all_of bytes big 4294967295)

@@ -4,7 +4,7 @@ ghost use Rattle.std.specs.Ordering.{on};
 ghost use Rattle.std.specs.Cmp.{on_per, on_equiv};
 ghost use Rattle.cfi_read_core.specs.Readers.{all_of, bytes_left};
 ghost use Rattle.cfi_read_core.specs.Readers.{same_reader, same_reader-per, same_reader-equiv};
-ghost use Rattle.cfi_read_core.specs.Windows.{slice_standing};
+ghost use Rattle.cfi_read_core.specs.Windows.{slice_position};
 
 use crate::endianity::Endianity;
 use crate::error::{Error, ReaderOffsetId, Result};
@@ -21,7 +21,7 @@ pub struct EndianSlice<'input, E> {
 impl<'input, E: Endianity> EndianSlice<'input, E> {
     /// A reader over all of the slice.
     pub fn new(slice: &'input [u8], endian: E) -> Self
-        ensures { slice_standing E.big_endian result ≡ all_of slice.now (E.big_endian endian) 18446744073709551615 }
+        ensures { slice_position E.big_endian result ≡ all_of slice.now (E.big_endian endian) 18446744073709551615 }
     {
         EndianSlice {
             window: Window::new(slice),
@@ -31,16 +31,16 @@ impl<'input, E: Endianity> EndianSlice<'input, E> {
 
     /// The bytes that are left.
     pub fn slice(&self) -> &'input [u8]
-        ensures { result.now ≡ bytes_left (slice_standing E.big_endian self.now) }
+        ensures { result.now ≡ bytes_left (slice_position E.big_endian self.now) }
     {
         self.window.slice()
     }
 }
 
 impl<E: Endianity> PartialEq for EndianSlice<'_, E> {
-    ghost eq = { on (slice_standing E.big_endian) same_reader };
+    ghost eq = { on (slice_position E.big_endian) same_reader };
 
-    ghost laws = { on_per (slice_standing E.big_endian) same_reader-per };
+    ghost laws = { on_per (slice_position E.big_endian) same_reader-per };
 
     fn eq(&self, other: &Self) -> bool {
         self.slice() == other.slice() && self.endian.is_big_endian() == other.endian.is_big_endian()
@@ -48,7 +48,7 @@ impl<E: Endianity> PartialEq for EndianSlice<'_, E> {
 }
 
 impl<E: Endianity> Eq for EndianSlice<'_, E> {
-    ghost laws = { on_equiv (slice_standing E.big_endian) same_reader-equiv };
+    ghost laws = { on_equiv (slice_position E.big_endian) same_reader-equiv };
 }
 
 impl<'input, E: Endianity> Reader for EndianSlice<'input, E> {
@@ -56,7 +56,7 @@ impl<'input, E: Endianity> Reader for EndianSlice<'input, E> {
 
     type Endian = E;
 
-    ghost standing = { slice_standing E.big_endian };
+    ghost position = { slice_position E.big_endian };
 
     fn endian(&self) -> E {
         self.endian

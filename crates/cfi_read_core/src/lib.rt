@@ -11,7 +11,7 @@ pub mod error;
 pub mod narrow_slice;
 pub mod offset;
 pub mod reader;
-pub mod section;
+pub mod dwarf_section;
 mod window;
 
 pub use address::ReaderAddress;
@@ -25,4 +25,4 @@ pub use error::{Error, ReaderOffsetId, Result};
 pub use narrow_slice::NarrowSlice;
 pub use offset::ReaderOffset;
 pub use reader::Reader;
-pub use section::Section;
+pub use dwarf_section::Section;

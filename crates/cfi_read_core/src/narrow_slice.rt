@@ -4,7 +4,7 @@ ghost use Rattle.std.specs.Ordering.{on};
 ghost use Rattle.std.specs.Cmp.{on_per, on_equiv};
 ghost use Rattle.cfi_read_core.specs.Readers.{same_reader, same_reader-per, same_reader-equiv};
 ghost use Rattle.cfi_read_core.specs.Readers.{bytes_left, map_ok};
-ghost use Rattle.cfi_read_core.specs.Windows.{narrow_standing, narrow_over};
+ghost use Rattle.cfi_read_core.specs.Windows.{narrow_position, narrow_over};
 
 use crate::endianity::Endianity;
 use crate::error::{Error, ReaderOffsetId, Result};
@@ -23,7 +23,7 @@ pub struct NarrowSlice<'input, E> {
 impl<'input, E: Endianity> NarrowSlice<'input, E> {
     /// A reader over all of the slice, if its places are offsets of four bytes.
     pub fn new(slice: &'input [u8], endian: E) -> Result<Self>
-        ensures made { map_ok (narrow_standing E.big_endian) result
+        ensures made { map_ok (narrow_position E.big_endian) result
             ≡ narrow_over slice.now (E.big_endian endian) }
     {
         if slice.len() > GREATEST {
@@ -37,16 +37,16 @@ impl<'input, E: Endianity> NarrowSlice<'input, E> {
 
     /// The bytes that are left.
     pub fn slice(&self) -> &'input [u8]
-        ensures { result.now ≡ bytes_left (narrow_standing E.big_endian self.now) }
+        ensures { result.now ≡ bytes_left (narrow_position E.big_endian self.now) }
     {
         self.window.slice()
     }
 }
 
 impl<E: Endianity> PartialEq for NarrowSlice<'_, E> {
-    ghost eq = { on (narrow_standing E.big_endian) same_reader };
+    ghost eq = { on (narrow_position E.big_endian) same_reader };
 
-    ghost laws = { on_per (narrow_standing E.big_endian) same_reader-per };
+    ghost laws = { on_per (narrow_position E.big_endian) same_reader-per };
 
     fn eq(&self, other: &Self) -> bool {
         self.slice() == other.slice() && self.endian.is_big_endian() == other.endian.is_big_endian()
@@ -54,7 +54,7 @@ impl<E: Endianity> PartialEq for NarrowSlice<'_, E> {
 }
 
 impl<E: Endianity> Eq for NarrowSlice<'_, E> {
-    ghost laws = { on_equiv (narrow_standing E.big_endian) same_reader-equiv };
+    ghost laws = { on_equiv (narrow_position E.big_endian) same_reader-equiv };
 }
 
 impl<'input, E: Endianity> Reader for NarrowSlice<'input, E> {
@@ -62,7 +62,7 @@ impl<'input, E: Endianity> Reader for NarrowSlice<'input, E> {
 
     type Endian = E;
 
-    ghost standing = { narrow_standing E.big_endian };
+    ghost position = { narrow_position E.big_endian };
 
     fn endian(&self) -> E {
         self.endian

@@ -1,10 +1,10 @@
 //! Readers: places in bytes from which numbers are read.
 ghost use Rattle.std.specs.Prelude.{◌≡◌, ℕ, ◌-◌, ◌≤◌, ◌==◌, IfOk};
 ghost use Rattle.std.specs.Int.{w8, w16, w32, w64};
-ghost use Rattle.cfi_read_core.specs.Reading.{Standing, skip, split};
+ghost use Rattle.cfi_read_core.specs.Reading.{Position, skip, split};
 ghost use Rattle.cfi_read_core.specs.Numbers.{InitialLength, unsigned, signed, unsigned_leb128, signed_leb128, initial_length, text};
 ghost use Rattle.cfi_read_core.specs.Addresses.{address, address_size};
-ghost use Rattle.cfi_read_core.specs.Readers.{IsSound, IsPartOf, Reads, bytes_left, exhausted, extent_of, find_byte, left, map_ok, same_reader};
+ghost use Rattle.cfi_read_core.specs.Readers.{IsSound, IsPartOf, Reads, bytes_left, end_position, extent_of, find_byte, remaining, map_ok, same_reader};
 ghost use Rattle.std.specs.Prelude.{◌<◌};
 ghost use Rattle.cfi_read_core.specs.Numbers.{number_by};
 
@@ -27,67 +27,67 @@ pub trait Reader: Copy + Debug + Eq {
     type Endian: Endianity;
 
     /// Where the reader stands.
-    ghost standing: { Self → Standing };
+    ghost position: { Self → Position };
 
     /// The order of the bytes of a number.
     fn endian(&self) -> Self::Endian
-        ensures { Self.Endian.big_endian result ≡ (standing self.now).source.big_endian };
+        ensures { Self.Endian.big_endian result ≡ (position self.now).source.big_endian };
 
     /// How many bytes are left.
     fn len(&self) -> Self::Offset
-        ensures { Self.Offset.number result ≡ left (standing self.now) };
+        ensures { Self.Offset.number result ≡ remaining (position self.now) };
 
     /// The place in the whole bytes.
     fn place(&self) -> Self::Offset
-        ensures { Self.Offset.number result ≡ (standing self.now).place };
+        ensures { Self.Offset.number result ≡ (position self.now).place };
 
     /// How many bytes stand before the first one of this value.
     fn find(&self, byte: u8) -> Result<Self::Offset>
-        ensures { map_ok Self.Offset.number result ≡ find_byte byte (standing self.now) };
+        ensures { map_ok Self.Offset.number result ≡ find_byte byte (position self.now) };
 
     /// Passes so many bytes.
     fn skip(&mut self, len: Self::Offset) -> Result<()>
-        ensures { Reads (λ x. x) (skip (Self.Offset.number len)) (standing self.old) result (standing self.new) };
+        ensures { Reads (λ x. x) (skip (Self.Offset.number len)) (position self.old) result (position self.new) };
 
     /// Passes so many bytes, and answers a reader of them.
     fn split(&mut self, len: Self::Offset) -> Result<Self>
-        ensures read { Reads (λ r. extent_of (standing r)) (split (Self.Offset.number len)) (standing self.old) result (standing self.new) }
-        ensures part { IfOk result (λ r. IsPartOf (standing r) (standing self.old)) };
+        ensures read { Reads (λ r. extent_of (position r)) (split (Self.Offset.number len)) (position self.old) result (position self.new) }
+        ensures part { IfOk result (λ r. IsPartOf (position r) (position self.old)) };
 
     /// A byte.
     fn read_u8(&mut self) -> Result<u8>
-        ensures { Reads (λ x. x) (unsigned w8) (standing self.old) result (standing self.new) };
+        ensures { Reads (λ x. x) (unsigned w8) (position self.old) result (position self.new) };
 
     /// Two bytes as a number.
     fn read_u16(&mut self) -> Result<u16>
-        ensures { Reads (λ x. x) (unsigned w16) (standing self.old) result (standing self.new) };
+        ensures { Reads (λ x. x) (unsigned w16) (position self.old) result (position self.new) };
 
     /// Four bytes as a number.
     fn read_u32(&mut self) -> Result<u32>
-        ensures { Reads (λ x. x) (unsigned w32) (standing self.old) result (standing self.new) };
+        ensures { Reads (λ x. x) (unsigned w32) (position self.old) result (position self.new) };
 
     /// Eight bytes as a number.
     fn read_u64(&mut self) -> Result<u64>
-        ensures { Reads (λ x. x) (unsigned w64) (standing self.old) result (standing self.new) };
+        ensures { Reads (λ x. x) (unsigned w64) (position self.old) result (position self.new) };
 
     /// Whether nothing is left.
     fn is_empty(&self) -> bool
-        ensures { result ≡ (left (standing self.now) == 0) }
+        ensures { result ≡ (remaining (position self.now) == 0) }
     {
         self.len().into_u64() == 0
     }
 
     /// Passes all that is left.
     fn empty(&mut self)
-        ensures { standing self.new ≡ exhausted (standing self.old) }
+        ensures { position self.new ≡ end_position (position self.old) }
     {
         let _ = self.skip(self.len());
     }
 
     /// How far the place is behind that of another reader of the same bytes.
     fn offset_from(&self, base: &Self) -> Self::Offset
-        requires { (standing base.now).place ≤ (standing self.now).place }
-        ensures { Self.Offset.number result ≡ (standing self.now).place - (standing base.now).place }
+        requires { (position base.now).place ≤ (position self.now).place }
+        ensures { Self.Offset.number result ≡ (position self.now).place - (position base.now).place }
     {
         match self.place().checked_sub(base.place()) {
             Some(offset) => offset,
@@ -98,7 +98,7 @@ pub trait Reader: Copy + Debug + Eq {
     /// Two bytes as a number in two's complement.
     #[tactic(auto, unfolding(crate::specs::Numbers::signed))]
     fn read_i16(&mut self) -> Result<i16>
-        ensures { Reads (λ x. x) (signed w16) (standing self.old) result (standing self.new) }
+        ensures { Reads (λ x. x) (signed w16) (position self.old) result (position self.new) }
     {
         Ok(self.read_u16()?.cast_signed())
     }
@@ -106,7 +106,7 @@ pub trait Reader: Copy + Debug + Eq {
     /// Four bytes as a number in two's complement.
     #[tactic(auto, unfolding(crate::specs::Numbers::signed))]
     fn read_i32(&mut self) -> Result<i32>
-        ensures { Reads (λ x. x) (signed w32) (standing self.old) result (standing self.new) }
+        ensures { Reads (λ x. x) (signed w32) (position self.old) result (position self.new) }
     {
         Ok(self.read_u32()?.cast_signed())
     }
@@ -114,7 +114,7 @@ pub trait Reader: Copy + Debug + Eq {
     /// Eight bytes as a number in two's complement.
     #[tactic(auto, unfolding(crate::specs::Numbers::signed))]
     fn read_i64(&mut self) -> Result<i64>
-        ensures { Reads (λ x. x) (signed w64) (standing self.old) result (standing self.new) }
+        ensures { Reads (λ x. x) (signed w64) (position self.old) result (position self.new) }
     {
         Ok(self.read_u64()?.cast_signed())
     }
@@ -122,7 +122,7 @@ pub trait Reader: Copy + Debug + Eq {
     /// An unsigned LEB128 number of at most ten bytes (DWARF 5 section 7.6). Padding is accepted; a tenth byte
     /// that doesn't fit 64 bits is refused with `BadUnsignedLeb128`, and counts as read.
     fn read_uleb128(&mut self) -> Result<u64>
-        ensures { Reads (λ x. x) unsigned_leb128 (standing self.old) result (standing self.new) }
+        ensures { Reads (λ x. x) unsigned_leb128 (position self.old) result (position self.new) }
     {
         let mut value = 0u64;
         let mut weight = 1u64;
@@ -143,7 +143,7 @@ pub trait Reader: Copy + Debug + Eq {
     /// A signed LEB128 number of at most ten bytes (DWARF 5 section 7.6). Padding is accepted; a tenth byte that
     /// doesn't repeat the sign is refused with `BadSignedLeb128`, and counts as read.
     fn read_sleb128(&mut self) -> Result<i64>
-        ensures { Reads (λ x. x) signed_leb128 (standing self.old) result (standing self.new) }
+        ensures { Reads (λ x. x) signed_leb128 (position self.old) result (position self.new) }
     {
         let mut value = 0u64;
         let mut weight = 1u64;
@@ -165,7 +165,7 @@ pub trait Reader: Copy + Debug + Eq {
     /// The length of a unit, and its format (DWARF 5 section 7.4).
     #[tactic(auto, unfolding(crate::specs::Numbers::initial_length))]
     fn read_initial_length(&mut self) -> Result<(Self::Offset, Format)>
-        ensures { Reads (λ p. record { length = Self.Offset.number p.0; format = p.1 }) initial_length (standing self.old) result (standing self.new) }
+        ensures { Reads (λ p. record { length = Self.Offset.number p.0; format = p.1 }) initial_length (position self.old) result (position self.new) }
     {
         let word = self.read_u32()?;
         if word < 0xffff_fff0 {
@@ -181,7 +181,7 @@ pub trait Reader: Copy + Debug + Eq {
     /// An address of 1, 2, 4 or 8 bytes. Other sizes are refused with `UnsupportedAddressSize`.
     #[tactic(auto, unfolding(crate::specs::Addresses::address))]
     fn read_address(&mut self, size: u8) -> Result<u64>
-        ensures { Reads (λ x. x) (address size) (standing self.old) result (standing self.new) }
+        ensures { Reads (λ x. x) (address size) (position self.old) result (position self.new) }
     {
         match size {
             1 => Ok(u64::from(self.read_u8()?)),
@@ -195,7 +195,7 @@ pub trait Reader: Copy + Debug + Eq {
     /// A byte that is an address size: 1, 2, 4 or 8. Others are refused with `UnsupportedAddressSize`, and count as read.
     #[tactic(auto, unfolding(crate::specs::Addresses::address_size))]
     fn read_address_size(&mut self) -> Result<u8>
-        ensures { Reads (λ x. x) address_size (standing self.old) result (standing self.new) }
+        ensures { Reads (λ x. x) address_size (position self.old) result (position self.new) }
     {
         let size = self.read_u8()?;
         match size {
@@ -207,9 +207,9 @@ pub trait Reader: Copy + Debug + Eq {
     /// The bytes before the next zero, which is passed.
     #[tactic(auto, unfolding(crate::specs::Numbers::text))]
     fn read_null_terminated_slice(&mut self) -> Result<Self>
-        ensures read { Reads (λ r. bytes_left (standing r)) text (standing self.old) result (standing self.new) }
-        ensures part { IfOk result (λ r. IsPartOf (standing r) (standing self.old)) }
-        ensures place { IfOk result (λ r. (standing r).place ≡ (standing self.old).place) }
+        ensures read { Reads (λ r. bytes_left (position r)) text (position self.old) result (position self.new) }
+        ensures part { IfOk result (λ r. IsPartOf (position r) (position self.old)) }
+        ensures place { IfOk result (λ r. (position r).place ≡ (position self.old).place) }
     {
         let len = self.find(0)?;
         let text = self.split(len)?;
@@ -218,13 +218,13 @@ pub trait Reader: Copy + Debug + Eq {
     }
 
     /// A reader's places are in order, within its bytes, and offsets.
-    ghost sound: { (r : Self) → IsSound (standing r) };
+    ghost sound: { (r : Self) → IsSound (position r) };
 
     /// Readers are equal where what is left and the byte order are.
-    ghost equal: { (x y : Self) → Self.PartialEq.eq x y ≡ same_reader (standing x) (standing y) };
+    ghost equal: { (x y : Self) → Self.PartialEq.eq x y ≡ same_reader (position x) (position y) };
 
     /// The greatest offset is the offset type's.
-    ghost greatest: { (r : Self) → (standing r).source.greatest ≡ Self.Offset.GREATEST };
+    ghost greatest: { (r : Self) → (position r).source.greatest ≡ Self.Offset.GREATEST };
 }
 
 /// The number of these bits below the weight, less the weight where the sign is set.

@@ -35,7 +35,7 @@ impl<'input, const GREATEST: usize> Window<'input, GREATEST> {
     ghost use Rattle.cfi_read_core.specs.Reading.{skip, split};
     ghost use Rattle.cfi_read_core.specs.Numbers.{unsigned};
     ghost use Rattle.cfi_read_core.specs.Readers.{IsPartOf, Reads, extent_of};
-    ghost use Rattle.cfi_read_core.specs.Windows.{standing_of, ReadsIn, ReadsWindow, stretch};
+    ghost use Rattle.cfi_read_core.specs.Windows.{position_of, ReadsIn, ReadsWindow, stretch};
 
     /// All of the slice.
     pub fn new(whole: &'input [u8]) -> Self
@@ -88,8 +88,8 @@ impl<'input, const GREATEST: usize> Window<'input, GREATEST> {
     }
 
     pub fn split(&mut self, len: usize) -> Result<Self>
-        ensures read { (big : Bool) → Reads (λ w. extent_of (standing_of w big)) (split len) (standing_of self.old big) result (standing_of self.new big) }
-        ensures part { (big : Bool) → IfOk result (λ w. IsPartOf (standing_of w big) (standing_of self.old big)) }
+        ensures read { (big : Bool) → Reads (λ w. extent_of (position_of w big)) (split len) (position_of self.old big) result (position_of self.new big) }
+        ensures part { (big : Bool) → IfOk result (λ w. IsPartOf (position_of w big) (position_of self.old big)) }
     {
         if self.len() < len {
             return Err(Error::UnexpectedEof(ReaderOffsetId(self.first as u64)));

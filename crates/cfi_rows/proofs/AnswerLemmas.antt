@@ -7,7 +7,7 @@ use Rattle.cfi_read_core.specs.declared.error.Error.{Error}
 use Rattle.cfi_read_core.specs.declared.error.Error.TheVariants.{UnsupportedPointerEncoding}
 use Rattle.cfi_parts.specs.declared.pointer.Pointer.{Pointer}
 use Rattle.cfi_read_core.specs.ByteOrder.{is_big}
-use Rattle.cfi_read_core.specs.Reading.{Standing}
+use Rattle.cfi_read_core.specs.Reading.{Position}
 use Rattle.cfi_read_core.specs.Readers.{all_of, map_ok}
 use Rattle.cfi_parts.specs.declared.pointer.SectionBaseAddresses.{SectionBaseAddresses}
 use Rattle.cfi_state.specs.Row.{Row}
@@ -15,28 +15,28 @@ use Rattle.cfi_state.specs.Numbered.{map_row}
 use Rattle.cfi_state.proofs.NumberedSame.{as_it_is, same_row}
 use Rattle.cfi_unwind.specs.Sections as sections
 use Rattle.cfi_unwind.specs.Sections.{Section}
-use Rattle.cfi_unwind.specs.Scan.{chosen}
+use Rattle.cfi_unwind.specs.Scan.{chosen_fde}
 use Rattle.cfi_unwind.specs.Fdes.{Fde}
 use Rattle.gimli_cfi.specs.Headers.{HeaderSection, Header, Table, header_of, header_section, start_of, value_size}
-use Rattle.gimli_cfi.specs.Tables.{IsFoundByTable, SearchedBy, fde_by_row}
-use Rattle.cfi_unwind.specs.Answers.{IsRowOfFound}
+use Rattle.gimli_cfi.specs.HeaderTables.{IsFoundByTable, SearchedBy, fde_by_row}
+use Rattle.cfi_unwind.specs.AddressRow.{IsRowOfFound}
 use Rattle.cfi_rows.specs.Lines.{Line}
 use Rattle.cfi_rows.specs.Input.{Bytes}
 use Rattle.cfi_rows.specs.declared.words.Kind.{Kind}
 use Rattle.cfi_rows.specs.declared.words.Kind.TheVariants.{DebugFrame, EhFrame}
 use Rattle.cfi_rows.specs.declared.words.Request.{Request}
 use Rattle.cfi_rows.specs.declared.words.Storage.{Storage}
-use Rattle.cfi_rows.specs.Answers.{FoundByBase, FoundByHeader, FoundByRows, IsLineFor, IsRowByHeader, Room, room_of, IsAnswer, answers, header_section_of, kind_of_section, section_of}
+use Rattle.cfi_rows.specs.ProgramOutput.{FoundByBase, FoundByHeader, FoundByRows, IsLineFor, IsRowByHeader, Room, room_of, IsAnswer, answers, header_section_of, kind_of_section, section_of}
 
 -- a section by its parts
-abbrev pub of_parts : sections.Kind → Standing → ℕ → Vendor → SectionBaseAddresses → Section
-of_parts kind standing size vendor bases = record { kind = kind; source = standing.source; first = standing.place; address_size = size; vendor = vendor; bases = bases }
+abbrev pub of_parts : sections.SectionKind → Position → ℕ → Vendor → SectionBaseAddresses → Section
+of_parts kind position size vendor bases = record { kind = kind; source = position.source; first = position.place; address_size = size; vendor = vendor; bases = bases }
 
-pub same_section : (r : Request) (bytes : List ℕ) (kind : sections.Kind) (standing : Standing) (size : ℕ) (vendor : Vendor) (bases : SectionBaseAddresses)
-    → kind_of_section r.kind ≡ kind → standing ≡ all_of bytes (is_big r.endian) 18446744073709551615 → size ≡ r.address_size → vendor ≡ r.vendor
+pub same_section : (r : Request) (bytes : List ℕ) (kind : sections.SectionKind) (position : Position) (size : ℕ) (vendor : Vendor) (bases : SectionBaseAddresses)
+    → kind_of_section r.kind ≡ kind → position ≡ all_of bytes (is_big r.endian) 18446744073709551615 → size ≡ r.address_size → vendor ≡ r.vendor
     → bases ≡ record { section = r.section; text = r.text; data_base = r.data_base }
-    → of_parts kind standing size vendor bases ≡ section_of r bytes
-same_section r bytes kind standing size vendor bases kinds stands sizes vendors based = λ i. of_parts (sym kinds i) (stands i) (sizes i) (vendors i) (based i)
+    → of_parts kind position size vendor bases ≡ section_of r bytes
+same_section r bytes kind position size vendor bases kinds stands sizes vendors based = λ i. of_parts (sym kinds i) (stands i) (sizes i) (vendors i) (based i)
 
 -- rows over offsets that are numbers
 pub same_rows : {B : Type 0} (now : B → Row ℕ) (r : Result B Error) → map_ok (λ row. map_row as_it_is (now row)) r ≡ map_ok (λ row. now row) r
@@ -44,10 +44,10 @@ same_rows now (Ok row) = ap Ok (same_row (now row))
 same_rows now (Err e) = refl
 
 -- a header's section by its parts
-pub same_header_section : (r : Request) (base : ℕ) (bytes : List ℕ) (standing : Standing) (bases : SectionBaseAddresses)
-    → standing ≡ all_of bytes (is_big r.endian) 18446744073709551615 → bases ≡ record { section = r.header; text = r.text; data_base = r.header } → r.header ≡ Some base
-    → header_section standing r.address_size bases ≡ header_section_of r base bytes
-same_header_section r base bytes standing bases stands based given =
+pub same_header_section : (r : Request) (base : ℕ) (bytes : List ℕ) (position : Position) (bases : SectionBaseAddresses)
+    → position ≡ all_of bytes (is_big r.endian) 18446744073709551615 → bases ≡ record { section = r.header; text = r.text; data_base = r.header } → r.header ≡ Some base
+    → header_section position r.address_size bases ≡ header_section_of r base bytes
+same_header_section r base bytes position bases stands based given =
     (λ i. header_section (stands i) r.address_size (based i)) ∙ ap (λ at. header_section (all_of bytes (is_big r.endian) 18446744073709551615) r.address_size (record { section = at; text = r.text; data_base = at })) given
 
 -- ---- without a header
@@ -59,13 +59,13 @@ no_header (Some base) kind h e =
     cc
 
 pub answered : (r : Request) (bytes : Bytes) (shown : List ℕ) (room : Room) (section : Section) (answer : Result (Row ℕ) Error) → r.header ≡ None → shown ≡ bytes.section → section ≡ section_of r shown
-    → IsRowOfFound room.rule_limit room.stack_limit room.copies_free section r.address (chosen section r.address) answer → IsAnswer room r bytes answer
+    → IsRowOfFound room.rule_limit room.stack_limit room.copies_free section r.address (chosen_fde section r.address) answer → IsAnswer room r bytes answer
 answered r bytes shown room section answer none whole same is =
     let of_bytes : section ≡ section_of r bytes.section = same ∙ ap (section_of r) whole in
     record {
-      found = chosen (section_of r bytes.section) r.address;
-      finds = subst (λ h. FoundByBase r bytes h (chosen (section_of r bytes.section) r.address)) (sym none) refl;
-      answers = subst (λ s. IsRowOfFound room.rule_limit room.stack_limit room.copies_free s r.address (chosen s r.address) answer) of_bytes is;
+      found = chosen_fde (section_of r bytes.section) r.address;
+      finds = subst (λ h. FoundByBase r bytes h (chosen_fde (section_of r bytes.section) r.address)) (sym none) refl;
+      answers = subst (λ s. IsRowOfFound room.rule_limit room.stack_limit room.copies_free s r.address (chosen_fde s r.address) answer) of_bytes is;
     }
 
 -- ---- with a header

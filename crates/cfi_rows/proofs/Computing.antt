@@ -2,7 +2,7 @@
 use Rattle.std.proofs.Common.{ℕ}
 use Rattle.std.specs.Fmt.{digits}
 use Rattle.hex.specs.Hex.{decode_pairs}
-use Rattle.cfi_rows.specs.Words.{option_words, request_of}
+use Rattle.cfi_rows.specs.CommandLine.{option_words, request_of}
 use Rattle.cfi_rows.specs.Lines.{rules_text}
 
 -- to name it on an `unfolding` line is to open all these

@@ -5,7 +5,7 @@ use Rattle.std.proofs.lemmas.Bool.Decides.{nat_tests}
 use Rattle.std.proofs.lemmas.List.{drop_all, get_or-take, length-take-le}
 use Rattle.std.proofs.lemmas.List.Sums.{passes_at_first, position_or_len_is}
 use Rattle.std.specs.List.{All, after_first, position_or_len}
-use Rattle.cfi_rows.specs.Input.{Bytes, decoded, is_line_feed, with_header, IsReading}
+use Rattle.cfi_rows.specs.Input.{Bytes, decoded_bytes, is_line_feed, with_header, IsReading}
 use Rattle.std.specs.Result.{IsErr}
 use Rattle.hex.specs.declared.error.FromHexError.{FromHexError}
 use Rattle.hex.specs.declared.error.FromHexError.TheVariants as hex
@@ -26,7 +26,7 @@ refused_why d hex.InvalidStringLength r memory text (inr h) = inr (text (λ p. c
 
 -- ---- two parts
 
-at_place : (xs : List ℕ) (n : ℕ) (b : Bool) → nat_lt n (length xs) ≡ b → (n < length xs → is_line_feed (get_or xs n 0) ≡ true) → decoded (drop n xs) ≡ decoded (drop (n + 1) xs)
+at_place : (xs : List ℕ) (n : ℕ) (b : Bool) → nat_lt n (length xs) ≡ b → (n < length xs → is_line_feed (get_or xs n 0) ≡ true) → decoded_bytes (drop n xs) ≡ decoded_bytes (drop (n + 1) xs)
 at_place xs n true e is =
     let inside : n < length xs = grind (arith, nat_tests) in
     let found : is_line_feed (get_or xs n 0) ≡ true = is inside in
@@ -34,10 +34,10 @@ at_place xs n true e is =
     rw (drop-cons xs n 0 inside, feed, add-one) refl
 at_place xs n false e is =
     let outside : length xs ≤ n = grind (arith, nat_tests) in
-    ap decoded (drop_all n xs outside ∙ sym (drop_all (n + 1) xs (omega arith)))
+    ap decoded_bytes (drop_all n xs outside ∙ sym (drop_all (n + 1) xs (omega arith)))
 
 -- what stands behind the first line means the same with its line feed
-pub behind_line : (input : List ℕ) → decoded (drop (position_or_len is_line_feed input) input) ≡ decoded (after_first is_line_feed input)
+pub behind_line : (input : List ℕ) → decoded_bytes (drop (position_or_len is_line_feed input) input) ≡ decoded_bytes (after_first is_line_feed input)
 behind_line input = at_place input (position_or_len is_line_feed input) _ refl (λ inside. passes_at_first is_line_feed input 0 inside)
 
 pub line_end : (xs : List ℕ) (n : ℕ) → n ≤ length xs → All (λ byte. byte ≢ 10) (take n xs) → (n < length xs → get_or xs n 0 ≡ 10) → position_or_len is_line_feed xs ≡ n

@@ -4,11 +4,11 @@ use Rattle.cfi_read_core.specs.declared.error.Error.{Error}
 use Rattle.cfi_state.specs.Row.{Row}
 use Rattle.cfi_unwind.specs.Fdes.{Fde}
 use Rattle.cfi_unwind.specs.Scan.{answer_by}
-use Rattle.cfi_unwind.specs.Answers.{row_of_fde, row_by_scan}
+use Rattle.cfi_unwind.specs.AddressRow.{row_of_fde, row_by_scan}
 use Rattle.cfi_rows.specs.declared.words.Request.{Request}
 use Rattle.cfi_rows.specs.declared.words.Storage.TheVariants.{OnHeap}
 use Rattle.cfi_rows.specs.Input.{Bytes}
-use Rattle.cfi_rows.specs.Answers.{FoundByBase, IsAnswer, answers, room_of, section_of}
+use Rattle.cfi_rows.specs.ProgramOutput.{FoundByBase, IsAnswer, answers, room_of, section_of}
 
 pub row_of_found : (r : Request) (bytes : Bytes) (answer : Result (Row ℕ) Error) → r.storage ≡ OnHeap → answers r bytes answer
     → (found : Result Fde Error) × FoundByBase r bytes r.header found × (answer ≡ answer_by (row_of_fde (Some 192) (Some 4) (section_of r bytes.section) r.address) found)

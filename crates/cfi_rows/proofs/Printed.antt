@@ -11,7 +11,7 @@ use Rattle.cfi_rows.specs.declared.words.Storage.TheVariants.{OnHeap, Growing}
 use Rattle.std.specs.FinMap as map
 use Rattle.cfi_state.specs.declared.table.rules.CfaRule.{CfaRule}
 use Rattle.cfi_state.specs.Row.{Row}
-use Rattle.cfi_rows.specs.Words.{request_of}
+use Rattle.cfi_rows.specs.CommandLine.{request_of}
 use Rattle.cfi_rows.specs.Input.{bytes_by}
 use Rattle.cfi_rows.specs.Lines.{row_head, rules_text, answer_line}
 use Rattle.cfi_rows.proofs.Computing.{computing}

@@ -10,7 +10,7 @@ use Rattle.cfi_rows.specs.declared.words.Kind.TheVariants.{DebugFrame, EhFrame}
 use Rattle.cfi_rows.specs.declared.words.Storage.{Storage}
 use Rattle.cfi_rows.specs.declared.words.Storage.TheVariants.{OnHeap, Growing}
 use Rattle.cfi_rows.specs.declared.words.Request.{Request}
-use Rattle.cfi_rows.specs.Words.{CanBeAnswered, asked, behind, either, first_words, kind_of, number, once_given, option_word, option_words, order_of, request_of, set_data_base, set_header, set_section, set_storage, set_text, set_vendor, size_of}
+use Rattle.cfi_rows.specs.CommandLine.{CanBeAnswered, request_of_words, after_prefix, either, first_words, kind_of, number, once_given, option_word, option_words, order_of, request_of, set_data_base, set_header, set_section, set_storage, set_text, set_vendor, size_of}
 
 -- ---- steps that may give nothing
 
@@ -66,10 +66,10 @@ option_known : (w : List ℕ) (r : Request) → CanBeAnswered r → IfSome (opti
 option_known w r h =
     chosen CanBeAnswered (bytes_eq w (codes "vendor=aarch64")) _ _ (vendor_known r r.vendor h)
     (chosen CanBeAnswered (bytes_eq w (codes "store=vec")) _ _ (storage_known r r.storage h)
-    (either_of CanBeAnswered (behind (codes "section=") w) (set_section r) _ (λ digits. mapped CanBeAnswered (once_given r.section (number digits)) _ (λ n. h))
-    (either_of CanBeAnswered (behind (codes "text=") w) (set_text r) _ (λ digits. mapped CanBeAnswered (once_given r.text (number digits)) _ (λ n. h))
-    (either_of CanBeAnswered (behind (codes "data=") w) (set_data_base r) _ (λ digits. mapped CanBeAnswered (once_given r.data_base (number digits)) _ (λ n. h))
-    (either_of CanBeAnswered (behind (codes "header=") w) (λ digits. set_header r digits r.kind) None (λ digits. header_known r digits r.kind refl h) tt)))))
+    (either_of CanBeAnswered (after_prefix (codes "section=") w) (set_section r) _ (λ digits. mapped CanBeAnswered (once_given r.section (number digits)) _ (λ n. h))
+    (either_of CanBeAnswered (after_prefix (codes "text=") w) (set_text r) _ (λ digits. mapped CanBeAnswered (once_given r.text (number digits)) _ (λ n. h))
+    (either_of CanBeAnswered (after_prefix (codes "data=") w) (set_data_base r) _ (λ digits. mapped CanBeAnswered (once_given r.data_base (number digits)) _ (λ n. h))
+    (either_of CanBeAnswered (after_prefix (codes "header=") w) (λ digits. set_header r digits r.kind) None (λ digits. header_known r digits r.kind refl h) tt)))))
 
 options_known : (ws : List (List ℕ)) (r : Request) → CanBeAnswered r → IfSome (option_words ws r) CanBeAnswered
 unfolding option_words
@@ -84,5 +84,5 @@ request_known (a ∷ []) = tt
 request_known (a ∷ b ∷ []) = tt
 request_known (a ∷ b ∷ c ∷ []) = tt
 
-pub can_be_answered : (asked_for : Option Request) (words : Option (List (List ℕ))) → asked_for ≡ asked words → IfSome asked_for CanBeAnswered
+pub can_be_answered : (asked_for : Option Request) (words : Option (List (List ℕ))) → asked_for ≡ request_of_words words → IfSome asked_for CanBeAnswered
 can_be_answered asked_for words e = rw e (and_then (λ _. Unit {0}) CanBeAnswered words request_of (anything words) (λ list _. request_known list))

@@ -6,10 +6,10 @@ use Rattle.cfi_read_core.specs.declared.error.Error.{Error}
 use Rattle.cfi_read_core.specs.declared.error.Error.TheVariants.{OutOfMemory}
 use Rattle.cfi_state.specs.Row.{Row}
 use Rattle.cfi_rows.specs.declared.words.Request.{Request}
-use Rattle.cfi_rows.specs.Answers.{RequestAnswer, IsOwed, IsRun, LineOfInput, LineOfRequest, LineOfWords, out_of_memory, IsLineFor}
+use Rattle.cfi_rows.specs.ProgramOutput.{RequestAnswer, IsOwed, IsRun, LineOfInput, LineOfRequest, LineOfWords, out_of_memory, IsLineFor}
 use Rattle.cfi_rows.specs.Input.{Bytes, bytes_by}
 use Rattle.cfi_rows.specs.Lines.{Line, answer_line, wrong_words, wrong_hexadecimal, wrong_input}
-use Rattle.cfi_rows.specs.Words.{CanBeAnswered, asked}
+use Rattle.cfi_rows.specs.CommandLine.{CanBeAnswered, request_of_words}
 use Rattle.cfi_rows.specs.Written.{IsBeginning, Writes, Prints}
 use Rattle.cfi_rows.proofs.WrittenLemmas.{appends_then, keeps_is}
 
@@ -105,16 +105,16 @@ answered answers (Some r) input printed (inr (some, inr unread)) low = (let h : 
 
 -- ---- the run
 
-is_run : (answers : RequestAnswer) (words : Option (List (List ℕ))) (input written : List ℕ) (status : ℕ) (printed : Line) → IsOwed answers (asked words) input printed →
+is_run : (answers : RequestAnswer) (words : Option (List (List ℕ))) (input written : List ℕ) (status : ℕ) (printed : Line) → IsOwed answers (request_of_words words) input printed →
     IsBeginning written printed.text → (status ≤ 1 → (written ≡ printed.text) × (status ≡ printed.status)) → (1 < status → status ≡ 2) → IsRun answers words input written status
 is_run answers words input written status printed owed (rest, begins) whole high = record {
   answered = λ low.
       let is : record { text = written; status = status } ≡ printed = line_is written status printed (whole low).0 (whole low).1 in
-      let P : Line → Type 0 = λ shown. IsSome (asked words) × (LineOfWords answers words input shown ⊎ (shown ≡ out_of_memory)) in
-      subst P (sym is) (answered answers (asked words) input printed owed (rw (← (whole low).1) low));
+      let P : Line → Type 0 = λ shown. IsSome (request_of_words words) × (LineOfWords answers words input shown ⊎ (shown ≡ out_of_memory)) in
+      subst P (sym is) (answered answers (request_of_words words) input printed owed (rw (← (whole low).1) low));
   otherwise = high;
-  words_wrong = λ _ e. words_wrong answers (asked words) input printed owed (code_at 0 written rest wrong_words.text printed begins e) (code_at 6 written rest wrong_words.text printed begins e);
-  hexadecimal_wrong = λ _ e. hexadecimal_wrong answers (asked words) input printed owed (code_at 0 written rest wrong_hexadecimal.text printed begins e) (code_at 6 written rest wrong_hexadecimal.text printed begins e);
+  words_wrong = λ _ e. words_wrong answers (request_of_words words) input printed owed (code_at 0 written rest wrong_words.text printed begins e) (code_at 6 written rest wrong_words.text printed begins e);
+  hexadecimal_wrong = λ _ e. hexadecimal_wrong answers (request_of_words words) input printed owed (code_at 0 written rest wrong_hexadecimal.text printed begins e) (code_at 6 written rest wrong_hexadecimal.text printed begins e);
 }
 
 -- what was written, and that it begins the line
@@ -124,7 +124,7 @@ front_of old mid new (Ok status) text keeps writes = (text ++ [], appends_then o
 front_of old mid new (Err e) text keeps (front, writes, (rest, begins)) = (front ++ [], appends_then old mid new front [] writes (keeps_is mid new keeps), (rest, append_assoc front [] rest ∙ begins))
 
 pub run_fails : {E : Type 0} (answers : RequestAnswer) (words : Option (List (List ℕ))) (input : List ℕ) (old mid new : Option (List ℕ)) (result : Result ℕ E) → Keeps mid new →
-    ((printed : Line) × Prints printed old mid result × IsOwed answers (asked words) input printed) → (written : List ℕ) × Appends old new written × IsRun answers words input written 2
+    ((printed : Line) × Prints printed old mid result × IsOwed answers (request_of_words words) input printed) → (written : List ℕ) × Appends old new written × IsRun answers words input written 2
 run_fails answers words input old mid new result keeps (printed, prints, owed) =
     let front = front_of old mid new result printed.text keeps prints.0 in
     (front.0, front.1, is_run answers words input front.0 2 printed owed front.2 (λ low. absurd (omega arith)) (λ _. refl))
@@ -147,12 +147,12 @@ status_bound answers asked_for input printed (inr (some, inl e)) = bound_by prin
 status_bound answers asked_for input printed (inr (some, inr e)) = bound_by printed wrong_input (omega arith) e
 
 pub run_ends : {E : Type 0} (answers : RequestAnswer) (words : Option (List (List ℕ))) (input : List ℕ) (old mid new : Option (List ℕ)) (result : Result ℕ E) (status : ℕ) → result ≡ Ok status → Keeps mid new →
-    ((printed : Line) × Prints printed old mid result × IsOwed answers (asked words) input printed) → (written : List ℕ) × Appends old new written × IsRun answers words input written status
+    ((printed : Line) × Prints printed old mid result × IsOwed answers (request_of_words words) input printed) → (written : List ℕ) × Appends old new written × IsRun answers words input written status
 run_ends answers words input old mid new (Ok answered) status e keeps (printed, prints, owed) =
     let same : answered ≡ status = cc in
     let is : status ≡ printed.status = sym same ∙ prints.1 in
     let P : List ℕ → Type 0 = λ xs. Appends old new xs in
     let whole : Appends old new printed.text = subst P (append-nil printed.text) (appends_then old mid new printed.text [] prints.0 (keeps_is mid new keeps)) in
-    let bound : printed.status ≤ 2 = status_bound answers (asked words) input printed owed in
+    let bound : printed.status ≤ 2 = status_bound answers (request_of_words words) input printed owed in
     (printed.text, whole, is_run answers words input printed.text status printed owed ([], append-nil printed.text) (λ low. (refl, is)) (λ high. omega arith))
 run_ends answers words input old mid new (Err error) status e keeps (printed, prints, owed) = cc

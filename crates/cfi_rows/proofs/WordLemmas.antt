@@ -15,7 +15,7 @@ use Rattle.std.specs.Result.{result_ok, OkIff}
 use Rattle.std.specs.Str.{bytes_eq}
 use Rattle.std.specs.Str.Parse.{AllDigits, IsNumeral, digits_value, ParsesUnsigned, without_leading_plus}
 use Rattle.std.specs.Str.Pattern.{FindsTextPrefix, StripsPrefix}
-use Rattle.cfi_rows.specs.Words.{behind, below_2_64, hexadecimal_number, decimal_number, texts, request_of, first_words, option_words, option_word}
+use Rattle.cfi_rows.specs.CommandLine.{after_prefix, below_2_64, hexadecimal_number, decimal_number, texts, request_of, first_words, option_words, option_word}
 use Rattle.cfi_rows.specs.declared.words.Request.{Request}
 
 -- ---- digits
@@ -76,18 +76,18 @@ decimal_is ds r h low high all = parsed 10 ds r (omega arith) (all_digits 10 is_
 begins_at : (start rest : List ℕ) → bytes_eq (take (length start) (start ++ rest)) start ≡ true
 begins_at start rest = rw take-append_seam ((bytes_eq-Decides start start).1 refl)
 
-begins : (start word : List ℕ) (rest : List ℕ) → word ≡ start ++ rest → behind start word ≡ Some (drop (length start) word)
+begins : (start word : List ℕ) (rest : List ℕ) → word ≡ start ++ rest → after_prefix start word ≡ Some (drop (length start) word)
 begins start word rest e =
     let same : bytes_eq (take (length start) word) start ≡ true = rw e (begins_at start rest) in
     rw same refl
 
-begins_not : (start word : List ℕ) → ((rest : List ℕ) → word ≢ start ++ rest) → behind start word ≡ None
+begins_not : (start word : List ℕ) → ((rest : List ℕ) → word ≢ start ++ rest) → after_prefix start word ≡ None
 begins_not start word h =
     let other : bytes_eq (take (length start) word) start ≡ false =
     false_from_ne_true _ (λ e. h (drop (length start) word) (sym (take-append-drop (length start) word) ∙ ap (λ front. front ++ drop (length start) word) ((bytes_eq-Decides _ start).0 e))) in
     rw other refl
 
-pub behind_is : (start word : List ℕ) (r : Option (Bor (List ℕ))) → MatchOption r (FindsTextPrefix start word None) (λ x. StripsPrefix (FindsTextPrefix start) word x.now) → option_map (λ rest. rest.now) r ≡ behind start word
+pub behind_is : (start word : List ℕ) (r : Option (Bor (List ℕ))) → MatchOption r (FindsTextPrefix start word None) (λ x. StripsPrefix (FindsTextPrefix start) word x.now) → option_map (λ rest. rest.now) r ≡ after_prefix start word
 behind_is start word None h = sym (begins_not start word (λ rest e. h rest e))
 behind_is start word (Some x) (n, found, rest, fits) = ap (λ k. Some k) rest ∙ ap (λ k. Some (drop k word)) found.0 ∙ sym (begins start word (drop n word) found.1)
 

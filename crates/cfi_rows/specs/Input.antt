@@ -14,8 +14,8 @@ is_space c = c == 32 || (c == 9 || (c == 13 || c == 10))
 abbrev pub is_line_feed : ℕ → Bool
 is_line_feed c = c == 10
 
-abbrev pub decoded : List ℕ → Result (List ℕ) FromHexError
-decoded input = decode_of (filter (λ c. not (is_space c)) input)
+abbrev pub decoded_bytes : List ℕ → Result (List ℕ) FromHexError
+decoded_bytes input = decode_of (filter (λ c. not (is_space c)) input)
 
 pub record Bytes : Type 0 where
   pub section : List ℕ
@@ -28,8 +28,8 @@ with_header (Err e) header = None
 
 -- none where the input is no hexadecimal
 abbrev pub bytes_by : Option ℕ → List ℕ → Option Bytes
-bytes_by None input = with_header (decoded input) (Ok [])
-bytes_by (Some base) input = with_header (decoded (before_first is_line_feed input)) (decoded (after_first is_line_feed input))
+bytes_by None input = with_header (decoded_bytes input) (Ok [])
+bytes_by (Some base) input = with_header (decoded_bytes (before_first is_line_feed input)) (decoded_bytes (after_first is_line_feed input))
 
 -- what comes of the input, for the bytes that it means; want of memory and a failed read are no fault of its bytes
 abbrev pub IsReading : Option Bytes → Result Bytes InputError → Type 0

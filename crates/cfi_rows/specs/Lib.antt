@@ -1,5 +1,5 @@
-pub mod Words
+pub mod CommandLine
 pub mod Input
 pub mod Lines
 pub mod Written
-pub mod Answers
+pub mod ProgramOutput

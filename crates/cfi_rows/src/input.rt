@@ -4,7 +4,7 @@ ghost use Rattle.std.specs.Io.KnownBytes.{Consumes, IsAtEnd};
 ghost use Rattle.hex.specs.declared.error.FromHexError.TheVariants.{OutOfMemory};
 ghost use Rattle.std.specs.List.{All, before_first, after_first};
 ghost use Rattle.cfi_read_core.specs.Readers.{map_ok};
-ghost use Rattle.cfi_rows.specs.Input.{is_space, is_line_feed, decoded, bytes_of, IsDecoded};
+ghost use Rattle.cfi_rows.specs.Input.{is_space, is_line_feed, decoded_bytes, bytes_of, IsDecoded};
 
 use hex::FromHexError;
 use std::alloc::Global;
@@ -79,16 +79,16 @@ fn decode_lines(alloc: Global, text: Vec<u8>) -> Result<Sections, InputError>
     ensures refused { IfErr result (λ e. e ≢ InputError.Unreadable) }
 {
     let mut first_line = text;
-    let rest = split_behind_first_line(&mut first_line)?;
+    let rest = split_after_first_line(&mut first_line)?;
     let section = decode(alloc, first_line)?;
     let header = decode(alloc, rest)?;
     Ok(Sections { section, header })
 }
 
 /// Takes what stands behind the first line, with the line feed between.
-fn split_behind_first_line(text: &mut Vec<u8>) -> Result<Vec<u8>, InputError>
+fn split_after_first_line(text: &mut Vec<u8>) -> Result<Vec<u8>, InputError>
     ensures first { IfOk result (λ rest. text.new.items ≡ before_first is_line_feed text.old.items) }
-    ensures rest { IfOk result (λ rest. decoded rest.items ≡ decoded (after_first is_line_feed text.old.items)) }
+    ensures rest { IfOk result (λ rest. decoded_bytes rest.items ≡ decoded_bytes (after_first is_line_feed text.old.items)) }
     ensures refused { IfErr result (λ e. e ≡ InputError.OutOfMemory) }
 {
     let end = first_line_len(text.as_slice());
@@ -111,8 +111,8 @@ fn first_line_len(text: &[u8]) -> usize
 
 /// The bytes that hexadecimal text writes, spaces left out.
 fn decode(alloc: Global, text: Vec<u8>) -> Result<Vec<u8>, InputError>
-    ensures value { IfOk result (λ bytes. decoded text.items ≡ Ok bytes.items) }
-    ensures refused { IfErr result (λ e. (e ≡ InputError.OutOfMemory) ⊎ ((e ≡ InputError.NotHexadecimal) × IsErr (decoded text.items))) }
+    ensures value { IfOk result (λ bytes. decoded_bytes text.items ≡ Ok bytes.items) }
+    ensures refused { IfErr result (λ e. (e ≡ InputError.OutOfMemory) ⊎ ((e ≡ InputError.NotHexadecimal) × IsErr (decoded_bytes text.items))) }
 {
     let mut digits = text;
     digits.retain(|byte| !is_space_byte(*byte));

@@ -6,9 +6,9 @@
 #![tactic(auto)]
 
 ghost use Rattle.std.specs.Prelude.{◌≡◌, IfOk, map, string_bytes};
-ghost use Rattle.cfi_rows.specs.Words.{texts};
+ghost use Rattle.cfi_rows.specs.CommandLine.{texts};
 
-mod answer;
+mod row_lookup;
 mod input;
 mod line;
 mod run;
@@ -23,7 +23,7 @@ use std::rt::Env;
 use std::{env, io};
 
 fn main(rt: HostRuntime) -> ExitCode {
-    let Ok(words) = words_behind_name(&rt) else {
+    let Ok(words) = words_after_name(&rt) else {
         return run_for(&rt, None);
     };
     match texts_of(rt.alloc(), words.as_slice()) {
@@ -37,7 +37,7 @@ fn run_for(rt: &HostRuntime, words: Option<&[&str]>) -> ExitCode {
     ExitCode::from(status)
 }
 
-fn words_behind_name(rt: &(impl Env + AllocGlobal)) -> io::Result<Vec<String>> {
+fn words_after_name(rt: &(impl Env + AllocGlobal)) -> io::Result<Vec<String>> {
     let words = env::args(rt)?.skip(1).collect(rt.alloc())?;
     Ok(words)
 }

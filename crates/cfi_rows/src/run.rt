@@ -1,14 +1,14 @@
 //! The whole program, over any reader and writer.
 ghost use Rattle.std.specs.Prelude.{◌≡◌, ◌⊎◌, ◌≤◌, ℕ, List, IfSome, IsNone, None, option_map};
 ghost use Rattle.std.specs.Io.KnownBytes.{Appends};
-ghost use Rattle.cfi_rows.specs.Answers.{answers, IsRun, IsOwed, LineOfRequest};
+ghost use Rattle.cfi_rows.specs.ProgramOutput.{answers, IsRun, IsOwed, LineOfRequest};
 ghost use Rattle.cfi_rows.specs.Lines.{Line};
-ghost use Rattle.cfi_rows.specs.Words.{CanBeAnswered, asked, texts};
+ghost use Rattle.cfi_rows.specs.CommandLine.{CanBeAnswered, request_of_words, texts};
 ghost use Rattle.cfi_rows.specs.Written.{Prints};
 ghost use Rattle.cfi_read_core.specs.Readers.{map_ok};
 ghost use Rattle.cfi_rows.specs.Input.{IsDecoded, bytes_of};
 
-use crate::answer::print_answer;
+use crate::row_lookup::print_answer;
 use crate::input::{InputError, Sections, decode_sections, read_all};
 use crate::line::{write_refusal, write_wrong_hexadecimal, write_wrong_input, write_wrong_words};
 use crate::words::{Request, asked_for};
@@ -34,7 +34,7 @@ pub fn run<R: Read, W: Write>(
     ensures printed { IfSome (R.remaining input.old) (λ bytes. (written : List ℕ)
         × Appends (W.contents output.old) (W.contents output.new) written
         × IsRun answers (option_map (λ list. texts list.now) words.entry) bytes written result) }
-    ensures unread { IsNone (asked (option_map (λ list. texts list.now) words.entry)) → input.new ≡ input.old }
+    ensures unread { IsNone (request_of_words (option_map (λ list. texts list.now) words.entry)) → input.new ≡ input.old }
 {
     let printed = print_line(alloc, asked_for(words), input, output);
     let flushed = output.flush();

@@ -2,7 +2,7 @@
 ghost use Rattle.std.specs.Prelude.{◌≡◌, option_map};
 ghost use Rattle.std.specs.Char.{is_ascii_digit, is_ascii_hexdigit};
 ghost use Rattle.std.specs.List.{list_all};
-ghost use Rattle.cfi_rows.specs.Words.{texts, request_of, asked, option_word, number, hexadecimal_number, decimal_number, kind_of, order_of, size_of, first_words, option_words, once_given, behind, set_vendor, set_storage, set_section, set_text, set_data_base, set_header};
+ghost use Rattle.cfi_rows.specs.CommandLine.{texts, request_of, request_of_words, option_word, number, hexadecimal_number, decimal_number, kind_of, order_of, size_of, first_words, option_words, once_given, after_prefix, set_vendor, set_storage, set_section, set_text, set_data_base, set_header};
 
 use cfi_read_core::{RunTimeEndian, Vendor};
 
@@ -138,16 +138,16 @@ fn with_option(request: Request, word: &str) -> Option<Request>
     if word == "store=vec" {
         return with_storage(request);
     }
-    if let Some(digits) = behind(word, "section=") {
+    if let Some(digits) = after_prefix(word, "section=") {
         return with_section(request, digits);
     }
-    if let Some(digits) = behind(word, "text=") {
+    if let Some(digits) = after_prefix(word, "text=") {
         return with_text(request, digits);
     }
-    if let Some(digits) = behind(word, "data=") {
+    if let Some(digits) = after_prefix(word, "data=") {
         return with_data_base(request, digits);
     }
-    if let Some(digits) = behind(word, "header=") {
+    if let Some(digits) = after_prefix(word, "header=") {
         return with_header(request, digits);
     }
     None
@@ -233,8 +233,8 @@ fn once(before: Option<u64>, digits: &str) -> Option<u64>
 }
 
 /// What stands behind `start` in a word that begins with it.
-fn behind<'w>(word: &'w str, start: &str) -> Option<&'w str>
-    ensures { option_map (λ rest. rest.now) result ≡ behind start.now word.now }
+fn after_prefix<'w>(word: &'w str, start: &str) -> Option<&'w str>
+    ensures { option_map (λ rest. rest.now) result ≡ after_prefix start.now word.now }
 {
     word.strip_prefix(start)
 }
@@ -244,7 +244,7 @@ fn behind<'w>(word: &'w str, start: &str) -> Option<&'w str>
 fn number_in(word: &str) -> Option<u64>
     ensures { result ≡ number word.now }
 {
-    match behind(word, "0x") {
+    match after_prefix(word, "0x") {
         Some(digits) => hexadecimal(digits),
         None => decimal(word),
     }
@@ -282,7 +282,7 @@ fn all_decimal(digits: &[u8]) -> bool
 
 /// What the words ask for. `None` stands for words that are not to be had, and for wrong ones.
 pub fn asked_for(words: Option<&[&str]>) -> Option<Request>
-    ensures { result ≡ asked (option_map (λ list. texts list.now) words.entry) }
+    ensures { result ≡ request_of_words (option_map (λ list. texts list.now) words.entry) }
 {
     parse(words?)
 }

@@ -9,12 +9,12 @@ use Rattle.cfi_read_core.specs.declared.error.Error.TheVariants.{CfiInstructionI
 use Rattle.cfi_parts.specs.declared.instruction.CallFrameInstruction.{CallFrameInstruction}
 use Rattle.cfi_parts.specs.declared.instruction.CallFrameInstruction.TheVariants as instruction
 use Rattle.cfi_state.specs.declared.table.rules.RegisterRule.{RegisterRule}
-use Rattle.cfi_state.specs.Operands.{Setting, is_at_limit}
+use Rattle.cfi_state.specs.ProgramSettings.{Setting, is_at_limit}
 use Rattle.cfi_state.specs.Machine.{Parts, State, rows_held, end_of_cie}
 use Rattle.cfi_state.specs.Brackets.{survivors, before_open}
-use Rattle.cfi_state.specs.Writers.{last_written, written_rule, writes_rule, toggled, toggles_left, rule_left, rules_left, parts_left}
+use Rattle.cfi_state.specs.Writers.{last_written, written_rule, writes_rule, rule_after_toggles, final_toggles, final_rule, final_rules, final_parts}
 use Rattle.cfi_state.specs.Program.{Program, in_cie, in_fde, followed_by, no_rule, parts_of, rule_count, is_stack_full, refusal, refusal_at_end, IsAccepted, nothing, one_more, cie_ended}
-use Rattle.cfi_state.specs.Rows.{or_refused, state_of}
+use Rattle.cfi_state.specs.Rows.{or_refused, program_state}
 use Rattle.cfi_state.proofs.BracketCounts.{closings}
 use Rattle.cfi_state.proofs.BracketEnds.{is_gone, left, stays_open, fronts, map_twice}
 use Rattle.cfi_state.proofs.BracketPlaces.{survivors-left, before_open-fronts}
@@ -48,17 +48,17 @@ module _ {T : Type 0} where
       let parts = and_parts (is_no_rule_restore y) (list_all is_no_rule_restore ys) all in
       λ k. option_or (same_last s initial ys r parts.1 k) (cond (writes_rule r y) (Some (same_written s initial y parts.0 k)) None)
 
-  same_rule : (s : Setting) (initial : ℕ → Option (RegisterRule T)) (ys : List (CallFrameInstruction T)) (r : ℕ) → list_all is_no_rule_restore ys ≡ true → rule_left s initial ys r ≡ rule_left s no_rule ys r
-  same_rule s initial ys r all = ap (λ o. toggled (toggles_left ys r) (option_flatten o)) (same_last s initial ys r all)
+  same_rule : (s : Setting) (initial : ℕ → Option (RegisterRule T)) (ys : List (CallFrameInstruction T)) (r : ℕ) → list_all is_no_rule_restore ys ≡ true → final_rule s initial ys r ≡ final_rule s no_rule ys r
+  same_rule s initial ys r all = ap (λ o. rule_after_toggles (final_toggles ys r) (option_flatten o)) (same_last s initial ys r all)
 
-  same_parts_left : (s : Setting) (initial : ℕ → Option (RegisterRule T)) (ys : List (CallFrameInstruction T)) → list_all is_no_rule_restore ys ≡ true → parts_left s initial ys ≡ parts_left s no_rule ys
-  same_parts_left s initial ys all = same_parts _ _ refl (is_rules_left s no_rule ys (rules_left s initial ys) (λ q. get-rules_left s initial ys q ∙ same_rule s initial ys q all)) refl
+  same_parts_left : (s : Setting) (initial : ℕ → Option (RegisterRule T)) (ys : List (CallFrameInstruction T)) → list_all is_no_rule_restore ys ≡ true → final_parts s initial ys ≡ final_parts s no_rule ys
+  same_parts_left s initial ys all = same_parts _ _ refl (is_rules_left s no_rule ys (final_rules s initial ys) (λ q. get-rules_left s initial ys q ∙ same_rule s initial ys q all)) refl
 
   left_all : (p : CallFrameInstruction T → Bool) (xs : List (CallFrameInstruction T)) → list_all p xs ≡ true → list_all p (left xs) ≡ true
   left_all p [] all = refl
   left_all p (x ∷ xs) all = let parts = and_parts (p x) (list_all p xs) all in all_kept p (is_gone x (closings xs)) x (left xs) parts.0 (left_all p xs parts.1)
 
-  same_survivors : (s : Setting) (initial : ℕ → Option (RegisterRule T)) (xs : List (CallFrameInstruction T)) → closings xs ≡ 0 → list_all is_no_rule_restore xs ≡ true → parts_left s initial (survivors xs) ≡ parts_left s no_rule (survivors xs)
+  same_survivors : (s : Setting) (initial : ℕ → Option (RegisterRule T)) (xs : List (CallFrameInstruction T)) → closings xs ≡ 0 → list_all is_no_rule_restore xs ≡ true → final_parts s initial (survivors xs) ≡ final_parts s no_rule (survivors xs)
   same_survivors s initial xs closed all = same_parts_left s initial (survivors xs) (ap (list_all is_no_rule_restore) (survivors-left xs closed) ∙ left_all is_no_rule_restore xs all)
 
   -- ---- the same of each list before an open remember_state
@@ -102,25 +102,25 @@ module _ {T : Type 0} where
   -- ---- the law
 
   state_at_end : (s : Setting) (cie : List (CallFrameInstruction T)) → IsAccepted s (in_cie cie) →
-      state_of s (in_fde cie []) ≡ record (state_of s (in_cie cie)) { location = s.initial_address; initial_rules = Some (parts_of s (in_cie cie)).rules }
+      program_state s (in_fde cie []) ≡ record (program_state s (in_cie cie)) { location = s.initial_address; initial_rules = Some (parts_of s (in_cie cie)).rules }
   state_at_end s cie a =
       let closed = accepted_closings s (in_cie cie) a in
       let all = cie_no_restore s (in_cie cie) a in
-      let initial : ℕ → Option (RegisterRule T) = rule_left s no_rule (survivors cie) in
-      let parts_before : (ℕ → Option (RegisterRule T)) → List (CallFrameInstruction T) → Parts T = λ rules before. parts_left s rules (survivors before) in
+      let initial : ℕ → Option (RegisterRule T) = final_rule s no_rule (survivors cie) in
+      let parts_before : (ℕ → Option (RegisterRule T)) → List (CallFrameInstruction T) → Parts T = λ rules before. final_parts s rules (survivors before) in
       let parts : parts_before initial (cie ++ []) ≡ parts_before no_rule cie = ap (parts_before initial) (append-nil cie) ∙ same_survivors s initial cie closed all in
       let remembered : map (parts_before initial) (before_open (cie ++ [])) ≡ map (parts_before no_rule) (before_open cie) =
       ap (λ l. map (parts_before initial) (before_open l)) (append-nil cie)
       ∙ ap (map (parts_before initial)) (before_open-fronts cie)
       ∙ map-fronts is_no_rule_restore (parts_before initial) (parts_before no_rule) cie all (λ b h each. same_survivors s initial b (omega (arith, h, closed)) each)
       ∙ ap (map (parts_before no_rule)) (sym (before_open-fronts cie)) in
-      λ k. state s.initial_address (parts k) (remembered k) (Some (rules_left s no_rule (survivors cie)))
+      λ k. state s.initial_address (parts k) (remembered k) (Some (final_rules s no_rule (survivors cie)))
 
-  pub end_law : (s : Setting) (cie : List (CallFrameInstruction T)) → IsAccepted s (in_cie cie) → end_of_cie s (state_of s (in_cie cie)) ≡ or_refused (refusal_at_end s cie) (state_of s (in_fde cie []))
+  pub end_law : (s : Setting) (cie : List (CallFrameInstruction T)) → IsAccepted s (in_cie cie) → end_of_cie s (program_state s (in_cie cie)) ≡ or_refused (refusal_at_end s cie) (program_state s (in_fde cie []))
   end_law s cie a =
       let full : Bool = leb 2 (rule_count s (in_cie cie)) && is_stack_full s (in_cie cie) in
-      let next : State T = record (state_of s (in_cie cie)) { location = s.initial_address; initial_rules = Some (parts_of s (in_cie cie)).rules } in
-      let is_full : (leb 2 (map.len (parts_of s (in_cie cie)).rules) && is_at_limit s.stack_limit (rows_held (state_of s (in_cie cie)))) ≡ full = λ k. leb 2 (len-rules_left s no_rule (survivors cie) k) && is_full_is s (in_cie cie) k in
+      let next : State T = record (program_state s (in_cie cie)) { location = s.initial_address; initial_rules = Some (parts_of s (in_cie cie)).rules } in
+      let is_full : (leb 2 (map.len (parts_of s (in_cie cie)).rules) && is_at_limit s.stack_limit (rows_held (program_state s (in_cie cie)))) ≡ full = λ k. leb 2 (len-rules_left s no_rule (survivors cie) k) && is_full_is s (in_cie cie) k in
       ap (λ b. cond b (Err StackFull) (Ok next)) is_full
       ∙ ap (λ x. cond full (Err StackFull) (Ok x)) (sym (state_at_end s cie a))
-      ∙ sym (or-refused_if full StackFull (state_of s (in_fde cie [])))
+      ∙ sym (or-refused_if full StackFull (program_state s (in_fde cie [])))

@@ -13,10 +13,10 @@ use Rattle.cfi_read_core.specs.declared.error.Error.{Error}
 use Rattle.cfi_read_core.specs.declared.error.Error.TheVariants.{PopWithEmptyStack}
 use Rattle.cfi_state.specs.Outcome.{Performs}
 use Rattle.cfi_state.specs.Limit.{HasRoomFor}
-use Rattle.cfi_state.specs.Operands.{is_at_limit}
+use Rattle.cfi_state.specs.ProgramSettings.{is_at_limit}
 use Rattle.cfi_state.specs.Machine.{Rules, copies_held}
 use Rattle.cfi_state.specs.Row.{Row, with_parts}
-use Rattle.cfi_state.specs.Context.{ContextState, shown_rows, initial_of, context_of, IsKept, IsContext, rows_held, KeepsRules, restore, restored, end_of_cie}
+use Rattle.cfi_state.specs.Context.{ContextState, shown_rows, initial_of, context_of, IsKept, IsContext, context_rows_held, KeepsRules, context_restore, context_restore_from, context_end_of_cie}
 
 pub copies_held-none : (T : Type 0) → 0 ≡ copies_held {T = T} (Some empty)
 copies_held-none T = rw (len-empty nat_cmp (RegisterRule T)) refl
@@ -43,13 +43,13 @@ module _ {T : Type 0} where
   hidden_and_shown (row ∷ rows) AtTheBottom is = let two = is.1 in grind (arith, nat_tests)
 
   pub rows_held-state : (row : Row T) (rows : List (Row T)) (kept : InitialRules T) → IsKept rows kept
-      → rows_held (context_of row rows kept) ≡ length rows + 1
+      → context_rows_held (context_of row rows kept) ≡ length rows + 1
   rows_held-state row rows kept is =
       omega (arith, hidden_and_shown rows kept is, length-reverse (shown_rows rows kept))
 
   pub is_at_limit-state : (limit : Option ℕ) (most : ℕ) (row : Row T) (rows : List (Row T)) (kept : InitialRules T)
       → limit ≡ Some most → IsContext limit rows kept
-      → eqb (length rows) (most - 1) ≡ is_at_limit limit (rows_held (context_of row rows kept))
+      → eqb (length rows) (most - 1) ≡ is_at_limit limit (context_rows_held (context_of row rows kept))
   is_at_limit-state None most row rows kept is context = cc
   is_at_limit-state (Some other) most row rows kept is context =
       let same : other ≡ most = cc in
@@ -84,7 +84,7 @@ module _ {T : Type 0} where
       ap reverse (shown-push rows kept last is) ∙ reverse-append (shown_rows rows kept) (last ∷ [])
 
   abbrev pub Restores : ContextState T → ContextState T → Result (Unit {0}) Error → Type 0
-  Restores old new result = Performs ⊥ (restore old) old new result
+  Restores old new result = Performs ⊥ (context_restore old) old new result
 
   pub state-push : (row : Row T) (rows : List (Row T)) (kept : InitialRules T) (last : Row T) → IsKept rows kept
       → context_of row (rows ++ last ∷ []) kept ≡ record (context_of row rows kept) { remembered = last ∷ (context_of row rows kept).remembered }
@@ -119,7 +119,7 @@ module _ {T : Type 0} where
       let none : state.remembered ≡ [] =
       ap (λ (s : ContextState T). s.remembered) (sym shows)
       ∙ remembered-none rows kept is (count ∙ ap (λ (s : ContextState T). copies_held s.initial_rules) (sym shows)) in
-      subst (λ remembered. Performs {B = Unit {0}} ⊥ (restored state remembered) state state (Err PopWithEmptyStack)) (sym none) (refl, refl)
+      subst (λ remembered. Performs {B = Unit {0}} ⊥ (context_restore_from state remembered) state state (Err PopWithEmptyStack)) (sym none) (refl, refl)
 
   pub restores-last : (row after : Row T) (held rows : List (Row T)) (kept : InitialRules T) (last : Row T) (state : ContextState T)
       → context_of row held kept ≡ state → after ≡ with_parts row last.parts → held ≡ rows ++ last ∷ [] → IsKept held kept
@@ -168,31 +168,31 @@ module _ {T : Type 0} where
   shown_all held (OneRule register rule) other = refl
   shown_all held AtTheBottom other = absurd (other refl)
 
-  pub saves-apart : (wants_memory : Type 0) (limit : Option ℕ) (row : Row T) (held : List (Row T)) (old kept : InitialRules T) (state : ContextState T)
+  pub saves-apart : (may_allocate : Type 0) (limit : Option ℕ) (row : Row T) (held : List (Row T)) (old kept : InitialRules T) (state : ContextState T)
       → context_of row held old ≡ state → state.initial_rules ≡ None → KeepsRules row.parts.rules kept → ¬ (kept ≡ AtTheBottom)
-      → Performs wants_memory (end_of_cie limit state) state (context_of row held kept) (Ok (tt {0}))
-  saves-apart wants_memory limit row held old kept state shows first keeps_row other =
+      → Performs may_allocate (context_end_of_cie limit state) state (context_of row held kept) (Ok (tt {0}))
+  saves-apart may_allocate limit row held old kept state shows first keeps_row other =
       let keeps : KeepsRules state.row.parts.rules kept = subst (λ (s : ContextState T). KeepsRules s.row.parts.rules kept) shows keeps_row in
       let started : old ≡ NotYet = not_yet held old (ap (λ (s : ContextState T). s.initial_rules) shows ∙ first) in
       let rules = state.row.parts.rules in
       let remembered : reverse (shown_rows held kept) ≡ state.remembered =
       ap reverse (shown_all held kept other) ∙ ap (λ k. reverse (shown_rows held k)) (sym started) ∙ ap (λ (s : ContextState T). s.remembered) shows in
-      let expected : end_of_cie limit state ≡ Ok (record state { initial_rules = Some rules }) = rw (few kept rules keeps other) refl in
-      subst (λ r. Performs wants_memory r state (context_of row held kept) (Ok (tt {0}))) (sym expected)
+      let expected : context_end_of_cie limit state ≡ Ok (record state { initial_rules = Some rules }) = rw (few kept rules keeps other) refl in
+      subst (λ r. Performs may_allocate r state (context_of row held kept) (Ok (tt {0}))) (sym expected)
       (λ i. record { row = (shows i).row; remembered = remembered i; initial_rules = initial_kept held kept rules keeps other i })
 
   -- ---- room for one more row
   room-more : (limit : Option ℕ) (row : Row T) (held : List (Row T)) (kept : InitialRules T) (state : ContextState T) → context_of row held kept ≡ state
-      → IsContext limit held kept → is_at_limit limit (rows_held state) ≡ false → HasRoomFor limit (length held + 1 + 1)
+      → IsContext limit held kept → is_at_limit limit (context_rows_held state) ≡ false → HasRoomFor limit (length held + 1 + 1)
   room-more None row held kept state shows context below = tt
   room-more (Some most) row held kept state shows context below =
-      let count : rows_held state ≡ length held + 1 = ap rows_held (sym shows) ∙ rows_held-state row held kept context.1 in
-      let other : (rows_held state == most) ≡ false = below in
+      let count : context_rows_held state ≡ length held + 1 = ap context_rows_held (sym shows) ∙ rows_held-state row held kept context.1 in
+      let other : (context_rows_held state == most) ≡ false = below in
       let room = context.0 in
       grind (arith, nat_tests)
 
   pub context-push : (limit : Option ℕ) (row : Row T) (held rows : List (Row T)) (kept : InitialRules T) (last : Row T) (state : ContextState T)
-      → context_of row held kept ≡ state → rows ≡ held ++ last ∷ [] → IsContext limit held kept → is_at_limit limit (rows_held state) ≡ false
+      → context_of row held kept ≡ state → rows ≡ held ++ last ∷ [] → IsContext limit held kept → is_at_limit limit (context_rows_held state) ≡ false
       → IsContext limit rows kept
   context-push limit row held rows kept last state shows pushed context below =
       let room = room-more limit row held kept state shows context below in

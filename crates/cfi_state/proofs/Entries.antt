@@ -52,14 +52,14 @@ module _ {K X : Type 0} {R : K → K → Ordering} (o : IsTotalOrder R) (same : 
   pub find_at : (es : List (K × X)) (i : ℕ) (k : K) (v : X) → HasDistinctKeys es → slice_get es i ≡ Some (k, v) → find R k es ≡ Some v
   find_at es i k v distinct at = find-lookup k es ∙ lookup_from_place (eq_by_cmp_equiv o) es i k v distinct at
 
-  place_of : (es : List (K × X)) (q : K) (v : X) → find R q es ≡ Some v → (i : ℕ) × (slice_get es i ≡ Some (q, v))
-  place_of es q v found =
+  index_of : (es : List (K × X)) (q : K) (v : X) → find R q es ≡ Some v → (i : ℕ) × (slice_get es i ≡ Some (q, v))
+  index_of es q v found =
       let place = place_from_lookup (eq_by_cmp R q) es v (sym (find-lookup q es) ∙ found) in
       (place.0, place.2 ∙ ap (λ k. Some (k, v)) (sym (same q place.1 ((Equal-is _).0 place.3))))
 
   contains_found : (es : List (K × X)) (q : K) (v : X) → find R q es ≡ Some v → Contains es (q, v)
   contains_found es q v found =
-      let place = place_of es q v found in
+      let place = index_of es q v found in
       (place.0, slice_get_within es place.0 (q, v) place.1, get_or_from_slice_get es place.0 (q, v) (q, v) place.1)
 
   found_in : (es : List (K × X)) (q : K) (v : X) → HasDistinctKeys es → Contains es (q, v) → find R q es ≡ Some v

@@ -10,7 +10,7 @@ use Rattle.std.specs.FinMap.{nat_cmp-IsAntisymmetric, get, keys}
 use Rattle.cfi_read_core.specs.declared.common.Register.{Register}
 use Rattle.cfi_state.specs.declared.table.rules.RegisterRule.{RegisterRule}
 use Rattle.cfi_state.specs.Machine.{Rules}
-use Rattle.cfi_state.specs.Rules.{numbered, rules_of, IsDistinctRegisters}
+use Rattle.cfi_state.specs.Rules.{numbered_pair, rules_of, IsDistinctRegisters}
 use Rattle.cfi_state.specs.Equality.{is_within, rule_eq}
 use Rattle.cfi_state.proofs.Entries.{all-from_entries}
 use Rattle.cfi_state.proofs.Registers.{get-found}
@@ -22,9 +22,9 @@ module _ {T : Type 0} (eq : T → T → Bool) (pairs others : List (Register × 
 
   pub all-agree : IsDistinctRegisters pairs → list_all agrees pairs ≡ is_within (rule_eq eq) (rules_of pairs) (rules_of others)
   all-agree distinct =
-      sym (list_all-map (λ (e : ℕ × RegisterRule T). option_eq (rule_eq eq) (get (rules_of pairs) e.0) (get (rules_of others) e.0)) numbered pairs)
-      ∙ sym (list_all-map (λ (r : ℕ). option_eq (rule_eq eq) (get (rules_of pairs) r) (get (rules_of others) r)) (λ (e : ℕ × RegisterRule T). e.0) (map numbered pairs))
-      ∙ sym (all-from_entries nat_cmp_total nat_cmp-IsAntisymmetric (λ r. option_eq (rule_eq eq) (get (rules_of pairs) r) (get (rules_of others) r)) (map numbered pairs) distinct)
+      sym (list_all-map (λ (e : ℕ × RegisterRule T). option_eq (rule_eq eq) (get (rules_of pairs) e.0) (get (rules_of others) e.0)) numbered_pair pairs)
+      ∙ sym (list_all-map (λ (r : ℕ). option_eq (rule_eq eq) (get (rules_of pairs) r) (get (rules_of others) r)) (λ (e : ℕ × RegisterRule T). e.0) (map numbered_pair pairs))
+      ∙ sym (all-from_entries nat_cmp_total nat_cmp-IsAntisymmetric (λ r. option_eq (rule_eq eq) (get (rules_of pairs) r) (get (rules_of others) r)) (map numbered_pair pairs) distinct)
 
   module _ (distinct : IsDistinctRegisters pairs) (i : ℕ) (pair : Register × RegisterRule T) (within : i < length pairs) (is : pair ≡ get_or pairs i pair) where
     agrees-by : (found : Option (RegisterRule T)) → found ≡ get (rules_of others) pair.0.0 → agrees pair ≡ option_eq (rule_eq eq) (Some pair.1) found

@@ -11,16 +11,16 @@ use Rattle.cfi_state.specs.declared.table.rules.RegisterRule.{RegisterRule}
 use Rattle.cfi_state.specs.declared.table.rules.RegisterRule.TheVariants as rule
 use Rattle.cfi_state.specs.declared.table.machine.Parameters.{Parameters}
 use Rattle.cfi_state.specs.Outcome.{Performs, result_map}
-use Rattle.cfi_state.specs.Operands.{Setting, is_at_limit, factored, unsigned_factored}
+use Rattle.cfi_state.specs.ProgramSettings.{Setting, is_at_limit, times_factor, unsigned_times_factor}
 use Rattle.cfi_state.specs.Machine.{Rules, State, step}
 use Rattle.cfi_state.specs.Machine as machine
-use Rattle.cfi_state.specs.Rules.{set_rule, AddsRule}
-use Rattle.cfi_state.specs.Row.{with_rules}
-use Rattle.cfi_state.specs.Context.{ContextState, state_of, with_row}
-use Rattle.cfi_state.specs.Memory.{adds_rule, wants_at}
-use Rattle.cfi_state.specs.Groups.{rule_given}
+use Rattle.cfi_state.specs.Rules.{map_set_rule, AddsRule}
+use Rattle.cfi_state.specs.Row.{row_with_rules}
+use Rattle.cfi_state.specs.Context.{ContextState, machine_state, with_row}
+use Rattle.cfi_state.specs.Memory.{adds_rule, may_allocate_at}
+use Rattle.cfi_state.specs.ActionEffects.{rule_given}
 use Rattle.cfi_state.specs.Outcome.{IsRefusal}
-use Rattle.cfi_state.specs.Evaluation.{setting_of, Changes, remembered_after}
+use Rattle.cfi_state.specs.ContextEffects.{setting_of, Changes, remembered_after}
 
 adds : {T : Type 0} (limit : Option ℕ) (m : Rules T) (register : ℕ) → AddsRule limit m register
     → IsTrue (not (is_some limit) && not (contains_key m register))
@@ -32,62 +32,62 @@ module _ {T : Type 0} (p : Parameters) (rule_limit stack_limit : Option ℕ) (co
   abbrev pub IsSet : Register → RegisterRule T → Result (Unit {0}) Error → Type 0
   IsSet register rule result =
       Performs (AddsRule rule_limit old.row.parts.rules register.0)
-      (result_map (λ rules. with_row old (with_rules old.row rules)) (set_rule rule_limit old.row.parts.rules register.0 rule)) old new result
+      (result_map (λ rules. with_row old (row_with_rules old.row rules)) (map_set_rule rule_limit old.row.parts.rules register.0 rule)) old new result
 
   -- the same by the machine
   abbrev Sets : Register → Result (State T) Error → Result (Unit {0}) Error → Type 0
   Sets register expected (Ok _) =
-      (expected ≡ Ok (state_of location new)) × ((new.row.start_address ≡ old.row.start_address) × ((new.row.end_address ≡ old.row.end_address)
+      (expected ≡ Ok (machine_state location new)) × ((new.row.start_address ≡ old.row.start_address) × ((new.row.end_address ≡ old.row.end_address)
       × ((new.remembered ≡ old.remembered) × (new.initial_rules ≡ old.initial_rules))))
   Sets register expected (Err error) =
-      (new ≡ old) × IsRefusal (adds_rule (setting_of p rule_limit stack_limit) (state_of location old) register.0) expected error
+      (new ≡ old) × IsRefusal (adds_rule (setting_of p rule_limit stack_limit) (machine_state location old) register.0) expected error
 
   by_test : (register : Register) (rules : Rules T) (test : Bool) (result : Result (Unit {0}) Error)
       → Performs (AddsRule rule_limit old.row.parts.rules register.0)
-      (result_map (λ rules. with_row old (with_rules old.row rules)) (cond test (Err TooManyRegisterRules) (Ok rules))) old new result
-      → Sets register (cond test (Err TooManyRegisterRules) (Ok (machine.with_rules (state_of location old) rules))) result
+      (result_map (λ rules. with_row old (row_with_rules old.row rules)) (cond test (Err TooManyRegisterRules) (Ok rules))) old new result
+      → Sets register (cond test (Err TooManyRegisterRules) (Ok (machine.with_rules (machine_state location old) rules))) result
   by_test register rules true (Ok _) performs = absurd performs
   by_test register rules true (Err error) performs = (performs.1, inl (ap Err (sym performs.0)))
   by_test register rules false (Ok _) performs = (
-    ap (λ x. Ok (state_of location x)) (sym performs),
+    ap (λ x. Ok (machine_state location x)) (sym performs),
     (ap (λ x. x.row.start_address) performs, (ap (λ x. x.row.end_address) performs, (ap (λ x. x.remembered) performs, ap (λ x. x.initial_rules) performs))),
   )
   by_test register rules false (Err error) performs =
       (performs.1, inr (adds rule_limit old.row.parts.rules register.0 performs.2, refl, performs.0))
 
   sets : (register : Register) (rule : RegisterRule T) (result : Result (Unit {0}) Error) → IsSet register rule result
-      → Sets register (machine.set_rule (setting_of p rule_limit stack_limit) (state_of location old) register.0 rule) result
+      → Sets register (machine.set_rule (setting_of p rule_limit stack_limit) (machine_state location old) register.0 rule) result
   sets register rule result =
       by_test register (insert old.row.parts.rules register.0 rule)
       (not (contains_key old.row.parts.rules register.0) && is_at_limit rule_limit (len old.row.parts.rules)) result
 
   of_sets : (i : CallFrameInstruction T) (register : Register) (expected : Result (State T) Error) (result : Result (Unit {0}) Error)
-      → step (setting_of p rule_limit stack_limit) (state_of location old) i ≡ expected
-      → wants_at (setting_of p rule_limit stack_limit) copies_free (state_of location old) i ≡ adds_rule (setting_of p rule_limit stack_limit) (state_of location old) register.0
+      → step (setting_of p rule_limit stack_limit) (machine_state location old) i ≡ expected
+      → may_allocate_at (setting_of p rule_limit stack_limit) copies_free (machine_state location old) i ≡ adds_rule (setting_of p rule_limit stack_limit) (machine_state location old) register.0
       → old.remembered ≡ remembered_after i old → Sets register expected result → Changes (setting_of p rule_limit stack_limit) copies_free location i old new result
-  of_sets i register expected (Ok _) is wants kept set =
+  of_sets i register expected (Ok _) is allocates kept set =
       record { accepted = is ∙ set.0; start_address = set.1.0; end_address = set.1.1.0; remembered_rows = set.1.1.1.0 ∙ kept; initial_rules = set.1.1.1.1 }
-  of_sets i register expected (Err error) is wants kept set = (
+  of_sets i register expected (Err error) is allocates kept set = (
     set.0,
-    subst (λ w. IsRefusal w (step (setting_of p rule_limit stack_limit) (state_of location old) i) error) (sym wants)
-        (subst (λ due. IsRefusal (adds_rule (setting_of p rule_limit stack_limit) (state_of location old) register.0) due error) (sym is) set.1),
+    subst (λ w. IsRefusal w (step (setting_of p rule_limit stack_limit) (machine_state location old) i) error) (sym allocates)
+        (subst (λ due. IsRefusal (adds_rule (setting_of p rule_limit stack_limit) (machine_state location old) register.0) due error) (sym is) set.1),
   )
 
   gives : (i : CallFrameInstruction T) (register : Register) (rule : RegisterRule T) (result : Result (Unit {0}) Error)
-      → step (setting_of p rule_limit stack_limit) (state_of location old) i ≡ machine.set_rule (setting_of p rule_limit stack_limit) (state_of location old) register.0 rule
-      → wants_at (setting_of p rule_limit stack_limit) copies_free (state_of location old) i ≡ adds_rule (setting_of p rule_limit stack_limit) (state_of location old) register.0
+      → step (setting_of p rule_limit stack_limit) (machine_state location old) i ≡ machine.set_rule (setting_of p rule_limit stack_limit) (machine_state location old) register.0 rule
+      → may_allocate_at (setting_of p rule_limit stack_limit) copies_free (machine_state location old) i ≡ adds_rule (setting_of p rule_limit stack_limit) (machine_state location old) register.0
       → old.remembered ≡ remembered_after i old → IsSet register rule result → Changes (setting_of p rule_limit stack_limit) copies_free location i old new result
-  gives i register rule result is wants kept set = of_sets i register _ result is wants kept (sets register rule result set)
+  gives i register rule result is allocates kept set = of_sets i register _ result is allocates kept (sets register rule result set)
 
   -- an instruction that gives a register a rule sets that rule
   pub sets-given : (i : CallFrameInstruction T) (result : Result (Unit {0}) Error)
       → IfSome (rule_given (setting_of p None None) i) (λ given. IsSet given.0 given.1 result → Changes (setting_of p rule_limit stack_limit) copies_free location i old new result)
   sets-given (instruction.Undefined r) result = gives (instruction.Undefined r) r rule.Undefined result refl refl refl
   sets-given (instruction.SameValue r) result = gives (instruction.SameValue r) r rule.SameValue result refl refl refl
-  sets-given (instruction.Offset r n) result = gives (instruction.Offset r n) r (rule.Offset (unsigned_factored (setting_of p None None) n)) result refl refl refl
-  sets-given (instruction.OffsetExtendedSf r n) result = gives (instruction.OffsetExtendedSf r n) r (rule.Offset (factored (setting_of p None None) n)) result refl refl refl
-  sets-given (instruction.ValOffset r n) result = gives (instruction.ValOffset r n) r (rule.ValOffset (unsigned_factored (setting_of p None None) n)) result refl refl refl
-  sets-given (instruction.ValOffsetSf r n) result = gives (instruction.ValOffsetSf r n) r (rule.ValOffset (factored (setting_of p None None) n)) result refl refl refl
+  sets-given (instruction.Offset r n) result = gives (instruction.Offset r n) r (rule.Offset (unsigned_times_factor (setting_of p None None) n)) result refl refl refl
+  sets-given (instruction.OffsetExtendedSf r n) result = gives (instruction.OffsetExtendedSf r n) r (rule.Offset (times_factor (setting_of p None None) n)) result refl refl refl
+  sets-given (instruction.ValOffset r n) result = gives (instruction.ValOffset r n) r (rule.ValOffset (unsigned_times_factor (setting_of p None None) n)) result refl refl refl
+  sets-given (instruction.ValOffsetSf r n) result = gives (instruction.ValOffsetSf r n) r (rule.ValOffset (times_factor (setting_of p None None) n)) result refl refl refl
   sets-given (instruction.Register r source) result = gives (instruction.Register r source) r (rule.Register source) result refl refl refl
   sets-given (instruction.Expression r e) result = gives (instruction.Expression r e) r (rule.Expression e) result refl refl refl
   sets-given (instruction.ValExpression r e) result = gives (instruction.ValExpression r e) r (rule.ValExpression e) result refl refl refl

@@ -11,17 +11,17 @@ use Rattle.cfi_read_core.specs.declared.error.Error.{Error}
 use Rattle.cfi_read_core.specs.declared.error.Error.TheVariants.{OutOfMemory}
 use Rattle.cfi_parts.specs.declared.instruction.CallFrameInstruction.{CallFrameInstruction}
 use Rattle.cfi_state.specs.Row.{Row}
-use Rattle.cfi_state.specs.Operands.{Setting}
+use Rattle.cfi_state.specs.ProgramSettings.{Setting}
 use Rattle.cfi_state.specs.Machine.{State, fresh_state, step, end_of_cie}
-use Rattle.cfi_state.specs.Program.{Program, in_cie, in_fde, followed_by, location_of, refusal, refusal_at_end, kept}
-use Rattle.cfi_state.specs.Rows.{or_refused, on_option, row_until, answer_at, fde_answer, answers, first_refusal, cie_refusal, state_of, StandsBehind}
+use Rattle.cfi_state.specs.Program.{Program, in_cie, in_fde, followed_by, location_of, refusal, refusal_at_end, kept_program}
+use Rattle.cfi_state.specs.Rows.{or_refused, on_option, row_until, answer_at, fde_answer, answers, first_refusal, cie_refusal, program_state, IsStateAfter}
 use Rattle.cfi_state.specs.Outcome.{IsRefusal}
-use Rattle.cfi_state.specs.Places.{Place, going, ended, run_to_come, to_come, IsNext}
-use Rattle.cfi_state.specs.Runs.{Wants, AreNever, current_row, NextAnswer, passes, ends_row, refuses, cannot_read, last_row, no_row, RunsCie, cie_passes, cie_refuses, cie_cannot_read, cie_ends, cie_end_refused, FindsRow, contains_it, goes_on, is_refused, comes_to_end, AnswersFde, by_cie, by_rows}
-use Rattle.cfi_state.specs.Kept.{at_program, StandsOn, IsLeftOut, KeepsNext, keeps, keeps_move, leaves_out, finds_unreadable, gives_last_row, gives_no_row, KeepsCie, cie_keeps, cie_leaves_out, cie_finds_unreadable, cie_is_kept, cie_end_left_out, AnswersByKept, refused_by_cie, found_in_rows}
+use Rattle.cfi_state.specs.TableStates.{TableState, before_last_row, after_last_row, run_answers_to_come, answers_to_come, IsNext}
+use Rattle.cfi_state.specs.Runs.{MayAllocate, AreNever, current_row, NextAnswer, passes, ends_row, refuses, cannot_read, last_row, no_row, RunsInitialInstructions, cie_passes, cie_refuses, cie_cannot_read, cie_ends, cie_end_refused, FindsRow, contains_it, goes_on, is_refused, comes_to_end, AnswersFde, by_cie, by_rows}
+use Rattle.cfi_state.specs.Kept.{at_program, AnswersForProgram, IsLeftOut, NextKeptAnswer, keeps, keeps_move, leaves_out, finds_unreadable, gives_last_row, gives_no_row, KeepsInitialInstructions, cie_keeps, cie_leaves_out, cie_finds_unreadable, cie_is_kept, cie_end_left_out, AnswersByKept, refused_by_cie, found_in_rows}
 use Rattle.cfi_state.proofs.Law.{step_law}
 use Rattle.cfi_state.proofs.CieEnd.{end_law}
-use Rattle.cfi_state.proofs.StandsBehind.{accepted_value, refused_error, stands_next, stands_refused, stands_at_end, stands_fresh, stands_answers}
+use Rattle.cfi_state.proofs.IsStateAfter.{accepted_value, refused_error, stands_next, stands_refused, stands_at_end, stands_fresh, stands_answers}
 use Rattle.cfi_state.proofs.RunAnswers.{finds_is, fde_answer_or_memory}
 use Rattle.cfi_state.proofs.RowLaws.{answers-other, answers-move, answers-refused, fde_answer_law}
 
@@ -29,60 +29,60 @@ none_refused : {A : Type 0} (o : Option Error) (a : A) → IsOk (or_refused o a)
 none_refused None a ok = refl
 none_refused (Some e) a ok = absurd (false≢true ok)
 
-module _ {T : Type 0} (wants : Wants T) (s : Setting) where
-  left_out : (x : State T) (g : Program T) (i : CallFrameInstruction T) (e : Error) → StandsBehind s x g → IsRefusal (wants.at x i) (step s x i) e → IsLeftOut (wants.at (state_of s g) i) (refusal s g i) e
+module _ {T : Type 0} (allocates : MayAllocate T) (s : Setting) where
+  left_out : (x : State T) (g : Program T) (i : CallFrameInstruction T) (e : Error) → IsStateAfter s x g → IsRefusal (allocates.at x i) (step s x i) e → IsLeftOut (allocates.at (program_state s g) i) (refusal s g i) e
   left_out x g i e h (inl is) = inl (stands_refused s x g i e h is)
   left_out x g i e h (inr wanting) = inr (
-    subst (λ z. IsTrue (wants.at z i)) h.1 wanting.0,
-    none_refused (refusal s g i) (state_of s (followed_by g i)) (subst IsOk (step_law s g i h.0) (subst (λ z. IsOk (step s z i)) h.1 wanting.1)),
+    subst (λ z. IsTrue (allocates.at z i)) h.1 wanting.0,
+    none_refused (refusal s g i) (program_state s (followed_by g i)) (subst IsOk (step_law s g i h.0) (subst (λ z. IsOk (step s z i)) h.1 wanting.1)),
     wanting.2,
   )
 
-  accepted_next : (x y : State T) (g : Program T) (i : CallFrameInstruction T) → StandsBehind s x g → step s x i ≡ Ok y → refusal s g i ≡ None
-  accepted_next x y g i h stepped = (accepted_value (refusal s g i) (state_of s (followed_by g i)) y (sym (step_law s g i h.0) ∙ ap (λ z. step s z i) (sym h.1) ∙ stepped)).0
+  accepted_next : (x y : State T) (g : Program T) (i : CallFrameInstruction T) → IsStateAfter s x g → step s x i ≡ Ok y → refusal s g i ≡ None
+  accepted_next x y g i h stepped = (accepted_value (refusal s g i) (program_state s (followed_by g i)) y (sym (step_law s g i h.0) ∙ ap (λ z. step s z i) (sym h.1) ∙ stepped)).0
 
   -- the machine's next answer is the program's
-  pub keeps_next : (p : Place (State T) T) (answer : Result (Option (Row T)) Error) (q : Place (State T) T) → NextAnswer wants s p answer q → StandsOn wants s p answer q
+  pub keeps_next : (p : TableState (State T) T) (answer : Result (Option (Row T)) Error) (q : TableState (State T) T) → NextAnswer allocates s p answer q → AnswersForProgram allocates s p answer q
   keeps_next p answer q (passes x y i rest answer' q' still stepped next) g h =
-      let more = keeps_next (going y rest) answer' q' next (followed_by g i) (stands_next s x y g i h stepped) in
+      let more = keeps_next (before_last_row y rest) answer' q' next (followed_by g i) (stands_next s x y g i h stepped) in
       (more.0, keeps g i rest answer' (at_program q' more.0) still (accepted_next x y g i h stepped) more.1, more.2)
   keeps_next p answer q (ends_row x y i rest moves stepped) g h =
       let stands = stands_next s x y g i h stepped in
       let row : row_until s g (location_of s (followed_by g i)) ≡ current_row x y.location = λ k. current_row (sym h.1 k) (sym stands.1 k).location in (
         followed_by g i,
-        subst (λ r. KeepsNext wants s (going g (with_first i rest)) (Ok (Some r)) (going (followed_by g i) rest)) row (keeps_move g i rest moves (accepted_next x y g i h stepped)),
+        subst (λ r. NextKeptAnswer allocates s (before_last_row g (with_first i rest)) (Ok (Some r)) (before_last_row (followed_by g i) rest)) row (keeps_move g i rest moves (accepted_next x y g i h stepped)),
         stands,
       )
   keeps_next p answer q (refuses x i rest e refusal) g h = (g, leaves_out g i rest e (left_out x g i e h refusal), h)
   keeps_next p answer q (cannot_read x e) g h = (g, finds_unreadable g e, h)
   keeps_next p answer q (last_row x) g h = (
     g,
-    subst (λ r. KeepsNext wants s (going g (no_values None)) (Ok (Some r)) (ended g (no_values None))) (sym (ap (λ z. current_row z s.end_address) h.1)) (gives_last_row g),
+    subst (λ r. NextKeptAnswer allocates s (before_last_row g (no_values None)) (Ok (Some r)) (after_last_row g (no_values None))) (sym (ap (λ z. current_row z s.end_address) h.1)) (gives_last_row g),
     h,
   )
   keeps_next p answer q (no_row x left) g h = (g, gives_no_row g left, h)
 
   -- of the program of a CIE
   abbrev KeepsBehind : List (CallFrameInstruction T) → Readings (CallFrameInstruction T) → Result (State T) Error → Type 0
-  KeepsBehind cie reads (Ok y) = (all : List (CallFrameInstruction T)) × KeepsCie wants s cie reads (Ok all) × StandsBehind s y (in_fde all [])
-  KeepsBehind cie reads (Err e) = KeepsCie wants s cie reads (Err e)
+  KeepsBehind cie reads (Ok y) = (all : List (CallFrameInstruction T)) × KeepsInitialInstructions allocates s cie reads (Ok all) × IsStateAfter s y (in_fde all [])
+  KeepsBehind cie reads (Err e) = KeepsInitialInstructions allocates s cie reads (Err e)
 
   keeps_more : (cie : List (CallFrameInstruction T)) (i : CallFrameInstruction T) (rest : Readings (CallFrameInstruction T)) (result : Result (State T) Error) → refusal s (in_cie cie) i ≡ None → KeepsBehind (cie ++ i ∷ []) rest result → KeepsBehind cie (with_first i rest) result
   keeps_more cie i rest (Ok y) accepted more = (more.0, cie_keeps cie i rest (Ok more.0) accepted more.1, more.2)
   keeps_more cie i rest (Err e) accepted more = cie_keeps cie i rest (Err e) accepted more
 
-  accepted_end : (x y : State T) (cie : List (CallFrameInstruction T)) → StandsBehind s x (in_cie cie) → end_of_cie s x ≡ Ok y → refusal_at_end s cie ≡ None
-  accepted_end x y cie h is = (accepted_value (refusal_at_end s cie) (state_of s (in_fde cie [])) y (sym (end_law s cie h.0) ∙ ap (end_of_cie s) (sym h.1) ∙ is)).0
+  accepted_end : (x y : State T) (cie : List (CallFrameInstruction T)) → IsStateAfter s x (in_cie cie) → end_of_cie s x ≡ Ok y → refusal_at_end s cie ≡ None
+  accepted_end x y cie h is = (accepted_value (refusal_at_end s cie) (program_state s (in_fde cie [])) y (sym (end_law s cie h.0) ∙ ap (end_of_cie s) (sym h.1) ∙ is)).0
 
-  end_left_out : (x : State T) (cie : List (CallFrameInstruction T)) (e : Error) → StandsBehind s x (in_cie cie) → IsRefusal (wants.at_end x) (end_of_cie s x) e → IsLeftOut (wants.at_end (state_of s (in_cie cie))) (refusal_at_end s cie) e
-  end_left_out x cie e h (inl is) = inl (refused_error (refusal_at_end s cie) (state_of s (in_fde cie [])) e (sym (end_law s cie h.0) ∙ ap (end_of_cie s) (sym h.1) ∙ is))
+  end_left_out : (x : State T) (cie : List (CallFrameInstruction T)) (e : Error) → IsStateAfter s x (in_cie cie) → IsRefusal (allocates.at_end x) (end_of_cie s x) e → IsLeftOut (allocates.at_end (program_state s (in_cie cie))) (refusal_at_end s cie) e
+  end_left_out x cie e h (inl is) = inl (refused_error (refusal_at_end s cie) (program_state s (in_fde cie [])) e (sym (end_law s cie h.0) ∙ ap (end_of_cie s) (sym h.1) ∙ is))
   end_left_out x cie e h (inr wanting) = inr (
-    subst (λ z. IsTrue (wants.at_end z)) h.1 wanting.0,
-    none_refused (refusal_at_end s cie) (state_of s (in_fde cie [])) (subst IsOk (end_law s cie h.0) (subst (λ z. IsOk (end_of_cie s z)) h.1 wanting.1)),
+    subst (λ z. IsTrue (allocates.at_end z)) h.1 wanting.0,
+    none_refused (refusal_at_end s cie) (program_state s (in_fde cie [])) (subst IsOk (end_law s cie h.0) (subst (λ z. IsOk (end_of_cie s z)) h.1 wanting.1)),
     wanting.2,
   )
 
-  pub keeps_cie : (x : State T) (reads : Readings (CallFrameInstruction T)) (result : Result (State T) Error) → RunsCie wants s x reads result → (cie : List (CallFrameInstruction T)) → StandsBehind s x (in_cie cie) → KeepsBehind cie reads result
+  pub keeps_cie : (x : State T) (reads : Readings (CallFrameInstruction T)) (result : Result (State T) Error) → RunsInitialInstructions allocates s x reads result → (cie : List (CallFrameInstruction T)) → IsStateAfter s x (in_cie cie) → KeepsBehind cie reads result
   keeps_cie x reads result (cie_passes x' y i rest result' stepped runs) cie h =
       keeps_more cie i rest result' (accepted_next x' y (in_cie cie) i h stepped) (keeps_cie y rest result' runs (cie ++ i ∷ []) (stands_next s x' y (in_cie cie) i h stepped))
   keeps_cie x reads result (cie_refuses x' i rest e refusal) cie h = cie_leaves_out cie i rest e (left_out x' (in_cie cie) i e h refusal)
@@ -91,7 +91,7 @@ module _ {T : Type 0} (wants : Wants T) (s : Setting) where
   keeps_cie x reads result (cie_end_refused x' e refusal) cie h = cie_end_left_out cie e (end_left_out x' cie e h refusal)
 
   -- a CIE's program that is not refused is kept whole
-  kept_whole : (cie : List (CallFrameInstruction T)) (reads : Readings (CallFrameInstruction T)) (result : Result (List (CallFrameInstruction T)) Error) → KeepsCie wants s cie reads result → IfOk result (λ all. all ≡ cie ++ reads.values)
+  kept_whole : (cie : List (CallFrameInstruction T)) (reads : Readings (CallFrameInstruction T)) (result : Result (List (CallFrameInstruction T)) Error) → KeepsInitialInstructions allocates s cie reads result → IfOk result (λ all. all ≡ cie ++ reads.values)
   kept_whole cie reads result (cie_keeps cie' i rest result' accepted keeps_rest) =
       subst (λ l. IfOk result' (λ all. all ≡ l)) (append_assoc cie' (i ∷ []) rest.values) (kept_whole (cie' ++ i ∷ []) rest result' keeps_rest)
   kept_whole cie reads result (cie_leaves_out cie' i rest e out) = tt
@@ -100,13 +100,13 @@ module _ {T : Type 0} (wants : Wants T) (s : Setting) where
   kept_whole cie reads result (cie_end_left_out cie' e out) = tt
 
   -- behind it the machine stands behind the CIE's instructions
-  pub cie_stands : (cie : Readings (CallFrameInstruction T)) (x : State T) → RunsCie wants s fresh_state cie (Ok x) → StandsBehind s x (in_fde cie.values [])
+  pub cie_stands : (cie : Readings (CallFrameInstruction T)) (x : State T) → RunsInitialInstructions allocates s fresh_state cie (Ok x) → IsStateAfter s x (in_fde cie.values [])
   cie_stands cie x runs =
       let all = keeps_cie fresh_state cie (Ok x) runs [] (stands_fresh s) in
-      subst (λ l. StandsBehind s x (in_fde l [])) (kept_whole [] cie (Ok all.0) all.1) all.2
+      subst (λ l. IsStateAfter s x (in_fde l [])) (kept_whole [] cie (Ok all.0) all.1) all.2
 
   -- of the search for an address
-  pub finds_kept : (address : ℕ) (p : Place (State T) T) (result : Result (Row T) Error) → FindsRow (NextAnswer wants s) address p result → (g : Program T) → StandsBehind s p.behind g → FindsRow (KeepsNext wants s) address (at_program p g) result
+  pub finds_kept : (address : ℕ) (p : TableState (State T) T) (result : Result (Row T) Error) → FindsRow (NextAnswer allocates s) address p result → (g : Program T) → IsStateAfter s p.so_far g → FindsRow (NextKeptAnswer allocates s) address (at_program p g) result
   finds_kept address p result (contains_it p' q row next inside) g h =
       let more = keeps_next p' (Ok (Some row)) q next g h in contains_it (at_program p' g) (at_program q more.0) row more.1 inside
   finds_kept address p result (goes_on p' q row result' next outside finds) g h =
@@ -118,64 +118,64 @@ module _ {T : Type 0} (wants : Wants T) (s : Setting) where
       let more = keeps_next p' (Ok None) q next g h in comes_to_end (at_program p' g) (at_program q more.0) more.1
 
   -- the answer of an FDE by the machine is that of the struck-out form
-  pub answers_by_kept : (cie fde : Readings (CallFrameInstruction T)) (address : ℕ) (result : Result (Row T) Error) → AnswersFde wants s cie fde address result → AnswersByKept wants s cie fde address result
+  pub answers_by_kept : (cie fde : Readings (CallFrameInstruction T)) (address : ℕ) (result : Result (Row T) Error) → AnswersFde allocates s cie fde address result → AnswersByKept allocates s cie fde address result
   answers_by_kept cie fde address result (by_cie e runs) = refused_by_cie e (keeps_cie fresh_state cie (Err e) runs [] (stands_fresh s))
   answers_by_kept cie fde address result (by_rows x result' runs finds) =
       let all = keeps_cie fresh_state cie (Ok x) runs [] (stands_fresh s) in
-      found_in_rows all.0 result' all.1 (finds_kept address (going x fde) result' finds (in_fde all.0 []) all.2)
+      found_in_rows all.0 result' all.1 (finds_kept address (before_last_row x fde) result' finds (in_fde all.0 []) all.2)
 
 -- ---- where memory is never wanting
 
-module _ {T : Type 0} (wants : Wants T) (s : Setting) (never : AreNever wants) where
+module _ {T : Type 0} (allocates : MayAllocate T) (s : Setting) (never : AreNever allocates) where
   due_left_out : (w : Bool) (due : Option Error) (e : Error) → w ≡ false → IsLeftOut w due e → due ≡ Some e
   due_left_out w due e free (inl is) = is
   due_left_out w due e free (inr wanting) = absurd (false≢true (sym free ∙ wanting.0))
 
   -- the next answer is the first of those still to come
-  pub kept_next_is : (p : Place (Program T) T) (answer : Result (Option (Row T)) Error) (q : Place (Program T) T) → KeepsNext wants s p answer q → IsNext (to_come s p) answer (to_come s q)
+  pub kept_next_is : (p : TableState (Program T) T) (answer : Result (Option (Row T)) Error) (q : TableState (Program T) T) → NextKeptAnswer allocates s p answer q → IsNext (answers_to_come s p) answer (answers_to_come s q)
   kept_next_is p answer q (keeps g i rest answer' q' still accepted next) =
-      subst (λ l. IsNext l answer' (to_come s q')) (sym (answers-other s g i rest.values rest.refusal accepted still)) (kept_next_is (going (followed_by g i) rest) answer' q' next)
+      subst (λ l. IsNext l answer' (answers_to_come s q')) (sym (answers-other s g i rest.values rest.refusal accepted still)) (kept_next_is (before_last_row (followed_by g i) rest) answer' q' next)
   kept_next_is p answer q (keeps_move g i rest moves accepted) = answers-move s g i rest.values rest.refusal accepted moves
-  kept_next_is p answer q (leaves_out g i rest e out) = answers-refused s g i rest.values rest.refusal e (due_left_out (wants.at (state_of s g) i) (refusal s g i) e (never.at (state_of s g) i) out)
+  kept_next_is p answer q (leaves_out g i rest e out) = answers-refused s g i rest.values rest.refusal e (due_left_out (allocates.at (program_state s g) i) (refusal s g i) e (never.at (program_state s g) i) out)
   kept_next_is p answer q (finds_unreadable g e) = refl
   kept_next_is p answer q (gives_last_row g) = refl
   kept_next_is p answer q (gives_no_row g left) = (refl, refl)
 
   -- and the program is followed by those of the instructions passed that are kept
-  pub kept_passed : (p : Place (Program T) T) (answer : Result (Option (Row T)) Error) (q : Place (Program T) T) → KeepsNext wants s p answer q →
-      (passed : List (CallFrameInstruction T)) × (p.left.values ≡ passed ++ q.left.values) × (q.behind ≡ kept s p.behind passed)
+  pub kept_passed : (p : TableState (Program T) T) (answer : Result (Option (Row T)) Error) (q : TableState (Program T) T) → NextKeptAnswer allocates s p answer q →
+      (passed : List (CallFrameInstruction T)) × (p.left.values ≡ passed ++ q.left.values) × (q.so_far ≡ kept_program s p.so_far passed)
   kept_passed p answer q (keeps g i rest answer' q' still accepted next) =
-      let more = kept_passed (going (followed_by g i) rest) answer' q' next in
-      (i ∷ more.0, ap (λ l. i ∷ l) more.1, more.2 ∙ ap (λ o. kept s (cond (is_some o) g (followed_by g i)) more.0) (sym accepted))
+      let more = kept_passed (before_last_row (followed_by g i) rest) answer' q' next in
+      (i ∷ more.0, ap (λ l. i ∷ l) more.1, more.2 ∙ ap (λ o. kept_program s (cond (is_some o) g (followed_by g i)) more.0) (sym accepted))
   kept_passed p answer q (keeps_move g i rest moves accepted) = (i ∷ [], refl, ap (λ o. cond (is_some o) g (followed_by g i)) (sym accepted))
   kept_passed p answer q (leaves_out g i rest e out) =
-      (i ∷ [], refl, ap (λ o. cond (is_some o) g (followed_by g i)) (sym (due_left_out (wants.at (state_of s g) i) (refusal s g i) e (never.at (state_of s g) i) out)))
+      (i ∷ [], refl, ap (λ o. cond (is_some o) g (followed_by g i)) (sym (due_left_out (allocates.at (program_state s g) i) (refusal s g i) e (never.at (program_state s g) i) out)))
   kept_passed p answer q (finds_unreadable g e) = ([], refl, refl)
   kept_passed p answer q (gives_last_row g) = ([], refl, refl)
   kept_passed p answer q (gives_no_row g left) = ([], refl, refl)
 
 -- ---- the definitions of the struck-out form, where memory is never wanting
 
-module _ {T : Type 0} (wants : Wants T) (s : Setting) (never : AreNever wants) where
+module _ {T : Type 0} (allocates : MayAllocate T) (s : Setting) (never : AreNever allocates) where
   -- why the CIE's program is refused behind some of its instructions
   abbrev refusal_behind : List (CallFrameInstruction T) → Readings (CallFrameInstruction T) → Option Error
   refusal_behind cie reads = option_or (first_refusal s (in_cie cie) reads.values) (option_or reads.refusal (refusal_at_end s (cie ++ reads.values)))
 
-  kept_behind : (cie : List (CallFrameInstruction T)) (reads : Readings (CallFrameInstruction T)) (result : Result (List (CallFrameInstruction T)) Error) → KeepsCie wants s cie reads result → or_refused (refusal_behind cie reads) (cie ++ reads.values) ≡ result
+  kept_behind : (cie : List (CallFrameInstruction T)) (reads : Readings (CallFrameInstruction T)) (result : Result (List (CallFrameInstruction T)) Error) → KeepsInitialInstructions allocates s cie reads result → or_refused (refusal_behind cie reads) (cie ++ reads.values) ≡ result
   kept_behind cie reads result (cie_keeps cie' i rest result' accepted keeps_rest) =
       ap (λ o. or_refused (option_or (option_or o (first_refusal s (in_cie (cie' ++ i ∷ [])) rest.values)) (option_or rest.refusal (refusal_at_end s (cie' ++ i ∷ rest.values)))) (cie' ++ i ∷ rest.values)) accepted
       ∙ ap (λ l. or_refused (option_or (first_refusal s (in_cie (cie' ++ i ∷ [])) rest.values) (option_or rest.refusal (refusal_at_end s l))) l) (sym (append_assoc cie' (i ∷ []) rest.values))
       ∙ kept_behind (cie' ++ i ∷ []) rest result' keeps_rest
   kept_behind cie reads result (cie_leaves_out cie' i rest e out) =
       ap (λ o. or_refused (option_or (option_or o (first_refusal s (in_cie (cie' ++ i ∷ [])) rest.values)) (option_or rest.refusal (refusal_at_end s (cie' ++ i ∷ rest.values)))) (cie' ++ i ∷ rest.values))
-      (due_left_out wants s never (wants.at (state_of s (in_cie cie')) i) (refusal s (in_cie cie') i) e (never.at (state_of s (in_cie cie')) i) out)
+      (due_left_out allocates s never (allocates.at (program_state s (in_cie cie')) i) (refusal s (in_cie cie') i) e (never.at (program_state s (in_cie cie')) i) out)
   kept_behind cie reads result (cie_finds_unreadable cie' e) = refl
   kept_behind cie reads result (cie_is_kept cie' accepted) = ap (λ l. or_refused (refusal_at_end s l) l) (append-nil cie') ∙ ap (λ o. or_refused o cie') accepted
   kept_behind cie reads result (cie_end_left_out cie' e out) =
       ap (λ l. or_refused (refusal_at_end s l) l) (append-nil cie')
-      ∙ ap (λ o. or_refused o cie') (due_left_out wants s never (wants.at_end (state_of s (in_cie cie'))) (refusal_at_end s cie') e (never.at_end (state_of s (in_cie cie'))) out)
+      ∙ ap (λ o. or_refused o cie') (due_left_out allocates s never (allocates.at_end (program_state s (in_cie cie'))) (refusal_at_end s cie') e (never.at_end (program_state s (in_cie cie'))) out)
 
-  pub kept_cie_is : (reads : Readings (CallFrameInstruction T)) (result : Result (List (CallFrameInstruction T)) Error) → KeepsCie wants s [] reads result → or_refused (cie_refusal s reads) reads.values ≡ result
+  pub kept_cie_is : (reads : Readings (CallFrameInstruction T)) (result : Result (List (CallFrameInstruction T)) Error) → KeepsInitialInstructions allocates s [] reads result → or_refused (cie_refusal s reads) reads.values ≡ result
   kept_cie_is reads = kept_behind [] reads
 
   accepted_cie : (cie fde : Readings (CallFrameInstruction T)) (address : ℕ) (all : List (CallFrameInstruction T)) (o : Option Error) → or_refused o cie.values ≡ Ok all →
@@ -183,21 +183,21 @@ module _ {T : Type 0} (wants : Wants T) (s : Setting) (never : AreNever wants) w
   accepted_cie cie fde address all None is = ap (λ l. answer_at address (answers s (in_fde l []) fde)) (sym (accepted_value None cie.values all is).1)
   accepted_cie cie fde address all (Some e) is = absurd (let wrong : ◌≡◌ {A = Result (List (CallFrameInstruction T)) Error} (Err e) (Ok all) = is in cc)
 
-  pub answers_by_kept_is : (cie fde : Readings (CallFrameInstruction T)) (address : ℕ) (result : Result (Row T) Error) → AnswersByKept wants s cie fde address result → fde_answer s cie fde address ≡ result
+  pub answers_by_kept_is : (cie fde : Readings (CallFrameInstruction T)) (address : ℕ) (result : Result (Row T) Error) → AnswersByKept allocates s cie fde address result → fde_answer s cie fde address ≡ result
   answers_by_kept_is cie fde address result (refused_by_cie e keeps_all) =
       ap (on_option (answer_at address (answers s (in_fde cie.values []) fde)) (λ d. Err d)) (refused_error (cie_refusal s cie) cie.values e (kept_cie_is cie (Err e) keeps_all))
   answers_by_kept_is cie fde address result (found_in_rows all result' keeps_all finds) =
       accepted_cie cie fde address all (cie_refusal s cie) (kept_cie_is cie (Ok all) keeps_all)
-      ∙ finds_is (KeepsNext wants s) (to_come s) address (kept_next_is wants s never) (going (in_fde all []) fde) result' finds
+      ∙ finds_is (NextKeptAnswer allocates s) (answers_to_come s) address (kept_next_is allocates s never) (before_last_row (in_fde all []) fde) result' finds
 
 -- the answer of the runs is that of the struck-out form
-pub fde_answer_kept : {T : Type 0} (wants : Wants T) (s : Setting) → AreNever wants → (cie fde : Readings (CallFrameInstruction T)) (address : ℕ) (result : Result (Row T) Error) → AnswersFde wants s cie fde address result → fde_answer s cie fde address ≡ result
-fde_answer_kept wants s never cie fde address result answers_it = answers_by_kept_is wants s never cie fde address result (answers_by_kept wants s cie fde address result answers_it)
+pub fde_answer_kept : {T : Type 0} (allocates : MayAllocate T) (s : Setting) → AreNever allocates → (cie fde : Readings (CallFrameInstruction T)) (address : ℕ) (result : Result (Row T) Error) → AnswersFde allocates s cie fde address result → fde_answer s cie fde address ≡ result
+fde_answer_kept allocates s never cie fde address result answers_it = answers_by_kept_is allocates s never cie fde address result (answers_by_kept allocates s cie fde address result answers_it)
 
 -- and so it is where memory may be wanting, but for one that is refused for want of it
-pub fde_answer_kept_or_memory : {T : Type 0} (wants : Wants T) (s : Setting) (cie fde : Readings (CallFrameInstruction T)) (address : ℕ) (result : Result (Row T) Error) → AnswersFde wants s cie fde address result → (fde_answer s cie fde address ≡ result) ⊎ (result ≡ Err OutOfMemory)
-fde_answer_kept_or_memory wants s cie fde address result answers_it = subst (λ r. (r ≡ result) ⊎ (result ≡ Err OutOfMemory)) (fde_answer_law s cie fde address) (fde_answer_or_memory wants s cie fde address result answers_it)
+pub fde_answer_kept_or_memory : {T : Type 0} (allocates : MayAllocate T) (s : Setting) (cie fde : Readings (CallFrameInstruction T)) (address : ℕ) (result : Result (Row T) Error) → AnswersFde allocates s cie fde address result → (fde_answer s cie fde address ≡ result) ⊎ (result ≡ Err OutOfMemory)
+fde_answer_kept_or_memory allocates s cie fde address result answers_it = subst (λ r. (r ≡ result) ⊎ (result ≡ Err OutOfMemory)) (fde_answer_law s cie fde address) (fde_answer_or_memory allocates s cie fde address result answers_it)
 
 -- what is still to come of the machine is what is still to come of the program behind which it stands
-pub to_come_law : {T : Type 0} (s : Setting) (p : Place (State T) T) (g : Program T) → StandsBehind s p.behind g → run_to_come s p ≡ to_come s (at_program p g)
-to_come_law s p g h = ap (cond p.has_ended []) (stands_answers s p.behind g p.left h)
+pub to_come_law : {T : Type 0} (s : Setting) (p : TableState (State T) T) (g : Program T) → IsStateAfter s p.so_far g → run_answers_to_come s p ≡ answers_to_come s (at_program p g)
+to_come_law s p g h = ap (cond p.has_ended []) (stands_answers s p.so_far g p.left h)

@@ -9,7 +9,7 @@ pub mod WriterEnds
 pub mod PartsEnds
 pub mod Law
 pub mod CieEnd
-pub mod StandsBehind
+pub mod IsStateAfter
 pub mod MachineSteps
 pub mod RowLaws
 pub mod NumberedMaps

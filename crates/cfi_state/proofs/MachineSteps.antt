@@ -10,7 +10,7 @@ use Rattle.cfi_state.specs.declared.table.rules.CfaRule.{CfaRule}
 use Rattle.cfi_state.specs.declared.table.rules.CfaRule.TheVariants as cfa
 use Rattle.cfi_state.specs.declared.table.rules.RegisterRule.{RegisterRule}
 use Rattle.cfi_state.specs.declared.table.rules.RegisterRule.TheVariants as rule
-use Rattle.cfi_state.specs.Operands.{Setting, ra_sign_state, is_move}
+use Rattle.cfi_state.specs.ProgramSettings.{Setting, ra_sign_state, is_move}
 use Rattle.cfi_state.specs.Machine.{Rules, Parts, State, set_rule, set_or_remove_rule, restore_rule, set_cfa_register, set_cfa_offset, toggle, restore_state, step}
 use Rattle.cfi_state.specs.Rows.{on_result, row_ended, run_answers_of}
 

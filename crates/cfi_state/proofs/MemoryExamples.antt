@@ -8,10 +8,10 @@ use Rattle.cfi_parts.specs.declared.instruction.CallFrameInstruction.{CallFrameI
 use Rattle.cfi_parts.specs.declared.instruction.CallFrameInstruction.TheVariants as instruction
 use Rattle.cfi_state.specs.declared.table.rules.CfaRule.TheVariants as cfa
 use Rattle.cfi_state.specs.Row.{Row}
-use Rattle.cfi_state.specs.Operands.{Setting}
+use Rattle.cfi_state.specs.ProgramSettings.{Setting}
 use Rattle.cfi_state.specs.Machine.{State, no_rules}
-use Rattle.cfi_state.specs.Places.{Place, going, ended}
-use Rattle.cfi_state.specs.Runs.{NextAnswer, passes, refuses, last_row, wants_memory}
+use Rattle.cfi_state.specs.TableStates.{TableState, before_last_row, after_last_row}
+use Rattle.cfi_state.specs.Runs.{NextAnswer, passes, refuses, last_row, may_allocate}
 
 -- no limits, and copies of rules want memory; the FDE covers 0x1000 up to 0x1020
 abbrev growing : Setting
@@ -28,14 +28,14 @@ at_offset offset = record {
 abbrev reads : List (CallFrameInstruction ℕ) → Readings (CallFrameInstruction ℕ)
 reads xs = record { values = xs; refusal = None }
 
-abbrev Answers : Place (State ℕ) ℕ → Result (Option (Row ℕ)) Error → Place (State ℕ) ℕ → Type 0
-Answers = NextAnswer (wants_memory growing false) growing
+abbrev Answers : TableState (State ℕ) ℕ → Result (Option (Row ℕ)) Error → TableState (State ℕ) ℕ → Type 0
+Answers = NextAnswer (may_allocate growing false) growing
 
-remember_refused : Answers (going (at_offset 8) (reads (instruction.RememberState ∷ instruction.DefCfaOffset 32 ∷ instruction.RestoreState ∷ []))) (Err OutOfMemory) (going (at_offset 8) (reads (instruction.DefCfaOffset 32 ∷ instruction.RestoreState ∷ [])))
+remember_refused : Answers (before_last_row (at_offset 8) (reads (instruction.RememberState ∷ instruction.DefCfaOffset 32 ∷ instruction.RestoreState ∷ []))) (Err OutOfMemory) (before_last_row (at_offset 8) (reads (instruction.DefCfaOffset 32 ∷ instruction.RestoreState ∷ [])))
 remember_refused = refuses _ _ _ _ (inr (refl, refl, refl))
 
-restore_refused : Answers (going (at_offset 8) (reads (instruction.DefCfaOffset 32 ∷ instruction.RestoreState ∷ []))) (Err PopWithEmptyStack) (going (at_offset 32) (reads []))
+restore_refused : Answers (before_last_row (at_offset 8) (reads (instruction.DefCfaOffset 32 ∷ instruction.RestoreState ∷ []))) (Err PopWithEmptyStack) (before_last_row (at_offset 32) (reads []))
 restore_refused = passes _ (at_offset 32) _ _ _ _ refl refl (refuses _ _ _ _ (inl refl))
 
-row_with_offset : Answers (going (at_offset 32) (reads [])) (Ok (Some (record { start_address = 4096; end_address = 4128; parts = (at_offset 32).parts }))) (ended (at_offset 32) (reads []))
+row_with_offset : Answers (before_last_row (at_offset 32) (reads [])) (Ok (Some (record { start_address = 4096; end_address = 4128; parts = (at_offset 32).parts }))) (after_last_row (at_offset 32) (reads []))
 row_with_offset = last_row _

@@ -22,9 +22,9 @@ use Rattle.cfi_state.specs.declared.storage.Why.TheVariants.{Full, Memory}
 use Rattle.cfi_state.specs.Outcome.{Performs}
 use Rattle.cfi_state.specs.Refusal.{refusal_for}
 use Rattle.cfi_state.specs.Limit.{IsAtLimit}
-use Rattle.cfi_state.specs.Operands.{is_at_limit}
+use Rattle.cfi_state.specs.ProgramSettings.{is_at_limit}
 use Rattle.cfi_state.specs.Machine.{Rules}
-use Rattle.cfi_state.specs.Rules.{numbered, rules_of, set_rule, IsDistinctRegisters, AddsRule}
+use Rattle.cfi_state.specs.Rules.{numbered_pair, rules_of, map_set_rule, IsDistinctRegisters, AddsRule}
 use Rattle.cfi_state.proofs.Entries.{find_at, find-absent, from_entries-set, distinct-set, from_entries-push, distinct-push, from_entries-without, distinct-without, remove-absent, len-from_entries}
 
 module _ {T : Type 0} (pairs : List (Register × RegisterRule T)) where
@@ -42,20 +42,20 @@ module _ {T : Type 0} (pairs : List (Register × RegisterRule T)) where
       ] refl found
 
   pub entry_at : (place : ℕ) (register : Register) (rule : RegisterRule T) → slice_get pairs place ≡ Some (register, rule)
-      → slice_get (map numbered pairs) place ≡ Some (register.0, rule)
-  entry_at place register rule at = slice_get-map numbered pairs place ∙ ap (option_map numbered) at
+      → slice_get (map numbered_pair pairs) place ≡ Some (register.0, rule)
+  entry_at place register rule at = slice_get-map numbered_pair pairs place ∙ ap (option_map numbered_pair) at
 
   pub get-found : (place : ℕ) (register : Register) (rule : RegisterRule T) → IsDistinctRegisters pairs → slice_get pairs place ≡ Some (register, rule)
       → get (rules_of pairs) register.0 ≡ Some rule
   get-found place register rule distinct at =
-      get-from_entries nat_cmp_total (map numbered pairs) register.0
-      ∙ find_at nat_cmp_total nat_cmp-IsAntisymmetric (map numbered pairs) place register.0 rule distinct (entry_at place register rule at)
+      get-from_entries nat_cmp_total (map numbered_pair pairs) register.0
+      ∙ find_at nat_cmp_total nat_cmp-IsAntisymmetric (map numbered_pair pairs) place register.0 rule distinct (entry_at place register rule at)
 
 same_register : (a b : Register) → a.0 ≡ b.0 → a ≡ b
 same_register a b same = λ i. record { 0 = same i }
 
 pub find-none : {T : Type 0} (pairs : List (Register × RegisterRule T)) (register : Register) → All (λ pair. pair.0 ≢ register) pairs
-    → find nat_cmp register.0 (map numbered pairs) ≡ None
+    → find nat_cmp register.0 (map numbered_pair pairs) ≡ None
 find-none [] register absent = refl
 find-none {T = T} (pair ∷ pairs) register absent =
     let other : ¬ (pair.0.0 ≡ register.0) =
@@ -67,29 +67,29 @@ find-none {T = T} (pair ∷ pairs) register absent =
 module _ {T : Type 0} (pairs : List (Register × RegisterRule T)) where
   pub get-absent : (register : Register) → All (λ pair. pair.0 ≢ register) pairs → get (rules_of pairs) register.0 ≡ None
   get-absent register absent =
-      get-from_entries nat_cmp_total (map numbered pairs) register.0 ∙ find-none pairs register absent
+      get-from_entries nat_cmp_total (map numbered_pair pairs) register.0 ∙ find-none pairs register absent
 
   pub len-rules_of : IsDistinctRegisters pairs → len (rules_of pairs) ≡ length pairs
   len-rules_of distinct =
-      len-from_entries nat_cmp_total nat_cmp-IsAntisymmetric (map numbered pairs) distinct ∙ length-map pairs numbered
+      len-from_entries nat_cmp_total nat_cmp-IsAntisymmetric (map numbered_pair pairs) distinct ∙ length-map pairs numbered_pair
 
 module _ {T : Type 0} (pairs : List (Register × RegisterRule T)) (distinct : IsDistinctRegisters pairs) (register : Register) where
   -- the pair taken out stands in front of the rest
   taken : (place : ℕ) (pair : Register × RegisterRule T) → slice_get pairs place ≡ Some pair
-      → IsPermutation (map numbered pairs) (numbered pair ∷ map numbered (swap_remove pairs place pair))
+      → IsPermutation (map numbered_pair pairs) (numbered_pair pair ∷ map numbered_pair (swap_remove pairs place pair))
   taken place pair at =
-      IsPermutation-map numbered pairs (pair ∷ swap_remove pairs place pair)
+      IsPermutation-map numbered_pair pairs (pair ∷ swap_remove pairs place pair)
       (IsPermutation-swap_remove pairs place pair (slice_get_within pairs place pair at) (sym (get_or_from_slice_get pairs place pair pair at)))
 
   pub distinct-removed : (place : ℕ) (pair : Register × RegisterRule T) → slice_get pairs place ≡ Some pair → IsDistinctRegisters (swap_remove pairs place pair)
   distinct-removed place pair at =
-      distinct-without nat_cmp_total nat_cmp-IsAntisymmetric (map numbered pairs) (map numbered (swap_remove pairs place pair)) (numbered pair) distinct (taken place pair at)
+      distinct-without nat_cmp_total nat_cmp-IsAntisymmetric (map numbered_pair pairs) (map numbered_pair (swap_remove pairs place pair)) (numbered_pair pair) distinct (taken place pair at)
 
   pub rules_of-removed : (place : ℕ) (pair : Register × RegisterRule T) → slice_get pairs place ≡ Some pair
       → IsSomeAnd (slice_get pairs place) (λ other. other.0 ≡ register) → rules_of (swap_remove pairs place pair) ≡ remove (rules_of pairs) register.0
   rules_of-removed place pair at found =
       let is : pair.0 ≡ register = rw at at found in
-      from_entries-without nat_cmp_total nat_cmp-IsAntisymmetric (map numbered pairs) (map numbered (swap_remove pairs place pair)) (numbered pair) distinct (taken place pair at)
+      from_entries-without nat_cmp_total nat_cmp-IsAntisymmetric (map numbered_pair pairs) (map numbered_pair (swap_remove pairs place pair)) (numbered_pair pair) distinct (taken place pair at)
       ∙ ap (λ (r : Register). remove (rules_of pairs) r.0) is
 
   pub rules_of-kept : All (λ pair. pair.0 ≢ register) pairs → rules_of pairs ≡ remove (rules_of pairs) register.0
@@ -108,37 +108,37 @@ at_limit-false (Some most) items below = let other : ¬ (length items ≡ most) 
 module _ {T : Type 0} (limit : Option ℕ) (pairs : List (Register × RegisterRule T)) (distinct : IsDistinctRegisters pairs) (register : Register) (rule : RegisterRule T) where
   abbrev Sets : Rules T → Result (Unit {0}) Error → Type 0
   Sets new result =
-      Performs (AddsRule limit (rules_of pairs) register.0) (set_rule limit (rules_of pairs) register.0 rule) (rules_of pairs) new result
+      Performs (AddsRule limit (rules_of pairs) register.0) (map_set_rule limit (rules_of pairs) register.0 rule) (rules_of pairs) new result
 
   set_rule-found : (old : RegisterRule T) (place : ℕ) → slice_get pairs place ≡ Some (register, old)
-      → set_rule limit (rules_of pairs) register.0 rule ≡ Ok (insert (rules_of pairs) register.0 rule)
+      → map_set_rule limit (rules_of pairs) register.0 rule ≡ Ok (insert (rules_of pairs) register.0 rule)
   set_rule-found old place at = rw (get-found pairs place register old distinct at) refl
 
   set_rule-absent : All (λ pair. pair.0 ≢ register) pairs → (full : Bool) → is_at_limit limit (length pairs) ≡ full
-      → set_rule limit (rules_of pairs) register.0 rule ≡ cond full (Err TooManyRegisterRules) (Ok (insert (rules_of pairs) register.0 rule))
+      → map_set_rule limit (rules_of pairs) register.0 rule ≡ cond full (Err TooManyRegisterRules) (Ok (insert (rules_of pairs) register.0 rule))
   set_rule-absent absent full is = rw (get-absent pairs register absent, len-rules_of pairs distinct, is) refl
 
   pub distinct-written : (place : ℕ) → IsSomeAnd (slice_get pairs place) (λ pair. pair.0 ≡ register) → IsDistinctRegisters (set pairs place (register, rule))
   distinct-written place found =
       let at = pair_at pairs place register found in
-      subst (λ (es : List (ℕ × RegisterRule T)). IsDistinct (eq_by_cmp nat_cmp) (map (λ e. e.0) es)) (sym (map-set numbered pairs place (register, rule)))
-      (distinct-set nat_cmp_total nat_cmp-IsAntisymmetric (map numbered pairs) place register.0 at.0 rule distinct (entry_at pairs place register at.0 at.1))
+      subst (λ (es : List (ℕ × RegisterRule T)). IsDistinct (eq_by_cmp nat_cmp) (map (λ e. e.0) es)) (sym (map-set numbered_pair pairs place (register, rule)))
+      (distinct-set nat_cmp_total nat_cmp-IsAntisymmetric (map numbered_pair pairs) place register.0 at.0 rule distinct (entry_at pairs place register at.0 at.1))
 
   pub sets-written : (place : ℕ) → IsSomeAnd (slice_get pairs place) (λ pair. pair.0 ≡ register) → Sets (rules_of (set pairs place (register, rule))) (Ok tt)
   sets-written place found =
       let at = pair_at pairs place register found in
-      rw (set_rule-found at.0 place at.1, map-set numbered pairs place (register, rule))
-      (from_entries-set nat_cmp_total nat_cmp-IsAntisymmetric (map numbered pairs) place register.0 at.0 rule distinct (entry_at pairs place register at.0 at.1))
+      rw (set_rule-found at.0 place at.1, map-set numbered_pair pairs place (register, rule))
+      (from_entries-set nat_cmp_total nat_cmp-IsAntisymmetric (map numbered_pair pairs) place register.0 at.0 rule distinct (entry_at pairs place register at.0 at.1))
 
   pub distinct-pushed : All (λ pair. pair.0 ≢ register) pairs → IsDistinctRegisters (pairs ++ (register, rule) ∷ [])
   distinct-pushed absent =
-      subst (λ (es : List (ℕ × RegisterRule T)). IsDistinct (eq_by_cmp nat_cmp) (map (λ e. e.0) es)) (sym (map-append numbered pairs ((register, rule) ∷ [])))
-      (distinct-push nat_cmp_total nat_cmp-IsAntisymmetric (map numbered pairs) register.0 rule distinct (find-none pairs register absent))
+      subst (λ (es : List (ℕ × RegisterRule T)). IsDistinct (eq_by_cmp nat_cmp) (map (λ e. e.0) es)) (sym (map-append numbered_pair pairs ((register, rule) ∷ [])))
+      (distinct-push nat_cmp_total nat_cmp-IsAntisymmetric (map numbered_pair pairs) register.0 rule distinct (find-none pairs register absent))
 
   pub sets-pushed : All (λ pair. pair.0 ≢ register) pairs → ¬ IsAtLimit limit pairs → Sets (rules_of (pairs ++ (register, rule) ∷ [])) (Ok tt)
   sets-pushed absent below =
-      rw (set_rule-absent absent false (at_limit-false limit pairs below), map-append numbered pairs ((register, rule) ∷ []))
-      (from_entries-push nat_cmp_total nat_cmp-IsAntisymmetric (map numbered pairs) register.0 rule (find-none pairs register absent))
+      rw (set_rule-absent absent false (at_limit-false limit pairs below), map-append numbered_pair pairs ((register, rule) ∷ []))
+      (from_entries-push nat_cmp_total nat_cmp-IsAntisymmetric (map numbered_pair pairs) register.0 rule (find-none pairs register absent))
 
   pub sets-refused : All (λ pair. pair.0 ≢ register) pairs → (why : Why) → (why ≡ Full (record {})) ↔ IsAtLimit limit pairs → (why ≡ Memory → IsNone limit)
       → Sets (rules_of pairs) (Err (refusal_for why TooManyRegisterRules))

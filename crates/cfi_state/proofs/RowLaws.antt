@@ -9,11 +9,11 @@ use Rattle.cfi_read_core.specs.declared.error.Error.{Error}
 use Rattle.cfi_parts.specs.declared.instruction.CallFrameInstruction.{CallFrameInstruction}
 use Rattle.cfi_parts.specs.declared.instruction.CallFrameInstruction.TheVariants as instruction
 use Rattle.cfi_state.specs.Row.{Row}
-use Rattle.cfi_state.specs.Operands.{Setting, moved, is_move}
+use Rattle.cfi_state.specs.ProgramSettings.{Setting, next_location, is_move}
 use Rattle.cfi_state.specs.Program.{Program, in_fde, refused_if, followed_by, location_of, refusal}
-use Rattle.cfi_state.specs.Rows.{or_refused, on_option, on_result, refusals, row_until, rows_ended, answers_of, answers, cie_refusal, run_answers, state_of, rows_of, row_contains, AreConsecutive, answer_at, fde_answer, run_fde_answer}
+use Rattle.cfi_state.specs.Rows.{or_refused, on_option, on_result, refusals, row_until, rows_ended, answers_of, answers, cie_refusal, run_answers, program_state, rows_of, row_contains, AreConsecutive, answer_at, fde_answer, run_fde_answer}
 use Rattle.cfi_state.proofs.Law.{location_push}
-use Rattle.cfi_state.proofs.StandsBehind.{cie_law, cie_accepted, run_law}
+use Rattle.cfi_state.proofs.IsStateAfter.{cie_law, cie_accepted, run_law}
 
 not_refused : (b : Bool) (e : Error) → refused_if b e ≡ None → b ≡ false
 not_refused true e h = absurd (let wrong : Some e ≡ None = h in cc)
@@ -41,12 +41,12 @@ module _ {T : Type 0} where
   -- ---- consecutive rows
 
   -- an accepted instruction does not move back
-  moves_on : (s : Setting) (p : Program T) (i : CallFrameInstruction T) → refusal s p i ≡ None → location_of s p ≤ moved s (location_of s p) i
+  moves_on : (s : Setting) (p : Program T) (i : CallFrameInstruction T) → refusal s p i ≡ None → location_of s p ≤ next_location s (location_of s p) i
   moves_on s p (instruction.SetLoc address) e = ltb-false address (location_of s p) (not_refused _ _ e)
   moves_on s p (instruction.AdvanceLoc delta) e = omega arith
   moves_on s p _ e = omega arith
 
-  still_there : (s : Setting) (location : ℕ) (i : CallFrameInstruction T) → is_move i ≡ false → moved s location i ≡ location
+  still_there : (s : Setting) (location : ℕ) (i : CallFrameInstruction T) → is_move i ≡ false → next_location s location i ≡ location
   still_there s location (instruction.SetLoc address) e = absurd (false≢true (sym e))
   still_there s location (instruction.AdvanceLoc delta) e = absurd (false≢true (sym e))
   still_there s location _ e = refl
@@ -131,7 +131,7 @@ module _ {T : Type 0} where
   answer_contains address (Ok first ∷ l) row e = answer_case address first row l (row_contains address first) refl (answer_contains address l row) e
 
   fde_answer_step : (s : Setting) (cie fde : Readings (CallFrameInstruction T)) (address : ℕ) (o : Option Error) → cie_refusal s cie ≡ o →
-      on_result (λ x. answer_at address (run_answers s x fde)) (λ e. Err e) (or_refused o (state_of s (in_fde cie.values []))) ≡ on_option (answer_at address (answers s (in_fde cie.values []) fde)) (λ e. Err e) o
+      on_result (λ x. answer_at address (run_answers s x fde)) (λ e. Err e) (or_refused o (program_state s (in_fde cie.values []))) ≡ on_option (answer_at address (answers s (in_fde cie.values []) fde)) (λ e. Err e) o
   fde_answer_step s cie fde address None e = ap (answer_at address) (run_law s fde.values fde.refusal (in_fde cie.values []) (cie_accepted s cie e))
   fde_answer_step s cie fde address (Some d) e = refl
 

@@ -6,12 +6,12 @@ use Rattle.cfi_read_core.specs.declared.error.Error.{Error}
 use Rattle.cfi_read_core.specs.declared.error.Error.TheVariants.{OutOfMemory, NoUnwindInfoForAddress}
 use Rattle.cfi_parts.specs.declared.instruction.CallFrameInstruction.{CallFrameInstruction}
 use Rattle.cfi_state.specs.Row.{Row}
-use Rattle.cfi_state.specs.Operands.{Setting, is_move}
+use Rattle.cfi_state.specs.ProgramSettings.{Setting, is_move}
 use Rattle.cfi_state.specs.Machine.{State, fresh_state, step, end_of_cie}
 use Rattle.cfi_state.specs.Rows.{on_result, on_option, row_ended, run_answers, run_answers_of, run_all, run_cie, row_contains, answer_at, run_fde_answer}
 use Rattle.cfi_state.specs.Outcome.{IsRefusal}
-use Rattle.cfi_state.specs.Places.{Place, going, run_to_come, IsNext}
-use Rattle.cfi_state.specs.Runs.{Wants, AreNever, current_row, NextAnswer, passes, ends_row, refuses, cannot_read, last_row, no_row, RunsCie, cie_passes, cie_refuses, cie_cannot_read, cie_ends, cie_end_refused, FindsRow, contains_it, goes_on, is_refused, comes_to_end, AnswersFde, by_cie, by_rows}
+use Rattle.cfi_state.specs.TableStates.{TableState, before_last_row, run_answers_to_come, IsNext}
+use Rattle.cfi_state.specs.Runs.{MayAllocate, AreNever, current_row, NextAnswer, passes, ends_row, refuses, cannot_read, last_row, no_row, RunsInitialInstructions, cie_passes, cie_refuses, cie_cannot_read, cie_ends, cie_end_refused, FindsRow, contains_it, goes_on, is_refused, comes_to_end, AnswersFde, by_cie, by_rows}
 use Rattle.cfi_state.proofs.MachineSteps.{run_answers-other, run_answers-move, run_answers-refused}
 
 pub due_refusal : {A : Type 0} (w : Bool) (due : Result A Error) (e : Error) → w ≡ false → IsRefusal w due e → due ≡ Err e
@@ -39,36 +39,36 @@ found_contains Next address p result (goes_on p' q row result' next outside find
 found_contains Next address p result (is_refused p' q e next) = tt
 found_contains Next address p result (comes_to_end p' q next) = tt
 
-module _ {T : Type 0} (wants : Wants T) (s : Setting) (never : AreNever wants) where
+module _ {T : Type 0} (allocates : MayAllocate T) (s : Setting) (never : AreNever allocates) where
   -- the next answer is the first of those still to come
-  pub next_is : (p : Place (State T) T) (answer : Result (Option (Row T)) Error) (q : Place (State T) T) → NextAnswer wants s p answer q → IsNext (run_to_come s p) answer (run_to_come s q)
+  pub next_is : (p : TableState (State T) T) (answer : Result (Option (Row T)) Error) (q : TableState (State T) T) → NextAnswer allocates s p answer q → IsNext (run_answers_to_come s p) answer (run_answers_to_come s q)
   next_is p answer q (passes x y i rest answer' q' still stepped next) =
-      subst (λ l. IsNext l answer' (run_to_come s q')) (sym (run_answers-other s x y i rest.values rest.refusal stepped still)) (next_is (going y rest) answer' q' next)
+      subst (λ l. IsNext l answer' (run_answers_to_come s q')) (sym (run_answers-other s x y i rest.values rest.refusal stepped still)) (next_is (before_last_row y rest) answer' q' next)
   next_is p answer q (ends_row x y i rest moves stepped) = run_answers-move s x y i rest.values rest.refusal stepped moves
-  next_is p answer q (refuses x i rest e refusal) = run_answers-refused s x i rest.values rest.refusal e (due_refusal (wants.at x i) (step s x i) e (never.at x i) refusal)
+  next_is p answer q (refuses x i rest e refusal) = run_answers-refused s x i rest.values rest.refusal e (due_refusal (allocates.at x i) (step s x i) e (never.at x i) refusal)
   next_is p answer q (cannot_read x e) = refl
   next_is p answer q (last_row x) = refl
   next_is p answer q (no_row x left) = (refl, refl)
 
-  pub finds_answer : (address : ℕ) (p : Place (State T) T) (result : Result (Row T) Error) → FindsRow (NextAnswer wants s) address p result → answer_at address (run_to_come s p) ≡ result
-  finds_answer address = finds_is (NextAnswer wants s) (run_to_come s) address next_is
+  pub finds_answer : (address : ℕ) (p : TableState (State T) T) (result : Result (Row T) Error) → FindsRow (NextAnswer allocates s) address p result → answer_at address (run_answers_to_come s p) ≡ result
+  finds_answer address = finds_is (NextAnswer allocates s) (run_answers_to_come s) address next_is
 
-  cie_from : (x : State T) (reads : Readings (CallFrameInstruction T)) (result : Result (State T) Error) → RunsCie wants s x reads result → run_from s x reads ≡ result
+  cie_from : (x : State T) (reads : Readings (CallFrameInstruction T)) (result : Result (State T) Error) → RunsInitialInstructions allocates s x reads result → run_from s x reads ≡ result
   cie_from x reads result (cie_passes x' y i rest result' stepped runs) =
       ap (λ r. on_result (λ z. on_option (end_of_cie s z) (λ e. Err e) rest.refusal) (λ e. Err e) (on_result (λ z. run_all s z rest.values) (λ e. Err e) r)) stepped ∙ cie_from y rest result' runs
   cie_from x reads result (cie_refuses x' i rest e refusal) =
-      ap (λ r. on_result (λ z. on_option (end_of_cie s z) (λ e. Err e) rest.refusal) (λ e. Err e) (on_result (λ z. run_all s z rest.values) (λ e. Err e) r)) (due_refusal (wants.at x' i) (step s x' i) e (never.at x' i) refusal)
+      ap (λ r. on_result (λ z. on_option (end_of_cie s z) (λ e. Err e) rest.refusal) (λ e. Err e) (on_result (λ z. run_all s z rest.values) (λ e. Err e) r)) (due_refusal (allocates.at x' i) (step s x' i) e (never.at x' i) refusal)
   cie_from x reads result (cie_cannot_read x' e) = refl
   cie_from x reads result (cie_ends x' y is) = is
-  cie_from x reads result (cie_end_refused x' e refusal) = due_refusal (wants.at_end x') (end_of_cie s x') e (never.at_end x') refusal
+  cie_from x reads result (cie_end_refused x' e refusal) = due_refusal (allocates.at_end x') (end_of_cie s x') e (never.at_end x') refusal
 
-  pub cie_is : (reads : Readings (CallFrameInstruction T)) (result : Result (State T) Error) → RunsCie wants s fresh_state reads result → run_cie s reads ≡ result
+  pub cie_is : (reads : Readings (CallFrameInstruction T)) (result : Result (State T) Error) → RunsInitialInstructions allocates s fresh_state reads result → run_cie s reads ≡ result
   cie_is reads = cie_from fresh_state reads
 
-  pub fde_answer_is : (cie fde : Readings (CallFrameInstruction T)) (address : ℕ) (result : Result (Row T) Error) → AnswersFde wants s cie fde address result → run_fde_answer s cie fde address ≡ result
+  pub fde_answer_is : (cie fde : Readings (CallFrameInstruction T)) (address : ℕ) (result : Result (Row T) Error) → AnswersFde allocates s cie fde address result → run_fde_answer s cie fde address ≡ result
   fde_answer_is cie fde address result (by_cie e runs) = ap (on_result (λ x. answer_at address (run_answers s x fde)) (λ d. Err d)) (cie_is cie (Err e) runs)
   fde_answer_is cie fde address result (by_rows x result' runs finds) =
-      ap (on_result (λ y. answer_at address (run_answers s y fde)) (λ d. Err d)) (cie_is cie (Ok x) runs) ∙ finds_answer address (going x fde) result' finds
+      ap (on_result (λ y. answer_at address (run_answers s y fde)) (λ d. Err d)) (cie_is cie (Ok x) runs) ∙ finds_answer address (before_last_row x fde) result' finds
 
 -- ---- want of memory apart, they are the same: one that is refused for want of memory is answered so
 
@@ -76,17 +76,17 @@ due_or_memory : {A : Type 0} (w : Bool) (due : Result A Error) (e : Error) → I
 due_or_memory w due e (inl is) = inl is
 due_or_memory w due e (inr wanting) = inr wanting.2
 
-module _ {T : Type 0} (wants : Wants T) (s : Setting) where
+module _ {T : Type 0} (allocates : MayAllocate T) (s : Setting) where
   refused_or_memory : (x : State T) (i : CallFrameInstruction T) (xs : List (CallFrameInstruction T)) (unread : Option Error) (e : Error) → (step s x i ≡ Err e) ⊎ (e ≡ OutOfMemory) →
       (run_answers_of s x (i ∷ xs) unread ≡ Err e ∷ run_answers_of s x xs unread) ⊎ (◌≡◌ {A = Result (Option (Row T)) Error} (Err e) (Err OutOfMemory))
   refused_or_memory x i xs unread e (inl is) = inl (run_answers-refused s x i xs unread e is)
   refused_or_memory x i xs unread e (inr is) = inr (ap Err is)
 
-  pub next_or_memory : (p : Place (State T) T) (answer : Result (Option (Row T)) Error) (q : Place (State T) T) → NextAnswer wants s p answer q → IsNext (run_to_come s p) answer (run_to_come s q) ⊎ (answer ≡ Err OutOfMemory)
+  pub next_or_memory : (p : TableState (State T) T) (answer : Result (Option (Row T)) Error) (q : TableState (State T) T) → NextAnswer allocates s p answer q → IsNext (run_answers_to_come s p) answer (run_answers_to_come s q) ⊎ (answer ≡ Err OutOfMemory)
   next_or_memory p answer q (passes x y i rest answer' q' still stepped next) =
-      subst (λ l. IsNext l answer' (run_to_come s q') ⊎ (answer' ≡ Err OutOfMemory)) (sym (run_answers-other s x y i rest.values rest.refusal stepped still)) (next_or_memory (going y rest) answer' q' next)
+      subst (λ l. IsNext l answer' (run_answers_to_come s q') ⊎ (answer' ≡ Err OutOfMemory)) (sym (run_answers-other s x y i rest.values rest.refusal stepped still)) (next_or_memory (before_last_row y rest) answer' q' next)
   next_or_memory p answer q (ends_row x y i rest moves stepped) = inl (run_answers-move s x y i rest.values rest.refusal stepped moves)
-  next_or_memory p answer q (refuses x i rest e refusal) = refused_or_memory x i rest.values rest.refusal e (due_or_memory (wants.at x i) (step s x i) e refusal)
+  next_or_memory p answer q (refuses x i rest e refusal) = refused_or_memory x i rest.values rest.refusal e (due_or_memory (allocates.at x i) (step s x i) e refusal)
   next_or_memory p answer q (cannot_read x e) = inl refl
   next_or_memory p answer q (last_row x) = inl refl
   next_or_memory p answer q (no_row x left) = inl (refl, refl)
@@ -110,12 +110,12 @@ module _ {T : Type 0} (wants : Wants T) (s : Setting) where
   at_the_end address before after (inl is) = ap (answer_at address) is.0
   at_the_end address before after (inr wrong) = absurd (let no_refusal : ◌≡◌ {A = Result (Option (Row T)) Error} (Ok None) (Err OutOfMemory) = wrong in cc)
 
-  pub finds_or_memory : (address : ℕ) (p : Place (State T) T) (result : Result (Row T) Error) → FindsRow (NextAnswer wants s) address p result → (answer_at address (run_to_come s p) ≡ result) ⊎ (result ≡ Err OutOfMemory)
-  finds_or_memory address p result (contains_it p' q row next inside) = at_answer address (run_to_come s p') (run_to_come s q) row inside (next_or_memory p' (Ok (Some row)) q next)
+  pub finds_or_memory : (address : ℕ) (p : TableState (State T) T) (result : Result (Row T) Error) → FindsRow (NextAnswer allocates s) address p result → (answer_at address (run_answers_to_come s p) ≡ result) ⊎ (result ≡ Err OutOfMemory)
+  finds_or_memory address p result (contains_it p' q row next inside) = at_answer address (run_answers_to_come s p') (run_answers_to_come s q) row inside (next_or_memory p' (Ok (Some row)) q next)
   finds_or_memory address p result (goes_on p' q row result' next outside finds) =
-      row_or_memory address (run_to_come s p') (run_to_come s q) row result' result' outside (next_or_memory p' (Ok (Some row)) q next) (finds_or_memory address q result' finds)
-  finds_or_memory address p result (is_refused p' q e next) = at_refusal address (run_to_come s p') (run_to_come s q) e (next_or_memory p' (Err e) q next)
-  finds_or_memory address p result (comes_to_end p' q next) = inl (at_the_end address (run_to_come s p') (run_to_come s q) (next_or_memory p' (Ok None) q next))
+      row_or_memory address (run_answers_to_come s p') (run_answers_to_come s q) row result' result' outside (next_or_memory p' (Ok (Some row)) q next) (finds_or_memory address q result' finds)
+  finds_or_memory address p result (is_refused p' q e next) = at_refusal address (run_answers_to_come s p') (run_answers_to_come s q) e (next_or_memory p' (Err e) q next)
+  finds_or_memory address p result (comes_to_end p' q next) = inl (at_the_end address (run_answers_to_come s p') (run_answers_to_come s q) (next_or_memory p' (Ok None) q next))
 
   cie_due : (x : State T) (i : CallFrameInstruction T) (rest : Readings (CallFrameInstruction T)) (e : Error) → (step s x i ≡ Err e) ⊎ (e ≡ OutOfMemory) → (run_from s x (with_first i rest) ≡ Err e) ⊎ (◌≡◌ {A = Result (State T) Error} (Err e) (Err OutOfMemory))
   cie_due x i rest e (inl is) = inl (ap (λ r. on_result (λ z. on_option (end_of_cie s z) (λ d. Err d) rest.refusal) (λ d. Err d) (on_result (λ z. run_all s z rest.values) (λ d. Err d) r)) is)
@@ -125,15 +125,15 @@ module _ {T : Type 0} (wants : Wants T) (s : Setting) where
   end_due x e (inl is) = inl is
   end_due x e (inr is) = inr (ap Err is)
 
-  cie_or_memory_from : (x : State T) (reads : Readings (CallFrameInstruction T)) (result : Result (State T) Error) → RunsCie wants s x reads result → (run_from s x reads ≡ result) ⊎ (result ≡ Err OutOfMemory)
+  cie_or_memory_from : (x : State T) (reads : Readings (CallFrameInstruction T)) (result : Result (State T) Error) → RunsInitialInstructions allocates s x reads result → (run_from s x reads ≡ result) ⊎ (result ≡ Err OutOfMemory)
   cie_or_memory_from x reads result (cie_passes x' y i rest result' stepped runs) =
       subst (λ r. (on_result (λ z. on_option (end_of_cie s z) (λ d. Err d) rest.refusal) (λ d. Err d) (on_result (λ z. run_all s z rest.values) (λ d. Err d) r) ≡ result') ⊎ (result' ≡ Err OutOfMemory)) (sym stepped) (cie_or_memory_from y rest result' runs)
-  cie_or_memory_from x reads result (cie_refuses x' i rest e refusal) = cie_due x' i rest e (due_or_memory (wants.at x' i) (step s x' i) e refusal)
+  cie_or_memory_from x reads result (cie_refuses x' i rest e refusal) = cie_due x' i rest e (due_or_memory (allocates.at x' i) (step s x' i) e refusal)
   cie_or_memory_from x reads result (cie_cannot_read x' e) = inl refl
   cie_or_memory_from x reads result (cie_ends x' y is) = inl is
-  cie_or_memory_from x reads result (cie_end_refused x' e refusal) = end_due x' e (due_or_memory (wants.at_end x') (end_of_cie s x') e refusal)
+  cie_or_memory_from x reads result (cie_end_refused x' e refusal) = end_due x' e (due_or_memory (allocates.at_end x') (end_of_cie s x') e refusal)
 
-  pub cie_or_memory : (reads : Readings (CallFrameInstruction T)) (result : Result (State T) Error) → RunsCie wants s fresh_state reads result → (run_cie s reads ≡ result) ⊎ (result ≡ Err OutOfMemory)
+  pub cie_or_memory : (reads : Readings (CallFrameInstruction T)) (result : Result (State T) Error) → RunsInitialInstructions allocates s fresh_state reads result → (run_cie s reads ≡ result) ⊎ (result ≡ Err OutOfMemory)
   cie_or_memory reads = cie_or_memory_from fresh_state reads
 
   by_cie_refusal : (cie fde : Readings (CallFrameInstruction T)) (address : ℕ) (e : Error) → (run_cie s cie ≡ Err e) ⊎ (◌≡◌ {A = Result (State T) Error} (Err e) (Err OutOfMemory)) → (run_fde_answer s cie fde address ≡ Err e) ⊎ (◌≡◌ {A = Result (Row T) Error} (Err e) (Err OutOfMemory))
@@ -146,40 +146,40 @@ module _ {T : Type 0} (wants : Wants T) (s : Setting) where
   by_cie_end cie fde address x result (inl is) (inr memory) = inr memory
   by_cie_end cie fde address x result (inr wrong) found = absurd (let no_refusal : ◌≡◌ {A = Result (State T) Error} (Ok x) (Err OutOfMemory) = wrong in cc)
 
-  pub fde_answer_or_memory : (cie fde : Readings (CallFrameInstruction T)) (address : ℕ) (result : Result (Row T) Error) → AnswersFde wants s cie fde address result → (run_fde_answer s cie fde address ≡ result) ⊎ (result ≡ Err OutOfMemory)
+  pub fde_answer_or_memory : (cie fde : Readings (CallFrameInstruction T)) (address : ℕ) (result : Result (Row T) Error) → AnswersFde allocates s cie fde address result → (run_fde_answer s cie fde address ≡ result) ⊎ (result ≡ Err OutOfMemory)
   fde_answer_or_memory cie fde address result (by_cie e runs) = by_cie_refusal cie fde address e (cie_or_memory cie (Err e) runs)
-  fde_answer_or_memory cie fde address result (by_rows x result' runs finds) = by_cie_end cie fde address x result' (cie_or_memory cie (Ok x) runs) (finds_or_memory address (going x fde) result' finds)
+  fde_answer_or_memory cie fde address result (by_rows x result' runs finds) = by_cie_end cie fde address x result' (cie_or_memory cie (Ok x) runs) (finds_or_memory address (before_last_row x fde) result' finds)
 
 -- ---- and the functions' answers are always among those of the runs
 
-module _ {T : Type 0} (wants : Wants T) (s : Setting) where
-  abbrev Next : Place (State T) T → Result (Option (Row T)) Error → Place (State T) T → Type 0
-  Next = NextAnswer wants s
+module _ {T : Type 0} (allocates : MayAllocate T) (s : Setting) where
+  abbrev Next : TableState (State T) T → Result (Option (Row T)) Error → TableState (State T) T → Type 0
+  Next = NextAnswer allocates s
 
   -- what comes next at q comes next at p
-  finds_on : (address : ℕ) (p q : Place (State T) T) (result : Result (Row T) Error) → ((answer : Result (Option (Row T)) Error) (after : Place (State T) T) → Next q answer after → Next p answer after) →
+  finds_on : (address : ℕ) (p q : TableState (State T) T) (result : Result (Row T) Error) → ((answer : Result (Option (Row T)) Error) (after : TableState (State T) T) → Next q answer after → Next p answer after) →
       FindsRow Next address q result → FindsRow Next address p result
   finds_on address p q result leads (contains_it q' after row next inside) = contains_it p after row (leads (Ok (Some row)) after next) inside
   finds_on address p q result leads (goes_on q' after row result' next outside finds) = goes_on p after row result' (leads (Ok (Some row)) after next) outside finds
   finds_on address p q result leads (is_refused q' after e next) = is_refused p after e (leads (Err e) after next)
   finds_on address p q result leads (comes_to_end q' after next) = comes_to_end p after (leads (Ok None) after next)
 
-  found_or : (address : ℕ) (p q : Place (State T) T) (row : Row T) (others : Result (Row T) Error) (b : Bool) → row_contains address row ≡ b → Next p (Ok (Some row)) q → FindsRow Next address q others → FindsRow Next address p (cond b (Ok row) others)
+  found_or : (address : ℕ) (p q : TableState (State T) T) (row : Row T) (others : Result (Row T) Error) (b : Bool) → row_contains address row ≡ b → Next p (Ok (Some row)) q → FindsRow Next address q others → FindsRow Next address p (cond b (Ok row) others)
   found_or address p q row others true is next finds = contains_it p q row next is
   found_or address p q row others false is next finds = goes_on p q row others next is finds
 
   abbrev Finds : ℕ → List (CallFrameInstruction T) → Option Error → State T → Type 0
-  Finds address xs unread x = FindsRow Next address (going x (record { values = xs; refusal = unread })) (answer_at address (run_answers_of s x xs unread))
+  Finds address xs unread x = FindsRow Next address (before_last_row x (record { values = xs; refusal = unread })) (answer_at address (run_answers_of s x xs unread))
 
   finds_behind_move : (address : ℕ) (x y : State T) (i : CallFrameInstruction T) (xs : List (CallFrameInstruction T)) (unread : Option Error) (b : Bool) → is_move i ≡ b → step s x i ≡ Ok y → Finds address xs unread y →
-      FindsRow Next address (going x (record { values = i ∷ xs; refusal = unread })) (answer_at address (cond b (Ok (current_row x y.location) ∷ []) [] ++ run_answers_of s y xs unread))
+      FindsRow Next address (before_last_row x (record { values = i ∷ xs; refusal = unread })) (answer_at address (cond b (Ok (current_row x y.location) ∷ []) [] ++ run_answers_of s y xs unread))
   finds_behind_move address x y i xs unread true moves stepped finds =
       found_or address _ _ (current_row x y.location) _ (row_contains address (current_row x y.location)) refl (ends_row x y i (record { values = xs; refusal = unread }) moves stepped) finds
   finds_behind_move address x y i xs unread false still stepped finds =
       finds_on address _ _ _ (λ answer after next. passes x y i (record { values = xs; refusal = unread }) answer after still stepped next) finds
 
   finds_behind : (address : ℕ) (x : State T) (i : CallFrameInstruction T) (xs : List (CallFrameInstruction T)) (unread : Option Error) (r : Result (State T) Error) → step s x i ≡ r → ((y : State T) → Finds address xs unread y) →
-      FindsRow Next address (going x (record { values = i ∷ xs; refusal = unread })) (answer_at address (on_result (λ y. row_ended x i y ++ run_answers_of s y xs unread) (λ e. Err e ∷ run_answers_of s x xs unread) r))
+      FindsRow Next address (before_last_row x (record { values = i ∷ xs; refusal = unread })) (answer_at address (on_result (λ y. row_ended x i y ++ run_answers_of s y xs unread) (λ e. Err e ∷ run_answers_of s x xs unread) r))
   finds_behind address x i xs unread (Ok y) stepped finds = finds_behind_move address x y i xs unread (is_move i) refl stepped (finds y)
   finds_behind address x i xs unread (Err e) stepped finds = is_refused _ _ e (refuses x i (record { values = xs; refusal = unread }) e (inl stepped))
 
@@ -189,29 +189,29 @@ module _ {T : Type 0} (wants : Wants T) (s : Setting) where
   finds_from address [] (Some e) x = is_refused _ _ e (cannot_read x e)
   finds_from address (i ∷ xs) unread x = finds_behind address x i xs unread (step s x i) refl (finds_from address xs unread)
 
-  pub answer_is_found : (address : ℕ) (x : State T) (left : Readings (CallFrameInstruction T)) → FindsRow Next address (going x left) (answer_at address (run_answers s x left))
+  pub answer_is_found : (address : ℕ) (x : State T) (left : Readings (CallFrameInstruction T)) → FindsRow Next address (before_last_row x left) (answer_at address (run_answers s x left))
   answer_is_found address x left = finds_from address left.values left.refusal x
 
-  runs_on : (x : State T) (i : CallFrameInstruction T) (xs : List (CallFrameInstruction T)) (unread : Option Error) (r : Result (State T) Error) → step s x i ≡ r → ((y : State T) → RunsCie wants s y (record { values = xs; refusal = unread }) (run_from s y (record { values = xs; refusal = unread }))) →
-      RunsCie wants s x (record { values = i ∷ xs; refusal = unread }) (on_result (λ y. on_option (end_of_cie s y) (λ e. Err e) unread) (λ e. Err e) (on_result (λ y. run_all s y xs) (λ e. Err e) r))
+  runs_on : (x : State T) (i : CallFrameInstruction T) (xs : List (CallFrameInstruction T)) (unread : Option Error) (r : Result (State T) Error) → step s x i ≡ r → ((y : State T) → RunsInitialInstructions allocates s y (record { values = xs; refusal = unread }) (run_from s y (record { values = xs; refusal = unread }))) →
+      RunsInitialInstructions allocates s x (record { values = i ∷ xs; refusal = unread }) (on_result (λ y. on_option (end_of_cie s y) (λ e. Err e) unread) (λ e. Err e) (on_result (λ y. run_all s y xs) (λ e. Err e) r))
   runs_on x i xs unread (Ok y) stepped runs = cie_passes x y i (record { values = xs; refusal = unread }) _ stepped (runs y)
   runs_on x i xs unread (Err e) stepped runs = cie_refuses x i (record { values = xs; refusal = unread }) e (inl stepped)
 
-  ends_with : (x : State T) (r : Result (State T) Error) → end_of_cie s x ≡ r → RunsCie wants s x (no_values None) r
+  ends_with : (x : State T) (r : Result (State T) Error) → end_of_cie s x ≡ r → RunsInitialInstructions allocates s x (no_values None) r
   ends_with x (Ok y) is = cie_ends x y is
   ends_with x (Err e) is = cie_end_refused x e (inl is)
 
-  runs_from : (xs : List (CallFrameInstruction T)) (unread : Option Error) (x : State T) → RunsCie wants s x (record { values = xs; refusal = unread }) (run_from s x (record { values = xs; refusal = unread }))
+  runs_from : (xs : List (CallFrameInstruction T)) (unread : Option Error) (x : State T) → RunsInitialInstructions allocates s x (record { values = xs; refusal = unread }) (run_from s x (record { values = xs; refusal = unread }))
   runs_from [] None x = ends_with x (end_of_cie s x) refl
   runs_from [] (Some e) x = cie_cannot_read x e
   runs_from (i ∷ xs) unread x = runs_on x i xs unread (step s x i) refl (runs_from xs unread)
 
-  pub cie_is_run : (reads : Readings (CallFrameInstruction T)) → RunsCie wants s fresh_state reads (run_cie s reads)
+  pub cie_is_run : (reads : Readings (CallFrameInstruction T)) → RunsInitialInstructions allocates s fresh_state reads (run_cie s reads)
   cie_is_run reads = runs_from reads.values reads.refusal fresh_state
 
-  answered : (cie fde : Readings (CallFrameInstruction T)) (address : ℕ) (r : Result (State T) Error) → RunsCie wants s fresh_state cie r → AnswersFde wants s cie fde address (on_result (λ x. answer_at address (run_answers s x fde)) (λ e. Err e) r)
+  answered : (cie fde : Readings (CallFrameInstruction T)) (address : ℕ) (r : Result (State T) Error) → RunsInitialInstructions allocates s fresh_state cie r → AnswersFde allocates s cie fde address (on_result (λ x. answer_at address (run_answers s x fde)) (λ e. Err e) r)
   answered cie fde address (Ok x) runs = by_rows x _ runs (answer_is_found address x fde)
   answered cie fde address (Err e) runs = by_cie e runs
 
-  pub fde_is_answered : (cie fde : Readings (CallFrameInstruction T)) (address : ℕ) → AnswersFde wants s cie fde address (run_fde_answer s cie fde address)
+  pub fde_is_answered : (cie fde : Readings (CallFrameInstruction T)) (address : ℕ) → AnswersFde allocates s cie fde address (run_fde_answer s cie fde address)
   fde_is_answered cie fde address = answered cie fde address (run_cie s cie) (cie_is_run cie)

@@ -1,7 +1,7 @@
 -- What a contract sees of an unwind context.
 --     ContextState      its rows, and the rules that the CIE's program ended with
---     state_of location x      the state of the machine, which keeps no addresses of rows
---     empty_context, remember, restore, end_of_cie      what the operations do
+--     machine_state location x      the state of the machine, which keeps no addresses of rows
+--     empty_context, context_remember, context_restore, context_end_of_cie      what the operations do
 use Rattle.std.specs.Prelude.{◌≡◌, ℕ, ◌+◌, ◌≤◌, Option, Some, None, List, [], ◌∷◌, length, map, reverse, nat_le, ◌&&◌, cond, ◌⊎◌, Bool, false, IsNone, Result, Ok, Err}
 use Rattle.std.specs.FinMap.{empty, insert, get, len}
 use Rattle.cfi_read_core.specs.declared.common.Register.{Register}
@@ -11,7 +11,7 @@ use Rattle.cfi_state.specs.declared.table.rules.RegisterRule.{RegisterRule}
 use Rattle.cfi_state.specs.declared.table.context.InitialRules.{InitialRules}
 use Rattle.cfi_state.specs.declared.table.context.InitialRules.TheVariants.{NotYet, NoRule, OneRule, AtTheBottom}
 use Rattle.cfi_state.specs.Limit.{HasRoomFor}
-use Rattle.cfi_state.specs.Operands.{is_at_limit}
+use Rattle.cfi_state.specs.ProgramSettings.{is_at_limit}
 use Rattle.cfi_state.specs.Machine.{Rules, State, copies_held}
 use Rattle.cfi_state.specs.Row.{Row, empty_row, with_parts}
 
@@ -26,8 +26,8 @@ abbrev pub AddsRow : Option ℕ → Bool → Type 0
 AddsRow limit copies_free = IsNone limit ⊎ (copies_free ≡ false)
 
 module _ {T : Type 0} where
-  abbrev pub state_of : ℕ → ContextState T → State T
-  state_of location x = record {
+  abbrev pub machine_state : ℕ → ContextState T → State T
+  machine_state location x = record {
     location = location;
     parts = x.row.parts;
     remembered = map (λ (row : Row T). row.parts) x.remembered;
@@ -90,26 +90,26 @@ module _ {T : Type 0} where
   with_row context row = record context { row = row }
 
   -- how many rows the stack holds, the current one among them
-  abbrev pub rows_held : ContextState T → ℕ
-  rows_held context = 1 + length context.remembered + copies_held context.initial_rules
+  abbrev pub context_rows_held : ContextState T → ℕ
+  context_rows_held context = 1 + length context.remembered + copies_held context.initial_rules
 
   -- DW_CFA_remember_state (DWARF 5 section 6.4.2.4)
-  abbrev pub remember : Option ℕ → ContextState T → Result (ContextState T) Error
-  remember limit context =
-      cond (is_at_limit limit (rows_held context)) (Err StackFull) (Ok (record context { remembered = context.row ∷ context.remembered }))
+  abbrev pub context_remember : Option ℕ → ContextState T → Result (ContextState T) Error
+  context_remember limit context =
+      cond (is_at_limit limit (context_rows_held context)) (Err StackFull) (Ok (record context { remembered = context.row ∷ context.remembered }))
 
-  abbrev pub restored : ContextState T → List (Row T) → Result (ContextState T) Error
-  restored context [] = Err PopWithEmptyStack
-  restored context (row ∷ rows) = Ok (record context { row = with_parts context.row row.parts; remembered = rows })
+  abbrev pub context_restore_from : ContextState T → List (Row T) → Result (ContextState T) Error
+  context_restore_from context [] = Err PopWithEmptyStack
+  context_restore_from context (row ∷ rows) = Ok (record context { row = with_parts context.row row.parts; remembered = rows })
 
   -- DW_CFA_restore_state: all but the addresses comes back
-  abbrev pub restore : ContextState T → Result (ContextState T) Error
-  restore context = restored context context.remembered
+  abbrev pub context_restore : ContextState T → Result (ContextState T) Error
+  context_restore context = context_restore_from context context.remembered
 
   -- the end of the CIE's program; two rules or more take a row
-  abbrev pub end_of_cie : Option ℕ → ContextState T → Result (ContextState T) Error
-  end_of_cie limit context =
-      cond (nat_le 2 (len context.row.parts.rules) && is_at_limit limit (rows_held context)) (Err StackFull)
+  abbrev pub context_end_of_cie : Option ℕ → ContextState T → Result (ContextState T) Error
+  context_end_of_cie limit context =
+      cond (nat_le 2 (len context.row.parts.rules) && is_at_limit limit (context_rows_held context)) (Err StackFull)
       (Ok (record context { initial_rules = Some context.row.parts.rules }))
 
   abbrev pub AddsInitialRow : Option ℕ → Bool → Rules T → Type 0

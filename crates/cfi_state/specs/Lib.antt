@@ -1,5 +1,5 @@
 -- What call frame instructions mean (DWARF 5 section 6.4): the machine that runs them, and the form without a machine.
-pub mod Operands
+pub mod ProgramSettings
 pub mod Machine
 pub mod Row
 pub mod Outcome
@@ -9,7 +9,7 @@ pub mod Writers
 pub mod Program
 pub mod Rows
 pub mod Numbered
-pub mod Places
+pub mod TableStates
 pub mod Runs
 pub mod Kept
 pub mod Limit
@@ -17,7 +17,7 @@ pub mod Refill
 pub mod Refusal
 pub mod Rules
 pub mod Context
-pub mod Groups
-pub mod Evaluation
+pub mod ActionEffects
+pub mod ContextEffects
 pub mod Equality
 pub mod EqualityLaws

@@ -16,7 +16,7 @@ use Rattle.cfi_state.specs.declared.table.rules.CfaRule.{CfaRule}
 use Rattle.cfi_state.specs.declared.table.rules.CfaRule.TheVariants as cfa
 use Rattle.cfi_state.specs.declared.table.rules.RegisterRule.{RegisterRule}
 use Rattle.cfi_state.specs.declared.table.rules.RegisterRule.TheVariants as rule
-use Rattle.cfi_state.specs.Operands.{Setting, ra_sign_state, is_at_limit, factored, unsigned_factored, advanced, fits_address}
+use Rattle.cfi_state.specs.ProgramSettings.{Setting, ra_sign_state, is_at_limit, times_factor, unsigned_times_factor, advanced_location, fits_address}
 
 -- the rules of registers, by number; a register that is not in the map has no rule
 abbrev pub Rules : Type 0 → Type 0
@@ -92,19 +92,19 @@ module _ {T : Type 0} where
 
   abbrev pub step : Setting → State T → CallFrameInstruction T → Result (State T) Error
   step s x (instruction.SetLoc address) = cond (nat_lt address x.location) (Err (InvalidCfiSetLoc address)) (Ok (record x { location = address }))
-  step s x (instruction.AdvanceLoc delta) = cond (fits_address s (advanced s x.location delta)) (Ok (record x { location = advanced s x.location delta })) (Err AddressOverflow)
+  step s x (instruction.AdvanceLoc delta) = cond (fits_address s (advanced_location s x.location delta)) (Ok (record x { location = advanced_location s x.location delta })) (Err AddressOverflow)
   step s x (instruction.DefCfa r offset) = Ok (with_cfa x (cfa.RegisterAndOffset r (cast_signed w64 offset)))
-  step s x (instruction.DefCfaSf r offset) = Ok (with_cfa x (cfa.RegisterAndOffset r (factored s offset)))
+  step s x (instruction.DefCfaSf r offset) = Ok (with_cfa x (cfa.RegisterAndOffset r (times_factor s offset)))
   step s x (instruction.DefCfaRegister r) = set_cfa_register x r x.parts.cfa
   step s x (instruction.DefCfaOffset offset) = set_cfa_offset x (cast_signed w64 offset) x.parts.cfa
-  step s x (instruction.DefCfaOffsetSf offset) = set_cfa_offset x (factored s offset) x.parts.cfa
+  step s x (instruction.DefCfaOffsetSf offset) = set_cfa_offset x (times_factor s offset) x.parts.cfa
   step s x (instruction.DefCfaExpression e) = Ok (with_cfa x (cfa.Expression e))
   step s x (instruction.Undefined r) = set_rule s x r.0 rule.Undefined
   step s x (instruction.SameValue r) = set_rule s x r.0 rule.SameValue
-  step s x (instruction.Offset r n) = set_rule s x r.0 (rule.Offset (unsigned_factored s n))
-  step s x (instruction.OffsetExtendedSf r n) = set_rule s x r.0 (rule.Offset (factored s n))
-  step s x (instruction.ValOffset r n) = set_rule s x r.0 (rule.ValOffset (unsigned_factored s n))
-  step s x (instruction.ValOffsetSf r n) = set_rule s x r.0 (rule.ValOffset (factored s n))
+  step s x (instruction.Offset r n) = set_rule s x r.0 (rule.Offset (unsigned_times_factor s n))
+  step s x (instruction.OffsetExtendedSf r n) = set_rule s x r.0 (rule.Offset (times_factor s n))
+  step s x (instruction.ValOffset r n) = set_rule s x r.0 (rule.ValOffset (unsigned_times_factor s n))
+  step s x (instruction.ValOffsetSf r n) = set_rule s x r.0 (rule.ValOffset (times_factor s n))
   step s x (instruction.Register r source) = set_rule s x r.0 (rule.Register source)
   step s x (instruction.Expression r e) = set_rule s x r.0 (rule.Expression e)
   step s x (instruction.ValExpression r e) = set_rule s x r.0 (rule.ValExpression e)

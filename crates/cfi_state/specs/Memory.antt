@@ -1,11 +1,11 @@
 -- Where an instruction may want memory: only where a list grows that no limit bounds, or where a row is copied and copies take memory.
---     wants_at s copies_free x i      whether the instruction i may want memory in the state x
---     wants_at_end s copies_free x      whether the end of a CIE's program may
+--     may_allocate_at s copies_free x i      whether the instruction i may want memory in the state x
+--     may_allocate_at_end s copies_free x      whether the end of a CIE's program may
 use Rattle.std.specs.Prelude.{ℕ, Bool, false, not, ◌&&◌, nat_le, Option, Some, None, is_some}
 use Rattle.std.specs.FinMap as map
 use Rattle.cfi_parts.specs.declared.instruction.CallFrameInstruction.{CallFrameInstruction}
 use Rattle.cfi_parts.specs.declared.instruction.CallFrameInstruction.TheVariants as instruction
-use Rattle.cfi_state.specs.Operands.{Setting, ra_sign_state}
+use Rattle.cfi_state.specs.ProgramSettings.{Setting, ra_sign_state}
 use Rattle.cfi_state.specs.Machine.{Rules, State}
 
 -- a row is put on the stack, which may grow, or copies of whose rows want memory
@@ -22,21 +22,21 @@ module _ {T : Type 0} where
   has_initial_rule (Some rules) r = map.contains_key rules r
 
   -- what grows nothing wants no memory, nor does the replacement of a rule
-  abbrev pub wants_at : Setting → Bool → State T → CallFrameInstruction T → Bool
-  wants_at s copies_free x (instruction.Undefined r) = adds_rule s x r.0
-  wants_at s copies_free x (instruction.SameValue r) = adds_rule s x r.0
-  wants_at s copies_free x (instruction.Offset r n) = adds_rule s x r.0
-  wants_at s copies_free x (instruction.OffsetExtendedSf r n) = adds_rule s x r.0
-  wants_at s copies_free x (instruction.ValOffset r n) = adds_rule s x r.0
-  wants_at s copies_free x (instruction.ValOffsetSf r n) = adds_rule s x r.0
-  wants_at s copies_free x (instruction.Register r source) = adds_rule s x r.0
-  wants_at s copies_free x (instruction.Expression r e) = adds_rule s x r.0
-  wants_at s copies_free x (instruction.ValExpression r e) = adds_rule s x r.0
-  wants_at s copies_free x (instruction.Restore r) = has_initial_rule x.initial_rules r.0 && adds_rule s x r.0
-  wants_at s copies_free x instruction.RememberState = copies_row s copies_free
-  wants_at s copies_free x instruction.NegateRaState = adds_rule s x ra_sign_state
-  wants_at s copies_free x _ = false
+  abbrev pub may_allocate_at : Setting → Bool → State T → CallFrameInstruction T → Bool
+  may_allocate_at s copies_free x (instruction.Undefined r) = adds_rule s x r.0
+  may_allocate_at s copies_free x (instruction.SameValue r) = adds_rule s x r.0
+  may_allocate_at s copies_free x (instruction.Offset r n) = adds_rule s x r.0
+  may_allocate_at s copies_free x (instruction.OffsetExtendedSf r n) = adds_rule s x r.0
+  may_allocate_at s copies_free x (instruction.ValOffset r n) = adds_rule s x r.0
+  may_allocate_at s copies_free x (instruction.ValOffsetSf r n) = adds_rule s x r.0
+  may_allocate_at s copies_free x (instruction.Register r source) = adds_rule s x r.0
+  may_allocate_at s copies_free x (instruction.Expression r e) = adds_rule s x r.0
+  may_allocate_at s copies_free x (instruction.ValExpression r e) = adds_rule s x r.0
+  may_allocate_at s copies_free x (instruction.Restore r) = has_initial_rule x.initial_rules r.0 && adds_rule s x r.0
+  may_allocate_at s copies_free x instruction.RememberState = copies_row s copies_free
+  may_allocate_at s copies_free x instruction.NegateRaState = adds_rule s x ra_sign_state
+  may_allocate_at s copies_free x _ = false
 
   -- two initial rules or more are kept in a row of the stack
-  abbrev pub wants_at_end : Setting → Bool → State T → Bool
-  wants_at_end s copies_free x = nat_le 2 (map.len x.parts.rules) && copies_row s copies_free
+  abbrev pub may_allocate_at_end : Setting → Bool → State T → Bool
+  may_allocate_at_end s copies_free x = nat_le 2 (map.len x.parts.rules) && copies_row s copies_free

@@ -6,10 +6,10 @@ use Rattle.cfi_read_core.specs.declared.error.Error.TheVariants.{OutOfMemory}
 -- The value changes as expected, or stays with the refusal that is expected. Where a change was expected and memory may be wanting,
 -- it may also stay, with `OutOfMemory`.
 abbrev pub Performs : {A B : Type 0} → Type 0 → Result A Error → A → A → Result B Error → Type 0
-Performs wants_memory (Ok after) old new (Ok _) = new ≡ after
-Performs wants_memory (Ok after) old new (Err error) = (error ≡ OutOfMemory) × (new ≡ old) × wants_memory
-Performs wants_memory (Err refusal) old new (Ok _) = ⊥
-Performs wants_memory (Err refusal) old new (Err error) = (error ≡ refusal) × (new ≡ old)
+Performs may_allocate (Ok after) old new (Ok _) = new ≡ after
+Performs may_allocate (Ok after) old new (Err error) = (error ≡ OutOfMemory) × (new ≡ old) × may_allocate
+Performs may_allocate (Err refusal) old new (Ok _) = ⊥
+Performs may_allocate (Err refusal) old new (Err error) = (error ≡ refusal) × (new ≡ old)
 
 -- `r.map(f)`
 abbrev pub result_map : {A B : Type 0} → (A → B) → Result A Error → Result B Error
@@ -18,4 +18,4 @@ result_map f (Err e) = Err e
 
 -- the refusal that is due or, where none is due and memory may be wanting, `OutOfMemory`
 abbrev pub IsRefusal : {A : Type 0} → Bool → Result A Error → Error → Type 0
-IsRefusal wants_memory due error = (due ≡ Err error) ⊎ (IsTrue wants_memory × IsOk due × (error ≡ OutOfMemory))
+IsRefusal may_allocate due error = (due ≡ Err error) ⊎ (IsTrue may_allocate × IsOk due × (error ≡ OutOfMemory))

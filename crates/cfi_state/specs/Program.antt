@@ -4,7 +4,7 @@
 --     parts_of s p, location_of s p      the row's parts and the location behind the program
 --     refusal s p i, refusal_at_end s p      why the next instruction, or the end of the CIE's program, is refused
 --     IsAccepted s p      none of its instructions was refused behind those before it
---     kept s p xs      the program followed by those of xs that are not refused
+--     kept_program s p xs      the program followed by those of xs that are not refused
 use Rattle.std.specs.Prelude.{◌≡◌, ℕ, ◌+◌, Bool, true, false, cond, not, ◌&&◌, nat_lt, nat_le, ◌==◌, List, [], ◌∷◌, ◌++◌, length, fold, Option, Some, None, is_some}
 use Rattle.std.specs.Option.{option_or}
 use Rattle.cfi_read_core.specs.declared.error.Error.{Error}
@@ -16,9 +16,9 @@ use Rattle.cfi_state.specs.declared.table.rules.CfaRule.TheVariants as cfa
 use Rattle.cfi_state.specs.declared.table.rules.RegisterRule.{RegisterRule}
 use Rattle.cfi_state.specs.declared.table.rules.RegisterRule.TheVariants as rule
 use Rattle.cfi_state.specs.Machine.{Parts}
-use Rattle.cfi_state.specs.Operands.{Setting, ra_sign_state, is_at_limit, advanced, fits_address, moved}
-use Rattle.cfi_state.specs.Brackets.{survivors, open_places}
-use Rattle.cfi_state.specs.Writers.{cfa_left, rule_left, registers_with_rule, parts_left}
+use Rattle.cfi_state.specs.ProgramSettings.{Setting, ra_sign_state, is_at_limit, advanced_location, fits_address, next_location}
+use Rattle.cfi_state.specs.Brackets.{survivors, open_indices}
+use Rattle.cfi_state.specs.Writers.{final_cfa, final_rule, registers_with_rule, final_parts}
 
 -- the instructions of a CIE before its end, or all of them and those of an FDE
 pub data Program (T : Type 0) : Type 0 where
@@ -40,8 +40,8 @@ module _ {T : Type 0} where
   followed_by (in_fde cie fde) i = in_fde cie (fde ++ i ∷ [])
 
   abbrev pub location_of : Setting → Program T → ℕ
-  location_of s (in_cie cie) = fold (moved s) 0 cie
-  location_of s (in_fde cie fde) = fold (moved s) s.initial_address fde
+  location_of s (in_cie cie) = fold (next_location s) 0 cie
+  location_of s (in_fde cie fde) = fold (next_location s) s.initial_address fde
 
   abbrev pub no_rule : ℕ → Option (RegisterRule T)
   no_rule r = None
@@ -49,21 +49,21 @@ module _ {T : Type 0} where
   -- the rules that the CIE's program left when it ended, whatever the FDE strikes
   abbrev pub initial_rule : Setting → Program T → ℕ → Option (RegisterRule T)
   initial_rule s (in_cie cie) = no_rule
-  initial_rule s (in_fde cie fde) = rule_left s no_rule (survivors cie)
+  initial_rule s (in_fde cie fde) = final_rule s no_rule (survivors cie)
 
   abbrev pub cfa_of : Setting → Program T → CfaRule T
-  cfa_of s p = cfa_left s (survivors (instructions p))
+  cfa_of s p = final_cfa s (survivors (instructions p))
 
   abbrev pub rule_of : Setting → Program T → ℕ → Option (RegisterRule T)
-  rule_of s p = rule_left s (initial_rule s p) (survivors (instructions p))
+  rule_of s p = final_rule s (initial_rule s p) (survivors (instructions p))
 
   abbrev pub parts_of : Setting → Program T → Parts T
-  parts_of s p = parts_left s (initial_rule s p) (survivors (instructions p))
+  parts_of s p = final_parts s (initial_rule s p) (survivors (instructions p))
 
   -- ---- counts
 
   abbrev pub open_count : Program T → ℕ
-  open_count p = length (open_places (instructions p))
+  open_count p = length (open_indices (instructions p))
 
   abbrev pub rule_count : Setting → Program T → ℕ
   rule_count s p = length (registers_with_rule s (initial_rule s p) (survivors (instructions p)))
@@ -97,7 +97,7 @@ module _ {T : Type 0} where
 
   abbrev pub refusal : Setting → Program T → CallFrameInstruction T → Option Error
   refusal s p (instruction.SetLoc address) = refused_if (nat_lt address (location_of s p)) (InvalidCfiSetLoc address)
-  refusal s p (instruction.AdvanceLoc delta) = refused_if (not (fits_address s (advanced s (location_of s p) delta))) AddressOverflow
+  refusal s p (instruction.AdvanceLoc delta) = refused_if (not (fits_address s (advanced_location s (location_of s p) delta))) AddressOverflow
   refusal s p (instruction.DefCfa r offset) = None
   refusal s p (instruction.DefCfaSf r offset) = None
   refusal s p (instruction.DefCfaRegister r) = refused_if (is_expression (cfa_of s p)) CfiInstructionInInvalidContext
@@ -134,5 +134,5 @@ module _ {T : Type 0} where
   abbrev pub kept_one : Setting → Program T → CallFrameInstruction T → Program T
   kept_one s p i = cond (is_some (refusal s p i)) p (followed_by p i)
 
-  abbrev pub kept : Setting → Program T → List (CallFrameInstruction T) → Program T
-  kept s p xs = fold (kept_one s) p xs
+  abbrev pub kept_program : Setting → Program T → List (CallFrameInstruction T) → Program T
+  kept_program s p xs = fold (kept_one s) p xs

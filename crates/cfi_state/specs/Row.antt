@@ -24,11 +24,11 @@ module _ {T : Type 0} where
   abbrev pub with_parts : Row T → Parts T → Row T
   with_parts row parts = record row { parts = parts }
 
-  abbrev pub with_cfa : Row T → CfaRule T → Row T
-  with_cfa row cfa = with_parts row (record row.parts { cfa = cfa })
+  abbrev pub row_with_cfa : Row T → CfaRule T → Row T
+  row_with_cfa row cfa = with_parts row (record row.parts { cfa = cfa })
 
   abbrev pub with_args_size : Row T → ℕ → Row T
   with_args_size row size = with_parts row (record row.parts { args_size = size })
 
-  abbrev pub with_rules : Row T → Rules T → Row T
-  with_rules row rules = with_parts row (record row.parts { rules = rules })
+  abbrev pub row_with_rules : Row T → Rules T → Row T
+  row_with_rules row rules = with_parts row (record row.parts { rules = rules })

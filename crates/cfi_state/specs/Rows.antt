@@ -3,7 +3,7 @@
 --     answers s p reads      the answers for the FDE's instructions that are still to be read behind the program p
 --     cie_refusal s reads      why the CIE's program is refused
 --     run_answers s x reads, run_cie s reads      the same by the machine
---     state_of s p, StandsBehind s x p      the machine's state behind the program p, where p is accepted
+--     program_state s p, IsStateAfter s x p      the machine's state behind the program p, where p is accepted
 --     AreConsecutive from rows to, answer_at a answers      what the rows cover, and the answer for an address
 use Rattle.std.specs.Prelude.{◌≡◌, ℕ, Bool, cond, List, [], ◌∷◌, ◌++◌, map, filter_map, nat_le, nat_lt, ◌&&◌, ◌≤◌, Option, Some, None, Result, Ok, Err}
 use Rattle.std.specs.Option.{option_or}
@@ -13,10 +13,10 @@ use Rattle.cfi_read_core.specs.declared.error.Error.{Error}
 use Rattle.cfi_read_core.specs.declared.error.Error.TheVariants.{NoUnwindInfoForAddress}
 use Rattle.cfi_parts.specs.declared.instruction.CallFrameInstruction.{CallFrameInstruction}
 use Rattle.cfi_state.specs.Row.{Row}
-use Rattle.cfi_state.specs.Operands.{Setting, is_move}
+use Rattle.cfi_state.specs.ProgramSettings.{Setting, is_move}
 use Rattle.cfi_state.specs.Machine.{Rules, Parts, State, fresh_state, step, end_of_cie}
 use Rattle.cfi_state.specs.Brackets.{survivors, before_open}
-use Rattle.cfi_state.specs.Writers.{rules_left, parts_left}
+use Rattle.cfi_state.specs.Writers.{final_rules, final_parts}
 use Rattle.cfi_state.specs.Program.{Program, in_cie, in_fde, instructions, followed_by, location_of, no_rule, initial_rule, parts_of, refusal, refusal_at_end, IsAccepted}
 
 abbrev pub or_refused : {A : Type 0} → Option Error → A → Result A Error
@@ -82,17 +82,17 @@ module _ {T : Type 0} where
 
   abbrev pub initial_rules_of : Setting → Program T → Option (Rules T)
   initial_rules_of s (in_cie cie) = None
-  initial_rules_of s (in_fde cie fde) = Some (rules_left s no_rule (survivors cie))
+  initial_rules_of s (in_fde cie fde) = Some (final_rules s no_rule (survivors cie))
 
   abbrev pub remembered_of : Setting → Program T → List (Parts T)
-  remembered_of s p = map (λ before. parts_left s (initial_rule s p) (survivors before)) (before_open (instructions p))
+  remembered_of s p = map (λ before. final_parts s (initial_rule s p) (survivors before)) (before_open (instructions p))
 
-  abbrev pub state_of : Setting → Program T → State T
-  state_of s p = record { location = location_of s p; parts = parts_of s p; remembered = remembered_of s p; initial_rules = initial_rules_of s p }
+  abbrev pub program_state : Setting → Program T → State T
+  program_state s p = record { location = location_of s p; parts = parts_of s p; remembered = remembered_of s p; initial_rules = initial_rules_of s p }
 
   -- a machine's state stands behind an accepted program where it is the program's
-  abbrev pub StandsBehind : Setting → State T → Program T → Type 0
-  StandsBehind s x p = IsAccepted s p × (x ≡ state_of s p)
+  abbrev pub IsStateAfter : Setting → State T → Program T → Type 0
+  IsStateAfter s x p = IsAccepted s p × (x ≡ program_state s p)
 
   -- ---- what a caller sees of the answers
 

@@ -9,22 +9,22 @@ use Rattle.cfi_read_core.specs.declared.common.Register.{Register}
 use Rattle.cfi_read_core.specs.declared.error.Error.{Error}
 use Rattle.cfi_read_core.specs.declared.error.Error.TheVariants.{TooManyRegisterRules}
 use Rattle.cfi_state.specs.declared.table.rules.RegisterRule.{RegisterRule}
-use Rattle.cfi_state.specs.Operands.{is_at_limit}
+use Rattle.cfi_state.specs.ProgramSettings.{is_at_limit}
 use Rattle.cfi_state.specs.Machine.{Rules}
 
 module _ {T : Type 0} where
-  abbrev pub numbered : Register × RegisterRule T → ℕ × RegisterRule T
-  numbered pair = (pair.0.0, pair.1)
+  abbrev pub numbered_pair : Register × RegisterRule T → ℕ × RegisterRule T
+  numbered_pair pair = (pair.0.0, pair.1)
 
   abbrev pub rules_of : List (Register × RegisterRule T) → Rules T
-  rules_of pairs = from_entries (map numbered pairs)
+  rules_of pairs = from_entries (map numbered_pair pairs)
 
   abbrev pub IsDistinctRegisters : List (Register × RegisterRule T) → Type 0
-  IsDistinctRegisters pairs = IsDistinct (eq_by_cmp nat_cmp) (map (λ entry. entry.0) (map numbered pairs))
+  IsDistinctRegisters pairs = IsDistinct (eq_by_cmp nat_cmp) (map (λ entry. entry.0) (map numbered_pair pairs))
 
   -- the rules with one set; only a register without a rule needs room
-  abbrev pub set_rule : Option ℕ → Rules T → ℕ → RegisterRule T → Result (Rules T) Error
-  set_rule limit rules register rule =
+  abbrev pub map_set_rule : Option ℕ → Rules T → ℕ → RegisterRule T → Result (Rules T) Error
+  map_set_rule limit rules register rule =
       cond (not (contains_key rules register) && is_at_limit limit (len rules)) (Err TooManyRegisterRules) (Ok (insert rules register rule))
 
   -- memory may be wanting for a rule only where no limit bounds the list and the register has no rule yet

@@ -1,8 +1,8 @@
 -- What the machine answers where memory may be wanting: then an instruction that would be accepted may be refused with
 -- `OutOfMemory`, and is left out. Where memory is never wanting, these are the answers of `Rows`.
---     Wants      where an instruction, or the end of a CIE's program, may want memory
---     NextAnswer wants s p answer q      a table at the place p answers next, and then is at the place q
---     RunsCie wants s x reads result      a CIE's program, run from the state x
+--     MayAllocate      where an instruction, or the end of a CIE's program, may want memory
+--     NextAnswer allocates s p answer q      a table at the place p answers next, and then is at the place q
+--     RunsInitialInstructions allocates s x reads result      a CIE's program, run from the state x
 --     FindsRow, AnswersFde      the answer for an address
 use Rattle.std.specs.Prelude.{◌≡◌, ℕ, Bool, true, false, Option, Some, None, Result, Ok, Err}
 use Rattle.cfi_read_core.specs.Reading.{Readings, with_first, no_values}
@@ -10,22 +10,22 @@ use Rattle.cfi_read_core.specs.declared.error.Error.{Error}
 use Rattle.cfi_read_core.specs.declared.error.Error.TheVariants.{NoUnwindInfoForAddress}
 use Rattle.cfi_parts.specs.declared.instruction.CallFrameInstruction.{CallFrameInstruction}
 use Rattle.cfi_state.specs.Row.{Row}
-use Rattle.cfi_state.specs.Operands.{Setting, is_move}
+use Rattle.cfi_state.specs.ProgramSettings.{Setting, is_move}
 use Rattle.cfi_state.specs.Machine.{State, fresh_state, step, end_of_cie}
 use Rattle.cfi_state.specs.Outcome.{IsRefusal}
-use Rattle.cfi_state.specs.Memory.{wants_at, wants_at_end}
+use Rattle.cfi_state.specs.Memory.{may_allocate_at, may_allocate_at_end}
 use Rattle.cfi_state.specs.Rows.{row_contains}
-use Rattle.cfi_state.specs.Places.{Place, going, ended}
+use Rattle.cfi_state.specs.TableStates.{TableState, before_last_row, after_last_row}
 
 -- where an instruction, and where the end of the CIE's program, may want memory
-pub record Wants (T : Type 0) : Type 0 where
+pub record MayAllocate (T : Type 0) : Type 0 where
   pub at : State T → CallFrameInstruction T → Bool
   pub at_end : State T → Bool
 
 -- nowhere
-pub record AreNever {T : Type 0} (wants : Wants T) : Type 0 where
-  pub at : (x : State T) (i : CallFrameInstruction T) → wants.at x i ≡ false
-  pub at_end : (x : State T) → wants.at_end x ≡ false
+pub record AreNever {T : Type 0} (allocates : MayAllocate T) : Type 0 where
+  pub at : (x : State T) (i : CallFrameInstruction T) → allocates.at x i ≡ false
+  pub at_end : (x : State T) → allocates.at_end x ≡ false
 
 module _ {T : Type 0} where
   abbrev pub current_row : State T → ℕ → Row T
@@ -33,29 +33,29 @@ module _ {T : Type 0} where
 
   -- ---- the rows of an FDE
 
-  pub data NextAnswer (wants : Wants T) (s : Setting) : Place (State T) T → Result (Option (Row T)) Error → Place (State T) T → Type 0 where
+  pub data NextAnswer (allocates : MayAllocate T) (s : Setting) : TableState (State T) T → Result (Option (Row T)) Error → TableState (State T) T → Type 0 where
     -- an accepted instruction that is no move gives no answer
-    passes : (x y : State T) (i : CallFrameInstruction T) (rest : Readings (CallFrameInstruction T)) (answer : Result (Option (Row T)) Error) (q : Place (State T) T)
-        → is_move i ≡ false → step s x i ≡ Ok y → NextAnswer wants s (going y rest) answer q → NextAnswer wants s (going x (with_first i rest)) answer q
+    passes : (x y : State T) (i : CallFrameInstruction T) (rest : Readings (CallFrameInstruction T)) (answer : Result (Option (Row T)) Error) (q : TableState (State T) T)
+        → is_move i ≡ false → step s x i ≡ Ok y → NextAnswer allocates s (before_last_row y rest) answer q → NextAnswer allocates s (before_last_row x (with_first i rest)) answer q
     ends_row : (x y : State T) (i : CallFrameInstruction T) (rest : Readings (CallFrameInstruction T))
-        → is_move i ≡ true → step s x i ≡ Ok y → NextAnswer wants s (going x (with_first i rest)) (Ok (Some (current_row x y.location))) (going y rest)
+        → is_move i ≡ true → step s x i ≡ Ok y → NextAnswer allocates s (before_last_row x (with_first i rest)) (Ok (Some (current_row x y.location))) (before_last_row y rest)
     refuses : (x : State T) (i : CallFrameInstruction T) (rest : Readings (CallFrameInstruction T)) (e : Error)
-        → IsRefusal (wants.at x i) (step s x i) e → NextAnswer wants s (going x (with_first i rest)) (Err e) (going x rest)
+        → IsRefusal (allocates.at x i) (step s x i) e → NextAnswer allocates s (before_last_row x (with_first i rest)) (Err e) (before_last_row x rest)
     -- behind an instruction that cannot be read only the last row is to come
-    cannot_read : (x : State T) (e : Error) → NextAnswer wants s (going x (no_values (Some e))) (Err e) (going x (no_values None))
-    last_row : (x : State T) → NextAnswer wants s (going x (no_values None)) (Ok (Some (current_row x s.end_address))) (ended x (no_values None))
-    no_row : (x : State T) (left : Readings (CallFrameInstruction T)) → NextAnswer wants s (ended x left) (Ok None) (ended x left)
+    cannot_read : (x : State T) (e : Error) → NextAnswer allocates s (before_last_row x (no_values (Some e))) (Err e) (before_last_row x (no_values None))
+    last_row : (x : State T) → NextAnswer allocates s (before_last_row x (no_values None)) (Ok (Some (current_row x s.end_address))) (after_last_row x (no_values None))
+    no_row : (x : State T) (left : Readings (CallFrameInstruction T)) → NextAnswer allocates s (after_last_row x left) (Ok None) (after_last_row x left)
 
   -- ---- the program of a CIE, whose moves end no rows
 
-  pub data RunsCie (wants : Wants T) (s : Setting) : State T → Readings (CallFrameInstruction T) → Result (State T) Error → Type 0 where
+  pub data RunsInitialInstructions (allocates : MayAllocate T) (s : Setting) : State T → Readings (CallFrameInstruction T) → Result (State T) Error → Type 0 where
     cie_passes : (x y : State T) (i : CallFrameInstruction T) (rest : Readings (CallFrameInstruction T)) (result : Result (State T) Error)
-        → step s x i ≡ Ok y → RunsCie wants s y rest result → RunsCie wants s x (with_first i rest) result
+        → step s x i ≡ Ok y → RunsInitialInstructions allocates s y rest result → RunsInitialInstructions allocates s x (with_first i rest) result
     cie_refuses : (x : State T) (i : CallFrameInstruction T) (rest : Readings (CallFrameInstruction T)) (e : Error)
-        → IsRefusal (wants.at x i) (step s x i) e → RunsCie wants s x (with_first i rest) (Err e)
-    cie_cannot_read : (x : State T) (e : Error) → RunsCie wants s x (no_values (Some e)) (Err e)
-    cie_ends : (x y : State T) → end_of_cie s x ≡ Ok y → RunsCie wants s x (no_values None) (Ok y)
-    cie_end_refused : (x : State T) (e : Error) → IsRefusal (wants.at_end x) (end_of_cie s x) e → RunsCie wants s x (no_values None) (Err e)
+        → IsRefusal (allocates.at x i) (step s x i) e → RunsInitialInstructions allocates s x (with_first i rest) (Err e)
+    cie_cannot_read : (x : State T) (e : Error) → RunsInitialInstructions allocates s x (no_values (Some e)) (Err e)
+    cie_ends : (x y : State T) → end_of_cie s x ≡ Ok y → RunsInitialInstructions allocates s x (no_values None) (Ok y)
+    cie_end_refused : (x : State T) (e : Error) → IsRefusal (allocates.at_end x) (end_of_cie s x) e → RunsInitialInstructions allocates s x (no_values None) (Err e)
 
   -- ---- the answer for an address
 
@@ -67,10 +67,10 @@ module _ {T : Type 0} where
     comes_to_end : (p q : P) → Next p (Ok None) q → FindsRow Next address p (Err NoUnwindInfoForAddress)
 
   -- of an FDE, by the instructions of its CIE and its own
-  pub data AnswersFde (wants : Wants T) (s : Setting) (cie fde : Readings (CallFrameInstruction T)) (address : ℕ) : Result (Row T) Error → Type 0 where
-    by_cie : (e : Error) → RunsCie wants s fresh_state cie (Err e) → AnswersFde wants s cie fde address (Err e)
-    by_rows : (x : State T) (result : Result (Row T) Error) → RunsCie wants s fresh_state cie (Ok x) → FindsRow (NextAnswer wants s) address (going x fde) result → AnswersFde wants s cie fde address result
+  pub data AnswersFde (allocates : MayAllocate T) (s : Setting) (cie fde : Readings (CallFrameInstruction T)) (address : ℕ) : Result (Row T) Error → Type 0 where
+    by_cie : (e : Error) → RunsInitialInstructions allocates s fresh_state cie (Err e) → AnswersFde allocates s cie fde address (Err e)
+    by_rows : (x : State T) (result : Result (Row T) Error) → RunsInitialInstructions allocates s fresh_state cie (Ok x) → FindsRow (NextAnswer allocates s) address (before_last_row x fde) result → AnswersFde allocates s cie fde address result
 
   -- over a storage, by its limits and by whether a copy of its rules is free of memory
-  abbrev pub wants_memory : Setting → Bool → Wants T
-  wants_memory s copies_free = record { at = wants_at s copies_free; at_end = wants_at_end s copies_free }
+  abbrev pub may_allocate : Setting → Bool → MayAllocate T
+  may_allocate s copies_free = record { at = may_allocate_at s copies_free; at_end = may_allocate_at_end s copies_free }

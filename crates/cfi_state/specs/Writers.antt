@@ -1,7 +1,7 @@
 -- Which instruction writes which part of an unwind row (DWARF 5, section 6.4.2.2 and 6.4.2.3), and the parts that a
 -- list of instructions leaves: each as its last writer wrote it.
---     cfa_left s ys, args_size_left ys      the canonical frame address's rule and the argument size
---     rule_left s initial ys r      the rule of register r, where `initial` are the rules that the CIE's program left
+--     final_cfa s ys, final_args_size ys      the canonical frame address's rule and the argument size
+--     final_rule s initial ys r      the rule of register r, where `initial` are the rules that the CIE's program left
 --     registers_with_rule s initial ys      the registers that have one
 use Rattle.std.specs.Prelude.{ℕ, zero, suc, ◌+◌, ◌%◌, Bool, false, cond, not, ◌&&◌, ◌==◌, ℤ, pos, List, [], ◌∷◌, filter, filter_map, count_by, Option, Some, None, is_some, unwrap_or}
 use Rattle.std.specs.List.{list_any}
@@ -17,7 +17,7 @@ use Rattle.cfi_state.specs.declared.table.rules.CfaRule.TheVariants as cfa
 use Rattle.cfi_state.specs.declared.table.rules.RegisterRule.{RegisterRule}
 use Rattle.cfi_state.specs.declared.table.rules.RegisterRule.TheVariants as rule
 use Rattle.cfi_state.specs.Machine.{Rules, Parts}
-use Rattle.cfi_state.specs.Operands.{Setting, ra_sign_state, factored, unsigned_factored, is_toggle}
+use Rattle.cfi_state.specs.ProgramSettings.{Setting, ra_sign_state, times_factor, unsigned_times_factor, is_toggle}
 
 -- what the last instruction that writes something wrote
 abbrev pub last_written : {A B : Type 0} → (A → Option B) → List A → Option B
@@ -25,14 +25,14 @@ last_written f [] = None
 last_written f (x ∷ xs) = option_or (last_written f xs) (f x)
 
 -- what stands behind the last element that passes, or all where none does
-abbrev pub behind_last : {A : Type 0} → (A → Bool) → List A → List A
-behind_last p [] = []
-behind_last p (x ∷ xs) = cond (list_any p (x ∷ xs)) (behind_last p xs) (x ∷ xs)
+abbrev pub after_last : {A : Type 0} → (A → Bool) → List A → List A
+after_last p [] = []
+after_last p (x ∷ xs) = cond (list_any p (x ∷ xs)) (after_last p xs) (x ∷ xs)
 
 -- the numbers of a list, each once
-abbrev pub distinct : List ℕ → List ℕ
-distinct [] = []
-distinct (r ∷ rs) = cond (list_any (λ q. q == r) rs) (distinct rs) (r ∷ distinct rs)
+abbrev pub distinct_numbers : List ℕ → List ℕ
+distinct_numbers [] = []
+distinct_numbers (r ∷ rs) = cond (list_any (λ q. q == r) rs) (distinct_numbers rs) (r ∷ distinct_numbers rs)
 
 module _ {T : Type 0} where
   -- the whole of the CFA: an expression, or none where a register and an offset are written
@@ -50,9 +50,9 @@ module _ {T : Type 0} where
 
   abbrev pub written_cfa_offset : Setting → CallFrameInstruction T → Option ℤ
   written_cfa_offset s (instruction.DefCfa r offset) = Some (cast_signed w64 offset)
-  written_cfa_offset s (instruction.DefCfaSf r offset) = Some (factored s offset)
+  written_cfa_offset s (instruction.DefCfaSf r offset) = Some (times_factor s offset)
   written_cfa_offset s (instruction.DefCfaOffset offset) = Some (cast_signed w64 offset)
-  written_cfa_offset s (instruction.DefCfaOffsetSf offset) = Some (factored s offset)
+  written_cfa_offset s (instruction.DefCfaOffsetSf offset) = Some (times_factor s offset)
   written_cfa_offset s _ = None
 
   abbrev pub written_args_size : CallFrameInstruction T → Option ℕ
@@ -78,10 +78,10 @@ module _ {T : Type 0} where
   abbrev pub written_rule : Setting → (ℕ → Option (RegisterRule T)) → CallFrameInstruction T → Option (RegisterRule T)
   written_rule s initial (instruction.Undefined r) = Some rule.Undefined
   written_rule s initial (instruction.SameValue r) = Some rule.SameValue
-  written_rule s initial (instruction.Offset r n) = Some (rule.Offset (unsigned_factored s n))
-  written_rule s initial (instruction.OffsetExtendedSf r n) = Some (rule.Offset (factored s n))
-  written_rule s initial (instruction.ValOffset r n) = Some (rule.ValOffset (unsigned_factored s n))
-  written_rule s initial (instruction.ValOffsetSf r n) = Some (rule.ValOffset (factored s n))
+  written_rule s initial (instruction.Offset r n) = Some (rule.Offset (unsigned_times_factor s n))
+  written_rule s initial (instruction.OffsetExtendedSf r n) = Some (rule.Offset (times_factor s n))
+  written_rule s initial (instruction.ValOffset r n) = Some (rule.ValOffset (unsigned_times_factor s n))
+  written_rule s initial (instruction.ValOffsetSf r n) = Some (rule.ValOffset (times_factor s n))
   written_rule s initial (instruction.Register r source) = Some (rule.Register source)
   written_rule s initial (instruction.Expression r e) = Some (rule.Expression e)
   written_rule s initial (instruction.ValExpression r e) = Some (rule.ValExpression e)
@@ -104,40 +104,40 @@ module _ {T : Type 0} where
   cfa_from None register offset = cfa.RegisterAndOffset register offset
   cfa_from (Some e) register offset = cfa.Expression e
 
-  abbrev pub cfa_left : Setting → List (CallFrameInstruction T) → CfaRule T
-  cfa_left s ys = cfa_from (option_flatten (last_written written_cfa ys)) (unwrap_or (last_written written_cfa_register ys) (record { 0 = 0 })) (unwrap_or (last_written (written_cfa_offset s) ys) (pos 0))
+  abbrev pub final_cfa : Setting → List (CallFrameInstruction T) → CfaRule T
+  final_cfa s ys = cfa_from (option_flatten (last_written written_cfa ys)) (unwrap_or (last_written written_cfa_register ys) (record { 0 = 0 })) (unwrap_or (last_written (written_cfa_offset s) ys) (pos 0))
 
-  abbrev pub args_size_left : List (CallFrameInstruction T) → ℕ
-  args_size_left ys = unwrap_or (last_written written_args_size ys) 0
+  abbrev pub final_args_size : List (CallFrameInstruction T) → ℕ
+  final_args_size ys = unwrap_or (last_written written_args_size ys) 0
 
   -- the rule that the last writer of register r gave it
   abbrev pub rule_before_toggles : Setting → (ℕ → Option (RegisterRule T)) → List (CallFrameInstruction T) → ℕ → Option (RegisterRule T)
   rule_before_toggles s initial ys r = option_flatten (last_written (λ i. cond (writes_rule r i) (Some (written_rule s initial i)) None) ys)
 
-  abbrev pub toggles_left : List (CallFrameInstruction T) → ℕ → ℕ
-  toggles_left ys r = count_by (toggles r) (behind_last (writes_rule r) ys)
+  abbrev pub final_toggles : List (CallFrameInstruction T) → ℕ → ℕ
+  final_toggles ys r = count_by (toggles r) (after_last (writes_rule r) ys)
 
   abbrev pub constant_or_zero : Option (RegisterRule T) → ℕ
   constant_or_zero (Some (rule.Constant value)) = value
   constant_or_zero _ = 0
 
   -- a rule after some toggles of the sign state: of their number only the parity counts
-  abbrev pub toggled : ℕ → Option (RegisterRule T) → Option (RegisterRule T)
-  toggled zero r = r
-  toggled (suc count) r = Some (rule.Constant ((constant_or_zero r + suc count) % 2))
+  abbrev pub rule_after_toggles : ℕ → Option (RegisterRule T) → Option (RegisterRule T)
+  rule_after_toggles zero r = r
+  rule_after_toggles (suc count) r = Some (rule.Constant ((constant_or_zero r + suc count) % 2))
 
-  abbrev pub rule_left : Setting → (ℕ → Option (RegisterRule T)) → List (CallFrameInstruction T) → ℕ → Option (RegisterRule T)
-  rule_left s initial ys r = toggled (toggles_left ys r) (rule_before_toggles s initial ys r)
+  abbrev pub final_rule : Setting → (ℕ → Option (RegisterRule T)) → List (CallFrameInstruction T) → ℕ → Option (RegisterRule T)
+  final_rule s initial ys r = rule_after_toggles (final_toggles ys r) (rule_before_toggles s initial ys r)
 
   abbrev pub registers_named : List (CallFrameInstruction T) → List ℕ
-  registers_named ys = distinct (filter_map written_register ys)
+  registers_named ys = distinct_numbers (filter_map written_register ys)
 
   abbrev pub registers_with_rule : Setting → (ℕ → Option (RegisterRule T)) → List (CallFrameInstruction T) → List ℕ
-  registers_with_rule s initial ys = filter (λ r. is_some (rule_left s initial ys r)) (registers_named ys)
+  registers_with_rule s initial ys = filter (λ r. is_some (final_rule s initial ys r)) (registers_named ys)
 
   -- the same as a map
-  abbrev pub rules_left : Setting → (ℕ → Option (RegisterRule T)) → List (CallFrameInstruction T) → Rules T
-  rules_left s initial ys = map.from_entries (filter_map (λ r. option_map (λ rule. (r, rule)) (rule_left s initial ys r)) (registers_named ys))
+  abbrev pub final_rules : Setting → (ℕ → Option (RegisterRule T)) → List (CallFrameInstruction T) → Rules T
+  final_rules s initial ys = map.from_entries (filter_map (λ r. option_map (λ rule. (r, rule)) (final_rule s initial ys r)) (registers_named ys))
 
-  abbrev pub parts_left : Setting → (ℕ → Option (RegisterRule T)) → List (CallFrameInstruction T) → Parts T
-  parts_left s initial ys = record { cfa = cfa_left s ys; rules = rules_left s initial ys; args_size = args_size_left ys }
+  abbrev pub final_parts : Setting → (ℕ → Option (RegisterRule T)) → List (CallFrameInstruction T) → Parts T
+  final_parts s initial ys = record { cfa = final_cfa s ys; rules = final_rules s initial ys; args_size = final_args_size ys }

@@ -43,7 +43,7 @@ impl<R: Reader> Reader for Counted<'_, R> {
 
     type Endian = R::Endian;
 
-    ghost standing = { λ r. R.standing r.inner };
+    ghost position = { λ r. R.position r.inner };
 
     fn endian(&self) -> R::Endian {
         self.inner.endian()

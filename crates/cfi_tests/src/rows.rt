@@ -1,11 +1,11 @@
 //! The rows of an FDE one after the other, and the row of an address with any `get_cie`.
 use crate::sections::THREE_ROWS;
 use cfi_parts::instruction::UnwindExpression;
-use cfi_read_core::section::Expression;
+use cfi_read_core::dwarf_section::Expression;
 use cfi_read_core::{
     DebugFrameOffset, Error, LittleEndian, Reader, ReaderOffsetId, Register, StoreOnHeap,
 };
-use cfi_unwind::section::fde_by_scan_of;
+use cfi_unwind::section::scan_for_fde;
 use gimli_cfi::pointer::BaseAddresses;
 use gimli_cfi::section::{DebugFrame, UnwindSection};
 use gimli_cfi::table::{CfaRule, RegisterRule, UnwindContext, UnwindTable};
@@ -71,7 +71,7 @@ fn hands_out<R: Reader<Offset = usize>>(
     answers: &[Result<Option<Shown>, Error>],
 ) -> Result<bool, Error> {
     let bases = BaseAddresses::default();
-    let fde = fde_by_scan_of(section, &bases, 0x1000)?;
+    let fde = scan_for_fde(section, &bases, 0x1000)?;
     let mut table = fde.rows(section, &bases, context)?;
     for answer in answers {
         if next_shown(&mut table) != *answer {
@@ -87,7 +87,7 @@ fn first_end<R: Reader<Offset = usize>>(
     context: &mut UnwindContext<usize>,
 ) -> Result<Option<u64>, Error> {
     let bases = BaseAddresses::default();
-    let fde = fde_by_scan_of(section, &bases, 0x1000)?;
+    let fde = scan_for_fde(section, &bases, 0x1000)?;
     let mut table = UnwindTable::new(section, &bases, context, &fde)?;
     let _first = next_shown(&mut table)?;
     match table.into_current_row() {

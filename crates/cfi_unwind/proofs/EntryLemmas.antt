@@ -7,13 +7,13 @@ use Rattle.cfi_read_core.specs.declared.error.Error.{Error}
 use Rattle.std.specs.Int.{w32, w64}
 use Rattle.cfi_read_core.specs.declared.common.Format.{Format}
 use Rattle.cfi_read_core.specs.declared.common.Format.TheVariants.{Dwarf32, Dwarf64}
-use Rattle.cfi_read_core.specs.Reading.{Read, Source, Extent, Readings, ◌>>=◌, give, refuse, offset, here, split, remainder, within, no_values, listed}
+use Rattle.cfi_read_core.specs.Reading.{Read, Source, Extent, Readings, ◌>>=◌, give, refuse, offset, here, split, remainder, within, no_values, readings_with}
 use Rattle.cfi_read_core.specs.Numbers.{InitialLength, initial_length, length_in, unsigned}
 use Rattle.cfi_read_core.proofs.Given.{Gives, gives_give, gives_if, gives_bind, gives_bind_from, gives_within}
 use Rattle.cfi_read_core.proofs.Onward.{IsOnward, onward_give, onward_refuse, onward_if, onward_bind, onward_here, onward_within, onward_split, onward_unsigned, onward_offset, onward_initial_length}
 use Rattle.cfi_read_core.proofs.Repeating.{Advances, advances_bind, advances_unsigned}
 use Rattle.cfi_unwind.specs.Sections.{Section, offset_in, id_width, cie_offset_of}
-use Rattle.cfi_unwind.specs.Prefixes.{Prefix, prefix, identified, of_length}
+use Rattle.cfi_unwind.specs.Prefixes.{Prefix, prefix, fields_after_length, of_length}
 use Rattle.cfi_unwind.specs.Cies.{Cie, cie_of}
 use Rattle.cfi_unwind.specs.Fdes.{PartialFde, Fde, fde_fields, addresses, address_encoding_of, lsda}
 use Rattle.cfi_unwind.specs.Scan.{partial_fdes, read_fde, fde_readings, IsAmong}
@@ -23,10 +23,10 @@ use Rattle.cfi_unwind.specs.Entries.{Entry, CieEntry, FdeEntry, entry_of, then_g
 
 onward_of_length : (section : Section) (offset : ℕ) (field : InitialLength) → IsOnward (of_length section offset field)
 onward_of_length section offset field =
-    let inside : Extent → Read Prefix = λ extent. within extent (identified section offset field.length field.format) in
+    let inside : Extent → Read Prefix = λ extent. within extent (fields_after_length section offset field.length field.format) in
     onward_if (field.length == 0) (give None) _ (onward_give None)
     (onward_bind (split field.length) (λ extent. inside extent >>= λ found. give (Some found)) (onward_split field.length) (λ extent.
-    onward_bind (inside extent) (λ found. give (Some found)) (onward_within extent (identified section offset field.length field.format)) (λ found. onward_give (Some found))))
+    onward_bind (inside extent) (λ found. give (Some found)) (onward_within extent (fields_after_length section offset field.length field.format)) (λ found. onward_give (Some found))))
 
 pub onward_prefix : (section : Section) → IsOnward (prefix section)
 unfolding prefix
@@ -40,7 +40,7 @@ HasOffset offset found = found.offset ≡ offset
 abbrev MayHaveOffset : ℕ → Option Prefix → Type 0
 MayHaveOffset offset o = IfSome o (HasOffset offset)
 
-identified_offset : (section : Section) (offset length : ℕ) (format : Format) → Gives (HasOffset offset) (identified section offset length format)
+identified_offset : (section : Section) (offset length : ℕ) (format : Format) → Gives (HasOffset offset) (fields_after_length section offset length format)
 identified_offset section offset length format =
     gives_bind (HasOffset offset) here _ (λ place.
     gives_bind (HasOffset offset) (unsigned (id_width section.kind format)) _ (λ id.
@@ -48,11 +48,11 @@ identified_offset section offset length format =
 
 of_length_offset : (section : Section) (offset : ℕ) (field : InitialLength) → Gives (MayHaveOffset offset) (of_length section offset field)
 of_length_offset section offset field =
-    let inside : Extent → Read Prefix = λ extent. within extent (identified section offset field.length field.format) in
+    let inside : Extent → Read Prefix = λ extent. within extent (fields_after_length section offset field.length field.format) in
     gives_if (MayHaveOffset offset) (field.length == 0) (give None) _ (gives_give (MayHaveOffset offset) None tt)
     (gives_bind (MayHaveOffset offset) (split field.length) (λ extent. inside extent >>= λ found. give (Some found)) (λ extent.
     gives_bind_from (HasOffset offset) (MayHaveOffset offset) (inside extent) (λ found. give (Some found))
-    (gives_within (HasOffset offset) extent (identified section offset field.length field.format) (identified_offset section offset field.length field.format))
+    (gives_within (HasOffset offset) extent (fields_after_length section offset field.length field.format) (identified_offset section offset field.length field.format))
     (λ found h. gives_give (MayHaveOffset offset) (Some found) h)))
 
 -- a prefix keeps the offset at which it was read
@@ -105,7 +105,7 @@ fde_there section place found partial from before e is =
     }
 
 listed_there : (section : Section) (r : Result Entry Error) (others : Readings Entry) → ((partial : PartialFde) → r ≡ Ok (FdeEntry partial) → IsAtItsOffset section partial) →
-    AreAtTheirOffsets section others.values → AreAtTheirOffsets section (listed false r others).values
+    AreAtTheirOffsets section others.values → AreAtTheirOffsets section (readings_with false r others).values
 listed_there section (Err e) others each behind = tt
 listed_there section (Ok (CieEntry cie)) others each behind = behind
 listed_there section (Ok (FdeEntry partial)) others each behind = (each partial refl, behind)
@@ -200,7 +200,7 @@ entries_same : (section : Section) (b : Bool) (r : Result (Option Prefix) Error)
 entries_same section true r xs ys same = refl
 entries_same section false (Err e) xs ys same = refl
 entries_same section false (Ok None) xs ys same = gap_same _ xs ys (same None refl refl)
-entries_same section false (Ok (Some found)) xs ys same = ap (listed false (entry_of section found)) (same (Some found) refl refl)
+entries_same section false (Ok (Some found)) xs ys same = ap (readings_with false (entry_of section found)) (same (Some found) refl refl)
 
 pub enough_entries : (section : Section) (m n place : ℕ) → section.source.last - place ≤ m → section.source.last - place ≤ n → entries_from m section place ≡ entries_from n section place
 unfolding entries_from

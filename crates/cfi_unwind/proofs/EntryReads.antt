@@ -6,7 +6,7 @@ use Rattle.std.specs.List.{prefix_len}
 use Rattle.std.specs.Int.{Width, w8, w16, w32, w64}
 use Rattle.cfi_read_core.specs.declared.error.Error.{Error}
 use Rattle.cfi_read_core.specs.declared.error.Error.TheVariants.{UnsupportedSegmentSize}
-use Rattle.cfi_read_core.specs.Reading.{Read, Source, Standing, Extent, Outcome, ◌>>=◌, ◌>>◌, carry_on, give, refuse, refuse_if, split, within, rest}
+use Rattle.cfi_read_core.specs.Reading.{Read, Source, Position, Extent, Outcome, ◌>>=◌, ◌>>◌, carry_on, give, refuse, refuse_if, split, within, rest}
 use Rattle.cfi_read_core.specs.Numbers.{unsigned, offset_leb128, register_leb128, text}
 use Rattle.cfi_read_core.specs.Addresses.{IsAddressSize, address, address_size, address_width, is_address_size, sized_by}
 use Rattle.cfi_read_core.specs.Readers.{IsSound, bytes_left}
@@ -15,11 +15,11 @@ use Rattle.cfi_read_core.proofs.Given.{Gives, gives_bind, gives_give, gives_refu
 use Rattle.cfi_read_core.proofs.Onward.{IsOnward, onward_give, onward_refuse, onward_refuse_if, onward_if, onward_bind, onward_split, onward_within, onward_unsigned, onward_offset_leb128, onward_register_leb128, onward_address}
 use Rattle.cfi_read_core.proofs.Leb128.{byte_there, no_byte_there}
 use Rattle.cfi_parts.specs.declared.pointer.Pointer.{Pointer}
-use Rattle.cfi_parts.specs.Frames.{has_sizes}
-use Rattle.cfi_parts.specs.Pointers.{PointerContext, encoding_byte, formatted, pointed, pointer}
+use Rattle.cfi_parts.specs.CallFrameSections.{has_sizes}
+use Rattle.cfi_parts.specs.Pointers.{PointerContext, encoding_byte, encoded_value, pointer_value, pointer}
 use Rattle.cfi_parts.proofs.InstructionLemmas.{onward_formatted, onward_pointer}
 use Rattle.cfi_unwind.specs.Sections.{Section, pointer_context}
-use Rattle.cfi_unwind.specs.Cies.{Augmentation, no_letters, letter, letters, announced, augmentation, sizes, return_register}
+use Rattle.cfi_unwind.specs.Cies.{Augmentation, no_letters, letter, letters, letters_with_data, augmentation, sizes, return_register}
 use Rattle.cfi_unwind.specs.Fdes.{addresses, data_if, lsda, lsda_by}
 use Rattle.std.proofs.lemmas.Bool.{cases_lt}
 
@@ -30,7 +30,7 @@ onward_encoding_byte = onward_bind (unsigned w8) _ (onward_unsigned w8) (λ enco
 -- ---- bytes
 
 -- what is left has the byte that is read, and behind it what is left then
-pub byte_taken : {old new : Standing} {b : ℕ} → IsSound old → (unsigned w8 old.source old.place ≡ record { value = Ok b; place = new.place }) × (new.source ≡ old.source) →
+pub byte_taken : {old new : Position} {b : ℕ} → IsSound old → (unsigned w8 old.source old.place ≡ record { value = Ok b; place = new.place }) × (new.source ≡ old.source) →
     bytes_left old ≡ b ∷ bytes_left new
 byte_taken {old = old} {new = new} {b = b} sound (gives, same) =
     let there = byte_there old.source old.place b sound.within (ap (λ (o : Outcome ℕ). o.value) gives) in
@@ -38,12 +38,12 @@ byte_taken {old = old} {new = new} {b = b} sound (gives, same) =
     there.0 ∙ (ap (λ (p : ℕ). b ∷ rest old.source p) (sym place) ∙ ap (λ (s : Source). b ∷ rest s new.place) (sym same))
 
 -- nothing is left where none is read
-pub none_taken : (old new : Standing) {e : Error} → (unsigned w8 old.source old.place ≡ record { value = Err e; place = new.place }) × (new.source ≡ old.source) →
+pub none_taken : (old new : Position) {e : Error} → (unsigned w8 old.source old.place ≡ record { value = Err e; place = new.place }) × (new.source ≡ old.source) →
     bytes_left old ≡ []
 none_taken old new {e = e} (gives, same) = (no_byte_there old.source old.place e (ap (λ (o : Outcome ℕ). o.value) gives)).0
 
 -- fewer bytes are left then
-pub fewer_left : (old new : Standing) {b : ℕ} → IsSound old → (unsigned w8 old.source old.place ≡ record { value = Ok b; place = new.place }) × (new.source ≡ old.source) →
+pub fewer_left : (old new : Position) {b : ℕ} → IsSound old → (unsigned w8 old.source old.place ≡ record { value = Ok b; place = new.place }) × (new.source ≡ old.source) →
     new.source.last - new.place < old.source.last - old.place
 fewer_left old new {b = b} sound (gives, same) =
     let there = byte_there old.source old.place b sound.within (ap (λ (o : Outcome ℕ). o.value) gives) in
@@ -57,13 +57,13 @@ fewer_left old new {b = b} sound (gives, same) =
 
 -- ---- letters
 
-pub letters_end : (context : PointerContext) (known : Augmentation) (s : Standing) (source : Source) (place : ℕ) → bytes_left s ≡ [] →
+pub letters_end : (context : PointerContext) (known : Augmentation) (s : Position) (source : Source) (place : ℕ) → bytes_left s ≡ [] →
     letters context (bytes_left s) known source place ≡ record { value = Ok known; place = place }
 unfolding letters
 letters_end context known s source place e = ap (λ (ls : List ℕ). letters context ls known source place) e
 
 -- one letter, and those behind it
-pub letters_on : (context : PointerContext) (l : ℕ) (ls : List ℕ) (known next : Augmentation) (old new : Standing) →
+pub letters_on : (context : PointerContext) (l : ℕ) (ls : List ℕ) (known next : Augmentation) (old new : Position) →
     (letter context l known old.source old.place ≡ record { value = Ok next; place = new.place }) × (new.source ≡ old.source) →
     letters context (l ∷ ls) known old.source old.place ≡ letters context ls next new.source new.place
 unfolding letters
@@ -71,7 +71,7 @@ letters_on context l ls known next old new (gives, same) =
     ap (λ (o : Outcome Augmentation). carry_on (letters context ls) old.source o.value o.place) gives ∙ ap (λ (s : Source). letters context ls next s new.place) (sym same)
 
 -- a letter that is refused
-pub letters_refused : (context : PointerContext) (l : ℕ) (ls : List ℕ) (known : Augmentation) (old : Standing) (e : Error) (place : ℕ) →
+pub letters_refused : (context : PointerContext) (l : ℕ) (ls : List ℕ) (known : Augmentation) (old : Position) (e : Error) (place : ℕ) →
     letter context l known old.source old.place ≡ record { value = Err e; place = place } →
     letters context (l ∷ ls) known old.source old.place ≡ record { value = Err e; place = place }
 unfolding letters
@@ -83,7 +83,7 @@ pub onward_letter : (context : PointerContext) (l : ℕ) (known : Augmentation) 
 unfolding letter
 onward_letter context l known =
     onward_if (l == 0x53) (give _) _ (onward_give _)
-    (onward_if (not known.has_data) (refuse _) _ (onward_refuse _)
+    (onward_if (not known.has_augmentation_data) (refuse _) _ (onward_refuse _)
     (onward_if (l == 0x4c) _ _ (onward_bind encoding_byte _ onward_encoding_byte (λ encoding. onward_give _))
     (onward_if (l == 0x50) _ _ (onward_bind encoding_byte _ onward_encoding_byte (λ encoding. onward_bind (pointer encoding context) _ (onward_pointer encoding context) (λ p. onward_give _)))
     (onward_if (l == 0x52) _ (refuse _) (onward_bind encoding_byte _ onward_encoding_byte (λ encoding. onward_give _)) (onward_refuse _)))))
@@ -100,7 +100,7 @@ module _ (context : PointerContext) (ls : List ℕ) (source : Source) (place : �
   unfolding augmentation
   augmentation_none e = rw e refl
 
-  pub augmentation_announced : (l : ℕ) (others : List ℕ) → ls ≡ l ∷ others → l ≡ 0x7a → augmentation context ls source place ≡ announced context others source place
+  pub augmentation_announced : (l : ℕ) (others : List ℕ) → ls ≡ l ∷ others → l ≡ 0x7a → augmentation context ls source place ≡ letters_with_data context others source place
   unfolding augmentation
   augmentation_announced l others e is = rw (e, is) refl
 
@@ -115,20 +115,20 @@ module _ (context : PointerContext) (ls : List ℕ) (source : Source) (place : �
     by_letter : ls ≡ l ∷ others → augmentation context ls source place ≡ carry_on (λ known. give (Some known)) source value behind
     by_letter e = rw e (rw other (rw e at after))
 
-pub onward_announced : (context : PointerContext) (ls : List ℕ) → IsOnward (announced context ls)
-unfolding announced
+pub onward_announced : (context : PointerContext) (ls : List ℕ) → IsOnward (letters_with_data context ls)
+unfolding letters_with_data
 onward_announced context ls =
-    let inside : Extent → Read Augmentation = λ data_bytes. within data_bytes (letters context ls (record no_letters { has_data = true })) in
+    let inside : Extent → Read Augmentation = λ data_bytes. within data_bytes (letters context ls (record no_letters { has_augmentation_data = true })) in
     let give_some : Augmentation → Read (Option Augmentation) = λ known. give (Some known) in
     onward_bind offset_leb128 (λ length. split length >>= λ data_bytes. inside data_bytes >>= give_some) onward_offset_leb128 (λ length.
     onward_bind (split length) (λ data_bytes. inside data_bytes >>= give_some) (onward_split length) (λ data_bytes.
-    onward_bind (inside data_bytes) give_some (onward_within data_bytes (letters context ls (record no_letters { has_data = true }))) (λ known. onward_give _)))
+    onward_bind (inside data_bytes) give_some (onward_within data_bytes (letters context ls (record no_letters { has_augmentation_data = true }))) (λ known. onward_give _)))
 
 pub onward_augmentation : (context : PointerContext) (ls : List ℕ) → IsOnward (augmentation context ls)
 unfolding augmentation
 onward_augmentation context [] = onward_give None
 onward_augmentation context (l ∷ ls) =
-    onward_if (l == 0x7a) (announced context ls) _ (onward_announced context ls) (onward_bind (letters context (l ∷ ls) no_letters) _ (onward_letters context (l ∷ ls) no_letters) (λ known. onward_give _))
+    onward_if (l == 0x7a) (letters_with_data context ls) _ (onward_announced context ls) (onward_bind (letters context (l ∷ ls) no_letters) _ (onward_letters context (l ∷ ls) no_letters) (λ known. onward_give _))
 
 -- ---- the fields of entries never go back
 
@@ -169,8 +169,8 @@ onward_addresses section size None =
     onward_bind (address size) (λ initial. address size >>= λ range. give (initial, range)) (onward_address size) (λ initial.
     onward_bind (address size) (λ range. give (initial, range)) (onward_address size) (λ range. onward_give _))
 onward_addresses section size (Some encoding) =
-    onward_bind (pointer encoding (pointer_context section None size)) (λ initial. formatted encoding size >>= λ range. give (pointed initial, range)) (onward_pointer encoding (pointer_context section None size)) (λ initial.
-    onward_bind (formatted encoding size) (λ range. give (pointed initial, range)) (onward_formatted encoding size) (λ range. onward_give _))
+    onward_bind (pointer encoding (pointer_context section None size)) (λ initial. encoded_value encoding size >>= λ range. give (pointer_value initial, range)) (onward_pointer encoding (pointer_context section None size)) (λ initial.
+    onward_bind (encoded_value encoding size) (λ range. give (pointer_value initial, range)) (onward_formatted encoding size) (λ range. onward_give _))
 
 onward_data_if : (b : Bool) (section : Section) (size initial : ℕ) (encoding : Option ℕ) → IsOnward (data_if b section size initial encoding)
 onward_data_if false section size initial encoding = onward_give None
@@ -181,7 +181,7 @@ onward_data_if true section size initial encoding =
 
 pub onward_lsda : (section : Section) (size initial : ℕ) (known : Option Augmentation) → IsOnward (lsda section size initial known)
 onward_lsda section size initial None = onward_give None
-onward_lsda section size initial (Some known) = onward_data_if known.has_data section size initial known.lsda_encoding
+onward_lsda section size initial (Some known) = onward_data_if known.has_augmentation_data section size initial known.lsda_encoding
 
 -- ---- address sizes
 

@@ -8,8 +8,8 @@ use Rattle.cfi_unwind.specs.Sections.{Section}
 use Rattle.cfi_unwind.specs.Cies.{Cie}
 use Rattle.cfi_unwind.specs.Fdes.{PartialFde, Fde, covers}
 use Rattle.cfi_unwind.specs.Entries.{Entry, CieEntry, FdeEntry, cie_at, entries, fde_with}
-use Rattle.cfi_unwind.specs.Scan.{IsGiven, chosen, chosen_of_given, decided, if_last, partial_fdes}
-use Rattle.cfi_unwind.specs.Asking.{Scans}
+use Rattle.cfi_unwind.specs.Scan.{IsGiven, chosen_fde, chosen_of_given, answer_if_decided, if_last, partial_fdes}
+use Rattle.cfi_unwind.specs.GetCieCalls.{Scans}
 use Rattle.cfi_unwind.proofs.ScanLemmas.{own_chosen, own_cies}
 
 module _ {F : Type 0} (gives : F → ℕ → Result Cie Error → F → Type 0) (section : Section) (a : ℕ) where
@@ -31,7 +31,7 @@ module _ {F : Type 0} (gives : F → ℕ → Result Cie Error → F → Type 0) 
 
   module _ (partial : PartialFde) (others : Readings Entry) (given : Result Cie Error) (f h : F) (asking : gives f partial.cie_offset given h) where
     decides : List (Result Cie Error) → Result Fde Error → Option (Result Fde Error)
-    decides more r = decided a r more (chosen_of_given a section (partial_fdes others.values) others.refusal more)
+    decides more r = answer_if_decided a r more (chosen_of_given a section (partial_fdes others.values) others.refusal more)
 
     pub scans_refused_fde : (e : Error) → fde_with section partial given ≡ Err e → Scans gives section a (with_first (FdeEntry partial) others) f (Err e) h
     unfolding chosen_of_given decides
@@ -61,7 +61,7 @@ module _ {F : Type 0} (gives : F → ℕ → Result Cie Error → F → Type 0) 
       ap (λ (x : Result Cie Error). x ∷ given) (reads f partial.cie_offset cie next asked)
       ∙ ap (λ (xs : List (Result Cie Error)). cie_at section partial.cie_offset ∷ xs) (given_own partials next given g others)
 
-  pub scan_reads : (a : ℕ) (f : F) (answer : Result Fde Error) (g : F) → Scans gives section a (entries section) f answer g → answer ≡ chosen section a
+  pub scan_reads : (a : ℕ) (f : F) (answer : Result Fde Error) (g : F) → Scans gives section a (entries section) f answer g → answer ≡ chosen_fde section a
   scan_reads a f answer g (given, answers, e) =
       let partials = partial_fdes (entries section).values in
       let own : chosen_of_given a section partials (entries section).refusal (take (length given) (own_cies section partials)) ≡ Some answer =

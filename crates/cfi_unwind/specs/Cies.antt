@@ -15,7 +15,7 @@ use Rattle.cfi_unwind.specs.Prefixes.{Prefix}
 
 -- What an augmentation text and its data mean. Of a repeated letter the last counts.
 pub record Augmentation : Type 0 where
-  pub has_data : Bool  -- z: CIE and FDEs have augmentation data
+  pub has_augmentation_data : Bool  -- z: CIE and FDEs have augmentation data
   pub lsda_encoding : Option ℕ  -- L
   pub personality : Option (ℕ × Pointer)  -- P: the encoding and the pointer
   pub address_encoding : Option ℕ  -- R: of the FDE's addresses
@@ -31,7 +31,7 @@ pub record Cie : Type 0 where
   pub code_alignment_factor : ℕ
   pub data_alignment_factor : ℤ
   pub return_address_register : Register
-  pub instructions : Extent
+  pub initial_instructions : Extent
 
 -- ---- what an entry without augmentation lacks
 
@@ -54,13 +54,13 @@ is_trampoline (Some known) = known.is_signal_trampoline
 -- ---- augmentation: z 0x7a, L 0x4c, P 0x50, R 0x52, S 0x53
 
 abbrev pub no_letters : Augmentation
-no_letters = record { has_data = false; lsda_encoding = None; personality = None; address_encoding = None; is_signal_trampoline = false }
+no_letters = record { has_augmentation_data = false; lsda_encoding = None; personality = None; address_encoding = None; is_signal_trampoline = false }
 
 -- what one letter adds, read from the augmentation data
 unfoldable pub letter : PointerContext → ℕ → Augmentation → Read Augmentation
 letter context l known =
     if l == 0x53 then give (record known { is_signal_trampoline = true })
-    else if not known.has_data then refuse UnknownAugmentation
+    else if not known.has_augmentation_data then refuse UnknownAugmentation
     else if l == 0x4c then (do
       encoding ← encoding_byte
       give (record known { lsda_encoding = Some encoding }))
@@ -78,17 +78,17 @@ letters context [] known = give known
 letters context (l ∷ ls) known = letter context l known >>= letters context ls
 
 -- behind a first z: the length of the data, in which the other letters are read; what they leave is dropped
-unfoldable pub announced : PointerContext → List ℕ → Read (Option Augmentation)
-announced context ls = do
+unfoldable pub letters_with_data : PointerContext → List ℕ → Read (Option Augmentation)
+letters_with_data context ls = do
   length ← offset_leb128
   data_bytes ← split length
-  known ← within data_bytes (letters context ls (record no_letters { has_data = true }))
+  known ← within data_bytes (letters context ls (record no_letters { has_augmentation_data = true }))
   give (Some known)
 
 unfoldable pub augmentation : PointerContext → List ℕ → Read (Option Augmentation)
 augmentation context [] = give None
 augmentation context (l ∷ ls) =
-    if l == 0x7a then announced context ls else (letters context (l ∷ ls) no_letters >>= λ known. give (Some known))
+    if l == 0x7a then letters_with_data context ls else (letters context (l ∷ ls) no_letters >>= λ known. give (Some known))
 
 -- ---- the fields, in order
 
@@ -130,7 +130,7 @@ cie_fields section found = do
     code_alignment_factor = code;
     data_alignment_factor = factor;
     return_address_register = register;
-    instructions = instructions;
+    initial_instructions = instructions;
   })
 
 abbrev pub cie_of : Section → Prefix → Result Cie Error

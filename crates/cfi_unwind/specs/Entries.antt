@@ -2,7 +2,7 @@
 use Rattle.std.specs.Prelude.{ℕ, zero, suc, ◌-◌, Bool, true, false, Option, Some, None, Result, Ok, Err, nat_le, ◌==◌, if◌then◌else◌}
 use Rattle.cfi_read_core.specs.declared.error.Error.{Error}
 use Rattle.cfi_read_core.specs.declared.error.Error.TheVariants.{NotCieId, NotCiePointer, NoEntryAtGivenOffset}
-use Rattle.cfi_read_core.specs.Reading.{Readings, no_values, listed}
+use Rattle.cfi_read_core.specs.Reading.{Readings, no_values, readings_with}
 use Rattle.cfi_unwind.specs.Sections.{Section, cie_id, cie_offset_of, zero_length_ends, at_offset}
 use Rattle.cfi_unwind.specs.Prefixes.{Prefix, prefix}
 use Rattle.cfi_unwind.specs.Cies.{Cie, cie_of}
@@ -36,7 +36,7 @@ abbrev pub entries_with : Section → Bool → Result (Option Prefix) Error → 
 entries_with section true first others = no_values None
 entries_with section false (Err e) others = no_values (Some e)
 entries_with section false (Ok None) others = if zero_length_ends section.kind then no_values None else others
-entries_with section false (Ok (Some found)) others = listed false (entry_of section found) others
+entries_with section false (Ok (Some found)) others = readings_with false (entry_of section found) others
 
 -- the entries from a place up to the end, to a zero length that ends them or to the first refusal, at most n
 unfoldable pub entries_from : ℕ → Section → ℕ → Readings Entry

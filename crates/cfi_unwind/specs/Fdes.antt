@@ -5,7 +5,7 @@ use Rattle.cfi_read_core.specs.Reading.{Read, Extent, ◌>>=◌, give, split, re
 use Rattle.cfi_read_core.specs.Numbers.{offset_leb128}
 use Rattle.cfi_read_core.specs.Addresses.{address, wrap}
 use Rattle.cfi_parts.specs.declared.pointer.Pointer.{Pointer}
-use Rattle.cfi_parts.specs.Pointers.{pointer, pointed, formatted}
+use Rattle.cfi_parts.specs.Pointers.{pointer, pointer_value, encoded_value}
 use Rattle.cfi_unwind.specs.Sections.{Section, pointer_context}
 use Rattle.cfi_unwind.specs.Prefixes.{Prefix}
 use Rattle.cfi_unwind.specs.Cies.{Cie, Augmentation}
@@ -35,8 +35,8 @@ addresses section size None = do
   give (initial, range)
 addresses section size (Some encoding) = do
   initial ← pointer encoding (pointer_context section None size)
-  range ← formatted encoding size
-  give (pointed initial, range)
+  range ← encoded_value encoding size
+  give (pointer_value initial, range)
 
 -- ---- the augmentation data
 
@@ -55,7 +55,7 @@ data_if true section size initial encoding = do
 
 abbrev pub lsda : Section → ℕ → ℕ → Option Augmentation → Read (Option Pointer)
 lsda section size initial None = give None
-lsda section size initial (Some known) = data_if known.has_data section size initial known.lsda_encoding
+lsda section size initial (Some known) = data_if known.has_augmentation_data section size initial known.lsda_encoding
 
 -- ---- the fields, in order, behind the id
 
@@ -66,11 +66,11 @@ fde_fields section found cie = do
   instructions ← remainder
   give (record { offset = found.offset; length = found.length; cie = cie; initial = range.0; range = range.1; lsda = lsda; instructions = instructions })
 
-abbrev pub fde_behind : Section → Prefix → Cie → Result Fde Error
-fde_behind section found cie = (within found.rest (fde_fields section found cie) section.source found.rest.first).value
+abbrev pub fde_after : Section → Prefix → Cie → Result Fde Error
+fde_after section found cie = (within found.rest (fde_fields section found cie) section.source found.rest.first).value
 
 abbrev pub fde_of : Section → PartialFde → Cie → Result Fde Error
-fde_of section partial cie = fde_behind section partial.found cie
+fde_of section partial cie = fde_after section partial.found cie
 
 -- ---- what it covers; an end that wraps lies at or below the initial address, and nothing is contained then
 

@@ -14,8 +14,8 @@ pub record Prefix : Type 0 where
   pub rest : Extent  -- what is left behind the id
 
 -- inside the extent of an entry that begins at the offset
-abbrev pub identified : Section → ℕ → ℕ → Format → Read Prefix
-identified section offset length format = do
+abbrev pub fields_after_length : Section → ℕ → ℕ → Format → Read Prefix
+fields_after_length section offset length format = do
   place ← here
   id ← unsigned (id_width section.kind format)
   rest ← remainder
@@ -26,7 +26,7 @@ abbrev pub of_length : Section → ℕ → InitialLength → Read (Option Prefix
 of_length section offset field =
     if field.length == 0 then give None else (do
       extent ← split field.length
-      found ← within extent (identified section offset field.length field.format)
+      found ← within extent (fields_after_length section offset field.length field.format)
       give (Some found))
 
 -- An entry, or none where the length is zero. The place after it is that behind the extent.

@@ -3,16 +3,16 @@ use Rattle.std.specs.Prelude.{ℕ, ◌+◌, ◌-◌, Option, Result, Err, nat_le
 use Rattle.cfi_read_core.specs.declared.common.Vendor.{Vendor}
 use Rattle.cfi_read_core.specs.declared.error.Error.{Error}
 use Rattle.cfi_read_core.specs.declared.error.Error.TheVariants.{UnsupportedOffset}
-use Rattle.cfi_read_core.specs.Reading.{Source, Read, ended}
+use Rattle.cfi_read_core.specs.Reading.{Source, Read, unexpected_eof}
 use Rattle.cfi_parts.specs.declared.pointer.BaseAddresses.{BaseAddresses}
 use Rattle.cfi_parts.specs.declared.pointer.SectionBaseAddresses.{SectionBaseAddresses}
 use Rattle.cfi_parts.specs.Pointers.{PointerContext}
-use Rattle.cfi_parts.specs.Frames.{Frame, Kind, cie_offset_from}
-pub use Rattle.cfi_parts.specs.Frames.{Kind, DebugFrame, EhFrame, id_width, cie_id, zero_length_ends, has_sizes, cie_offset_from}
+use Rattle.cfi_parts.specs.CallFrameSections.{SectionView, SectionKind, cie_offset_from}
+pub use Rattle.cfi_parts.specs.CallFrameSections.{SectionKind, DebugFrame, EhFrame, id_width, cie_id, zero_length_ends, has_sizes, cie_offset_from}
 
 -- A section as its entries are read: its bytes, and what the caller says of them.
 pub record Section : Type 0 where
-  pub kind : Kind
+  pub kind : SectionKind
   pub source : Source
   pub first : ℕ  -- the place where it begins
   pub address_size : ℕ  -- of an entry that gives none
@@ -24,13 +24,13 @@ abbrev pub offset_in : Section → ℕ → ℕ
 offset_in section place = place - section.first
 
 -- what the section tells of itself, with the bases of the pointers in its entries
-abbrev pub section_of : Frame → BaseAddresses → Section
-section_of frame bases = record {
-  kind = frame.kind;
-  source = frame.standing.source;
-  first = frame.standing.place;
-  address_size = frame.address_size;
-  vendor = frame.vendor;
+abbrev pub section_of : SectionView → BaseAddresses → Section
+section_of view bases = record {
+  kind = view.kind;
+  source = view.position.source;
+  first = view.position.place;
+  address_size = view.address_size;
+  vendor = view.vendor;
   bases = bases.eh_frame;
 }
 
@@ -45,7 +45,7 @@ cie_offset_of section id_offset id =
 abbrev pub at_offset : {A : Type 0} → Section → ℕ → Read A → Result A Error
 at_offset section offset read =
     if nat_lt (section.source.last - section.first) offset
-    then Err (ended section.first)
+    then Err (unexpected_eof section.first)
     else (read section.source (section.first + offset)).value
 
 -- the pointers of the section's entries, with a function base or none

@@ -2,7 +2,7 @@
 
 pub(crate) mod augmentation;
 pub(crate) mod cie;
-pub(crate) mod context;
+pub(crate) mod in_section;
 pub(crate) mod entries;
 pub(crate) mod fde;
 mod instructions;

@@ -2,29 +2,29 @@
 ghost use Rattle.std.specs.Prelude.{◌≡◌, IfOk, Result};
 ghost use Rattle.cfi_read_core.specs.Readers.{map_ok};
 ghost use Rattle.cfi_read_core.specs.declared.error.Error.{Error};
-ghost use Rattle.cfi_parts.specs.Frames.{IsOf};
+ghost use Rattle.cfi_parts.specs.CallFrameSections.{IsOf};
 ghost use Rattle.cfi_unwind.specs.Sections.{section_of};
 ghost use Rattle.cfi_state.specs.Numbered.{map_row};
-ghost use Rattle.cfi_unwind.specs.declared.entry.cie.CieParts.{CieParts};
-ghost use Rattle.cfi_unwind.specs.Answers.{IsRowOfFound};
+ghost use Rattle.cfi_unwind.specs.declared.entry.cie.CieFields.{CieFields};
+ghost use Rattle.cfi_unwind.specs.AddressRow.{IsRowOfFound};
 ghost use Rattle.cfi_unwind.specs.Fdes.{Covers, Fde};
 ghost use Rattle.cfi_unwind.specs.Entries.{cie_at, entries, partial_fde_at};
-ghost use Rattle.cfi_unwind.specs.Scan.{chosen};
-ghost use Rattle.cfi_unwind.specs.Asking.{Asks, IsAnswered, ReadsWith, Scans};
+ghost use Rattle.cfi_unwind.specs.Scan.{chosen_fde};
+ghost use Rattle.cfi_unwind.specs.GetCieCalls.{GetCieCall, IsAnswered, ReadsWith, Scans};
 ghost use Rattle.cfi_unwind.specs.Views.{cie_view, fde_view};
 ghost use Rattle.cfi_unwind.specs.EntryViews.{partial_of};
 
 mod debug_frame;
 mod eh_frame;
 
-use crate::entry::context::InSection;
+use crate::entry::in_section::InSection;
 use crate::entry::entries::{cie_at, partial_fde_at};
 use crate::entry::{
     CfiEntriesIter, CieOrFde, CommonInformationEntry, FrameDescriptionEntry,
     PartialFrameDescriptionEntry,
 };
 use cfi_parts::pointer::BaseAddresses;
-use cfi_parts::section::{_UnwindSectionPrivate, UnwindOffset};
+use cfi_parts::unwind_section::{_UnwindSectionPrivate, UnwindOffset};
 use cfi_read_core::{Error, Reader, Result};
 use cfi_state::storage::UnwindContextStorage;
 use cfi_state::table::context::UnwindContext;
@@ -45,7 +45,7 @@ pub trait UnwindSection<R: Reader>: Copy + Debug + _UnwindSectionPrivate<R> {
     fn entries<'bases>(&self, bases: &'bases BaseAddresses) -> CfiEntriesIter<'bases, Self, R>
         ensures section { result.section ≡ self.now }
         ensures bases { result.bases.now ≡ bases.now }
-        ensures all { R.standing result.input ≡ (Self.frame self.now).standing }
+        ensures all { R.position result.input ≡ (Self.view self.now).position }
     {
         CfiEntriesIter::new(self, bases)
     }
@@ -60,8 +60,8 @@ pub trait UnwindSection<R: Reader>: Copy + Debug + _UnwindSectionPrivate<R> {
         bases: &BaseAddresses,
         offset: Self::Offset,
     ) -> Result<CommonInformationEntry<R>>
-        ensures read { map_ok (cie_view R.standing R.Offset.number) result ≡ cie_at (section_of (Self.frame self.now) bases.now) (R.Offset.number (Self.Offset.offset offset)) }
-        ensures part { IfOk result (λ cie. IsOf (R.standing cie.instructions) (Self.frame self.now).standing) }
+        ensures read { map_ok (cie_view R.position R.Offset.number) result ≡ cie_at (section_of (Self.view self.now) bases.now) (R.Offset.number (Self.Offset.offset offset)) }
+        ensures part { IfOk result (λ cie. IsOf (R.position cie.initial_instructions) (Self.view self.now).position) }
     {
         let context = InSection {
             section: *self,
@@ -80,9 +80,9 @@ pub trait UnwindSection<R: Reader>: Copy + Debug + _UnwindSectionPrivate<R> {
         bases: &'bases BaseAddresses,
         offset: Self::Offset,
     ) -> Result<PartialFrameDescriptionEntry<'bases, Self, R>>
-        ensures read { map_ok (λ p. partial_of R.standing R.Offset.number p.found p.cie_offset) result
-            ≡ partial_fde_at (section_of (Self.frame self.now) bases.now) (R.Offset.number (Self.Offset.offset offset)) }
-        ensures tied { IfOk result (λ p. (p.section ≡ self.now) × (p.bases.now ≡ bases.now)) }
+        ensures read { map_ok (λ p. partial_of R.position R.Offset.number p.found p.cie_offset) result
+            ≡ partial_fde_at (section_of (Self.view self.now) bases.now) (R.Offset.number (Self.Offset.offset offset)) }
+        ensures same_section_and_bases { IfOk result (λ p. (p.section ≡ self.now) × (p.bases.now ≡ bases.now)) }
     {
         let context = InSection {
             section: *self,
@@ -105,11 +105,11 @@ pub trait UnwindSection<R: Reader>: Copy + Debug + _UnwindSectionPrivate<R> {
         F: FnMut(&Self, &BaseAddresses, Self::Offset) -> Result<CommonInformationEntry<R>>,
         requires { F.IsAlwaysCallable get_cie }
         ensures read { (last : F) × ReadsWith
-            (Asks F.FnMut (λ o. R.Offset.number (Self.Offset.offset o)) (cie_view R.standing R.Offset.number) self.now bases.now)
-            (section_of (Self.frame self.now) bases.now) (partial_fde_at (section_of (Self.frame self.now) bases.now) (R.Offset.number (Self.Offset.offset offset)))
-            get_cie (map_ok (fde_view R.standing R.Offset.number) result) last }
+            (GetCieCall F.FnMut (λ o. R.Offset.number (Self.Offset.offset o)) (cie_view R.position R.Offset.number) self.now bases.now)
+            (section_of (Self.view self.now) bases.now) (partial_fde_at (section_of (Self.view self.now) bases.now) (R.Offset.number (Self.Offset.offset offset)))
+            get_cie (map_ok (fde_view R.position R.Offset.number) result) last }
         ensures cie { IfOk result (λ fde. IsAnswered F.FnMut self.now bases.now fde.cie) }
-        ensures part { IfOk result (λ fde. IsOf (R.standing fde.instructions) (Self.frame self.now).standing) }
+        ensures part { IfOk result (λ fde. IsOf (R.position fde.instructions) (Self.view self.now).position) }
     {
         let partial = self.partial_fde_from_offset(bases, offset)?;
         partial.parse(get_cie)
@@ -130,12 +130,12 @@ pub trait UnwindSection<R: Reader>: Copy + Debug + _UnwindSectionPrivate<R> {
         F: FnMut(&Self, &BaseAddresses, Self::Offset) -> Result<CommonInformationEntry<R>>,
         requires { F.IsAlwaysCallable get_cie }
         ensures scan { (last : F) × Scans
-            (Asks F.FnMut (λ o. R.Offset.number (Self.Offset.offset o)) (cie_view R.standing R.Offset.number) self.now bases.now)
-            (section_of (Self.frame self.now) bases.now) address (entries (section_of (Self.frame self.now) bases.now))
-            get_cie (map_ok (fde_view R.standing R.Offset.number) result) last }
+            (GetCieCall F.FnMut (λ o. R.Offset.number (Self.Offset.offset o)) (cie_view R.position R.Offset.number) self.now bases.now)
+            (section_of (Self.view self.now) bases.now) address (entries (section_of (Self.view self.now) bases.now))
+            get_cie (map_ok (fde_view R.position R.Offset.number) result) last }
         ensures cie { IfOk result (λ fde. IsAnswered F.FnMut self.now bases.now fde.cie) }
-        ensures part { IfOk result (λ fde. IsOf (R.standing fde.instructions) (Self.frame self.now).standing) }
-        ensures contains { IfOk result (λ fde. Covers (fde_view R.standing R.Offset.number fde) address) }
+        ensures part { IfOk result (λ fde. IsOf (R.position fde.instructions) (Self.view self.now).position) }
+        ensures contains { IfOk result (λ fde. Covers (fde_view R.position R.Offset.number fde) address) }
     {
         let mut entries = self.entries(bases);
         while let Some(entry) = entries.next()? {
@@ -166,12 +166,12 @@ pub trait UnwindSection<R: Reader>: Copy + Debug + _UnwindSectionPrivate<R> {
         S: UnwindContextStorage<R::Offset>,
         F: FnMut(&Self, &BaseAddresses, Self::Offset) -> Result<CommonInformationEntry<R>>,
         requires callable { F.IsAlwaysCallable get_cie }
-        requires of_section { (cie : CieParts R R.Offset) → IsAnswered F.FnMut self.now bases.now cie → IsOf (R.standing cie.instructions) (Self.frame self.now).standing }
+        requires of_section { (cie : CieFields R R.Offset) → IsAnswered F.FnMut self.now bases.now cie → IsOf (R.position cie.initial_instructions) (Self.view self.now).position }
         ensures row { (found : Result Fde Error) × (last : F) × Scans
-            (Asks F.FnMut (λ o. R.Offset.number (Self.Offset.offset o)) (cie_view R.standing R.Offset.number) self.now bases.now)
-            (section_of (Self.frame self.now) bases.now) address (entries (section_of (Self.frame self.now) bases.now))
+            (GetCieCall F.FnMut (λ o. R.Offset.number (Self.Offset.offset o)) (cie_view R.position R.Offset.number) self.now bases.now)
+            (section_of (Self.view self.now) bases.now) address (entries (section_of (Self.view self.now) bases.now))
             get_cie found last
-            × IsRowOfFound S.Rules.limit S.Stack.limit S.Rules.copies_free (section_of (Self.frame self.now) bases.now) address
+            × IsRowOfFound S.Rules.limit S.Stack.limit S.Rules.copies_free (section_of (Self.view self.now) bases.now) address
             found (map_ok (λ row. map_row R.Offset.number row.now) result) }
     {
         let fde = self.fde_for_address(bases, address, get_cie)?;
@@ -183,15 +183,15 @@ pub trait UnwindSection<R: Reader>: Copy + Debug + _UnwindSectionPrivate<R> {
 ///
 /// Refused with the first refusal of an entry before it, and with `NoUnwindInfoForAddress` where no FDE contains the
 /// address.
-pub fn fde_by_scan_of<R: Reader, S: UnwindSection<R>>(
+pub fn scan_for_fde<R: Reader, S: UnwindSection<R>>(
     section: &S,
     bases: &BaseAddresses,
     address: u64,
 ) -> Result<FrameDescriptionEntry<R>>
-    ensures scan { map_ok (fde_view R.standing R.Offset.number) result ≡ chosen (section_of (S.frame section.now) bases.now) address }
-    ensures part { IfOk result (λ fde. IsOf (R.standing fde.instructions) (S.frame section.now).standing) }
-    ensures cie_part { IfOk result (λ fde. IsOf (R.standing fde.cie.instructions) (S.frame section.now).standing) }
-    ensures contains { IfOk result (λ fde. Covers (fde_view R.standing R.Offset.number fde) address) }
+    ensures scan { map_ok (fde_view R.position R.Offset.number) result ≡ chosen_fde (section_of (S.view section.now) bases.now) address }
+    ensures part { IfOk result (λ fde. IsOf (R.position fde.instructions) (S.view section.now).position) }
+    ensures cie_part { IfOk result (λ fde. IsOf (R.position fde.cie.initial_instructions) (S.view section.now).position) }
+    ensures contains { IfOk result (λ fde. Covers (fde_view R.position R.Offset.number fde) address) }
 {
     let reader = *section.section();
     section.fde_for_address(

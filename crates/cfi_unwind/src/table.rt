@@ -4,23 +4,23 @@ ghost use Rattle.std.specs.Borrow.{sem};
 ghost use Rattle.std.specs.Io.BufRead.{Rests};
 ghost use mir.Syntax.{named};
 ghost use Rattle.cfi_read_core.specs.Addresses.{IsAddressSize, is_sized};
-ghost use Rattle.cfi_parts.specs.Frames.{IsOf};
-ghost use Rattle.cfi_parts.specs.Iterators.{program};
-ghost use Rattle.cfi_parts.specs.Programs.{instructions_left};
+ghost use Rattle.cfi_parts.specs.CallFrameSections.{IsOf};
+ghost use Rattle.cfi_parts.specs.Iterators.{instruction_reader};
+ghost use Rattle.cfi_parts.specs.InstructionReaders.{instructions_left};
 ghost use Rattle.cfi_state.specs.Context.{empty_context};
-ghost use Rattle.cfi_state.specs.Evaluation.{setting_of};
+ghost use Rattle.cfi_state.specs.ContextEffects.{setting_of};
 ghost use Rattle.cfi_state.specs.Kept.{AnswersByKept};
 ghost use Rattle.cfi_state.specs.Limit.{IsFixed};
 ghost use Rattle.cfi_state.specs.Machine.{fresh_state};
 ghost use Rattle.cfi_state.specs.Numbered.{map_row};
-ghost use Rattle.cfi_state.specs.Places.{going};
+ghost use Rattle.cfi_state.specs.TableStates.{before_last_row};
 ghost use Rattle.cfi_state.specs.Rows.{fde_answer};
-ghost use Rattle.cfi_state.specs.Runs.{wants_memory, RunsCie, FindsRow, AnswersFde};
+ghost use Rattle.cfi_state.specs.Runs.{may_allocate, RunsInitialInstructions, FindsRow, AnswersFde};
 ghost use Rattle.cfi_read_core.specs.Readers.{map_ok};
-ghost use Rattle.cfi_unwind.specs.Answers.{setting};
+ghost use Rattle.cfi_unwind.specs.AddressRow.{setting};
 ghost use Rattle.cfi_unwind.specs.Sections.{section_of};
 ghost use Rattle.cfi_unwind.specs.Views.{fde_view};
-ghost use Rattle.cfi_unwind.specs.Tables.{GivesNext, KeepsOn, KeepsProgram, StartsRows, seen, row_due, row_given, place_behind, HandsOut};
+ghost use Rattle.cfi_unwind.specs.UnwindTables.{GivesNextAnswer, AnswersWithoutMachine, KeepsCieProgram, StartsRows, state_in_numbers, row_due, row_given, state_after, LendsNextRow};
 
 use crate::entry::FrameDescriptionEntry;
 use crate::section::UnwindSection;
@@ -60,7 +60,7 @@ pub struct UnwindTable<'a, 'ctx, R: Reader, S: UnwindContextStorage<R::Offset> =
 
 impl<'a, 'ctx, R: Reader, S: UnwindContextStorage<R::Offset>> UnwindTable<'a, 'ctx, R, S> {
     ghost use Rattle.cfi_unwind.specs.contracts.table.UnwindTable.{the_row};
-    ghost use Rattle.cfi_unwind.specs.TablePlaces.{place_of};
+    ghost use Rattle.cfi_unwind.specs.TableViews.{table_state};
 
     /// The table of an FDE, whose rows are made in the context.
     ///
@@ -76,23 +76,23 @@ impl<'a, 'ctx, R: Reader, S: UnwindContextStorage<R::Offset>> UnwindTable<'a, 'c
         ctx: &'ctx mut UnwindContext<R::Offset, S>,
         fde: &FrameDescriptionEntry<R>,
     ) -> Result<Self>
-        requires own { IsOf (R.standing fde.now.instructions) (Section.frame section.now).standing }
-        requires cie { IsOf (R.standing fde.now.cie.instructions) (Section.frame section.now).standing }
-        ensures starts { StartsRows (λ table. place_of R.standing R.Offset.number table)
-            (setting S.Rules.limit S.Stack.limit (fde_view R.standing R.Offset.number fde.now)) S.Rules.copies_free
-            (section_of (Section.frame section.now) bases.now) (fde_view R.standing R.Offset.number fde.now) result }
+        requires own { IsOf (R.position fde.now.instructions) (Section.view section.now).position }
+        requires cie { IsOf (R.position fde.now.cie.initial_instructions) (Section.view section.now).position }
+        ensures starts { StartsRows (λ table. table_state R.position R.Offset.number table)
+            (setting S.Rules.limit S.Stack.limit (fde_view R.position R.Offset.number fde.now)) S.Rules.copies_free
+            (section_of (Section.view section.now) bases.now) (fde_view R.position R.Offset.number fde.now) result }
         ensures setting { IfOk result (λ table. (rules stack : Option ℕ) →
-            setting_of table.parameters.values rules stack ≡ setting rules stack (fde_view R.standing R.Offset.number fde.now)) }
+            setting_of table.parameters.values rules stack ≡ setting rules stack (fde_view R.position R.Offset.number fde.now)) }
         ensures holds_row { IfOk result (λ table. table.holds_row ≡ false) }
         ensures same_reference { IfOk result (λ table. table.context.ghost_name ≡ ctx.entry.ghost_name) }
     {
         let initial = fde.cie.instructions(section, bases);
         let instructions = fde.instructions(section, bases);
-        Self::over(fde.parameters(), initial, instructions, ctx)
+        Self::with_instructions(fde.parameters(), initial, instructions, ctx)
     }
 
     // The same over the instructions of the two.
-    fn over(
+    fn with_instructions(
         parameters: Parameters,
         cie_instructions: CallFrameInstructionIter<'_, R>,
         fde_instructions: CallFrameInstructionIter<'a, R>,
@@ -100,10 +100,10 @@ impl<'a, 'ctx, R: Reader, S: UnwindContextStorage<R::Offset>> UnwindTable<'a, 'c
     ) -> Result<Self>
         requires { IsAddressSize parameters.address_size }
         ensures cie { let s = setting_of parameters S.Rules.limit S.Stack.limit in
-            RunsCie (wants_memory s S.Rules.copies_free) s fresh_state (instructions_left (program R.standing cie_instructions.entry))
-            (map_ok (λ table. (place_of R.standing R.Offset.number table).behind) result) }
-        ensures kept { KeepsProgram (setting_of parameters S.Rules.limit S.Stack.limit) S.Rules.copies_free (instructions_left (program R.standing cie_instructions.entry))
-            (map_ok (λ table. (place_of R.standing R.Offset.number table).behind) result) }
+            RunsInitialInstructions (may_allocate s S.Rules.copies_free) s fresh_state (instructions_left (instruction_reader R.position cie_instructions.entry))
+            (map_ok (λ table. (table_state R.position R.Offset.number table).so_far) result) }
+        ensures kept { KeepsCieProgram (setting_of parameters S.Rules.limit S.Stack.limit) S.Rules.copies_free (instructions_left (instruction_reader R.position cie_instructions.entry))
+            (map_ok (λ table. (table_state R.position R.Offset.number table).so_far) result) }
         ensures fde { IfOk result (λ table. table.instructions ≡ fde_instructions.entry) }
         ensures parameters { IfOk result (λ table. table.parameters.values ≡ parameters) }
         ensures has_ended { IfOk result (λ table. table.has_ended ≡ false) }
@@ -124,14 +124,14 @@ impl<'a, 'ctx, R: Reader, S: UnwindContextStorage<R::Offset>> UnwindTable<'a, 'c
 
     // Goes on to the next row, and answers whether there is one.
     fn advance(&mut self) -> Result<bool>
-        ensures next { GivesNext (setting_of self.old.parameters.values S.Rules.limit S.Stack.limit) S.Rules.copies_free
-            (place_of R.standing R.Offset.number self.old)
+        ensures next { GivesNextAnswer (setting_of self.old.parameters.values S.Rules.limit S.Stack.limit) S.Rules.copies_free
+            (table_state R.position R.Offset.number self.old)
             (row_given R.Offset.number self.new.context.now result)
-            (place_of R.standing R.Offset.number self.new) }
-        ensures kept { KeepsOn (setting_of self.old.parameters.values S.Rules.limit S.Stack.limit) S.Rules.copies_free
-            (place_of R.standing R.Offset.number self.old)
+            (table_state R.position R.Offset.number self.new) }
+        ensures kept { AnswersWithoutMachine (setting_of self.old.parameters.values S.Rules.limit S.Stack.limit) S.Rules.copies_free
+            (table_state R.position R.Offset.number self.old)
             (row_given R.Offset.number self.new.context.now result)
-            (place_of R.standing R.Offset.number self.new) }
+            (table_state R.position R.Offset.number self.new) }
         ensures holds_row { MatchResult result (λ found. self.new.holds_row ≡ found) (λ _. self.new.holds_row ≡ false) }
         ensures parameters { self.new.parameters.values ≡ self.old.parameters.values }
         ensures same_reference { self.new.context.ghost_name ≡ self.old.context.ghost_name }
@@ -178,8 +178,8 @@ impl<'a, 'ctx, R: Reader, S: UnwindContextStorage<R::Offset>> UnwindTable<'a, 'c
             R.Endian.Endianity.own R.Endian.Debug R.Endian.PartialEq
             S.Rules.ArrayLike S.Rules.CopyList.own S.Stack.ArrayLike)
             self.entry
-            (λ new. HandsOut R.Offset.number (setting_of self.old.parameters.values S.Rules.limit S.Stack.limit) S.Rules.copies_free
-            (place_of R.standing R.Offset.number self.old) result (place_of R.standing R.Offset.number new) new.context.now new.holds_row
+            (λ new. LendsNextRow R.Offset.number (setting_of self.old.parameters.values S.Rules.limit S.Stack.limit) S.Rules.copies_free
+            (table_state R.position R.Offset.number self.old) result (table_state R.position R.Offset.number new) new.context.now new.holds_row
             × (new.parameters.values ≡ self.old.parameters.values) × (new.context.ghost_name ≡ self.old.context.ghost_name))) }
     {
         if self.advance()? {
@@ -218,10 +218,10 @@ fn run_to_move<'a, R: Reader, S: UnwindContextStorage<R::Offset>>(
 ) -> Result<Option<u64>>
     requires { IsAddressSize parameters.now.address_size }
     ensures next { let s = setting_of parameters.now S.Rules.limit S.Stack.limit in
-        GivesNext s S.Rules.copies_free
-        (going (seen R.Offset.number location context.old) (instructions_left (program R.standing instructions.old)))
+        GivesNextAnswer s S.Rules.copies_free
+        (before_last_row (state_in_numbers R.Offset.number location context.old) (instructions_left (instruction_reader R.position instructions.old)))
         (row_due R.Offset.number s location context.new result)
-        (place_behind R.Offset.number location context.new (instructions_left (program R.standing instructions.new)) result) }
+        (state_after R.Offset.number location context.new (instructions_left (instruction_reader R.position instructions.new)) result) }
     ensures start { context.new.row.start_address ≡ context.old.row.start_address }
 {
     while let Some(instruction) = instructions.next()? {
@@ -241,8 +241,8 @@ fn run_initial<R: Reader, S: UnwindContextStorage<R::Offset>>(
     requires sized { IsAddressSize parameters.now.address_size }
     requires empty { context.old ≡ empty_context }
     ensures { let s = setting_of parameters.now S.Rules.limit S.Stack.limit in
-        RunsCie (wants_memory s S.Rules.copies_free) s fresh_state (instructions_left (program R.standing instructions.entry))
-        (map_ok (λ _. seen R.Offset.number s.initial_address context.new) result) }
+        RunsInitialInstructions (may_allocate s S.Rules.copies_free) s fresh_state (instructions_left (instruction_reader R.position instructions.entry))
+        (map_ok (λ _. state_in_numbers R.Offset.number s.initial_address context.new) result) }
 {
     let mut rest = instructions;
     let mut location = 0;
@@ -274,19 +274,19 @@ pub(crate) fn unwind_info_for_address<
 ) -> Result<&'ctx UnwindTableRow<R::Offset, S::Rules>>
     requires { IsAddressSize parameters.address_size }
     ensures run { let s = setting_of parameters S.Rules.limit S.Stack.limit in
-        AnswersFde (wants_memory s S.Rules.copies_free) s
-        (instructions_left (program R.standing cie_instructions.entry)) (instructions_left (program R.standing fde_instructions.entry))
+        AnswersFde (may_allocate s S.Rules.copies_free) s
+        (instructions_left (instruction_reader R.position cie_instructions.entry)) (instructions_left (instruction_reader R.position fde_instructions.entry))
         address (map_ok (λ row. map_row R.Offset.number row.now) result) }
     ensures kept { let s = setting_of parameters S.Rules.limit S.Stack.limit in
-        AnswersByKept (wants_memory s S.Rules.copies_free) s
-        (instructions_left (program R.standing cie_instructions.entry)) (instructions_left (program R.standing fde_instructions.entry))
+        AnswersByKept (may_allocate s S.Rules.copies_free) s
+        (instructions_left (instruction_reader R.position cie_instructions.entry)) (instructions_left (instruction_reader R.position fde_instructions.entry))
         address (map_ok (λ row. map_row R.Offset.number row.now) result) }
     ensures fixed { let s = setting_of parameters S.Rules.limit S.Stack.limit in
         IsFixed S.Rules.limit S.Stack.limit S.Rules.copies_free →
         map_ok (λ row. map_row R.Offset.number row.now) result
-        ≡ fde_answer s (instructions_left (program R.standing cie_instructions.entry)) (instructions_left (program R.standing fde_instructions.entry)) address }
+        ≡ fde_answer s (instructions_left (instruction_reader R.position cie_instructions.entry)) (instructions_left (instruction_reader R.position fde_instructions.entry)) address }
 {
-    let mut table = UnwindTable::over(parameters, cie_instructions, fde_instructions, context)?;
+    let mut table = UnwindTable::with_instructions(parameters, cie_instructions, fde_instructions, context)?;
     while let Some(row) = table.next_row()? {
         if row.contains(address) {
             let Some(current) = table.into_current_row() else {

@@ -2,24 +2,24 @@
 use Rattle.std.proofs.Common.{ℕ, ◌+◌, ◌-◌, ◌*◌, List, [], ◌∷◌, codes, Option, Some, None, length, false}
 use Rattle.std.specs.Prelude.{nat_lt, ◌==◌, if◌then◌else◌}
 use Rattle.cfi_read_core.specs.declared.common.Vendor.TheVariants as vendors
-use Rattle.cfi_read_core.specs.Reading.{Source, repeated}
+use Rattle.cfi_read_core.specs.Reading.{Source, readings_up_to}
 use Rattle.cfi_read_core.specs.Numbers.{unsigned, signed, leb128_bytes, unsigned_leb128, signed_leb128, offset_leb128, register_leb128, initial_length, text}
 use Rattle.cfi_read_core.specs.Addresses.{address, address_size}
-use Rattle.cfi_parts.specs.Pointers.{encoding_byte, formatted, base_of, pointer}
+use Rattle.cfi_parts.specs.Pointers.{encoding_byte, encoded_value, base_of, pointer}
 use Rattle.cfi_parts.specs.Instructions.{expression, instruction}
-use Rattle.cfi_unwind.specs.Sections.{Kind, DebugFrame, EhFrame, Section}
+use Rattle.cfi_unwind.specs.Sections.{SectionKind, DebugFrame, EhFrame, Section}
 use Rattle.cfi_unwind.specs.Prefixes.{prefix}
-use Rattle.cfi_unwind.specs.Cies.{letter, letters, announced, augmentation, cie_fields}
+use Rattle.cfi_unwind.specs.Cies.{letter, letters, letters_with_data, augmentation, cie_fields}
 use Rattle.cfi_unwind.specs.Fdes.{fde_fields}
 use Rattle.cfi_unwind.specs.Entries.{entry_of, entries_from, cie_at, partial_fde_at}
 use Rattle.cfi_unwind.specs.Scan.{first_covering}
 use Rattle.gimli_cfi.specs.Headers.{HeaderSection, Table, row_count, header_fields, row_by, start_field, target_field, start_of, target_of}
-use Rattle.gimli_cfi.specs.Rows.{rows_from}
+use Rattle.gimli_cfi.specs.HeaderRows.{rows_from}
 use Rattle.gimli_cfi.specs.Steps.{least_exponent}
 
 -- to name it on an `unfolding` line is to open all these
 unfoldable pub computing : ℕ
-unfolding repeated unsigned signed leb128_bytes unsigned_leb128 signed_leb128 offset_leb128 register_leb128 initial_length text address address_size encoding_byte formatted base_of pointer expression instruction prefix letter letters announced augmentation cie_fields fde_fields entry_of entries_from cie_at partial_fde_at first_covering row_count header_fields row_by rows_from start_field target_field start_of target_of least_exponent
+unfolding readings_up_to unsigned signed leb128_bytes unsigned_leb128 signed_leb128 offset_leb128 register_leb128 initial_length text address address_size encoding_byte encoded_value base_of pointer expression instruction prefix letter letters letters_with_data augmentation cie_fields fde_fields entry_of entries_from cie_at partial_fde_at first_covering row_count header_fields row_by rows_from start_field target_field start_of target_of least_exponent
 computing = 0
 
 -- the bytes of hexadecimal text, whose letters are small; spaces are passed over
@@ -38,7 +38,7 @@ abbrev pub little : ℕ → List ℕ → Source
 little greatest bs = record { whole = bs; last = length bs; big_endian = false; greatest = greatest }
 
 -- a little-endian section with addresses of eight bytes; the base is that of the section
-abbrev pub section_at : Kind → Option ℕ → List ℕ → Section
+abbrev pub section_at : SectionKind → Option ℕ → List ℕ → Section
 section_at kind base digits = record {
   kind = kind;
   source = little 0xffffffffffffffff (bytes digits);

@@ -3,10 +3,10 @@ use Rattle.std.proofs.Common.{◌≡◌, ◌≤◌, ◌<◌, ◌-◌, ℕ, Optio
 use Rattle.std.specs.Prelude.{ok_or}
 use borrow.Author.Tests.{lt-leb, le-leb}
 use Rattle.cfi_read_core.specs.declared.error.Error.{Error}
-use Rattle.cfi_read_core.specs.Reading.{Standing, Source}
+use Rattle.cfi_read_core.specs.Reading.{Position, Source}
 use Rattle.cfi_parts.specs.declared.pointer.Pointer.{Pointer}
 use Rattle.gimli_cfi.specs.Headers.{rows_passed, value_size}
-use Rattle.gimli_cfi.specs.Rows.{Walk, next_row}
+use Rattle.gimli_cfi.specs.HeaderRows.{Walk, next_row}
 use Rattle.gimli_cfi.specs.Passing.{walk_by, walk_past_by, walk_past, MeetsBehind}
 
 module _ (walk : Walk) (n : ℕ) where
@@ -30,17 +30,17 @@ module _ (walk : Walk) (n : ℕ) where
     pub past_all : walk.count ≤ n → walk_past walk n ≡ Ok (record walk { count = 0 })
     past_all few = by_size ∙ rw (le-leb _ _ few) refl
 
-    by_rows : n < walk.count → walk_past walk n ≡ walk_by walk n (rows_passed m n walk.standing.source walk.standing.place)
+    by_rows : n < walk.count → walk_past walk n ≡ walk_by walk n (rows_passed m n walk.position.source walk.position.place)
     by_rows more = by_size ∙ rw (lt-leb _ _ more) refl
 
-    pub past_refused : (e : Error) (place : ℕ) → n < walk.count → rows_passed m n walk.standing.source walk.standing.place ≡ record { value = Err e; place = place } → walk_past walk n ≡ Err e
+    pub past_refused : (e : Error) (place : ℕ) → n < walk.count → rows_passed m n walk.position.source walk.position.place ≡ record { value = Err e; place = place } → walk_past walk n ≡ Err e
     past_refused e place more passed = by_rows more ∙ ap (walk_by walk n) passed
 
-    pub past_given : (u : Unit) (s : Standing) → n < walk.count → rows_passed m n walk.standing.source walk.standing.place ≡ record { value = Ok u; place = s.place } →
-        s.source ≡ walk.standing.source → walk_past walk n ≡ Ok (record walk { count = walk.count - n; standing = s })
+    pub past_given : (u : Unit) (s : Position) → n < walk.count → rows_passed m n walk.position.source walk.position.place ≡ record { value = Ok u; place = s.place } →
+        s.source ≡ walk.position.source → walk_past walk n ≡ Ok (record walk { count = walk.count - n; position = s })
     past_given u s more passed same =
         by_rows more ∙ (ap (walk_by walk n) passed
-        ∙ ap (λ (t : Source). Ok (record walk { count = walk.count - n; standing = record { source = t; place = s.place } })) (sym same))
+        ∙ ap (λ (t : Source). Ok (record walk { count = walk.count - n; position = record { source = t; place = s.place } })) (sym same))
 
 -- ---- what is met behind them
 

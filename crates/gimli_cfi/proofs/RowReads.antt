@@ -3,7 +3,7 @@ use Rattle.std.proofs.Common.{◌≡◌, ◌<◌, ◌+◌, ◌*◌, ℕ, Option,
 use borrow.Author.Tests.{lt-leb}
 use Rattle.cfi_read_core.specs.declared.error.Error.{Error}
 use Rattle.cfi_read_core.specs.declared.error.Error.TheVariants.{UnsupportedOffset}
-use Rattle.cfi_read_core.specs.Reading.{Source, Standing, Outcome, Read, carry_on, of_result}
+use Rattle.cfi_read_core.specs.Reading.{Source, Position, Outcome, Read, carry_on, of_result}
 use Rattle.cfi_read_core.specs.Readers.{map_ok}
 use Rattle.cfi_parts.specs.declared.pointer.Pointer.{Pointer}
 use Rattle.cfi_parts.specs.Pointers.{direct}
@@ -19,7 +19,7 @@ not_passed size k source place above =
     let beyond : source.greatest < k * (size + size) = subst (λ (n : ℕ). source.greatest < k * n) (omega arith) above in
     rw (lt-leb _ _ beyond) refl
 
-module _ (section : HeaderSection) (table : Table) (size k : ℕ) (searchable : value_size table.encoding ≡ Some size) (s : Standing) (same : s.source ≡ rows_source section table) (first : s.place ≡ table.rows.first) where
+module _ (section : HeaderSection) (table : Table) (size k : ℕ) (searchable : value_size table.encoding ≡ Some size) (s : Position) (same : s.source ≡ rows_source section table) (first : s.place ≡ table.rows.first) where
   -- a field of row k, read where the reader stands
   read_there : (field : ℕ → ℕ → Read Pointer) (o : Outcome Pointer) → field size k s.source s.place ≡ o →
       field_by field table.encoding (value_size table.encoding) k (rows_source section table) table.rows.first ≡ o

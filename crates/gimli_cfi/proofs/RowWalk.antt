@@ -1,26 +1,26 @@
 -- Going through the rows of a table, a step at a time; it takes as many steps as there are rows.
 use Rattle.std.proofs.Common.{◌≡◌, ◌+◌, ℕ, zero, suc, [], ◌∷◌, length, Result, refl, sym, ap, ◌∙◌, arith}
 use Rattle.cfi_read_core.specs.declared.error.Error.{Error}
-use Rattle.cfi_read_core.specs.Reading.{Source, Standing, Outcome}
+use Rattle.cfi_read_core.specs.Reading.{Source, Position, Outcome}
 use Rattle.cfi_parts.specs.declared.pointer.Pointer.{Pointer}
 use Rattle.gimli_cfi.specs.Headers.{HeaderSection, row}
-use Rattle.gimli_cfi.specs.Rows.{Walk, rows_from, rows_left}
+use Rattle.gimli_cfi.specs.HeaderRows.{Walk, rows_from, rows_left}
 
 pub as_many : (section : HeaderSection) (encoding n : ℕ) (source : Source) (place : ℕ) → length (rows_from section encoding n source place) ≡ n
 unfolding rows_from
 as_many section encoding zero source place = refl
 as_many section encoding (suc n) source place = ap suc (as_many section encoding n source (row section encoding source place).place)
 
-abbrev walk_at : HeaderSection → ℕ → ℕ → Standing → Walk
-walk_at section encoding n s = record { section = section; encoding = encoding; count = n; standing = s }
+abbrev walk_at : HeaderSection → ℕ → ℕ → Position → Walk
+walk_at section encoding n s = record { section = section; encoding = encoding; count = n; position = s }
 
 -- where none remains
-pub none_left : (section : HeaderSection) (encoding n : ℕ) (s : Standing) → n ≡ 0 → rows_left (walk_at section encoding n s) ≡ []
+pub none_left : (section : HeaderSection) (encoding n : ℕ) (s : Position) → n ≡ 0 → rows_left (walk_at section encoding n s) ≡ []
 unfolding rows_from
 none_left section encoding n s e = ap (λ (m : ℕ). rows_from section encoding m s.source s.place) e
 
 -- the first of those that remain, given or refused
-module _ (section : HeaderSection) (encoding : ℕ) (old new : Standing) (v : Result (Pointer × Pointer) Error) (read : row section encoding old.source old.place ≡ record { value = v; place = new.place }) where
+module _ (section : HeaderSection) (encoding : ℕ) (old new : Position) (v : Result (Pointer × Pointer) Error) (read : row section encoding old.source old.place ≡ record { value = v; place = new.place }) where
   behind_suc : (m : ℕ) → new.source ≡ old.source → rows_from section encoding (suc m) old.source old.place ≡ v ∷ rows_from section encoding m new.source new.place
   unfolding rows_from
   behind_suc m same =

@@ -4,7 +4,7 @@ use Rattle.std.specs.Prelude.{IsSome, ok_or}
 use Rattle.cfi_read_core.specs.declared.error.Error.{Error}
 use Rattle.gimli_cfi.specs.Boundary.{IsBoundaryRow, AreRising, IsLastUpTo}
 use Rattle.gimli_cfi.specs.Headers.{Table}
-use Rattle.gimli_cfi.specs.Tables.{SearchedBy}
+use Rattle.gimli_cfi.specs.HeaderTables.{SearchedBy}
 use Rattle.gimli_cfi.proofs.Rising.{last_up_to}
 
 -- by a boundary row, in a format that can be searched

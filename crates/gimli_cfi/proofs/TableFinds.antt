@@ -7,17 +7,17 @@ use Rattle.cfi_unwind.specs.Sections.{Section}
 use Rattle.cfi_unwind.specs.Cies.{Cie}
 use Rattle.cfi_unwind.specs.Fdes.{PartialFde, Fde, covers}
 use Rattle.cfi_unwind.specs.Entries.{cie_at, fde_with, fde_by, partial_fde_at}
-use Rattle.cfi_unwind.specs.Asking.{ReadsWith}
+use Rattle.cfi_unwind.specs.GetCieCalls.{ReadsWith}
 use Rattle.gimli_cfi.specs.Headers.{HeaderSection, Table, value_size, target_of}
-use Rattle.gimli_cfi.specs.Tables.{SearchedBy, IsFoundBySearch, IsFoundByTable, ReadsAt, covering, fde_at_pointer, fde_by_target, fde_by_row}
+use Rattle.gimli_cfi.specs.HeaderTables.{SearchedBy, IsFoundBySearch, IsFoundByTable, ReadsAt, fde_if_covers, fde_at_pointer, fde_by_target, fde_by_row}
 
 -- ---- one FDE
 
 -- by the test
-pub covering_ok : (a : ℕ) (fde : Fde) → covers fde a ≡ true → covering a (Ok fde) ≡ Ok fde
+pub covering_ok : (a : ℕ) (fde : Fde) → covers fde a ≡ true → fde_if_covers a (Ok fde) ≡ Ok fde
 covering_ok a fde is = rw is refl
 
-pub covering_not : (a : ℕ) (fde : Fde) → covers fde a ≡ false → covering a (Ok fde) ≡ Err NoUnwindInfoForAddress
+pub covering_not : (a : ℕ) (fde : Fde) → covers fde a ≡ false → fde_if_covers a (Ok fde) ≡ Err NoUnwindInfoForAddress
 covering_not a fde is = rw is refl
 
 module _ {F : Type 0} (gives : F → ℕ → Result Cie Error → F → Type 0) (section : Section) (a : ℕ) where
@@ -26,7 +26,7 @@ module _ {F : Type 0} (gives : F → ℕ → Result Cie Error → F → Type 0) 
   at_refused (Ok offset) e f found is refused = absurd (cc)
 
   pub at_read : (r : Result ℕ Error) (offset : ℕ) (f last : F) (read found : Result Fde Error) → r ≡ Ok offset →
-      ReadsWith gives section (partial_fde_at section offset) f read last → found ≡ covering a read → ReadsAt gives section a r f found last
+      ReadsWith gives section (partial_fde_at section offset) f read last → found ≡ fde_if_covers a read → ReadsAt gives section a r f found last
   at_read (Err e) offset f last read found is reads same = absurd (cc)
   at_read (Ok offset') offset f last read found is reads same =
       let here : offset ≡ offset' = cc in (read, subst (λ (n : ℕ). ReadsWith gives section (partial_fde_at section n) f read last) here reads, same)
@@ -37,9 +37,9 @@ module _ {F : Type 0} (gives : F → ℕ → Result Cie Error → F → Type 0) 
   reads_own (Err e) f last read reads = reads.0
   reads_own (Ok partial) f last read reads = reads.2 ∙ ap (fde_with section partial) (own f partial.cie_offset reads.0 last reads.1)
 
-  pub at_own : (a : ℕ) (r : Result ℕ Error) (f last : F) (found : Result Fde Error) → ReadsAt gives section a r f found last → found ≡ covering a (fde_at_pointer section r)
+  pub at_own : (a : ℕ) (r : Result ℕ Error) (f last : F) (found : Result Fde Error) → ReadsAt gives section a r f found last → found ≡ fde_if_covers a (fde_at_pointer section r)
   at_own a (Err e) f last found reads = reads.0
-  at_own a (Ok offset) f last found reads = reads.2 ∙ ap (covering a) (reads_own (partial_fde_at section offset) f last reads.0 reads.1)
+  at_own a (Ok offset) f last found reads = reads.2 ∙ ap (fde_if_covers a) (reads_own (partial_fde_at section offset) f last reads.0 reads.1)
 
 -- ---- by a search
 

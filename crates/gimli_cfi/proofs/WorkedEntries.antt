@@ -5,7 +5,7 @@ use Rattle.cfi_read_core.specs.declared.error.Error.{Error}
 use Rattle.cfi_read_core.specs.declared.error.Error.TheVariants.{BadUnsignedLeb128, UnsupportedRegister, UnknownReservedLength, UnsupportedOffset, UnknownVersion, UnknownAugmentation, UnknownPointerEncoding, CannotParseOmitPointerEncoding, UnsupportedPointerEncoding, PcRelativePointerButSectionBaseIsUndefined, FuncRelativePointerInBadContext, NotCieId, NotCiePointer, NoEntryAtGivenOffset, OffsetOutOfBounds, NoUnwindInfoForAddress}
 use Rattle.cfi_read_core.specs.declared.common.Format.{Format}
 use Rattle.cfi_read_core.specs.declared.common.Format.TheVariants.{Dwarf32, Dwarf64}
-use Rattle.cfi_read_core.specs.Reading.{Readings, ended}
+use Rattle.cfi_read_core.specs.Reading.{Readings, unexpected_eof}
 use Rattle.cfi_parts.specs.declared.pointer.Pointer.{Pointer}
 use Rattle.cfi_parts.specs.declared.pointer.Pointer.TheVariants.{Direct, Indirect}
 use Rattle.cfi_parts.specs.declared.instruction.CallFrameInstruction.TheVariants.{AdvanceLoc, DefCfa, DefCfaRegister, DefCfaOffset, Offset}
@@ -14,12 +14,12 @@ use Rattle.cfi_unwind.specs.Sections.{Section, EhFrame}
 use Rattle.cfi_unwind.specs.Cies.{Cie}
 use Rattle.cfi_unwind.specs.Fdes.{Fde, end_of}
 use Rattle.cfi_unwind.specs.Entries.{Entry, CieEntry, FdeEntry, entries, cie_at, partial_fde_at, fde_at}
-use Rattle.cfi_unwind.specs.Programs.{cie_instructions, fde_instructions}
-use Rattle.cfi_unwind.specs.Scan.{chosen}
+use Rattle.cfi_unwind.specs.EntryInstructions.{cie_instructions, fde_instructions}
+use Rattle.cfi_unwind.specs.Scan.{chosen_fde}
 use Rattle.gimli_cfi.specs.Headers.{HeaderSection, Header, Table, header_of, row, start_of, target_of, offset_of_pointer}
-use Rattle.gimli_cfi.specs.Rows.{rows_left, walk_of}
+use Rattle.gimli_cfi.specs.HeaderRows.{rows_left, walk_of}
 use Rattle.gimli_cfi.specs.Steps.{steps}
-use Rattle.gimli_cfi.specs.Tables.{fde_by_row}
+use Rattle.gimli_cfi.specs.HeaderTables.{fde_by_row}
 use Rattle.gimli_cfi.proofs.Computing.{computing, debug_frame, eh_frame, section_at, narrow, header_at, three, three_header, three_rows}
 
 -- ---- what is shown of entries
@@ -73,7 +73,7 @@ first_row_cie : cie_at first_row 0 ≡ Ok (record {
   code_alignment_factor = 1;
   data_alignment_factor = negsuc 7;
   return_address_register = record { 0 = 16 };
-  instructions = record { first = 15; last = 20 };
+  initial_instructions = record { first = 15; last = 20 };
 })
 unfolding computing
 first_row_cie = refl
@@ -82,15 +82,15 @@ first_row_first_program : first_program first_row (cie_at first_row 0) ≡ Ok (a
 unfolding computing
 first_row_first_program = refl
 
-first_row_chosen : shown (chosen first_row 0x1002) ≡ Ok (20 ∷ 0x1000 ∷ 0x1020 ∷ [])
+first_row_chosen : shown (chosen_fde first_row 0x1002) ≡ Ok (20 ∷ 0x1000 ∷ 0x1020 ∷ [])
 unfolding computing
 first_row_chosen = refl
 
-first_row_program : program first_row (chosen first_row 0x1002) ≡ Ok (all (AdvanceLoc 1 ∷ DefCfaOffset 16 ∷ Offset (record { 0 = 6 }) 2 ∷ AdvanceLoc 3 ∷ DefCfaRegister (record { 0 = 6 }) ∷ []))
+first_row_program : program first_row (chosen_fde first_row 0x1002) ≡ Ok (all (AdvanceLoc 1 ∷ DefCfaOffset 16 ∷ Offset (record { 0 = 6 }) 2 ∷ AdvanceLoc 3 ∷ DefCfaRegister (record { 0 = 6 }) ∷ []))
 unfolding computing
 first_row_program = refl
 
-first_row_above : shown (chosen first_row 0x1020) ≡ none
+first_row_above : shown (chosen_fde first_row 0x1020) ≡ none
 unfolding computing
 first_row_above = refl
 
@@ -103,7 +103,7 @@ wrapped_end : shown (fde_at wrapped 20) ≡ Ok (20 ∷ 0xfffffff0 ∷ 0x10 ∷ [
 unfolding computing
 wrapped_end = refl
 
-wrapped_contains_nothing : shown (chosen wrapped 0xfffffff8) ≡ none
+wrapped_contains_nothing : shown (chosen_fde wrapped 0xfffffff8) ≡ none
 unfolding computing
 wrapped_contains_nothing = refl
 
@@ -115,35 +115,35 @@ behind_a_gap = codes "00000000 10000000 ffffffff 04000800 017810 0c0708 9001 140
 abbrev behind_a_wide_gap : List ℕ
 behind_a_wide_gap = codes "ffffffff 0000000000000000 10000000 ffffffff 04000800 017810 0c0708 9001 14000000 0c000000 0010000000000000 2000000000000000"
 
-gap_is_passed : shown (chosen (debug_frame behind_a_gap) 0x1000) ≡ Ok (24 ∷ 0x1000 ∷ 0x1020 ∷ [])
+gap_is_passed : shown (chosen_fde (debug_frame behind_a_gap) 0x1000) ≡ Ok (24 ∷ 0x1000 ∷ 0x1020 ∷ [])
 unfolding computing
 gap_is_passed = refl
 
-gap_ends : shown (chosen (eh_frame behind_a_gap) 0x1000) ≡ none
+gap_ends : shown (chosen_fde (eh_frame behind_a_gap) 0x1000) ≡ none
 unfolding computing
 gap_ends = refl
 
-wide_gap_is_passed : shown (chosen (debug_frame behind_a_wide_gap) 0x1000) ≡ Ok (32 ∷ 0x1000 ∷ 0x1020 ∷ [])
+wide_gap_is_passed : shown (chosen_fde (debug_frame behind_a_wide_gap) 0x1000) ≡ Ok (32 ∷ 0x1000 ∷ 0x1020 ∷ [])
 unfolding computing
 wide_gap_is_passed = refl
 
-wide_gap_ends : shown (chosen (eh_frame behind_a_wide_gap) 0x1000) ≡ none
+wide_gap_ends : shown (chosen_fde (eh_frame behind_a_wide_gap) 0x1000) ≡ none
 unfolding computing
 wide_gap_ends = refl
 
 -- ---- CIE pointers of .eh_frame
 
-before_the_section : shown (chosen (eh_frame (codes "04000000 05000000")) 0) ≡ Err (OffsetOutOfBounds 5)
+before_the_section : shown (chosen_fde (eh_frame (codes "04000000 05000000")) 0) ≡ Err (OffsetOutOfBounds 5)
 unfolding computing
 before_the_section = refl
 
-its_own_cie : shown (chosen (eh_frame (codes "04000000 04000000")) 0) ≡ Err (NotCieId 0)
+its_own_cie : shown (chosen_fde (eh_frame (codes "04000000 04000000")) 0) ≡ Err (NotCieId 0)
 unfolding computing
 its_own_cie = refl
 
 -- ---- lengths that are cut off or reserved
 
-length_cut_off : cie_at (debug_frame (codes "0500")) 0 ≡ Err (ended 0)
+length_cut_off : cie_at (debug_frame (codes "0500")) 0 ≡ Err (unexpected_eof 0)
 unfolding computing
 length_cut_off = refl
 
@@ -151,11 +151,11 @@ length_reserved : cie_at (debug_frame (codes "f5ffffff")) 0 ≡ Err (UnknownRese
 unfolding computing
 length_reserved = refl
 
-wide_length_cut_off : cie_at (debug_frame (codes "ffffffff 39300000")) 0 ≡ Err (ended 4)
+wide_length_cut_off : cie_at (debug_frame (codes "ffffffff 39300000")) 0 ≡ Err (unexpected_eof 4)
 unfolding computing
 wide_length_cut_off = refl
 
-extent_cut_off : cie_at (debug_frame (codes "000000ff ffffffff")) 0 ≡ Err (ended 4)
+extent_cut_off : cie_at (debug_frame (codes "000000ff ffffffff")) 0 ≡ Err (unexpected_eof 4)
 unfolding computing
 extent_cut_off = refl
 
@@ -165,19 +165,19 @@ three_entries : shown_entries three ≡ ((0 ∷ []) ∷ (24 ∷ 0 ∷ []) ∷ (4
 unfolding computing
 three_entries = refl
 
-below_three : shown (chosen three 0xff0) ≡ none
+below_three : shown (chosen_fde three 0xff0) ≡ none
 unfolding computing
 below_three = refl
 
-second_of_three : shown (chosen three 0x1018) ≡ Ok (44 ∷ 0x1010 ∷ 0x1020 ∷ [])
+second_of_three : shown (chosen_fde three 0x1018) ≡ Ok (44 ∷ 0x1010 ∷ 0x1020 ∷ [])
 unfolding computing
 second_of_three = refl
 
-second_program : program three (chosen three 0x1018) ≡ Ok (all (AdvanceLoc 1 ∷ DefCfaOffset 16 ∷ []))
+second_program : program three (chosen_fde three 0x1018) ≡ Ok (all (AdvanceLoc 1 ∷ DefCfaOffset 16 ∷ []))
 unfolding computing
 second_program = refl
 
-third_of_three : shown (chosen three 0x1020) ≡ Ok (64 ∷ 0x1020 ∷ 0x1040 ∷ [])
+third_of_three : shown (chosen_fde three 0x1020) ≡ Ok (64 ∷ 0x1020 ∷ 0x1040 ∷ [])
 unfolding computing
 third_of_three = refl
 
@@ -196,7 +196,7 @@ unfolding computing
 three_rows_left = refl
 
 -- the bytes of the fourth row aren't there
-one_row_missing : rows_left (walk_of three_header (record three_rows { count = 4 })) ≡ Ok (Direct 0x1000, Direct 0x2018) ∷ Ok (Direct 0x1010, Direct 0x202c) ∷ Ok (Direct 0x1020, Direct 0x2040) ∷ Err (ended 36) ∷ []
+one_row_missing : rows_left (walk_of three_header (record three_rows { count = 4 })) ≡ Ok (Direct 0x1000, Direct 0x2018) ∷ Ok (Direct 0x1010, Direct 0x202c) ∷ Ok (Direct 0x1020, Direct 0x2040) ∷ Err (unexpected_eof 36) ∷ []
 unfolding computing
 one_row_missing = refl
 
@@ -248,7 +248,7 @@ no_such_place : start_of endless endless_rows (2 ^ 62) ≡ Err UnsupportedOffset
 unfolding computing
 no_such_place = refl
 
-rows_cut_off : start_of endless endless_rows 1 ≡ Err (ended 20)
+rows_cut_off : start_of endless endless_rows 1 ≡ Err (unexpected_eof 20)
 unfolding computing
 rows_cut_off = refl
 
@@ -278,7 +278,7 @@ personality_without_base = refl
 abbrev wide_format : Section
 wide_format = debug_frame (codes "ffffffff 1400000000000000 ffffffffffffffff 04000800 017810 0c0708 9001 ffffffff 1800000000000000 0000000000000000 0010000000000000 2000000000000000")
 
-wide_fde : shown (chosen wide_format 0x1000) ≡ Ok (32 ∷ 0x1000 ∷ 0x1020 ∷ [])
+wide_fde : shown (chosen_fde wide_format 0x1000) ≡ Ok (32 ∷ 0x1000 ∷ 0x1020 ∷ [])
 unfolding computing
 wide_fde = refl
 
@@ -286,7 +286,7 @@ abbrev format_in : Result Fde Error → Result Format Error
 format_in (Ok fde) = Ok fde.cie.format
 format_in (Err e) = Err e
 
-wide_cie : format_in (chosen wide_format 0x1000) ≡ Ok Dwarf64
+wide_cie : format_in (chosen_fde wide_format 0x1000) ≡ Ok Dwarf64
 unfolding computing
 wide_cie = refl
 
@@ -301,7 +301,7 @@ wide_eh_cie : cie_at (eh_frame (codes "ffffffff 0900000000000000 00000000 01 00 
   code_alignment_factor = 1;
   data_alignment_factor = negsuc 7;
   return_address_register = record { 0 = 16 };
-  instructions = record { first = 21; last = 21 };
+  initial_instructions = record { first = 21; last = 21 };
 })
 unfolding computing
 wide_eh_cie = refl
@@ -311,15 +311,15 @@ wide_eh_cie = refl
 abbrev with_program : List ℕ → Section
 with_program fde = debug_frame (codes "10000000 ffffffff 04000800 017810 0c0708 9001" ++ fde)
 
-padded_operand : program (with_program (codes "19000000 00000000 0010000000000000 2000000000000000 41 0e908000")) (chosen (with_program (codes "19000000 00000000 0010000000000000 2000000000000000 41 0e908000")) 0x1001) ≡ Ok (all (AdvanceLoc 1 ∷ DefCfaOffset 16 ∷ []))
+padded_operand : program (with_program (codes "19000000 00000000 0010000000000000 2000000000000000 41 0e908000")) (chosen_fde (with_program (codes "19000000 00000000 0010000000000000 2000000000000000 41 0e908000")) 0x1001) ≡ Ok (all (AdvanceLoc 1 ∷ DefCfaOffset 16 ∷ []))
 unfolding computing
 padded_operand = refl
 
-operand_too_large : program (with_program (codes "1f000000 00000000 0010000000000000 2000000000000000 0e80808080808080808002")) (chosen (with_program (codes "1f000000 00000000 0010000000000000 2000000000000000 0e80808080808080808002")) 0x1001) ≡ Ok (record { values = []; refusal = Some BadUnsignedLeb128 })
+operand_too_large : program (with_program (codes "1f000000 00000000 0010000000000000 2000000000000000 0e80808080808080808002")) (chosen_fde (with_program (codes "1f000000 00000000 0010000000000000 2000000000000000 0e80808080808080808002")) 0x1001) ≡ Ok (record { values = []; refusal = Some BadUnsignedLeb128 })
 unfolding computing
 operand_too_large = refl
 
-register_too_large : program (with_program (codes "18000000 00000000 0010000000000000 2000000000000000 07808004")) (chosen (with_program (codes "18000000 00000000 0010000000000000 2000000000000000 07808004")) 0x1001) ≡ Ok (record { values = []; refusal = Some (UnsupportedRegister 65536) })
+register_too_large : program (with_program (codes "18000000 00000000 0010000000000000 2000000000000000 07808004")) (chosen_fde (with_program (codes "18000000 00000000 0010000000000000 2000000000000000 07808004")) 0x1001) ≡ Ok (record { values = []; refusal = Some (UnsupportedRegister 65536) })
 unfolding computing
 register_too_large = refl
 
@@ -359,7 +359,7 @@ header_6 : parsed None 8 (codes "01 1b ff ff") ≡ Err PcRelativePointerButSecti
 unfolding computing
 header_6 = refl
 
-header_7 : parsed (Some 0x1f00) 8 (codes "01 1b ff ff") ≡ Err (ended 4)
+header_7 : parsed (Some 0x1f00) 8 (codes "01 1b ff ff") ≡ Err (unexpected_eof 4)
 unfolding computing
 header_7 = refl
 
@@ -392,7 +392,7 @@ header_13 = refl
 abbrev at_text : Section → Section
 at_text s = record s { bases = record { section = None; text = Some 0xfeedface; data_base = None } }
 
-text_relative : shown (chosen (at_text (eh_frame (codes "0d000000 00000000 01 7a5200 017810 01 20 15000000 15000000 0000000000000000 0000010000000000 00"))) 0xfeedface) ≡ Ok (17 ∷ 0xfeedface ∷ 0xfeeeface ∷ [])
+text_relative : shown (chosen_fde (at_text (eh_frame (codes "0d000000 00000000 01 7a5200 017810 01 20 15000000 15000000 0000000000000000 0000010000000000 00"))) 0xfeedface) ≡ Ok (17 ∷ 0xfeedface ∷ 0xfeeeface ∷ [])
 unfolding computing
 text_relative = refl
 
@@ -446,11 +446,11 @@ no_cie_there : cie_at first_row 20 ≡ Err (NotCieId 20)
 unfolding computing
 no_cie_there = refl
 
-nothing_at_the_end : cie_at first_row 52 ≡ Err (ended 52)
+nothing_at_the_end : cie_at first_row 52 ≡ Err (unexpected_eof 52)
 unfolding computing
 nothing_at_the_end = refl
 
-behind_the_end : cie_at first_row 53 ≡ Err (ended 0)
+behind_the_end : cie_at first_row 53 ≡ Err (unexpected_eof 0)
 unfolding computing
 behind_the_end = refl
 
@@ -469,48 +469,48 @@ counted zero k = []
 counted (suc n) k = k ∷ counted n (k + 1)
 
 -- 0, then 1 to 3, 4 to 19, 20, 21 to 23, 24 to 51
-every_cut : map (λ n. shown (chosen (cut n) 0x1002)) (counted 52 0) ≡
-    none ∷ [] ++ replicate 3 (Err (ended 0)) ++ replicate 16 (Err (ended 4)) ++ none ∷ [] ++ replicate 3 (Err (ended 20)) ++ replicate 28 (Err (ended 24))
+every_cut : map (λ n. shown (chosen_fde (cut n) 0x1002)) (counted 52 0) ≡
+    none ∷ [] ++ replicate 3 (Err (unexpected_eof 0)) ++ replicate 16 (Err (unexpected_eof 4)) ++ none ∷ [] ++ replicate 3 (Err (unexpected_eof 20)) ++ replicate 28 (Err (unexpected_eof 24))
 unfolding computing
 every_cut = refl
 
-own_cie : shown (chosen (debug_frame (codes "04000000 00000000")) 0) ≡ Err (NotCieId 0)
+own_cie : shown (chosen_fde (debug_frame (codes "04000000 00000000")) 0) ≡ Err (NotCieId 0)
 unfolding computing
 own_cie = refl
 
-cie_at_the_end : shown (chosen (debug_frame (codes "04000000 08000000")) 0) ≡ Err (ended 8)
+cie_at_the_end : shown (chosen_fde (debug_frame (codes "04000000 08000000")) 0) ≡ Err (unexpected_eof 8)
 unfolding computing
 cie_at_the_end = refl
 
-cie_behind_the_end : shown (chosen (debug_frame (codes "04000000 09000000")) 0) ≡ Err (ended 0)
+cie_behind_the_end : shown (chosen_fde (debug_frame (codes "04000000 09000000")) 0) ≡ Err (unexpected_eof 0)
 unfolding computing
 cie_behind_the_end = refl
 
-cie_at_a_gap : shown (chosen (debug_frame (codes "00000000 04000000 00000000")) 0) ≡ Err (NoEntryAtGivenOffset 0)
+cie_at_a_gap : shown (chosen_fde (debug_frame (codes "00000000 04000000 00000000")) 0) ≡ Err (NoEntryAtGivenOffset 0)
 unfolding computing
 cie_at_a_gap = refl
 
-greatest_short_length : shown (chosen (debug_frame (codes "efffffff")) 0) ≡ Err (ended 4)
+greatest_short_length : shown (chosen_fde (debug_frame (codes "efffffff")) 0) ≡ Err (unexpected_eof 4)
 unfolding computing
 greatest_short_length = refl
 
-greatest_length : shown (chosen (debug_frame (codes "ffffffff ffffffffffffffff")) 0) ≡ Err (ended 12)
+greatest_length : shown (chosen_fde (debug_frame (codes "ffffffff ffffffffffffffff")) 0) ≡ Err (unexpected_eof 12)
 unfolding computing
 greatest_length = refl
 
-greatest_narrow_length : shown (chosen (narrow (debug_frame (codes "ffffffff ffffffffffffffff"))) 0) ≡ Err UnsupportedOffset
+greatest_narrow_length : shown (chosen_fde (narrow (debug_frame (codes "ffffffff ffffffffffffffff"))) 0) ≡ Err UnsupportedOffset
 unfolding computing
 greatest_narrow_length = refl
 
-least_length_too_large : shown (chosen (narrow (debug_frame (codes "ffffffff 0000000001000000"))) 0) ≡ Err UnsupportedOffset
+least_length_too_large : shown (chosen_fde (narrow (debug_frame (codes "ffffffff 0000000001000000"))) 0) ≡ Err UnsupportedOffset
 unfolding computing
 least_length_too_large = refl
 
-augmentation_cut_off : shown (chosen (eh_frame (codes "0f000000 00000000 01 7a00 017810 8080808010")) 0) ≡ Err (ended 19)
+augmentation_cut_off : shown (chosen_fde (eh_frame (codes "0f000000 00000000 01 7a00 017810 8080808010")) 0) ≡ Err (unexpected_eof 19)
 unfolding computing
 augmentation_cut_off = refl
 
-augmentation_too_long : shown (chosen (narrow (eh_frame (codes "0f000000 00000000 01 7a00 017810 8080808010"))) 0) ≡ Err UnsupportedOffset
+augmentation_too_long : shown (chosen_fde (narrow (eh_frame (codes "0f000000 00000000 01 7a00 017810 8080808010"))) 0) ≡ Err UnsupportedOffset
 unfolding computing
 augmentation_too_long = refl
 

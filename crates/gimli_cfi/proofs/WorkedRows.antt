@@ -4,14 +4,14 @@ use Rattle.std.specs.FinMap.{from_entries}
 use Rattle.cfi_read_core.specs.declared.error.Error.{Error}
 use Rattle.cfi_read_core.specs.declared.error.Error.TheVariants.{AddressOverflow, BadUnsignedLeb128, CfiInstructionInInvalidContext, NoUnwindInfoForAddress, StackFull, UnknownCallFrameInstruction}
 use Rattle.cfi_read_core.specs.declared.common.Vendor.TheVariants as vendors
-use Rattle.cfi_read_core.specs.Reading.{ended}
+use Rattle.cfi_read_core.specs.Reading.{unexpected_eof}
 use Rattle.cfi_state.specs.declared.table.rules.CfaRule.{CfaRule}
 use Rattle.cfi_state.specs.declared.table.rules.CfaRule.TheVariants.{RegisterAndOffset}
 use Rattle.cfi_state.specs.declared.table.rules.RegisterRule.{RegisterRule}
 use Rattle.cfi_state.specs.declared.table.rules.RegisterRule.TheVariants.{Offset, Constant}
 use Rattle.cfi_state.specs.Row.{Row}
 use Rattle.cfi_unwind.specs.Sections.{Section}
-use Rattle.cfi_unwind.specs.Answers.{row_by_scan}
+use Rattle.cfi_unwind.specs.AddressRow.{row_by_scan}
 use Rattle.gimli_cfi.proofs.Computing.{computing, debug_frame, three}
 
 -- a CFA by its register and offset
@@ -97,7 +97,7 @@ before_the_cut : row_at cut_off 0x1000 ≡ row 0x1000 0x1001 (cfa_at 7 (pos 8)) 
 unfolding computing
 before_the_cut = refl
 
-behind_the_cut : row_at cut_off 0x1001 ≡ Err (ended 46)
+behind_the_cut : row_at cut_off 0x1001 ≡ Err (unexpected_eof 46)
 unfolding computing
 behind_the_cut = refl
 

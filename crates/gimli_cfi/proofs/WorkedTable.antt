@@ -9,7 +9,7 @@ use Rattle.cfi_unwind.specs.Fdes.{Fde, Covers, end_of}
 use Rattle.cfi_unwind.specs.Entries.{entries}
 use Rattle.cfi_unwind.specs.Scan.{fde_readings, IsAmong}
 use Rattle.gimli_cfi.specs.Headers.{start_of}
-use Rattle.gimli_cfi.specs.Tables.{IsFaithful, IsRowOf, IsFdeOf, ReachesAll}
+use Rattle.gimli_cfi.specs.HeaderTables.{IsFaithful, IsRowOf, IsFdeOf, ReachesAll}
 use Rattle.gimli_cfi.proofs.Computing.{computing, three, three_header, three_rows}
 
 -- ---- the FDEs
@@ -20,12 +20,12 @@ the_cie = record {
   length = 20;
   format = Dwarf32;
   version = 1;
-  augmentation = Some (record { has_data = true; lsda_encoding = None; personality = None; address_encoding = Some 0x1b; is_signal_trampoline = false });
+  augmentation = Some (record { has_augmentation_data = true; lsda_encoding = None; personality = None; address_encoding = Some 0x1b; is_signal_trampoline = false });
   address_size = 8;
   code_alignment_factor = 1;
   data_alignment_factor = negsuc 7;
   return_address_register = record { 0 = 16 };
-  instructions = record { first = 17; last = 24 };
+  initial_instructions = record { first = 17; last = 24 };
 }
 
 abbrev an_fde : ℕ → ℕ → ℕ → Fde
@@ -114,13 +114,13 @@ unfolding IsNth
 three_is_faithful = record {
   searchable = refl;
   only_fdes = λ k h. (nth k, of_nth k h, row_of k h);
-  increase = increasing;
+  starts_increase = increasing;
   entries_end = no_refusal;
   fdes_read = subst (AllByRecursion IsOk) (sym the_readings) (refl, (refl, (refl, tt)));
   all_fdes = λ fde is.
       let n = nth_of fde is in
       (n.0, n.1, subst (λ (f : Fde). IsRowOf three_header three_rows 0x2000 n.0 f) n.2 (row_of n.0 n.1));
-  apart = λ fde other is_fde is_other differ covered.
+  no_overlap = λ fde other is_fde is_other differ covered.
       let m = nth_of fde is_fde in
       let n = nth_of other is_other in
       apart_by_row m.0 n.0 m.1 n.1 (λ same. differ (sym m.2 ∙ same ∙ n.2))

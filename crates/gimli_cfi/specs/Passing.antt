@@ -6,18 +6,18 @@ use Rattle.cfi_read_core.specs.Reading.{Outcome}
 use Rattle.cfi_read_core.specs.Readers.{Reads, map_ok}
 use Rattle.cfi_parts.specs.declared.pointer.Pointer.{Pointer}
 use Rattle.gimli_cfi.specs.Headers.{rows_passed, value_size}
-use Rattle.gimli_cfi.specs.Rows.{Walk, next_row, walk_behind}
+use Rattle.gimli_cfi.specs.HeaderRows.{Walk, next_row, walk_after}
 
 -- n rows fewer, at the place where passing them came to
 abbrev pub walk_by : Walk → ℕ → Outcome Unit → Result Walk Error
-walk_by walk n passed = map_ok (λ _. record walk { count = walk.count - n; standing = record walk.standing { place = passed.place } }) passed.value
+walk_by walk n passed = map_ok (λ _. record walk { count = walk.count - n; position = record walk.position { place = passed.place } }) passed.value
 
 abbrev pub walk_past_by : Walk → ℕ → Option ℕ → Result Walk Error
 walk_past_by walk n None = Err (UnsupportedPointerEncoding (record { 0 = walk.encoding }))
 walk_past_by walk n (Some size) =
     if nat_le walk.count n
     then Ok (record walk { count = 0 })
-    else walk_by walk n (rows_passed size n walk.standing.source walk.standing.place)
+    else walk_by walk n (rows_passed size n walk.position.source walk.position.place)
 
 -- Behind n rows; behind all of them where there are no more than n.
 unfoldable pub walk_past : Walk → ℕ → Result Walk Error
@@ -27,4 +27,4 @@ walk_past walk n = walk_past_by walk n (value_size walk.encoding)
 abbrev pub MeetsBehind : Result Walk Error → Walk → Result (Option (Pointer × Pointer)) Error → Walk → Type 0
 MeetsBehind (Err e) before found after = (found ≡ Err e) × (after ≡ before)
 MeetsBehind (Ok from) before found after =
-    Reads (λ row. row) (next_row from) from.standing found after.standing × (after ≡ walk_behind from after.standing)
+    Reads (λ row. row) (next_row from) from.position found after.position × (after ≡ walk_after from after.position)

@@ -1,55 +1,55 @@
 -- Headers, tables and their iterators as the code has them, as what they mean.
 use Rattle.std.specs.Prelude.{ℕ, Result}
 use Rattle.cfi_read_core.specs.declared.error.Error.{Error}
-use Rattle.cfi_read_core.specs.Reading.{Standing}
+use Rattle.cfi_read_core.specs.Reading.{Position}
 use Rattle.cfi_read_core.specs.Readers.{extent_of}
 use Rattle.cfi_parts.specs.declared.pointer.BaseAddresses.{BaseAddresses}
-use Rattle.cfi_parts.specs.Frames.{EhFrame as of_eh_frame}
+use Rattle.cfi_parts.specs.CallFrameSections.{EhFrame as of_eh_frame}
 use Rattle.cfi_unwind.specs.declared.section.eh_frame.EhFrame.{EhFrame}
 use Rattle.cfi_unwind.specs.Sections.{Section, section_of}
 use Rattle.gimli_cfi.specs.declared.hdr.header.ParsedEhFrameHdr.{ParsedEhFrameHdr}
 use Rattle.gimli_cfi.specs.declared.hdr.table.EhHdrTable.{EhHdrTable}
 use Rattle.gimli_cfi.specs.declared.hdr.iter.EhHdrTableIter.{EhHdrTableIter}
 use Rattle.gimli_cfi.specs.Headers.{HeaderSection, Header, Table, header_section, start_of, table_of}
-use Rattle.gimli_cfi.specs.Rows.{Walk}
+use Rattle.gimli_cfi.specs.HeaderRows.{Walk}
 
 -- In each type the reader's offset and byte order follow the reader; the braces have what the traits of the three say.
 
 -- the header
 abbrev pub header_view : {R O E : Type 0} {a : _} {b : _} {c : _} {d : _} {e : _} {f : _} {g : _} {h : _} {i : _} {j : _} {k : _} →
-    (R → Standing) → ParsedEhFrameHdr R O E a b c d e f g h i j k → Header
-header_view standing p = record { eh_frame = p.eh_frame_ptr; table = table_of p.table_enc.0 p.fde_count (extent_of (standing p.table)) }
+    (R → Position) → ParsedEhFrameHdr R O E a b c d e f g h i j k → Header
+header_view position p = record { eh_frame = p.eh_frame_ptr; table = table_of p.table_enc.0 p.fde_count (extent_of (position p.table)) }
 
 -- its section, with the bases with which the rows are read
-abbrev pub section_view : {R O E : Type 0} {a : _} {b : _} {c : _} {d : _} {e : _} {f : _} {g : _} {h : _} {i : _} {j : _} {k : _} →
-    (R → Standing) → ParsedEhFrameHdr R O E a b c d e f g h i j k → BaseAddresses → HeaderSection
-section_view standing p bases = header_section (standing p.section) p.address_size.bytes bases.eh_frame_hdr
+abbrev pub header_section_view : {R O E : Type 0} {a : _} {b : _} {c : _} {d : _} {e : _} {f : _} {g : _} {h : _} {i : _} {j : _} {k : _} →
+    (R → Position) → ParsedEhFrameHdr R O E a b c d e f g h i j k → BaseAddresses → HeaderSection
+header_section_view position p bases = header_section (position p.section) p.address_size.bytes bases.eh_frame_hdr
 
 -- its rows
 abbrev pub rows_view : {R O E : Type 0} {a : _} {b : _} {c : _} {d : _} {e : _} {f : _} {g : _} {h : _} {i : _} {j : _} {k : _} →
-    (R → Standing) → ParsedEhFrameHdr R O E a b c d e f g h i j k → Table
-rows_view standing p = record { encoding = p.table_enc.0; count = p.fde_count; rows = extent_of (standing p.table) }
+    (R → Position) → ParsedEhFrameHdr R O E a b c d e f g h i j k → Table
+rows_view position p = record { encoding = p.table_enc.0; count = p.fde_count; rows = extent_of (position p.table) }
 
 -- the table of a header
 abbrev pub table_view : {R O E : Type 0} {a : _} {b : _} {c : _} {d : _} {e : _} {f : _} {g : _} {h : _} {i : _} {j : _} {k : _} →
-    (R → Standing) → EhHdrTable R O E a b c d e f g h i j k → Table
-table_view standing t = rows_view standing t.hdr.now
+    (R → Position) → EhHdrTable R O E a b c d e f g h i j k → Table
+table_view position t = rows_view position t.hdr.now
 
 -- the start that each row has
 abbrev pub starts_view : {R O E : Type 0} {a : _} {b : _} {c : _} {d : _} {e : _} {f : _} {g : _} {h : _} {i : _} {j : _} {k : _} →
-    (R → Standing) → ParsedEhFrameHdr R O E a b c d e f g h i j k → BaseAddresses → ℕ → Result ℕ Error
-starts_view standing p bases = start_of (section_view standing p bases) (rows_view standing p)
+    (R → Position) → ParsedEhFrameHdr R O E a b c d e f g h i j k → BaseAddresses → ℕ → Result ℕ Error
+starts_view position p bases = start_of (header_section_view position p bases) (rows_view position p)
 
 -- the section of the entries, as the code has it
-abbrev pub frame_view : {R : Type 0} → (R → Standing) → EhFrame R → BaseAddresses → Section
-frame_view standing frame bases = section_of (record { kind = of_eh_frame; standing = standing frame.section; address_size = frame.address_size.bytes; vendor = frame.vendor }) bases
+abbrev pub section_view : {R : Type 0} → (R → Position) → EhFrame R → BaseAddresses → Section
+section_view position frame bases = section_of (record { kind = of_eh_frame; position = position frame.section; address_size = frame.address_size.bytes; vendor = frame.vendor }) bases
 
 -- the rows that remain
 abbrev pub walk_view : {R O E : Type 0} {a : _} {b : _} {c : _} {d : _} {e : _} {f : _} {g : _} {h : _} {i : _} {j : _} {k : _} →
-    (R → Standing) → EhHdrTableIter R O E a b c d e f g h i j k → Walk
-walk_view standing it = record {
-  section = section_view standing it.hdr.now it.bases.now;
+    (R → Position) → EhHdrTableIter R O E a b c d e f g h i j k → Walk
+walk_view position it = record {
+  section = header_section_view position it.hdr.now it.bases.now;
   encoding = it.hdr.now.table_enc.0;
   count = it.remain;
-  standing = standing it.table;
+  position = position it.table;
 }

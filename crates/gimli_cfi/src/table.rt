@@ -2,7 +2,7 @@
 ghost use Rattle.cfi_read_core.specs.Readers.{map_ok};
 ghost use Rattle.cfi_state.specs.Numbered.{map_row};
 ghost use Rattle.cfi_unwind.specs.Sections.{section_of};
-ghost use Rattle.cfi_unwind.specs.Answers.{IsRowByScan};
+ghost use Rattle.cfi_unwind.specs.AddressRow.{IsRowByScan};
 
 use cfi_parts::pointer::BaseAddresses;
 use cfi_read_core::{Reader, Result};
@@ -10,7 +10,7 @@ use cfi_state::storage::UnwindContextStorage;
 pub use cfi_state::table::context::UnwindContext;
 pub use cfi_state::table::row::UnwindTableRow;
 pub use cfi_state::table::rules::{CfaRule, RA_SIGN_STATE, RegisterRule, RegisterRuleIter};
-use cfi_unwind::section::{UnwindSection, fde_by_scan_of};
+use cfi_unwind::section::{UnwindSection, scan_for_fde};
 pub use cfi_unwind::table::UnwindTable;
 
 /// The unwind row of the address in the section, lent from the context.
@@ -30,8 +30,8 @@ pub fn row_by_scan<'ctx, R: Reader, Section: UnwindSection<R>, S: UnwindContextS
     address: u64,
 ) -> Result<&'ctx UnwindTableRow<R::Offset, S::Rules>>
     ensures row { IsRowByScan S.Rules.limit S.Stack.limit S.Rules.copies_free
-        (section_of (Section.frame section.now) bases.now) address (map_ok (λ row. map_row R.Offset.number row.now) result) }
+        (section_of (Section.view section.now) bases.now) address (map_ok (λ row. map_row R.Offset.number row.now) result) }
 {
-    let fde = fde_by_scan_of(section, bases, address)?;
+    let fde = scan_for_fde(section, bases, address)?;
     fde.unwind_info_for_address(section, bases, ctx, address)
 }

@@ -34,14 +34,14 @@ pub struct InstructionParameters<'a, R> {
 
 #[tactic(auto, unfolding(cfi_read_core::specs::Numbers::register_leb128))]
 fn read_register<R: Reader>(input: &mut R) -> Result<Register>
-    ensures { Reads (λ x. x) register_leb128 (R.standing input.old) result (R.standing input.new) }
+    ensures { Reads (λ x. x) register_leb128 (R.position input.old) result (R.position input.new) }
 {
     Register::from_u64(input.read_uleb128()?)
 }
 
 #[tactic(auto, unfolding(cfi_read_core::specs::Numbers::offset_leb128))]
 fn read_offset<R: Reader>(input: &mut R) -> Result<R::Offset>
-    ensures { Reads R.Offset.number offset_leb128 (R.standing input.old) result (R.standing input.new) }
+    ensures { Reads R.Offset.number offset_leb128 (R.position input.old) result (R.position input.new) }
 {
     R::Offset::from_u64(input.read_uleb128()?)
 }
@@ -52,8 +52,8 @@ fn parse_expression<R: Reader>(
     pointers: &PointerEncodingParameters<'_, R>,
     input: &mut R,
 ) -> Result<UnwindExpression<R::Offset>>
-    requires { (R.standing pointers.now.section.now).place ≤ (R.standing input.old).place }
-    ensures { Reads (map_expression R.Offset.number) (expression (pointer_context R.standing pointers.now)) (R.standing input.old) result (R.standing input.new) }
+    requires { (R.position pointers.now.section.now).place ≤ (R.position input.old).place }
+    ensures { Reads (map_expression R.Offset.number) (expression (pointer_context R.position pointers.now)) (R.position input.old) result (R.position input.new) }
 {
     let length = read_offset(input)?;
     let offset = input.offset_from(pointers.section);
@@ -67,9 +67,9 @@ fn parse_location<R: Reader>(
     input: &mut R,
 ) -> Result<u64>
     requires sized { IsAddressSize parameters.now.pointers.address_size }
-    requires behind { (R.standing parameters.now.pointers.section.now).place ≤ (R.standing input.old).place }
-    ensures { let c = instruction_context R.standing parameters.now in
-        Reads (λ x. x) (location_by c.pointers c.address_encoding) (R.standing input.old) result (R.standing input.new) }
+    requires behind { (R.position parameters.now.pointers.section.now).place ≤ (R.position input.old).place }
+    ensures { let c = instruction_context R.position parameters.now in
+        Reads (λ x. x) (location_by c.pointers c.address_encoding) (R.position input.old) result (R.position input.new) }
 {
     match parameters.address_encoding {
         Some(encoding) => parse_encoded_pointer(encoding, &parameters.pointers, input)?.direct(),
@@ -84,8 +84,8 @@ pub fn parse_instruction<R: Reader>(
     input: &mut R,
 ) -> Result<CallFrameInstruction<R::Offset>>
     requires sized { IsAddressSize parameters.now.pointers.address_size }
-    requires behind { (R.standing parameters.now.pointers.section.now).place ≤ (R.standing input.old).place }
-    ensures { Reads (map_instruction R.Offset.number) (instruction (instruction_context R.standing parameters.now)) (R.standing input.old) result (R.standing input.new) }
+    requires behind { (R.position parameters.now.pointers.section.now).place ≤ (R.position input.old).place }
+    ensures { Reads (map_instruction R.Offset.number) (instruction (instruction_context R.position parameters.now)) (R.position input.old) result (R.position input.new) }
 {
     let opcode = input.read_u8()?;
     // A primary opcode is the two high bits alone; the low six bits are its first operand.
@@ -112,11 +112,11 @@ fn parse_row_creation<R: Reader>(
     input: &mut R,
 ) -> Result<CallFrameInstruction<R::Offset>>
     requires sized { IsAddressSize parameters.now.pointers.address_size }
-    requires behind { (R.standing parameters.now.pointers.section.now).place ≤ (R.standing input.old).place }
-    ensures { let c = instruction_context R.standing parameters.now in
+    requires behind { (R.position parameters.now.pointers.section.now).place ≤ (R.position input.old).place }
+    ensures { let c = instruction_context R.position parameters.now in
         Reads (map_instruction R.Offset.number)
         (chosen_from opcode.0 (row_creation c ++ cfa_definition c ++ offset_rules ++ register_rules c ++ state_and_others c) (unknown_opcode opcode.0))
-        (R.standing input.old) result (R.standing input.new) }
+        (R.position input.old) result (R.position input.new) }
 {
     match opcode {
         DW_CFA_set_loc => Ok(CallFrameInstruction::SetLoc {
@@ -141,11 +141,11 @@ fn parse_cfa_definition<R: Reader>(
     parameters: &InstructionParameters<'_, R>,
     input: &mut R,
 ) -> Result<CallFrameInstruction<R::Offset>>
-    requires { (R.standing parameters.now.pointers.section.now).place ≤ (R.standing input.old).place }
-    ensures { let c = instruction_context R.standing parameters.now in
+    requires { (R.position parameters.now.pointers.section.now).place ≤ (R.position input.old).place }
+    ensures { let c = instruction_context R.position parameters.now in
         Reads (map_instruction R.Offset.number)
         (chosen_from opcode.0 (cfa_definition c ++ offset_rules ++ register_rules c ++ state_and_others c) (unknown_opcode opcode.0))
-        (R.standing input.old) result (R.standing input.new) }
+        (R.position input.old) result (R.position input.new) }
 {
     match opcode {
         DW_CFA_def_cfa => Ok(CallFrameInstruction::DefCfa {
@@ -178,11 +178,11 @@ fn parse_offset_rule<R: Reader>(
     parameters: &InstructionParameters<'_, R>,
     input: &mut R,
 ) -> Result<CallFrameInstruction<R::Offset>>
-    requires { (R.standing parameters.now.pointers.section.now).place ≤ (R.standing input.old).place }
-    ensures { let c = instruction_context R.standing parameters.now in
+    requires { (R.position parameters.now.pointers.section.now).place ≤ (R.position input.old).place }
+    ensures { let c = instruction_context R.position parameters.now in
         Reads (map_instruction R.Offset.number)
         (chosen_from opcode.0 (offset_rules ++ register_rules c ++ state_and_others c) (unknown_opcode opcode.0))
-        (R.standing input.old) result (R.standing input.new) }
+        (R.position input.old) result (R.position input.new) }
 {
     match opcode {
         DW_CFA_offset_extended => Ok(CallFrameInstruction::Offset {
@@ -211,11 +211,11 @@ fn parse_register_rule<R: Reader>(
     parameters: &InstructionParameters<'_, R>,
     input: &mut R,
 ) -> Result<CallFrameInstruction<R::Offset>>
-    requires { (R.standing parameters.now.pointers.section.now).place ≤ (R.standing input.old).place }
-    ensures { let c = instruction_context R.standing parameters.now in
+    requires { (R.position parameters.now.pointers.section.now).place ≤ (R.position input.old).place }
+    ensures { let c = instruction_context R.position parameters.now in
         Reads (map_instruction R.Offset.number)
         (chosen_from opcode.0 (register_rules c ++ state_and_others c) (unknown_opcode opcode.0))
-        (R.standing input.old) result (R.standing input.new) }
+        (R.position input.old) result (R.position input.new) }
 {
     match opcode {
         DW_CFA_restore_extended => Ok(CallFrameInstruction::Restore {
@@ -250,8 +250,8 @@ fn parse_state_or_other<R: Reader>(
     input: &mut R,
 ) -> Result<CallFrameInstruction<R::Offset>>
     ensures { Reads (map_instruction R.Offset.number)
-        (chosen_from opcode.0 (state_and_others (instruction_context R.standing parameters.now)) (unknown_opcode opcode.0))
-        (R.standing input.old) result (R.standing input.new) }
+        (chosen_from opcode.0 (state_and_others (instruction_context R.position parameters.now)) (unknown_opcode opcode.0))
+        (R.position input.old) result (R.position input.new) }
 {
     match opcode {
         DW_CFA_nop => Ok(CallFrameInstruction::Nop),

@@ -72,12 +72,12 @@ impl<T: ReaderOffset> UnwindContext<T> {
 
 impl<T: ReaderOffset, S: UnwindContextStorage<T>> UnwindContext<T, S> {
     ghost use Rattle.std.specs.FinMap as map;
-    ghost use Rattle.cfi_state.specs.Operands.{is_at_limit};
+    ghost use Rattle.cfi_state.specs.ProgramSettings.{is_at_limit};
     ghost use Rattle.cfi_state.specs.Machine.{copies_held};
     ghost use Rattle.cfi_state.specs.Outcome.{Performs, result_map};
-    ghost use Rattle.cfi_state.specs.Rules.{set_rule, AddsRule};
-    ghost use Rattle.cfi_state.specs.Row.{at_start, at_end, with_cfa, with_args_size, with_rules};
-    ghost use Rattle.cfi_state.specs.Context.{empty_context, with_row, rows_held, remember, restore, end_of_cie, initial_rule, AddsRow, AddsInitialRow};
+    ghost use Rattle.cfi_state.specs.Rules.{map_set_rule, AddsRule};
+    ghost use Rattle.cfi_state.specs.Row.{at_start, at_end, row_with_cfa, with_args_size, row_with_rules};
+    ghost use Rattle.cfi_state.specs.Context.{empty_context, with_row, context_rows_held, context_remember, context_restore, context_end_of_cie, initial_rule, AddsRow, AddsInitialRow};
 
     /// A context over the lists of `S`. `OutOfMemory` where their room isn't to be had.
     pub fn new_in(alloc: Global) -> Result<Self>
@@ -131,7 +131,7 @@ impl<T: ReaderOffset, S: UnwindContextStorage<T>> UnwindContext<T, S> {
     }
 
     pub(crate) fn set_cfa(&mut self, cfa: CfaRule<T>)
-        ensures { self.new ≡ with_row self.old (with_cfa self.old.row cfa) }
+        ensures { self.new ≡ with_row self.old (row_with_cfa self.old.row cfa) }
     {
         self.row.set_cfa(cfa);
     }
@@ -144,22 +144,22 @@ impl<T: ReaderOffset, S: UnwindContextStorage<T>> UnwindContext<T, S> {
 
     pub(crate) fn set_rule(&mut self, register: Register, rule: RegisterRule<T>) -> Result<()>
         ensures { Performs (AddsRule S.Rules.limit self.old.row.parts.rules register.0)
-            (result_map (λ rules. with_row self.old (with_rules self.old.row rules))
-            (set_rule S.Rules.limit self.old.row.parts.rules register.0 rule))
+            (result_map (λ rules. with_row self.old (row_with_rules self.old.row rules))
+            (map_set_rule S.Rules.limit self.old.row.parts.rules register.0 rule))
             self.old self.new result }
     {
         self.row.set_rule(register, rule)
     }
 
     pub(crate) fn clear_rule(&mut self, register: Register)
-        ensures { self.new ≡ with_row self.old (with_rules self.old.row (map.remove self.old.row.parts.rules register.0)) }
+        ensures { self.new ≡ with_row self.old (row_with_rules self.old.row (map.remove self.old.row.parts.rules register.0)) }
     {
         self.row.clear_rule(register);
     }
 
     // Whether the stack has no room for another row.
     fn is_full(&self) -> bool
-        ensures { result ≡ is_at_limit S.Stack.limit (rows_held self.now) }
+        ensures { result ≡ is_at_limit S.Stack.limit (context_rows_held self.now) }
     {
         let rows = self.stack.as_slice().len();
         match S::Stack::limit() {
@@ -171,7 +171,7 @@ impl<T: ReaderOffset, S: UnwindContextStorage<T>> UnwindContext<T, S> {
     // Remembers the current row (DWARF 5 section 6.4.2.4).
     pub(crate) fn remember(&mut self) -> Result<()>
         ensures { Performs (AddsRow S.Stack.limit S.Rules.copies_free)
-            (remember S.Stack.limit self.old) self.old self.new result }
+            (context_remember S.Stack.limit self.old) self.old self.new result }
     {
         if self.is_full() {
             return Err(Error::StackFull);
@@ -197,7 +197,7 @@ impl<T: ReaderOffset, S: UnwindContextStorage<T>> UnwindContext<T, S> {
 
     // Brings the last remembered row back, but for its addresses (DWARF 5 section 6.4.2.4).
     pub(crate) fn restore(&mut self) -> Result<()>
-        ensures { Performs ⊥ (restore self.old) self.old self.new result }
+        ensures { Performs ⊥ (context_restore self.old) self.old self.new result }
     {
         if self.stack.as_slice().len() == self.hidden_rows() {
             return Err(Error::PopWithEmptyStack);
@@ -216,7 +216,7 @@ impl<T: ReaderOffset, S: UnwindContextStorage<T>> UnwindContext<T, S> {
     pub(crate) fn save_initial_rules(&mut self) -> Result<()>
         requires { self.old.initial_rules ≡ None }
         ensures { Performs (AddsInitialRow S.Stack.limit S.Rules.copies_free self.old.row.parts.rules)
-            (end_of_cie S.Stack.limit self.old) self.old self.new result }
+            (context_end_of_cie S.Stack.limit self.old) self.old self.new result }
     {
         let kept = kept_for(self.row.rules());
         if let InitialRules::AtTheBottom = kept {
@@ -231,7 +231,7 @@ impl<T: ReaderOffset, S: UnwindContextStorage<T>> UnwindContext<T, S> {
         requires first { self.old.initial_rules ≡ None }
         requires two_or_more { 2 ≤ map.len self.old.row.parts.rules }
         ensures { Performs (AddsInitialRow S.Stack.limit S.Rules.copies_free self.old.row.parts.rules)
-            (end_of_cie S.Stack.limit self.old) self.old self.new result }
+            (context_end_of_cie S.Stack.limit self.old) self.old self.new result }
     {
         if self.is_full() {
             return Err(Error::StackFull);

@@ -5,13 +5,13 @@
 ghost use Rattle.std.specs.Prelude.{◌≡◌, ℕ, None, IfOk, is_some, false};
 ghost use Rattle.std.specs.Int.{w64, int_wrapping_mul};
 ghost use Rattle.cfi_read_core.specs.Addresses.{IsAddressSize};
-ghost use Rattle.cfi_state.specs.Operands.{is_move};
+ghost use Rattle.cfi_state.specs.ProgramSettings.{is_move};
 ghost use Rattle.cfi_parts.specs.declared.instruction.CallFrameInstruction.TheVariants as instruction;
 ghost use Rattle.cfi_state.specs.Row.{at_start, at_end};
-ghost use Rattle.cfi_state.specs.Context.{empty_context, state_of, with_row};
+ghost use Rattle.cfi_state.specs.Context.{empty_context, machine_state, with_row};
 ghost use Rattle.cfi_state.specs.declared.table.machine.Parameters.{Parameters};
-ghost use Rattle.cfi_state.specs.Evaluation.{setting_of, Changes, Evaluates, EndsCie};
-ghost use Rattle.cfi_state.specs.Groups as groups;
+ghost use Rattle.cfi_state.specs.ContextEffects.{setting_of, Changes, Evaluates, EndsCie};
+ghost use Rattle.cfi_state.specs.ActionEffects as groups;
 
 use super::context::UnwindContext;
 use super::row::UnwindTableRow;

@@ -40,8 +40,8 @@ impl<T: ReaderOffset, A: ArrayLike<Item = (Register, RegisterRule<T>)>> Model
 impl<T: ReaderOffset, A: ArrayLike<Item = (Register, RegisterRule<T>)>> UnwindTableRow<T, A> {
     ghost use Rattle.std.specs.FinMap as map;
     ghost use Rattle.cfi_state.specs.Outcome.{Performs, result_map};
-    ghost use Rattle.cfi_state.specs.Rules.{rules_of, set_rule, AddsRule, IsDistinctRegisters};
-    ghost use Rattle.cfi_state.specs.Row.{empty_row, with_cfa, with_args_size, with_parts, with_rules, at_start, at_end};
+    ghost use Rattle.cfi_state.specs.Rules.{rules_of, map_set_rule, AddsRule, IsDistinctRegisters};
+    ghost use Rattle.cfi_state.specs.Row.{empty_row, row_with_cfa, with_args_size, with_parts, row_with_rules, at_start, at_end};
 
     pub(crate) fn make(alloc: Global) -> Result<Self>
         ensures ok { IfOk result (λ row. row ≡ empty_row) }
@@ -138,7 +138,7 @@ impl<T: ReaderOffset, A: ArrayLike<Item = (Register, RegisterRule<T>)>> UnwindTa
     }
 
     pub(crate) fn set_cfa(&mut self, cfa: CfaRule<T>)
-        ensures { self.new ≡ with_cfa self.old cfa }
+        ensures { self.new ≡ row_with_cfa self.old cfa }
     {
         self.cfa = cfa;
     }
@@ -151,14 +151,14 @@ impl<T: ReaderOffset, A: ArrayLike<Item = (Register, RegisterRule<T>)>> UnwindTa
 
     pub(crate) fn set_rule(&mut self, register: Register, rule: RegisterRule<T>) -> Result<()>
         ensures { Performs (AddsRule A.limit self.old.parts.rules register.0)
-            (result_map (with_rules self.old) (set_rule A.limit self.old.parts.rules register.0 rule))
+            (result_map (row_with_rules self.old) (map_set_rule A.limit self.old.parts.rules register.0 rule))
             self.old self.new result }
     {
         self.registers.set(register, rule)
     }
 
     pub(crate) fn clear_rule(&mut self, register: Register)
-        ensures { self.new ≡ with_rules self.old (map.remove self.old.parts.rules register.0) }
+        ensures { self.new ≡ row_with_rules self.old (map.remove self.old.parts.rules register.0) }
     {
         self.registers.remove(register);
     }

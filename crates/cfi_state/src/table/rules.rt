@@ -113,7 +113,7 @@ impl<T: ReaderOffset, A: ArrayLike<Item = (Register, RegisterRule<T>)>> Model
 impl<T: ReaderOffset, A: ArrayLike<Item = (Register, RegisterRule<T>)>> RegisterRuleMap<T, A> {
     ghost use Rattle.std.specs.FinMap as map;
     ghost use Rattle.cfi_state.specs.Outcome.{Performs};
-    ghost use Rattle.cfi_state.specs.Rules.{rules_of, set_rule, IsDistinctRegisters, AddsRule};
+    ghost use Rattle.cfi_state.specs.Rules.{rules_of, map_set_rule, IsDistinctRegisters, AddsRule};
 
     pub(crate) fn make(alloc: Global) -> Result<Self>
         ensures ok { IfOk result (λ rules. rules ≡ map.empty) }
@@ -148,9 +148,9 @@ impl<T: ReaderOffset, A: ArrayLike<Item = (Register, RegisterRule<T>)>> Register
     }
 
     pub(crate) fn set(&mut self, register: Register, rule: RegisterRule<T>) -> Result<()>
-        ensures { Performs (AddsRule A.limit self.old register.0) (set_rule A.limit self.old register.0 rule) self.old self.new result }
+        ensures { Performs (AddsRule A.limit self.old register.0) (map_set_rule A.limit self.old register.0 rule) self.old self.new result }
     {
-        if let Some(place) = place_of(self.pairs.as_slice(), register) {
+        if let Some(place) = index_of(self.pairs.as_slice(), register) {
             write_at(&mut self.pairs, place, (register, rule));
             return Ok(());
         }
@@ -163,7 +163,7 @@ impl<T: ReaderOffset, A: ArrayLike<Item = (Register, RegisterRule<T>)>> Register
     pub(crate) fn remove(&mut self, register: Register)
         ensures { self.new ≡ map.remove self.old register.0 }
     {
-        if let Some(place) = place_of(self.pairs.as_slice(), register) {
+        if let Some(place) = index_of(self.pairs.as_slice(), register) {
             let _pair = self.pairs.swap_remove(place);
         }
     }
@@ -265,14 +265,14 @@ pub(crate) fn rule_of<T: ReaderOffset>(
     requires { IsDistinctRegisters pairs.now }
     ensures { result ≡ get (rules_of pairs.now) register.0 }
 {
-    match place_of(pairs, register) {
+    match index_of(pairs, register) {
         Some(place) => Some(pairs[place].1),
         None => None,
     }
 }
 
 // Where the register stands in a list of pairs.
-fn place_of<T: ReaderOffset>(
+fn index_of<T: ReaderOffset>(
     pairs: &[(Register, RegisterRule<T>)],
     register: Register,
 ) -> Option<usize>

@@ -2,25 +2,25 @@
 ghost use Rattle.std.specs.Prelude.{◌≡◌, ◌≤◌, None};
 ghost use Rattle.std.specs.Option.{option_map};
 ghost use Rattle.cfi_read_core.specs.Readers.{Reads, bytes_left};
-ghost use Rattle.cfi_parts.specs.Frames.{IsOf};
+ghost use Rattle.cfi_parts.specs.CallFrameSections.{IsOf};
 ghost use Rattle.cfi_unwind.specs.Sections.{pointer_context};
-ghost use Rattle.cfi_unwind.specs.Cies.{announced, augmentation, letter, letters};
+ghost use Rattle.cfi_unwind.specs.Cies.{letters_with_data, augmentation, letter, letters};
 ghost use Rattle.cfi_unwind.specs.Views.{augmentation_view, section_in};
 
-use crate::entry::context::InSection;
+use crate::entry::in_section::InSection;
 use crate::entry::prefix::read_offset;
 use cfi_parts::pointer::{
     Pointer, PointerEncodingParameters, parse_encoded_pointer, parse_pointer_encoding,
 };
-use cfi_parts::section::_UnwindSectionPrivate;
+use cfi_parts::unwind_section::_UnwindSectionPrivate;
 use cfi_read_core::address::AddressSize;
 use cfi_read_core::{DwEhPe, Error, Reader, Result};
 
 /// What an augmentation text and its data mean. Of a repeated letter the last counts.
 #[derive(Clone, Copy, Debug, Default, PartialEq, Eq)]
 pub struct Augmentation {
-    pub(crate) has_data: bool,
-    pub(crate) lsda: Option<DwEhPe>,
+    pub(crate) has_augmentation_data: bool,
+    pub(crate) lsda_encoding: Option<DwEhPe>,
     pub(crate) personality: Option<(DwEhPe, Pointer)>,
     pub(crate) fde_address_encoding: Option<DwEhPe>,
     pub(crate) is_signal_trampoline: bool,
@@ -29,27 +29,27 @@ pub struct Augmentation {
 /// What one letter adds, read from the augmentation data.
 #[tactic(auto, unfolding(crate::specs::Cies::letter))]
 fn read_letter<R: Reader, S: _UnwindSectionPrivate<R>>(
-    context: &InSection<'_, S>,
+    at: &InSection<'_, S>,
     address_size: AddressSize,
     byte: u8,
     known: Augmentation,
     input: &mut R,
 ) -> Result<Augmentation>
-    requires { (S.frame context.now.section).standing.place ≤ (R.standing input.old).place }
-    ensures { Reads augmentation_view (letter (pointer_context (section_in S.frame context.now) None address_size.bytes) byte (augmentation_view known)) (R.standing input.old) result (R.standing input.new) }
+    requires { (S.view at.now.section).position.place ≤ (R.position input.old).place }
+    ensures { Reads augmentation_view (letter (pointer_context (section_in S.view at.now) None address_size.bytes) byte (augmentation_view known)) (R.position input.old) result (R.position input.new) }
 {
     let mut known = known;
     match byte {
         b'S' => known.is_signal_trampoline = true,
-        _ if !known.has_data => return Err(Error::UnknownAugmentation),
-        b'L' => known.lsda = Some(parse_pointer_encoding(input)?),
+        _ if !known.has_augmentation_data => return Err(Error::UnknownAugmentation),
+        b'L' => known.lsda_encoding = Some(parse_pointer_encoding(input)?),
         b'P' => {
             let encoding = parse_pointer_encoding(input)?;
             let parameters = PointerEncodingParameters {
-                bases: &context.bases.eh_frame,
+                bases: &at.bases.eh_frame,
                 func_base: None,
                 address_size: address_size.bytes(),
-                section: context.section.section(),
+                section: at.section.section(),
             };
             let personality = parse_encoded_pointer(encoding, &parameters, input)?;
             known.personality = Some((encoding, personality));
@@ -62,58 +62,58 @@ fn read_letter<R: Reader, S: _UnwindSectionPrivate<R>>(
 
 /// What the letters of a text add, read from the augmentation data.
 fn read_letters<R: Reader, S: _UnwindSectionPrivate<R>>(
-    context: &InSection<'_, S>,
+    at: &InSection<'_, S>,
     address_size: AddressSize,
     text: R,
     known: Augmentation,
     input: &mut R,
 ) -> Result<Augmentation>
-    requires { (S.frame context.now.section).standing.place ≤ (R.standing input.old).place }
-    ensures { Reads augmentation_view (letters (pointer_context (section_in S.frame context.now) None address_size.bytes) (bytes_left (R.standing text)) (augmentation_view known)) (R.standing input.old) result (R.standing input.new) }
+    requires { (S.view at.now.section).position.place ≤ (R.position input.old).place }
+    ensures { Reads augmentation_view (letters (pointer_context (section_in S.view at.now) None address_size.bytes) (bytes_left (R.position text)) (augmentation_view known)) (R.position input.old) result (R.position input.new) }
 {
     let mut text = text;
     let mut known = known;
     while let Ok(byte) = text.read_u8() {
-        known = read_letter(context, address_size, byte, known, input)?;
+        known = read_letter(at, address_size, byte, known, input)?;
     }
     Ok(known)
 }
 
 /// Reads the augmentation data, by the letters behind the `z` that announces them. What the letters leave is dropped.
-#[tactic(auto, unfolding(crate::specs::Cies::announced))]
-fn read_announced<R: Reader, S: _UnwindSectionPrivate<R>>(
-    context: &InSection<'_, S>,
+#[tactic(auto, unfolding(crate::specs::Cies::letters_with_data))]
+fn read_letters_with_data<R: Reader, S: _UnwindSectionPrivate<R>>(
+    at: &InSection<'_, S>,
     address_size: AddressSize,
     letters: R,
     input: &mut R,
 ) -> Result<Option<Augmentation>>
-    requires { IsOf (R.standing input.old) (S.frame context.now.section).standing }
-    ensures { Reads (option_map augmentation_view) (announced (pointer_context (section_in S.frame context.now) None address_size.bytes) (bytes_left (R.standing letters))) (R.standing input.old) result (R.standing input.new) }
+    requires { IsOf (R.position input.old) (S.view at.now.section).position }
+    ensures { Reads (option_map augmentation_view) (letters_with_data (pointer_context (section_in S.view at.now) None address_size.bytes) (bytes_left (R.position letters))) (R.position input.old) result (R.position input.new) }
 {
     let length = read_offset(input)?;
     let mut data = input.split(length)?;
     let mut known = Augmentation::default();
-    known.has_data = true;
-    Ok(Some(read_letters(context, address_size, letters, known, &mut data)?))
+    known.has_augmentation_data = true;
+    Ok(Some(read_letters(at, address_size, letters, known, &mut data)?))
 }
 
 /// Reads what an augmentation text means, and the data that it announces. An empty text is no augmentation.
 pub(crate) fn read_augmentation<R: Reader, S: _UnwindSectionPrivate<R>>(
-    context: &InSection<'_, S>,
+    at: &InSection<'_, S>,
     address_size: AddressSize,
     text: R,
     input: &mut R,
 ) -> Result<Option<Augmentation>>
-    requires { IsOf (R.standing input.old) (S.frame context.now.section).standing }
-    ensures { Reads (option_map augmentation_view) (augmentation (pointer_context (section_in S.frame context.now) None address_size.bytes) (bytes_left (R.standing text))) (R.standing input.old) result (R.standing input.new) }
+    requires { IsOf (R.position input.old) (S.view at.now.section).position }
+    ensures { Reads (option_map augmentation_view) (augmentation (pointer_context (section_in S.view at.now) None address_size.bytes) (bytes_left (R.position text))) (R.position input.old) result (R.position input.new) }
 {
     let mut letters = text;
     let Ok(first) = letters.read_u8() else {
         return Ok(None);
     };
     if first == b'z' {
-        return read_announced(context, address_size, letters, input);
+        return read_letters_with_data(at, address_size, letters, input);
     }
     let known = Augmentation::default();
-    Ok(Some(read_letters(context, address_size, text, known, input)?))
+    Ok(Some(read_letters(at, address_size, text, known, input)?))
 }

@@ -3,21 +3,21 @@ ghost use Rattle.std.specs.Prelude.{◌≡◌, IfOk, is_some};
 ghost use Rattle.std.specs.Option.{option_map};
 ghost use Rattle.cfi_read_core.specs.Addresses.{IsAddressSize};
 ghost use Rattle.cfi_read_core.specs.Readers.{Reads, map_ok};
-ghost use Rattle.cfi_parts.specs.Frames.{IsOf};
+ghost use Rattle.cfi_parts.specs.CallFrameSections.{IsOf};
 ghost use Rattle.cfi_unwind.specs.Cies.{address_encoding_of, cie_of, is_trampoline, lsda_encoding_of, personality_of, return_register, sizes};
 ghost use Rattle.cfi_unwind.specs.Views.{augmentation_view, cie_view, prefix_view, section_in};
 
 use crate::entry::augmentation::{Augmentation, read_augmentation};
-use crate::entry::context::InSection;
+use crate::entry::in_section::InSection;
 use crate::entry::prefix::EntryPrefix;
 use cfi_parts::pointer::Pointer;
-use cfi_parts::section::_UnwindSectionPrivate;
+use cfi_parts::unwind_section::_UnwindSectionPrivate;
 use cfi_read_core::address::AddressSize;
 use cfi_read_core::{DwEhPe, Encoding, Error, Format, Reader, Register, Result};
 
 /// A common information entry, over its reader and the reader's offsets.
 #[derive(Clone, Copy, Debug, PartialEq, Eq)]
-pub struct CieParts<R, O> {
+pub struct CieFields<R, O> {
     pub(crate) offset: O,
     pub(crate) length: O,
     pub(crate) format: Format,
@@ -27,22 +27,22 @@ pub struct CieParts<R, O> {
     pub(crate) code_alignment_factor: u64,
     pub(crate) data_alignment_factor: i64,
     pub(crate) return_address_register: Register,
-    pub(crate) instructions: R,
+    pub(crate) initial_instructions: R,
 }
 
 /// A common information entry: what the frame description entries that point to it share.
-pub type CommonInformationEntry<R> = CieParts<R, <R as Reader>::Offset>;
+pub type CommonInformationEntry<R> = CieFields<R, <R as Reader>::Offset>;
 
 /// The size of an address: that which the entry gives, else the section's. A segment selector isn't supported.
 fn read_sizes<R: Reader, S: _UnwindSectionPrivate<R>>(
-    context: &InSection<'_, S>,
+    at: &InSection<'_, S>,
     version: u8,
     input: &mut R,
 ) -> Result<AddressSize>
-    ensures { Reads (λ size. size.bytes) (sizes (section_in S.frame context.now) version) (R.standing input.old) result (R.standing input.new) }
+    ensures { Reads (λ size. size.bytes) (sizes (section_in S.view at.now) version) (R.position input.old) result (R.position input.new) }
 {
     if !S::has_address_and_segment_sizes(version) {
-        return Ok(AddressSize::new(context.section.address_size()));
+        return Ok(AddressSize::new(at.section.address_size()));
     }
     let address_size = input.read_address_size()?;
     let segment_size = input.read_u8()?;
@@ -55,7 +55,7 @@ fn read_sizes<R: Reader, S: _UnwindSectionPrivate<R>>(
 /// The register that holds the return address.
 #[tactic(auto, unfolding(cfi_read_core::specs::Numbers::register_leb128))]
 fn read_return_register<R: Reader>(version: u8, input: &mut R) -> Result<Register>
-    ensures { Reads (λ x. x) (return_register version) (R.standing input.old) result (R.standing input.new) }
+    ensures { Reads (λ x. x) (return_register version) (R.position input.old) result (R.position input.new) }
 {
     if version == 1 {
         Ok(Register(u16::from(input.read_u8()?)))
@@ -67,12 +67,12 @@ fn read_return_register<R: Reader>(version: u8, input: &mut R) -> Result<Registe
 /// Reads the CIE behind its prefix.
 #[tactic(auto, unfolding(crate::specs::Cies::cie_fields))]
 pub(crate) fn read_cie<R: Reader, S: _UnwindSectionPrivate<R>>(
-    context: &InSection<'_, S>,
+    at: &InSection<'_, S>,
     found: &EntryPrefix<R, R::Offset>,
 ) -> Result<CommonInformationEntry<R>>
-    requires { IsOf (R.standing found.now.rest) (S.frame context.now.section).standing }
-    ensures read { map_ok (cie_view R.standing R.Offset.number) result ≡ cie_of (section_in S.frame context.now) (prefix_view R.standing R.Offset.number found.now) }
-    ensures part { IfOk result (λ cie. IsOf (R.standing cie.instructions) (S.frame context.now.section).standing) }
+    requires { IsOf (R.position found.now.rest) (S.view at.now.section).position }
+    ensures read { map_ok (cie_view R.position R.Offset.number) result ≡ cie_of (section_in S.view at.now) (prefix_view R.position R.Offset.number found.now) }
+    ensures part { IfOk result (λ cie. IsOf (R.position cie.initial_instructions) (S.view at.now.section).position) }
 {
     let mut input = found.rest;
     let version = input.read_u8()?;
@@ -80,12 +80,12 @@ pub(crate) fn read_cie<R: Reader, S: _UnwindSectionPrivate<R>>(
         return Err(Error::UnknownVersion(u64::from(version)));
     }
     let text = input.read_null_terminated_slice()?;
-    let address_size = read_sizes(context, version, &mut input)?;
+    let address_size = read_sizes(at, version, &mut input)?;
     let code_alignment_factor = input.read_uleb128()?;
     let data_alignment_factor = input.read_sleb128()?;
     let return_address_register = read_return_register(version, &mut input)?;
-    let augmentation = read_augmentation(context, address_size, text, &mut input)?;
-    Ok(CieParts {
+    let augmentation = read_augmentation(at, address_size, text, &mut input)?;
+    Ok(CieFields {
         offset: found.offset,
         length: found.length,
         format: found.format,
@@ -95,23 +95,23 @@ pub(crate) fn read_cie<R: Reader, S: _UnwindSectionPrivate<R>>(
         code_alignment_factor,
         data_alignment_factor,
         return_address_register,
-        instructions: input,
+        initial_instructions: input,
     })
 }
 
 impl<R: Reader> CommonInformationEntry<R> {
     /// Where the entry begins in its section.
     pub fn offset(&self) -> R::Offset
-        ensures { R.Offset.number result ≡ (cie_view R.standing R.Offset.number self.now).offset }
+        ensures { R.Offset.number result ≡ (cie_view R.position R.Offset.number self.now).offset }
     {
         self.offset
     }
 
     /// The format, the version and the size of an address.
     pub fn encoding(&self) -> Encoding
-        ensures format { result.format ≡ (cie_view R.standing R.Offset.number self.now).format }
-        ensures version { result.version ≡ (cie_view R.standing R.Offset.number self.now).version }
-        ensures size { result.address_size ≡ (cie_view R.standing R.Offset.number self.now).address_size }
+        ensures format { result.format ≡ (cie_view R.position R.Offset.number self.now).format }
+        ensures version { result.version ≡ (cie_view R.position R.Offset.number self.now).version }
+        ensures size { result.address_size ≡ (cie_view R.position R.Offset.number self.now).address_size }
     {
         Encoding {
             format: self.format,
@@ -122,7 +122,7 @@ impl<R: Reader> CommonInformationEntry<R> {
 
     /// How many bytes an address takes: 1, 2, 4 or 8.
     pub fn address_size(&self) -> u8
-        ensures value { result ≡ (cie_view R.standing R.Offset.number self.now).address_size }
+        ensures value { result ≡ (cie_view R.position R.Offset.number self.now).address_size }
         ensures sized { IsAddressSize result }
     {
         self.address_size.bytes()
@@ -130,45 +130,45 @@ impl<R: Reader> CommonInformationEntry<R> {
 
     /// The value of the entry's length field.
     pub fn entry_len(&self) -> R::Offset
-        ensures { R.Offset.number result ≡ (cie_view R.standing R.Offset.number self.now).length }
+        ensures { R.Offset.number result ≡ (cie_view R.position R.Offset.number self.now).length }
     {
         self.length
     }
 
     /// The version: 1, 3 or 4.
     pub fn version(&self) -> u8
-        ensures { result ≡ (cie_view R.standing R.Offset.number self.now).version }
+        ensures { result ≡ (cie_view R.position R.Offset.number self.now).version }
     {
         self.version
     }
 
     /// What the augmentation means; none where its text is empty.
     pub fn augmentation(&self) -> Option<&Augmentation>
-        ensures { option_map (λ a. augmentation_view a.now) result ≡ (cie_view R.standing R.Offset.number self.now).augmentation }
+        ensures { option_map (λ a. augmentation_view a.now) result ≡ (cie_view R.position R.Offset.number self.now).augmentation }
     {
         self.augmentation.as_ref()
     }
 
     /// Whether the FDEs have a pointer to language-specific data.
     pub fn has_lsda(&self) -> bool
-        ensures { result ≡ is_some (lsda_encoding_of (cie_view R.standing R.Offset.number self.now).augmentation) }
+        ensures { result ≡ is_some (lsda_encoding_of (cie_view R.position R.Offset.number self.now).augmentation) }
     {
         self.lsda_encoding().is_some()
     }
 
     /// How the FDEs' pointers to language-specific data are encoded.
     pub fn lsda_encoding(&self) -> Option<DwEhPe>
-        ensures { option_map (λ e. e.0) result ≡ lsda_encoding_of (cie_view R.standing R.Offset.number self.now).augmentation }
+        ensures { option_map (λ e. e.0) result ≡ lsda_encoding_of (cie_view R.position R.Offset.number self.now).augmentation }
     {
         match self.augmentation {
-            Some(known) => known.lsda,
+            Some(known) => known.lsda_encoding,
             None => None,
         }
     }
 
     /// The pointer to the personality routine, and how it is encoded.
     pub fn personality_with_encoding(&self) -> Option<(DwEhPe, Pointer)>
-        ensures { option_map (λ p. (p.0.0, p.1)) result ≡ personality_of (cie_view R.standing R.Offset.number self.now).augmentation }
+        ensures { option_map (λ p. (p.0.0, p.1)) result ≡ personality_of (cie_view R.position R.Offset.number self.now).augmentation }
     {
         match self.augmentation {
             Some(known) => known.personality,
@@ -178,7 +178,7 @@ impl<R: Reader> CommonInformationEntry<R> {
 
     /// The pointer to the personality routine.
     pub fn personality(&self) -> Option<Pointer>
-        ensures { result ≡ option_map (λ p. p.1) (personality_of (cie_view R.standing R.Offset.number self.now).augmentation) }
+        ensures { result ≡ option_map (λ p. p.1) (personality_of (cie_view R.position R.Offset.number self.now).augmentation) }
     {
         match self.personality_with_encoding() {
             Some((_, personality)) => Some(personality),
@@ -188,7 +188,7 @@ impl<R: Reader> CommonInformationEntry<R> {
 
     /// How the FDEs' addresses are encoded; none where they are plain.
     pub fn fde_address_encoding(&self) -> Option<DwEhPe>
-        ensures { option_map (λ e. e.0) result ≡ address_encoding_of (cie_view R.standing R.Offset.number self.now).augmentation }
+        ensures { option_map (λ e. e.0) result ≡ address_encoding_of (cie_view R.position R.Offset.number self.now).augmentation }
     {
         match self.augmentation {
             Some(known) => known.fde_address_encoding,
@@ -198,7 +198,7 @@ impl<R: Reader> CommonInformationEntry<R> {
 
     /// Whether the FDEs are signal trampolines.
     pub fn is_signal_trampoline(&self) -> bool
-        ensures { result ≡ is_trampoline (cie_view R.standing R.Offset.number self.now).augmentation }
+        ensures { result ≡ is_trampoline (cie_view R.position R.Offset.number self.now).augmentation }
     {
         match self.augmentation {
             Some(known) => known.is_signal_trampoline,
@@ -208,21 +208,21 @@ impl<R: Reader> CommonInformationEntry<R> {
 
     /// By what the deltas of advances are multiplied.
     pub fn code_alignment_factor(&self) -> u64
-        ensures { result ≡ (cie_view R.standing R.Offset.number self.now).code_alignment_factor }
+        ensures { result ≡ (cie_view R.position R.Offset.number self.now).code_alignment_factor }
     {
         self.code_alignment_factor
     }
 
     /// By what the offsets of rules are multiplied.
     pub fn data_alignment_factor(&self) -> i64
-        ensures { result ≡ (cie_view R.standing R.Offset.number self.now).data_alignment_factor }
+        ensures { result ≡ (cie_view R.position R.Offset.number self.now).data_alignment_factor }
     {
         self.data_alignment_factor
     }
 
     /// The register that holds the return address.
     pub fn return_address_register(&self) -> Register
-        ensures { result ≡ (cie_view R.standing R.Offset.number self.now).return_address_register }
+        ensures { result ≡ (cie_view R.position R.Offset.number self.now).return_address_register }
     {
         self.return_address_register
     }

@@ -3,7 +3,7 @@ ghost use Rattle.std.specs.Prelude.{◌≡◌, ⊤, IfOk, IfSome};
 ghost use Rattle.std.specs.Option.{option_map};
 ghost use Rattle.std.specs.Iterator.{YieldsFirstBy, item_count};
 ghost use Rattle.cfi_read_core.specs.Readers.{Reads, map_ok};
-ghost use Rattle.cfi_parts.specs.Frames.{IsOf};
+ghost use Rattle.cfi_parts.specs.CallFrameSections.{IsOf};
 ghost use Rattle.cfi_unwind.specs.Sections.{section_of};
 ghost use Rattle.cfi_unwind.specs.Entries.{cie_at, entries_left, entry_of, partial_fde_at, partial_fde_of, prefix_at};
 ghost use Rattle.cfi_unwind.specs.Walks.{GoesThrough, GoesThrough_prop, Meets, entry_read, items};
@@ -11,17 +11,17 @@ ghost use Rattle.cfi_unwind.specs.Views.{cie_view, prefix_view, section_in};
 ghost use Rattle.cfi_unwind.specs.EntryViews.{OfEither, entry_view, partial_of};
 
 use crate::entry::cie::{CommonInformationEntry, read_cie};
-use crate::entry::context::InSection;
-use crate::entry::partial::{PartialFdeParts, PartialFrameDescriptionEntry};
+use crate::entry::in_section::InSection;
+use crate::entry::partial::{PartialFdeFields, PartialFrameDescriptionEntry};
 use crate::entry::prefix::{EntryPrefix, read_prefix};
 use cfi_parts::pointer::BaseAddresses;
-use cfi_parts::section::_UnwindSectionPrivate;
+use cfi_parts::unwind_section::_UnwindSectionPrivate;
 use cfi_read_core::{Error, Reader, ReaderOffset, Result};
 use std::alloc::AllocError;
 
 /// An entry, over what a CIE and what an FDE is.
 #[derive(Clone, Copy, Debug, PartialEq, Eq)]
-pub enum EntryParts<C, F> {
+pub enum EntryFields<C, F> {
     /// A common information entry.
     Cie(C),
     /// A frame description entry as far as the offset of its CIE.
@@ -29,29 +29,29 @@ pub enum EntryParts<C, F> {
 }
 
 /// An entry: a CIE whole, or an FDE as far as the offset of its CIE.
-pub type CieOrFde<'bases, Section, R> = EntryParts<
+pub type CieOrFde<'bases, Section, R> = EntryFields<
     CommonInformationEntry<R>,
     PartialFrameDescriptionEntry<'bases, Section, R>,
 >;
 
 /// The FDE behind its prefix, as far as the offset of its CIE.
 fn read_partial_fde<'bases, R: Reader, S: _UnwindSectionPrivate<R> + Copy>(
-    context: &InSection<'bases, S>,
+    at: &InSection<'bases, S>,
     found: EntryPrefix<R, R::Offset>,
 ) -> Result<PartialFrameDescriptionEntry<'bases, S, R>>
-    requires { IsOf (R.standing found.rest) (S.frame context.now.section).standing }
-    ensures read { map_ok (λ p. partial_of R.standing R.Offset.number p.found p.cie_offset) result
-        ≡ partial_fde_of (section_in S.frame context.now) (prefix_view R.standing R.Offset.number found) }
-    ensures tied { IfOk result (λ p. (p.section ≡ context.now.section) × (p.bases.now ≡ context.now.bases.now)) }
+    requires { IsOf (R.position found.rest) (S.view at.now.section).position }
+    ensures read { map_ok (λ p. partial_of R.position R.Offset.number p.found p.cie_offset) result
+        ≡ partial_fde_of (section_in S.view at.now) (prefix_view R.position R.Offset.number found) }
+    ensures same_section_and_bases { IfOk result (λ p. (p.section ≡ at.now.section) × (p.bases.now ≡ at.now.bases.now)) }
 {
     let id = R::Offset::from_u64(found.id)?;
-    let cie_offset = context
+    let cie_offset = at
         .section
         .resolve_cie_offset(found.id_offset, id)
         .ok_or(Error::OffsetOutOfBounds(found.id))?;
-    Ok(PartialFdeParts {
-        section: context.section,
-        bases: context.bases,
+    Ok(PartialFdeFields {
+        section: at.section,
+        bases: at.bases,
         found,
         cie_offset,
     })
@@ -59,58 +59,58 @@ fn read_partial_fde<'bases, R: Reader, S: _UnwindSectionPrivate<R> + Copy>(
 
 /// What the entry behind its prefix is.
 #[tactic(auto, unfolding(crate::specs::Entries::entry_of))]
-fn read_behind<'bases, R: Reader, S: _UnwindSectionPrivate<R> + Copy>(
-    context: &InSection<'bases, S>,
+fn read_entry_after<'bases, R: Reader, S: _UnwindSectionPrivate<R> + Copy>(
+    at: &InSection<'bases, S>,
     found: EntryPrefix<R, R::Offset>,
 ) -> Result<CieOrFde<'bases, S, R>>
-    requires { IsOf (R.standing found.rest) (S.frame context.now.section).standing }
-    ensures read { map_ok (entry_view (cie_view R.standing R.Offset.number) (λ p. partial_of R.standing R.Offset.number p.found p.cie_offset)) result
-        ≡ entry_of (section_in S.frame context.now) (prefix_view R.standing R.Offset.number found) }
-    ensures tied { IfOk result (OfEither
-        (λ cie. IsOf (R.standing cie.instructions) (S.frame context.now.section).standing)
-        (λ p. (p.section ≡ context.now.section) × (p.bases.now ≡ context.now.bases.now))) }
+    requires { IsOf (R.position found.rest) (S.view at.now.section).position }
+    ensures read { map_ok (entry_view (cie_view R.position R.Offset.number) (λ p. partial_of R.position R.Offset.number p.found p.cie_offset)) result
+        ≡ entry_of (section_in S.view at.now) (prefix_view R.position R.Offset.number found) }
+    ensures same_section_and_bases { IfOk result (OfEither
+        (λ cie. IsOf (R.position cie.initial_instructions) (S.view at.now.section).position)
+        (λ p. (p.section ≡ at.now.section) × (p.bases.now ≡ at.now.bases.now))) }
 {
     if S::is_cie(found.format, found.id) {
-        Ok(EntryParts::Cie(read_cie(context, &found)?))
+        Ok(EntryFields::Cie(read_cie(at, &found)?))
     } else {
-        Ok(EntryParts::Fde(read_partial_fde(context, found)?))
+        Ok(EntryFields::Fde(read_partial_fde(at, found)?))
     }
 }
 
 /// Reads the entry at the place of the input, or none where its length is zero.
 #[tactic(auto, unfolding(crate::specs::Walks::entry_read))]
 fn read_entry<'bases, R: Reader, S: _UnwindSectionPrivate<R> + Copy>(
-    context: &InSection<'bases, S>,
+    at: &InSection<'bases, S>,
     input: &mut R,
 ) -> Result<Option<CieOrFde<'bases, S, R>>>
-    requires { GoesThrough (R.standing input.old) (S.frame context.now.section).standing }
-    ensures read { Reads (option_map (entry_view (cie_view R.standing R.Offset.number) (λ p. partial_of R.standing R.Offset.number p.found p.cie_offset)))
-        (entry_read (section_in S.frame context.now)) (R.standing input.old) result (R.standing input.new) }
-    ensures tied { IfOk result (λ found. IfSome found (OfEither
-        (λ cie. IsOf (R.standing cie.instructions) (S.frame context.now.section).standing)
-        (λ p. (p.section ≡ context.now.section) × (p.bases.now ≡ context.now.bases.now)))) }
+    requires { GoesThrough (R.position input.old) (S.view at.now.section).position }
+    ensures read { Reads (option_map (entry_view (cie_view R.position R.Offset.number) (λ p. partial_of R.position R.Offset.number p.found p.cie_offset)))
+        (entry_read (section_in S.view at.now)) (R.position input.old) result (R.position input.new) }
+    ensures same_section_and_bases { IfOk result (λ found. IfSome found (OfEither
+        (λ cie. IsOf (R.position cie.initial_instructions) (S.view at.now.section).position)
+        (λ p. (p.section ≡ at.now.section) × (p.bases.now ≡ at.now.bases.now)))) }
 {
-    match read_prefix(context, input)? {
-        Some(found) => Ok(Some(read_behind(context, found)?)),
+    match read_prefix(at, input)? {
+        Some(found) => Ok(Some(read_entry_after(at, found)?)),
         None => Ok(None),
     }
 }
 
 /// The next entry from the place of the input on. An entry of length zero is passed over, or ends the section.
 fn next_entry<'bases, R: Reader, S: _UnwindSectionPrivate<R> + Copy>(
-    context: &InSection<'bases, S>,
+    at: &InSection<'bases, S>,
     input: &mut R,
 ) -> Result<Option<CieOrFde<'bases, S, R>>>
-    requires { GoesThrough (R.standing input.old) (S.frame context.now.section).standing }
-    ensures met { Meets (entry_view (cie_view R.standing R.Offset.number) (λ p. partial_of R.standing R.Offset.number p.found p.cie_offset)) result
-        (entries_left (section_in S.frame context.now) (R.standing input.old).place) (entries_left (section_in S.frame context.now) (R.standing input.new).place) }
-    ensures through { GoesThrough (R.standing input.new) (S.frame context.now.section).standing }
-    ensures tied { IfOk result (λ found. IfSome found (OfEither
-        (λ cie. IsOf (R.standing cie.instructions) (S.frame context.now.section).standing)
-        (λ p. (p.section ≡ context.now.section) × (p.bases.now ≡ context.now.bases.now)))) }
+    requires { GoesThrough (R.position input.old) (S.view at.now.section).position }
+    ensures met { Meets (entry_view (cie_view R.position R.Offset.number) (λ p. partial_of R.position R.Offset.number p.found p.cie_offset)) result
+        (entries_left (section_in S.view at.now) (R.position input.old).place) (entries_left (section_in S.view at.now) (R.position input.new).place) }
+    ensures through { GoesThrough (R.position input.new) (S.view at.now.section).position }
+    ensures same_section_and_bases { IfOk result (λ found. IfSome found (OfEither
+        (λ cie. IsOf (R.position cie.initial_instructions) (S.view at.now.section).position)
+        (λ p. (p.section ≡ at.now.section) × (p.bases.now ≡ at.now.bases.now)))) }
 {
     while !input.is_empty() {
-        match read_entry(context, input) {
+        match read_entry(at, input) {
             Ok(Some(entry)) => return Ok(Some(entry)),
             Ok(None) => {
                 if S::has_zero_terminator() {
@@ -131,15 +131,15 @@ fn next_entry<'bases, R: Reader, S: _UnwindSectionPrivate<R> + Copy>(
 /// The prefix of the entry at an offset of the section. Refused with `UnexpectedEof` where the offset lies behind
 /// the section's end, and with `NoEntryAtGivenOffset` where the length there is zero.
 fn prefix_at<R: Reader, S: _UnwindSectionPrivate<R>>(
-    context: &InSection<'_, S>,
+    at: &InSection<'_, S>,
     offset: R::Offset,
 ) -> Result<EntryPrefix<R, R::Offset>>
-    ensures read { map_ok (prefix_view R.standing R.Offset.number) result ≡ prefix_at (section_in S.frame context.now) (R.Offset.number offset) }
-    ensures part { IfOk result (λ found. IsOf (R.standing found.rest) (S.frame context.now.section).standing) }
+    ensures read { map_ok (prefix_view R.position R.Offset.number) result ≡ prefix_at (section_in S.view at.now) (R.Offset.number offset) }
+    ensures part { IfOk result (λ found. IsOf (R.position found.rest) (S.view at.now.section).position) }
 {
-    let mut input = *context.section.section();
+    let mut input = *at.section.section();
     input.skip(offset)?;
-    match read_prefix(context, &mut input)? {
+    match read_prefix(at, &mut input)? {
         Some(found) => Ok(found),
         None => Err(Error::NoEntryAtGivenOffset(offset.into_u64())),
     }
@@ -148,15 +148,15 @@ fn prefix_at<R: Reader, S: _UnwindSectionPrivate<R>>(
 /// The CIE at an offset of the section. Refused with `NotCieId` where the id there is no CIE's.
 #[tactic(auto, unfolding(crate::specs::Entries::cie_at))]
 pub(crate) fn cie_at<R: Reader, S: _UnwindSectionPrivate<R>>(
-    context: &InSection<'_, S>,
+    at: &InSection<'_, S>,
     offset: R::Offset,
 ) -> Result<CommonInformationEntry<R>>
-    ensures read { map_ok (cie_view R.standing R.Offset.number) result ≡ cie_at (section_in S.frame context.now) (R.Offset.number offset) }
-    ensures part { IfOk result (λ cie. IsOf (R.standing cie.instructions) (S.frame context.now.section).standing) }
+    ensures read { map_ok (cie_view R.position R.Offset.number) result ≡ cie_at (section_in S.view at.now) (R.Offset.number offset) }
+    ensures part { IfOk result (λ cie. IsOf (R.position cie.initial_instructions) (S.view at.now.section).position) }
 {
-    let found = prefix_at(context, offset)?;
+    let found = prefix_at(at, offset)?;
     if S::is_cie(found.format, found.id) {
-        read_cie(context, &found)
+        read_cie(at, &found)
     } else {
         Err(Error::NotCieId(offset.into_u64()))
     }
@@ -166,18 +166,18 @@ pub(crate) fn cie_at<R: Reader, S: _UnwindSectionPrivate<R>>(
 /// there is a CIE's.
 #[tactic(auto, unfolding(crate::specs::Entries::partial_fde_at))]
 pub(crate) fn partial_fde_at<'bases, R: Reader, S: _UnwindSectionPrivate<R> + Copy>(
-    context: &InSection<'bases, S>,
+    at: &InSection<'bases, S>,
     offset: R::Offset,
 ) -> Result<PartialFrameDescriptionEntry<'bases, S, R>>
-    ensures read { map_ok (λ p. partial_of R.standing R.Offset.number p.found p.cie_offset) result
-        ≡ partial_fde_at (section_in S.frame context.now) (R.Offset.number offset) }
-    ensures tied { IfOk result (λ p. (p.section ≡ context.now.section) × (p.bases.now ≡ context.now.bases.now)) }
+    ensures read { map_ok (λ p. partial_of R.position R.Offset.number p.found p.cie_offset) result
+        ≡ partial_fde_at (section_in S.view at.now) (R.Offset.number offset) }
+    ensures same_section_and_bases { IfOk result (λ p. (p.section ≡ at.now.section) × (p.bases.now ≡ at.now.bases.now)) }
 {
-    let found = prefix_at(context, offset)?;
+    let found = prefix_at(at, offset)?;
     if S::is_cie(found.format, found.id) {
         Err(Error::NotCiePointer(offset.into_u64()))
     } else {
-        read_partial_fde(context, found)
+        read_partial_fde(at, found)
     }
 }
 
@@ -188,7 +188,7 @@ pub struct CfiEntriesIter<'bases, Section: _UnwindSectionPrivate<R>, R: Reader> 
     pub(crate) section: Section,
     pub(crate) bases: &'bases BaseAddresses,
     pub(crate) input: R,
-    ghost through: { GoesThrough (R.standing input) (Section.frame section).standing } by { GoesThrough_prop (R.standing input) (Section.frame section).standing },
+    ghost through: { GoesThrough (R.position input) (Section.view section).position } by { GoesThrough_prop (R.position input) (Section.view section).position },
 }
 
 impl<Section: _UnwindSectionPrivate<R> + Copy, R: Reader> Clone for CfiEntriesIter<'_, Section, R> {
@@ -216,7 +216,7 @@ impl<'bases, Section: _UnwindSectionPrivate<R> + Copy, R: Reader> CfiEntriesIter
     pub(crate) fn new(section: &Section, bases: &'bases BaseAddresses) -> Self
         ensures section { result.section ≡ section.now }
         ensures bases { result.bases.now ≡ bases.now }
-        ensures all { R.standing result.input ≡ (Section.frame section.now).standing }
+        ensures all { R.position result.input ≡ (Section.view section.now).position }
     {
         CfiEntriesIter {
             section: *section,
@@ -230,21 +230,21 @@ impl<'bases, Section: _UnwindSectionPrivate<R> + Copy, R: Reader> CfiEntriesIter
     /// Refused as the bytes of the entry show, and with `UnsupportedOffset` or `OffsetOutOfBounds` where an FDE's
     /// CIE has no offset in the section. After a refusal or the end there is no entry for good.
     pub fn next(&mut self) -> Result<Option<CieOrFde<'bases, Section, R>>>
-        ensures met { Meets (entry_view (cie_view R.standing R.Offset.number) (λ p. partial_of R.standing R.Offset.number p.found p.cie_offset)) result
-            (entries_left (section_of (Section.frame self.old.section) self.old.bases.now) (R.standing self.old.input).place)
-            (entries_left (section_of (Section.frame self.new.section) self.new.bases.now) (R.standing self.new.input).place) }
+        ensures met { Meets (entry_view (cie_view R.position R.Offset.number) (λ p. partial_of R.position R.Offset.number p.found p.cie_offset)) result
+            (entries_left (section_of (Section.view self.old.section) self.old.bases.now) (R.position self.old.input).place)
+            (entries_left (section_of (Section.view self.new.section) self.new.bases.now) (R.position self.new.input).place) }
         ensures section { self.new.section ≡ self.old.section }
         ensures bases { self.new.bases.now ≡ self.old.bases.now }
-        ensures tied { IfOk result (λ found. IfSome found (OfEither
-            (λ cie. IsOf (R.standing cie.instructions) (Section.frame self.old.section).standing)
+        ensures same_section_and_bases { IfOk result (λ found. IfSome found (OfEither
+            (λ cie. IsOf (R.position cie.initial_instructions) (Section.view self.old.section).position)
             (λ p. (p.section ≡ self.old.section) × (p.bases.now ≡ self.old.bases.now)))) }
     {
-        let context = InSection {
+        let at = InSection {
             section: self.section,
             bases: self.bases,
         };
         let mut input = self.input;
-        let answer = next_entry(&context, &mut input);
+        let answer = next_entry(&at, &mut input);
         self.input = input;
         answer
     }
@@ -255,14 +255,14 @@ impl<'bases, Section: _UnwindSectionPrivate<R> + Copy, R: Reader> Iterator
     type Item = Result<CieOrFde<'bases, Section, R>>;
 
     ghost next_gives = { λ s r t.
-        YieldsFirstBy (map_ok (entry_view (cie_view R.standing R.Offset.number) (λ p. partial_of R.standing R.Offset.number p.found p.cie_offset)))
-        (λ it. items (entries_left (section_of (Section.frame it.section) it.bases.now) (R.standing it.input).place)) s r t
+        YieldsFirstBy (map_ok (entry_view (cie_view R.position R.Offset.number) (λ p. partial_of R.position R.Offset.number p.found p.cie_offset)))
+        (λ it. items (entries_left (section_of (Section.view it.section) it.bases.now) (R.position it.input).place)) s r t
         × ((t.section ≡ s.section) × (t.bases.now ≡ s.bases.now))
         × IfSome r (λ answer. IfOk answer (OfEither
-        (λ cie. IsOf (R.standing cie.instructions) (Section.frame s.section).standing)
+        (λ cie. IsOf (R.position cie.initial_instructions) (Section.view s.section).position)
         (λ p. (p.section ≡ s.section) × (p.bases.now ≡ s.bases.now)))) };
 
-    ghost remaining = { item_count (λ it. items (entries_left (section_of (Section.frame it.section) it.bases.now) (R.standing it.input).place)) };
+    ghost remaining = { item_count (λ it. items (entries_left (section_of (Section.view it.section) it.bases.now) (R.position it.input).place)) };
 
     fn next(&mut self) -> Option<Result<CieOrFde<'bases, Section, R>>> {
         CfiEntriesIter::next(self).transpose()

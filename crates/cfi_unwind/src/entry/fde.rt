@@ -2,28 +2,28 @@
 ghost use Rattle.std.specs.Prelude.{◌≡◌, ◌≤◌, IfOk, Some};
 ghost use Rattle.std.specs.Option.{option_map};
 ghost use Rattle.cfi_read_core.specs.Readers.{Reads, map_ok};
-ghost use Rattle.cfi_parts.specs.Frames.{IsOf};
+ghost use Rattle.cfi_parts.specs.CallFrameSections.{IsOf};
 ghost use Rattle.cfi_unwind.specs.Cies.{is_trampoline, personality_of};
-ghost use Rattle.cfi_unwind.specs.Fdes.{addresses, covers, end_of, fde_behind, lsda};
+ghost use Rattle.cfi_unwind.specs.Fdes.{addresses, covers, end_of, fde_after, lsda};
 ghost use Rattle.cfi_unwind.specs.Views.{augmentation_view, cie_view, fde_view, prefix_view, section_in};
 
 use crate::entry::augmentation::Augmentation;
-use crate::entry::cie::{CieParts, CommonInformationEntry};
-use crate::entry::context::InSection;
+use crate::entry::cie::{CieFields, CommonInformationEntry};
+use crate::entry::in_section::InSection;
 use crate::entry::prefix::{EntryPrefix, read_offset};
 use cfi_parts::pointer::{
     Pointer, PointerEncodingParameters, parse_encoded_pointer, parse_encoded_value,
 };
-use cfi_parts::section::_UnwindSectionPrivate;
+use cfi_parts::unwind_section::_UnwindSectionPrivate;
 use cfi_read_core::address::AddressSize;
 use cfi_read_core::{DwEhPe, Reader, ReaderAddress, Result};
 
 /// A frame description entry, over its reader and the reader's offsets.
 #[derive(Clone, Copy, Debug, PartialEq, Eq)]
-pub struct FdeParts<R, O> {
+pub struct FdeFields<R, O> {
     pub(crate) offset: O,
     pub(crate) length: O,
-    pub(crate) cie: CieParts<R, O>,
+    pub(crate) cie: CieFields<R, O>,
     pub(crate) initial_address: u64,
     pub(crate) address_range: u64,
     pub(crate) lsda: Option<Pointer>,
@@ -31,17 +31,17 @@ pub struct FdeParts<R, O> {
 }
 
 /// A frame description entry: the instructions for a range of addresses.
-pub type FrameDescriptionEntry<R> = FdeParts<R, <R as Reader>::Offset>;
+pub type FrameDescriptionEntry<R> = FdeFields<R, <R as Reader>::Offset>;
 
 /// The initial address, and how many addresses there are. Indirection of the address is ignored.
 fn read_addresses<R: Reader, S: _UnwindSectionPrivate<R>>(
-    context: &InSection<'_, S>,
+    at: &InSection<'_, S>,
     address_size: AddressSize,
     encoding: Option<DwEhPe>,
     input: &mut R,
 ) -> Result<(u64, u64)>
-    requires { (S.frame context.now.section).standing.place ≤ (R.standing input.old).place }
-    ensures { Reads (λ x. x) (addresses (section_in S.frame context.now) address_size.bytes (option_map (λ e. e.0) encoding)) (R.standing input.old) result (R.standing input.new) }
+    requires { (S.view at.now.section).position.place ≤ (R.position input.old).place }
+    ensures { Reads (λ x. x) (addresses (section_in S.view at.now) address_size.bytes (option_map (λ e. e.0) encoding)) (R.position input.old) result (R.position input.new) }
 {
     let size = address_size.bytes();
     let Some(encoding) = encoding else {
@@ -49,10 +49,10 @@ fn read_addresses<R: Reader, S: _UnwindSectionPrivate<R>>(
         return Ok((initial_address, input.read_address(size)?));
     };
     let parameters = PointerEncodingParameters {
-        bases: &context.bases.eh_frame,
+        bases: &at.bases.eh_frame,
         func_base: None,
         address_size: size,
-        section: context.section.section(),
+        section: at.section.section(),
     };
     let initial_address = parse_encoded_pointer(encoding, &parameters, input)?.pointer();
     Ok((initial_address, parse_encoded_value(encoding, size, input)?))
@@ -60,31 +60,31 @@ fn read_addresses<R: Reader, S: _UnwindSectionPrivate<R>>(
 
 /// The pointer to the language-specific data, from the augmentation data. What else the data has is dropped.
 fn read_lsda<R: Reader, S: _UnwindSectionPrivate<R>>(
-    context: &InSection<'_, S>,
+    at: &InSection<'_, S>,
     address_size: AddressSize,
     initial_address: u64,
     augmentation: Option<Augmentation>,
     input: &mut R,
 ) -> Result<Option<Pointer>>
-    requires { IsOf (R.standing input.old) (S.frame context.now.section).standing }
-    ensures { Reads (λ x. x) (lsda (section_in S.frame context.now) address_size.bytes initial_address (option_map augmentation_view augmentation)) (R.standing input.old) result (R.standing input.new) }
+    requires { IsOf (R.position input.old) (S.view at.now.section).position }
+    ensures { Reads (λ x. x) (lsda (section_in S.view at.now) address_size.bytes initial_address (option_map augmentation_view augmentation)) (R.position input.old) result (R.position input.new) }
 {
     let Some(augmentation) = augmentation else {
         return Ok(None);
     };
-    if !augmentation.has_data {
+    if !augmentation.has_augmentation_data {
         return Ok(None);
     }
     let length = read_offset(input)?;
     let mut data = input.split(length)?;
-    let Some(encoding) = augmentation.lsda else {
+    let Some(encoding) = augmentation.lsda_encoding else {
         return Ok(None);
     };
     let parameters = PointerEncodingParameters {
-        bases: &context.bases.eh_frame,
+        bases: &at.bases.eh_frame,
         func_base: Some(initial_address),
         address_size: address_size.bytes(),
-        section: context.section.section(),
+        section: at.section.section(),
     };
     Ok(Some(parse_encoded_pointer(encoding, &parameters, &mut data)?))
 }
@@ -92,14 +92,14 @@ fn read_lsda<R: Reader, S: _UnwindSectionPrivate<R>>(
 /// Reads the FDE of a CIE behind its prefix.
 #[tactic(auto, unfolding(crate::specs::Fdes::fde_fields))]
 pub(crate) fn read_fde<R: Reader, S: _UnwindSectionPrivate<R>>(
-    context: &InSection<'_, S>,
+    at: &InSection<'_, S>,
     found: &EntryPrefix<R, R::Offset>,
     cie: CommonInformationEntry<R>,
 ) -> Result<FrameDescriptionEntry<R>>
-    requires { IsOf (R.standing found.now.rest) (S.frame context.now.section).standing }
-    ensures read { map_ok (fde_view R.standing R.Offset.number) result
-        ≡ fde_behind (section_in S.frame context.now) (prefix_view R.standing R.Offset.number found.now) (cie_view R.standing R.Offset.number cie) }
-    ensures part { IfOk result (λ fde. IsOf (R.standing fde.instructions) (S.frame context.now.section).standing) }
+    requires { IsOf (R.position found.now.rest) (S.view at.now.section).position }
+    ensures read { map_ok (fde_view R.position R.Offset.number) result
+        ≡ fde_after (section_in S.view at.now) (prefix_view R.position R.Offset.number found.now) (cie_view R.position R.Offset.number cie) }
+    ensures part { IfOk result (λ fde. IsOf (R.position fde.instructions) (S.view at.now.section).position) }
     ensures cie { IfOk result (λ fde. fde.cie ≡ cie) }
 {
     let mut input = found.rest;
@@ -109,19 +109,19 @@ pub(crate) fn read_fde<R: Reader, S: _UnwindSectionPrivate<R>>(
     };
     let address_size = cie.address_size;
     let (initial_address, address_range) = read_addresses(
-        context,
+        at,
         address_size,
         encoding,
         &mut input,
     )?;
     let lsda = read_lsda(
-        context,
+        at,
         address_size,
         initial_address,
         cie.augmentation,
         &mut input,
     )?;
-    Ok(FdeParts {
+    Ok(FdeFields {
         offset: found.offset,
         length: found.length,
         cie,
@@ -135,7 +135,7 @@ pub(crate) fn read_fde<R: Reader, S: _UnwindSectionPrivate<R>>(
 impl<R: Reader> FrameDescriptionEntry<R> {
     /// Where the entry begins in its section.
     pub fn offset(&self) -> R::Offset
-        ensures { R.Offset.number result ≡ (fde_view R.standing R.Offset.number self.now).offset }
+        ensures { R.Offset.number result ≡ (fde_view R.position R.Offset.number self.now).offset }
     {
         self.offset
     }
@@ -149,49 +149,49 @@ impl<R: Reader> FrameDescriptionEntry<R> {
 
     /// The value of the entry's length field.
     pub fn entry_len(&self) -> R::Offset
-        ensures { R.Offset.number result ≡ (fde_view R.standing R.Offset.number self.now).length }
+        ensures { R.Offset.number result ≡ (fde_view R.position R.Offset.number self.now).length }
     {
         self.length
     }
 
     /// The first address of the entry.
     pub fn initial_address(&self) -> u64
-        ensures { result ≡ (fde_view R.standing R.Offset.number self.now).initial }
+        ensures { result ≡ (fde_view R.position R.Offset.number self.now).initial }
     {
         self.initial_address
     }
 
     /// How many addresses the entry is said to have.
     pub fn len(&self) -> u64
-        ensures { result ≡ (fde_view R.standing R.Offset.number self.now).range }
+        ensures { result ≡ (fde_view R.position R.Offset.number self.now).range }
     {
         self.address_range
     }
 
     /// The pointer to the language-specific data. One of value 0 is no absent one.
     pub fn lsda(&self) -> Option<Pointer>
-        ensures { result ≡ (fde_view R.standing R.Offset.number self.now).lsda }
+        ensures { result ≡ (fde_view R.position R.Offset.number self.now).lsda }
     {
         self.lsda
     }
 
     /// Whether the entry is a signal trampoline, as its CIE says.
     pub fn is_signal_trampoline(&self) -> bool
-        ensures { result ≡ is_trampoline (fde_view R.standing R.Offset.number self.now).cie.augmentation }
+        ensures { result ≡ is_trampoline (fde_view R.position R.Offset.number self.now).cie.augmentation }
     {
         self.cie().is_signal_trampoline()
     }
 
     /// The pointer to the personality routine, as the CIE gives it.
     pub fn personality(&self) -> Option<Pointer>
-        ensures { result ≡ option_map (λ p. p.1) (personality_of (fde_view R.standing R.Offset.number self.now).cie.augmentation) }
+        ensures { result ≡ option_map (λ p. p.1) (personality_of (fde_view R.position R.Offset.number self.now).cie.augmentation) }
     {
         self.cie().personality()
     }
 
     /// The first address behind the entry's. The end wraps at the size of an address, which is that of the CIE.
     pub fn end_address(&self) -> u64
-        ensures { result ≡ end_of (fde_view R.standing R.Offset.number self.now) }
+        ensures { result ≡ end_of (fde_view R.position R.Offset.number self.now) }
     {
         self.initial_address
             .wrapping_add_sized(self.address_range, self.cie.address_size.bytes())
@@ -199,7 +199,7 @@ impl<R: Reader> FrameDescriptionEntry<R> {
 
     /// Whether the address lies in the entry. Nothing lies in one whose end wraps to its initial address or below it.
     pub fn contains(&self, address: u64) -> bool
-        ensures { result ≡ covers (fde_view R.standing R.Offset.number self.now) address }
+        ensures { result ≡ covers (fde_view R.position R.Offset.number self.now) address }
     {
         self.initial_address <= address && address < self.end_address()
     }

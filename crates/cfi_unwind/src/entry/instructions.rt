@@ -1,17 +1,17 @@
 //! The instructions of entries (DWARF 5 section 6.4.2).
 ghost use Rattle.std.specs.Prelude.{◌≡◌};
-ghost use Rattle.cfi_parts.specs.Frames.{IsOf};
-ghost use Rattle.cfi_parts.specs.Iterators.{program};
-ghost use Rattle.cfi_parts.specs.Programs.{instructions_left};
+ghost use Rattle.cfi_parts.specs.CallFrameSections.{IsOf};
+ghost use Rattle.cfi_parts.specs.Iterators.{instruction_reader};
+ghost use Rattle.cfi_parts.specs.InstructionReaders.{instructions_left};
 ghost use Rattle.cfi_unwind.specs.Sections.{section_of};
-ghost use Rattle.cfi_unwind.specs.Programs.{cie_instructions, fde_instructions};
+ghost use Rattle.cfi_unwind.specs.EntryInstructions.{cie_instructions, fde_instructions};
 ghost use Rattle.cfi_unwind.specs.Views.{cie_view, fde_view};
 
 use crate::entry::cie::CommonInformationEntry;
 use crate::entry::fde::FrameDescriptionEntry;
 use cfi_parts::instruction::CallFrameInstructionIter;
 use cfi_parts::pointer::{BaseAddresses, PointerEncodingParameters};
-use cfi_parts::section::_UnwindSectionPrivate;
+use cfi_parts::unwind_section::_UnwindSectionPrivate;
 use cfi_read_core::Reader;
 
 impl<R: Reader> CommonInformationEntry<R> {
@@ -23,9 +23,9 @@ impl<R: Reader> CommonInformationEntry<R> {
         section: &'a Section,
         bases: &'a BaseAddresses,
     ) -> CallFrameInstructionIter<'a, R>
-        requires { IsOf (R.standing self.now.instructions) (Section.frame section.now).standing }
-        ensures { instructions_left (program R.standing result)
-            ≡ cie_instructions (section_of (Section.frame section.now) bases.now) (cie_view R.standing R.Offset.number self.now) }
+        requires { IsOf (R.position self.now.initial_instructions) (Section.view section.now).position }
+        ensures { instructions_left (instruction_reader R.position result)
+            ≡ cie_instructions (section_of (Section.view section.now) bases.now) (cie_view R.position R.Offset.number self.now) }
     {
         let pointers = PointerEncodingParameters {
             bases: &bases.eh_frame,
@@ -33,7 +33,7 @@ impl<R: Reader> CommonInformationEntry<R> {
             address_size: self.address_size.bytes(),
             section: section.section(),
         };
-        CallFrameInstructionIter::new(self.instructions, None, pointers, section.vendor())
+        CallFrameInstructionIter::new(self.initial_instructions, None, pointers, section.vendor())
     }
 }
 
@@ -46,9 +46,9 @@ impl<R: Reader> FrameDescriptionEntry<R> {
         section: &'a Section,
         bases: &'a BaseAddresses,
     ) -> CallFrameInstructionIter<'a, R>
-        requires { IsOf (R.standing self.now.instructions) (Section.frame section.now).standing }
-        ensures { instructions_left (program R.standing result)
-            ≡ fde_instructions (section_of (Section.frame section.now) bases.now) (fde_view R.standing R.Offset.number self.now) }
+        requires { IsOf (R.position self.now.instructions) (Section.view section.now).position }
+        ensures { instructions_left (instruction_reader R.position result)
+            ≡ fde_instructions (section_of (Section.view section.now) bases.now) (fde_view R.position R.Offset.number self.now) }
     {
         let pointers = PointerEncodingParameters {
             bases: &bases.eh_frame,

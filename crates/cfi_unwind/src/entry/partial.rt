@@ -1,35 +1,35 @@
 //! Frame description entries as far as the offset of their CIE.
 ghost use Rattle.std.specs.Prelude.{◌≡◌, ⊤};
-ghost use Rattle.cfi_parts.specs.Frames.{IsOf, IsOf_prop};
+ghost use Rattle.cfi_parts.specs.CallFrameSections.{IsOf, IsOf_prop};
 
 use crate::entry::cie::CommonInformationEntry;
-use crate::entry::context::InSection;
+use crate::entry::in_section::InSection;
 use crate::entry::fde::{FrameDescriptionEntry, read_fde};
 use crate::entry::prefix::EntryPrefix;
 use crate::section::UnwindSection;
 use cfi_parts::pointer::BaseAddresses;
-use cfi_parts::section::_UnwindSectionPrivate;
+use cfi_parts::unwind_section::_UnwindSectionPrivate;
 use cfi_read_core::{Reader, Result};
 use std::alloc::AllocError;
 
 /// A frame description entry as far as the offset of its CIE, over its section, its reader and the reader's offsets.
 #[derive(Debug, PartialEq, Eq)]
-pub struct PartialFdeParts<'bases, S: _UnwindSectionPrivate<R>, R: Reader, O> {
+pub struct PartialFdeFields<'bases, S: _UnwindSectionPrivate<R>, R: Reader, O> {
     pub(crate) section: S,
     pub(crate) bases: &'bases BaseAddresses,
     pub(crate) found: EntryPrefix<R, O>,
     pub(crate) cie_offset: O,
-    ghost of_section: { IsOf (R.standing found.rest) (S.frame section).standing } by { IsOf_prop (R.standing found.rest) (S.frame section).standing },
+    ghost of_section: { IsOf (R.position found.rest) (S.view section).position } by { IsOf_prop (R.position found.rest) (S.view section).position },
 }
 
 impl<S: _UnwindSectionPrivate<R> + Copy, R: Reader, O: Copy> Clone
-    for PartialFdeParts<'_, S, R, O> {
+    for PartialFdeFields<'_, S, R, O> {
     ghost is_clone = { λ x y. y ≡ x };
 
     ghost is_infallible = { λ _. ⊤ };
 
     fn clone(&self) -> std::result::Result<Self, AllocError> {
-        Ok(PartialFdeParts {
+        Ok(PartialFdeFields {
             section: self.section,
             bases: self.bases,
             found: self.found,
@@ -39,11 +39,11 @@ impl<S: _UnwindSectionPrivate<R> + Copy, R: Reader, O: Copy> Clone
 }
 
 impl<S: _UnwindSectionPrivate<R> + Copy, R: Reader, O: Copy> Copy
-    for PartialFdeParts<'_, S, R, O> {}
+    for PartialFdeFields<'_, S, R, O> {}
 
 /// A frame description entry as far as the offset of its CIE: not yet read are its addresses, the augmentation data
 /// and the instructions, since how they are read is for the CIE to say.
-pub type PartialFrameDescriptionEntry<'bases, Section, R> = PartialFdeParts<
+pub type PartialFrameDescriptionEntry<'bases, Section, R> = PartialFdeFields<
     'bases,
     Section,
     R,
@@ -81,16 +81,16 @@ impl<'bases, Section: _UnwindSectionPrivate<R> + Copy, R: Reader> PartialFrameDe
         &self,
         cie: CommonInformationEntry<R>,
     ) -> Result<FrameDescriptionEntry<R>>
-        ensures read { map_ok (fde_view R.standing R.Offset.number) result
-            ≡ fde_of (section_of (Section.frame self.now.section) self.now.bases.now) (partial_of R.standing R.Offset.number self.now.found self.now.cie_offset) (cie_view R.standing R.Offset.number cie) }
-        ensures part { IfOk result (λ fde. IsOf (R.standing fde.instructions) (Section.frame self.now.section).standing) }
+        ensures read { map_ok (fde_view R.position R.Offset.number) result
+            ≡ fde_of (section_of (Section.view self.now.section) self.now.bases.now) (partial_of R.position R.Offset.number self.now.found self.now.cie_offset) (cie_view R.position R.Offset.number cie) }
+        ensures part { IfOk result (λ fde. IsOf (R.position fde.instructions) (Section.view self.now.section).position) }
         ensures cie { IfOk result (λ fde. fde.cie ≡ cie) }
     {
-        let context = InSection {
+        let at = InSection {
             section: self.section,
             bases: self.bases,
         };
-        read_fde(&context, &self.found, cie)
+        read_fde(&at, &self.found, cie)
     }
 }
 
@@ -102,7 +102,7 @@ impl<'bases, Section: UnwindSection<R>, R: Reader> PartialFrameDescriptionEntry<
     ghost use Rattle.std.specs.Prelude.{IfOk, Ok};
     ghost use Rattle.cfi_read_core.specs.Readers.{map_ok};
     ghost use Rattle.cfi_unwind.specs.Sections.{section_of};
-    ghost use Rattle.cfi_unwind.specs.Asking.{Asks, IsAnswered, ReadsWith};
+    ghost use Rattle.cfi_unwind.specs.GetCieCalls.{GetCieCall, IsAnswered, ReadsWith};
     ghost use Rattle.cfi_unwind.specs.Views.{cie_view, fde_view};
     ghost use Rattle.cfi_unwind.specs.EntryViews.{partial_of};
 
@@ -121,11 +121,11 @@ impl<'bases, Section: UnwindSection<R>, R: Reader> PartialFrameDescriptionEntry<
         F: FnMut(&Section, &BaseAddresses, Section::Offset) -> Result<CommonInformationEntry<R>>,
         requires { F.IsAlwaysCallable get_cie }
         ensures read { (last : F) × ReadsWith
-            (Asks F.FnMut (λ o. R.Offset.number (Section.Offset.offset o)) (cie_view R.standing R.Offset.number) self.now.section self.now.bases.now)
-            (section_of (Section.frame self.now.section) self.now.bases.now) (Ok (partial_of R.standing R.Offset.number self.now.found self.now.cie_offset))
-            get_cie (map_ok (fde_view R.standing R.Offset.number) result) last }
+            (GetCieCall F.FnMut (λ o. R.Offset.number (Section.Offset.offset o)) (cie_view R.position R.Offset.number) self.now.section self.now.bases.now)
+            (section_of (Section.view self.now.section) self.now.bases.now) (Ok (partial_of R.position R.Offset.number self.now.found self.now.cie_offset))
+            get_cie (map_ok (fde_view R.position R.Offset.number) result) last }
         ensures cie { IfOk result (λ fde. IsAnswered F.FnMut self.now.section self.now.bases.now fde.cie) }
-        ensures part { IfOk result (λ fde. IsOf (R.standing fde.instructions) (Section.frame self.now.section).standing) }
+        ensures part { IfOk result (λ fde. IsOf (R.position fde.instructions) (Section.view self.now.section).position) }
     {
         let cie = get_cie(&self.section, self.bases, self.cie_offset())?;
         self.with_cie(cie)

@@ -3,12 +3,12 @@ ghost use Rattle.std.specs.Prelude.{◌≡◌, IfOk, IfSome, ◌≤◌};
 ghost use Rattle.std.specs.Option.{option_map};
 ghost use Rattle.cfi_read_core.specs.Numbers.{unsigned, offset_leb128};
 ghost use Rattle.cfi_read_core.specs.Readers.{Reads, map_ok};
-ghost use Rattle.cfi_parts.specs.Frames.{IsOf, width_of};
-ghost use Rattle.cfi_unwind.specs.Prefixes.{identified, prefix};
+ghost use Rattle.cfi_parts.specs.CallFrameSections.{IsOf, width_of};
+ghost use Rattle.cfi_unwind.specs.Prefixes.{fields_after_length, prefix};
 ghost use Rattle.cfi_unwind.specs.Views.{prefix_view, section_in};
 
-use crate::entry::context::InSection;
-use cfi_parts::section::{_UnwindSectionPrivate, CieOffsetEncoding};
+use crate::entry::in_section::InSection;
+use cfi_parts::unwind_section::{_UnwindSectionPrivate, CieOffsetEncoding};
 use cfi_read_core::{Format, Reader, ReaderOffset, Result};
 
 /// What an entry begins with, and what is left of it behind its id.
@@ -25,13 +25,13 @@ pub struct EntryPrefix<R, O> {
 /// A LEB128 number that has to be an offset.
 #[tactic(auto, unfolding(cfi_read_core::specs::Numbers::offset_leb128))]
 pub(crate) fn read_offset<R: Reader>(input: &mut R) -> Result<R::Offset>
-    ensures { Reads R.Offset.number offset_leb128 (R.standing input.old) result (R.standing input.new) }
+    ensures { Reads R.Offset.number offset_leb128 (R.position input.old) result (R.position input.new) }
 {
     R::Offset::from_u64(input.read_uleb128()?)
 }
 
 fn read_id<R: Reader>(encoding: CieOffsetEncoding, input: &mut R) -> Result<u64>
-    ensures { Reads (λ x. x) (unsigned (width_of encoding)) (R.standing input.old) result (R.standing input.new) }
+    ensures { Reads (λ x. x) (unsigned (width_of encoding)) (R.position input.old) result (R.position input.new) }
 {
     match encoding {
         CieOffsetEncoding::U32 => Ok(u64::from(input.read_u32()?)),
@@ -41,19 +41,19 @@ fn read_id<R: Reader>(encoding: CieOffsetEncoding, input: &mut R) -> Result<u64>
 
 /// Reads the id at the beginning of an entry's extent.
 fn read_identified<R: Reader, S: _UnwindSectionPrivate<R>>(
-    context: &InSection<'_, S>,
+    at: &InSection<'_, S>,
     offset: R::Offset,
     length: R::Offset,
     format: Format,
     extent: R,
 ) -> Result<EntryPrefix<R, R::Offset>>
-    requires { IsOf (R.standing extent) (S.frame context.now.section).standing }
-    ensures read { map_ok (prefix_view R.standing R.Offset.number) result
-        ≡ (identified (section_in S.frame context.now) (R.Offset.number offset) (R.Offset.number length) format (R.standing extent).source (R.standing extent).place).value }
-    ensures part { IfOk result (λ found. IsOf (R.standing found.rest) (S.frame context.now.section).standing) }
+    requires { IsOf (R.position extent) (S.view at.now.section).position }
+    ensures read { map_ok (prefix_view R.position R.Offset.number) result
+        ≡ (fields_after_length (section_in S.view at.now) (R.Offset.number offset) (R.Offset.number length) format (R.position extent).source (R.position extent).place).value }
+    ensures part { IfOk result (λ found. IsOf (R.position found.rest) (S.view at.now.section).position) }
 {
     let mut rest = extent;
-    let id_offset = rest.offset_from(context.section.section());
+    let id_offset = rest.offset_from(at.section.section());
     let id = read_id(S::cie_offset_encoding(format), &mut rest)?;
     Ok(EntryPrefix {
         offset,
@@ -69,19 +69,19 @@ fn read_identified<R: Reader, S: _UnwindSectionPrivate<R>>(
 /// entry.
 #[tactic(auto, unfolding(crate::specs::Prefixes::prefix))]
 pub(crate) fn read_prefix<R: Reader, S: _UnwindSectionPrivate<R>>(
-    context: &InSection<'_, S>,
+    at: &InSection<'_, S>,
     input: &mut R,
 ) -> Result<Option<EntryPrefix<R, R::Offset>>>
-    requires { IsOf (R.standing input.old) (S.frame context.now.section).standing }
-    ensures read { Reads (option_map (prefix_view R.standing R.Offset.number)) (prefix (section_in S.frame context.now)) (R.standing input.old) result (R.standing input.new) }
-    ensures part { IfOk result (λ found. IfSome found (λ p. IsOf (R.standing p.rest) (S.frame context.now.section).standing)) }
+    requires { IsOf (R.position input.old) (S.view at.now.section).position }
+    ensures read { Reads (option_map (prefix_view R.position R.Offset.number)) (prefix (section_in S.view at.now)) (R.position input.old) result (R.position input.new) }
+    ensures part { IfOk result (λ found. IfSome found (λ p. IsOf (R.position p.rest) (S.view at.now.section).position)) }
 {
-    let offset = input.offset_from(context.section.section());
+    let offset = input.offset_from(at.section.section());
     let (length, format) = input.read_initial_length()?;
     if length.into_u64() == 0 {
         return Ok(None);
     }
     let extent = input.split(length)?;
-    let found = read_identified(context, offset, length, format, extent)?;
+    let found = read_identified(at, offset, length, format, extent)?;
     Ok(Some(found))
 }

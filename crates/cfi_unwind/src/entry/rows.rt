@@ -2,15 +2,15 @@
 ghost use Rattle.std.specs.Prelude.{◌≡◌, ℕ, Option, IfOk, false};
 ghost use Rattle.cfi_read_core.specs.Addresses.{IsAddressSize};
 ghost use Rattle.cfi_read_core.specs.Readers.{map_ok};
-ghost use Rattle.cfi_parts.specs.Frames.{IsOf};
-ghost use Rattle.cfi_state.specs.Evaluation.{setting_of};
+ghost use Rattle.cfi_parts.specs.CallFrameSections.{IsOf};
+ghost use Rattle.cfi_state.specs.ContextEffects.{setting_of};
 ghost use Rattle.cfi_state.specs.Limit.{IsFixed};
 ghost use Rattle.cfi_state.specs.Numbered.{map_row};
 ghost use Rattle.cfi_unwind.specs.Sections.{section_of};
-ghost use Rattle.cfi_unwind.specs.Answers.{IsRowOfFde, RunsToRowOfFde, row_of_fde, setting};
+ghost use Rattle.cfi_unwind.specs.AddressRow.{IsRowOfFde, RunsToRowOfFde, row_of_fde, setting};
 ghost use Rattle.cfi_unwind.specs.Views.{fde_view};
-ghost use Rattle.cfi_unwind.specs.Tables.{StartsRows};
-ghost use Rattle.cfi_unwind.specs.TablePlaces.{place_of};
+ghost use Rattle.cfi_unwind.specs.UnwindTables.{StartsRows};
+ghost use Rattle.cfi_unwind.specs.TableViews.{table_state};
 
 use crate::entry::fde::FrameDescriptionEntry;
 use crate::section::UnwindSection;
@@ -25,7 +25,7 @@ use cfi_state::table::row::UnwindTableRow;
 impl<R: Reader> FrameDescriptionEntry<R> {
     // What stays fixed while the programs of the FDE and its CIE run.
     pub(crate) fn parameters(&self) -> Parameters
-        ensures setting { (rules stack : Option ℕ) → setting_of result rules stack ≡ setting rules stack (fde_view R.standing R.Offset.number self.now) }
+        ensures setting { (rules stack : Option ℕ) → setting_of result rules stack ≡ setting rules stack (fde_view R.position R.Offset.number self.now) }
         ensures sized { IsAddressSize result.address_size }
     {
         Parameters {
@@ -48,13 +48,13 @@ impl<R: Reader> FrameDescriptionEntry<R> {
         bases: &'a BaseAddresses,
         ctx: &'ctx mut UnwindContext<R::Offset, S>,
     ) -> Result<UnwindTable<'a, 'ctx, R, S>>
-        requires own { IsOf (R.standing self.now.instructions) (Section.frame section.now).standing }
-        requires cie { IsOf (R.standing self.now.cie.instructions) (Section.frame section.now).standing }
-        ensures starts { StartsRows (λ table. place_of R.standing R.Offset.number table)
-            (setting S.Rules.limit S.Stack.limit (fde_view R.standing R.Offset.number self.now)) S.Rules.copies_free
-            (section_of (Section.frame section.now) bases.now) (fde_view R.standing R.Offset.number self.now) result }
+        requires own { IsOf (R.position self.now.instructions) (Section.view section.now).position }
+        requires cie { IsOf (R.position self.now.cie.initial_instructions) (Section.view section.now).position }
+        ensures starts { StartsRows (λ table. table_state R.position R.Offset.number table)
+            (setting S.Rules.limit S.Stack.limit (fde_view R.position R.Offset.number self.now)) S.Rules.copies_free
+            (section_of (Section.view section.now) bases.now) (fde_view R.position R.Offset.number self.now) result }
         ensures setting { IfOk result (λ table. (rules stack : Option ℕ) →
-            setting_of table.parameters.values rules stack ≡ setting rules stack (fde_view R.standing R.Offset.number self.now)) }
+            setting_of table.parameters.values rules stack ≡ setting rules stack (fde_view R.position R.Offset.number self.now)) }
         ensures holds_row { IfOk result (λ table. table.holds_row ≡ false) }
         ensures same_reference { IfOk result (λ table. table.context.ghost_name ≡ ctx.entry.ghost_name) }
     {
@@ -78,15 +78,15 @@ impl<R: Reader> FrameDescriptionEntry<R> {
         ctx: &'ctx mut UnwindContext<R::Offset, S>,
         address: u64,
     ) -> Result<&'ctx UnwindTableRow<R::Offset, S::Rules>>
-        requires own { IsOf (R.standing self.now.instructions) (Section.frame section.now).standing }
-        requires cie { IsOf (R.standing self.now.cie.instructions) (Section.frame section.now).standing }
-        ensures row { IsRowOfFde S.Rules.limit S.Stack.limit S.Rules.copies_free (section_of (Section.frame section.now) bases.now) address
-            (fde_view R.standing R.Offset.number self.now) (map_ok (λ row. map_row R.Offset.number row.now) result) }
-        ensures run { RunsToRowOfFde S.Rules.limit S.Stack.limit S.Rules.copies_free (section_of (Section.frame section.now) bases.now) address
-            (fde_view R.standing R.Offset.number self.now) (map_ok (λ row. map_row R.Offset.number row.now) result) }
+        requires own { IsOf (R.position self.now.instructions) (Section.view section.now).position }
+        requires cie { IsOf (R.position self.now.cie.initial_instructions) (Section.view section.now).position }
+        ensures row { IsRowOfFde S.Rules.limit S.Stack.limit S.Rules.copies_free (section_of (Section.view section.now) bases.now) address
+            (fde_view R.position R.Offset.number self.now) (map_ok (λ row. map_row R.Offset.number row.now) result) }
+        ensures run { RunsToRowOfFde S.Rules.limit S.Stack.limit S.Rules.copies_free (section_of (Section.view section.now) bases.now) address
+            (fde_view R.position R.Offset.number self.now) (map_ok (λ row. map_row R.Offset.number row.now) result) }
         ensures fixed { IsFixed S.Rules.limit S.Stack.limit S.Rules.copies_free →
             map_ok (λ row. map_row R.Offset.number row.now) result
-            ≡ row_of_fde S.Rules.limit S.Stack.limit (section_of (Section.frame section.now) bases.now) address (fde_view R.standing R.Offset.number self.now) }
+            ≡ row_of_fde S.Rules.limit S.Stack.limit (section_of (Section.view section.now) bases.now) address (fde_view R.position R.Offset.number self.now) }
     {
         let initial = self.cie.instructions(section, bases);
         let instructions = self.instructions(section, bases);

@@ -3,11 +3,11 @@ ghost use Rattle.std.specs.Prelude.{◌≡◌, refl};
 ghost use Rattle.cfi_read_core.specs.Addresses.{IsAddressSize, sized_by};
 ghost use Rattle.cfi_read_core.specs.declared.common.Vendor.TheVariants.{Default as no_vendor};
 ghost use Rattle.cfi_read_core.specs.Readers.{all_of};
-ghost use Rattle.cfi_read_core.specs.Windows.{slice_standing};
-ghost use Rattle.cfi_parts.specs.Frames.{DebugFrame as debug_frame, section_id};
+ghost use Rattle.cfi_read_core.specs.Windows.{slice_position};
+ghost use Rattle.cfi_parts.specs.CallFrameSections.{DebugFrame as debug_frame, section_id};
 
 use crate::section::UnwindSection;
-use cfi_parts::section::{_UnwindSectionPrivate, CieOffsetEncoding};
+use cfi_parts::unwind_section::{_UnwindSectionPrivate, CieOffsetEncoding};
 use cfi_read_core::address::AddressSize;
 use cfi_read_core::{
     DebugFrameOffset, EndianSlice, Endianity, Format, Reader, Section, SectionId, Vendor,
@@ -26,7 +26,7 @@ pub struct DebugFrame<R> {
 impl<'input, E: Endianity> DebugFrame<EndianSlice<'input, E>> {
     /// The section of these bytes in this byte order. It holds no copy of them.
     pub fn new(section: &'input [u8], endian: E) -> Self
-        ensures section { slice_standing E.big_endian result.section ≡ all_of section.now (E.big_endian endian) 18446744073709551615 }
+        ensures section { slice_position E.big_endian result.section ≡ all_of section.now (E.big_endian endian) 18446744073709551615 }
         ensures size { result.address_size.bytes ≡ 8 }
         ensures vendor { result.vendor ≡ no_vendor }
     {
@@ -70,7 +70,7 @@ impl<R> From<R> for DebugFrame<R> {
 impl<R> Section<R> for DebugFrame<R> {
     ghost bytes = { λ s. s.section };
 
-    ghost KIND = { section_id debug_frame };
+    ghost ID = { section_id debug_frame };
 
     fn id() -> SectionId {
         SectionId::DebugFrame
@@ -84,7 +84,7 @@ impl<R> Section<R> for DebugFrame<R> {
 }
 
 impl<R: Reader> _UnwindSectionPrivate<R> for DebugFrame<R> {
-    ghost frame = { λ s. record { kind = debug_frame; standing = R.standing s.section; address_size = s.address_size.bytes; vendor = s.vendor } };
+    ghost view = { λ s. record { kind = debug_frame; position = R.position s.section; address_size = s.address_size.bytes; vendor = s.vendor } };
 
     ghost KIND = { debug_frame };
 

@@ -3,11 +3,11 @@ ghost use Rattle.std.specs.Prelude.{◌≡◌, refl};
 ghost use Rattle.cfi_read_core.specs.Addresses.{IsAddressSize, sized_by};
 ghost use Rattle.cfi_read_core.specs.declared.common.Vendor.TheVariants.{Default as no_vendor};
 ghost use Rattle.cfi_read_core.specs.Readers.{all_of};
-ghost use Rattle.cfi_read_core.specs.Windows.{slice_standing};
-ghost use Rattle.cfi_parts.specs.Frames.{EhFrame as eh_frame, section_id};
+ghost use Rattle.cfi_read_core.specs.Windows.{slice_position};
+ghost use Rattle.cfi_parts.specs.CallFrameSections.{EhFrame as eh_frame, section_id};
 
 use crate::section::UnwindSection;
-use cfi_parts::section::{_UnwindSectionPrivate, CieOffsetEncoding};
+use cfi_parts::unwind_section::{_UnwindSectionPrivate, CieOffsetEncoding};
 use cfi_read_core::address::AddressSize;
 use cfi_read_core::{
     EhFrameOffset, EndianSlice, Endianity, Format, Reader, ReaderOffset, Section, SectionId, Vendor,
@@ -26,7 +26,7 @@ pub struct EhFrame<R> {
 impl<'input, E: Endianity> EhFrame<EndianSlice<'input, E>> {
     /// The section of these bytes in this byte order. It holds no copy of them.
     pub fn new(section: &'input [u8], endian: E) -> Self
-        ensures section { slice_standing E.big_endian result.section ≡ all_of section.now (E.big_endian endian) 18446744073709551615 }
+        ensures section { slice_position E.big_endian result.section ≡ all_of section.now (E.big_endian endian) 18446744073709551615 }
         ensures size { result.address_size.bytes ≡ 8 }
         ensures vendor { result.vendor ≡ no_vendor }
     {
@@ -70,7 +70,7 @@ impl<R> From<R> for EhFrame<R> {
 impl<R> Section<R> for EhFrame<R> {
     ghost bytes = { λ s. s.section };
 
-    ghost KIND = { section_id eh_frame };
+    ghost ID = { section_id eh_frame };
 
     fn id() -> SectionId {
         SectionId::EhFrame
@@ -84,7 +84,7 @@ impl<R> Section<R> for EhFrame<R> {
 }
 
 impl<R: Reader> _UnwindSectionPrivate<R> for EhFrame<R> {
-    ghost frame = { λ s. record { kind = eh_frame; standing = R.standing s.section; address_size = s.address_size.bytes; vendor = s.vendor } };
+    ghost view = { λ s. record { kind = eh_frame; position = R.position s.section; address_size = s.address_size.bytes; vendor = s.vendor } };
 
     ghost KIND = { eh_frame };
 

@@ -6,7 +6,7 @@ ghost use Rattle.cfi_read_core.specs.Reading.{skip};
 ghost use Rattle.cfi_read_core.specs.declared.error.Error.TheVariants.{UnsupportedPointerEncoding};
 ghost use Rattle.cfi_parts.specs.Contexts.{pointer_context};
 ghost use Rattle.gimli_cfi.specs.Headers.{header_context, rows_passed, start_field, start_of, target_field, target_of, value_size};
-ghost use Rattle.gimli_cfi.specs.Views.{rows_view, section_view};
+ghost use Rattle.gimli_cfi.specs.Views.{rows_view, header_section_view};
 
 use crate::hdr::header::ParsedEhFrameHdr;
 use cfi_parts::pointer::{
@@ -37,7 +37,7 @@ pub(crate) fn searchable_size(encoding: DwEhPe) -> Result<u64>
 /// Passes so many rows of two values of this size at once.
 pub(crate) fn pass_rows<R: Reader>(input: &mut R, size: u64, count: u64) -> Result<()>
     requires { size ≤ 8 }
-    ensures { Reads (λ x. x) (rows_passed size count) (R.standing input.old) result (R.standing input.new) }
+    ensures { Reads (λ x. x) (rows_passed size count) (R.position input.old) result (R.position input.new) }
 {
     // An offset is a `u64`.
     let _greatest = R::Offset::GREATEST;
@@ -49,7 +49,7 @@ pub(crate) fn pass_rows<R: Reader>(input: &mut R, size: u64, count: u64) -> Resu
 
 /// Passes a value of this size. A number that is no offset is more than is left.
 fn pass_value<R: Reader>(input: &mut R, size: u64) -> Result<()>
-    ensures { Reads (λ x. x) (skip size) (R.standing input.old) result (R.standing input.new) }
+    ensures { Reads (λ x. x) (skip size) (R.position input.old) result (R.position input.new) }
 {
     match R::Offset::from_u64(size) {
         Ok(bytes) => input.skip(bytes),
@@ -62,7 +62,7 @@ fn row_parameters<'a, R: Reader>(
     hdr: &'a ParsedEhFrameHdr<R>,
     bases: &'a BaseAddresses,
 ) -> PointerEncodingParameters<'a, R>
-    ensures context { pointer_context R.standing result ≡ header_context (section_view R.standing hdr.now bases.now) }
+    ensures context { pointer_context R.position result ≡ header_context (header_section_view R.position hdr.now bases.now) }
     ensures sized { IsAddressSize result.address_size }
     ensures section { result.section.now ≡ hdr.now.section }
 {
@@ -84,8 +84,8 @@ fn read_start_field<R: Reader>(
     input: &mut R,
 ) -> Result<Pointer>
     requires small { size ≤ 8 }
-    requires behind { (R.standing hdr.now.section).place ≤ (R.standing input.old).place }
-    ensures { Reads (λ p. p) (start_field (section_view R.standing hdr.now bases.now) (rows_view R.standing hdr.now) size index) (R.standing input.old) result (R.standing input.new) }
+    requires behind { (R.position hdr.now.section).place ≤ (R.position input.old).place }
+    ensures { Reads (λ p. p) (start_field (header_section_view R.position hdr.now bases.now) (rows_view R.position hdr.now) size index) (R.position input.old) result (R.position input.new) }
 {
     pass_rows(input, size, index)?;
     parse_encoded_pointer(hdr.table_enc, &row_parameters(hdr, bases), input)
@@ -101,8 +101,8 @@ fn read_target_field<R: Reader>(
     input: &mut R,
 ) -> Result<Pointer>
     requires small { size ≤ 8 }
-    requires behind { (R.standing hdr.now.section).place ≤ (R.standing input.old).place }
-    ensures { Reads (λ p. p) (target_field (section_view R.standing hdr.now bases.now) (rows_view R.standing hdr.now) size index) (R.standing input.old) result (R.standing input.new) }
+    requires behind { (R.position hdr.now.section).place ≤ (R.position input.old).place }
+    ensures { Reads (λ p. p) (target_field (header_section_view R.position hdr.now bases.now) (rows_view R.position hdr.now) size index) (R.position input.old) result (R.position input.new) }
 {
     pass_rows(input, size, index)?;
     pass_value(input, size)?;
@@ -117,7 +117,7 @@ pub(crate) fn start_of_row<R: Reader>(
     index: u64,
 ) -> Result<u64>
     requires { value_size hdr.now.table_enc.0 ≡ Some size }
-    ensures { result ≡ start_of (section_view R.standing hdr.now bases.now) (rows_view R.standing hdr.now) index }
+    ensures { result ≡ start_of (header_section_view R.position hdr.now bases.now) (rows_view R.position hdr.now) index }
 {
     let mut rows = hdr.table;
     read_start_field(hdr, bases, size, index, &mut rows)?.direct()
@@ -131,7 +131,7 @@ pub(crate) fn target_of_row<R: Reader>(
     index: u64,
 ) -> Result<Pointer>
     requires { value_size hdr.now.table_enc.0 ≡ Some size }
-    ensures { result ≡ target_of (section_view R.standing hdr.now bases.now) (rows_view R.standing hdr.now) index }
+    ensures { result ≡ target_of (header_section_view R.position hdr.now bases.now) (rows_view R.position hdr.now) index }
 {
     let mut rows = hdr.table;
     read_target_field(hdr, bases, size, index, &mut rows)

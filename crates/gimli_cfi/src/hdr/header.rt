@@ -3,9 +3,9 @@ ghost use Rattle.std.specs.Prelude.{◌≡◌, ⊤, IfOk, IfSome};
 ghost use Rattle.std.specs.Option.{option_map};
 ghost use Rattle.cfi_read_core.specs.Addresses.{IsAddressSize};
 ghost use Rattle.cfi_read_core.specs.Readers.{Reads, all_of, map_ok};
-ghost use Rattle.cfi_read_core.specs.Windows.{slice_standing};
+ghost use Rattle.cfi_read_core.specs.Windows.{slice_position};
 ghost use Rattle.cfi_read_core.specs.declared.common.SectionId.TheVariants.{EhFrameHdr as eh_frame_hdr_id};
-ghost use Rattle.cfi_parts.specs.Frames.{IsOf, IsOf_prop};
+ghost use Rattle.cfi_parts.specs.CallFrameSections.{IsOf, IsOf_prop};
 ghost use Rattle.gimli_cfi.specs.Headers.{header_of, header_section, row_count};
 
 use crate::hdr::table::EhHdrTable;
@@ -27,7 +27,7 @@ pub struct EhFrameHdr<R>(R);
 impl<'input, E: Endianity> EhFrameHdr<EndianSlice<'input, E>> {
     /// The section of these bytes in this byte order. It holds no copy of them.
     pub fn new(section: &'input [u8], endian: E) -> Self
-        ensures { slice_standing E.big_endian result.0 ≡ all_of section.now (E.big_endian endian) 18446744073709551615 }
+        ensures { slice_position E.big_endian result.0 ≡ all_of section.now (E.big_endian endian) 18446744073709551615 }
     {
         Self::from(EndianSlice::new(section, endian))
     }
@@ -44,7 +44,7 @@ impl<R> From<R> for EhFrameHdr<R> {
 impl<R> Section<R> for EhFrameHdr<R> {
     ghost bytes = { λ s. s.0 };
 
-    ghost KIND = { eh_frame_hdr_id };
+    ghost ID = { eh_frame_hdr_id };
 
     fn id() -> SectionId {
         SectionId::EhFrameHdr
@@ -73,7 +73,7 @@ impl<R: Reader> EhFrameHdr<R> {
     #[tactic(auto, unfolding(crate::specs::Headers::header_fields))]
     pub fn parse(&self, bases: &BaseAddresses, address_size: u8) -> Result<ParsedEhFrameHdr<R>>
         requires { IsAddressSize address_size }
-        ensures read { map_ok (header_view R.standing) result ≡ header_of (header_section (R.standing self.now.0) address_size bases.now.eh_frame_hdr) }
+        ensures read { map_ok (header_view R.position) result ≡ header_of (header_section (R.position self.now.0) address_size bases.now.eh_frame_hdr) }
         ensures section { IfOk result (λ header. header.section ≡ self.now.0) }
         ensures size { IfOk result (λ header. header.address_size.bytes ≡ address_size) }
     {
@@ -112,7 +112,7 @@ fn read_row_count<R: Reader>(
     address_size: u8,
     input: &mut R,
 ) -> Result<u64>
-    ensures { Reads (λ x. x) (row_count address_size count_encoding.0 table_encoding.0) (R.standing input.old) result (R.standing input.new) }
+    ensures { Reads (λ x. x) (row_count address_size count_encoding.0 table_encoding.0) (R.position input.old) result (R.position input.new) }
 {
     if count_encoding == DW_EH_PE_omit || table_encoding == DW_EH_PE_omit {
         return Ok(0);
@@ -132,7 +132,7 @@ pub struct ParsedEhFrameHdr<R: Reader> {
     pub(crate) fde_count: u64,
     pub(crate) table_enc: DwEhPe,
     pub(crate) table: R,
-    ghost of_section: { IsOf (R.standing table) (R.standing section) } by { IsOf_prop (R.standing table) (R.standing section) },
+    ghost of_section: { IsOf (R.position table) (R.position section) } by { IsOf_prop (R.position table) (R.position section) },
 }
 
 impl<R: Reader> Clone for ParsedEhFrameHdr<R> {
@@ -152,14 +152,14 @@ impl<R: Reader> ParsedEhFrameHdr<R> {
 
     /// Where `.eh_frame` is.
     pub fn eh_frame_ptr(&self) -> Pointer
-        ensures { result ≡ (header_view R.standing self.now).eh_frame }
+        ensures { result ≡ (header_view R.position self.now).eh_frame }
     {
         self.eh_frame_ptr
     }
 
     /// The table, `None` where it has no rows: the count is 0 or omitted, or the rows are omitted.
     pub fn table(&self) -> Option<EhHdrTable<'_, R>>
-        ensures rows { option_map (table_view R.standing) result ≡ (header_view R.standing self.now).table }
+        ensures rows { option_map (table_view R.position) result ≡ (header_view R.position self.now).table }
         ensures header { IfSome result (λ table. table.hdr.now ≡ self.now) }
     {
         if self.fde_count == 0 {

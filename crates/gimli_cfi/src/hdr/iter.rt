@@ -6,9 +6,9 @@ ghost use Rattle.std.specs.Iterator.SizeHint.{IsWithinCount};
 ghost use Rattle.cfi_read_core.specs.Addresses.{IsAddressSize};
 ghost use Rattle.cfi_read_core.specs.Readers.{Reads};
 ghost use Rattle.cfi_parts.specs.Contexts.{pointer_context};
-ghost use Rattle.cfi_parts.specs.Frames.{IsOf, IsOf_prop};
+ghost use Rattle.cfi_parts.specs.CallFrameSections.{IsOf, IsOf_prop};
 ghost use Rattle.gimli_cfi.specs.Headers.{row_by};
-ghost use Rattle.gimli_cfi.specs.Rows.{Meets, next_row, rows_left, walk_behind, walk_of};
+ghost use Rattle.gimli_cfi.specs.HeaderRows.{Meets, next_row, rows_left, walk_after, walk_of};
 
 use crate::hdr::header::ParsedEhFrameHdr;
 use cfi_parts::pointer::{
@@ -25,15 +25,15 @@ pub struct EhHdrTableIter<'a, 'bases, R: Reader> {
     pub(crate) table: R,
     pub(crate) bases: &'bases BaseAddresses,
     pub(crate) remain: u64,
-    ghost of_section: { IsOf (R.standing table) (R.standing hdr.now.section) } by { IsOf_prop (R.standing table) (R.standing hdr.now.section) },
+    ghost of_section: { IsOf (R.position table) (R.position hdr.now.section) } by { IsOf_prop (R.position table) (R.position hdr.now.section) },
 }
 
 impl<'a, 'bases, R: Reader> EhHdrTableIter<'a, 'bases, R> {
-    ghost use Rattle.gimli_cfi.specs.Views.{rows_view, section_view, walk_view};
+    ghost use Rattle.gimli_cfi.specs.Views.{rows_view, header_section_view, walk_view};
 
     /// All rows of the header's table.
     pub(crate) fn new(hdr: &'a ParsedEhFrameHdr<R>, bases: &'bases BaseAddresses) -> Self
-        ensures all { walk_view R.standing result ≡ walk_of (section_view R.standing hdr.now bases.now) (rows_view R.standing hdr.now) }
+        ensures all { walk_view R.position result ≡ walk_of (header_section_view R.position hdr.now bases.now) (rows_view R.position hdr.now) }
     {
         EhHdrTableIter {
             hdr,
@@ -47,12 +47,12 @@ impl<'a, 'bases, R: Reader> EhHdrTableIter<'a, 'bases, R> {
     ///
     /// A row is refused as any pointer of the section, for its start and then for its target. It counts as a row: one
     /// fewer remains, and the next is read from where the refused read stood. It takes no memory.
-    #[tactic(auto, unfolding(crate::specs::Rows::next_row))]
+    #[tactic(auto, unfolding(crate::specs::HeaderRows::next_row))]
     pub fn next(&mut self) -> Result<Option<(Pointer, Pointer)>>
-        ensures read { Reads (λ found. found) (next_row (walk_view R.standing self.old)) (R.standing self.old.table) result (R.standing self.new.table) }
-        ensures met { Meets result (walk_view R.standing self.old) (walk_view R.standing self.new) }
-        ensures after { walk_view R.standing self.new ≡ walk_behind (walk_view R.standing self.old) (R.standing self.new.table) }
-        ensures tied { (self.new.hdr.now ≡ self.old.hdr.now) × (self.new.bases.now ≡ self.old.bases.now) }
+        ensures read { Reads (λ found. found) (next_row (walk_view R.position self.old)) (R.position self.old.table) result (R.position self.new.table) }
+        ensures met { Meets result (walk_view R.position self.old) (walk_view R.position self.new) }
+        ensures after { walk_view R.position self.new ≡ walk_after (walk_view R.position self.old) (R.position self.new.table) }
+        ensures same_section_and_bases { (self.new.hdr.now ≡ self.old.hdr.now) × (self.new.bases.now ≡ self.old.bases.now) }
     {
         if self.remain == 0 {
             return Ok(None);
@@ -76,9 +76,9 @@ impl<R: Reader> Iterator for EhHdrTableIter<'_, '_, R> {
 
     ghost use Rattle.gimli_cfi.specs.Views.{walk_view};
 
-    ghost next_gives = { λ s r t. YieldsFirst (λ it. rows_left (walk_view R.standing it)) s r t
-        × Reads (λ found. found) (next_row (walk_view R.standing s)) (R.standing s.table) (option_transpose r) (R.standing t.table)
-        × (walk_view R.standing t ≡ walk_behind (walk_view R.standing s) (R.standing t.table))
+    ghost next_gives = { λ s r t. YieldsFirst (λ it. rows_left (walk_view R.position it)) s r t
+        × Reads (λ found. found) (next_row (walk_view R.position s)) (R.position s.table) (option_transpose r) (R.position t.table)
+        × (walk_view R.position t ≡ walk_after (walk_view R.position s) (R.position t.table))
         × ((t.hdr.now ≡ s.hdr.now) × (t.bases.now ≡ s.bases.now)) };
 
     ghost remaining = { λ it. at_most it.remain };
@@ -106,8 +106,8 @@ fn read_row<R: Reader>(
     input: &mut R,
 ) -> Result<(Pointer, Pointer)>
     requires sized { IsAddressSize parameters.now.address_size }
-    requires behind { (R.standing parameters.now.section.now).place ≤ (R.standing input.old).place }
-    ensures { Reads (λ found. found) (row_by (pointer_context R.standing parameters.now) encoding.0) (R.standing input.old) result (R.standing input.new) }
+    requires behind { (R.position parameters.now.section.now).place ≤ (R.position input.old).place }
+    ensures { Reads (λ found. found) (row_by (pointer_context R.position parameters.now) encoding.0) (R.position input.old) result (R.position input.new) }
 {
     let start = parse_encoded_pointer(encoding, parameters, input)?;
     let target = parse_encoded_pointer(encoding, parameters, input)?;

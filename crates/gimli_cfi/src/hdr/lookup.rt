@@ -4,7 +4,7 @@ ghost use Rattle.cfi_read_core.specs.Readers.{map_ok};
 ghost use Rattle.gimli_cfi.specs.Boundary.{AreRising, IsLastUpTo};
 ghost use Rattle.gimli_cfi.specs.Headers.{offset_of_pointer, target_of, value_size};
 ghost use Rattle.gimli_cfi.specs.Steps.{steps};
-ghost use Rattle.gimli_cfi.specs.Tables.{IsFoundBySearch};
+ghost use Rattle.gimli_cfi.specs.HeaderTables.{IsFoundBySearch};
 
 use crate::hdr::fields::{searchable_size, target_of_row};
 use crate::hdr::search::{StartSource, search_starts};
@@ -14,7 +14,7 @@ use cfi_parts::pointer::{BaseAddresses, Pointer};
 use cfi_read_core::{EhFrameOffset, Error, Reader, ReaderOffset, Result};
 
 impl<R: Reader> EhHdrTable<'_, R> {
-    ghost use Rattle.gimli_cfi.specs.Views.{section_view, starts_view, table_view};
+    ghost use Rattle.gimli_cfi.specs.Views.{header_section_view, starts_view, table_view};
 
     /// The target of a boundary row for the address: where the FDE for the address is, if the table names one.
     ///
@@ -30,12 +30,12 @@ impl<R: Reader> EhHdrTable<'_, R> {
     ///
     /// The bases are those in `BaseAddresses::eh_frame_hdr`.
     pub fn lookup(&self, address: u64, bases: &BaseAddresses) -> Result<Pointer>
-        ensures found { IsFoundBySearch (starts_view R.standing self.now.hdr.now bases.now) (table_view R.standing self.now) address
-            (target_of (section_view R.standing self.now.hdr.now bases.now) (table_view R.standing self.now)) result }
-        ensures rising { IsSome (value_size (table_view R.standing self.now).encoding) →
-            AreRising (starts_view R.standing self.now.hdr.now bases.now) (table_view R.standing self.now).count →
-            (k : ℕ) × IsLastUpTo (starts_view R.standing self.now.hdr.now bases.now) (table_view R.standing self.now).count address k
-            × (result ≡ target_of (section_view R.standing self.now.hdr.now bases.now) (table_view R.standing self.now) k) }
+        ensures found { IsFoundBySearch (starts_view R.position self.now.hdr.now bases.now) (table_view R.position self.now) address
+            (target_of (header_section_view R.position self.now.hdr.now bases.now) (table_view R.position self.now)) result }
+        ensures rising { IsSome (value_size (table_view R.position self.now).encoding) →
+            AreRising (starts_view R.position self.now.hdr.now bases.now) (table_view R.position self.now).count →
+            (k : ℕ) × IsLastUpTo (starts_view R.position self.now.hdr.now bases.now) (table_view R.position self.now).count address k
+            × (result ≡ target_of (header_section_view R.position self.now.hdr.now bases.now) (table_view R.position self.now) k) }
     {
         let mut starts = TableStarts::new(self, bases)?;
         self.lookup_in(&mut starts, address, bases)
@@ -51,10 +51,10 @@ impl<R: Reader> EhHdrTable<'_, R> {
         address: u64,
         bases: &BaseAddresses,
     ) -> Result<Pointer>
-        ensures found { IsFoundBySearch (St.answer starts.old) (table_view R.standing self.now) address
-            (target_of (section_view R.standing self.now.hdr.now bases.now) (table_view R.standing self.now)) result }
-        ensures calls { St.calls starts.new ≤ St.calls starts.old + steps (table_view R.standing self.now).count }
-        ensures not_asked { value_size (table_view R.standing self.now).encoding ≡ None → St.calls starts.new ≡ St.calls starts.old }
+        ensures found { IsFoundBySearch (St.answer starts.old) (table_view R.position self.now) address
+            (target_of (header_section_view R.position self.now.hdr.now bases.now) (table_view R.position self.now)) result }
+        ensures calls { St.calls starts.new ≤ St.calls starts.old + steps (table_view R.position self.now).count }
+        ensures not_asked { value_size (table_view R.position self.now).encoding ≡ None → St.calls starts.new ≡ St.calls starts.old }
         ensures same { St.answer starts.new ≡ St.answer starts.old }
     {
         let size = searchable_size(self.hdr.table_enc)?;
@@ -69,7 +69,7 @@ impl<R: Reader> EhHdrTable<'_, R> {
     /// It takes no memory.
     pub fn pointer_to_offset(&self, ptr: Pointer) -> Result<EhFrameOffset<R::Offset>>
         ensures { map_ok (λ offset. R.Offset.number offset.0) result
-            ≡ offset_of_pointer (R.standing self.now.hdr.now.section).source.greatest self.now.hdr.now.eh_frame_ptr ptr }
+            ≡ offset_of_pointer (R.position self.now.hdr.now.section).source.greatest self.now.hdr.now.eh_frame_ptr ptr }
     {
         let base = self.hdr.eh_frame_ptr.direct()?;
         let address = ptr.direct()?;

@@ -19,9 +19,9 @@ impl<R: Reader> EhHdrTableIter<'_, '_, R> {
     /// no `u64` or no offset of the reader; and with `UnexpectedEof` where so many bytes aren't left. These leave the
     /// iterator as it was. Then as `next`. It takes no memory.
     pub fn nth(&mut self, n: usize) -> Result<Option<(Pointer, Pointer)>>
-        ensures met { MeetsBehind (walk_past (walk_view R.standing self.old) n) (walk_view R.standing self.old) result (walk_view R.standing self.new) }
-        ensures unchanged { (e : Refusal) → walk_past (walk_view R.standing self.old) n ≡ Err e → self.new ≡ self.old }
-        ensures tied { (self.new.hdr.now ≡ self.old.hdr.now) × (self.new.bases.now ≡ self.old.bases.now) }
+        ensures met { MeetsBehind (walk_past (walk_view R.position self.old) n) (walk_view R.position self.old) result (walk_view R.position self.new) }
+        ensures unchanged { (e : Refusal) → walk_past (walk_view R.position self.old) n ≡ Err e → self.new ≡ self.old }
+        ensures same_section_and_bases { (self.new.hdr.now ≡ self.old.hdr.now) × (self.new.bases.now ≡ self.old.bases.now) }
     {
         let size = searchable_size(self.hdr.table_enc)?;
         let rows = n as u64;

@@ -5,7 +5,7 @@ ghost use Rattle.cfi_read_core.specs.declared.error.Error.{Error};
 ghost use Rattle.gimli_cfi.specs.Boundary.{IsBoundaryRow, IsRefusalOfRow};
 ghost use Rattle.gimli_cfi.specs.Steps.{steps};
 ghost use Rattle.gimli_cfi.specs.Headers.{HeaderSection, Table};
-ghost use Rattle.gimli_cfi.specs.Tables.{IsFaithful, ReachesAll, AgreesWithScan, RefusesNoStart};
+ghost use Rattle.gimli_cfi.specs.HeaderTables.{IsFaithful, ReachesAll, AgreesWithScan, RefusesNoStart};
 ghost use Rattle.cfi_unwind.specs.Sections.{Section};
 
 use cfi_read_core::error::Result;

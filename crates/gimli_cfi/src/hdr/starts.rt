@@ -34,7 +34,7 @@ impl<'a, 'bases, R: Reader> TableStarts<'a, 'bases, R> {
     /// The bases are those in `BaseAddresses::eh_frame_hdr`. No start is read yet. It takes no memory.
     pub fn new(table: &EhHdrTable<'a, R>, bases: &'bases BaseAddresses) -> Result<Self>
         ensures searchable { map_ok (λ starts. starts.size) result ≡ ok_or (value_size table.now.hdr.now.table_enc.0) (UnsupportedPointerEncoding table.now.hdr.now.table_enc) }
-        ensures tied { IfOk result (λ starts. (starts.hdr.now ≡ table.now.hdr.now) × (starts.bases.now ≡ bases.now)) }
+        ensures same_section_and_bases { IfOk result (λ starts. (starts.hdr.now ≡ table.now.hdr.now) × (starts.bases.now ≡ bases.now)) }
         ensures fresh { IfOk result (λ starts. starts.calls.calls ≡ 0) }
     {
         let size = searchable_size(table.hdr.table_enc)?;
@@ -50,7 +50,7 @@ impl<'a, 'bases, R: Reader> TableStarts<'a, 'bases, R> {
 impl<R: Reader> StartSource for TableStarts<'_, '_, R> {
     ghost use Rattle.gimli_cfi.specs.Views.{starts_view};
 
-    ghost answer = { λ s. starts_view R.standing s.hdr.now s.bases.now };
+    ghost answer = { λ s. starts_view R.position s.hdr.now s.bases.now };
 
     ghost calls = { λ s. s.calls.calls };
 

@@ -1,6 +1,6 @@
 //! The table of a header.
 ghost use Rattle.std.specs.Prelude.{◌≡◌, ◌≤◌, ⊤, length};
-ghost use Rattle.gimli_cfi.specs.Rows.{rows_left, walk_of};
+ghost use Rattle.gimli_cfi.specs.HeaderRows.{rows_left, walk_of};
 
 use crate::hdr::header::ParsedEhFrameHdr;
 use crate::hdr::iter::EhHdrTableIter;
@@ -31,7 +31,7 @@ impl<R: Reader> Clone for EhHdrTable<'_, R> {
 impl<R: Reader> Copy for EhHdrTable<'_, R> {}
 
 impl<'a, R: Reader> EhHdrTable<'a, R> {
-    ghost use Rattle.gimli_cfi.specs.Views.{section_view, table_view, walk_view};
+    ghost use Rattle.gimli_cfi.specs.Views.{header_section_view, table_view, walk_view};
 
     /// The table of a header that has rows.
     pub(crate) fn new(hdr: &'a ParsedEhFrameHdr<R>) -> Self
@@ -45,8 +45,8 @@ impl<'a, R: Reader> EhHdrTable<'a, R> {
     ///
     /// The bases are those in `BaseAddresses::eh_frame_hdr`; the address size is that which the header was read with.
     pub fn iter<'bases>(&self, bases: &'bases BaseAddresses) -> EhHdrTableIter<'a, 'bases, R>
-        ensures all { walk_view R.standing result ≡ walk_of (section_view R.standing self.now.hdr.now bases.now) (table_view R.standing self.now) }
-        ensures many { length (rows_left (walk_view R.standing result)) ≡ (table_view R.standing self.now).count }
+        ensures all { walk_view R.position result ≡ walk_of (header_section_view R.position self.now.hdr.now bases.now) (table_view R.position self.now) }
+        ensures many { length (rows_left (walk_view R.position result)) ≡ (table_view R.position self.now).count }
     {
         EhHdrTableIter::new(self.hdr, bases)
     }

@@ -25,4 +25,4 @@ returns-in-Ok-clause-fewer g c =
 pub returns-in-Err-clause-met : goal.returns-in-Err-clause-met
 returns-in-Err-clause-met g c =
     let some_left = sym c.is_empty.ensures ∙ c.if-is_empty.false in
-    (refused _ _ _ _ some_left c.in-Err.ensures.0, at_exhausted _ (g.R.Reader.standing c.parse_instruction.new.input) _ c.empty.ensures)
+    (refused _ _ _ _ some_left c.in-Err.ensures.0, at_exhausted _ (g.R.Reader.position c.parse_instruction.new.input) _ c.empty.ensures)

@@ -1,6 +1,6 @@
 use Rattle.std.proofs.lemmas.Option.{IfSome_then}
 use Rattle.cfi_rows.specs.Lines.{wrong_hexadecimal}
-use Rattle.cfi_rows.specs.Answers.{answers}
+use Rattle.cfi_rows.specs.ProgramOutput.{answers}
 use Rattle.cfi_rows.specs.Input.{bytes_of}
 use Rattle.cfi_rows.specs.Written.{Prints}
 use Rattle.cfi_rows.proofs.RunLemmas.{known_of, owes_answer, owes_hexadecimal}

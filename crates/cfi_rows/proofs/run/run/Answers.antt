@@ -1,5 +1,5 @@
 use Rattle.std.proofs.lemmas.Option.{IfSome_then}
-use Rattle.cfi_rows.specs.Answers.{answers}
+use Rattle.cfi_rows.specs.ProgramOutput.{answers}
 use Rattle.cfi_rows.proofs.RequestLemmas.{can_be_answered}
 use Rattle.cfi_rows.proofs.RunLemmas.{run_ends}
 use Rattle.cfi_rows.proofs.run.run.Goals as goal

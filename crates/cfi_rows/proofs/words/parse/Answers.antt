@@ -1,6 +1,6 @@
 use Rattle.std.proofs.Common.{◌∙◌, ap}
 use Rattle.std.specs.Option.{option_and_then}
-use Rattle.cfi_rows.specs.Words.{option_words}
+use Rattle.cfi_rows.specs.CommandLine.{option_words}
 use Rattle.cfi_rows.proofs.WordLemmas.{too_few, four}
 use Rattle.cfi_rows.proofs.words.parse.Goals as goal
 

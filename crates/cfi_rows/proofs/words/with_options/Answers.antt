@@ -1,6 +1,6 @@
 use Rattle.std.proofs.Common.{sym, ◌∙◌, ap, arith}
 use Rattle.std.specs.Option.{option_and_then}
-use Rattle.cfi_rows.specs.Words.{option_words}
+use Rattle.cfi_rows.specs.CommandLine.{option_words}
 use Rattle.cfi_rows.proofs.WordLemmas.{one_more, none_more}
 use Rattle.cfi_rows.proofs.words.with_options.Goals as goal
 

@@ -1,5 +1,5 @@
 use Rattle.std.proofs.Common.{◌≡◌, drop}
-use Rattle.cfi_rows.specs.Words.{texts, option_words}
+use Rattle.cfi_rows.specs.CommandLine.{texts, option_words}
 use Rattle.cfi_rows.proofs.words.with_options.Given as goal
 
 abbrev pub invariant-loop-word : goal.invariant-loop-word

@@ -1,20 +1,20 @@
 use Rattle.std.proofs.Common.{◌≡◌, length}
-use Rattle.cfi_parts.specs.Iterators.{program}
-use Rattle.cfi_parts.specs.Programs.{instructions_left}
-use Rattle.cfi_state.specs.Evaluation.{setting_of}
-use Rattle.cfi_state.specs.Places.{going}
-use Rattle.cfi_state.specs.Runs.{wants_memory}
+use Rattle.cfi_parts.specs.Iterators.{instruction_reader}
+use Rattle.cfi_parts.specs.InstructionReaders.{instructions_left}
+use Rattle.cfi_state.specs.ContextEffects.{setting_of}
+use Rattle.cfi_state.specs.TableStates.{before_last_row}
+use Rattle.cfi_state.specs.Runs.{may_allocate}
 use Rattle.cfi_state.proofs.RunSteps.{LeadsTo}
-use Rattle.cfi_unwind.specs.Tables.{seen}
+use Rattle.cfi_unwind.specs.UnwindTables.{state_in_numbers}
 use Rattle.cfi_unwind.proofs.table.run_to_move.Given as goal
 
 abbrev pub invariant-loop-instruction : goal.invariant-loop-instruction
 invariant-loop-instruction g l =
     let s = setting_of l.parameters g.S.Rules.ArrayLike.limit g.S-Stack-ArrayLike.limit in
-    LeadsTo (wants_memory s g.S.Rules.CopyList.copies_free) s
-    (going (seen g.R.Offset.ReaderOffset.number l.location l.fn.context) (instructions_left (program g.R.Reader.standing l.fn.instructions)))
-    (going (seen g.R.Offset.ReaderOffset.number l.location l.context) (instructions_left (program g.R.Reader.standing l.instructions)))
+    LeadsTo (may_allocate s g.S.Rules.CopyList.copies_free) s
+    (before_last_row (state_in_numbers g.R.Offset.ReaderOffset.number l.location l.fn.context) (instructions_left (instruction_reader g.R.Reader.position l.fn.instructions)))
+    (before_last_row (state_in_numbers g.R.Offset.ReaderOffset.number l.location l.context) (instructions_left (instruction_reader g.R.Reader.position l.instructions)))
     × (l.context.row.start_address ≡ l.fn.context.row.start_address)
 
 abbrev pub decreases-loop-instruction : goal.decreases-loop-instruction
-decreases-loop-instruction g l = length (instructions_left (program g.R.Reader.standing l.instructions)).values
+decreases-loop-instruction g l = length (instructions_left (instruction_reader g.R.Reader.position l.instructions)).values

@@ -1,16 +1,16 @@
 use Rattle.std.proofs.Common.{refl, ap, ◌∙◌, Ok}
 use Rattle.std.proofs.lemmas.Bool.{false≢true}
 use Rattle.std.proofs.lemmas.Result.{err_from_is_err_and}
-use Rattle.cfi_parts.specs.Iterators.{program}
-use Rattle.cfi_parts.specs.Programs.{instructions_left}
-use Rattle.cfi_state.specs.Evaluation.{setting_of}
+use Rattle.cfi_parts.specs.Iterators.{instruction_reader}
+use Rattle.cfi_parts.specs.InstructionReaders.{instructions_left}
+use Rattle.cfi_state.specs.ContextEffects.{setting_of}
 use Rattle.cfi_state.proofs.KeptAnswers.{answers_by_kept}
 use Rattle.cfi_unwind.proofs.TableSteps.{answer-starts, answer-refused, answer-goes-on, answer-row, answer-refusal, answer-none, answer-fewer, answer-fixed, row-inside, row-outside}
 use Rattle.cfi_unwind.proofs.table.unwind_info_for_address.Goals as goal
 
 pub loop-row-init : goal.loop-row-init
 loop-row-init g c = (
-  answer-starts _ _ _ _ _ _ _ c.in_ok-table.ensures.cie refl (ap (λ i. instructions_left (program g.R.Reader.standing i)) c.in_ok-table.ensures.fde) c.in_ok-table.ensures.has_ended,
+  answer-starts _ _ _ _ _ _ _ c.in_ok-table.ensures.cie refl (ap (λ i. instructions_left (instruction_reader g.R.Reader.position i)) c.in_ok-table.ensures.fde) c.in_ok-table.ensures.has_ended,
   c.in_ok-table.ensures.parameters,
 )
 

@@ -29,7 +29,7 @@ loop-index-init g c = record { number = sym (whole_number _ _); same = refl; wei
 pub returns-in_err-byte : goal.returns-in_err-byte
 returns-in_err-byte g c =
     let p = err_from_is_err_and c.from_residual.result c.from_residual.ensures.1 in
-    let before = g.Self.Reader.standing c.loop-index.self in
+    let before = g.Self.Reader.position c.loop-index.self in
     let sound = g.met.Self.Reader.sound c.loop-index.self in
     let is = ap of_byte c.in_err-byte.ensures.0 in
     let ends = turn_ended before.source sound.within before.place c.loop-index.index c.loop-index.weight c.loop-index.value _ c.loop-index.invariant.number c.in_err-byte.field-0.0 is in
@@ -66,7 +66,7 @@ with_sign-requires-clause-room g c =
 
 pub returns-then-byte-lt128 : goal.returns-then-byte-lt128
 returns-then-byte-lt128 g c =
-    let before = g.Self.Reader.standing c.loop-index.self in
+    let before = g.Self.Reader.position c.loop-index.self in
     let sound = g.met.Self.Reader.sound c.loop-index.self in
     let is = ap of_byte c.in_ok-byte.ensures.0 in
     let byte = c.in_ok-byte.byte in
@@ -85,8 +85,8 @@ returns-then-byte-lt128 g c =
 
 pub loop-index-preserved : goal.loop-index-preserved
 loop-index-preserved g c =
-    let old = g.Self.Reader.standing c.loop-index.self in
-    let new = g.Self.Reader.standing c.read_u8.new.self in
+    let old = g.Self.Reader.position c.loop-index.self in
+    let new = g.Self.Reader.position c.read_u8.new.self in
     let sound = g.met.Self.Reader.sound c.loop-index.self in
     let is = ap of_byte c.in_ok-byte.ensures.0 in
     let next : new.place ≡ old.place + 1 = sym (ap place_of c.in_ok-byte.ensures.0) ∙ (byte_there old.source old.place c.in_ok-byte.byte sound.within is).1 in
@@ -113,7 +113,7 @@ loop-index-preserved g c =
 pub returns-in_err-tenth : goal.returns-in_err-tenth
 returns-in_err-tenth g c =
     let p = err_from_is_err_and c.from_residual-in_err-tenth.result c.from_residual-in_err-tenth.ensures.1 in
-    let before = g.Self.Reader.standing c.loop-index.self in
+    let before = g.Self.Reader.position c.loop-index.self in
     let sound = g.met.Self.Reader.sound c.loop-index.self in
     let is = ap of_byte c.in_err-tenth.ensures.0 in
     let ends = turn_ended before.source sound.within before.place c.loop-index.index c.loop-index.weight c.loop-index.value _ c.loop-index.invariant.number c.in_err-tenth.field-0.0 is in
@@ -122,7 +122,7 @@ returns-in_err-tenth g c =
 
 pub returns-then-tenth-ne127 : goal.returns-then-tenth-ne127
 returns-then-tenth-ne127 g c =
-    let before = g.Self.Reader.standing c.loop-index.self in
+    let before = g.Self.Reader.position c.loop-index.self in
     let sound = g.met.Self.Reader.sound c.loop-index.self in
     let nine : c.loop-index.index ≡ 9 = omega (arith, c.loop-index.invariant.few, c.loop-index-test.false) in
     let is = ap of_byte c.in_ok-tenth.ensures.0 in
@@ -133,7 +133,7 @@ returns-then-tenth-ne127 g c =
 
 pub returns : goal.returns
 returns g c =
-    let before = g.Self.Reader.standing c.loop-index.self in
+    let before = g.Self.Reader.position c.loop-index.self in
     let sound = g.met.Self.Reader.sound c.loop-index.self in
     let tenth = c.in_ok-tenth.tenth in
     let nine : c.loop-index.index ≡ 9 = omega (arith, c.loop-index.invariant.few, c.loop-index-test.false) in

@@ -7,10 +7,10 @@ use Rattle.cfi_read_core.proofs.reader.Reader.read_sleb128.Given as goal
 -- what is left gives the rest of the number, above the bits that were read
 abbrev pub invariant-loop-index : goal.invariant-loop-index
 invariant-loop-index g l =
-    let standing = g.Self.Reader.standing in
+    let position = g.Self.Reader.position in
     record {
-      number : left_gives (9 - l.index) l.weight l.value (bytes_left (standing l.self)) (standing l.self).place ≡ signed_leb128 (standing l.fn.self).source (standing l.fn.self).place;
-      same : (standing l.self).source ≡ (standing l.fn.self).source;
+      number : left_gives (9 - l.index) l.weight l.value (bytes_left (position l.self)) (position l.self).place ≡ signed_leb128 (position l.fn.self).source (position l.fn.self).place;
+      same : (position l.self).source ≡ (position l.fn.self).source;
       weighs : l.weight ≡ 128 ^ l.index;
       bound : l.value < l.weight;
       few : l.index ≤ 9;

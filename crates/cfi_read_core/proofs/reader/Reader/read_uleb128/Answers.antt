@@ -24,7 +24,7 @@ loop-index-init g c = record { number = sym (whole_number _ _); same = refl; wei
 pub returns-in_err-byte : goal.returns-in_err-byte
 returns-in_err-byte g c =
     let p = err_from_is_err_and c.from_residual.result c.from_residual.ensures.1 in
-    let before = g.Self.Reader.standing c.loop-index.self in
+    let before = g.Self.Reader.position c.loop-index.self in
     let sound = g.met.Self.Reader.sound c.loop-index.self in
     let is = ap value c.in_err-byte.ensures.0 in
     let ends = turn_ended before.source sound.within before.place c.loop-index.index c.loop-index.weight c.loop-index.value _ c.loop-index.invariant.number c.in_err-byte.field-0.0 is in
@@ -33,7 +33,7 @@ returns-in_err-byte g c =
 
 pub returns-then-byte-gt1 : goal.returns-then-byte-gt1
 returns-then-byte-gt1 g c =
-    let before = g.Self.Reader.standing c.loop-index.self in
+    let before = g.Self.Reader.position c.loop-index.self in
     let sound = g.met.Self.Reader.sound c.loop-index.self in
     let is = ap value c.in_ok-byte.ensures.0 in
     let ends = turn_too_large before.source sound.within before.place c.loop-index.index c.loop-index.weight c.loop-index.value _ c.loop-index.invariant.number c.in_ok-byte.byte is c.if-index-eq9.true c.if-byte-gt1.true in
@@ -56,7 +56,7 @@ overflow_add-value g c =
 
 pub returns-then-byte-lt128 : goal.returns-then-byte-lt128
 returns-then-byte-lt128 g c =
-    let before = g.Self.Reader.standing c.loop-index.self in
+    let before = g.Self.Reader.position c.loop-index.self in
     let sound = g.met.Self.Reader.sound c.loop-index.self in
     let is = ap value c.in_ok-byte.ensures.0 in
     let tenth : c.loop-index.index ≡ 9 → c.in_ok-byte.byte ≤ 1 = λ e. ⊎_elim (λ both. both.1) (λ other. absurd (other e)) c.else-index-eq9.either in
@@ -77,8 +77,8 @@ overflow_mul-weight g c =
 
 pub loop-index-preserved : goal.loop-index-preserved
 loop-index-preserved g c =
-    let old = g.Self.Reader.standing c.loop-index.self in
-    let new = g.Self.Reader.standing c.read_u8.new.self in
+    let old = g.Self.Reader.position c.loop-index.self in
+    let new = g.Self.Reader.position c.read_u8.new.self in
     let sound = g.met.Self.Reader.sound c.loop-index.self in
     let is = ap value c.in_ok-byte.ensures.0 in
     let tenth : c.loop-index.index ≡ 9 → c.in_ok-byte.byte ≤ 1 = λ e. ⊎_elim (λ both. both.1) (λ other. absurd (other e)) c.else-index-eq9.either in

@@ -1,6 +1,6 @@
 use Rattle.std.proofs.Common.{sym, ◌∙◌, subst}
 use Rattle.std.specs.Option.{IfSome}
-use Rattle.cfi_state.specs.Evaluation.{Changes, setting_of}
+use Rattle.cfi_state.specs.ContextEffects.{Changes, setting_of}
 use Rattle.cfi_state.proofs.Evaluation.{IsSet, sets-given}
 use Rattle.cfi_state.proofs.table.machine.change.Goals as goal
 

@@ -10,8 +10,8 @@ returns-in_default g c = (augmentation_none _ _ _ _ (none_taken _ _ c.in_default
 pub returns-then-first-eq122 : goal.returns-then-first-eq122
 returns-then-first-eq122 g c =
     let taken = byte_taken (g.met.R.Reader.sound c.args.text) c.in-Ok.ensures in (
-      augmentation_announced _ _ _ _ _ _ taken c.if-first-eq122.true ∙ c.read_announced.ensures.0,
-      c.read_announced.ensures.1,
+      augmentation_announced _ _ _ _ _ _ taken c.if-first-eq122.true ∙ c.read_letters_with_data.ensures.0,
+      c.read_letters_with_data.ensures.1,
     )
 
 pub returns-in_err-read_letters : goal.returns-in_err-read_letters

@@ -1,11 +1,11 @@
 use Rattle.std.proofs.Common.{arith, ap}
-use Rattle.cfi_read_core.specs.Reading.{Standing}
+use Rattle.cfi_read_core.specs.Reading.{Position}
 use Rattle.cfi_unwind.proofs.EntryReads.{onward_encoding_byte}
 use Rattle.cfi_unwind.proofs.Within.{not_before}
 use Rattle.cfi_unwind.proofs.entry.augmentation.read_letter.Goals as goal
 
 pub parse_encoded_pointer-requires-clause-behind : goal.parse_encoded_pointer-requires-clause-behind
 parse_encoded_pointer-requires-clause-behind g c =
-    let begins = ap (λ (s : Standing). s.place) c.section.ensures in
+    let begins = ap (λ (s : Position). s.place) c.section.ensures in
     let behind = not_before onward_encoding_byte c.parse_pointer_encoding-in-80.ensures in
     omega (arith, c.requires)

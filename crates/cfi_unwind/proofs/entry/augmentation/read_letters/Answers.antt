@@ -9,8 +9,8 @@ use Rattle.cfi_unwind.proofs.entry.augmentation.read_letters.Goals as goal
 
 pub returns-in_err-known : goal.returns-in_err-known
 returns-in_err-known g c =
-    let pointers = pointer_context (section_in g.S._UnwindSectionPrivate.frame c.args.context.now) None c.args.address_size.bytes in
-    let stands = g.R.Reader.standing c.loop-byte.input in
+    let pointers = pointer_context (section_in g.S._UnwindSectionPrivate.view c.args.at.now) None c.args.address_size.bytes in
+    let stands = g.R.Reader.position c.loop-byte.input in
     let gives : c.from_residual.result ≡ Err c.in_err-known.field-0.0 = search rules in
     let taken = byte_taken (g.met.R.Reader.sound c.loop-byte.text) c.in-Ok.ensures in
     rw gives (
@@ -23,8 +23,8 @@ loop-byte-smaller g c = fewer_left _ _ (g.met.R.Reader.sound c.loop-byte.text) c
 
 pub loop-byte-preserved : goal.loop-byte-preserved
 loop-byte-preserved g c =
-    let pointers = pointer_context (section_in g.S._UnwindSectionPrivate.frame c.args.context.now) None c.args.address_size.bytes in
-    let stands = g.R.Reader.standing c.loop-byte.input in
+    let pointers = pointer_context (section_in g.S._UnwindSectionPrivate.view c.args.at.now) None c.args.address_size.bytes in
+    let stands = g.R.Reader.position c.loop-byte.input in
     let taken = byte_taken (g.met.R.Reader.sound c.loop-byte.text) c.in-Ok.ensures in
     let behind = not_before (onward_letter pointers c.in-Ok.byte (augmentation_view c.loop-byte.known)) c.in_ok-known.ensures in
     record {
@@ -37,7 +37,7 @@ loop-byte-preserved g c =
 
 pub returns : goal.returns
 returns g c =
-    let pointers = pointer_context (section_in g.S._UnwindSectionPrivate.frame c.args.context.now) None c.args.address_size.bytes in (
-      sym c.loop-byte.invariant.same ∙ letters_end pointers _ (g.R.Reader.standing c.loop-byte.text) _ _ (none_taken _ _ c.in_default.ensures),
+    let pointers = pointer_context (section_in g.S._UnwindSectionPrivate.view c.args.at.now) None c.args.address_size.bytes in (
+      sym c.loop-byte.invariant.same ∙ letters_end pointers _ (g.R.Reader.position c.loop-byte.text) _ _ (none_taken _ _ c.in_default.ensures),
       c.loop-byte.invariant.source,
     )

@@ -1,5 +1,5 @@
 use Rattle.std.proofs.Common.{◌≡◌, ◌≤◌, None}
-use Rattle.cfi_read_core.specs.Readers.{bytes_left, left}
+use Rattle.cfi_read_core.specs.Readers.{bytes_left, remaining}
 use Rattle.cfi_unwind.specs.Sections.{pointer_context}
 use Rattle.cfi_unwind.specs.Cies.{letters}
 use Rattle.cfi_unwind.specs.Views.{augmentation_view, section_in}
@@ -8,14 +8,14 @@ use Rattle.cfi_unwind.proofs.entry.augmentation.read_letters.Given as goal
 -- what the letters that are left give from here is what all give from the start
 abbrev pub invariant-loop-byte : goal.invariant-loop-byte
 invariant-loop-byte g l =
-    let standing = g.R.Reader.standing in
-    let pointers = pointer_context (section_in g.S._UnwindSectionPrivate.frame l.context) None l.address_size.bytes in
+    let position = g.R.Reader.position in
+    let pointers = pointer_context (section_in g.S._UnwindSectionPrivate.view l.at) None l.address_size.bytes in
     record {
-      same : letters pointers (bytes_left (standing l.text)) (augmentation_view l.known) (standing l.input).source (standing l.input).place
-          ≡ letters pointers (bytes_left (standing l.initial.text)) (augmentation_view l.initial.known) (standing l.initial.input).source (standing l.initial.input).place;
-      source : (standing l.input).source ≡ (standing l.initial.input).source;
-      behind : (g.S._UnwindSectionPrivate.frame l.context.section).standing.place ≤ (standing l.input).place;
+      same : letters pointers (bytes_left (position l.text)) (augmentation_view l.known) (position l.input).source (position l.input).place
+          ≡ letters pointers (bytes_left (position l.initial.text)) (augmentation_view l.initial.known) (position l.initial.input).source (position l.initial.input).place;
+      source : (position l.input).source ≡ (position l.initial.input).source;
+      behind : (g.S._UnwindSectionPrivate.view l.at.section).position.place ≤ (position l.input).place;
     }
 
 abbrev pub decreases-loop-byte : goal.decreases-loop-byte
-decreases-loop-byte g l = left (g.R.Reader.standing l.text)
+decreases-loop-byte g l = remaining (g.R.Reader.position l.text)

@@ -6,7 +6,7 @@ use Rattle.cfi_unwind.proofs.entry.cie.read_cie.Goals as goal
 
 pub read_augmentation-requires : goal.read_augmentation-requires
 read_augmentation-requires g c =
-    let section = section_in g.S._UnwindSectionPrivate.frame c.args.context.now in
+    let section = section_in g.S._UnwindSectionPrivate.view c.args.at.now in
     let version = behind_of (onward_unsigned _) c.read_u8.ensures c.requires in
     let text = behind_of onward_text c.read_null_terminated_slice.ensures.read version in
     let sizes = behind_of (onward_sizes section c.in_ok-version.version) c.read_sizes.ensures text in
@@ -16,7 +16,7 @@ read_augmentation-requires g c =
 
 pub returns-clause-part : goal.returns-clause-part
 returns-clause-part g c =
-    let section = section_in g.S._UnwindSectionPrivate.frame c.args.context.now in
+    let section = section_in g.S._UnwindSectionPrivate.view c.args.at.now in
     let version = behind_of (onward_unsigned _) c.read_u8.ensures c.requires in
     let text = behind_of onward_text c.read_null_terminated_slice.ensures.read version in
     let sizes = behind_of (onward_sizes section c.in_ok-version.version) c.read_sizes.ensures text in

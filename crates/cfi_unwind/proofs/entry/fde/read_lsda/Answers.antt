@@ -1,5 +1,5 @@
 use Rattle.std.proofs.Common.{ap, arith}
-use Rattle.cfi_read_core.specs.Reading.{Standing}
+use Rattle.cfi_read_core.specs.Reading.{Position}
 use Rattle.cfi_read_core.proofs.Onward.{onward_offset_leb128}
 use Rattle.cfi_unwind.proofs.Within.{behind_of, split_of}
 use Rattle.cfi_unwind.proofs.entry.fde.read_lsda.Goals as goal
@@ -8,6 +8,6 @@ pub parse_encoded_pointer-requires-clause-behind : goal.parse_encoded_pointer-re
 parse_encoded_pointer-requires-clause-behind g c =
     let sound = g.met.R.Reader.sound c.read_offset.new.input in
     let whole = behind_of onward_offset_leb128 c.read_offset.ensures c.requires in
-    let begins = ap (λ (s : Standing). s.place) c.section.ensures in
+    let begins = ap (λ (s : Position). s.place) c.section.ensures in
     let inside = split_of _ sound.ordered c.in_ok-data.ensures.read.0 c.in_ok-data.ensures.part whole in
     omega (arith, inside.first)

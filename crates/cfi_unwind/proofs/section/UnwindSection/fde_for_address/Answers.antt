@@ -12,18 +12,18 @@ returns-in_err-entry-clause-scan g c =
     let gives : c.from_residual.result ≡ Err c.in_err-entry.field-0.0 = search rules in
     let met = rw (c.loop-get_cie.invariant.same_section, c.loop-get_cie.invariant.same_bases) at c.in_err-entry.ensures.met.0 in (
       c.loop-get_cie.get_cie,
-      c.loop-get_cie.invariant.leads_back _ _ (scans_at _ _ _ met (ap (map_ok (fde_view g.R.Reader.standing g.R.Offset.ReaderOffset.number)) gives) (scans_refusal _ _ _ _ _)),
+      c.loop-get_cie.invariant.leads_back _ _ (scans_at _ _ _ met (ap (map_ok (fde_view g.R.Reader.position g.R.Offset.ReaderOffset.number)) gives) (scans_refusal _ _ _ _ _)),
     )
 
 pub returns-in_err-cie-clause-scan : goal.returns-in_err-cie-clause-scan
 returns-in_err-cie-clause-scan g c =
     let gives : c.from_residual-in_err-cie.result ≡ Err c.in_err-cie.field-0.0 = search rules in
-    let section = section_of (g.Self._UnwindSectionPrivate.frame c.args.self.now) c.args.bases.now in
-    let others = entries_left section (g.R.Reader.standing c.next.new.self.input).place in
+    let section = section_of (g.Self._UnwindSectionPrivate.view c.args.self.now) c.args.bases.now in
+    let others = entries_left section (g.R.Reader.position c.next.new.self.input).place in
     let met = rw (c.next.ensures.section, c.next.ensures.bases, c.loop-get_cie.invariant.same_section, c.loop-get_cie.invariant.same_bases, c.in-Some.is, c.in-Fde.is) at c.in_ok-entry.ensures.met in (
       c.get_cie.new.self,
       c.loop-get_cie.invariant.leads_back _ _
-          (scans_at _ _ _ met (ap (map_ok (fde_view g.R.Reader.standing g.R.Offset.ReaderOffset.number)) gives) (scans_refused_fde _ section _ (partial_of g.R.Reader.standing g.R.Offset.ReaderOffset.number c.in-Fde.partial.found c.in-Fde.partial.cie_offset) others (Err c.in_err-cie.field-0.0) _ _ (record {
+          (scans_at _ _ _ met (ap (map_ok (fde_view g.R.Reader.position g.R.Offset.ReaderOffset.number)) gives) (scans_refused_fde _ section _ (partial_of g.R.Reader.position g.R.Offset.ReaderOffset.number c.in-Fde.partial.found c.in-Fde.partial.cie_offset) others (Err c.in_err-cie.field-0.0) _ _ (record {
             shown_section = _;
             shown_bases = _;
             asked = _;
@@ -31,7 +31,7 @@ returns-in_err-cie-clause-scan g c =
             at_section = refl;
             at_bases = search;
             at_offset = search (ap g.R.Offset.ReaderOffset.number (g.met.Self.Offset.UnwindOffset.inverse _ _ c.from.ensures));
-            seen = search (ap (map_ok (cie_view g.R.Reader.standing g.R.Offset.ReaderOffset.number)) c.in_err-cie.was);
+            seen = search (ap (map_ok (cie_view g.R.Reader.position g.R.Offset.ReaderOffset.number)) c.in_err-cie.was);
             call = c.get_cie.ensures;
           }) _ refl)),
     )
@@ -39,14 +39,14 @@ returns-in_err-cie-clause-scan g c =
 pub returns-in_err-fde-clause-scan : goal.returns-in_err-fde-clause-scan
 returns-in_err-fde-clause-scan g c =
     let gives : c.from_residual-in_err-fde.result ≡ Err c.in_err-fde.field-0.0 = search rules in
-    let section = section_of (g.Self._UnwindSectionPrivate.frame c.args.self.now) c.args.bases.now in
-    let others = entries_left section (g.R.Reader.standing c.next.new.self.input).place in
+    let section = section_of (g.Self._UnwindSectionPrivate.view c.args.self.now) c.args.bases.now in
+    let others = entries_left section (g.R.Reader.position c.next.new.self.input).place in
     let met = rw (c.next.ensures.section, c.next.ensures.bases, c.loop-get_cie.invariant.same_section, c.loop-get_cie.invariant.same_bases, c.in-Some.is, c.in-Fde.is) at c.in_ok-entry.ensures.met in
-    let tied = rw (c.in-Some.is, c.in-Fde.is) at c.in_ok-entry.ensures.tied in
-    let read = rw (tied.0 ∙ c.loop-get_cie.invariant.same_section, tied.1 ∙ c.loop-get_cie.invariant.same_bases) at c.in_err-fde.ensures.read in (
+    let same_section_and_bases = rw (c.in-Some.is, c.in-Fde.is) at c.in_ok-entry.ensures.same_section_and_bases in
+    let read = rw (same_section_and_bases.0 ∙ c.loop-get_cie.invariant.same_section, same_section_and_bases.1 ∙ c.loop-get_cie.invariant.same_bases) at c.in_err-fde.ensures.read in (
       c.get_cie.new.self,
       c.loop-get_cie.invariant.leads_back _ _
-          (scans_at _ _ _ met (ap (map_ok (fde_view g.R.Reader.standing g.R.Offset.ReaderOffset.number)) gives) (scans_refused_fde _ section _ (partial_of g.R.Reader.standing g.R.Offset.ReaderOffset.number c.in-Fde.partial.found c.in-Fde.partial.cie_offset) others (Ok (cie_view g.R.Reader.standing g.R.Offset.ReaderOffset.number c.in_ok-cie.cie)) _ _ (record {
+          (scans_at _ _ _ met (ap (map_ok (fde_view g.R.Reader.position g.R.Offset.ReaderOffset.number)) gives) (scans_refused_fde _ section _ (partial_of g.R.Reader.position g.R.Offset.ReaderOffset.number c.in-Fde.partial.found c.in-Fde.partial.cie_offset) others (Ok (cie_view g.R.Reader.position g.R.Offset.ReaderOffset.number c.in_ok-cie.cie)) _ _ (record {
             shown_section = _;
             shown_bases = _;
             asked = _;
@@ -54,21 +54,21 @@ returns-in_err-fde-clause-scan g c =
             at_section = refl;
             at_bases = refl;
             at_offset = ap g.R.Offset.ReaderOffset.number (g.met.Self.Offset.UnwindOffset.inverse _ _ c.from.ensures);
-            seen = ap (map_ok (cie_view g.R.Reader.standing g.R.Offset.ReaderOffset.number)) c.in_ok-cie.was;
+            seen = ap (map_ok (cie_view g.R.Reader.position g.R.Offset.ReaderOffset.number)) c.in_ok-cie.was;
             call = c.get_cie.ensures;
           }) _ (sym read))),
     )
 
 pub returns-then-contains-clause-scan : goal.returns-then-contains-clause-scan
 returns-then-contains-clause-scan g c =
-    let section = section_of (g.Self._UnwindSectionPrivate.frame c.args.self.now) c.args.bases.now in
-    let others = entries_left section (g.R.Reader.standing c.next.new.self.input).place in
+    let section = section_of (g.Self._UnwindSectionPrivate.view c.args.self.now) c.args.bases.now in
+    let others = entries_left section (g.R.Reader.position c.next.new.self.input).place in
     let met = rw (c.next.ensures.section, c.next.ensures.bases, c.loop-get_cie.invariant.same_section, c.loop-get_cie.invariant.same_bases, c.in-Some.is, c.in-Fde.is) at c.in_ok-entry.ensures.met in
-    let tied = rw (c.in-Some.is, c.in-Fde.is) at c.in_ok-entry.ensures.tied in
-    let read = rw (tied.0 ∙ c.loop-get_cie.invariant.same_section, tied.1 ∙ c.loop-get_cie.invariant.same_bases) at c.in_ok-fde.ensures.read in (
+    let same_section_and_bases = rw (c.in-Some.is, c.in-Fde.is) at c.in_ok-entry.ensures.same_section_and_bases in
+    let read = rw (same_section_and_bases.0 ∙ c.loop-get_cie.invariant.same_section, same_section_and_bases.1 ∙ c.loop-get_cie.invariant.same_bases) at c.in_ok-fde.ensures.read in (
       c.get_cie.new.self,
       c.loop-get_cie.invariant.leads_back _ _
-          (scans_at _ _ _ met refl (scans_found _ section _ (partial_of g.R.Reader.standing g.R.Offset.ReaderOffset.number c.in-Fde.partial.found c.in-Fde.partial.cie_offset) others (Ok (cie_view g.R.Reader.standing g.R.Offset.ReaderOffset.number c.in_ok-cie.cie)) _ _ (record {
+          (scans_at _ _ _ met refl (scans_found _ section _ (partial_of g.R.Reader.position g.R.Offset.ReaderOffset.number c.in-Fde.partial.found c.in-Fde.partial.cie_offset) others (Ok (cie_view g.R.Reader.position g.R.Offset.ReaderOffset.number c.in_ok-cie.cie)) _ _ (record {
             shown_section = _;
             shown_bases = _;
             asked = _;
@@ -76,7 +76,7 @@ returns-then-contains-clause-scan g c =
             at_section = refl;
             at_bases = refl;
             at_offset = ap g.R.Offset.ReaderOffset.number (g.met.Self.Offset.UnwindOffset.inverse _ _ c.from.ensures);
-            seen = ap (map_ok (cie_view g.R.Reader.standing g.R.Offset.ReaderOffset.number)) c.in_ok-cie.was;
+            seen = ap (map_ok (cie_view g.R.Reader.position g.R.Offset.ReaderOffset.number)) c.in_ok-cie.was;
             call = c.get_cie.ensures;
           }) _ (sym read) (sym c.contains.ensures ∙ c.if-contains.true))),
     )
@@ -96,17 +96,17 @@ returns-then-contains-clause-cie g c =
 
 pub loop-get_cie-preserved-else-contains : goal.loop-get_cie-preserved-else-contains
 loop-get_cie-preserved-else-contains g c =
-    let section = section_of (g.Self._UnwindSectionPrivate.frame c.args.self.now) c.args.bases.now in
-    let others = entries_left section (g.R.Reader.standing c.next.new.self.input).place in
+    let section = section_of (g.Self._UnwindSectionPrivate.view c.args.self.now) c.args.bases.now in
+    let others = entries_left section (g.R.Reader.position c.next.new.self.input).place in
     let met = rw (c.next.ensures.section, c.next.ensures.bases, c.loop-get_cie.invariant.same_section, c.loop-get_cie.invariant.same_bases, c.in-Some.is, c.in-Fde.is) at c.in_ok-entry.ensures.met in
-    let tied = rw (c.in-Some.is, c.in-Fde.is) at c.in_ok-entry.ensures.tied in
-    let read = rw (tied.0 ∙ c.loop-get_cie.invariant.same_section, tied.1 ∙ c.loop-get_cie.invariant.same_bases) at c.in_ok-fde.ensures.read in
+    let same_section_and_bases = rw (c.in-Some.is, c.in-Fde.is) at c.in_ok-entry.ensures.same_section_and_bases in
+    let read = rw (same_section_and_bases.0 ∙ c.loop-get_cie.invariant.same_section, same_section_and_bases.1 ∙ c.loop-get_cie.invariant.same_bases) at c.in_ok-fde.ensures.read in
     record {
       callable = search of_calls;
       same_section = c.next.ensures.section ∙ c.loop-get_cie.invariant.same_section;
       same_bases = c.next.ensures.bases ∙ c.loop-get_cie.invariant.same_bases;
       leads_back = λ r last behind. c.loop-get_cie.invariant.leads_back r last
-          (scans_at _ _ _ met refl (scans_passed _ section _ (partial_of g.R.Reader.standing g.R.Offset.ReaderOffset.number c.in-Fde.partial.found c.in-Fde.partial.cie_offset) others (Ok (cie_view g.R.Reader.standing g.R.Offset.ReaderOffset.number c.in_ok-cie.cie)) _ _ (record {
+          (scans_at _ _ _ met refl (scans_passed _ section _ (partial_of g.R.Reader.position g.R.Offset.ReaderOffset.number c.in-Fde.partial.found c.in-Fde.partial.cie_offset) others (Ok (cie_view g.R.Reader.position g.R.Offset.ReaderOffset.number c.in_ok-cie.cie)) _ _ (record {
             shown_section = _;
             shown_bases = _;
             asked = _;
@@ -114,15 +114,15 @@ loop-get_cie-preserved-else-contains g c =
             at_section = refl;
             at_bases = refl;
             at_offset = ap g.R.Offset.ReaderOffset.number (g.met.Self.Offset.UnwindOffset.inverse _ _ c.from.ensures);
-            seen = ap (map_ok (cie_view g.R.Reader.standing g.R.Offset.ReaderOffset.number)) c.in_ok-cie.was;
+            seen = ap (map_ok (cie_view g.R.Reader.position g.R.Offset.ReaderOffset.number)) c.in_ok-cie.was;
             call = c.get_cie.ensures;
           }) _ r last (sym read) (sym c.contains.ensures ∙ c.if-contains.false) behind));
     }
 
 pub loop-get_cie-preserved : goal.loop-get_cie-preserved
 loop-get_cie-preserved g c =
-    let section = section_of (g.Self._UnwindSectionPrivate.frame c.args.self.now) c.args.bases.now in
-    let others = entries_left section (g.R.Reader.standing c.next.new.self.input).place in
+    let section = section_of (g.Self._UnwindSectionPrivate.view c.args.self.now) c.args.bases.now in
+    let others = entries_left section (g.R.Reader.position c.next.new.self.input).place in
     let met = rw (c.next.ensures.section, c.next.ensures.bases, c.loop-get_cie.invariant.same_section, c.loop-get_cie.invariant.same_bases, c.in-Some.is, c.in_default-entry.is) at c.in_ok-entry.ensures.met in
     record {
       callable = c.loop-get_cie.invariant.callable;

@@ -3,23 +3,23 @@ use denote.Param.Always.{always_mut}
 use Rattle.cfi_unwind.specs.Sections.{section_of}
 use Rattle.cfi_unwind.specs.Entries.{entries, entries_left}
 use Rattle.cfi_unwind.specs.Walks.{items}
-use Rattle.cfi_unwind.specs.Asking.{Asks, Scans}
+use Rattle.cfi_unwind.specs.GetCieCalls.{GetCieCall, Scans}
 use Rattle.cfi_unwind.specs.Views.{cie_view}
 use Rattle.cfi_unwind.proofs.section.UnwindSection.fde_for_address.Given as goal
 
 -- the entries that are left make the answer of all
 abbrev pub invariant-loop-get_cie : goal.invariant-loop-get_cie
 invariant-loop-get_cie g l =
-    let section = section_of (g.Self._UnwindSectionPrivate.frame l.self) l.bases in
-    let standing = g.R.Reader.standing in
-    let asks = Asks g.F.FnMut (λ o. g.R.Offset.ReaderOffset.number (g.Self.Offset.UnwindOffset.offset o)) (cie_view standing g.R.Offset.ReaderOffset.number) l.self l.bases in
+    let section = section_of (g.Self._UnwindSectionPrivate.view l.self) l.bases in
+    let position = g.R.Reader.position in
+    let asks = GetCieCall g.F.FnMut (λ o. g.R.Offset.ReaderOffset.number (g.Self.Offset.UnwindOffset.offset o)) (cie_view position g.R.Offset.ReaderOffset.number) l.self l.bases in
     record {
       callable : always_mut g.F.FnMut l.initial.get_cie → always_mut g.F.FnMut l.get_cie;
       same_section : l.entries.section ≡ l.self;
       same_bases : l.entries.bases.now ≡ l.bases;
-      leads_back : (r : _) (last : _) → Scans asks section l.address (entries_left section (standing l.entries.input).place) l.get_cie r last → Scans asks section l.address (entries section) l.initial.get_cie r last;
+      leads_back : (r : _) (last : _) → Scans asks section l.address (entries_left section (position l.entries.input).place) l.get_cie r last → Scans asks section l.address (entries section) l.initial.get_cie r last;
     }
 
 abbrev pub decreases-loop-get_cie : goal.decreases-loop-get_cie
 decreases-loop-get_cie g l =
-    length (items (entries_left (section_of (g.Self._UnwindSectionPrivate.frame l.entries.section) l.entries.bases.now) (g.R.Reader.standing l.entries.input).place))
+    length (items (entries_left (section_of (g.Self._UnwindSectionPrivate.view l.entries.section) l.entries.bases.now) (g.R.Reader.position l.entries.input).place))

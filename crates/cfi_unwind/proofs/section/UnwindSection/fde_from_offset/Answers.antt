@@ -7,10 +7,10 @@ pub returns-in_err-partial-clause-read : goal.returns-in_err-partial-clause-read
 returns-in_err-partial-clause-read g c =
     let gives : c.from_residual.result ≡ Err c.in_err-partial.field-0.0 = search rules in (
       c.args.get_cie,
-      rw (sym c.in_err-partial.ensures.read) (ap (map_ok (fde_view g.R.Reader.standing g.R.Offset.ReaderOffset.number)) gives, refl),
+      rw (sym c.in_err-partial.ensures.read) (ap (map_ok (fde_view g.R.Reader.position g.R.Offset.ReaderOffset.number)) gives, refl),
     )
 
 pub returns-clause-read : goal.returns-clause-read
 returns-clause-read g c =
-    let tied = c.in_ok-partial.ensures.tied in
-    rw (sym c.in_ok-partial.ensures.read) (rw (tied.0, tied.1) at c.parse.ensures.read)
+    let same_section_and_bases = c.in_ok-partial.ensures.same_section_and_bases in
+    rw (sym c.in_ok-partial.ensures.read) (rw (same_section_and_bases.0, same_section_and_bases.1) at c.parse.ensures.read)

@@ -22,7 +22,7 @@ returns-in_err-cie-clause-read g c =
           seen = cc c.in_err-cie.was;
           call = c.get_cie.ensures;
         },
-        ap (map_ok (fde_view g.R.Reader.standing number)) gives,
+        ap (map_ok (fde_view g.R.Reader.position number)) gives,
       ),
     )
 
@@ -31,7 +31,7 @@ returns-clause-read g c =
     let number = g.R.Offset.ReaderOffset.number in (
       _,
       (
-        Ok (cie_view g.R.Reader.standing number c.in_ok-cie.cie),
+        Ok (cie_view g.R.Reader.position number c.in_ok-cie.cie),
         record {
           shown_section = _;
           shown_bases = _;
@@ -40,7 +40,7 @@ returns-clause-read g c =
           at_section = refl;
           at_bases = refl;
           at_offset = ap number c.cie_offset.ensures;
-          seen = ap (map_ok (cie_view g.R.Reader.standing number)) c.in_ok-cie.was;
+          seen = ap (map_ok (cie_view g.R.Reader.position number)) c.in_ok-cie.was;
           call = c.get_cie.ensures;
         },
         c.with_cie.ensures.read,

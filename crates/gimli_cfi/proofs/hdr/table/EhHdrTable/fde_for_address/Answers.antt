@@ -10,6 +10,6 @@ returns-in_err-target-clause-found g c =
       record {
         target = Err c.in_err-target.field-0.0;
         searched = c.in_err-target.ensures.found;
-        read = (ap (map_ok (fde_view g.R.Reader.standing g.R.Offset.ReaderOffset.number)) gives, refl);
+        read = (ap (map_ok (fde_view g.R.Reader.position g.R.Offset.ReaderOffset.number)) gives, refl);
       },
     )

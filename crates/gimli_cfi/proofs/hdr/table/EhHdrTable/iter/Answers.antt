@@ -1,6 +1,6 @@
 use Rattle.std.proofs.Common.{◌∙◌, ap, length}
 use Rattle.gimli_cfi.proofs.RowWalk.{as_many}
-use Rattle.gimli_cfi.specs.Rows.{Walk, rows_left}
+use Rattle.gimli_cfi.specs.HeaderRows.{Walk, rows_left}
 use Rattle.gimli_cfi.proofs.hdr.table.EhHdrTable.iter.Goals as goal
 
 pub returns-clause-many : goal.returns-clause-many

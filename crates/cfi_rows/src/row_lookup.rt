@@ -1,0 +1,133 @@
+//! The answer to a request.
+ghost use Rattle.std.specs.Prelude.{◌≡◌, Some};
+ghost use Rattle.cfi_read_core.specs.declared.error.Error.{Error as Refusal};
+ghost use Rattle.cfi_read_core.specs.Readers.{map_ok};
+ghost use Rattle.cfi_read_core.specs.Addresses.{IsAddressSize};
+ghost use Rattle.cfi_state.specs.Numbered.{map_row};
+ghost use Rattle.gimli_cfi.specs.Headers.{header_section};
+ghost use Rattle.gimli_cfi.specs.Views.{section_view};
+ghost use Rattle.cfi_rows.specs.ProgramOutput.{answers, room, IsAnswer, IsLineFor, IsRowByHeader};
+ghost use Rattle.cfi_rows.specs.Input.{bytes_of};
+ghost use Rattle.cfi_rows.specs.Lines.{Line};
+ghost use Rattle.cfi_rows.specs.CommandLine.{CanBeAnswered};
+ghost use Rattle.cfi_rows.specs.Written.{Prints};
+
+use crate::input::Sections;
+use crate::line::{write_answer, write_refusal};
+use crate::words::{Kind, Request, Storage};
+use cfi_read_core::{Error, Reader};
+use gimli_cfi::hdr::{EhFrameHdr, TableStarts, row_by_table};
+use gimli_cfi::pointer::{BaseAddresses, SectionBaseAddresses};
+use gimli_cfi::section::{DebugFrame, EhFrame};
+use gimli_cfi::storage::{StoreGrowing, StoreOnHeap, UnwindContextStorage};
+use gimli_cfi::table::{UnwindContext, UnwindTableRow, row_by_scan};
+use std::alloc::Global;
+use std::io;
+use std::io::Write;
+
+/// Prints the answer to the request.
+pub fn print_answer<W: Write>(
+    alloc: Global,
+    request: &Request,
+    sections: &Sections,
+    output: &mut W,
+) -> io::Result<u8>
+    requires { CanBeAnswered request.now }
+    ensures { (printed : Line) × Prints printed (W.contents output.old) (W.contents output.new) result
+        × IsLineFor answers request.now (bytes_of sections.now) printed }
+{
+    match request.storage {
+        Storage::OnHeap => print_row::<StoreOnHeap, W>(alloc, request, sections, output),
+        Storage::Growing => print_row::<StoreGrowing, W>(alloc, request, sections, output),
+    }
+}
+
+/// Prints the answer, with the unwind's rows in the storage `S`.
+fn print_row<S: UnwindContextStorage<usize>, W: Write>(
+    alloc: Global,
+    request: &Request,
+    sections: &Sections,
+    output: &mut W,
+) -> io::Result<u8>
+    requires { CanBeAnswered request.now }
+    ensures { (printed : Line) × Prints printed (W.contents output.old) (W.contents output.new) result
+        × IsLineFor (IsAnswer (room S.Rules.limit S.Stack.limit S.Rules.copies_free)) request.now (bytes_of sections.now) printed }
+{
+    let mut context = match UnwindContext::<usize, S>::new_in(alloc) {
+        Ok(context) => context,
+        Err(error) => return write_refusal(output, error),
+    };
+    write_answer(output, find_row(request, sections, &mut context))
+}
+
+/// The row for the request's address.
+fn find_row<'ctx, S: UnwindContextStorage<usize>>(
+    request: &Request,
+    sections: &Sections,
+    context: &'ctx mut UnwindContext<usize, S>,
+) -> Result<&'ctx UnwindTableRow<usize, S::Rules>, Error>
+    requires { CanBeAnswered request.now }
+    ensures { IsAnswer (room S.Rules.limit S.Stack.limit S.Rules.copies_free) request.now (bytes_of sections.now) (map_ok (λ row. row.now) result) }
+{
+    let bases = bases_of(request);
+    let section = sections.section.as_slice();
+    match request.kind {
+        Kind::DebugFrame => {
+            let mut frame = DebugFrame::new(section, request.endian);
+            frame.set_address_size(request.address_size);
+            frame.set_vendor(request.vendor);
+            row_by_scan(&frame, &bases, context, request.address)
+        }
+        Kind::EhFrame => {
+            let mut frame = EhFrame::new(section, request.endian);
+            frame.set_address_size(request.address_size);
+            frame.set_vendor(request.vendor);
+            let Some(_) = request.header else {
+                return row_by_scan(&frame, &bases, context, request.address);
+            };
+            let header = EhFrameHdr::new(sections.header.as_slice(), request.endian);
+            let size = request.address_size;
+            row_by_header(&header, size, &frame, &bases, context, request.address)
+        }
+    }
+}
+
+/// The row for the address by the header's table, or by going through the section where the header has no table.
+fn row_by_header<'ctx, R: Reader, S: UnwindContextStorage<R::Offset>>(
+    header: &EhFrameHdr<R>,
+    address_size: u8,
+    frame: &EhFrame<R>,
+    bases: &BaseAddresses,
+    context: &'ctx mut UnwindContext<R::Offset, S>,
+    address: u64,
+) -> Result<&'ctx UnwindTableRow<R::Offset, S::Rules>, Error>
+    requires { IsAddressSize address_size }
+    ensures { IsRowByHeader (room S.Rules.limit S.Stack.limit S.Rules.copies_free) (section_view R.position frame.now bases.now) address
+        (header_section (R.position header.now.0) address_size bases.now.eh_frame_hdr) (map_ok (λ row. map_row R.Offset.number row.now) result) }
+{
+    let header = header.parse(bases, address_size)?;
+    let Some(table) = header.table() else {
+        return row_by_scan(frame, bases, context, address);
+    };
+    let mut starts = TableStarts::new(&table, bases)?;
+    row_by_table(&table, &mut starts, frame, bases, context, address)
+}
+
+/// The bases of the pointers in the section's entries, and of those in its header.
+fn bases_of(request: &Request) -> BaseAddresses
+    ensures section { result.eh_frame ≡ record { section = request.now.section; text = request.now.text; data_base = request.now.data_base } }
+    ensures header { result.eh_frame_hdr ≡ record { section = request.now.header; text = request.now.text; data_base = request.now.header } }
+{
+    BaseAddresses {
+        eh_frame_hdr: SectionBaseAddresses {
+            section: request.header,
+            text: request.text,
+            data_base: request.header,
+        },
+        eh_frame: SectionBaseAddresses {
+            section: request.section,
+            text: request.text,
+            data_base: request.data_base,
+        },
+    }
+}

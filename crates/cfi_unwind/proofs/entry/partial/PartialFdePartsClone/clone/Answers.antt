@@ -1,6 +1,0 @@
-use Rattle.std.proofs.Common.{ap}
-use Rattle.cfi_parts.specs.Frames.{IsOf_prop}
-use Rattle.cfi_unwind.proofs.entry.partial.PartialFdePartsClone.clone.Goals as goal
-
-pub returns : goal.returns
-returns g c = record { cases = ap (λ w. record c.args.self.now { of_section = w }) (IsOf_prop _ _ _ _) }

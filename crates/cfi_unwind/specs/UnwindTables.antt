@@ -1,0 +1,88 @@
+-- What a contract sees of an unwind table: the place where it stands, in numbers.
+--     state_in_numbers number location context      the state of the machine
+--     place_of position number table      the place of a table
+--     GivesNextAnswer s copies_free p answer q      over a storage, a table at the place p answers next, and then is at the place q
+--     AnswersWithoutMachine, KeepsCieProgram      the same without a machine, and of the program of a CIE
+--     StartsRows      what making the table of an FDE answers
+--     LendsNextRow      what a call of `next_row` hands out
+use Rattle.std.specs.Prelude.{◌≡◌, ℕ, Bool, true, false, List, [], Option, Some, None, is_some, IfSome, Result, Ok, Err, IfOk, MatchResult}
+use Rattle.std.specs.Option.{option_map}
+use Rattle.std.specs.Borrow.{Bor}
+use Rattle.cfi_read_core.specs.Reading.{Readings}
+use Rattle.cfi_read_core.specs.Readers.{map_ok}
+use Rattle.cfi_read_core.specs.declared.error.Error.{Error}
+use Rattle.cfi_parts.specs.Instructions.{Instruction}
+use Rattle.cfi_state.specs.Row.{Row}
+use Rattle.cfi_state.specs.ProgramSettings.{Setting}
+use Rattle.cfi_state.specs.Machine.{State, fresh_state}
+use Rattle.cfi_state.specs.Context.{ContextState, machine_state}
+use Rattle.cfi_state.specs.Numbered.{map_state, map_row}
+use Rattle.cfi_state.specs.TableStates.{TableState, before_last_row, after_last_row}
+use Rattle.cfi_state.specs.Program.{Program, in_fde}
+use Rattle.cfi_state.specs.Rows.{IsStateAfter}
+use Rattle.cfi_state.specs.Runs.{current_row, NextAnswer, RunsInitialInstructions, may_allocate}
+use Rattle.cfi_state.specs.Kept.{NextKeptAnswer, KeepsInitialInstructions}
+use Rattle.cfi_unwind.specs.Sections.{Section}
+use Rattle.cfi_unwind.specs.Fdes.{Fde}
+use Rattle.cfi_unwind.specs.EntryInstructions.{cie_instructions, fde_instructions}
+
+abbrev pub GivesNextAnswer : Setting → Bool → TableState (State ℕ) ℕ → Result (Option (Row ℕ)) Error → TableState (State ℕ) ℕ → Type 0
+GivesNextAnswer s copies_free = NextAnswer (may_allocate s copies_free) s
+
+module _ {T : Type 0} (number : T → ℕ) where
+  abbrev pub state_in_numbers : ℕ → ContextState T → State ℕ
+  state_in_numbers location context = map_state number (machine_state location context)
+
+  -- the answer that a run up to the end of a row makes due: the row up to the address of the move, or up to the FDE's end
+  abbrev pub row_due : Setting → ℕ → ContextState T → Result (Option ℕ) Error → Result (Option (Row ℕ)) Error
+  row_due s location context (Ok (Some address)) = Ok (Some (current_row (state_in_numbers location context) address))
+  row_due s location context (Ok None) = Ok (Some (current_row (state_in_numbers location context) s.end_address))
+  row_due s location context (Err e) = Err e
+
+  -- where the table then is
+  abbrev pub state_after : ℕ → ContextState T → Readings Instruction → Result (Option ℕ) Error → TableState (State ℕ) ℕ
+  state_after location context left (Ok (Some address)) = before_last_row (state_in_numbers address context) left
+  state_after location context left (Ok None) = after_last_row (state_in_numbers location context) left
+  state_after location context left (Err e) = before_last_row (state_in_numbers location context) left
+
+  -- the row of the context where one was found
+  abbrev pub row_given : ContextState T → Result Bool Error → Result (Option (Row ℕ)) Error
+  row_given context (Ok true) = Ok (Some (map_row number context.row))
+  row_given context (Ok false) = Ok None
+  row_given context (Err e) = Err e
+
+-- ---- without a machine
+
+abbrev pub at_program : TableState (State ℕ) ℕ → Program ℕ → TableState (Program ℕ) ℕ
+at_program p program = record { so_far = program; left = p.left; has_ended = p.has_ended }
+
+-- From each program behind which the table stands, the answer is the next one of the form without a machine, and the table
+-- then stands behind that program followed by the instructions that were kept.
+pub record AnswersWithoutMachine (s : Setting) (copies_free : Bool) (p : TableState (State ℕ) ℕ) (answer : Result (Option (Row ℕ)) Error) (q : TableState (State ℕ) ℕ) : Type 0 where
+  pub from : (program : Program ℕ) → IsStateAfter s p.so_far program
+      → (after : Program ℕ) × NextKeptAnswer (may_allocate s copies_free) s (at_program p program) answer (at_program q after) × IsStateAfter s q.so_far after
+
+-- The program of a CIE is kept, and the state stands behind it.
+abbrev pub KeepsCieProgram : Setting → Bool → Readings Instruction → Result (State ℕ) Error → Type 0
+KeepsCieProgram s copies_free cie (Ok x) = (kept : List Instruction) × KeepsInitialInstructions (may_allocate s copies_free) s [] cie (Ok kept) × IsStateAfter s x (in_fde kept [])
+KeepsCieProgram s copies_free cie (Err e) = KeepsInitialInstructions (may_allocate s copies_free) s [] cie (Err e)
+
+-- ---- the table of an FDE
+
+-- What making the table of an FDE answered: the refusal of the CIE's program, or a table that stands behind that program
+-- and before all of the FDE's instructions.
+pub record StartsRows {X : Type 0} (place : X → TableState (State ℕ) ℕ) (s : Setting) (copies_free : Bool) (section : Section) (fde : Fde) (made : Result X Error) : Type 0 where
+  pub run : RunsInitialInstructions (may_allocate s copies_free) s fresh_state (cie_instructions section fde.cie) (map_ok (λ x. (place x).so_far) made)
+  pub kept : KeepsCieProgram s copies_free (cie_instructions section fde.cie) (map_ok (λ x. (place x).so_far) made)
+  pub left : IfOk made (λ x. (place x).left ≡ fde_instructions section fde)
+  pub has_not_ended : IfOk made (λ x. (place x).has_ended ≡ false)
+
+-- ---- rows that are lent
+
+-- A call handed out the row of the context, and the table holds it where there is one.
+pub record LendsNextRow {T : Type 0} (number : T → ℕ) (s : Setting) (copies_free : Bool) (old : TableState (State ℕ) ℕ) (result : Result (Option (Bor (Row T))) Error)
+    (new : TableState (State ℕ) ℕ) (context : ContextState T) (holds_row : Bool) : Type 0 where
+  pub next : GivesNextAnswer s copies_free old (map_ok (option_map (λ row. map_row number row.now)) result) new
+  pub kept : AnswersWithoutMachine s copies_free old (map_ok (option_map (λ row. map_row number row.now)) result) new
+  pub row : IfOk result (λ found. IfSome found (λ row. row.now ≡ context.row))
+  pub held : MatchResult result (λ found. holds_row ≡ is_some found) (λ _. holds_row ≡ false)
