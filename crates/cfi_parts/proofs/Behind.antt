@@ -1,4 +1,4 @@
--- A reader that was behind a place still is after a read.
+-- A reader that was past a place still is after a read.
 use Rattle.std.proofs.Common.{◌≡◌, ◌≤◌, ℕ, Result, arith, ap}
 use Rattle.cfi_read_core.specs.declared.error.Error.{Error}
 use Rattle.cfi_read_core.specs.Reading.{Read, Source, Outcome}

@@ -68,7 +68,7 @@ vendor_opcode = refl
 abbrev based : ℕ → ℕ → PointerContext
 based base size = record { bases = record { section = Some base; text = None; data_base = None }; function = None; size = size; section = 0 }
 
--- four bytes behind, at address 0x1f04
+-- four bytes after, at address 0x1f04
 behind_itself : pointer 0x1b (based 0x1f00 8) (little (0 ∷ 0 ∷ 0 ∷ 0 ∷ 0x10 ∷ 0 ∷ 0 ∷ 0 ∷ [])) 4 ≡ record { value = Ok (Direct 0x1f14); place = 8 }
 unfolding pointer base_of encoded_value unsigned signed
 behind_itself = refl

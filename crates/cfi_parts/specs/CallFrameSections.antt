@@ -18,7 +18,7 @@ pub data SectionKind : Type 0 where
   DebugFrame : SectionKind
   EhFrame : SectionKind
 
--- What a section tells of itself.
+-- The properties of a call frame section.
 pub record SectionView : Type 0 where
   pub kind : SectionKind
   pub position : Position  -- its bytes, from the place where it begins
@@ -33,12 +33,12 @@ pub record IsOf (part section : Position) : Type 0 where
 
 -- ---- what differs between the two
 
--- the section's name
+-- the section's id
 abbrev pub section_id : SectionKind → SectionId
 section_id DebugFrame = names.DebugFrame
 section_id EhFrame = names.EhFrame
 
--- the id of an entry
+-- the width of an entry's id
 abbrev pub id_width : SectionKind → Format → Width
 id_width DebugFrame Dwarf64 = w64
 id_width DebugFrame Dwarf32 = w32

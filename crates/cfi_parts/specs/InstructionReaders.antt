@@ -1,4 +1,4 @@
--- The instructions that are still to be read, one behind the other.
+-- The instructions that are still to be read in order.
 use Rattle.std.specs.Prelude.{◌≡◌, List, [], ◌∷◌, ◌++◌, map, Option, Some, None, Result, Ok, Err}
 use Rattle.cfi_read_core.specs.declared.error.Error.{Error}
 use Rattle.cfi_read_core.specs.Reading.{Readings, Position, with_first, no_values}
@@ -13,7 +13,7 @@ pub record InstructionReader : Type 0 where
 abbrev pub instructions_left : InstructionReader → Readings Instruction
 instructions_left p = instructions p.context (extent_of p.position) p.position.source
 
--- What a call answers, of what was to be read before it and what is left behind it. Behind a refusal nothing is left.
+-- What a call answers, of what was to be read before it and what is left after it. After a refusal nothing is left.
 abbrev pub Meets : {X A : Type 0} → (X → A) → Result (Option X) Error → Readings A → Readings A → Type 0
 Meets view (Ok (Some x)) before after = before ≡ with_first (view x) after
 Meets view (Ok None) before after = (before ≡ no_values None) × (after ≡ no_values None)

@@ -38,7 +38,7 @@ expression_bytes e = do
   skip e.offset
   split e.length
 
--- A reader of a part of the section read the expression, and then stood at this place, behind the expression's bytes.
+-- A reader of a part of the section read the expression, and then stood at this place, after the expression's bytes.
 pub record IsReadIn (section : Position) (e : UnwindExpression ℕ) (after : ℕ) : Type 0 where
   pub context : PointerContext
   pub reader : Position
@@ -65,7 +65,7 @@ negate_ra_state vendors.Default = unknown_opcode 0x2d
 abbrev pub advance : ℕ → Read Instruction
 advance delta = give (AdvanceLoc delta)
 
--- DW_CFA_offset and its kin: a register and a number that is read behind it
+-- DW_CFA_offset and its kin: a register and a number that is read after it
 abbrev pub register_and : {A : Type 0} → Read A → (RegisterNumber → A → Instruction) → Read Instruction
 register_and operand made = do
   r ← register_leb128
@@ -121,7 +121,7 @@ state_and_others c =
     ∷ (0x2e, unsigned_leb128 >>= λ n. give (ArgsSize n))
     ∷ []
 
--- the opcodes whose two high bits are 0, with what is read behind them
+-- the opcodes whose two high bits are 0, with what is read after them
 abbrev pub extended_opcodes : InstructionContext → List (ℕ × Read Instruction)
 extended_opcodes c = row_creation c ++ cfa_definition c ++ offset_rules ++ register_rules c ++ state_and_others c
 

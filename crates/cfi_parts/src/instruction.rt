@@ -137,7 +137,7 @@ pub enum CallFrameInstruction<T> {
         register: Register,
         expression: UnwindExpression<T>,
     },
-    /// The register takes back the rule that the CIE gave it.
+    /// Restores the rule that the initial instructions gave the register.
     Restore {
         register: Register,
     },
@@ -149,13 +149,13 @@ pub enum CallFrameInstruction<T> {
     ArgsSize {
         size: u64,
     },
-    /// The sign state of the return address turns (AArch64).
+    /// Toggles the signing state of the return address (AArch64).
     NegateRaState,
     /// Nothing, for padding.
     Nop,
 }
 
-/// The instructions of an entry, one behind the other (DWARF 5 sections 6.4.2 and 7.24).
+/// The instructions of an entry in order (DWARF 5 sections 6.4.2 and 7.24).
 ///
 /// Each takes a byte at least, so there are no more than bytes. Nothing is allocated.
 #[derive(Debug)]
@@ -211,11 +211,11 @@ impl<'a, R: Reader> CallFrameInstructionIter<'a, R> {
         }
     }
 
-    /// The next instruction, or none at the end. After a refusal or the end there is none for good.
+    /// The next instruction, or none at the end. After a refusal or the end it is `None` from then on.
     ///
     /// Refused with `UnexpectedEof` where the bytes end in an instruction, `UnknownCallFrameInstruction` for an opcode
     /// that isn't known to the vendor, `BadUnsignedLeb128`, `BadSignedLeb128` or `UnsupportedRegister` for an operand,
-    /// `UnsupportedOffset` for the length of an expression that is no offset, and for the address of `DW_CFA_set_loc`
+    /// `UnsupportedOffset` for the length of an expression that does not fit the offset type, and for the address of `DW_CFA_set_loc`
     /// as `parse_encoded_pointer` and `Pointer::direct`.
     pub fn next(&mut self) -> Result<Option<CallFrameInstruction<R::Offset>>>
         ensures met { Meets (map_instruction R.Offset.number) result (instructions_left (instruction_reader R.position self.old)) (instructions_left (instruction_reader R.position self.new)) }

@@ -1,5 +1,5 @@
 #![tactic(auto)]
-//! Encoded pointers, call frame instructions, and what a call frame section tells of itself.
+//! Encoded pointers, call frame instructions, and the properties of a call frame section.
 
 pub mod instruction;
 pub mod pointer;

@@ -1,4 +1,4 @@
-//! What a call frame section tells of itself, and offsets in it.
+//! The properties of a call frame section, and offsets in it.
 ghost use Rattle.std.specs.Prelude.{◌≡◌, ◌==◌, ok_or};
 ghost use Rattle.std.specs.Option.{option_map};
 ghost use Rattle.cfi_read_core.specs.declared.error.Error.TheVariants.{OffsetOutOfBounds};
@@ -51,7 +51,7 @@ impl<T: Copy + Debug + Eq> UnwindOffset<T> for EhFrameOffset<T> {
     ghost inverse = { λ x y e. e };
 }
 
-/// What a call frame section tells of itself, and how the two sections differ (DWARF 5 section 6.4.1; LSB Core,
+/// The properties of a call frame section, and how the two sections differ (DWARF 5 section 6.4.1; LSB Core,
 /// "The .eh_frame section").
 pub trait _UnwindSectionPrivate<R: Reader> {
     /// What the section is.

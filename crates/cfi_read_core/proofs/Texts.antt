@@ -79,7 +79,7 @@ inside s n there =
     let fewer = min-le_left (s.source.last - s.place) (length (drop s.place s.source.whole)) in
     omega (arith, count, fewer)
 
--- ---- the zero behind a text is a byte that is there
+-- ---- the zero after a text is a byte that is there
 
 pub zero_read : (s : Position) (n z p : ℕ) → n < length (bytes_left s) → unsigned w8 s.source (s.place + n) ≡ record { value = Ok z; place = p } → p ≡ s.place + n + 1
 zero_read s n z p there h =

@@ -36,7 +36,7 @@ leb128_sum (b ∷ bs) = b % 128 + 128 * leb128_sum bs
 abbrev pub continuation_count : List ℕ → ℕ
 continuation_count left = prefix_len (λ b. nat_le 128 b) (take 9 left)
 
--- The bytes of a number. A refusal leaves the reader behind the bytes that are there.
+-- The bytes of a number. A refusal leaves the reader after the bytes that are there.
 unfoldable pub leb128_bytes : Read (List ℕ)
 leb128_bytes source place =
     let left = rest source place in

@@ -8,7 +8,7 @@ use Rattle.cfi_read_core.specs.declared.error.Error.TheVariants.{UnexpectedEof, 
 -- What a reader keeps while it reads.
 pub record Source : Type 0 where
   pub whole : List ℕ  -- all the bytes over which the reader was made
-  pub last : ℕ  -- the place behind the last byte that it may read
+  pub last : ℕ  -- the place after the last byte that it may read
   pub big_endian : Bool  -- whether the most significant byte comes first
   pub greatest : ℕ  -- the greatest number that is an offset
 
@@ -43,7 +43,7 @@ abbrev pub carry_on : {A B : Type 0} → (A → Read B) → Source → Result A 
 carry_on next source (Ok x) place = next x source place
 carry_on next source (Err e) place = record { value = Err e; place = place }
 
--- one read behind the other; a refused read is the last
+-- one read after the other; a refused read is the last
 infixl 10 ◌>>=◌
 abbrev pub ◌>>=◌ : {A B : Type 0} → Read A → (A → Read B) → Read B
 read >>= next = λ source place. carry_on next source (read source place).value (read source place).place
@@ -117,7 +117,7 @@ with_first x others = record { values = x ∷ others.values; refusal = others.re
 abbrev pub no_values : {A : Type 0} → Option Error → Readings A
 no_values refusal = record { values = []; refusal = refusal }
 
--- whether the end was met, what was read where it wasn't, and what is read behind that
+-- whether the end was met, what was read where it wasn't, and what is read after that
 abbrev pub readings_with : {A : Type 0} → Bool → Result A Error → Readings A → Readings A
 readings_with true first others = no_values None
 readings_with false (Err e) others = no_values (Some e)

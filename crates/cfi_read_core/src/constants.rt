@@ -47,23 +47,23 @@ pub const DW_EH_PE_omit: DwEhPe = DwEhPe(0xff);
 pub const DW_CFA_advance_loc: DwCfa = DwCfa(0x40);
 /// The register of the low six bits is saved at an offset.
 pub const DW_CFA_offset: DwCfa = DwCfa(0x80);
-/// The register of the low six bits takes back its first rule.
+/// Restores the rule that the initial instructions gave the register of the low six bits.
 pub const DW_CFA_restore: DwCfa = DwCfa(0xc0);
 /// Nothing.
 pub const DW_CFA_nop: DwCfa = DwCfa(0x00);
 /// Moves to an address.
 pub const DW_CFA_set_loc: DwCfa = DwCfa(0x01);
-/// Moves on by one byte.
+/// Advances the location by a one-byte delta.
 pub const DW_CFA_advance_loc1: DwCfa = DwCfa(0x02);
-/// Moves on by two bytes.
+/// Advances the location by a two-byte delta.
 pub const DW_CFA_advance_loc2: DwCfa = DwCfa(0x03);
-/// Moves on by four bytes.
+/// Advances the location by a four-byte delta.
 pub const DW_CFA_advance_loc4: DwCfa = DwCfa(0x04);
 /// A register is saved at an offset.
 pub const DW_CFA_offset_extended: DwCfa = DwCfa(0x05);
-/// A register takes back its first rule.
+/// Restores the rule that the initial instructions gave the register.
 pub const DW_CFA_restore_extended: DwCfa = DwCfa(0x06);
-/// A register is lost.
+/// The previous value of the register cannot be recovered.
 pub const DW_CFA_undefined: DwCfa = DwCfa(0x07);
 /// A register is as it was.
 pub const DW_CFA_same_value: DwCfa = DwCfa(0x08);
@@ -95,7 +95,7 @@ pub const DW_CFA_val_offset: DwCfa = DwCfa(0x14);
 pub const DW_CFA_val_offset_sf: DwCfa = DwCfa(0x15);
 /// A register is the value of an expression.
 pub const DW_CFA_val_expression: DwCfa = DwCfa(0x16);
-/// The sign state of the return address turns (AArch64).
+/// Toggles the signing state of the return address (AArch64).
 pub const DW_CFA_AARCH64_negate_ra_state: DwCfa = DwCfa(0x2d);
 /// The size of the arguments on the stack (GNU).
 pub const DW_CFA_GNU_args_size: DwCfa = DwCfa(0x2e);

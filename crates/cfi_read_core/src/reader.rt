@@ -17,7 +17,7 @@ use std::fmt::Debug;
 /// A place in bytes, and the bytes that are left from there.
 ///
 /// A refused `skip`, `split`, `find`, fixed-width read, address or text leaves the reader where it was. A read
-/// made of several parts leaves it behind the parts that succeeded. `UnexpectedEof` names the place, in the whole
+/// made of several parts leaves it after the parts that succeeded. `UnexpectedEof` names the place, in the whole
 /// bytes, of the first byte of what couldn't be read.
 pub trait Reader: Copy + Debug + Eq {
     /// How the reader counts its bytes.
@@ -45,11 +45,11 @@ pub trait Reader: Copy + Debug + Eq {
     fn find(&self, byte: u8) -> Result<Self::Offset>
         ensures { map_ok Self.Offset.number result ≡ find_byte byte (position self.now) };
 
-    /// Passes so many bytes.
+    /// Skips `len` bytes.
     fn skip(&mut self, len: Self::Offset) -> Result<()>
         ensures { Reads (λ x. x) (skip (Self.Offset.number len)) (position self.old) result (position self.new) };
 
-    /// Passes so many bytes, and answers a reader of them.
+    /// Splits off `len` bytes, and answers a reader of them.
     fn split(&mut self, len: Self::Offset) -> Result<Self>
         ensures read { Reads (λ r. extent_of (position r)) (split (Self.Offset.number len)) (position self.old) result (position self.new) }
         ensures part { IfOk result (λ r. IsPartOf (position r) (position self.old)) };
@@ -84,7 +84,7 @@ pub trait Reader: Copy + Debug + Eq {
         let _ = self.skip(self.len());
     }
 
-    /// How far the place is behind that of another reader of the same bytes.
+    /// How far the place is past that of another reader of the same bytes.
     fn offset_from(&self, base: &Self) -> Self::Offset
         requires { (position base.now).place ≤ (position self.now).place }
         ensures { Self.Offset.number result ≡ (position self.now).place - (position base.now).place }

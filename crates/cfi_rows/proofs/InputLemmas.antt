@@ -36,7 +36,7 @@ at_place xs n false e is =
     let outside : length xs ≤ n = grind (arith, nat_tests) in
     ap decoded_bytes (drop_all n xs outside ∙ sym (drop_all (n + 1) xs (omega arith)))
 
--- what stands behind the first line means the same with its line feed
+-- what stands after the first line means the same with its line feed
 pub behind_line : (input : List ℕ) → decoded_bytes (drop (position_or_len is_line_feed input) input) ≡ decoded_bytes (after_first is_line_feed input)
 behind_line input = at_place input (position_or_len is_line_feed input) _ refl (λ inside. passes_at_first is_line_feed input 0 inside)
 

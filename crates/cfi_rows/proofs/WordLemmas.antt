@@ -71,7 +71,7 @@ hexadecimal_is ds r h low high all =
 pub decimal_is : {E : Type 0} (ds : List ℕ) (r : Result ℕ E) → ParsesUnsigned 64 10 ds r → 0 < length ds → length ds ≤ 20 → list_all is_ascii_digit ds ≡ true → result_ok r ≡ decimal_number ds
 decimal_is ds r h low high all = parsed 10 ds r (omega arith) (all_digits 10 is_ascii_digit decimal_digit ds all) low h ∙ sym (chosen _ _ _ _ (fits _ 20 low high) all)
 
--- ---- what stands behind a beginning
+-- ---- what stands after a beginning
 
 begins_at : (start rest : List ℕ) → bytes_eq (take (length start) (start ++ rest)) start ≡ true
 begins_at start rest = rw take-append_seam ((bytes_eq-Decides start start).1 refl)

@@ -23,7 +23,7 @@ use Rattle.cfi_rows.specs.declared.words.Request.{Request}
 abbrev pub texts : List (Bor (List ℕ)) → List (List ℕ)
 texts words = map (λ word. word.now) words
 
--- what stands behind the start of a word that begins with it
+-- what stands after the start of a word that begins with it
 abbrev pub after_prefix : List ℕ → List ℕ → Option (List ℕ)
 after_prefix start word = if bytes_eq (take (length start) word) start then Some (drop (length start) word) else None
 
@@ -35,7 +35,7 @@ has_length most digits = nat_le 1 (length digits) && nat_le (length digits) most
 abbrev pub below_2_64 : ℕ → Option ℕ
 below_2_64 n = if nat_lt n (2 ^ 64) then Some n else None
 
--- 1 to 16 digits of either case, behind 0x
+-- 1 to 16 digits of either case, after 0x
 abbrev pub hexadecimal_number : List ℕ → Option ℕ
 hexadecimal_number digits = if has_length 16 digits && list_all is_ascii_hexdigit digits then Some (digits_value 16 digits) else None
 
@@ -50,7 +50,7 @@ number_after word None = decimal_number word
 abbrev pub number : List ℕ → Option ℕ
 number word = number_after word (after_prefix (codes "0x") word)
 
--- ---- the words behind the address, each at most once
+-- ---- the words after the address, each at most once
 
 -- the given number, where none was given before
 abbrev pub once_given : Option ℕ → Option ℕ → Option ℕ
@@ -79,7 +79,7 @@ abbrev pub set_header : Request → List ℕ → Kind → Option Request
 set_header r digits DebugFrame = None
 set_header r digits EhFrame = option_map (λ n. record r { header = Some n }) (once_given r.header (number digits))
 
--- the first that fits: set by what stands behind the start, or else what is otherwise asked for
+-- the first that fits: set by what stands after the start, or else what is otherwise asked for
 abbrev pub either : Option (List ℕ) → (List ℕ → Option Request) → Option Request → Option Request
 either (Some digits) set otherwise = set digits
 either None set otherwise = otherwise
@@ -141,7 +141,7 @@ unfoldable pub request_of : List (List ℕ) → Option Request
 request_of (kind ∷ order ∷ size ∷ address ∷ options) = option_and_then (option_words options) (first_words kind order size address)
 request_of words = None
 
--- what is asked for by the words, which may not be to be had
+-- what is asked for by the words, which may not be readable
 abbrev pub request_of_words : Option (List (List ℕ)) → Option Request
 request_of_words words = option_and_then request_of words
 

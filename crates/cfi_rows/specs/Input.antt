@@ -1,4 +1,4 @@
--- The input: a section in hexadecimal, and behind its first line the header where one is asked for.
+-- The input: a section in hexadecimal, and after its first line the header where one is asked for.
 use Rattle.std.specs.Prelude.{◌≡◌, ℕ, Bool, not, ◌||◌, Option, Some, None, List, [], Result, Ok, Err, ◌==◌, filter}
 use Rattle.std.specs.List.{before_first, after_first}
 use Rattle.hex.specs.Hex.{decode_of}
@@ -31,7 +31,7 @@ abbrev pub bytes_by : Option ℕ → List ℕ → Option Bytes
 bytes_by None input = with_header (decoded_bytes input) (Ok [])
 bytes_by (Some base) input = with_header (decoded_bytes (before_first is_line_feed input)) (decoded_bytes (after_first is_line_feed input))
 
--- what comes of the input, for the bytes that it means; want of memory and a failed read are no fault of its bytes
+-- what comes of the input, for the bytes that it means; lack of memory and a failed read are no fault of its bytes
 abbrev pub IsReading : Option Bytes → Result Bytes InputError → Type 0
 IsReading meant (Ok bytes) = meant ≡ Some bytes
 IsReading meant (Err NotHexadecimal) = meant ≡ None

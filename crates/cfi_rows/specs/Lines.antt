@@ -16,7 +16,7 @@ use Rattle.cfi_state.specs.Row.{Row}
 abbrev pub address_text : ℕ → List ℕ
 address_text a = codes "0x" ++ digits 16 false a
 
--- behind a register, with its sign
+-- after a register, with its sign
 abbrev pub offset_text : ℤ → List ℕ
 offset_text (pos n) = codes "+" ++ decimal n
 offset_text (negsuc n) = codes "-" ++ decimal (suc n)

@@ -89,7 +89,7 @@ FoundByBase r bytes (Some base) found =
     FoundByHeader (section_of r bytes.section) r.address (header_section_of r base bytes.header) (header_of (header_section_of r base bytes.header)) found
 
 -- What may be answered to a request: the row of the FDE that is found, or the first refusal on the way. Only an
--- instruction that may want memory may be refused for want of it; where the room is fixed none is.
+-- instruction that may allocate may be refused for lack of it; where the room is fixed none is.
 pub record IsAnswer (room : Room) (r : Request) (bytes : Bytes) (answer : Result (Row ℕ) Error) : Type 0 where
   pub found : Result Fde Error
   pub finds : FoundByBase r bytes r.header found
@@ -109,7 +109,7 @@ abbrev pub LineOfRequest : RequestAnswer → Option Request → List ℕ → Lin
 LineOfRequest answers None input printed = printed ≡ wrong_words
 LineOfRequest answers (Some r) input printed = LineOfInput answers r (bytes_by r.header input) printed
 
--- for the words behind the program's name, or none where they can't be had, and all bytes of the input
+-- for the words after the program's name, or none where they can't be had, and all bytes of the input
 abbrev pub LineOfWords : RequestAnswer → Option (List (List ℕ)) → List ℕ → Line → Type 0
 LineOfWords answers words input printed = LineOfRequest answers (request_of_words words) input printed
 

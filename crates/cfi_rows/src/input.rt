@@ -1,4 +1,4 @@
-//! The input: a section in hexadecimal, and behind its first line its header where one is asked for.
+//! The input: a section in hexadecimal, and after its first line its header where one is asked for.
 ghost use Rattle.std.specs.Prelude.{◌≡◌, ◌≢◌, ℕ, ◌⊎◌, ◌<◌, ◌≤◌, List, length, take, slice_index, IfOk, IfErr, IsErr, Some, Ok, OnErr, IfSome, vec_items};
 ghost use Rattle.std.specs.Io.KnownBytes.{Consumes, IsAtEnd};
 ghost use Rattle.hex.specs.declared.error.FromHexError.TheVariants.{OutOfMemory};
@@ -55,7 +55,7 @@ pub struct Sections {
 }
 
 /// The bytes that the text of the input writes: the section, and where a header is asked for, the section in the first
-/// line and the header behind it.
+/// line and the header after it.
 pub fn decode_sections(
     alloc: Global,
     header: Option<u64>,
@@ -73,7 +73,7 @@ pub fn decode_sections(
     }
 }
 
-/// The bytes of the section in the first line, and of the header behind it.
+/// The bytes of the section in the first line, and of the header after it.
 fn decode_lines(alloc: Global, text: Vec<u8>) -> Result<Sections, InputError>
     ensures read { IsDecoded (Some 0) text.items (map_ok bytes_of result) }
     ensures refused { IfErr result (λ e. e ≢ InputError.Unreadable) }
@@ -85,7 +85,7 @@ fn decode_lines(alloc: Global, text: Vec<u8>) -> Result<Sections, InputError>
     Ok(Sections { section, header })
 }
 
-/// Takes what stands behind the first line, with the line feed between.
+/// Takes what stands after the first line, with the line feed between.
 fn split_after_first_line(text: &mut Vec<u8>) -> Result<Vec<u8>, InputError>
     ensures first { IfOk result (λ rest. text.new.items ≡ before_first is_line_feed text.old.items) }
     ensures rest { IfOk result (λ rest. decoded_bytes rest.items ≡ decoded_bytes (after_first is_line_feed text.old.items)) }

@@ -1,7 +1,7 @@
 //! Prints the unwind row of an address.
 //!
 //! The words name the section, its byte order, the size of an address and the address; standard input holds the
-//! section in hexadecimal, and where a header of `.eh_frame` is asked for, the header behind the first line. `run` says
+//! section in hexadecimal, and where a header of `.eh_frame` is asked for, the header after the first line. `run` says
 //! what is printed.
 #![tactic(auto)]
 

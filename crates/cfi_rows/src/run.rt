@@ -17,12 +17,12 @@ use std::alloc::Global;
 use std::io;
 use std::io::{Read, Write};
 
-/// Runs the program and answers its status. `words` are those behind the program's name, `None` where they are not
+/// Runs the program and answers its status. `words` are those after the program's name, `None` where they are not
 /// to be had.
 ///
 /// One line is printed. Status 0: the row of the address. Status 1: `refused` and a name, of the first refusal, or of
-/// want of memory. Status 2: `wrong words`, `wrong hexadecimal` or `wrong input`, or the output can't be written.
-/// The words are judged before the input is read, and the input is read to its end before it is decoded.
+/// lack of memory. Status 2: `wrong words`, `wrong hexadecimal` or `wrong input`, or the output can't be written.
+/// The words are checked before the input is read, and the input is read to its end before it is decoded.
 ///
 /// Memory is taken for the input, for the decoded bytes and for the unwind. The line takes none.
 pub fn run<R: Read, W: Write>(

@@ -25,7 +25,7 @@ const REFUSED: &str = "refused NoUnwindInfoForAddress";
 /// A CIE of `.debug_frame`: version 4, addresses of 8 bytes, factors 1 and -8, return register 16; r7+8, r16 at -8.
 const CIE: &str = "10000000 ffffffff 04000800 017810 0c0708 9001";
 
-/// An FDE's CIE pointer 0, start 0x1000 and range 0x20, behind its length.
+/// An FDE's CIE pointer 0, start 0x1000 and range 0x20, after its length.
 const RANGE: &str = "00000000 0010000000000000 2000000000000000";
 
 /// The CIE at 0 with addresses of 4 bytes.

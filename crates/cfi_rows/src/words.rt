@@ -45,11 +45,11 @@ pub struct Request {
     pub vendor: Vendor,
     /// Where the unwind keeps its rows.
     pub storage: Storage,
-    /// Where the header of `.eh_frame` lies in memory, where the input has one behind its first line.
+    /// Where the header of `.eh_frame` lies in memory, where the input has one after its first line.
     pub header: Option<u64>,
 }
 
-/// What the words behind the program's name ask for; `None` where they are wrong.
+/// What the words after the program's name ask for; `None` where they are wrong.
 pub fn parse(words: &[&str]) -> Option<Request>
     ensures { result ≡ request_of (texts words.now) }
 {
@@ -127,7 +127,7 @@ fn size_named(word: &str) -> Option<u8>
     }
 }
 
-/// The request with what a word behind the address asks for; `None` where the word is wrong or asks for what an
+/// The request with what a word after the address asks for; `None` where the word is wrong or asks for what an
 /// earlier one asked for.
 fn with_option(request: Request, word: &str) -> Option<Request>
     ensures { result ≡ option_word word.now request }
@@ -232,7 +232,7 @@ fn once(before: Option<u64>, digits: &str) -> Option<u64>
     }
 }
 
-/// What stands behind `start` in a word that begins with it.
+/// What stands after `start` in a word that begins with it.
 fn after_prefix<'w>(word: &'w str, start: &str) -> Option<&'w str>
     ensures { option_map (λ rest. rest.now) result ≡ after_prefix start.now word.now }
 {
@@ -280,7 +280,7 @@ fn all_decimal(digits: &[u8]) -> bool
     digits.iter().all(|digit| digit.is_ascii_digit())
 }
 
-/// What the words ask for. `None` stands for words that are not to be had, and for wrong ones.
+/// What the words ask for. `None` stands for words that cannot be read, and for wrong ones.
 pub fn asked_for(words: Option<&[&str]>) -> Option<Request>
     ensures { result ≡ request_of_words (option_map (λ list. texts list.now) words.entry) }
 {

@@ -1,4 +1,4 @@
--- The end of the CIE's program: the state behind it is the state at which the FDE's program begins.
+-- The end of the CIE's initial instructions: the state after it is the state at which the FDE's program begins.
 use Rattle.std.proofs.Common.{◌≡◌, ℕ, ◌≤◌, Bool, true, false, cond, ◌&&◌, List, [], ◌∷◌, ◌++◌, map, leb, Option, Some, None, Ok, Err, refl, sym, ap, ◌∙◌, arith}
 use Rattle.std.specs.List.{list_all}
 use Rattle.std.specs.Option.{option_or, option_flatten}

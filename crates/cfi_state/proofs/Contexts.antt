@@ -143,7 +143,7 @@ module _ {T : Type 0} where
             (λ count. more (ap length popped ∙ count ∙ ap (λ xs. copies_held (initial_of xs kept)) (sym popped) ∙ ap (λ (s : ContextState T). copies_held s.initial_rules) shows)),
       )
 
-  -- ---- the rules that the CIE's program ended with
+  -- ---- the rules that the CIE's initial instructions ended with
   not_yet : (held : List (Row T)) (kept : InitialRules T) → initial_of held kept ≡ None → kept ≡ NotYet
   not_yet held NotYet none = refl
   not_yet held NoRule none = cc

@@ -93,7 +93,7 @@ module _ {T : Type 0} (p : Parameters) (rule_limit stack_limit : Option ℕ) (co
   sets-given (instruction.ValExpression r e) result = gives (instruction.ValExpression r e) r (rule.ValExpression e) result refl refl refl
   sets-given _ result = tt
 
--- no instruction changes the rules that a CIE's program ended with
+-- no instruction changes the rules that a CIE's initial instructions ended with
 pub changes-initial : {T : Type 0} (s : Setting) (copies_free : Bool) (location : ℕ) (i : CallFrameInstruction T) (old new : ContextState T) (result : Result (Unit {0}) Error)
     → Changes s copies_free location i old new result → new.initial_rules ≡ old.initial_rules
 changes-initial s copies_free location i old new (Ok _) changes = changes.initial_rules

@@ -31,7 +31,7 @@ shown registers (Err e) = Err e
 abbrev read : Instructions → Readings (CallFrameInstruction ℕ)
 read xs = record { values = xs; refusal = None }
 
--- the answers of a CIE and an FDE behind it, or the refusal of the CIE's program
+-- the answers of a CIE and an FDE after it, or the refusal of the CIE's initial instructions
 abbrev by_machine : Setting → List ℕ → Instructions → Instructions → Result (List Shown) Error
 by_machine s registers cie fde = on_result (λ x. Ok (map (shown registers) (run_answers s x (read fde)))) (λ e. Err e) (run_cie s (read cie))
 
@@ -102,7 +102,7 @@ fourth_remember_refused : BothAnswer on_heap (16 ∷ []) (usual_cie) (instructio
     []))
 fourth_remember_refused = (simp map_values, simp map_values)
 
--- the end of the CIE's program is refused where the copy of its rules has no room
+-- the end of the CIE's initial instructions is refused where the copy of its rules has no room
 end_refused : BothAnswer on_heap ([]) (usual_cie ++ instruction.Offset (r 6) 2 ∷ [] ++ instruction.RememberState ∷ instruction.RememberState ∷ instruction.RememberState ∷ []) ([]) (
     Err StackFull)
 end_refused = (simp map_values, refl)
@@ -122,7 +122,7 @@ toggle_restored : BothAnswer on_heap (34 ∷ []) ([]) (instruction.NegateRaState
     []))
 toggle_restored = (simp map_values, simp map_values)
 
--- the answers go on behind a refusal
+-- the answers go on after a refusal
 refused_and_on : BothAnswer on_heap (6 ∷ 16 ∷ []) (usual_cie) (instruction.Offset (r 6) 2 ∷ instruction.DefCfaExpression (record { offset = 48; length = 1 }) ∷ instruction.DefCfaRegister (r 6) ∷ []) (
     Ok (Err CfiInstructionInInvalidContext ∷
     Ok (4096, 4128, cfa.Expression (record { offset = 48; length = 1 }), 0, 2, minus_16 ∷ minus_8 ∷ []) ∷

@@ -1,4 +1,4 @@
--- Over a fixed storage memory is never wanting.
+-- Over a fixed storage no instruction runs out of memory.
 use Rattle.std.proofs.Common.{◌≡◌, ℕ, Bool, true, false, not, ◌&&◌, leb, refl, ap, ◌∙◌}
 use Rattle.std.specs.Bool.{IsTrue}
 use Rattle.std.specs.Option.{IsSome}

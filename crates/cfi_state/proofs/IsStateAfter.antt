@@ -30,7 +30,7 @@ module _ {A : Type 0} where
   accepted_value (Some d) a b is = absurd (let wrong : Err d ≡ Ok b = is in cc)
 
 module _ {T : Type 0} where
-  -- ---- one step of a state that stands behind a program
+  -- ---- one step of a state that stands after a program
 
   pub stands_next : (s : Setting) (x y : State T) (p : Program T) (i : CallFrameInstruction T) → IsStateAfter s x p → step s x i ≡ Ok y → IsStateAfter s y (followed_by p i)
   stands_next s x y p i (a, is) stepped =
@@ -63,14 +63,14 @@ module _ {T : Type 0} where
       ap (on_result (λ y. row_ended (program_state s p) i y ++ run_answers_of s y xs unread) (λ e. Err e ∷ run_answers_of s (program_state s p) xs unread)) (step_law s p i a)
       ∙ answer_step s p i xs unread (refusal s p i) a refl (run_law s xs unread)
 
-  -- a state that stands behind a program meets the program's answers
+  -- a state that stands after a program meets the program's answers
   pub stands_run : (s : Setting) (x : State T) (p : Program T) (xs : List (CallFrameInstruction T)) (unread : Option Error) → IsStateAfter s x p → run_answers_of s x xs unread ≡ answers_of s p xs unread
   stands_run s x p xs unread (a, is) = ap (λ z. run_answers_of s z xs unread) is ∙ run_law s xs unread p a
 
   pub stands_answers : (s : Setting) (x : State T) (p : Program T) (reads : Readings (CallFrameInstruction T)) → IsStateAfter s x p → run_answers s x reads ≡ answers s p reads
   stands_answers s x p reads (a, is) = ap (λ z. run_answers s z reads) is ∙ run_law s reads.values reads.refusal p a
 
-  -- ---- the CIE's program
+  -- ---- the CIE's initial instructions
 
   accepted_all : (s : Setting) (xs cie : List (CallFrameInstruction T)) → IsAccepted s (in_cie cie) → first_refusal s (in_cie cie) xs ≡ None → IsAccepted s (in_cie (cie ++ xs))
   accepted_all s [] cie a e = subst (λ l. IsAccepted s (in_cie l)) (sym (append-nil cie)) a
@@ -102,14 +102,14 @@ module _ {T : Type 0} where
       ap (on_result (λ x. on_option (end_of_cie s x) (λ e. Err e) reads.refusal) (λ e. Err e)) (run_all_law s reads.values [] nothing)
       ∙ cie_step s reads.values (first_refusal s (in_cie []) reads.values) reads.refusal refl
 
-  -- behind a CIE's program that is not refused, the machine stands
+  -- after a CIE's initial instructions that are not refused, the machine stands
   pub cie_accepted : (s : Setting) (reads : Readings (CallFrameInstruction T)) → cie_refusal s reads ≡ None → IsAccepted s (in_fde reads.values [])
   cie_accepted s reads e =
       let first = or_None_first (first_refusal s (in_cie []) reads.values) _ e in
       let rest = or_None_second (first_refusal s (in_cie []) reads.values) _ e in
       cie_ended reads.values (accepted_all s reads.values [] nothing first) (or_None_second reads.refusal _ rest)
 
-  -- a whole run: the CIE's program and then the FDE's
+  -- a whole run: the CIE's initial instructions and then the FDE's
   pub whole_run_law : (s : Setting) (cie fde : Readings (CallFrameInstruction T)) → cie_refusal s cie ≡ None → (x : State T) → run_cie s cie ≡ Ok x → run_answers s x fde ≡ answers s (in_fde cie.values []) fde
   whole_run_law s cie fde accepted x e =
       let is = (accepted_value (cie_refusal s cie) (program_state s (in_fde cie.values [])) x (sym (cie_law s cie) ∙ e)).1 in

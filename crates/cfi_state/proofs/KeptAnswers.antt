@@ -1,4 +1,4 @@
--- What the machine answers next is what the struck-out form answers next, and the machine then stands behind the program
+-- What the machine answers next is what the struck-out form answers next, and the machine then stands after the program
 -- with the instructions kept on the way.
 use Rattle.std.proofs.Common.{◌≡◌, ℕ, Bool, false, cond, List, [], ◌∷◌, ◌++◌, Option, Some, None, Result, Ok, Err, is_some, append_assoc, refl, sym, ap, subst, ◌∙◌, inl, inr, ◌⊎◌, IfOk}
 use Rattle.std.specs.Bool.{IsTrue}
@@ -90,7 +90,7 @@ module _ {T : Type 0} (allocates : MayAllocate T) (s : Setting) where
   keeps_cie x reads result (cie_ends x' y is) cie h = (cie, cie_is_kept cie (accepted_end x' y cie h is), stands_at_end s x' y cie h is)
   keeps_cie x reads result (cie_end_refused x' e refusal) cie h = cie_end_left_out cie e (end_left_out x' cie e h refusal)
 
-  -- a CIE's program that is not refused is kept whole
+  -- a CIE's initial instructions that are not refused is kept whole
   kept_whole : (cie : List (CallFrameInstruction T)) (reads : Readings (CallFrameInstruction T)) (result : Result (List (CallFrameInstruction T)) Error) → KeepsInitialInstructions allocates s cie reads result → IfOk result (λ all. all ≡ cie ++ reads.values)
   kept_whole cie reads result (cie_keeps cie' i rest result' accepted keeps_rest) =
       subst (λ l. IfOk result' (λ all. all ≡ l)) (append_assoc cie' (i ∷ []) rest.values) (kept_whole (cie' ++ i ∷ []) rest result' keeps_rest)
@@ -99,7 +99,7 @@ module _ {T : Type 0} (allocates : MayAllocate T) (s : Setting) where
   kept_whole cie reads result (cie_is_kept cie' accepted) = sym (append-nil cie')
   kept_whole cie reads result (cie_end_left_out cie' e out) = tt
 
-  -- behind it the machine stands behind the CIE's instructions
+  -- after it the machine stands after the CIE's instructions
   pub cie_stands : (cie : Readings (CallFrameInstruction T)) (x : State T) → RunsInitialInstructions allocates s fresh_state cie (Ok x) → IsStateAfter s x (in_fde cie.values [])
   cie_stands cie x runs =
       let all = keeps_cie fresh_state cie (Ok x) runs [] (stands_fresh s) in
@@ -124,7 +124,7 @@ module _ {T : Type 0} (allocates : MayAllocate T) (s : Setting) where
       let all = keeps_cie fresh_state cie (Ok x) runs [] (stands_fresh s) in
       found_in_rows all.0 result' all.1 (finds_kept address (before_last_row x fde) result' finds (in_fde all.0 []) all.2)
 
--- ---- where memory is never wanting
+-- ---- where no instruction runs out of memory
 
 module _ {T : Type 0} (allocates : MayAllocate T) (s : Setting) (never : AreNever allocates) where
   due_left_out : (w : Bool) (due : Option Error) (e : Error) → w ≡ false → IsLeftOut w due e → due ≡ Some e
@@ -154,10 +154,10 @@ module _ {T : Type 0} (allocates : MayAllocate T) (s : Setting) (never : AreNeve
   kept_passed p answer q (gives_last_row g) = ([], refl, refl)
   kept_passed p answer q (gives_no_row g left) = ([], refl, refl)
 
--- ---- the definitions of the struck-out form, where memory is never wanting
+-- ---- the definitions of the struck-out form, where no instruction runs out of memory
 
 module _ {T : Type 0} (allocates : MayAllocate T) (s : Setting) (never : AreNever allocates) where
-  -- why the CIE's program is refused behind some of its instructions
+  -- why the CIE's initial instructions are refused after some of its instructions
   abbrev refusal_behind : List (CallFrameInstruction T) → Readings (CallFrameInstruction T) → Option Error
   refusal_behind cie reads = option_or (first_refusal s (in_cie cie) reads.values) (option_or reads.refusal (refusal_at_end s (cie ++ reads.values)))
 
@@ -194,10 +194,10 @@ module _ {T : Type 0} (allocates : MayAllocate T) (s : Setting) (never : AreNeve
 pub fde_answer_kept : {T : Type 0} (allocates : MayAllocate T) (s : Setting) → AreNever allocates → (cie fde : Readings (CallFrameInstruction T)) (address : ℕ) (result : Result (Row T) Error) → AnswersFde allocates s cie fde address result → fde_answer s cie fde address ≡ result
 fde_answer_kept allocates s never cie fde address result answers_it = answers_by_kept_is allocates s never cie fde address result (answers_by_kept allocates s cie fde address result answers_it)
 
--- and so it is where memory may be wanting, but for one that is refused for want of it
+-- and so it is over any storage, but for an instruction that memory refused
 pub fde_answer_kept_or_memory : {T : Type 0} (allocates : MayAllocate T) (s : Setting) (cie fde : Readings (CallFrameInstruction T)) (address : ℕ) (result : Result (Row T) Error) → AnswersFde allocates s cie fde address result → (fde_answer s cie fde address ≡ result) ⊎ (result ≡ Err OutOfMemory)
 fde_answer_kept_or_memory allocates s cie fde address result answers_it = subst (λ r. (r ≡ result) ⊎ (result ≡ Err OutOfMemory)) (fde_answer_law s cie fde address) (fde_answer_or_memory allocates s cie fde address result answers_it)
 
--- what is still to come of the machine is what is still to come of the program behind which it stands
+-- what is still to come of the machine is what is still to come of the program after which it stands
 pub to_come_law : {T : Type 0} (s : Setting) (p : TableState (State T) T) (g : Program T) → IsStateAfter s p.so_far g → run_answers_to_come s p ≡ answers_to_come s (at_program p g)
 to_come_law s p g h = ap (cond p.has_ended []) (stands_answers s p.so_far g p.left h)

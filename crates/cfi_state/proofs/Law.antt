@@ -1,4 +1,4 @@
--- The law that ties the machine to the struck-out form: behind an accepted program, the machine in that program's state
+-- The law that ties the machine to the struck-out form: after an accepted program, the machine in that program's state
 -- refuses exactly what the program refuses next, and else comes to the state of the program with that instruction.
 use Rattle.std.proofs.Common.{◌≡◌, ℕ, ◌+◌, ◌<◌, ◌≤◌, Bool, true, false, cond, not, ◌&&◌, ◌||◌, ℤ, pos, List, [], ◌∷◌, ◌++◌, length, map, eqb, ltb, leb, take, Option, Some, None, Ok, Err, is_some, unwrap_or, refl, sym, ap, ◌∙◌, arith, append_assoc, bit_xor, inl, inr, ◌⊎◌}
 use Rattle.std.specs.Bool.{◌==◌}
@@ -95,7 +95,7 @@ module _ {T : Type 0} where
       ∙ front_of_last (is_remember i) xs (fronts xs)
       ∙ ap (λ f. cond (is_remember i) (xs ∷ f) f) (sym (before_open-fronts xs))
 
-  -- the state behind an instruction that restores no state
+  -- the state after an instruction that restores no state
   next_state : (s : Setting) (p : Program T) (i : CallFrameInstruction T) (parts : Parts T) → closings (instructions p) ≡ 0 → is_restore i ≡ false → final_parts s (initial_rule s p) (survivors (instructions p) ++ i ∷ []) ≡ parts →
       program_state s (followed_by p i) ≡ state (next_location s (location_of s p) i) parts (cond (is_remember i) (parts_of s p ∷ remembered_of s p) (remembered_of s p)) (initial_rules_of s p)
   next_state s p i parts closed e is =
@@ -128,7 +128,7 @@ module _ {T : Type 0} where
       let silent : IsSilent s instruction.Nop = record { cfa = refl; cfa_register = refl; cfa_offset = refl; args_size = refl; register = refl } in
       ap Ok (sym (silent_state s p instruction.Nop closed refl silent))
 
-  -- the parts behind an instruction that writes no rule
+  -- the parts after an instruction that writes no rule
   parts_push_unnamed : (s : Setting) (p : Program T) (i : CallFrameInstruction T) → written_register i ≡ None → (c : CfaRule T) (size : ℕ) → final_cfa s (survivors (instructions p) ++ i ∷ []) ≡ c → final_args_size (survivors (instructions p) ++ i ∷ []) ≡ size →
       final_parts s (initial_rule s p) (survivors (instructions p) ++ i ∷ []) ≡ record { cfa = c; rules = (parts_of s p).rules; args_size = size }
   parts_push_unnamed s p i unnamed c size is_cfa is_size = same_parts _ _ is_cfa (sym (rules_push_unnamed s (initial_rule s p) (survivors (instructions p)) i unnamed)) is_size

@@ -13,7 +13,7 @@ use Rattle.cfi_state.specs.Machine.{State, no_rules}
 use Rattle.cfi_state.specs.TableStates.{TableState, before_last_row, after_last_row}
 use Rattle.cfi_state.specs.Runs.{NextAnswer, passes, refuses, last_row, may_allocate}
 
--- no limits, and copies of rules want memory; the FDE covers 0x1000 up to 0x1020
+-- no limits, and copies of rules allocate; the FDE covers 0x1000 up to 0x1020
 abbrev growing : Setting
 growing = record { address_size = 8; code_alignment_factor = 1; data_alignment_factor = negsuc 7; initial_address = 4096; end_address = 4128; rule_limit = None; stack_limit = None }
 

@@ -30,7 +30,7 @@ refusal-mapped g v w due e same (inl is) = inl (ap (map_ok g) is)
 refusal-mapped g v w due e same (inr wanting) = inr (same ∙ wanting.0, is_ok-mapped g due wanting.1, wanting.2)
 
 module _ {A B : Type 0} (f : A → B) where
-  -- ---- what wants memory
+  -- ---- what allocates
 
   adds_rule-mapped : (s : Setting) (x : State A) (r : ℕ) → adds_rule s (map_state f x) r ≡ adds_rule s x r
   adds_rule-mapped s x r = ap (λ b. not (is_some s.rule_limit) && not b) (contains-map_values (map_rule f) x.parts.rules r)
@@ -70,7 +70,7 @@ module _ {A B : Type 0} (f : A → B) where
   pub wants_at_end-mapped : (s : Setting) (free : Bool) (x : State A) → may_allocate_at_end s free (map_state f x) ≡ may_allocate_at_end s free x
   wants_at_end-mapped s free x = ap (λ n. leb 2 n && copies_row s free) (len-map_values (map_rule f) x.parts.rules)
 
-  -- ---- one instruction, and the end of a CIE's program
+  -- ---- one instruction, and the end of a CIE's initial instructions
 
   pub step_ok-mapped : (s : Setting) (x y : State A) (i : CallFrameInstruction A) → step s x i ≡ Ok y → step s (map_state f x) (map_instruction f i) ≡ Ok (map_state f y)
   step_ok-mapped s x y i is = step-mapped f s x i ∙ ap (map_ok (map_state f)) is

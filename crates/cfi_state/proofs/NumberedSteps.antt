@@ -101,7 +101,7 @@ module _ {A B : Type 0} (f : A → B) where
   step-mapped s x instruction.NegateRaState = ap (toggle s (mapped x)) (get-map_values (map_rule f) x.parts.rules ra_sign_state) ∙ toggle-mapped s x (map.get x.parts.rules ra_sign_state)
   step-mapped s x instruction.Nop = refl
 
-  -- the end of the CIE's program
+  -- the end of the CIE's initial instructions
   pub end_of_cie-mapped : (s : Setting) (x : State A) → end_of_cie s (mapped x) ≡ map_ok mapped (end_of_cie s x)
   end_of_cie-mapped s x =
       (λ i. cond (leb 2 (len-map_values (map_rule f) x.parts.rules i) && is_at_limit s.stack_limit (rows_held-mapped x i)) (Err StackFull) (Ok (record (mapped x) { location = s.initial_address; initial_rules = Some (map_rules f x.parts.rules) })))

@@ -1,4 +1,4 @@
--- Where memory is never wanting, the runs give exactly the answers of the machine's functions.
+-- Where no instruction runs out of memory, the runs give exactly the answers of the machine's functions.
 use Rattle.std.proofs.Common.{◌≡◌, ℕ, Bool, true, false, cond, List, [], ◌∷◌, ◌++◌, Option, Some, None, Result, Ok, Err, refl, sym, ap, subst, ◌∙◌, inl, inr, ◌⊎◌, IfOk}
 use Rattle.std.proofs.lemmas.Bool.{false≢true}
 use Rattle.cfi_read_core.specs.Reading.{Readings, with_first, no_values}
@@ -70,7 +70,7 @@ module _ {T : Type 0} (allocates : MayAllocate T) (s : Setting) (never : AreNeve
   fde_answer_is cie fde address result (by_rows x result' runs finds) =
       ap (on_result (λ y. answer_at address (run_answers s y fde)) (λ d. Err d)) (cie_is cie (Ok x) runs) ∙ finds_answer address (before_last_row x fde) result' finds
 
--- ---- want of memory apart, they are the same: one that is refused for want of memory is answered so
+-- ---- out of memory apart, they are the same: one that memory refused is answered so
 
 due_or_memory : {A : Type 0} (w : Bool) (due : Result A Error) (e : Error) → IsRefusal w due e → (due ≡ Err e) ⊎ (e ≡ OutOfMemory)
 due_or_memory w due e (inl is) = inl is

@@ -1,5 +1,5 @@
 -- What a contract sees of an unwind context.
---     ContextState      its rows, and the rules that the CIE's program ended with
+--     ContextState      its rows, and the rules that the CIE's initial instructions ended with
 --     machine_state location x      the state of the machine, which keeps no addresses of rows
 --     empty_context, context_remember, context_restore, context_end_of_cie      what the operations do
 use Rattle.std.specs.Prelude.{◌≡◌, ℕ, ◌+◌, ◌≤◌, Option, Some, None, List, [], ◌∷◌, length, map, reverse, nat_le, ◌&&◌, cond, ◌⊎◌, Bool, false, IsNone, Result, Ok, Err}
@@ -15,13 +15,13 @@ use Rattle.cfi_state.specs.ProgramSettings.{is_at_limit}
 use Rattle.cfi_state.specs.Machine.{Rules, State, copies_held}
 use Rattle.cfi_state.specs.Row.{Row, empty_row, with_parts}
 
--- the current row, the remembered rows, the last first, and the rules that the CIE's program ended with, once it has
+-- the current row, the remembered rows, the last first, and the rules that the CIE's initial instructions ended with, once it has
 pub record ContextState (T : Type 0) : Type 0 where
   pub row : Row T
   pub remembered : List (Row T)
   pub initial_rules : Option (Rules T)
 
--- memory may be wanting for a row's copy only where no limit bounds the stack or the copy takes memory
+-- a row's copy may run out of memory only where no limit bounds the stack or the copy takes memory
 abbrev pub AddsRow : Option ℕ → Bool → Type 0
 AddsRow limit copies_free = IsNone limit ⊎ (copies_free ≡ false)
 
@@ -52,7 +52,7 @@ module _ {T : Type 0} where
   shown_rows rows NoRule = rows
   shown_rows rows (OneRule register rule) = rows
 
-  -- the rules that the CIE's program ended with
+  -- the rules that the CIE's initial instructions ended with
   abbrev pub initial_of : List (Row T) → InitialRules T → Option (Rules T)
   initial_of rows NotYet = None
   initial_of rows NoRule = Some empty
@@ -106,7 +106,7 @@ module _ {T : Type 0} where
   abbrev pub context_restore : ContextState T → Result (ContextState T) Error
   context_restore context = context_restore_from context context.remembered
 
-  -- the end of the CIE's program; two rules or more take a row
+  -- the end of the CIE's initial instructions; two rules or more take a row
   abbrev pub context_end_of_cie : Option ℕ → ContextState T → Result (ContextState T) Error
   context_end_of_cie limit context =
       cond (nat_le 2 (len context.row.parts.rules) && is_at_limit limit (context_rows_held context)) (Err StackFull)
@@ -119,6 +119,6 @@ module _ {T : Type 0} where
   initial_rule_in None register = Err CfiInstructionInInvalidContext
   initial_rule_in (Some rules) register = Ok (get rules register)
 
-  -- the rule that the register had when the CIE's program ended
+  -- the rule that the register had when the CIE's initial instructions ended
   abbrev pub initial_rule : ContextState T → ℕ → Result (Option (RegisterRule T)) Error
   initial_rule context register = initial_rule_in context.initial_rules register

@@ -1,7 +1,7 @@
 -- What the evaluation of an instruction answers, by the machine's step.
 --     setting_of parameters rule_limit stack_limit      what stays fixed, and the limits of a storage
 --     Evaluates s copies_free location i old new result      what the instruction i at the location does to a context, and answers
---     EndsCie s copies_free location old new result      the same of the end of a CIE's program
+--     EndsCie s copies_free location old new result      the same of the end of a CIE's initial instructions
 use Rattle.std.specs.Prelude.{◌≡◌, ℕ, Bool, IsTrue, List, ◌∷◌, Option, Some, None, is_some, Result, Ok, Err, IsOk, ◌⊎◌}
 use Rattle.cfi_read_core.specs.declared.error.Error.{Error}
 use Rattle.cfi_read_core.specs.declared.error.Error.TheVariants.{OutOfMemory}
@@ -41,7 +41,7 @@ pub record IsChange {T : Type 0} (s : Setting) (location : ℕ) (i : CallFrameIn
   pub remembered_rows : new.remembered ≡ remembered_after i old
   pub initial_rules : new.initial_rules ≡ old.initial_rules
 
--- The end of a CIE's program where the FDE's begins: no row changes.
+-- The end of a CIE's initial instructions where the FDE's begins: no row changes.
 pub record IsEnd {T : Type 0} (s : Setting) (location : ℕ) (old new : ContextState T) : Type 0 where
   pub accepted : end_of_cie s (machine_state location old) ≡ Ok (machine_state s.initial_address new)
   pub row : new.row ≡ old.row

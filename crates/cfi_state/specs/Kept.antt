@@ -1,7 +1,7 @@
 -- The next answer of an FDE without a machine: the program so far, followed by the instructions that are kept on the way.
--- Left out are those that the program refuses and, where memory may be wanting, those that memory refused.
+-- Left out are those that the program refuses and, where it may run out of memory, those that memory refused.
 --     NextKeptAnswer allocates s p answer q      the next answer at the place p, and then the place is q
---     AnswersForProgram allocates s p answer q      the answer that takes a machine from p to q is that of any program behind which it stands
+--     AnswersForProgram allocates s p answer q      the answer that takes a machine from p to q is that of any program after which it stands
 --     KeepsInitialInstructions, AnswersByKept      the program of a CIE, and the answer for an address
 use Rattle.std.specs.Prelude.{◌≡◌, ℕ, Bool, true, false, List, [], ◌∷◌, ◌++◌, Option, Some, None, IsTrue, Result, Ok, Err, ◌⊎◌}
 use Rattle.cfi_read_core.specs.Reading.{Readings, with_first, no_values}
@@ -16,7 +16,7 @@ use Rattle.cfi_state.specs.Rows.{row_until, program_state, IsStateAfter}
 use Rattle.cfi_state.specs.TableStates.{TableState, before_last_row, after_last_row}
 use Rattle.cfi_state.specs.Runs.{MayAllocate, FindsRow}
 
--- the refusal that was due or, where none was due and memory may be wanting, `OutOfMemory`
+-- the refusal that was due or, where none was due and it may run out of memory, `OutOfMemory`
 abbrev pub IsLeftOut : Bool → Option Error → Error → Type 0
 IsLeftOut allocates due e = (due ≡ Some e) ⊎ (IsTrue allocates × (due ≡ None) × (e ≡ OutOfMemory))
 
@@ -33,11 +33,11 @@ module _ {T : Type 0} where
     gives_last_row : (p : Program T) → NextKeptAnswer allocates s (before_last_row p (no_values None)) (Ok (Some (row_until s p s.end_address))) (after_last_row p (no_values None))
     gives_no_row : (p : Program T) (left : Readings (CallFrameInstruction T)) → NextKeptAnswer allocates s (after_last_row p left) (Ok None) (after_last_row p left)
 
-  -- the same place behind a program
+  -- the same place after a program
   abbrev pub at_program : TableState (State T) T → Program T → TableState (Program T) T
   at_program p g = record { so_far = g; left = p.left; has_ended = p.has_ended }
 
-  -- whatever program the machine stood behind, it now stands behind that program with what was kept
+  -- whatever program the machine stood after, it now stands after that program with what was kept
   abbrev pub AnswersForProgram : MayAllocate T → Setting → TableState (State T) T → Result (Option (Row T)) Error → TableState (State T) T → Type 0
   AnswersForProgram allocates s p answer q =
       (g : Program T) → IsStateAfter s p.so_far g → (after : Program T) × NextKeptAnswer allocates s (at_program p g) answer (at_program q after) × IsStateAfter s q.so_far after

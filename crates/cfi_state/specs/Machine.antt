@@ -27,7 +27,7 @@ pub record Parts (T : Type 0) : Type 0 where
   pub rules : Rules T
   pub args_size : ℕ
 
--- `remembered` has the last remembered parts first. `initial_rules` are those with which the CIE's program ended, once it has
+-- `remembered` has the last remembered parts first. `initial_rules` are those with which the CIE's initial instructions ended, once it has
 pub record State (T : Type 0) : Type 0 where
   pub location : ℕ
   pub parts : Parts T
@@ -68,7 +68,7 @@ module _ {T : Type 0} where
   set_or_remove_rule s x r None = Ok (with_rules x (map.remove x.parts.rules r))
   set_or_remove_rule s x r (Some rule) = set_rule s x r rule
 
-  -- the register takes the rule that the CIE's program left it, which may be none
+  -- the register takes the rule that the CIE's initial instructions left it, which may be none
   abbrev pub restore_rule : Setting → State T → ℕ → Option (Rules T) → Result (State T) Error
   restore_rule s x r None = Err CfiInstructionInInvalidContext
   restore_rule s x r (Some initial) = set_or_remove_rule s x r (map.get initial r)
@@ -115,6 +115,6 @@ module _ {T : Type 0} where
   step s x instruction.NegateRaState = toggle s x (map.get x.parts.rules ra_sign_state)
   step s x instruction.Nop = Ok x
 
-  -- the FDE's program begins at the initial address, with the parts and the remembered parts that the CIE's program left
+  -- the FDE's program begins at the initial address, with the parts and the remembered parts that the CIE's initial instructions left
   abbrev pub end_of_cie : Setting → State T → Result (State T) Error
   end_of_cie s x = cond (nat_le 2 (map.len x.parts.rules) && is_at_limit s.stack_limit (rows_held x)) (Err StackFull) (Ok (record x { location = s.initial_address; initial_rules = Some x.parts.rules }))

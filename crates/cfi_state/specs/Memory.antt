@@ -1,6 +1,6 @@
--- Where an instruction may want memory: only where a list grows that no limit bounds, or where a row is copied and copies take memory.
---     may_allocate_at s copies_free x i      whether the instruction i may want memory in the state x
---     may_allocate_at_end s copies_free x      whether the end of a CIE's program may
+-- Where an instruction may allocate: only where a list grows that no limit bounds, or where a row is copied and copies take memory.
+--     may_allocate_at s copies_free x i      whether the instruction i may allocate in the state x
+--     may_allocate_at_end s copies_free x      whether the end of a CIE's initial instructions may
 use Rattle.std.specs.Prelude.{ℕ, Bool, false, not, ◌&&◌, nat_le, Option, Some, None, is_some}
 use Rattle.std.specs.FinMap as map
 use Rattle.cfi_parts.specs.declared.instruction.CallFrameInstruction.{CallFrameInstruction}
@@ -8,7 +8,7 @@ use Rattle.cfi_parts.specs.declared.instruction.CallFrameInstruction.TheVariants
 use Rattle.cfi_state.specs.ProgramSettings.{Setting, ra_sign_state}
 use Rattle.cfi_state.specs.Machine.{Rules, State}
 
--- a row is put on the stack, which may grow, or copies of whose rows want memory
+-- a row is put on the stack, which may grow, or copies of whose rows allocate
 abbrev pub copies_row : Setting → Bool → Bool
 copies_row s copies_free = not (is_some s.stack_limit && copies_free)
 

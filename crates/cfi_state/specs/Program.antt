@@ -1,9 +1,9 @@
--- A program of call frame instructions: those of the CIE, and behind its end those of an FDE (DWARF 5, section 6.4.3).
+-- A program of call frame instructions: those of the CIE, and after its end those of an FDE (DWARF 5, section 6.4.3).
 -- What it leaves, and which instruction it refuses next, is said without a machine.
 --     Program, followed_by      the instructions so far, and one more
---     parts_of s p, location_of s p      the row's parts and the location behind the program
---     refusal s p i, refusal_at_end s p      why the next instruction, or the end of the CIE's program, is refused
---     IsAccepted s p      none of its instructions was refused behind those before it
+--     parts_of s p, location_of s p      the row's parts and the location after the program
+--     refusal s p i, refusal_at_end s p      why the next instruction, or the end of the CIE's initial instructions, is refused
+--     IsAccepted s p      none of its instructions was refused after those before it
 --     kept_program s p xs      the program followed by those of xs that are not refused
 use Rattle.std.specs.Prelude.{◌≡◌, ℕ, ◌+◌, Bool, true, false, cond, not, ◌&&◌, nat_lt, nat_le, ◌==◌, List, [], ◌∷◌, ◌++◌, length, fold, Option, Some, None, is_some}
 use Rattle.std.specs.Option.{option_or}
@@ -46,7 +46,7 @@ module _ {T : Type 0} where
   abbrev pub no_rule : ℕ → Option (RegisterRule T)
   no_rule r = None
 
-  -- the rules that the CIE's program left when it ended, whatever the FDE strikes
+  -- the rules that the CIE's initial instructions left when it ended, whatever the FDE strikes
   abbrev pub initial_rule : Setting → Program T → ℕ → Option (RegisterRule T)
   initial_rule s (in_cie cie) = no_rule
   initial_rule s (in_fde cie fde) = final_rule s no_rule (survivors cie)
@@ -120,7 +120,7 @@ module _ {T : Type 0} where
   refusal s p instruction.NegateRaState = option_or (refused_if (is_no_constant (rule_of s p ra_sign_state)) CfiInstructionInInvalidContext) (refused_if (has_no_room s p ra_sign_state) TooManyRegisterRules)
   refusal s p instruction.Nop = None
 
-  -- the end of the CIE's program
+  -- the end of the CIE's initial instructions
   abbrev pub refusal_at_end : Setting → List (CallFrameInstruction T) → Option Error
   refusal_at_end s cie = refused_if (nat_le 2 (rule_count s (in_cie cie)) && is_stack_full s (in_cie cie)) StackFull
 

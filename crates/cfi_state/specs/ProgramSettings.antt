@@ -1,6 +1,6 @@
 -- What the operands of call frame instructions mean (DWARF 5, section 6.4.2), and what stays fixed while a program runs.
 --     Setting      the entry's factors and addresses, and the storage's limits
---     next_location s a i      the location a after the instruction i
+--     next_location s location i      the location after the instruction i
 --     times_factor s n, unsigned_times_factor s n      an operand times the data alignment factor
 use Rattle.std.specs.Prelude.{ℕ, ◌+◌, ◌*◌, ◌%◌, ◌^◌, Bool, true, false, nat_lt, ◌==◌, ℤ, Option, Some, None}
 use Rattle.std.specs.Int.{w64, cast_signed, int_wrapping_mul}

@@ -1,9 +1,9 @@
 -- The rows of an FDE (DWARF 5, section 6.4.1): what the program's kept instructions leave before each move that ends a
 -- row, and how the plain machine meets the same answers.
---     answers s p reads      the answers for the FDE's instructions that are still to be read behind the program p
---     cie_refusal s reads      why the CIE's program is refused
+--     answers s p reads      the answers for the FDE's instructions that are still to be read after the program p
+--     cie_refusal s reads      why the CIE's initial instructions are refused
 --     run_answers s x reads, run_cie s reads      the same by the machine
---     program_state s p, IsStateAfter s x p      the machine's state behind the program p, where p is accepted
+--     program_state s p, IsStateAfter s x p      the machine's state after the program p, where p is accepted
 --     AreConsecutive from rows to, answer_at a answers      what the rows cover, and the answer for an address
 use Rattle.std.specs.Prelude.{◌≡◌, ℕ, Bool, cond, List, [], ◌∷◌, ◌++◌, map, filter_map, nat_le, nat_lt, ◌&&◌, ◌≤◌, Option, Some, None, Result, Ok, Err}
 use Rattle.std.specs.Option.{option_or}
@@ -78,7 +78,7 @@ module _ {T : Type 0} where
   abbrev pub run_cie : Setting → Readings (CallFrameInstruction T) → Result (State T) Error
   run_cie s reads = on_result (λ x. on_option (end_of_cie s x) (λ e. Err e) reads.refusal) (λ e. Err e) (run_all s fresh_state reads.values)
 
-  -- ---- the machine's state behind a program
+  -- ---- the machine's state after a program
 
   abbrev pub initial_rules_of : Setting → Program T → Option (Rules T)
   initial_rules_of s (in_cie cie) = None
@@ -90,7 +90,7 @@ module _ {T : Type 0} where
   abbrev pub program_state : Setting → Program T → State T
   program_state s p = record { location = location_of s p; parts = parts_of s p; remembered = remembered_of s p; initial_rules = initial_rules_of s p }
 
-  -- a machine's state stands behind an accepted program where it is the program's
+  -- a machine's state stands after an accepted program where it is the program's
   abbrev pub IsStateAfter : Setting → State T → Program T → Type 0
   IsStateAfter s x p = IsAccepted s p × (x ≡ program_state s p)
 

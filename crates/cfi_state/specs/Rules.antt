@@ -27,6 +27,6 @@ module _ {T : Type 0} where
   map_set_rule limit rules register rule =
       cond (not (contains_key rules register) && is_at_limit limit (len rules)) (Err TooManyRegisterRules) (Ok (insert rules register rule))
 
-  -- memory may be wanting for a rule only where no limit bounds the list and the register has no rule yet
+  -- a rule may run out of memory only where no limit bounds the list and the register has no rule yet
   abbrev pub AddsRule : Option ℕ → Rules T → ℕ → Type 0
   AddsRule limit rules register = IsNone limit × (contains_key rules register ≡ false)

@@ -1,8 +1,8 @@
--- What the machine answers where memory may be wanting: then an instruction that would be accepted may be refused with
--- `OutOfMemory`, and is left out. Where memory is never wanting, these are the answers of `Rows`.
---     MayAllocate      where an instruction, or the end of a CIE's program, may want memory
---     NextAnswer allocates s p answer q      a table at the place p answers next, and then is at the place q
---     RunsInitialInstructions allocates s x reads result      a CIE's program, run from the state x
+-- What the machine answers where it may run out of memory: then an instruction that would be accepted may be refused with
+-- `OutOfMemory`, and is left out. Where no instruction runs out of memory, these are the answers of `Rows`.
+--     MayAllocate      where an instruction, or the end of a CIE's initial instructions, may allocate
+--     NextAnswer allocates s p answer q      a table in the state p answers next, and then is in the state q
+--     RunsInitialInstructions allocates s x reads result      a CIE's initial instructions, run from the state x
 --     FindsRow, AnswersFde      the answer for an address
 use Rattle.std.specs.Prelude.{◌≡◌, ℕ, Bool, true, false, Option, Some, None, Result, Ok, Err}
 use Rattle.cfi_read_core.specs.Reading.{Readings, with_first, no_values}
@@ -17,7 +17,7 @@ use Rattle.cfi_state.specs.Memory.{may_allocate_at, may_allocate_at_end}
 use Rattle.cfi_state.specs.Rows.{row_contains}
 use Rattle.cfi_state.specs.TableStates.{TableState, before_last_row, after_last_row}
 
--- where an instruction, and where the end of the CIE's program, may want memory
+-- where an instruction, and where the end of the CIE's initial instructions, may allocate
 pub record MayAllocate (T : Type 0) : Type 0 where
   pub at : State T → CallFrameInstruction T → Bool
   pub at_end : State T → Bool
@@ -41,7 +41,7 @@ module _ {T : Type 0} where
         → is_move i ≡ true → step s x i ≡ Ok y → NextAnswer allocates s (before_last_row x (with_first i rest)) (Ok (Some (current_row x y.location))) (before_last_row y rest)
     refuses : (x : State T) (i : CallFrameInstruction T) (rest : Readings (CallFrameInstruction T)) (e : Error)
         → IsRefusal (allocates.at x i) (step s x i) e → NextAnswer allocates s (before_last_row x (with_first i rest)) (Err e) (before_last_row x rest)
-    -- behind an instruction that cannot be read only the last row is to come
+    -- after an instruction that cannot be read only the last row is to come
     cannot_read : (x : State T) (e : Error) → NextAnswer allocates s (before_last_row x (no_values (Some e))) (Err e) (before_last_row x (no_values None))
     last_row : (x : State T) → NextAnswer allocates s (before_last_row x (no_values None)) (Ok (Some (current_row x s.end_address))) (after_last_row x (no_values None))
     no_row : (x : State T) (left : Readings (CallFrameInstruction T)) → NextAnswer allocates s (after_last_row x left) (Ok None) (after_last_row x left)

@@ -1,5 +1,5 @@
 -- Where the table of an FDE's rows is, and what is still to come of it.
---     TableState      what it stands behind, what is left to read, and whether the last row was handed out
+--     TableState      the state, what is left to read, and whether the last row was returned
 --     run_answers_to_come s p, answers_to_come s p      the answers still to come, by the machine and without it
 --     IsNext before answer after      the answer is the first of those before, and those after are the others
 use Rattle.std.specs.Prelude.{◌≡◌, Bool, true, false, cond, List, [], ◌∷◌, Option, Some, None, Result, Ok, Err}

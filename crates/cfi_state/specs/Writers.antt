@@ -1,7 +1,7 @@
 -- Which instruction writes which part of an unwind row (DWARF 5, section 6.4.2.2 and 6.4.2.3), and the parts that a
 -- list of instructions leaves: each as its last writer wrote it.
 --     final_cfa s ys, final_args_size ys      the canonical frame address's rule and the argument size
---     final_rule s initial ys r      the rule of register r, where `initial` are the rules that the CIE's program left
+--     final_rule s initial ys r      the rule of register r, where `initial` are the rules that the CIE's initial instructions left
 --     registers_with_rule s initial ys      the registers that have one
 use Rattle.std.specs.Prelude.{ℕ, zero, suc, ◌+◌, ◌%◌, Bool, false, cond, not, ◌&&◌, ◌==◌, ℤ, pos, List, [], ◌∷◌, filter, filter_map, count_by, Option, Some, None, is_some, unwrap_or}
 use Rattle.std.specs.List.{list_any}
@@ -24,7 +24,7 @@ abbrev pub last_written : {A B : Type 0} → (A → Option B) → List A → Opt
 last_written f [] = None
 last_written f (x ∷ xs) = option_or (last_written f xs) (f x)
 
--- what stands behind the last element that passes, or all where none does
+-- what stands after the last element that passes, or all where none does
 abbrev pub after_last : {A : Type 0} → (A → Bool) → List A → List A
 after_last p [] = []
 after_last p (x ∷ xs) = cond (list_any p (x ∷ xs)) (after_last p xs) (x ∷ xs)
@@ -74,7 +74,7 @@ module _ {T : Type 0} where
   written_register instruction.NegateRaState = Some ra_sign_state
   written_register _ = None
 
-  -- the rule that a writer gives its register; a restore gives the rule that the CIE's program left, which may be none
+  -- the rule that a writer gives its register; a restore gives the rule that the CIE's initial instructions left, which may be none
   abbrev pub written_rule : Setting → (ℕ → Option (RegisterRule T)) → CallFrameInstruction T → Option (RegisterRule T)
   written_rule s initial (instruction.Undefined r) = Some rule.Undefined
   written_rule s initial (instruction.SameValue r) = Some rule.SameValue

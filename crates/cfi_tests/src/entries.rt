@@ -23,7 +23,7 @@ fn bytes_of(alloc: Global, text: &str) -> Result<Vec<u8>, FromHexError> {
 }
 
 /// A CIE of `.eh_frame` whose FDEs have a pointer to language-specific data and addresses relative to themselves, and
-/// an FDE behind it.
+/// an FDE after it.
 const LSDA_CIE: &str = "0f000000 00000000 01 7a4c5200 017810 02 43 1b";
 
 fn fde_of_eh_frame(bytes: &[u8], offset: usize) -> Result<FrameDescriptionEntry<Slice<'_>>, Error> {
@@ -34,7 +34,7 @@ fn fde_of_eh_frame(bytes: &[u8], offset: usize) -> Result<FrameDescriptionEntry<
     })
 }
 
-/// How many entries there are, and the refusal behind them.
+/// How many entries there are, and the refusal after them.
 fn walk<R: cfi_read_core::Reader, S: UnwindSection<R>>(section: &S) -> (u32, Option<Error>) {
     let bases = BaseAddresses::default();
     let mut count = 0u32;
@@ -178,7 +178,7 @@ fn language_specific_data(rt: HostRuntime) -> Result<(), Fail> {
     Ok(())
 }
 
-/// CIEs with a bare augmentation text: in `.debug_frame`, in `.eh_frame`, and what both answer.
+/// CIEs with a bare augmentation string: in `.debug_frame`, in `.eh_frame`, and what both answer.
 const BARE_TEXTS: [(&str, &str, Result<bool, Error>); 3] = [
     (
         "0d000000 ffffffff 04 5300 0800 017810 00",

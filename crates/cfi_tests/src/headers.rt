@@ -230,7 +230,7 @@ fn refused_rows_count(rt: HostRuntime) -> Result<(), Fail> {
         assert_eq!(rt; rows.next(), Ok(first));
         assert_eq!(rt; rows.next(), Err(Error::BadUnsignedLeb128));
         assert_eq!(rt; rows.size_hint(), (1, Some(1)));
-        // The third row begins behind the number that was refused.
+        // The third row begins after the number that was refused.
         let third = Some((Pointer::Direct(5), Pointer::Direct(6)));
         assert_eq!(rt; rows.next(), Ok(third));
         assert_eq!(rt; rows.next(), Ok(None));

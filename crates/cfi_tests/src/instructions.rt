@@ -7,7 +7,7 @@ use std::test::Fail;
 
 type Instruction = CallFrameInstruction<usize>;
 
-/// The first instruction of the bytes, and the one behind it.
+/// The first instruction of the bytes, and the one after it.
 fn first_two(
     bytes: &[u8],
     encoding: Option<DwEhPe>,

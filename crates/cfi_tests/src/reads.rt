@@ -6,7 +6,7 @@ use cfi_read_core::{
 };
 use std::test::Fail;
 
-/// What an unsigned LEB128 number gives, and the place behind it.
+/// What an unsigned LEB128 number gives, and the place after it.
 fn uleb128<R: Reader>(reader: R) -> (Result<u64, Error>, u64) {
     let mut reader = reader;
     let read = reader.read_uleb128();

@@ -1,4 +1,4 @@
-//! The rows of an FDE one after the other, and the row of an address with any `get_cie`.
+//! The rows of an FDE in order, and the row of an address with any `get_cie`.
 use crate::sections::THREE_ROWS;
 use cfi_parts::instruction::UnwindExpression;
 use cfi_read_core::dwarf_section::Expression;
@@ -24,7 +24,7 @@ const CIE_MOVES: [u8; 45] = [
     0x14, 0, 0, 0, 0, 0, 0, 0, 0, 0x10, 0, 0, 0, 0, 0, 0, 0x20, 0, 0, 0, 0, 0, 0, 0,
 ];
 
-/// The CIE; an FDE whose CFA is an expression, of which the register is set behind it.
+/// The CIE; an FDE whose CFA is an expression, of which the register is set after it.
 const EXPRESSION: [u8; 51] = [
     0x10, 0, 0, 0, 0xff, 0xff, 0xff, 0xff, 4, 0, 8, 0, 1, 0x78, 0x10, 0x0c, 7, 8, 0x90, 1, 0x1b, 0,
     0, 0, 0, 0, 0, 0, 0, 0x10, 0, 0, 0, 0, 0, 0, 0x20, 0, 0, 0, 0, 0, 0, 0, 0x86, 2, 0x0f, 1, 0x30,
@@ -64,7 +64,7 @@ fn next_shown<R: Reader<Offset = usize>>(
     }
 }
 
-/// Whether the FDE for 0x1000 hands out these answers one after the other, and no current row behind the last.
+/// Whether the FDE for 0x1000 yields these answers in order, and no current row after the last.
 fn hands_out<R: Reader<Offset = usize>>(
     section: &DebugFrame<R>,
     context: &mut UnwindContext<usize>,
@@ -81,7 +81,7 @@ fn hands_out<R: Reader<Offset = usize>>(
     Ok(table.into_current_row().is_none())
 }
 
-/// Where the first row of the FDE for 0x1000 ends, by the row that the table leaves behind.
+/// Where the first row of the FDE for 0x1000 ends, by the row that the table leaves.
 fn first_end<R: Reader<Offset = usize>>(
     section: &DebugFrame<R>,
     context: &mut UnwindContext<usize>,

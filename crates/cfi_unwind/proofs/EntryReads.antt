@@ -29,7 +29,7 @@ onward_encoding_byte = onward_bind (unsigned w8) _ (onward_unsigned w8) (λ enco
 
 -- ---- bytes
 
--- what is left has the byte that is read, and behind it what is left then
+-- what is left has the byte that is read, and after it what is left then
 pub byte_taken : {old new : Position} {b : ℕ} → IsSound old → (unsigned w8 old.source old.place ≡ record { value = Ok b; place = new.place }) × (new.source ≡ old.source) →
     bytes_left old ≡ b ∷ bytes_left new
 byte_taken {old = old} {new = new} {b = b} sound (gives, same) =
@@ -62,7 +62,7 @@ pub letters_end : (context : PointerContext) (known : Augmentation) (s : Positio
 unfolding letters
 letters_end context known s source place e = ap (λ (ls : List ℕ). letters context ls known source place) e
 
--- one letter, and those behind it
+-- one letter, and those after it
 pub letters_on : (context : PointerContext) (l : ℕ) (ls : List ℕ) (known next : Augmentation) (old new : Position) →
     (letter context l known old.source old.place ≡ record { value = Ok next; place = new.place }) × (new.source ≡ old.source) →
     letters context (l ∷ ls) known old.source old.place ≡ letters context ls next new.source new.place

@@ -97,7 +97,7 @@ module _ {T : Type 0} (number : T → ℕ) where
           (leads (Err e) (before_last_row (state_in_numbers number location old) rest) (subst (λ l. NextAnswer (may_allocate s free) s (before_last_row (state_in_numbers number location old) l) (Err e) (before_last_row (state_in_numbers number location old) rest)) (sym reads)
           (refuses (state_in_numbers number location old) (map_instruction number i) rest e (step_refusal-mapped number s free (machine_state location old) i e refusal.1))))
 
-    -- ---- as part of a CIE's program
+    -- ---- as part of a CIE's initial instructions
 
     module _ (all left rest : Readings Instruction) (leads : LeadsToCie (may_allocate s free) s fresh_state all (state_in_numbers number location old) left) (reads : left ≡ with_first (map_instruction number i) rest) where
       pub cie-stays : answer ≡ Ok None → LeadsToCie (may_allocate s free) s fresh_state all (state_in_numbers number location new) rest
@@ -117,7 +117,7 @@ module _ {T : Type 0} (number : T → ℕ) where
   pub cie-starts : (allocates : MayAllocate ℕ) (s : Setting) (context : ContextState T) (all : Readings Instruction) → context ≡ empty_context → LeadsToCie allocates s fresh_state all (state_in_numbers number 0 context) all
   cie-starts allocates s context all empty result runs = subst (λ x. RunsInitialInstructions allocates s x all result) (ap (state_in_numbers number 0) empty ∙ fresh-mapped number) runs
 
-  -- the end of a CIE's program
+  -- the end of a CIE's initial instructions
   module _ (s : Setting) (free : Bool) (location : ℕ) (old new : ContextState T) (all left : Readings Instruction) (leads : LeadsToCie (may_allocate s free) s fresh_state all (state_in_numbers number location old) left) (nothing : left ≡ no_values None) where
     pub cie-ends : (result : Result (Unit {0}) Error) → EndsCie s free location old new result → RunsInitialInstructions (may_allocate s free) s fresh_state all (map_ok (λ _. state_in_numbers number s.initial_address new) result)
     cie-ends (Ok _) ends =
@@ -150,7 +150,7 @@ module _ {T : Type 0} (number : T → ℕ) (given : Result (Option (CallFrameIns
 -- ---- the answers of a table
 
 module _ (allocates : MayAllocate ℕ) (s : Setting) where
-  -- a table whose last row was handed out stays
+  -- a table whose last row was returned stays
   pub table-ended : (p : TableState (State ℕ) ℕ) → p.has_ended ≡ true → NextAnswer allocates s p (Ok None) p
   table-ended p is = let same : after_last_row p.so_far p.left ≡ p = λ k. record { so_far = p.so_far; left = p.left; has_ended = sym is k } in subst (λ q. NextAnswer allocates s q (Ok None) q) same (no_row p.so_far p.left)
 

@@ -1,4 +1,4 @@
--- What is left of the entries of a section behind a step.
+-- What is left of the entries of a section after a step.
 use Rattle.std.proofs.Common.{◌≡◌, ◌≤◌, ◌<◌, ◌-◌, ℕ, Bool, true, false, Option, Some, None, Result, Ok, Err, refl, sym, ap, ◌∙◌, arith}
 use Rattle.std.specs.Prelude.{◌==◌, if◌then◌else◌}
 use Rattle.std.proofs.lemmas.Bool.{eqb-false, eqb-true}
@@ -36,7 +36,7 @@ by_entry : (section : Section) (r : Result Entry Error) (others : Readings Entry
 by_entry section (Ok e) others = refl
 by_entry section (Err e) others = refl
 
--- a prefix and its entry are one step, and what is left is left behind both
+-- a prefix and its entry are one step, and what is left is left after both
 by_prefix : (section : Section) (r : Result (Option Prefix) Error) (place : ℕ) (left : ℕ → Readings Entry) →
     let o = carry_on (entry_of_prefix section) section.source r place in
     entries_with section false r (left place) ≡ step_gives section o.value (left o.place)
@@ -85,7 +85,7 @@ module _ (section : Section) (old new : Position) (through : old.source ≡ sect
       entries_left section old.place ≡ no_values (Some e)
   step_refusal e gives = step_of (Err e) gives
 
--- behind an entry or a gap fewer bytes are left
+-- after an entry or a gap fewer bytes are left
 pub step_fewer : (section : Section) (old new : Position) (x : Option Entry) → (old.source.last - old.place == 0) ≡ false →
     (entry_read section old.source old.place ≡ record { value = Ok x; place = new.place }) × (new.source ≡ old.source) →
     new.source.last - new.place < old.source.last - old.place

@@ -23,7 +23,7 @@ not_before {A = A} {read = read} {old = old} {new = new} onward (gives, same) =
     let place : (read old.source old.place).place ≡ new.place = ap (λ (o : Outcome A). o.place) gives in
     omega arith
 
--- behind a read
+-- after a read
 pub behind_of : {A : Type 0} {read : Read A} {old new section : Position} {v : Result A Error} → IsOnward read →
     (read old.source old.place ≡ record { value = v; place = new.place }) × (new.source ≡ old.source) → IsOf old section → IsOf new section
 behind_of {A = A} {read = read} {old = old} {new = new} onward (gives, same) is =

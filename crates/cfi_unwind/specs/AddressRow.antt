@@ -1,8 +1,8 @@
 -- The row that a section gives for an address, or the first refusal on the way.
 --     setting rule_limit stack_limit fde      what stays fixed while the programs of an FDE and its CIE run
---     row_of_fde .. fde      the answer of one FDE: the refusal of its CIE's program, else its first refusal or row with the address
+--     row_of_fde .. fde      the answer of one FDE: the refusal of its CIE's initial instructions, else its first refusal or row with the address
 --     row_by_scan .. section a      that of the first FDE that covers the address, or the first refusal before it
---     IsRowOfFde      the same of one FDE where memory may be wanting; RunsToRowOfFde by the machine
+--     IsRowOfFde      the same of one FDE where it may run out of memory; RunsToRowOfFde by the machine
 --     IsRowOfFound      both, and the equation over a fixed storage, of an FDE or refusal that was found
 --     IsRowByScan      that, of what going through the section finds
 use Rattle.std.specs.Prelude.{◌≡◌, ℕ, Bool, Option, Result, Ok, Err}
@@ -39,7 +39,7 @@ row_by_scan rule_limit stack_limit section a = scan_answer (row_of_fde rule_limi
 
 -- ---- over any storage; `copies_free` is whether it copies the rules of a row without taking memory
 
--- an instruction that may want memory may be refused for want of it, and is then left out
+-- an instruction that may allocate may be refused for lack of it, and is then left out
 abbrev pub IsRowOfFde : Option ℕ → Option ℕ → Bool → Section → ℕ → Fde → Result (Row ℕ) Error → Type 0
 IsRowOfFde rule_limit stack_limit copies_free section a fde row =
     let s = setting rule_limit stack_limit fde in

@@ -13,7 +13,7 @@ use Rattle.cfi_parts.specs.Pointers.{PointerContext, encoding_byte, pointer}
 use Rattle.cfi_unwind.specs.Sections.{Section, has_sizes, pointer_context}
 use Rattle.cfi_unwind.specs.Prefixes.{Prefix}
 
--- What an augmentation text and its data mean. Of a repeated letter the last counts.
+-- What an augmentation string and its data mean. Of a repeated letter the last counts.
 pub record Augmentation : Type 0 where
   pub has_augmentation_data : Bool  -- z: CIE and FDEs have augmentation data
   pub lsda_encoding : Option ℕ  -- L
@@ -77,7 +77,7 @@ unfoldable pub letters : PointerContext → List ℕ → Augmentation → Read A
 letters context [] known = give known
 letters context (l ∷ ls) known = letter context l known >>= letters context ls
 
--- behind a first z: the length of the data, in which the other letters are read; what they leave is dropped
+-- after a first z: the length of the data, in which the other letters are read; what they leave is dropped
 unfoldable pub letters_with_data : PointerContext → List ℕ → Read (Option Augmentation)
 letters_with_data context ls = do
   length ← offset_leb128
@@ -108,7 +108,7 @@ sizes section version =
 abbrev pub return_register : ℕ → Read Register
 return_register version = if version == 1 then (unsigned w8 >>= λ n. give (record { 0 = n })) else register_leb128
 
--- behind the id
+-- after the id
 unfoldable pub cie_fields : Section → Prefix → Read Cie
 cie_fields section found = do
   version ← unsigned w8

@@ -1,4 +1,4 @@
--- The entries of a section, one behind the other, and the entry at an offset.
+-- The entries of a section in order, and the entry at an offset.
 use Rattle.std.specs.Prelude.{ℕ, zero, suc, ◌-◌, Bool, true, false, Option, Some, None, Result, Ok, Err, nat_le, ◌==◌, if◌then◌else◌}
 use Rattle.cfi_read_core.specs.declared.error.Error.{Error}
 use Rattle.cfi_read_core.specs.declared.error.Error.TheVariants.{NotCieId, NotCiePointer, NoEntryAtGivenOffset}
@@ -31,7 +31,7 @@ entry_of section found =
 
 -- ---- the list of entries
 
--- Whether the end was met, what stands there where it wasn't, and the entries behind that.
+-- Whether the end was met, what stands there where it wasn't, and the entries after that.
 abbrev pub entries_with : Section → Bool → Result (Option Prefix) Error → Readings Entry → Readings Entry
 entries_with section true first others = no_values None
 entries_with section false (Err e) others = no_values (Some e)

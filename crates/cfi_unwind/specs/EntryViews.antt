@@ -1,4 +1,4 @@
--- Entries that a walk hands out, as what they mean.
+-- Entries that a walk yields, as what they mean.
 use Rattle.std.specs.Prelude.{ℕ}
 use Rattle.cfi_read_core.specs.Reading.{Position}
 use Rattle.cfi_unwind.specs.Cies.{Cie}

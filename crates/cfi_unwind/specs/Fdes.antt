@@ -57,7 +57,7 @@ abbrev pub lsda : Section → ℕ → ℕ → Option Augmentation → Read (Opti
 lsda section size initial None = give None
 lsda section size initial (Some known) = data_if known.has_augmentation_data section size initial known.lsda_encoding
 
--- ---- the fields, in order, behind the id
+-- ---- the fields, in order, after the id
 
 unfoldable pub fde_fields : Section → Prefix → Cie → Read Fde
 fde_fields section found cie = do

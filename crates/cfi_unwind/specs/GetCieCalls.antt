@@ -12,7 +12,7 @@ use Rattle.cfi_unwind.specs.Fdes.{PartialFde, Fde}
 use Rattle.cfi_unwind.specs.Entries.{Entry, fde_with}
 use Rattle.cfi_unwind.specs.Scan.{IsGiven, chosen_of_given, partial_fdes}
 
--- A call of f with the section and the bases, for the CIE at an offset: what was given, and the state g behind it.
+-- A call of f with the section and the bases, for the CIE at an offset: what was given, and the state g after it.
 pub record GetCieCall {F S O C : Type 0} (calls : Mut F (Bor S × (Bor BaseAddresses × (O × Unit {0}))) (Result C Error)) (number : O → ℕ) (view : C → Cie) (section : S) (bases : BaseAddresses) (f : F) (offset : ℕ) (given : Result Cie Error) (g : F) : Type 0 where
   pub shown_section : Bor S
   pub shown_bases : Bor BaseAddresses
@@ -35,13 +35,13 @@ pub record IsAnswered {F S O C : Type 0} (calls : Mut F (Bor S × (Bor BaseAddre
   pub at_bases : shown_bases.now ≡ bases
   pub call : Called calls before (shown_section, (shown_bases, (asked, tt))) (Ok cie) after
 
--- From one state of the giver to another, reading an FDE answers this: its refusal, before anything is asked, or what
+-- From one state of the callback to another, reading an FDE answers this: its refusal, before anything is asked, or what
 -- the FDE and the CIE that was given mean.
 abbrev pub ReadsWith : {F : Type 0} → (F → ℕ → Result Cie Error → F → Type 0) → Section → Result PartialFde Error → F → Result Fde Error → F → Type 0
 ReadsWith get_cie section (Err e) f answer g = (answer ≡ Err e) × (g ≡ f)
 ReadsWith get_cie section (Ok partial) f answer g = (given : Result Cie Error) × get_cie f partial.cie_offset given g × (answer ≡ fde_with section partial given)
 
--- From one state of the giver to another, going through these entries answers the FDE or the refusal for the
+-- From one state of the callback to another, going through these entries answers the FDE or the refusal for the
 -- address: the CIEs were given one for each FDE that was asked for, in order, and no more.
 abbrev pub Scans : {F : Type 0} → (F → ℕ → Result Cie Error → F → Type 0) → Section → ℕ → Readings Entry → F → Result Fde Error → F → Type 0
 Scans get_cie section a readings f answer g =

@@ -11,7 +11,7 @@ pub record Prefix : Type 0 where
   pub format : Format
   pub id : ℕ
   pub id_offset : ℕ  -- where the id stands in the section
-  pub rest : Extent  -- what is left behind the id
+  pub rest : Extent  -- what is left after the id
 
 -- inside the extent of an entry that begins at the offset
 abbrev pub fields_after_length : Section → ℕ → ℕ → Format → Read Prefix
@@ -21,7 +21,7 @@ fields_after_length section offset length format = do
   rest ← remainder
   give (record { offset = offset; length = length; format = format; id = id; id_offset = offset_in section place; rest = rest })
 
--- behind the length of an entry that begins at the offset
+-- after the length of an entry that begins at the offset
 abbrev pub of_length : Section → ℕ → InitialLength → Read (Option Prefix)
 of_length section offset field =
     if field.length == 0 then give None else (do
@@ -29,7 +29,7 @@ of_length section offset field =
       found ← within extent (fields_after_length section offset field.length field.format)
       give (Some found))
 
--- An entry, or none where the length is zero. The place after it is that behind the extent.
+-- An entry, or none where the length is zero. The place after it is that after the extent.
 unfoldable pub prefix : Section → Read (Option Prefix)
 prefix section = do
   start ← here

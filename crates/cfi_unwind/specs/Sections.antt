@@ -23,7 +23,7 @@ pub record Section : Type 0 where
 abbrev pub offset_in : Section → ℕ → ℕ
 offset_in section place = place - section.first
 
--- what the section tells of itself, with the bases of the pointers in its entries
+-- the section's properties, with the bases of the pointers in its entries
 abbrev pub section_of : SectionView → BaseAddresses → Section
 section_of view bases = record {
   kind = view.kind;

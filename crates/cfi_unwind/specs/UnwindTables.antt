@@ -1,10 +1,10 @@
--- What a contract sees of an unwind table: the place where it stands, in numbers.
+-- What a contract sees of an unwind table: its state, in numbers.
 --     state_in_numbers number location context      the state of the machine
---     place_of position number table      the place of a table
---     GivesNextAnswer s copies_free p answer q      over a storage, a table at the place p answers next, and then is at the place q
+--     table_state position number table      the state of a table (`TableViews`)
+--     GivesNextAnswer s copies_free p answer q      over a storage, a table in the state p answers next, and then is in the state q
 --     AnswersWithoutMachine, KeepsCieProgram      the same without a machine, and of the program of a CIE
 --     StartsRows      what making the table of an FDE answers
---     LendsNextRow      what a call of `next_row` hands out
+--     LendsNextRow      what a call of `next_row` yields
 use Rattle.std.specs.Prelude.{◌≡◌, ℕ, Bool, true, false, List, [], Option, Some, None, is_some, IfSome, Result, Ok, Err, IfOk, MatchResult}
 use Rattle.std.specs.Option.{option_map}
 use Rattle.std.specs.Borrow.{Bor}
@@ -56,20 +56,20 @@ module _ {T : Type 0} (number : T → ℕ) where
 abbrev pub at_program : TableState (State ℕ) ℕ → Program ℕ → TableState (Program ℕ) ℕ
 at_program p program = record { so_far = program; left = p.left; has_ended = p.has_ended }
 
--- From each program behind which the table stands, the answer is the next one of the form without a machine, and the table
--- then stands behind that program followed by the instructions that were kept.
+-- From each program after which the table stands, the answer is the next one of the form without a machine, and the table
+-- then stands after that program followed by the instructions that were kept.
 pub record AnswersWithoutMachine (s : Setting) (copies_free : Bool) (p : TableState (State ℕ) ℕ) (answer : Result (Option (Row ℕ)) Error) (q : TableState (State ℕ) ℕ) : Type 0 where
   pub from : (program : Program ℕ) → IsStateAfter s p.so_far program
       → (after : Program ℕ) × NextKeptAnswer (may_allocate s copies_free) s (at_program p program) answer (at_program q after) × IsStateAfter s q.so_far after
 
--- The program of a CIE is kept, and the state stands behind it.
+-- The program of a CIE is kept, and the state stands after it.
 abbrev pub KeepsCieProgram : Setting → Bool → Readings Instruction → Result (State ℕ) Error → Type 0
 KeepsCieProgram s copies_free cie (Ok x) = (kept : List Instruction) × KeepsInitialInstructions (may_allocate s copies_free) s [] cie (Ok kept) × IsStateAfter s x (in_fde kept [])
 KeepsCieProgram s copies_free cie (Err e) = KeepsInitialInstructions (may_allocate s copies_free) s [] cie (Err e)
 
 -- ---- the table of an FDE
 
--- What making the table of an FDE answered: the refusal of the CIE's program, or a table that stands behind that program
+-- What making the table of an FDE answered: the refusal of the CIE's initial instructions, or a table that stands after that program
 -- and before all of the FDE's instructions.
 pub record StartsRows {X : Type 0} (place : X → TableState (State ℕ) ℕ) (s : Setting) (copies_free : Bool) (section : Section) (fde : Fde) (made : Result X Error) : Type 0 where
   pub run : RunsInitialInstructions (may_allocate s copies_free) s fresh_state (cie_instructions section fde.cie) (map_ok (λ x. (place x).so_far) made)
@@ -79,7 +79,7 @@ pub record StartsRows {X : Type 0} (place : X → TableState (State ℕ) ℕ) (s
 
 -- ---- rows that are lent
 
--- A call handed out the row of the context, and the table holds it where there is one.
+-- A call returned the row of the context, and the table holds it where there is one.
 pub record LendsNextRow {T : Type 0} (number : T → ℕ) (s : Setting) (copies_free : Bool) (old : TableState (State ℕ) ℕ) (result : Result (Option (Bor (Row T))) Error)
     (new : TableState (State ℕ) ℕ) (context : ContextState T) (holds_row : Bool) : Type 0 where
   pub next : GivesNextAnswer s copies_free old (map_ok (option_map (λ row. map_row number row.now)) result) new

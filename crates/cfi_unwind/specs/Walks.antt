@@ -24,13 +24,13 @@ entry_of_prefix section (Some found) = of_result (then_give Some (entry_of secti
 unfoldable pub entry_read : Section → Read (Option Entry)
 entry_read section = prefix section >>= entry_of_prefix section
 
--- What one step answers, of the entries before it and those that are left behind it.
+-- What one step answers, of the entries before it and those that are left after it.
 abbrev pub Meets : {X : Type 0} → (X → Entry) → Result (Option X) Error → Readings Entry → Readings Entry → Type 0
 Meets view (Ok (Some e)) before after = before ≡ with_first (view e) after
 Meets view (Ok None) before after = (before ≡ no_values None) × (after ≡ no_values None)
 Meets view (Err e) before after = (before ≡ no_values (Some e)) × (after ≡ no_values None)
 
--- entries and the refusal behind them, as a list
+-- entries and the refusal after them, as a list
 abbrev pub refused_last : Option Error → List (Result Entry Error)
 refused_last None = []
 refused_last (Some e) = Err e ∷ []

@@ -52,7 +52,7 @@ pub trait UnwindSection<R: Reader>: Copy + Debug + _UnwindSectionPrivate<R> {
 
     /// The CIE at an offset of the section.
     ///
-    /// Refused with `UnexpectedEof` of the section's first place where the offset lies behind the section's end, with
+    /// Refused with `UnexpectedEof` of the section's first place where the offset lies after the section's end, with
     /// `NoEntryAtGivenOffset` at a length of zero, with `NotCieId` where the id there is no CIE's, and as the bytes of
     /// the CIE show.
     fn cie_from_offset(
@@ -73,7 +73,7 @@ pub trait UnwindSection<R: Reader>: Copy + Debug + _UnwindSectionPrivate<R> {
     /// The FDE at an offset of the section, as far as the offset of its CIE.
     ///
     /// Refused as `cie_from_offset`, but with `NotCiePointer` where the id there is a CIE's; then with
-    /// `UnsupportedOffset` where the id is no offset, and with `OffsetOutOfBounds` where the CIE would lie before the
+    /// `UnsupportedOffset` where the id does not fit the offset type, and with `OffsetOutOfBounds` where the CIE would lie before the
     /// section.
     fn partial_fde_from_offset<'bases>(
         &self,
@@ -153,7 +153,7 @@ pub trait UnwindSection<R: Reader>: Copy + Debug + _UnwindSectionPrivate<R> {
     /// The row of that FDE for the address, lent from the context.
     ///
     /// Each CIE that `get_cie` answers is of this section. Refused as `fde_for_address`; else as the FDE's own
-    /// `unwind_info_for_address`, behind which nothing more is asked. Nothing that the context held before counts. Over a
+    /// `unwind_info_for_address`, after which nothing more is asked. Nothing that the context held before counts. Over a
     /// fixed storage it takes no memory; over another one it may be refused with `OutOfMemory`.
     final fn unwind_info_for_address<'ctx, S, F>(
         &self,
@@ -179,7 +179,7 @@ pub trait UnwindSection<R: Reader>: Copy + Debug + _UnwindSectionPrivate<R> {
     }
 }
 
-/// The first FDE of the section that contains the address, each with the CIE to which it points.
+/// The section's first FDE that contains the address, with the CIE to which it points.
 ///
 /// Refused with the first refusal of an entry before it, and with `NoUnwindInfoForAddress` where no FDE contains the
 /// address.

@@ -41,7 +41,7 @@ struct SizedParameters {
     ghost sized: { is_sized values.address_size ≡ true },
 }
 
-/// The rows of an FDE, one after the other (DWARF 5 section 6.4.1).
+/// The rows of an FDE, in order (DWARF 5 section 6.4.1).
 ///
 /// The rows are made in an unwind context, from which each is lent until the next call. Nothing is copied, and no memory is
 /// taken but by lists of the context without a limit, and by a storage whose copies of rows take memory.
@@ -51,9 +51,9 @@ pub struct UnwindTable<'a, 'ctx, R: Reader, S: UnwindContextStorage<R::Offset> =
     parameters: SizedParameters,
     instructions: CallFrameInstructionIter<'a, R>,
     next_start_address: u64,
-    // Whether the last row was handed out.
+    // Whether the last row was returned.
     has_ended: bool,
-    // Whether the context's row is the one that was handed out last.
+    // Whether the context's row is the one that was returned last.
     holds_row: bool,
     context: &'ctx mut UnwindContext<R::Offset, S>,
 }
@@ -64,11 +64,11 @@ impl<'a, 'ctx, R: Reader, S: UnwindContextStorage<R::Offset>> UnwindTable<'a, 'c
 
     /// The table of an FDE, whose rows are made in the context.
     ///
-    /// The context is emptied, so nothing of its past counts; then the CIE's program runs, whose final rules are kept for
+    /// The context is emptied, so nothing of its past counts; then the CIE's initial instructions runs, whose final rules are kept for
     /// `DW_CFA_restore`, and the table stands before the FDE's first row. Of the FDE's instructions none is read yet.
     ///
     /// The FDE and its CIE are of the section; the bases are those of the section's entries. A refusal is the first of the
-    /// CIE's program: an instruction that can't be read, one that is refused, or `StackFull` where its final rules find no
+    /// CIE's initial instructions: an instruction that can't be read, one that is refused, or `StackFull` where its final rules find no
     /// room. Over a fixed storage it takes no memory; over another one it may be refused with `OutOfMemory`.
     pub fn new<Section: UnwindSection<R>>(
         section: &'a Section,
@@ -164,11 +164,11 @@ impl<'a, 'ctx, R: Reader, S: UnwindContextStorage<R::Offset>> UnwindTable<'a, 'c
         }
     }
 
-    /// The next row, lent from the context; `None` behind the last one, for good.
+    /// The next row, lent from the context; `None` after the last one, and from then on.
     ///
     /// It runs the FDE's program up to the next instruction that moves the location, or to its end, where the row reaches up to
-    /// the end of the FDE's range. A refused instruction changes nothing, and the next call goes on behind it. After one that
-    /// can't be read only the last row is to come. `OutOfMemory` comes only where an instruction wants memory.
+    /// the end of the FDE's range. A refused instruction changes nothing, and the next call goes on after it. After one that
+    /// can't be read only the last row is to come. `OutOfMemory` comes only where an instruction allocates.
     pub fn next_row(&mut self) -> Result<Option<&UnwindTableRow<R::Offset, S::Rules>>>
         ensures* after_borrow { sem 𝓛 (Rests
             (the_row (record { mir = named 1; lft = [] }) (record { mir = named 2; lft = [] })
@@ -189,7 +189,7 @@ impl<'a, 'ctx, R: Reader, S: UnwindContextStorage<R::Offset>> UnwindTable<'a, 'c
         }
     }
 
-    /// The row that the last call of `next_row` handed out, lent from the context for as long as that is. `None` where that call
+    /// The row that the last call of `next_row` returned, lent from the context for as long as that is. `None` where that call
     /// answered `None` or a refusal, and where there was no such call.
     pub fn into_current_row(self) -> Option<&'ctx UnwindTableRow<R::Offset, S::Rules>>
         ensures some { IfSome result (λ row. (row.now ≡ self.entry.context.now.row) × IsTrue self.entry.holds_row) }
@@ -232,7 +232,7 @@ fn run_to_move<'a, R: Reader, S: UnwindContextStorage<R::Offset>>(
     Ok(None)
 }
 
-// Runs the CIE's program, whose moves end no rows, in an empty context.
+// Runs the CIE's initial instructions, whose moves end no rows, in an empty context.
 fn run_initial<R: Reader, S: UnwindContextStorage<R::Offset>>(
     context: &mut UnwindContext<R::Offset, S>,
     parameters: &Parameters,
@@ -257,8 +257,8 @@ fn run_initial<R: Reader, S: UnwindContextStorage<R::Offset>>(
 /// The row of an address, lent from the context: of nothing but the two programs, the parameters and the storage's limits.
 ///
 /// The answer is the CIE's first refusal; else the first refusal or row with the address that the FDE's table gives, also for
-/// an address outside the FDE; else `NoUnwindInfoForAddress`. Rows behind the answer are not run. `OutOfMemory` comes only
-/// where an instruction, or the end of the CIE's program, wants memory, so never over a fixed storage.
+/// an address outside the FDE; else `NoUnwindInfoForAddress`. Rows after the answer are not run. `OutOfMemory` comes only
+/// where an instruction, or the end of the CIE's initial instructions, allocates, so never over a fixed storage.
 pub(crate) fn unwind_info_for_address<
     'cie,
     'fde,

@@ -42,7 +42,7 @@ module _ (walk : Walk) (n : ℕ) where
         by_rows more ∙ (ap (walk_by walk n) passed
         ∙ ap (λ (t : Source). Ok (record walk { count = walk.count - n; position = record { source = t; place = s.place } })) (sym same))
 
--- ---- what is met behind them
+-- ---- what is met after them
 
 pub meets_by : (past from : Result Walk Error) (before after : Walk) (found : Result (Option (Pointer × Pointer)) Error) → past ≡ from → MeetsBehind from before found after → MeetsBehind past before found after
 meets_by past from before after found same meets = subst (λ (r : Result Walk Error). MeetsBehind r before found after) (sym same) meets

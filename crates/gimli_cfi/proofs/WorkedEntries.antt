@@ -54,7 +54,7 @@ abbrev first_program : Section → Result Cie Error → Result (Readings Instruc
 first_program s (Ok cie) = Ok (cie_instructions s cie)
 first_program s (Err e) = Err e
 
--- ---- a CIE, and the FDE behind it
+-- ---- a CIE, and the FDE after it
 
 abbrev first_row : Section
 first_row = debug_frame (codes "10000000 ffffffff 04000800 017810 0c0708 9001 1c000000 00000000 0010000000000000 2000000000000000 41 0e10 8602 43 0d06")
@@ -200,7 +200,7 @@ one_row_missing : rows_left (walk_of three_header (record three_rows { count = 4
 unfolding computing
 one_row_missing = refl
 
--- the start of the second row is refused behind its ten bytes, and the third row begins there
+-- the start of the second row is refused after its ten bytes, and the third row begins there
 refused_row : rows_left (walk_of (header_at None 1 (codes "01 02 80808080808080808002 05 06 07")) (record { encoding = 0x01; count = 3; rows = record { first = 0; last = 15 } })) ≡ Ok (Direct 1, Direct 2) ∷ Err BadUnsignedLeb128 ∷ Ok (Direct 5, Direct 6) ∷ []
 unfolding computing
 refused_row = refl

@@ -75,7 +75,7 @@ third_remember : row_at too_deep 0x1000 ≡ Err StackFull
 unfolding computing
 third_remember = refl
 
--- ---- a bracket over the border, and a register that takes back its initial rule
+-- ---- a bracket over the border, and a register whose initial rule is restored
 
 abbrev over_the_border : Section
 over_the_border = debug_frame (codes "11000000 ffffffff 04000800 017810 0c0708 0a 9001 17000000 00000000 0010000000000000 2000000000000000 0b 41 d0")
@@ -88,7 +88,7 @@ with_initial_rule : row_at over_the_border 0x1001 ≡ row 0x1001 0x1020 (cfa_at 
 unfolding computing
 with_initial_rule = refl
 
--- ---- a refusal behind the row doesn't count
+-- ---- a refusal after the row doesn't count
 
 abbrev cut_off : Section
 cut_off = debug_frame (codes "10000000 ffffffff 04000800 017810 0c0708 9001 16000000 00000000 0010000000000000 2000000000000000 41 02")

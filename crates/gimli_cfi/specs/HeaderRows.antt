@@ -1,4 +1,4 @@
--- Going through the rows of a header table, one behind the other (LSB Core, "The .eh_frame_hdr section").
+-- Going through the rows of a header table in order (LSB Core, "The .eh_frame_hdr section").
 use Rattle.std.specs.Prelude.{ℕ, zero, suc, ◌-◌, List, [], ◌∷◌, Option, Some, None, Result, Ok, Err, ◌≡◌, ◌+◌, ◌==◌, if◌then◌else◌}
 use Rattle.cfi_read_core.specs.declared.error.Error.{Error}
 use Rattle.cfi_read_core.specs.Reading.{Read, Source, Position, ◌>>=◌, give}
@@ -39,7 +39,7 @@ rows_from section encoding (suc n) source place =
 abbrev pub rows_left : Walk → List (Result (Pointer × Pointer) Error)
 rows_left walk = rows_from walk.section walk.encoding walk.count walk.position.source walk.position.place
 
--- What a step answers, of the rows before it and those behind it.
+-- What a step answers, of the rows before it and those after it.
 abbrev pub Meets : Result (Option (Pointer × Pointer)) Error → Walk → Walk → Type 0
 Meets (Ok None) before after = (before.count ≡ 0) × ((rows_left before ≡ []) × (rows_left after ≡ []))
 Meets (Ok (Some found)) before after = (before.count ≡ after.count + 1) × (rows_left before ≡ Ok found ∷ rows_left after)

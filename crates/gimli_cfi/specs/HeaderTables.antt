@@ -70,9 +70,9 @@ IsFoundBySearch start table a of_row found = SearchedBy (value_size table.encodi
 abbrev pub IsFoundByTable : (ℕ → Result ℕ Error) → HeaderSection → Table → Pointer → Section → ℕ → Result Fde Error → Type 0
 IsFoundByTable start header table eh_frame section a found = IsFoundBySearch start table a (fde_by_row header table eh_frame section a) found
 
--- ---- with any giver of CIEs
+-- ---- with any `get_cie` callback
 
--- From one state of the giver to another, the FDE at an offset, or the refusal in its place.
+-- From one state of the callback to another, the FDE at an offset, or the refusal in its place.
 abbrev pub ReadsAt : {F : Type 0} → (F → ℕ → Result Cie Error → F → Type 0) → Section → ℕ → Result ℕ Error → F → Result Fde Error → F → Type 0
 ReadsAt get_cie section a (Err e) f found g = (found ≡ Err e) × (g ≡ f)
 ReadsAt get_cie section a (Ok offset) f found g = (read : Result Fde Error) × ReadsWith get_cie section (partial_fde_at section offset) f read g × (found ≡ fde_if_covers a read)

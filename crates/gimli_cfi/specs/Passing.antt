@@ -19,11 +19,11 @@ walk_past_by walk n (Some size) =
     then Ok (record walk { count = 0 })
     else walk_by walk n (rows_passed size n walk.position.source walk.position.place)
 
--- Behind n rows; behind all of them where there are no more than n.
+-- After n rows; after all of them where there are no more than n.
 unfoldable pub walk_past : Walk → ℕ → Result Walk Error
 walk_past walk n = walk_past_by walk n (value_size walk.encoding)
 
--- What reading the row behind n rows answers: a refusal to pass them leaves the walk as it was.
+-- What reading the row after n rows answers: a refusal to pass them leaves the walk as it was.
 abbrev pub MeetsBehind : Result Walk Error → Walk → Result (Option (Pointer × Pointer)) Error → Walk → Type 0
 MeetsBehind (Err e) before found after = (found ≡ Err e) × (after ≡ before)
 MeetsBehind (Ok from) before found after =

@@ -18,8 +18,8 @@ pub use cfi_unwind::table::UnwindTable;
 /// It is the row of the first FDE, in the order of the entries, that contains the address: each part of it is as its
 /// last writer left it, among the instructions up to the row's end that are left once remembered and restored
 /// stretches are struck out (DWARF 5 section 6.4.2.4). Nothing that the context held before counts. Else it is the
-/// first refusal on the way: of an entry before the FDE, of the FDE or its CIE, of the CIE's program, or of the FDE's
-/// program before the row; `NoUnwindInfoForAddress` where no FDE contains the address. Nothing behind the row is judged.
+/// first refusal on the way: of an entry before the FDE, of the FDE or its CIE, of the CIE's initial instructions, or of the FDE's
+/// program before the row; `NoUnwindInfoForAddress` where no FDE contains the address. Nothing after the row is checked.
 ///
 /// The bases are those of the pointers in the section's entries. Over a fixed storage it takes no memory; over another
 /// one an instruction that needs more room may be refused with `OutOfMemory`.

@@ -1,4 +1,4 @@
-//! Runs with a header behind the first line.
+//! Runs with a header after the first line.
 use super::{REFUSED, THREE, run_text};
 use std::alloc::{AllocError, Global};
 use std::test::Fail;

@@ -13,7 +13,7 @@ use std::alloc::Global;
 use std::fmt::{Debug, Formatter, Write};
 use std::marker::Model;
 
-/// Where the rules that a CIE's program ended with are kept.
+/// Where the rules that a CIE's initial instructions ended with are kept.
 #[derive(Clone, Copy, Debug, PartialEq, Eq)]
 enum InitialRules<T> {
     NotYet,
@@ -28,7 +28,7 @@ enum InitialRules<T> {
 #[derive(Drop)]
 pub struct UnwindContext<T: ReaderOffset, S: UnwindContextStorage<T> = StoreOnHeap> {
     row: UnwindTableRow<T, S::Rules>,
-    // The remembered rows, the last one last. Below them stands a copy of the row that the CIE's program
+    // The remembered rows, the last one last. Below them stands a copy of the row that the CIE's initial instructions
     // ended with, where it has two rules or more.
     stack: S::Stack,
     initial_rules: InitialRules<T>,
@@ -61,7 +61,7 @@ impl<T: ReaderOffset, S: UnwindContextStorage<T>> Model for UnwindContext<T, S> 
 impl<T: ReaderOffset> UnwindContext<T> {
     ghost use Rattle.cfi_state.specs.Context.{empty_context};
 
-    /// A context with room for 192 rules a row and 4 rows. `OutOfMemory` where the room isn't to be had.
+    /// A context with room for 192 rules a row and 4 rows. `OutOfMemory` where the room cannot be allocated.
     pub fn new(alloc: Global) -> Result<Self>
         ensures ok { IfOk result (λ context. context ≡ empty_context) }
         ensures err { IfErr result (λ error. error ≡ Error.OutOfMemory) }
@@ -79,7 +79,7 @@ impl<T: ReaderOffset, S: UnwindContextStorage<T>> UnwindContext<T, S> {
     ghost use Rattle.cfi_state.specs.Row.{at_start, at_end, row_with_cfa, with_args_size, row_with_rules};
     ghost use Rattle.cfi_state.specs.Context.{empty_context, with_row, context_rows_held, context_remember, context_restore, context_end_of_cie, initial_rule, AddsRow, AddsInitialRow};
 
-    /// A context over the lists of `S`. `OutOfMemory` where their room isn't to be had.
+    /// A context over the lists of `S`. `OutOfMemory` where their room cannot be allocated.
     pub fn new_in(alloc: Global) -> Result<Self>
         ensures ok { IfOk result (λ context. context ≡ empty_context) }
         ensures err { IfErr result (λ error. error ≡ Error.OutOfMemory) }
@@ -91,7 +91,7 @@ impl<T: ReaderOffset, S: UnwindContextStorage<T>> UnwindContext<T, S> {
         })
     }
 
-    /// An equal context, with room of its own. `OutOfMemory` where that isn't to be had.
+    /// An equal context, with room of its own. `OutOfMemory` where that cannot be allocated.
     pub fn try_clone(&self, alloc: Global) -> Result<Self>
         ensures ok { IfOk result (λ context. context ≡ self.now) }
         ensures err { IfErr result (λ error. error ≡ Error.OutOfMemory) }
@@ -212,7 +212,7 @@ impl<T: ReaderOffset, S: UnwindContextStorage<T>> UnwindContext<T, S> {
         }
     }
 
-    // Keeps the rules that the CIE's program ended with.
+    // Keeps the rules that the CIE's initial instructions ended with.
     pub(crate) fn save_initial_rules(&mut self) -> Result<()>
         requires { self.old.initial_rules ≡ None }
         ensures { Performs (AddsInitialRow S.Stack.limit S.Rules.copies_free self.old.row.parts.rules)
@@ -244,7 +244,7 @@ impl<T: ReaderOffset, S: UnwindContextStorage<T>> UnwindContext<T, S> {
         Ok(())
     }
 
-    // The rule that the register had when the CIE's program ended.
+    // The rule that the register had when the CIE's initial instructions ended.
     pub(crate) fn initial_rule(&self, register: Register) -> Result<Option<RegisterRule<T>>>
         ensures { result ≡ initial_rule self.now register.0 }
     {

@@ -31,7 +31,7 @@ pub struct Parameters {
     pub address_size: u8,
     /// The FDE's first address.
     pub initial_address: u64,
-    /// The first address behind the FDE's range.
+    /// The first address after the FDE's range.
     pub end_address: u64,
 }
 
@@ -136,7 +136,7 @@ fn change<T: ReaderOffset, S: UnwindContextStorage<T>>(
     }
 }
 
-/// Keeps the rules with which the CIE's program ended, for `DW_CFA_restore` in the FDE's. `StackFull` where two rules or more
+/// Keeps the rules with which the CIE's initial instructions ended, for `DW_CFA_restore` in the FDE's. `StackFull` where two rules or more
 /// would take one row too many; `OutOfMemory` only where they take a row and the stack has no limit or a row's copy takes
 /// memory. A refusal leaves the context as it is.
 pub fn end_cie<T: ReaderOffset, S: UnwindContextStorage<T>>(
@@ -206,7 +206,7 @@ fn cfa_given<T: ReaderOffset>(
     }
 }
 
-// The offset stays, which an expression hasn't.
+// The offset stays; an expression has none.
 fn with_register<T: ReaderOffset>(old: CfaRule<T>, register: Register) -> Result<Option<CfaRule<T>>>
     ensures { result ≡ groups.with_register old register }
 {
@@ -218,7 +218,7 @@ fn with_register<T: ReaderOffset>(old: CfaRule<T>, register: Register) -> Result
     }
 }
 
-// The register stays, which an expression hasn't.
+// The register stays; an expression has none.
 fn with_offset<T: ReaderOffset>(old: CfaRule<T>, offset: i64) -> Result<Option<CfaRule<T>>>
     ensures { result ≡ groups.with_offset old offset }
 {
@@ -284,7 +284,7 @@ fn rule_given<T: ReaderOffset>(
     }
 }
 
-// Gives the register the rule that it had when the CIE's program ended, which may be none (DWARF 5 section 6.4.2.3).
+// Gives the register the rule that it had when the CIE's initial instructions ended, which may be none (DWARF 5 section 6.4.2.3).
 fn restore_rule<T: ReaderOffset, S: UnwindContextStorage<T>>(
     context: &mut UnwindContext<T, S>,
     register: Register,

@@ -63,7 +63,7 @@ impl<T: ReaderOffset, A: ArrayLike<Item = (Register, RegisterRule<T>)>> UnwindTa
         self.start_address
     }
 
-    /// The first address behind those for which the row holds.
+    /// The first address after those for which the row holds.
     pub fn end_address(&self) -> u64
         ensures { result ≡ self.now.end_address }
     {

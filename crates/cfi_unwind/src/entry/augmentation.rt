@@ -16,7 +16,7 @@ use cfi_parts::unwind_section::_UnwindSectionPrivate;
 use cfi_read_core::address::AddressSize;
 use cfi_read_core::{DwEhPe, Error, Reader, Result};
 
-/// What an augmentation text and its data mean. Of a repeated letter the last counts.
+/// What an augmentation string and its data mean. Of a repeated letter the last counts.
 #[derive(Clone, Copy, Debug, Default, PartialEq, Eq)]
 pub struct Augmentation {
     pub(crate) has_augmentation_data: bool,
@@ -79,7 +79,7 @@ fn read_letters<R: Reader, S: _UnwindSectionPrivate<R>>(
     Ok(known)
 }
 
-/// Reads the augmentation data, by the letters behind the `z` that announces them. What the letters leave is dropped.
+/// Reads the augmentation data, by the letters after the `z` that announces them. What the letters leave is dropped.
 #[tactic(auto, unfolding(crate::specs::Cies::letters_with_data))]
 fn read_letters_with_data<R: Reader, S: _UnwindSectionPrivate<R>>(
     at: &InSection<'_, S>,
@@ -97,7 +97,7 @@ fn read_letters_with_data<R: Reader, S: _UnwindSectionPrivate<R>>(
     Ok(Some(read_letters(at, address_size, letters, known, &mut data)?))
 }
 
-/// Reads what an augmentation text means, and the data that it announces. An empty text is no augmentation.
+/// Reads what an augmentation string means, and the data that it announces. An empty text is no augmentation.
 pub(crate) fn read_augmentation<R: Reader, S: _UnwindSectionPrivate<R>>(
     at: &InSection<'_, S>,
     address_size: AddressSize,

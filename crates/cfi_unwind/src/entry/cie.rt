@@ -64,7 +64,7 @@ fn read_return_register<R: Reader>(version: u8, input: &mut R) -> Result<Registe
     }
 }
 
-/// Reads the CIE behind its prefix.
+/// Reads the CIE after its prefix.
 #[tactic(auto, unfolding(crate::specs::Cies::cie_fields))]
 pub(crate) fn read_cie<R: Reader, S: _UnwindSectionPrivate<R>>(
     at: &InSection<'_, S>,
@@ -206,14 +206,14 @@ impl<R: Reader> CommonInformationEntry<R> {
         }
     }
 
-    /// By what the deltas of advances are multiplied.
+    /// The code alignment factor, by which the deltas of advances are multiplied.
     pub fn code_alignment_factor(&self) -> u64
         ensures { result ≡ (cie_view R.position R.Offset.number self.now).code_alignment_factor }
     {
         self.code_alignment_factor
     }
 
-    /// By what the offsets of rules are multiplied.
+    /// The data alignment factor, by which the offsets of rules are multiplied.
     pub fn data_alignment_factor(&self) -> i64
         ensures { result ≡ (cie_view R.position R.Offset.number self.now).data_alignment_factor }
     {

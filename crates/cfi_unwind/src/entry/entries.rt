@@ -1,4 +1,4 @@
-//! The entries of a section, one behind the other, and the entry at an offset.
+//! The entries of a section in order, and the entry at an offset.
 ghost use Rattle.std.specs.Prelude.{◌≡◌, ⊤, IfOk, IfSome};
 ghost use Rattle.std.specs.Option.{option_map};
 ghost use Rattle.std.specs.Iterator.{YieldsFirstBy, item_count};
@@ -34,7 +34,7 @@ pub type CieOrFde<'bases, Section, R> = EntryFields<
     PartialFrameDescriptionEntry<'bases, Section, R>,
 >;
 
-/// The FDE behind its prefix, as far as the offset of its CIE.
+/// The FDE after its prefix, as far as the offset of its CIE.
 fn read_partial_fde<'bases, R: Reader, S: _UnwindSectionPrivate<R> + Copy>(
     at: &InSection<'bases, S>,
     found: EntryPrefix<R, R::Offset>,
@@ -57,7 +57,7 @@ fn read_partial_fde<'bases, R: Reader, S: _UnwindSectionPrivate<R> + Copy>(
     })
 }
 
-/// What the entry behind its prefix is.
+/// What the entry after its prefix is.
 #[tactic(auto, unfolding(crate::specs::Entries::entry_of))]
 fn read_entry_after<'bases, R: Reader, S: _UnwindSectionPrivate<R> + Copy>(
     at: &InSection<'bases, S>,
@@ -128,7 +128,7 @@ fn next_entry<'bases, R: Reader, S: _UnwindSectionPrivate<R> + Copy>(
     Ok(None)
 }
 
-/// The prefix of the entry at an offset of the section. Refused with `UnexpectedEof` where the offset lies behind
+/// The prefix of the entry at an offset of the section. Refused with `UnexpectedEof` where the offset lies after
 /// the section's end, and with `NoEntryAtGivenOffset` where the length there is zero.
 fn prefix_at<R: Reader, S: _UnwindSectionPrivate<R>>(
     at: &InSection<'_, S>,
@@ -181,7 +181,7 @@ pub(crate) fn partial_fde_at<'bases, R: Reader, S: _UnwindSectionPrivate<R> + Co
     }
 }
 
-/// The entries of a section, one behind the other from its beginning. After a refusal or the end there is none for
+/// The entries of a section, in order from its beginning. After a refusal or the end there is none for
 /// good.
 #[derive(Debug)]
 pub struct CfiEntriesIter<'bases, Section: _UnwindSectionPrivate<R>, R: Reader> {
@@ -228,7 +228,7 @@ impl<'bases, Section: _UnwindSectionPrivate<R> + Copy, R: Reader> CfiEntriesIter
     /// The next entry: a CIE whole, or an FDE as far as the offset of its CIE.
     ///
     /// Refused as the bytes of the entry show, and with `UnsupportedOffset` or `OffsetOutOfBounds` where an FDE's
-    /// CIE has no offset in the section. After a refusal or the end there is no entry for good.
+    /// CIE has no offset in the section. After a refusal or the end it is `None` from then on.
     pub fn next(&mut self) -> Result<Option<CieOrFde<'bases, Section, R>>>
         ensures met { Meets (entry_view (cie_view R.position R.Offset.number) (λ p. partial_of R.position R.Offset.number p.found p.cie_offset)) result
             (entries_left (section_of (Section.view self.old.section) self.old.bases.now) (R.position self.old.input).place)

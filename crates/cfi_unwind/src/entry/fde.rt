@@ -89,7 +89,7 @@ fn read_lsda<R: Reader, S: _UnwindSectionPrivate<R>>(
     Ok(Some(parse_encoded_pointer(encoding, &parameters, &mut data)?))
 }
 
-/// Reads the FDE of a CIE behind its prefix.
+/// Reads the FDE of a CIE after its prefix.
 #[tactic(auto, unfolding(crate::specs::Fdes::fde_fields))]
 pub(crate) fn read_fde<R: Reader, S: _UnwindSectionPrivate<R>>(
     at: &InSection<'_, S>,
@@ -168,7 +168,7 @@ impl<R: Reader> FrameDescriptionEntry<R> {
         self.address_range
     }
 
-    /// The pointer to the language-specific data. One of value 0 is no absent one.
+    /// The pointer to the language-specific data. A pointer of value 0 is still `Some`.
     pub fn lsda(&self) -> Option<Pointer>
         ensures { result ≡ (fde_view R.position R.Offset.number self.now).lsda }
     {
@@ -189,7 +189,7 @@ impl<R: Reader> FrameDescriptionEntry<R> {
         self.cie().personality()
     }
 
-    /// The first address behind the entry's. The end wraps at the size of an address, which is that of the CIE.
+    /// The first address after the entry's. The end wraps at the size of an address, which is that of the CIE.
     pub fn end_address(&self) -> u64
         ensures { result ≡ end_of (fde_view R.position R.Offset.number self.now) }
     {

@@ -11,7 +11,7 @@ use crate::entry::in_section::InSection;
 use cfi_parts::unwind_section::{_UnwindSectionPrivate, CieOffsetEncoding};
 use cfi_read_core::{Format, Reader, ReaderOffset, Result};
 
-/// What an entry begins with, and what is left of it behind its id.
+/// What an entry begins with, and what is left of it after its id.
 #[derive(Clone, Copy, Debug, PartialEq, Eq)]
 pub struct EntryPrefix<R, O> {
     pub(crate) offset: O,
@@ -65,7 +65,7 @@ fn read_identified<R: Reader, S: _UnwindSectionPrivate<R>>(
     })
 }
 
-/// Reads the prefix at the place of the input, or none where the length is zero. The input then stands behind the
+/// Reads the prefix at the place of the input, or none where the length is zero. The input then stands after the
 /// entry.
 #[tactic(auto, unfolding(crate::specs::Prefixes::prefix))]
 pub(crate) fn read_prefix<R: Reader, S: _UnwindSectionPrivate<R>>(

@@ -37,10 +37,10 @@ impl<R: Reader> FrameDescriptionEntry<R> {
         }
     }
 
-    /// The FDE's rows, one after the other, made in the context, which is emptied first: `UnwindTable::new`.
+    /// The FDE's rows, in order, made in the context, which is emptied first: `UnwindTable::new`.
     ///
     /// The FDE and its CIE are of the section; the bases are those of the section's entries. Refused with the first
-    /// refusal of the CIE's program. Of the FDE's instructions none is read yet. Over a fixed storage it takes no memory;
+    /// refusal of the CIE's initial instructions. Of the FDE's instructions none is read yet. Over a fixed storage it takes no memory;
     /// over another one it may be refused with `OutOfMemory`.
     pub fn rows<'a, 'ctx, Section: UnwindSection<R>, S: UnwindContextStorage<R::Offset>>(
         &self,
@@ -64,9 +64,9 @@ impl<R: Reader> FrameDescriptionEntry<R> {
     /// The row of the FDE's table that contains the address, lent from the context, which is emptied first.
     ///
     /// The FDE and its CIE are of the section; the bases are those of the section's entries. Refused with the first
-    /// refusal of the CIE's program; else with the first refusal of the FDE's program before the row; else, where no row
-    /// contains the address, with `NoUnwindInfoForAddress`, also for an address outside the FDE. Nothing behind the
-    /// row is judged. Over a fixed storage it takes no memory; over another one it may be refused with `OutOfMemory`.
+    /// refusal of the CIE's initial instructions; else with the first refusal of the FDE's program before the row; else, where no row
+    /// contains the address, with `NoUnwindInfoForAddress`, also for an address outside the FDE. Nothing after the
+    /// row is checked. Over a fixed storage it takes no memory; over another one it may be refused with `OutOfMemory`.
     pub fn unwind_info_for_address<
         'ctx,
         Section: UnwindSection<R>,

@@ -47,7 +47,7 @@ pub(crate) fn pass_rows<R: Reader>(input: &mut R, size: u64, count: u64) -> Resu
     input.skip(R::Offset::from_u64(bytes)?)
 }
 
-/// Passes a value of this size. A number that is no offset is more than is left.
+/// Passes a value of this size. A number that does not fit the offset type is more than is left.
 fn pass_value<R: Reader>(input: &mut R, size: u64) -> Result<()>
     ensures { Reads (λ x. x) (skip size) (R.position input.old) result (R.position input.new) }
 {

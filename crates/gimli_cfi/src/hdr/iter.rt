@@ -1,4 +1,4 @@
-//! The rows of a table, one behind the other.
+//! The rows of a table in order.
 ghost use Rattle.std.specs.Prelude.{◌≡◌, ◌≤◌, IfSome, Some};
 ghost use Rattle.std.specs.Option.{option_transpose};
 ghost use Rattle.std.specs.Iterator.{UpTo, YieldsFirst, at_most};
@@ -16,7 +16,7 @@ use cfi_parts::pointer::{
 };
 use cfi_read_core::{DwEhPe, Reader, Result};
 
-/// The rows of a table, one behind the other: start and target of each.
+/// The rows of a table in order: start and target of each.
 ///
 /// It ends after as many rows as the count, refused ones among them.
 #[derive(Debug, Drop)]
@@ -43,7 +43,7 @@ impl<'a, 'bases, R: Reader> EhHdrTableIter<'a, 'bases, R> {
         }
     }
 
-    /// The next row: its start and its target. `None` for good once there have been as many as the count.
+    /// The next row: its start and its target. Once there have been as many as the count it is `None` from then on.
     ///
     /// A row is refused as any pointer of the section, for its start and then for its target. It counts as a row: one
     /// fewer remains, and the next is read from where the refused read stood. It takes no memory.

@@ -65,7 +65,7 @@ impl<R: Reader> EhHdrTable<'_, R> {
     /// The offset in `.eh_frame` of what a pointer names: how far it is above the header's pointer to `.eh_frame`.
     ///
     /// Refused with `UnsupportedIndirectPointer` where one of the two is indirect, with `OffsetOutOfBounds` of the
-    /// pointer where it is below the other, and with `UnsupportedOffset` where the difference is no offset of the reader.
+    /// pointer where it is below the other, and with `UnsupportedOffset` where the difference does not fit the offset type of the reader.
     /// It takes no memory.
     pub fn pointer_to_offset(&self, ptr: Pointer) -> Result<EhFrameOffset<R::Offset>>
         ensures { map_ok (λ offset. R.Offset.number offset.0) result

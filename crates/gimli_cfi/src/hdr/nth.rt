@@ -11,7 +11,7 @@ use cfi_read_core::{Reader, Result};
 impl<R: Reader> EhHdrTableIter<'_, '_, R> {
     ghost use Rattle.gimli_cfi.specs.Views.{walk_view};
 
-    /// The row behind the next `n` rows, which are passed at once and aren't read. `None`, and no rows left, where no
+    /// The row after the next `n` rows, which are passed at once and aren't read. `None`, and no rows left, where no
     /// more than `n` remain.
     ///
     /// Refused with `UnsupportedPointerEncoding` of the table's encoding where its format isn't `udata2`, `sdata2`,

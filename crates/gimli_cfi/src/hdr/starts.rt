@@ -14,7 +14,7 @@ use cfi_read_core::{Reader, Result};
 
 /// The starts in the rows of a header's table. A call reads that of one row at the row's own place, and no other row.
 ///
-/// A start is refused with `UnsupportedOffset` where the row's distance from the first one is no `u64` or no offset of
+/// A start is refused with `UnsupportedOffset` where the row's distance from the first one does not fit a `u64` or the offset type of
 /// the reader, with `UnexpectedEof` of the first row's place where the table ends before the row, as a pointer of the
 /// section, and with `UnsupportedIndirectPointer` where it is indirect. It takes no memory (LSB Core, "The .eh_frame_hdr
 /// section").
