@@ -1,24 +1,24 @@
 -- Each instruction takes a byte at least, so that a program ends.
-use Rattle.std.proofs.Common.{◌-◌, ◌/◌, ◌%◌, ℕ, Option, Some, None, arith}
-use Rattle.std.specs.Prelude.{ℤ, ◌==◌}
+use Rattle.std.proofs.Common.{◌-◌, ◌%◌, ◌++◌, ℕ, List, [], ◌∷◌, Option, Some, None, arith}
+use Rattle.std.specs.Prelude.{ℤ}
 use Rattle.std.specs.List.{AllByRecursion}
 use Rattle.std.specs.Int.{w8, w16, w32, w64, cast_unsigned}
 use Rattle.cfi_read_core.specs.declared.common.Vendor.{Vendor}
 use Rattle.cfi_read_core.specs.declared.common.Vendor.TheVariants as vendors
 use Rattle.cfi_read_core.specs.declared.common.Register.{Register as RegisterNumber}
-use Rattle.cfi_read_core.specs.Reading.{Read, ◌>>=◌, give, of_result, refuse_if, here, split, chosen_from}
+use Rattle.cfi_read_core.specs.Reading.{Read, ◌>>=◌, give, of_result, refuse_if, here, split}
 use Rattle.cfi_read_core.specs.Numbers.{unsigned, signed, unsigned_leb128, signed_leb128, offset_leb128, register_leb128}
 use Rattle.cfi_read_core.specs.declared.error.Error.{Error}
 use Rattle.cfi_read_core.specs.declared.error.Error.TheVariants.{PcRelativePointerButSectionBaseIsUndefined, CannotParseOmitPointerEncoding}
 use Rattle.cfi_read_core.specs.Addresses.{wrap}
 use Rattle.cfi_read_core.specs.Encodings.{format_of, application_of, is_omitted}
-use Rattle.cfi_read_core.proofs.Onward.{IsOnward, onward_give, onward_refuse, onward_if, onward_bind, onward_here, onward_split, onward_of_result, onward_refuse_if, onward_unsigned, onward_signed, onward_unsigned_leb128, onward_signed_leb128, onward_offset_leb128, onward_register_leb128, onward_address, onward_from}
+use Rattle.cfi_read_core.proofs.Onward.{IsOnward, onward_give, onward_refuse, onward_bind, onward_here, onward_split, onward_of_result, onward_refuse_if, onward_unsigned, onward_signed, onward_unsigned_leb128, onward_signed_leb128, onward_offset_leb128, onward_register_leb128, onward_address, onward_from}
 use Rattle.cfi_read_core.proofs.Repeating.{Advances, advances_bind, advances_unsigned}
 use Rattle.cfi_parts.specs.declared.pointer.Pointer.{Pointer}
 use Rattle.cfi_parts.specs.declared.instruction.UnwindExpression.{UnwindExpression}
-use Rattle.cfi_parts.specs.declared.instruction.CallFrameInstruction.TheVariants.{SetLoc, AdvanceLoc, DefCfa, DefCfaSf, DefCfaRegister, DefCfaOffset, DefCfaOffsetSf, DefCfaExpression, Undefined, SameValue, Offset, OffsetExtendedSf, ValOffset, ValOffsetSf, Register, Expression, ValExpression, Restore, RememberState, RestoreState, ArgsSize, Nop}
+use Rattle.cfi_parts.specs.declared.instruction.CallFrameInstruction.TheVariants as variant
 use Rattle.cfi_parts.specs.Pointers.{PointerContext, unknown_encoding, in_64_bits, format_table, encoded_value, required_base, pc_base, application_table, base_of, pointer, pointer_to, direct}
-use Rattle.cfi_parts.specs.Instructions.{Instruction, InstructionContext, expression, location_by, negate_ra_state, advance, register_and, extended_opcodes, unknown_opcode, by_opcode, instruction}
+use Rattle.cfi_parts.specs.Instructions.{Instruction, InstructionContext, expression, location_by, negate_ra_state, register_and, row_creation, cfa_definition, offset_rules, register_rules, state_and_others, extended_opcodes, primary_opcodes, unknown_opcode, by_opcode, instruction}
 
 -- ---- pointers
 
@@ -95,17 +95,44 @@ onward_two : {A : Type 0} (operand : Read A) (made : RegisterNumber → A → In
 onward_two operand made second =
     onward_bind register_leb128 (λ r. operand >>= λ n. give (made r n)) onward_register_leb128 (λ r. onward_map operand (made r) second)
 
--- ---- instructions
+-- ---- the opcodes, group by group, in the order of the definition's tables
 
-onward_extended : (c : InstructionContext) → AllByRecursion (λ row. IsOnward row.1) (extended_opcodes c)
-onward_extended c = (onward_map (location_by c.pointers c.address_encoding) SetLoc (onward_location c.pointers c.address_encoding), (onward_map (unsigned w8) AdvanceLoc (onward_unsigned w8), (onward_map (unsigned w16) AdvanceLoc (onward_unsigned w16), (onward_map (unsigned w32) AdvanceLoc (onward_unsigned w32), (onward_two unsigned_leb128 DefCfa onward_unsigned_leb128, (onward_map register_leb128 DefCfaRegister onward_register_leb128, (onward_map unsigned_leb128 DefCfaOffset onward_unsigned_leb128, (onward_map (expression c.pointers) DefCfaExpression (onward_expression c.pointers), (onward_two signed_leb128 DefCfaSf onward_signed_leb128, (onward_map signed_leb128 DefCfaOffsetSf onward_signed_leb128, (onward_two unsigned_leb128 Offset onward_unsigned_leb128, (onward_two signed_leb128 OffsetExtendedSf onward_signed_leb128, (onward_two unsigned_leb128 ValOffset onward_unsigned_leb128, (onward_two signed_leb128 ValOffsetSf onward_signed_leb128, (onward_map register_leb128 Restore onward_register_leb128, (onward_map register_leb128 Undefined onward_register_leb128, (onward_map register_leb128 SameValue onward_register_leb128, (onward_two register_leb128 Register onward_register_leb128, (onward_two (expression c.pointers) Expression (onward_expression c.pointers), (onward_two (expression c.pointers) ValExpression (onward_expression c.pointers), (onward_give Nop, (onward_give RememberState, (onward_give RestoreState, (onward_negate c.vendor, (onward_map unsigned_leb128 ArgsSize onward_unsigned_leb128, tt)))))))))))))))))))))))))
+abbrev IsEachOnward : List (ℕ × Read Instruction) → Type 0
+IsEachOnward rows = AllByRecursion (λ row. IsOnward row.1) rows
+
+onward_both : (rows others : List (ℕ × Read Instruction)) → IsEachOnward rows → IsEachOnward others → IsEachOnward (rows ++ others)
+onward_both [] others each rest = rest
+onward_both (row ∷ rows) others each rest = (each.0, onward_both rows others each.1 rest)
+
+onward_row_creation : (c : InstructionContext) → IsEachOnward (row_creation c)
+onward_row_creation c = (onward_map (location_by c.pointers c.address_encoding) variant.SetLoc (onward_location c.pointers c.address_encoding), (onward_map (unsigned w8) variant.AdvanceLoc (onward_unsigned w8), (onward_map (unsigned w16) variant.AdvanceLoc (onward_unsigned w16), (onward_map (unsigned w32) variant.AdvanceLoc (onward_unsigned w32), tt))))
+
+onward_cfa_definition : (c : InstructionContext) → IsEachOnward (cfa_definition c)
+onward_cfa_definition c = (onward_two unsigned_leb128 variant.DefCfa onward_unsigned_leb128, (onward_map register_leb128 variant.DefCfaRegister onward_register_leb128, (onward_map unsigned_leb128 variant.DefCfaOffset onward_unsigned_leb128, (onward_map (expression c.pointers) variant.DefCfaExpression (onward_expression c.pointers), (onward_two signed_leb128 variant.DefCfaSf onward_signed_leb128, (onward_map signed_leb128 variant.DefCfaOffsetSf onward_signed_leb128, tt))))))
+
+onward_offset_rules : IsEachOnward offset_rules
+onward_offset_rules = (onward_two unsigned_leb128 variant.Offset onward_unsigned_leb128, (onward_two signed_leb128 variant.OffsetExtendedSf onward_signed_leb128, (onward_two unsigned_leb128 variant.ValOffset onward_unsigned_leb128, (onward_two signed_leb128 variant.ValOffsetSf onward_signed_leb128, tt))))
+
+onward_register_rules : (c : InstructionContext) → IsEachOnward (register_rules c)
+onward_register_rules c = (onward_map register_leb128 variant.Restore onward_register_leb128, (onward_map register_leb128 variant.Undefined onward_register_leb128, (onward_map register_leb128 variant.SameValue onward_register_leb128, (onward_two register_leb128 variant.Register onward_register_leb128, (onward_two (expression c.pointers) variant.Expression (onward_expression c.pointers), (onward_two (expression c.pointers) variant.ValExpression (onward_expression c.pointers), tt))))))
+
+onward_state_and_others : (c : InstructionContext) → IsEachOnward (state_and_others c)
+onward_state_and_others c = (onward_give variant.Nop, (onward_give variant.RememberState, (onward_give variant.RestoreState, (onward_negate c.vendor, (onward_map unsigned_leb128 variant.ArgsSize onward_unsigned_leb128, tt)))))
+
+onward_extended : (c : InstructionContext) → IsEachOnward (extended_opcodes c)
+onward_extended c =
+    let rules : List (ℕ × Read Instruction) = register_rules c ++ state_and_others c in
+    let offsets : List (ℕ × Read Instruction) = offset_rules ++ rules in
+    onward_both (row_creation c) (cfa_definition c ++ offsets) (onward_row_creation c)
+    (onward_both (cfa_definition c) offsets (onward_cfa_definition c)
+    (onward_both offset_rules rules onward_offset_rules
+    (onward_both (register_rules c) (state_and_others c) (onward_register_rules c) (onward_state_and_others c))))
 
 -- an instruction that is read takes a byte at least
 pub advances_instruction : (c : InstructionContext) → Advances (instruction c)
 unfolding instruction
 advances_instruction c =
     advances_bind (unsigned w8) (by_opcode c) (advances_unsigned w8 (omega arith)) (λ opcode.
-    onward_if (opcode / 64 == 1) (advance (opcode % 64)) _ (onward_give _)
-    (onward_if (opcode / 64 == 2) (unsigned_leb128 >>= λ n. give (Offset (record { 0 = opcode % 64 }) n)) _ (onward_map unsigned_leb128 (Offset (record { 0 = opcode % 64 })) onward_unsigned_leb128)
-    (onward_if (opcode / 64 == 3) (give (Restore (record { 0 = opcode % 64 }))) (chosen_from opcode (extended_opcodes c) (unknown_opcode opcode)) (onward_give _)
-    (onward_from opcode (extended_opcodes c) (unknown_opcode opcode) (onward_extended c) (onward_refuse _)))))
+    onward_from (opcode - opcode % 64) (primary_opcodes (opcode % 64)) _
+    (onward_give _, (onward_map unsigned_leb128 (variant.Offset (record { 0 = opcode % 64 })) onward_unsigned_leb128, (onward_give _, tt)))
+    (onward_from opcode (extended_opcodes c) (unknown_opcode opcode) (onward_extended c) (onward_refuse _)))

@@ -1,5 +1,5 @@
 -- Call frame instructions (DWARF 5 sections 6.4.2 and 7.24).
-use Rattle.std.specs.Prelude.{◌≡◌, ◌≤◌, ℕ, ◌-◌, ◌/◌, ◌%◌, Option, Some, None, List, [], ◌∷◌, ◌++◌, ◌==◌, Ok, if◌then◌else◌}
+use Rattle.std.specs.Prelude.{◌≡◌, ◌≤◌, ℕ, ◌-◌, ◌%◌, Option, Some, None, List, [], ◌∷◌, ◌++◌, Ok}
 use Rattle.std.specs.Int.{w8, w16, w32}
 use Rattle.cfi_read_core.specs.declared.common.Register.{Register as RegisterNumber}
 use Rattle.cfi_read_core.specs.declared.common.Vendor.{Vendor}
@@ -11,7 +11,7 @@ use Rattle.cfi_read_core.specs.Numbers.{unsigned, unsigned_leb128, signed_leb128
 use Rattle.cfi_read_core.specs.Addresses.{address}
 use Rattle.cfi_parts.specs.declared.instruction.UnwindExpression.{UnwindExpression}
 use Rattle.cfi_parts.specs.declared.instruction.CallFrameInstruction.{CallFrameInstruction}
-use Rattle.cfi_parts.specs.declared.instruction.CallFrameInstruction.TheVariants.{SetLoc, AdvanceLoc, DefCfa, DefCfaSf, DefCfaRegister, DefCfaOffset, DefCfaOffsetSf, DefCfaExpression, Undefined, SameValue, Offset, OffsetExtendedSf, ValOffset, ValOffsetSf, Register, Expression, ValExpression, Restore, RememberState, RestoreState, ArgsSize, NegateRaState, Nop}
+use Rattle.cfi_parts.specs.declared.instruction.CallFrameInstruction.TheVariants as variant
 use Rattle.cfi_parts.specs.Pointers.{PointerContext, pointer, direct}
 
 -- What the instructions of an entry are read with.
@@ -59,11 +59,11 @@ abbrev pub unknown_opcode : {A : Type 0} → ℕ → Read A
 unknown_opcode opcode = refuse (UnknownCallFrameInstruction (record { 0 = opcode }))
 
 abbrev pub negate_ra_state : Vendor → Read Instruction
-negate_ra_state vendors.AArch64 = give NegateRaState
+negate_ra_state vendors.AArch64 = give variant.NegateRaState
 negate_ra_state vendors.Default = unknown_opcode 0x2d
 
 abbrev pub advance : ℕ → Read Instruction
-advance delta = give (AdvanceLoc delta)
+advance delta = give (variant.AdvanceLoc delta)
 
 -- DW_CFA_offset and its kin: a register and a number that is read after it
 abbrev pub register_and : {A : Type 0} → Read A → (RegisterNumber → A → Instruction) → Read Instruction
@@ -75,7 +75,7 @@ register_and operand made = do
 -- row creation (DWARF 5 section 6.4.2.1)
 abbrev pub row_creation : InstructionContext → List (ℕ × Read Instruction)
 row_creation c =
-    (0x01, location_by c.pointers c.address_encoding >>= λ a. give (SetLoc a))
+    (0x01, location_by c.pointers c.address_encoding >>= λ a. give (variant.SetLoc a))
     ∷ (0x02, unsigned w8 >>= advance)
     ∷ (0x03, unsigned w16 >>= advance)
     ∷ (0x04, unsigned w32 >>= advance)
@@ -84,55 +84,59 @@ row_creation c =
 -- the definition of the CFA (section 6.4.2.2)
 abbrev pub cfa_definition : InstructionContext → List (ℕ × Read Instruction)
 cfa_definition c =
-    (0x0c, register_and unsigned_leb128 DefCfa)
-    ∷ (0x0d, register_leb128 >>= λ r. give (DefCfaRegister r))
-    ∷ (0x0e, unsigned_leb128 >>= λ n. give (DefCfaOffset n))
-    ∷ (0x0f, expression c.pointers >>= λ e. give (DefCfaExpression e))
-    ∷ (0x12, register_and signed_leb128 DefCfaSf)
-    ∷ (0x13, signed_leb128 >>= λ z. give (DefCfaOffsetSf z))
+    (0x0c, register_and unsigned_leb128 variant.DefCfa)
+    ∷ (0x0d, register_leb128 >>= λ r. give (variant.DefCfaRegister r))
+    ∷ (0x0e, unsigned_leb128 >>= λ n. give (variant.DefCfaOffset n))
+    ∷ (0x0f, expression c.pointers >>= λ e. give (variant.DefCfaExpression e))
+    ∷ (0x12, register_and signed_leb128 variant.DefCfaSf)
+    ∷ (0x13, signed_leb128 >>= λ z. give (variant.DefCfaOffsetSf z))
     ∷ []
 
 -- the rules of registers (section 6.4.2.3), with an offset from the CFA and without
 abbrev pub offset_rules : List (ℕ × Read Instruction)
 offset_rules =
-    (0x05, register_and unsigned_leb128 Offset)
-    ∷ (0x11, register_and signed_leb128 OffsetExtendedSf)
-    ∷ (0x14, register_and unsigned_leb128 ValOffset)
-    ∷ (0x15, register_and signed_leb128 ValOffsetSf)
+    (0x05, register_and unsigned_leb128 variant.Offset)
+    ∷ (0x11, register_and signed_leb128 variant.OffsetExtendedSf)
+    ∷ (0x14, register_and unsigned_leb128 variant.ValOffset)
+    ∷ (0x15, register_and signed_leb128 variant.ValOffsetSf)
     ∷ []
 
 abbrev pub register_rules : InstructionContext → List (ℕ × Read Instruction)
 register_rules c =
-    (0x06, register_leb128 >>= λ r. give (Restore r))
-    ∷ (0x07, register_leb128 >>= λ r. give (Undefined r))
-    ∷ (0x08, register_leb128 >>= λ r. give (SameValue r))
-    ∷ (0x09, register_and register_leb128 Register)
-    ∷ (0x10, register_and (expression c.pointers) Expression)
-    ∷ (0x16, register_and (expression c.pointers) ValExpression)
+    (0x06, register_leb128 >>= λ r. give (variant.Restore r))
+    ∷ (0x07, register_leb128 >>= λ r. give (variant.Undefined r))
+    ∷ (0x08, register_leb128 >>= λ r. give (variant.SameValue r))
+    ∷ (0x09, register_and register_leb128 variant.Register)
+    ∷ (0x10, register_and (expression c.pointers) variant.Expression)
+    ∷ (0x16, register_and (expression c.pointers) variant.ValExpression)
     ∷ []
 
 -- the state of a row (section 6.4.2.4), padding (section 6.4.2.5), and the opcodes of vendors
 abbrev pub state_and_others : InstructionContext → List (ℕ × Read Instruction)
 state_and_others c =
-    (0x00, give Nop)
-    ∷ (0x0a, give RememberState)
-    ∷ (0x0b, give RestoreState)
+    (0x00, give variant.Nop)
+    ∷ (0x0a, give variant.RememberState)
+    ∷ (0x0b, give variant.RestoreState)
     ∷ (0x2d, negate_ra_state c.vendor)
-    ∷ (0x2e, unsigned_leb128 >>= λ n. give (ArgsSize n))
+    ∷ (0x2e, unsigned_leb128 >>= λ n. give (variant.ArgsSize n))
     ∷ []
 
 -- the opcodes whose two high bits are 0, with what is read after them
 abbrev pub extended_opcodes : InstructionContext → List (ℕ × Read Instruction)
 extended_opcodes c = row_creation c ++ cfa_definition c ++ offset_rules ++ register_rules c ++ state_and_others c
 
--- the low six bits of a primary opcode are its first operand
+-- the primary opcodes, which are the two high bits alone: the low six bits are the first operand
+abbrev pub primary_opcodes : ℕ → List (ℕ × Read Instruction)
+primary_opcodes low =
+    (0x40, advance low)
+    ∷ (0x80, unsigned_leb128 >>= λ n. give (variant.Offset (record { 0 = low }) n))
+    ∷ (0xc0, give (variant.Restore (record { 0 = low })))
+    ∷ []
+
 abbrev pub by_opcode : InstructionContext → ℕ → Read Instruction
 by_opcode c opcode =
     let low = opcode % 64 in
-    if opcode / 64 == 1 then advance low
-    else if opcode / 64 == 2 then (unsigned_leb128 >>= λ n. give (Offset (record { 0 = low }) n))
-    else if opcode / 64 == 3 then give (Restore (record { 0 = low }))
-    else chosen_from opcode (extended_opcodes c) (unknown_opcode opcode)
+    chosen_from (opcode - low) (primary_opcodes low) (chosen_from opcode (extended_opcodes c) (unknown_opcode opcode))
 
 unfoldable pub instruction : InstructionContext → Read Instruction
 instruction c = do

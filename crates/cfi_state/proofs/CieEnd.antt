@@ -9,6 +9,7 @@ use Rattle.cfi_read_core.specs.declared.error.Error.TheVariants.{CfiInstructionI
 use Rattle.cfi_parts.specs.declared.instruction.CallFrameInstruction.{CallFrameInstruction}
 use Rattle.cfi_parts.specs.declared.instruction.CallFrameInstruction.TheVariants as instruction
 use Rattle.cfi_state.specs.declared.table.rules.RegisterRule.{RegisterRule}
+use Rattle.cfi_state.specs.Actions.{action}
 use Rattle.cfi_state.specs.ProgramSettings.{Setting, is_at_limit}
 use Rattle.cfi_state.specs.Machine.{Parts, State, rows_held, end_of_cie}
 use Rattle.cfi_state.specs.Brackets.{survivors, before_open}
@@ -37,7 +38,7 @@ module _ {T : Type 0} where
 
   -- ---- without such a restore the initial rules do not count
 
-  same_written : (s : Setting) (initial : ℕ → Option (RegisterRule T)) (i : CallFrameInstruction T) → is_no_rule_restore i ≡ true → written_rule s initial i ≡ written_rule s no_rule i
+  same_written : (s : Setting) (initial : ℕ → Option (RegisterRule T)) (i : CallFrameInstruction T) → is_no_rule_restore i ≡ true → written_rule s initial (action i) ≡ written_rule s no_rule (action i)
   same_written s initial (instruction.Restore r) e = absurd (false≢true e)
   same_written s initial _ e = refl
 
@@ -46,7 +47,7 @@ module _ {T : Type 0} where
   same_last s initial [] r all = refl
   same_last s initial (y ∷ ys) r all =
       let parts = and_parts (is_no_rule_restore y) (list_all is_no_rule_restore ys) all in
-      λ k. option_or (same_last s initial ys r parts.1 k) (cond (writes_rule r y) (Some (same_written s initial y parts.0 k)) None)
+      λ k. option_or (same_last s initial ys r parts.1 k) (cond (writes_rule r (action y)) (Some (same_written s initial y parts.0 k)) None)
 
   same_rule : (s : Setting) (initial : ℕ → Option (RegisterRule T)) (ys : List (CallFrameInstruction T)) (r : ℕ) → list_all is_no_rule_restore ys ≡ true → final_rule s initial ys r ≡ final_rule s no_rule ys r
   same_rule s initial ys r all = ap (λ o. rule_after_toggles (final_toggles ys r) (option_flatten o)) (same_last s initial ys r all)

@@ -1,31 +1,41 @@
 -- An instruction that gives a register a rule changes a context by the machine's step.
-use Rattle.std.proofs.Common.{rules, ap, ◌∙◌, ◌≡◌, ℕ, Bool, true, false, not, cond, Option, Some, None, is_some, IsTrue, refl, sym, subst, Result, Ok, Err, ◌&&◌, inl, inr}
+use Rattle.std.proofs.Common.{rules, ap, ◌∙◌, ◌≡◌, ℕ, ℤ, ltb, Bool, true, false, not, cond, Option, Some, None, is_some, IsTrue, refl, sym, subst, Result, Ok, Err, ◌&&◌, inl, inr}
 use Rattle.std.specs.Option.{IfSome}
+use Rattle.std.specs.Result.{IfErr}
 use Rattle.std.specs.FinMap.{insert, len, contains_key}
 use Rattle.cfi_read_core.specs.declared.common.Register.{Register}
 use Rattle.cfi_read_core.specs.declared.error.Error.{Error}
 use Rattle.cfi_read_core.specs.declared.error.Error.TheVariants.{TooManyRegisterRules}
 use Rattle.cfi_parts.specs.declared.instruction.CallFrameInstruction.{CallFrameInstruction}
-use Rattle.cfi_parts.specs.declared.instruction.CallFrameInstruction.TheVariants as instruction
+use Rattle.cfi_state.specs.declared.table.rules.CfaRule.{CfaRule}
+use Rattle.cfi_state.specs.declared.table.rules.CfaRule.TheVariants as cfa
 use Rattle.cfi_state.specs.declared.table.rules.RegisterRule.{RegisterRule}
-use Rattle.cfi_state.specs.declared.table.rules.RegisterRule.TheVariants as rule
 use Rattle.cfi_state.specs.declared.table.machine.Parameters.{Parameters}
 use Rattle.cfi_state.specs.Outcome.{Performs, result_map}
-use Rattle.cfi_state.specs.ProgramSettings.{Setting, is_at_limit, times_factor, unsigned_times_factor}
-use Rattle.cfi_state.specs.Machine.{Rules, State, step}
+use Rattle.cfi_state.specs.ProgramSettings.{Setting, is_at_limit, advanced_location, fits_address}
+use Rattle.cfi_state.specs.Machine.{Rules, State, perform, step}
 use Rattle.cfi_state.specs.Machine as machine
 use Rattle.cfi_state.specs.Rules.{map_set_rule, AddsRule}
 use Rattle.cfi_state.specs.Row.{row_with_rules}
 use Rattle.cfi_state.specs.Context.{ContextState, machine_state, with_row}
-use Rattle.cfi_state.specs.Memory.{adds_rule, may_allocate_at}
-use Rattle.cfi_state.specs.ActionEffects.{rule_given}
+use Rattle.cfi_state.specs.Memory.{adds_rule, may_allocate_for, may_allocate_at}
+use Rattle.cfi_state.specs.ActionEffects.{target, with_register, with_offset, cfa_given, rule_given}
 use Rattle.cfi_state.specs.Outcome.{IsRefusal}
-use Rattle.cfi_state.specs.ContextEffects.{setting_of, Changes, remembered_after}
+use Rattle.cfi_state.specs.ContextEffects.{setting_of, Changes, rows_after, remembered_after}
+use Rattle.cfi_state.specs.Actions.{Action, sets_location, advances_location, defines_cfa, defines_cfa_register, defines_cfa_offset, gives_rule, action}
 
 adds : {T : Type 0} (limit : Option ℕ) (m : Rules T) (register : ℕ) → AddsRule limit m register
     → IsTrue (not (is_some limit) && not (contains_key m register))
 adds None m register is = rw is.1 refl
 adds (Some most) m register is = search rules
+
+refused_if_so : {A B : Type 0} (b : Bool) (e : Error) (x : A) (y : B) → IfErr (cond b (Err e) (Ok x)) (λ d. cond b (Err e) (Ok y) ≡ Err d)
+refused_if_so true e x y = refl
+refused_if_so false e x y = tt
+
+refused_unless : {A B : Type 0} (b : Bool) (e : Error) (x : A) (y : B) → IfErr (cond b (Ok x) (Err e)) (λ d. cond b (Ok y) (Err e) ≡ Err d)
+refused_unless true e x y = tt
+refused_unless false e x y = refl
 
 module _ {T : Type 0} (p : Parameters) (rule_limit stack_limit : Option ℕ) (copies_free : Bool) (location : ℕ) (old new : ContextState T) where
   -- what a context answers that sets a rule
@@ -80,18 +90,37 @@ module _ {T : Type 0} (p : Parameters) (rule_limit stack_limit : Option ℕ) (co
   gives i register rule result is allocates kept set = of_sets i register _ result is allocates kept (sets register rule result set)
 
   -- an instruction that gives a register a rule sets that rule
+  sets-given-by : (i : CallFrameInstruction T) (e : Action T) (result : Result (Unit {0}) Error) → action i ≡ e
+      → IfSome (rule_given (setting_of p None None) e) (λ given. IsSet given.0 given.1 result → Changes (setting_of p rule_limit stack_limit) copies_free location i old new result)
+  sets-given-by i (gives_rule r rule) result is =
+      gives i r (rule p.data_alignment_factor) result (ap (perform (setting_of p rule_limit stack_limit) (machine_state location old)) is)
+      (ap (may_allocate_for (setting_of p rule_limit stack_limit) copies_free (machine_state location old)) is) (sym (ap (λ e. rows_after e old) is))
+  sets-given-by i _ result is = tt
+
   pub sets-given : (i : CallFrameInstruction T) (result : Result (Unit {0}) Error)
-      → IfSome (rule_given (setting_of p None None) i) (λ given. IsSet given.0 given.1 result → Changes (setting_of p rule_limit stack_limit) copies_free location i old new result)
-  sets-given (instruction.Undefined r) result = gives (instruction.Undefined r) r rule.Undefined result refl refl refl
-  sets-given (instruction.SameValue r) result = gives (instruction.SameValue r) r rule.SameValue result refl refl refl
-  sets-given (instruction.Offset r n) result = gives (instruction.Offset r n) r (rule.Offset (unsigned_times_factor (setting_of p None None) n)) result refl refl refl
-  sets-given (instruction.OffsetExtendedSf r n) result = gives (instruction.OffsetExtendedSf r n) r (rule.Offset (times_factor (setting_of p None None) n)) result refl refl refl
-  sets-given (instruction.ValOffset r n) result = gives (instruction.ValOffset r n) r (rule.ValOffset (unsigned_times_factor (setting_of p None None) n)) result refl refl refl
-  sets-given (instruction.ValOffsetSf r n) result = gives (instruction.ValOffsetSf r n) r (rule.ValOffset (times_factor (setting_of p None None) n)) result refl refl refl
-  sets-given (instruction.Register r source) result = gives (instruction.Register r source) r (rule.Register source) result refl refl refl
-  sets-given (instruction.Expression r e) result = gives (instruction.Expression r e) r (rule.Expression e) result refl refl refl
-  sets-given (instruction.ValExpression r e) result = gives (instruction.ValExpression r e) r (rule.ValExpression e) result refl refl refl
-  sets-given _ result = tt
+      → IfSome (rule_given (setting_of p None None) (action i)) (λ given. IsSet given.0 given.1 result → Changes (setting_of p rule_limit stack_limit) copies_free location i old new result)
+  sets-given i result = sets-given-by i (action i) result refl
+
+  -- ---- a refused move, or half of a CFA's definition
+
+  set_register_refused : (c : CfaRule T) (r : Register) → IfErr (with_register c r) (λ e. machine.set_cfa_register (machine_state location old) r c ≡ Err e)
+  set_register_refused (cfa.RegisterAndOffset q offset) r = tt
+  set_register_refused (cfa.Expression _) r = refl
+
+  set_offset_refused : (c : CfaRule T) (offset : ℤ) → IfErr (with_offset c offset) (λ e. machine.set_cfa_offset (machine_state location old) offset c ≡ Err e)
+  set_offset_refused (cfa.RegisterAndOffset q before) offset = tt
+  set_offset_refused (cfa.Expression _) offset = refl
+
+  pub cfa-refused : (a : Action T) → IfErr (cfa_given (setting_of p None None) old.row.parts.cfa a) (λ e. perform (setting_of p rule_limit stack_limit) (machine_state location old) a ≡ Err e)
+  cfa-refused (defines_cfa_register r) = set_register_refused old.row.parts.cfa r
+  cfa-refused (defines_cfa_offset offset) = set_offset_refused old.row.parts.cfa (offset p.data_alignment_factor)
+  cfa-refused (defines_cfa r offset) = tt
+  cfa-refused _ = tt
+
+  pub move-refused : (a : Action T) → IfErr (target (setting_of p None None) location a) (λ e. perform (setting_of p rule_limit stack_limit) (machine_state location old) a ≡ Err e)
+  move-refused (sets_location address) = refused_if_so (ltb address location) _ _ _
+  move-refused (advances_location delta) = refused_unless (fits_address (setting_of p None None) (advanced_location (setting_of p None None) location delta)) _ _ _
+  move-refused _ = tt
 
 -- no instruction changes the rules that a CIE's initial instructions ended with
 pub changes-initial : {T : Type 0} (s : Setting) (copies_free : Bool) (location : ℕ) (i : CallFrameInstruction T) (old new : ContextState T) (result : Result (Unit {0}) Error)

@@ -1,10 +1,10 @@
 -- The law that ties the machine to the struck-out form: after an accepted program, the machine in that program's state
 -- refuses exactly what the program refuses next, and else comes to the state of the program with that instruction.
-use Rattle.std.proofs.Common.{◌≡◌, ℕ, ◌+◌, ◌<◌, ◌≤◌, Bool, true, false, cond, not, ◌&&◌, ◌||◌, ℤ, pos, List, [], ◌∷◌, ◌++◌, length, map, eqb, ltb, leb, take, Option, Some, None, Ok, Err, is_some, unwrap_or, refl, sym, ap, ◌∙◌, arith, append_assoc, bit_xor, inl, inr, ◌⊎◌}
+use Rattle.std.proofs.Common.{◌≡◌, ℕ, ◌+◌, ◌<◌, ◌≤◌, Bool, true, false, cond, not, ◌&&◌, ◌||◌, ℤ, pos, List, [], ◌∷◌, ◌++◌, length, map, eqb, ltb, leb, take, Option, Some, None, Ok, Err, is_some, unwrap_or, refl, sym, ap, subst, ◌∙◌, arith, append_assoc, bit_xor, inl, inr, ◌⊎◌}
 use Rattle.std.specs.Bool.{◌==◌}
 use Rattle.std.specs.Option.{option_or, option_flatten, option_map_or}
 use Rattle.std.specs.FinMap as map
-use Rattle.std.proofs.lemmas.Bool.{eq-eqb, ne_eqb, cases_lt}
+use Rattle.std.proofs.lemmas.Bool.{false≢true, eq-eqb, ne_eqb, cases_lt}
 use Rattle.std.proofs.lemmas.List.{append-nil, length-map, length-reverse}
 use Rattle.std.proofs.lemmas.List.Sums.{fold_push}
 use Rattle.cfi_read_core.specs.declared.common.Register.{Register}
@@ -16,16 +16,17 @@ use Rattle.cfi_parts.specs.declared.instruction.CallFrameInstruction.TheVariants
 use Rattle.cfi_state.specs.declared.table.rules.CfaRule.{CfaRule}
 use Rattle.cfi_state.specs.declared.table.rules.RegisterRule.{RegisterRule}
 use Rattle.cfi_state.specs.declared.table.rules.RegisterRule.TheVariants as rule
-use Rattle.cfi_state.specs.ProgramSettings.{Setting, ra_sign_state, is_at_limit, times_factor, unsigned_times_factor, advanced_location, fits_address, next_location, is_move, is_remember, is_restore, is_toggle}
-use Rattle.cfi_state.specs.Machine.{Rules, Parts, State, fresh_state, copies_held, rows_held, with_cfa, with_rules, set_rule, set_or_remove_rule, set_cfa_register, set_cfa_offset, toggle, restore_state, step}
+use Rattle.cfi_state.specs.ProgramSettings.{Setting, ra_sign_state, is_at_limit, advanced_location, fits_address, location_after, remembers, restores, next_location, is_move, is_remember, is_restore, is_toggle}
+use Rattle.cfi_state.specs.Actions.{Action, sets_location, advances_location, defines_cfa, defines_cfa_register, defines_cfa_offset, defines_cfa_expression, gives_rule, restores_rule, toggles_sign_state, remembers_state, restores_state, sets_args_size, changes_nothing, action}
+use Rattle.cfi_state.specs.Machine.{Rules, Parts, State, fresh_state, copies_held, rows_held, with_cfa, with_rules, set_rule, set_or_remove_rule, set_cfa_register, set_cfa_offset, toggle, restore_state, perform, step}
 use Rattle.cfi_state.specs.Brackets.{survivors, open_indices, before_open}
 use Rattle.cfi_state.specs.Writers.{last_written, written_cfa, written_cfa_register, written_cfa_offset, written_args_size, written_register, written_rule, names, cfa_from, final_cfa, final_args_size, rule_before_toggles, final_toggles, constant_or_zero, final_rule, final_rules, final_parts}
-use Rattle.cfi_state.specs.Program.{Program, in_cie, in_fde, refused_if, instructions, followed_by, location_of, no_rule, initial_rule, cfa_of, rule_of, parts_of, open_count, extra_count, is_stack_full, is_expression, is_no_constant, has_no_room, refusal, IsAccepted, nothing, one_more, cie_ended}
+use Rattle.cfi_state.specs.Program.{Program, in_cie, in_fde, refused_if, instructions, followed_by, location_of, no_rule, initial_rule, rule_of, parts_of, open_count, extra_count, is_stack_full, is_expression, is_no_constant, has_no_room, refusal_of, refusal, IsAccepted, nothing, one_more, cie_ended}
 use Rattle.cfi_state.specs.Rows.{or_refused, initial_rules_of, remembered_of, program_state}
 use Rattle.cfi_state.proofs.BracketCounts.{closing, closings, opens, closings-append}
 use Rattle.cfi_state.proofs.BracketEnds.{left, fronts, left-append, fronts-append, closings_before, length-fronts, restored, no_length}
 use Rattle.cfi_state.proofs.BracketPlaces.{survivors-left, before_open-fronts, open_places-length}
-use Rattle.cfi_state.proofs.PartsEnds.{rule_push_writer, rule_push_toggle, get-rules_left, len-rules_left, rules_push_insert, rules_push_remove, rules_push_unnamed, cfa_push, args_size_push, same_parts, IsSilent, parts_push_silent, parts_moves, before_toggles_below, rule_left_below, toggled_none, toggled_constant}
+use Rattle.cfi_state.proofs.PartsEnds.{rule_push_writer, rule_push_toggle, get-rules_left, len-rules_left, rules_push_insert, rules_push_remove, rules_push_unnamed, cfa_push, args_size_push, same_parts, parts_moves, before_toggles_below, rule_left_below, toggled_none, toggled_constant}
 
 pub or-refused_if : {A : Type 0} (b : Bool) (e : Error) (a : A) → or_refused (refused_if b e) a ≡ cond b (Err e) (Ok a)
 or-refused_if true e a = refl
@@ -103,58 +104,49 @@ module _ {T : Type 0} where
       let same_remembered = ap (map parts_before) (before_open_push (instructions p) i e) ∙ map_cond parts_before (is_remember i) (instructions p ∷ before_open (instructions p)) (before_open (instructions p)) in
       state_push s p i ∙ λ k. state (next_location s (location_of s p) i) ((ap (final_parts s (initial_rule s p)) (survivors_push (instructions p) i closed e) ∙ is) k) (same_remembered k) (initial_rules_of s p)
 
-  -- ---- one law for each kind of instruction
+  -- ---- one law for each kind of action
 
-  abbrev Law : Setting → Program T → CallFrameInstruction T → Type 0
-  Law s p i = step s (program_state s p) i ≡ or_refused (refusal s p i) (program_state s (followed_by p i))
+  -- the law of an instruction with the action e
+  abbrev Law : Setting → Program T → CallFrameInstruction T → Action T → Type 0
+  Law s p i e = perform s (program_state s p) e ≡ or_refused (refusal_of s p e) (program_state s (followed_by p i))
 
-  silent_state : (s : Setting) (p : Program T) (i : CallFrameInstruction T) → closings (instructions p) ≡ 0 → is_restore i ≡ false → IsSilent s i → program_state s (followed_by p i) ≡ state (next_location s (location_of s p) i) (parts_of s p) (cond (is_remember i) (parts_of s p ∷ remembered_of s p) (remembered_of s p)) (initial_rules_of s p)
-  silent_state s p i closed e silent = next_state s p i (parts_of s p) closed e (parts_push_silent s (initial_rule s p) (survivors (instructions p)) i silent)
+  -- the state after an instruction with the action e, which restores no state
+  next_by : (s : Setting) (p : Program T) (i : CallFrameInstruction T) (e : Action T) (parts : Parts T) → closings (instructions p) ≡ 0 → action i ≡ e → restores e ≡ false → final_parts s (initial_rule s p) (survivors (instructions p) ++ i ∷ []) ≡ parts →
+      program_state s (followed_by p i) ≡ state (location_after s (location_of s p) e) parts (cond (remembers e) (parts_of s p ∷ remembered_of s p) (remembered_of s p)) (initial_rules_of s p)
+  next_by s p i e parts closed is opened left_is =
+      next_state s p i parts closed (ap restores is ∙ opened) left_is
+      ∙ λ k. state (location_after s (location_of s p) (is k)) parts (cond (remembers (is k)) (parts_of s p ∷ remembered_of s p) (remembered_of s p)) (initial_rules_of s p)
 
-  set_loc_law : (s : Setting) (p : Program T) (address : ℕ) → closings (instructions p) ≡ 0 → Law s p (instruction.SetLoc address)
-  set_loc_law s p address closed =
-      let silent : IsSilent s (instruction.SetLoc address) = record { cfa = refl; cfa_register = refl; cfa_offset = refl; args_size = refl; register = refl } in
-      ap (λ x. cond (ltb address (location_of s p)) (Err (InvalidCfiSetLoc address)) (Ok x)) (sym (silent_state s p (instruction.SetLoc address) closed refl silent))
+  -- what an action writes of the CFA and of the argument size
+  abbrev cfa_by : Setting → List (CallFrameInstruction T) → Action T → CfaRule T
+  cfa_by s ys e = cfa_from (option_flatten (option_or (written_cfa e) (last_written written_cfa ys))) (unwrap_or (option_or (written_cfa_register e) (last_written written_cfa_register ys)) (record { 0 = 0 })) (unwrap_or (option_or (written_cfa_offset s e) (last_written (written_cfa_offset s) ys)) (pos 0))
+
+  abbrev args_size_by : List (CallFrameInstruction T) → Action T → ℕ
+  args_size_by ys e = unwrap_or (option_or (written_args_size e) (last_written written_args_size ys)) 0
+
+  cfa_push_by : (s : Setting) (ys : List (CallFrameInstruction T)) (i : CallFrameInstruction T) (e : Action T) → action i ≡ e → final_cfa s (ys ++ i ∷ []) ≡ cfa_by s ys e
+  cfa_push_by s ys i e is = cfa_push s ys i ∙ λ k. cfa_by s ys (is k)
+
+  args_size_push_by : (ys : List (CallFrameInstruction T)) (i : CallFrameInstruction T) (e : Action T) → action i ≡ e → final_args_size (ys ++ i ∷ []) ≡ args_size_by ys e
+  args_size_push_by ys i e is = args_size_push ys i ∙ λ k. args_size_by ys (is k)
+
+  -- the state after an instruction that gives no rule and restores no state
+  ruleless : (s : Setting) (p : Program T) (i : CallFrameInstruction T) (e : Action T) → closings (instructions p) ≡ 0 → action i ≡ e → restores e ≡ false → written_register e ≡ None →
+      program_state s (followed_by p i) ≡ state (location_after s (location_of s p) e) (record (parts_of s p) { cfa = cfa_by s (survivors (instructions p)) e; args_size = args_size_by (survivors (instructions p)) e }) (cond (remembers e) (parts_of s p ∷ remembered_of s p) (remembered_of s p)) (initial_rules_of s p)
+  ruleless s p i e closed is opened unnamed =
+      let ys : List (CallFrameInstruction T) = survivors (instructions p) in
+      next_by s p i e _ closed is opened
+      (same_parts _ _ (cfa_push_by s ys i e is) (sym (rules_push_unnamed s (initial_rule s p) ys i (ap written_register is ∙ unnamed))) (args_size_push_by ys i e is))
+
+  set_location_law : (s : Setting) (p : Program T) (i : CallFrameInstruction T) (address : ℕ) → closings (instructions p) ≡ 0 → action i ≡ sets_location address → Law s p i (sets_location address)
+  set_location_law s p i address closed is =
+      ap (λ x. cond (ltb address (location_of s p)) (Err (InvalidCfiSetLoc address)) (Ok x)) (sym (ruleless s p i (sets_location address) closed is refl refl))
       ∙ sym (or-refused_if (ltb address (location_of s p)) (InvalidCfiSetLoc address) _)
 
-  advance_loc_law : (s : Setting) (p : Program T) (delta : ℕ) → closings (instructions p) ≡ 0 → Law s p (instruction.AdvanceLoc delta)
-  advance_loc_law s p delta closed =
-      let silent : IsSilent s (instruction.AdvanceLoc delta) = record { cfa = refl; cfa_register = refl; cfa_offset = refl; args_size = refl; register = refl } in
-      ap (λ x. cond (fits_address s (advanced_location s (location_of s p) delta)) (Ok x) (Err AddressOverflow)) (sym (silent_state s p (instruction.AdvanceLoc delta) closed refl silent))
+  advance_law : (s : Setting) (p : Program T) (i : CallFrameInstruction T) (delta : ℕ) → closings (instructions p) ≡ 0 → action i ≡ advances_location delta → Law s p i (advances_location delta)
+  advance_law s p i delta closed is =
+      ap (λ x. cond (fits_address s (advanced_location s (location_of s p) delta)) (Ok x) (Err AddressOverflow)) (sym (ruleless s p i (advances_location delta) closed is refl refl))
       ∙ sym (or-refused_unless (fits_address s (advanced_location s (location_of s p) delta)) AddressOverflow _)
-
-  nop_law : (s : Setting) (p : Program T) → closings (instructions p) ≡ 0 → Law s p instruction.Nop
-  nop_law s p closed =
-      let silent : IsSilent s instruction.Nop = record { cfa = refl; cfa_register = refl; cfa_offset = refl; args_size = refl; register = refl } in
-      ap Ok (sym (silent_state s p instruction.Nop closed refl silent))
-
-  -- the parts after an instruction that writes no rule
-  parts_push_unnamed : (s : Setting) (p : Program T) (i : CallFrameInstruction T) → written_register i ≡ None → (c : CfaRule T) (size : ℕ) → final_cfa s (survivors (instructions p) ++ i ∷ []) ≡ c → final_args_size (survivors (instructions p) ++ i ∷ []) ≡ size →
-      final_parts s (initial_rule s p) (survivors (instructions p) ++ i ∷ []) ≡ record { cfa = c; rules = (parts_of s p).rules; args_size = size }
-  parts_push_unnamed s p i unnamed c size is_cfa is_size = same_parts _ _ is_cfa (sym (rules_push_unnamed s (initial_rule s p) (survivors (instructions p)) i unnamed)) is_size
-
-  args_size_law : (s : Setting) (p : Program T) (size : ℕ) → closings (instructions p) ≡ 0 → Law s p (instruction.ArgsSize size)
-  args_size_law s p size closed =
-      let ys : List (CallFrameInstruction T) = survivors (instructions p) in
-      ap Ok (sym (next_state s p (instruction.ArgsSize size) (record (parts_of s p) { args_size = size }) closed refl
-      (parts_push_unnamed s p (instruction.ArgsSize size) refl (cfa_of s p) size (cfa_push s ys (instruction.ArgsSize size)) (args_size_push ys (instruction.ArgsSize size)))))
-
-  -- a CFA that is written whole
-  cfa_state : (s : Setting) (p : Program T) (i : CallFrameInstruction T) (c : CfaRule T) → closings (instructions p) ≡ 0 → is_restore i ≡ false → written_register i ≡ None → written_args_size i ≡ None → final_cfa s (survivors (instructions p) ++ i ∷ []) ≡ c →
-      program_state s (followed_by p i) ≡ state (next_location s (location_of s p) i) (record (parts_of s p) { cfa = c }) (cond (is_remember i) (parts_of s p ∷ remembered_of s p) (remembered_of s p)) (initial_rules_of s p)
-  cfa_state s p i c closed e unnamed sizeless is_cfa =
-      let ys : List (CallFrameInstruction T) = survivors (instructions p) in
-      next_state s p i (record (parts_of s p) { cfa = c }) closed e
-      (parts_push_unnamed s p i unnamed c (final_args_size ys) is_cfa (args_size_push ys i ∙ ap (λ o. unwrap_or (option_or o (last_written written_args_size ys)) 0) sizeless))
-
-  def_cfa_law : (s : Setting) (p : Program T) (r : Register) (offset : ℕ) → closings (instructions p) ≡ 0 → Law s p (instruction.DefCfa r offset)
-  def_cfa_law s p r offset closed = ap Ok (sym (cfa_state s p (instruction.DefCfa r offset) _ closed refl refl refl (cfa_push s (survivors (instructions p)) (instruction.DefCfa r offset))))
-
-  def_cfa_sf_law : (s : Setting) (p : Program T) (r : Register) (offset : ℤ) → closings (instructions p) ≡ 0 → Law s p (instruction.DefCfaSf r offset)
-  def_cfa_sf_law s p r offset closed = ap Ok (sym (cfa_state s p (instruction.DefCfaSf r offset) _ closed refl refl refl (cfa_push s (survivors (instructions p)) (instruction.DefCfaSf r offset))))
-
-  def_cfa_expression_law : (s : Setting) (p : Program T) (e : UnwindExpression T) → closings (instructions p) ≡ 0 → Law s p (instruction.DefCfaExpression e)
-  def_cfa_expression_law s p e closed = ap Ok (sym (cfa_state s p (instruction.DefCfaExpression e) _ closed refl refl refl (cfa_push s (survivors (instructions p)) (instruction.DefCfaExpression e))))
 
   set_cfa_register_case : (x next : State T) (e : Option (UnwindExpression T)) (r q : Register) (offset : ℤ) → next ≡ with_cfa x (cfa_from e r offset) → set_cfa_register x r (cfa_from e q offset) ≡ or_refused (refused_if (is_expression (cfa_from e q offset)) CfiInstructionInInvalidContext) next
   set_cfa_register_case x next None r q offset is = ap Ok (sym is)
@@ -164,21 +156,6 @@ module _ {T : Type 0} where
   set_cfa_offset_case x next None r offset before is = ap Ok (sym is)
   set_cfa_offset_case x next (Some e) r offset before is = refl
 
-  def_cfa_register_law : (s : Setting) (p : Program T) (r : Register) → closings (instructions p) ≡ 0 → Law s p (instruction.DefCfaRegister r)
-  def_cfa_register_law s p r closed =
-      let ys : List (CallFrameInstruction T) = survivors (instructions p) in
-      set_cfa_register_case (program_state s p) _ (option_flatten (last_written written_cfa ys)) r _ _ (cfa_state s p (instruction.DefCfaRegister r) _ closed refl refl refl (cfa_push s ys (instruction.DefCfaRegister r)))
-
-  def_cfa_offset_law : (s : Setting) (p : Program T) (offset : ℕ) → closings (instructions p) ≡ 0 → Law s p (instruction.DefCfaOffset offset)
-  def_cfa_offset_law s p offset closed =
-      let ys : List (CallFrameInstruction T) = survivors (instructions p) in
-      set_cfa_offset_case (program_state s p) _ (option_flatten (last_written written_cfa ys)) _ _ _ (cfa_state s p (instruction.DefCfaOffset offset) _ closed refl refl refl (cfa_push s ys (instruction.DefCfaOffset offset)))
-
-  def_cfa_offset_sf_law : (s : Setting) (p : Program T) (offset : ℤ) → closings (instructions p) ≡ 0 → Law s p (instruction.DefCfaOffsetSf offset)
-  def_cfa_offset_sf_law s p offset closed =
-      let ys : List (CallFrameInstruction T) = survivors (instructions p) in
-      set_cfa_offset_case (program_state s p) _ (option_flatten (last_written written_cfa ys)) _ _ _ (cfa_state s p (instruction.DefCfaOffsetSf offset) _ closed refl refl refl (cfa_push s ys (instruction.DefCfaOffsetSf offset)))
-
   -- ---- rules
 
   -- an instruction that writes or toggles one register's rule, and nothing else
@@ -186,11 +163,11 @@ module _ {T : Type 0} where
     stays : (location : ℕ) → next_location s location i ≡ location
     no_restore : is_restore i ≡ false
     no_remember : is_remember i ≡ false
-    cfa : written_cfa i ≡ None
-    cfa_register : written_cfa_register i ≡ None
-    cfa_offset : written_cfa_offset s i ≡ None
-    args_size : written_args_size i ≡ None
-    register : written_register i ≡ Some r
+    cfa : written_cfa (action i) ≡ None
+    cfa_register : written_cfa_register (action i) ≡ None
+    cfa_offset : written_cfa_offset s (action i) ≡ None
+    args_size : written_args_size (action i) ≡ None
+    register : written_register (action i) ≡ Some r
 
   rules_state : (s : Setting) (p : Program T) (i : CallFrameInstruction T) (r : ℕ) (rules : Rules T) → closings (instructions p) ≡ 0 → ChangesRule s i r → rules ≡ final_rules s (initial_rule s p) (survivors (instructions p) ++ i ∷ []) → program_state s (followed_by p i) ≡ with_rules (program_state s p) rules
   rules_state s p i r rules closed c is =
@@ -211,30 +188,37 @@ module _ {T : Type 0} where
       ∙ ap (λ x. cond (has_no_room s p r) (Err TooManyRegisterRules) (Ok x)) (sym (rules_state s p i r _ closed c (rules_push_insert s (initial_rule s p) (survivors (instructions p)) i r v c.register is)))
       ∙ sym (or-refused_if (has_no_room s p r) TooManyRegisterRules (program_state s (followed_by p i)))
 
-  writer_names : (i : CallFrameInstruction T) (r : ℕ) → written_register i ≡ Some r → names r i ≡ true
+  writer_names : (i : CallFrameInstruction T) (r : ℕ) → written_register (action i) ≡ Some r → names r (action i) ≡ true
   writer_names i r e = ap (λ o. option_map_or (λ q. eqb q r) o false) e ∙ eq-eqb r r refl
 
   -- an instruction that writes a rule of its own
-  writer_law : (s : Setting) (p : Program T) (i : CallFrameInstruction T) (r : ℕ) (v : RegisterRule T) → closings (instructions p) ≡ 0 → ChangesRule s i r → is_toggle i ≡ false → written_rule s (initial_rule s p) i ≡ Some v →
+  writer_law : (s : Setting) (p : Program T) (i : CallFrameInstruction T) (r : ℕ) (v : RegisterRule T) → closings (instructions p) ≡ 0 → ChangesRule s i r → is_toggle (action i) ≡ false → written_rule s (initial_rule s p) (action i) ≡ Some v →
       set_rule s (program_state s p) r v ≡ or_refused (refused_if (has_no_room s p r) TooManyRegisterRules) (program_state s (followed_by p i))
   writer_law s p i r v closed c writer is = set_rule_law s p i r v closed c (rule_push_writer s (initial_rule s p) (survivors (instructions p)) i r (writer_names i r c.register) writer ∙ is)
 
-  restore_changes : (s : Setting) (r : Register) → ChangesRule s (instruction.Restore r) r.0
-  restore_changes s r = record { stays = λ location. refl; no_restore = refl; no_remember = refl; cfa = refl; cfa_register = refl; cfa_offset = refl; args_size = refl; register = refl }
+  -- an action that gives a register a rule or toggles it changes nothing else
+  changes_rule : (s : Setting) (i : CallFrameInstruction T) (e : Action T) (r : ℕ) → action i ≡ e → written_register e ≡ Some r → ChangesRule s i r
+  changes_rule s i (gives_rule q rule) r is names = record { stays = λ location. ap (location_after s location) is; no_restore = ap restores is; no_remember = ap remembers is; cfa = ap written_cfa is; cfa_register = ap written_cfa_register is; cfa_offset = ap (written_cfa_offset s) is; args_size = ap written_args_size is; register = ap written_register is ∙ names }
+  changes_rule s i (restores_rule q) r is names = record { stays = λ location. ap (location_after s location) is; no_restore = ap restores is; no_remember = ap remembers is; cfa = ap written_cfa is; cfa_register = ap written_cfa_register is; cfa_offset = ap (written_cfa_offset s) is; args_size = ap written_args_size is; register = ap written_register is ∙ names }
+  changes_rule s i toggles_sign_state r is names = record { stays = λ location. ap (location_after s location) is; no_restore = ap restores is; no_remember = ap remembers is; cfa = ap written_cfa is; cfa_register = ap written_cfa_register is; cfa_offset = ap (written_cfa_offset s) is; args_size = ap written_args_size is; register = ap written_register is ∙ names }
+  changes_rule s i _ r is names = absurd (let wrong : None ≡ Some r = names in cc)
 
-  restored_rule : (s : Setting) (p : Program T) (r : Register) → final_rule s (initial_rule s p) (survivors (instructions p) ++ instruction.Restore r ∷ []) r.0 ≡ initial_rule s p r.0
-  restored_rule s p r = rule_push_writer s (initial_rule s p) (survivors (instructions p)) (instruction.Restore r) r.0 (writer_names (instruction.Restore r) r.0 refl) refl
+  gives_law : (s : Setting) (p : Program T) (i : CallFrameInstruction T) (r : Register) (rule : ℤ → RegisterRule T) → closings (instructions p) ≡ 0 → action i ≡ gives_rule r rule → Law s p i (gives_rule r rule)
+  gives_law s p i r rule closed is = writer_law s p i r.0 (rule s.data_alignment_factor) closed (changes_rule s i (gives_rule r rule) r.0 is refl) (ap is_toggle is) (ap (written_rule s (initial_rule s p)) is)
 
-  set_or_remove_law : (s : Setting) (p : Program T) (r : Register) (o : Option (RegisterRule T)) → closings (instructions p) ≡ 0 → initial_rule s p r.0 ≡ o →
-      set_or_remove_rule s (program_state s p) r.0 o ≡ or_refused (refused_if (is_some o && has_no_room s p r.0) TooManyRegisterRules) (program_state s (followed_by p (instruction.Restore r)))
-  set_or_remove_law s p r None closed is = ap Ok (sym (rules_state s p (instruction.Restore r) r.0 _ closed (restore_changes s r) (rules_push_remove s (initial_rule s p) (survivors (instructions p)) (instruction.Restore r) r.0 refl (restored_rule s p r ∙ is))))
-  set_or_remove_law s p r (Some v) closed is = set_rule_law s p (instruction.Restore r) r.0 v closed (restore_changes s r) (restored_rule s p r ∙ is)
+  restored_rule : (s : Setting) (p : Program T) (i : CallFrameInstruction T) (r : Register) → action i ≡ restores_rule r → final_rule s (initial_rule s p) (survivors (instructions p) ++ i ∷ []) r.0 ≡ initial_rule s p r.0
+  restored_rule s p i r is = rule_push_writer s (initial_rule s p) (survivors (instructions p)) i r.0 (writer_names i r.0 (ap written_register is)) (ap is_toggle is) ∙ ap (written_rule s (initial_rule s p)) is
 
-  restore_law : (s : Setting) (p : Program T) (r : Register) → closings (instructions p) ≡ 0 → Law s p (instruction.Restore r)
-  restore_law s (in_cie cie) r closed = refl
-  restore_law s (in_fde cie fde) r closed =
+  set_or_remove_law : (s : Setting) (p : Program T) (i : CallFrameInstruction T) (r : Register) (o : Option (RegisterRule T)) → closings (instructions p) ≡ 0 → action i ≡ restores_rule r → initial_rule s p r.0 ≡ o →
+      set_or_remove_rule s (program_state s p) r.0 o ≡ or_refused (refused_if (is_some o && has_no_room s p r.0) TooManyRegisterRules) (program_state s (followed_by p i))
+  set_or_remove_law s p i r None closed i_is is = ap Ok (sym (rules_state s p i r.0 _ closed (changes_rule s i (restores_rule r) r.0 i_is refl) (rules_push_remove s (initial_rule s p) (survivors (instructions p)) i r.0 (ap written_register i_is) (restored_rule s p i r i_is ∙ is))))
+  set_or_remove_law s p i r (Some v) closed i_is is = set_rule_law s p i r.0 v closed (changes_rule s i (restores_rule r) r.0 i_is refl) (restored_rule s p i r i_is ∙ is)
+
+  restore_law : (s : Setting) (p : Program T) (i : CallFrameInstruction T) (r : Register) → closings (instructions p) ≡ 0 → action i ≡ restores_rule r → Law s p i (restores_rule r)
+  restore_law s (in_cie cie) i r closed is = refl
+  restore_law s (in_fde cie fde) i r closed is =
       ap (set_or_remove_rule s (program_state s (in_fde cie fde)) r.0) (get-rules_left s no_rule (survivors cie) r.0)
-      ∙ set_or_remove_law s (in_fde cie fde) r (final_rule s no_rule (survivors cie) r.0) closed refl
+      ∙ set_or_remove_law s (in_fde cie fde) i r (final_rule s no_rule (survivors cie) r.0) closed is refl
 
   -- ---- the sign state
 
@@ -258,7 +242,7 @@ module _ {T : Type 0} where
       ∙ toggled_constant (final_toggles ys ra_sign_state) (rule_before_toggles s (initial_rule s p) ys ra_sign_state) v (before_toggles_below s (initial_rule s p) (initial_below s p) ys ra_sign_state) is)
   toggle_case s p (Some _) closed is = refl
 
-  negate_law : (s : Setting) (p : Program T) → closings (instructions p) ≡ 0 → Law s p instruction.NegateRaState
+  negate_law : (s : Setting) (p : Program T) → closings (instructions p) ≡ 0 → Law s p instruction.NegateRaState toggles_sign_state
   negate_law s p closed = ap (toggle s (program_state s p)) (get-rules_left s (initial_rule s p) (survivors (instructions p)) ra_sign_state) ∙ toggle_case s p (rule_of s p ra_sign_state) closed refl
 
   -- ---- brackets
@@ -275,23 +259,22 @@ module _ {T : Type 0} where
   pub is_full_is : (s : Setting) (p : Program T) → is_at_limit s.stack_limit (rows_held (program_state s p)) ≡ is_stack_full s p
   is_full_is s p = λ k. is_at_limit s.stack_limit (1 + remembered_length s p k + copies_held_is s p k)
 
-  remember_law : (s : Setting) (p : Program T) → closings (instructions p) ≡ 0 → Law s p instruction.RememberState
+  remember_law : (s : Setting) (p : Program T) → closings (instructions p) ≡ 0 → Law s p instruction.RememberState remembers_state
   remember_law s p closed =
-      let silent : IsSilent s instruction.RememberState = record { cfa = refl; cfa_register = refl; cfa_offset = refl; args_size = refl; register = refl } in
       let next : State T = record (program_state s p) { remembered = parts_of s p ∷ remembered_of s p } in
       ap (λ b. cond b (Err StackFull) (Ok next)) (is_full_is s p)
-      ∙ ap (λ x. cond (is_stack_full s p) (Err StackFull) (Ok x)) (sym (silent_state s p instruction.RememberState closed refl silent))
+      ∙ ap (λ x. cond (is_stack_full s p) (Err StackFull) (Ok x)) (sym (ruleless s p instruction.RememberState remembers_state closed refl refl refl))
       ∙ sym (or-refused_if (is_stack_full s p) StackFull (program_state s (followed_by p instruction.RememberState)))
 
   -- nothing is open: the machine has nothing remembered
-  nothing_open_law : (s : Setting) (p : Program T) → opens (instructions p) ≡ 0 → Law s p instruction.RestoreState
+  nothing_open_law : (s : Setting) (p : Program T) → opens (instructions p) ≡ 0 → Law s p instruction.RestoreState restores_state
   nothing_open_law s p none =
       let parts_before : List (CallFrameInstruction T) → Parts T = λ before. final_parts s (initial_rule s p) (survivors before) in
       let nothing_remembered : remembered_of s p ≡ [] = ap (map parts_before) (before_open-fronts (instructions p) ∙ no_length (fronts (instructions p)) (length-fronts (instructions p) ∙ none)) in
       let refused : (open_count p == 0) ≡ true = eq-eqb (open_count p) 0 (open_places-length (instructions p) ∙ none) in
       ap (restore_state (program_state s p)) nothing_remembered ∙ sym (ap (λ b. or_refused (refused_if b PopWithEmptyStack) (program_state s (followed_by p instruction.RestoreState))) refused)
 
-  restored_law : (s : Setting) (p : Program T) → closings (instructions p) ≡ 0 → 0 < opens (instructions p) → Law s p instruction.RestoreState
+  restored_law : (s : Setting) (p : Program T) → closings (instructions p) ≡ 0 → 0 < opens (instructions p) → Law s p instruction.RestoreState restores_state
   restored_law s p closed h =
       let xs : List (CallFrameInstruction T) = instructions p in
       let ended : List (CallFrameInstruction T) = xs ++ instruction.RestoreState ∷ [] in
@@ -312,37 +295,40 @@ module _ {T : Type 0} where
       ∙ ap Ok (sym next)
       ∙ sym (ap (λ b. or_refused (refused_if b PopWithEmptyStack) (program_state s (followed_by p instruction.RestoreState))) accepted)
 
-  restore_state_law : (s : Setting) (p : Program T) → closings (instructions p) ≡ 0 → Law s p instruction.RestoreState
+  restore_state_law : (s : Setting) (p : Program T) → closings (instructions p) ≡ 0 → Law s p instruction.RestoreState restores_state
   restore_state_law s p closed =
-      let pick : (0 < opens (instructions p)) ⊎ (opens (instructions p) ≤ 0) → Law s p instruction.RestoreState = elim [ inl h ↦ restored_law s p closed h | inr h ↦ nothing_open_law s p (omega arith) ] in
+      let pick : (0 < opens (instructions p)) ⊎ (opens (instructions p) ≤ 0) → Law s p instruction.RestoreState restores_state = elim [ inl h ↦ restored_law s p closed h | inr h ↦ nothing_open_law s p (omega arith) ] in
       pick (cases_lt 0 (opens (instructions p)))
 
-  -- ---- all instructions
+  -- ---- all actions
 
-  kind_law : (s : Setting) (p : Program T) (i : CallFrameInstruction T) → closings (instructions p) ≡ 0 → Law s p i
-  kind_law s p (instruction.SetLoc address) closed = set_loc_law s p address closed
-  kind_law s p (instruction.AdvanceLoc delta) closed = advance_loc_law s p delta closed
-  kind_law s p (instruction.DefCfa r offset) closed = def_cfa_law s p r offset closed
-  kind_law s p (instruction.DefCfaSf r offset) closed = def_cfa_sf_law s p r offset closed
-  kind_law s p (instruction.DefCfaRegister r) closed = def_cfa_register_law s p r closed
-  kind_law s p (instruction.DefCfaOffset offset) closed = def_cfa_offset_law s p offset closed
-  kind_law s p (instruction.DefCfaOffsetSf offset) closed = def_cfa_offset_sf_law s p offset closed
-  kind_law s p (instruction.DefCfaExpression e) closed = def_cfa_expression_law s p e closed
-  kind_law s p (instruction.Undefined r) closed = writer_law s p (instruction.Undefined r) r.0 (rule.Undefined) closed (record { stays = λ location. refl; no_restore = refl; no_remember = refl; cfa = refl; cfa_register = refl; cfa_offset = refl; args_size = refl; register = refl }) refl refl
-  kind_law s p (instruction.SameValue r) closed = writer_law s p (instruction.SameValue r) r.0 (rule.SameValue) closed (record { stays = λ location. refl; no_restore = refl; no_remember = refl; cfa = refl; cfa_register = refl; cfa_offset = refl; args_size = refl; register = refl }) refl refl
-  kind_law s p (instruction.Offset r n) closed = writer_law s p (instruction.Offset r n) r.0 (rule.Offset (unsigned_times_factor s n)) closed (record { stays = λ location. refl; no_restore = refl; no_remember = refl; cfa = refl; cfa_register = refl; cfa_offset = refl; args_size = refl; register = refl }) refl refl
-  kind_law s p (instruction.OffsetExtendedSf r n) closed = writer_law s p (instruction.OffsetExtendedSf r n) r.0 (rule.Offset (times_factor s n)) closed (record { stays = λ location. refl; no_restore = refl; no_remember = refl; cfa = refl; cfa_register = refl; cfa_offset = refl; args_size = refl; register = refl }) refl refl
-  kind_law s p (instruction.ValOffset r n) closed = writer_law s p (instruction.ValOffset r n) r.0 (rule.ValOffset (unsigned_times_factor s n)) closed (record { stays = λ location. refl; no_restore = refl; no_remember = refl; cfa = refl; cfa_register = refl; cfa_offset = refl; args_size = refl; register = refl }) refl refl
-  kind_law s p (instruction.ValOffsetSf r n) closed = writer_law s p (instruction.ValOffsetSf r n) r.0 (rule.ValOffset (times_factor s n)) closed (record { stays = λ location. refl; no_restore = refl; no_remember = refl; cfa = refl; cfa_register = refl; cfa_offset = refl; args_size = refl; register = refl }) refl refl
-  kind_law s p (instruction.Register r source) closed = writer_law s p (instruction.Register r source) r.0 (rule.Register source) closed (record { stays = λ location. refl; no_restore = refl; no_remember = refl; cfa = refl; cfa_register = refl; cfa_offset = refl; args_size = refl; register = refl }) refl refl
-  kind_law s p (instruction.Expression r e) closed = writer_law s p (instruction.Expression r e) r.0 (rule.Expression e) closed (record { stays = λ location. refl; no_restore = refl; no_remember = refl; cfa = refl; cfa_register = refl; cfa_offset = refl; args_size = refl; register = refl }) refl refl
-  kind_law s p (instruction.ValExpression r e) closed = writer_law s p (instruction.ValExpression r e) r.0 (rule.ValExpression e) closed (record { stays = λ location. refl; no_restore = refl; no_remember = refl; cfa = refl; cfa_register = refl; cfa_offset = refl; args_size = refl; register = refl }) refl refl
-  kind_law s p (instruction.Restore r) closed = restore_law s p r closed
-  kind_law s p instruction.RememberState closed = remember_law s p closed
-  kind_law s p instruction.RestoreState closed = restore_state_law s p closed
-  kind_law s p (instruction.ArgsSize size) closed = args_size_law s p size closed
-  kind_law s p instruction.NegateRaState closed = negate_law s p closed
-  kind_law s p instruction.Nop closed = nop_law s p closed
+  -- three actions have one instruction each
+  only_toggle : (i : CallFrameInstruction T) → is_toggle (action i) ≡ true → i ≡ instruction.NegateRaState
+  only_toggle instruction.NegateRaState e = refl
+  only_toggle _ e = absurd (false≢true e)
+
+  only_remember : (i : CallFrameInstruction T) → is_remember i ≡ true → i ≡ instruction.RememberState
+  only_remember instruction.RememberState e = refl
+  only_remember _ e = absurd (false≢true e)
+
+  only_restore : (i : CallFrameInstruction T) → is_restore i ≡ true → i ≡ instruction.RestoreState
+  only_restore instruction.RestoreState e = refl
+  only_restore _ e = absurd (false≢true e)
+
+  action_law : (s : Setting) (p : Program T) (i : CallFrameInstruction T) (e : Action T) → closings (instructions p) ≡ 0 → action i ≡ e → Law s p i e
+  action_law s p i (sets_location address) closed is = set_location_law s p i address closed is
+  action_law s p i (advances_location delta) closed is = advance_law s p i delta closed is
+  action_law s p i (defines_cfa r offset) closed is = ap Ok (sym (ruleless s p i (defines_cfa r offset) closed is refl refl))
+  action_law s p i (defines_cfa_register r) closed is = set_cfa_register_case (program_state s p) _ (option_flatten (last_written written_cfa (survivors (instructions p)))) r _ _ (ruleless s p i (defines_cfa_register r) closed is refl refl)
+  action_law s p i (defines_cfa_offset offset) closed is = set_cfa_offset_case (program_state s p) _ (option_flatten (last_written written_cfa (survivors (instructions p)))) _ _ _ (ruleless s p i (defines_cfa_offset offset) closed is refl refl)
+  action_law s p i (defines_cfa_expression e) closed is = ap Ok (sym (ruleless s p i (defines_cfa_expression e) closed is refl refl))
+  action_law s p i (gives_rule r rule) closed is = gives_law s p i r rule closed is
+  action_law s p i (restores_rule r) closed is = restore_law s p i r closed is
+  action_law s p i toggles_sign_state closed is = subst (λ j. Law s p j toggles_sign_state) (sym (only_toggle i (ap is_toggle is))) (negate_law s p closed)
+  action_law s p i remembers_state closed is = subst (λ j. Law s p j remembers_state) (sym (only_remember i (ap remembers is))) (remember_law s p closed)
+  action_law s p i restores_state closed is = subst (λ j. Law s p j restores_state) (sym (only_restore i (ap restores is))) (restore_state_law s p closed)
+  action_law s p i (sets_args_size size) closed is = ap Ok (sym (ruleless s p i (sets_args_size size) closed is refl refl))
+  action_law s p i changes_nothing closed is = ap Ok (sym (ruleless s p i changes_nothing closed is refl refl))
 
   -- ---- accepted programs
 
@@ -363,7 +349,7 @@ module _ {T : Type 0} where
 
   -- the law of one instruction
   pub step_law : (s : Setting) (p : Program T) (i : CallFrameInstruction T) → IsAccepted s p → step s (program_state s p) i ≡ or_refused (refusal s p i) (program_state s (followed_by p i))
-  step_law s p i a = kind_law s p i (accepted_closings s p a)
+  step_law s p i a = action_law s p i (action i) (accepted_closings s p a) refl
 
   pub fresh_law : (s : Setting) → fresh_state {T = T} ≡ program_state s (in_cie [])
   fresh_law s = refl

@@ -10,8 +10,9 @@ use Rattle.cfi_state.specs.declared.table.rules.CfaRule.{CfaRule}
 use Rattle.cfi_state.specs.declared.table.rules.CfaRule.TheVariants as cfa
 use Rattle.cfi_state.specs.declared.table.rules.RegisterRule.{RegisterRule}
 use Rattle.cfi_state.specs.declared.table.rules.RegisterRule.TheVariants as rule
-use Rattle.cfi_state.specs.ProgramSettings.{Setting, ra_sign_state, is_move}
-use Rattle.cfi_state.specs.Machine.{Rules, Parts, State, set_rule, set_or_remove_rule, restore_rule, set_cfa_register, set_cfa_offset, toggle, restore_state, step}
+use Rattle.cfi_state.specs.ProgramSettings.{Setting, ra_sign_state, is_move, moves}
+use Rattle.cfi_state.specs.Actions.{Action, sets_location, advances_location, defines_cfa_register, defines_cfa_offset, gives_rule, restores_rule, toggles_sign_state, remembers_state, restores_state, action}
+use Rattle.cfi_state.specs.Machine.{Rules, Parts, State, set_rule, set_or_remove_rule, restore_rule, set_cfa_register, set_cfa_offset, toggle, restore_state, step, perform}
 use Rattle.cfi_state.specs.Rows.{on_result, row_ended, run_answers_of}
 
 IfOk-cond : {A : Type 0} (P : A → Type 0) (b : Bool) (e : Error) (a : A) → P a → IfOk (cond b (Err e) (Ok a)) P
@@ -53,26 +54,21 @@ module _ {T : Type 0} where
   restore_state_stays x [] = tt
   restore_state_stays x (parts ∷ remembered) = refl
 
-  step_stays : (s : Setting) (x : State T) (i : CallFrameInstruction T) → is_move i ≡ false → IfOk (step s x i) (Stays x)
-  step_stays s x (instruction.SetLoc address) e = absurd (false≢true (sym e))
-  step_stays s x (instruction.AdvanceLoc delta) e = absurd (false≢true (sym e))
-  step_stays s x (instruction.DefCfa r offset) e = refl
-  step_stays s x (instruction.DefCfaSf r offset) e = refl
-  step_stays s x (instruction.DefCfaRegister r) e = cfa_register_stays x r x.parts.cfa
-  step_stays s x (instruction.DefCfaOffset offset) e = cfa_offset_stays x _ x.parts.cfa
-  step_stays s x (instruction.DefCfaOffsetSf offset) e = cfa_offset_stays x _ x.parts.cfa
-  step_stays s x (instruction.DefCfaExpression e) h = refl
-  step_stays s x (instruction.Restore r) e = restore_rule_stays s x r.0 x.initial_rules
-  step_stays s x instruction.RememberState e = IfOk-cond (Stays x) _ _ _ refl
-  step_stays s x instruction.RestoreState e = restore_state_stays x x.remembered
-  step_stays s x (instruction.ArgsSize size) e = refl
-  step_stays s x instruction.NegateRaState e = toggle_stays s x (map.get x.parts.rules ra_sign_state)
-  step_stays s x instruction.Nop e = refl
-  step_stays s x _ e = set_rule_stays s x _ _
+  perform_stays : (s : Setting) (x : State T) (e : Action T) → moves e ≡ false → IfOk (perform s x e) (Stays x)
+  perform_stays s x (sets_location address) h = absurd (false≢true (sym h))
+  perform_stays s x (advances_location delta) h = absurd (false≢true (sym h))
+  perform_stays s x (defines_cfa_register r) h = cfa_register_stays x r x.parts.cfa
+  perform_stays s x (defines_cfa_offset offset) h = cfa_offset_stays x _ x.parts.cfa
+  perform_stays s x (gives_rule r rule) h = set_rule_stays s x _ _
+  perform_stays s x (restores_rule r) h = restore_rule_stays s x r.0 x.initial_rules
+  perform_stays s x toggles_sign_state h = toggle_stays s x (map.get x.parts.rules ra_sign_state)
+  perform_stays s x remembers_state h = IfOk-cond (Stays x) _ _ _ refl
+  perform_stays s x restores_state h = restore_state_stays x x.remembered
+  perform_stays s x _ h = refl
 
   -- an instruction that is no move leaves the location
   pub location_stays : (s : Setting) (x y : State T) (i : CallFrameInstruction T) → step s x i ≡ Ok y → is_move i ≡ false → y.location ≡ x.location
-  location_stays s x y i e still = at_Ok (Stays x) (step s x i) y e (step_stays s x i still)
+  location_stays s x y i e still = at_Ok (Stays x) (step s x i) y e (perform_stays s x (action i) still)
 
   IfOk-cond_not : (P : State T → Type 0) (b : Bool) (e : Error) (a : State T) → P a → IfOk (cond b (Ok a) (Err e)) P
   IfOk-cond_not P true e a h = h

@@ -6,7 +6,7 @@ use Rattle.cfi_read_core.specs.Readers.{map_ok}
 use Rattle.cfi_read_core.specs.Reading.{Readings}
 use Rattle.cfi_read_core.specs.declared.error.Error.{Error}
 use Rattle.cfi_parts.specs.declared.instruction.CallFrameInstruction.{CallFrameInstruction}
-use Rattle.cfi_parts.specs.declared.instruction.CallFrameInstruction.TheVariants as instruction
+use Rattle.cfi_state.specs.Actions.{Action, gives_rule, restores_rule, toggles_sign_state, action}
 use Rattle.cfi_parts.specs.Views.{map_instruction}
 use Rattle.cfi_state.specs.Row.{Row}
 use Rattle.cfi_state.specs.ProgramSettings.{Setting}
@@ -14,10 +14,10 @@ use Rattle.cfi_state.specs.Machine.{Rules, State, fresh_state, step, end_of_cie}
 use Rattle.cfi_state.specs.Outcome.{IsRefusal}
 use Rattle.cfi_state.specs.Numbered.{map_rule, map_rules, map_state, map_row, map_program_reads}
 use Rattle.cfi_state.specs.TableStates.{TableState, before_last_row}
-use Rattle.cfi_state.specs.Memory.{adds_rule, has_initial_rule, copies_row, may_allocate_at, may_allocate_at_end}
+use Rattle.cfi_state.specs.Memory.{adds_rule, has_initial_rule, copies_row, may_allocate_for, may_allocate_at, may_allocate_at_end}
 use Rattle.cfi_state.specs.Runs.{MayAllocate, may_allocate, NextAnswer, passes, ends_row, refuses, cannot_read, last_row, no_row, RunsInitialInstructions, cie_passes, cie_refuses, cie_cannot_read, cie_ends, cie_end_refused, FindsRow, contains_it, goes_on, is_refused, comes_to_end, AnswersFde, by_cie, by_rows}
 use Rattle.cfi_state.proofs.NumberedMaps.{len-map_values, contains-map_values}
-use Rattle.cfi_state.proofs.NumberedSteps.{step-mapped, end_of_cie-mapped, fresh-mapped, is_move-mapped}
+use Rattle.cfi_state.proofs.NumberedSteps.{map_action, action-mapped, step-mapped, end_of_cie-mapped, fresh-mapped, is_move-mapped}
 
 -- ---- one instruction
 
@@ -39,33 +39,14 @@ module _ {A B : Type 0} (f : A → B) where
   has_initial-mapped None r = refl
   has_initial-mapped (Some rules) r = contains-map_values (map_rule f) rules r
 
-  abbrev IsAlike : Setting → Bool → State A → CallFrameInstruction A → Type 0
-  IsAlike s free x i = may_allocate_at s free (map_state f x) (map_instruction f i) ≡ may_allocate_at s free x i
+  wants_for-mapped : (s : Setting) (free : Bool) (x : State A) (e : Action A) → may_allocate_for s free (map_state f x) (map_action f e) ≡ may_allocate_for s free x e
+  wants_for-mapped s free x (gives_rule r rule) = adds_rule-mapped s x r.0
+  wants_for-mapped s free x (restores_rule r) = λ k. has_initial-mapped x.initial_rules r.0 k && adds_rule-mapped s x r.0 k
+  wants_for-mapped s free x toggles_sign_state = adds_rule-mapped s x 34
+  wants_for-mapped s free x _ = refl
 
   pub wants_at-mapped : (s : Setting) (free : Bool) (x : State A) (i : CallFrameInstruction A) → may_allocate_at s free (map_state f x) (map_instruction f i) ≡ may_allocate_at s free x i
-  wants_at-mapped s free x (instruction.Restore r) = λ k. has_initial-mapped x.initial_rules r.0 k && adds_rule-mapped s x r.0 k
-  wants_at-mapped s free x instruction.RememberState = refl
-  wants_at-mapped s free x (instruction.SetLoc address) = refl
-  wants_at-mapped s free x (instruction.AdvanceLoc delta) = refl
-  wants_at-mapped s free x (instruction.DefCfa r offset) = refl
-  wants_at-mapped s free x (instruction.DefCfaSf r offset) = refl
-  wants_at-mapped s free x (instruction.DefCfaRegister r) = refl
-  wants_at-mapped s free x (instruction.DefCfaOffset offset) = refl
-  wants_at-mapped s free x (instruction.DefCfaOffsetSf offset) = refl
-  wants_at-mapped s free x (instruction.DefCfaExpression e) = refl
-  wants_at-mapped s free x (instruction.Undefined r) = adds_rule-mapped s x r.0
-  wants_at-mapped s free x (instruction.SameValue r) = adds_rule-mapped s x r.0
-  wants_at-mapped s free x (instruction.Offset r n) = adds_rule-mapped s x r.0
-  wants_at-mapped s free x (instruction.OffsetExtendedSf r n) = adds_rule-mapped s x r.0
-  wants_at-mapped s free x (instruction.ValOffset r n) = adds_rule-mapped s x r.0
-  wants_at-mapped s free x (instruction.ValOffsetSf r n) = adds_rule-mapped s x r.0
-  wants_at-mapped s free x (instruction.Register r source) = adds_rule-mapped s x r.0
-  wants_at-mapped s free x (instruction.Expression r e) = adds_rule-mapped s x r.0
-  wants_at-mapped s free x (instruction.ValExpression r e) = adds_rule-mapped s x r.0
-  wants_at-mapped s free x instruction.RestoreState = refl
-  wants_at-mapped s free x (instruction.ArgsSize size) = refl
-  wants_at-mapped s free x instruction.NegateRaState = adds_rule-mapped s x 34
-  wants_at-mapped s free x instruction.Nop = refl
+  wants_at-mapped s free x i = ap (may_allocate_for s free (map_state f x)) (action-mapped f i) ∙ wants_for-mapped s free x (action i)
 
   pub wants_at_end-mapped : (s : Setting) (free : Bool) (x : State A) → may_allocate_at_end s free (map_state f x) ≡ may_allocate_at_end s free x
   wants_at_end-mapped s free x = ap (λ n. leb 2 n && copies_row s free) (len-map_values (map_rule f) x.parts.rules)

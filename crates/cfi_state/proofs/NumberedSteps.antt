@@ -14,9 +14,10 @@ use Rattle.cfi_state.specs.declared.table.rules.CfaRule.{CfaRule}
 use Rattle.cfi_state.specs.declared.table.rules.CfaRule.TheVariants as cfa
 use Rattle.cfi_state.specs.declared.table.rules.RegisterRule.{RegisterRule}
 use Rattle.cfi_state.specs.declared.table.rules.RegisterRule.TheVariants as rule
-use Rattle.cfi_state.specs.ProgramSettings.{Setting, ra_sign_state, is_at_limit, is_move}
-use Rattle.cfi_state.specs.Machine.{Rules, Parts, State, fresh_state, copies_held, rows_held, with_rules, set_rule, set_or_remove_rule, restore_rule, set_cfa_register, set_cfa_offset, toggle, restore_state, step, end_of_cie}
-use Rattle.cfi_parts.specs.Views.{map_instruction}
+use Rattle.cfi_state.specs.ProgramSettings.{Setting, ra_sign_state, is_at_limit, moves, is_move}
+use Rattle.cfi_state.specs.Actions.{Action, sets_location, advances_location, defines_cfa, defines_cfa_register, defines_cfa_offset, defines_cfa_expression, gives_rule, restores_rule, toggles_sign_state, remembers_state, restores_state, sets_args_size, changes_nothing, action}
+use Rattle.cfi_state.specs.Machine.{Rules, Parts, State, fresh_state, copies_held, rows_held, with_rules, set_rule, set_or_remove_rule, restore_rule, set_cfa_register, set_cfa_offset, toggle, restore_state, perform, step, end_of_cie}
+use Rattle.cfi_parts.specs.Views.{map_expression, map_instruction}
 use Rattle.cfi_state.specs.Row.{Row}
 use Rattle.cfi_state.specs.Rows.{on_result, on_option, row_ended, run_answers_of, run_answers, run_all, run_cie, row_contains, answer_at, run_fde_answer}
 use Rattle.cfi_state.specs.Numbered.{map_cfa, map_rule, map_rules, map_parts, map_state, map_row, map_program_reads}
@@ -73,33 +74,43 @@ module _ {A B : Type 0} (f : A → B) where
   pub rows_held-mapped : (x : State A) → rows_held (mapped x) ≡ rows_held x
   rows_held-mapped x = λ i. 1 + length-map x.remembered (map_parts f) i + copies-mapped x.initial_rules i
 
-  -- one instruction
-  pub step-mapped : (s : Setting) (x : State A) (i : CallFrameInstruction A) → step s (mapped x) (map_instruction f i) ≡ map_ok mapped (step s x i)
-  step-mapped s x (instruction.SetLoc address) = sym (map_ok-cond mapped _ _ _)
-  step-mapped s x (instruction.AdvanceLoc delta) = sym (map_ok-cond_not mapped _ _ _)
-  step-mapped s x (instruction.DefCfa r offset) = refl
-  step-mapped s x (instruction.DefCfaSf r offset) = refl
-  step-mapped s x (instruction.DefCfaRegister r) = cfa_register-mapped x r x.parts.cfa
-  step-mapped s x (instruction.DefCfaOffset offset) = cfa_offset-mapped x _ x.parts.cfa
-  step-mapped s x (instruction.DefCfaOffsetSf offset) = cfa_offset-mapped x _ x.parts.cfa
-  step-mapped s x (instruction.DefCfaExpression e) = refl
-  step-mapped s x (instruction.Undefined r) = set_rule-mapped s x _ rule.Undefined
-  step-mapped s x (instruction.SameValue r) = set_rule-mapped s x _ rule.SameValue
-  step-mapped s x (instruction.Offset r n) = set_rule-mapped s x _ (rule.Offset _)
-  step-mapped s x (instruction.OffsetExtendedSf r n) = set_rule-mapped s x _ (rule.Offset _)
-  step-mapped s x (instruction.ValOffset r n) = set_rule-mapped s x _ (rule.ValOffset _)
-  step-mapped s x (instruction.ValOffsetSf r n) = set_rule-mapped s x _ (rule.ValOffset _)
-  step-mapped s x (instruction.Register r source) = set_rule-mapped s x _ (rule.Register source)
-  step-mapped s x (instruction.Expression r e) = set_rule-mapped s x _ (rule.Expression e)
-  step-mapped s x (instruction.ValExpression r e) = set_rule-mapped s x _ (rule.ValExpression e)
-  step-mapped s x (instruction.Restore r) = restore_rule-mapped s x r.0 x.initial_rules
-  step-mapped s x instruction.RememberState =
+  -- ---- one instruction
+
+  abbrev pub map_action : Action A → Action B
+  map_action (sets_location address) = sets_location address
+  map_action (advances_location delta) = advances_location delta
+  map_action (defines_cfa r offset) = defines_cfa r offset
+  map_action (defines_cfa_register r) = defines_cfa_register r
+  map_action (defines_cfa_offset offset) = defines_cfa_offset offset
+  map_action (defines_cfa_expression e) = defines_cfa_expression (map_expression f e)
+  map_action (gives_rule r rule) = gives_rule r (λ factor. map_rule f (rule factor))
+  map_action (restores_rule r) = restores_rule r
+  map_action toggles_sign_state = toggles_sign_state
+  map_action remembers_state = remembers_state
+  map_action restores_state = restores_state
+  map_action (sets_args_size size) = sets_args_size size
+  map_action changes_nothing = changes_nothing
+
+  pub action-mapped : (i : CallFrameInstruction A) → action (map_instruction f i) ≡ map_action (action i)
+  action-mapped instruction.Nop = refl
+  action-mapped _ = refl
+
+  perform-mapped : (s : Setting) (x : State A) (e : Action A) → perform s (mapped x) (map_action e) ≡ map_ok mapped (perform s x e)
+  perform-mapped s x (sets_location address) = sym (map_ok-cond mapped _ _ _)
+  perform-mapped s x (advances_location delta) = sym (map_ok-cond_not mapped _ _ _)
+  perform-mapped s x (defines_cfa_register r) = cfa_register-mapped x r x.parts.cfa
+  perform-mapped s x (defines_cfa_offset offset) = cfa_offset-mapped x _ x.parts.cfa
+  perform-mapped s x (gives_rule r rule) = set_rule-mapped s x _ (rule s.data_alignment_factor)
+  perform-mapped s x (restores_rule r) = restore_rule-mapped s x r.0 x.initial_rules
+  perform-mapped s x toggles_sign_state = ap (toggle s (mapped x)) (get-map_values (map_rule f) x.parts.rules ra_sign_state) ∙ toggle-mapped s x (map.get x.parts.rules ra_sign_state)
+  perform-mapped s x remembers_state =
       (λ i. cond (is_at_limit s.stack_limit (rows_held-mapped x i)) (Err StackFull) (Ok (record (mapped x) { remembered = map_parts f x.parts ∷ map (map_parts f) x.remembered })))
       ∙ sym (map_ok-cond mapped _ _ _)
-  step-mapped s x instruction.RestoreState = restore_state-mapped x x.remembered
-  step-mapped s x (instruction.ArgsSize size) = refl
-  step-mapped s x instruction.NegateRaState = ap (toggle s (mapped x)) (get-map_values (map_rule f) x.parts.rules ra_sign_state) ∙ toggle-mapped s x (map.get x.parts.rules ra_sign_state)
-  step-mapped s x instruction.Nop = refl
+  perform-mapped s x restores_state = restore_state-mapped x x.remembered
+  perform-mapped s x _ = refl
+
+  pub step-mapped : (s : Setting) (x : State A) (i : CallFrameInstruction A) → step s (mapped x) (map_instruction f i) ≡ map_ok mapped (step s x i)
+  step-mapped s x i = ap (perform s (mapped x)) (action-mapped i) ∙ perform-mapped s x (action i)
 
   -- the end of the CIE's initial instructions
   pub end_of_cie-mapped : (s : Setting) (x : State A) → end_of_cie s (mapped x) ≡ map_ok mapped (end_of_cie s x)
@@ -110,30 +121,12 @@ module _ {A B : Type 0} (f : A → B) where
   pub fresh-mapped : mapped fresh_state ≡ fresh_state
   fresh-mapped = λ i. record { location = 0; parts = record fresh_state.parts { rules = empty-map_values (map_rule f) i }; remembered = []; initial_rules = None }
 
+  moves-mapped : (e : Action A) → moves (map_action e) ≡ moves e
+  moves-mapped (sets_location address) = refl
+  moves-mapped _ = refl
+
   pub is_move-mapped : (i : CallFrameInstruction A) → is_move (map_instruction f i) ≡ is_move i
-  is_move-mapped (instruction.SetLoc address) = refl
-  is_move-mapped (instruction.AdvanceLoc delta) = refl
-  is_move-mapped (instruction.DefCfa r offset) = refl
-  is_move-mapped (instruction.DefCfaSf r offset) = refl
-  is_move-mapped (instruction.DefCfaRegister r) = refl
-  is_move-mapped (instruction.DefCfaOffset offset) = refl
-  is_move-mapped (instruction.DefCfaOffsetSf offset) = refl
-  is_move-mapped (instruction.DefCfaExpression e) = refl
-  is_move-mapped (instruction.Undefined r) = refl
-  is_move-mapped (instruction.SameValue r) = refl
-  is_move-mapped (instruction.Offset r n) = refl
-  is_move-mapped (instruction.OffsetExtendedSf r n) = refl
-  is_move-mapped (instruction.ValOffset r n) = refl
-  is_move-mapped (instruction.ValOffsetSf r n) = refl
-  is_move-mapped (instruction.Register r source) = refl
-  is_move-mapped (instruction.Expression r e) = refl
-  is_move-mapped (instruction.ValExpression r e) = refl
-  is_move-mapped (instruction.Restore r) = refl
-  is_move-mapped instruction.RememberState = refl
-  is_move-mapped instruction.RestoreState = refl
-  is_move-mapped (instruction.ArgsSize size) = refl
-  is_move-mapped instruction.NegateRaState = refl
-  is_move-mapped instruction.Nop = refl
+  is_move-mapped i = ap moves (action-mapped i) ∙ moves-mapped (action i)
 
   -- ---- whole runs
 

@@ -11,6 +11,7 @@ use Rattle.cfi_parts.specs.declared.instruction.CallFrameInstruction.{CallFrameI
 use Rattle.cfi_parts.specs.declared.instruction.CallFrameInstruction.TheVariants as instruction
 use Rattle.cfi_state.specs.declared.table.rules.RegisterRule.{RegisterRule}
 use Rattle.cfi_state.specs.declared.table.rules.RegisterRule.TheVariants as rule
+use Rattle.cfi_state.specs.Actions.{action}
 use Rattle.cfi_state.specs.ProgramSettings.{Setting, ra_sign_state, is_move, is_toggle}
 use Rattle.cfi_state.specs.Machine.{Rules, Parts}
 use Rattle.cfi_state.specs.Writers.{last_written, after_last, written_cfa, written_cfa_register, written_cfa_offset, written_args_size, written_register, written_rule, names, writes_rule, toggles, cfa_from, final_cfa, final_args_size, rule_before_toggles, final_toggles, rule_after_toggles, constant_or_zero, final_rule, registers_named, registers_with_rule, final_rules, final_parts}
@@ -45,35 +46,35 @@ parity n v e = parity_step n v e (zero_or_one v (omega arith))
 module _ {T : Type 0} where
   -- ---- the rule of one register
 
-  before_toggles_push : (s : Setting) (initial : ℕ → Option (RegisterRule T)) (ys : List (CallFrameInstruction T)) (i : CallFrameInstruction T) (r : ℕ) → rule_before_toggles s initial (ys ++ i ∷ []) r ≡ cond (writes_rule r i) (written_rule s initial i) (rule_before_toggles s initial ys r)
+  before_toggles_push : (s : Setting) (initial : ℕ → Option (RegisterRule T)) (ys : List (CallFrameInstruction T)) (i : CallFrameInstruction T) (r : ℕ) → rule_before_toggles s initial (ys ++ i ∷ []) r ≡ cond (writes_rule r (action i)) (written_rule s initial (action i)) (rule_before_toggles s initial ys r)
   before_toggles_push s initial ys i r =
       ap option_flatten (last_written_push (λ j. cond (writes_rule r j) (Some (written_rule s initial j)) None) ys i)
-      ∙ flatten_step (writes_rule r i) (written_rule s initial i) (last_written (λ j. cond (writes_rule r j) (Some (written_rule s initial j)) None) ys)
+      ∙ flatten_step (writes_rule r (action i)) (written_rule s initial (action i)) (last_written (λ j. cond (writes_rule r j) (Some (written_rule s initial j)) None) ys)
 
-  toggles_push : (ys : List (CallFrameInstruction T)) (i : CallFrameInstruction T) (r : ℕ) → final_toggles (ys ++ i ∷ []) r ≡ cond (writes_rule r i) 0 (final_toggles ys r + cond (toggles r i) 1 0)
+  toggles_push : (ys : List (CallFrameInstruction T)) (i : CallFrameInstruction T) (r : ℕ) → final_toggles (ys ++ i ∷ []) r ≡ cond (writes_rule r (action i)) 0 (final_toggles ys r + cond (toggles r (action i)) 1 0)
   toggles_push ys i r =
-      ap (count_by (toggles r)) (behind_last_push (writes_rule r) ys i)
-      ∙ count_step (writes_rule r i) (toggles r) (after_last (writes_rule r) ys) i
+      ap (count_by (λ j. toggles r (action j))) (behind_last_push (λ j. writes_rule r (action j)) ys i)
+      ∙ count_step (writes_rule r (action i)) (λ j. toggles r (action j)) (after_last (λ j. writes_rule r (action j)) ys) i
 
   rule_push : (s : Setting) (initial : ℕ → Option (RegisterRule T)) (ys : List (CallFrameInstruction T)) (i : CallFrameInstruction T) (r : ℕ) →
-      final_rule s initial (ys ++ i ∷ []) r ≡ rule_after_toggles (cond (writes_rule r i) 0 (final_toggles ys r + cond (toggles r i) 1 0)) (cond (writes_rule r i) (written_rule s initial i) (rule_before_toggles s initial ys r))
+      final_rule s initial (ys ++ i ∷ []) r ≡ rule_after_toggles (cond (writes_rule r (action i)) 0 (final_toggles ys r + cond (toggles r (action i)) 1 0)) (cond (writes_rule r (action i)) (written_rule s initial (action i)) (rule_before_toggles s initial ys r))
   rule_push s initial ys i r =
       ap (λ n. rule_after_toggles n (rule_before_toggles s initial (ys ++ i ∷ []) r)) (toggles_push ys i r)
-      ∙ ap (rule_after_toggles (cond (writes_rule r i) 0 (final_toggles ys r + cond (toggles r i) 1 0))) (before_toggles_push s initial ys i r)
+      ∙ ap (rule_after_toggles (cond (writes_rule r (action i)) 0 (final_toggles ys r + cond (toggles r (action i)) 1 0))) (before_toggles_push s initial ys i r)
 
   -- an instruction that does not name the register leaves its rule
-  pub rule_push_other : (s : Setting) (initial : ℕ → Option (RegisterRule T)) (ys : List (CallFrameInstruction T)) (i : CallFrameInstruction T) (r : ℕ) → names r i ≡ false → final_rule s initial (ys ++ i ∷ []) r ≡ final_rule s initial ys r
+  pub rule_push_other : (s : Setting) (initial : ℕ → Option (RegisterRule T)) (ys : List (CallFrameInstruction T)) (i : CallFrameInstruction T) (r : ℕ) → names r (action i) ≡ false → final_rule s initial (ys ++ i ∷ []) r ≡ final_rule s initial ys r
   rule_push_other s initial ys i r other =
       rule_push s initial ys i r
-      ∙ ap (λ b. rule_after_toggles (cond b 0 (final_toggles ys r + cond (toggles r i) 1 0)) (cond b (written_rule s initial i) (rule_before_toggles s initial ys r))) (and_names_false (not (is_toggle i)) (names r i) other)
-      ∙ ap (λ b. rule_after_toggles (final_toggles ys r + cond b 1 0) (rule_before_toggles s initial ys r)) (and_names_false (is_toggle i) (names r i) other)
+      ∙ ap (λ b. rule_after_toggles (cond b 0 (final_toggles ys r + cond (toggles r (action i)) 1 0)) (cond b (written_rule s initial (action i)) (rule_before_toggles s initial ys r))) (and_names_false (not (is_toggle (action i))) (names r (action i)) other)
+      ∙ ap (λ b. rule_after_toggles (final_toggles ys r + cond b 1 0) (rule_before_toggles s initial ys r)) (and_names_false (is_toggle (action i)) (names r (action i)) other)
       ∙ ap (λ n. rule_after_toggles n (rule_before_toggles s initial ys r)) (omega arith)
 
   -- a writer gives the register its rule
-  pub rule_push_writer : (s : Setting) (initial : ℕ → Option (RegisterRule T)) (ys : List (CallFrameInstruction T)) (i : CallFrameInstruction T) (r : ℕ) → names r i ≡ true → is_toggle i ≡ false → final_rule s initial (ys ++ i ∷ []) r ≡ written_rule s initial i
+  pub rule_push_writer : (s : Setting) (initial : ℕ → Option (RegisterRule T)) (ys : List (CallFrameInstruction T)) (i : CallFrameInstruction T) (r : ℕ) → names r (action i) ≡ true → is_toggle (action i) ≡ false → final_rule s initial (ys ++ i ∷ []) r ≡ written_rule s initial (action i)
   rule_push_writer s initial ys i r named writer =
       rule_push s initial ys i r
-      ∙ ap (λ b. rule_after_toggles (cond b 0 (final_toggles ys r + cond (toggles r i) 1 0)) (cond b (written_rule s initial i) (rule_before_toggles s initial ys r))) (ap (λ b. not b && names r i) writer ∙ named)
+      ∙ ap (λ b. rule_after_toggles (cond b 0 (final_toggles ys r + cond (toggles r (action i)) 1 0)) (cond b (written_rule s initial (action i)) (rule_before_toggles s initial ys r))) (ap (λ b. not b && names r (action i)) writer ∙ named)
 
   -- a toggle counts one more
   pub rule_push_toggle : (s : Setting) (initial : ℕ → Option (RegisterRule T)) (ys : List (CallFrameInstruction T)) → final_rule s initial (ys ++ instruction.NegateRaState ∷ []) ra_sign_state ≡ rule_after_toggles (suc (final_toggles ys ra_sign_state)) (rule_before_toggles s initial ys ra_sign_state)
@@ -82,21 +83,21 @@ module _ {T : Type 0} where
       ∙ ap (λ n. rule_after_toggles n (rule_before_toggles s initial ys ra_sign_state)) (add-one (final_toggles ys ra_sign_state))
 
   -- a register that is not named has no rule
-  unnamed_behind : (s : Setting) (initial : ℕ → Option (RegisterRule T)) (zs ys : List (CallFrameInstruction T)) (r : ℕ) → list_any (names r) ys ≡ false → final_rule s initial (zs ++ ys) r ≡ final_rule s initial zs r
+  unnamed_behind : (s : Setting) (initial : ℕ → Option (RegisterRule T)) (zs ys : List (CallFrameInstruction T)) (r : ℕ) → list_any (λ j. names r (action j)) ys ≡ false → final_rule s initial (zs ++ ys) r ≡ final_rule s initial zs r
   unnamed_behind s initial zs [] r none = ap (λ l. final_rule s initial l r) (append-nil zs)
   unnamed_behind s initial zs (y ∷ ys) r none =
-      let parts = or_parts (names r y) (list_any (names r) ys) none in
+      let parts = or_parts (names r (action y)) (list_any (λ j. names r (action j)) ys) none in
       ap (λ l. final_rule s initial l r) (sym (append_assoc zs (y ∷ []) ys))
       ∙ unnamed_behind s initial (zs ++ y ∷ []) ys r parts.1
       ∙ rule_push_other s initial zs y r parts.0
 
   -- ---- all rules as a map
 
-  named-any : (ys : List (CallFrameInstruction T)) (r : ℕ) → list_any (λ k. eqb k r) (filter_map written_register ys) ≡ list_any (names r) ys
+  named-any : (ys : List (CallFrameInstruction T)) (r : ℕ) → list_any (λ k. eqb k r) (filter_map (λ j. written_register (action j)) ys) ≡ list_any (λ j. names r (action j)) ys
   named-any [] r = refl
-  named-any (y ∷ ys) r = named_step (written_register y) r (filter_map written_register ys) ∙ ap (λ b. names r y || b) (named-any ys r)
+  named-any (y ∷ ys) r = named_step (written_register (action y)) r (filter_map (λ j. written_register (action j)) ys) ∙ ap (λ b. names r (action y) || b) (named-any ys r)
 
-  only_named : (s : Setting) (initial : ℕ → Option (RegisterRule T)) (ys : List (CallFrameInstruction T)) (r : ℕ) (b : Bool) → list_any (names r) ys ≡ b → cond b (final_rule s initial ys r) None ≡ final_rule s initial ys r
+  only_named : (s : Setting) (initial : ℕ → Option (RegisterRule T)) (ys : List (CallFrameInstruction T)) (r : ℕ) (b : Bool) → list_any (λ j. names r (action j)) ys ≡ b → cond b (final_rule s initial ys r) None ≡ final_rule s initial ys r
   only_named s initial ys r true e = refl
   only_named s initial ys r false e = sym (unnamed_behind s initial [] ys r e)
 
@@ -104,44 +105,44 @@ module _ {T : Type 0} where
   get-rules_left s initial ys r =
       map.get-from_entries nat_cmp_total (entries_at (final_rule s initial ys) (registers_named ys)) r
       ∙ find-entries_at (final_rule s initial ys) (registers_named ys) r
-      ∙ ap (λ b. cond b (final_rule s initial ys r) None) (distinct-any r (filter_map written_register ys) ∙ named-any ys r)
-      ∙ only_named s initial ys r (list_any (names r) ys) refl
+      ∙ ap (λ b. cond b (final_rule s initial ys r) None) (distinct-any r (filter_map (λ j. written_register (action j)) ys) ∙ named-any ys r)
+      ∙ only_named s initial ys r (list_any (λ j. names r (action j)) ys) refl
 
   pub len-rules_left : (s : Setting) (initial : ℕ → Option (RegisterRule T)) (ys : List (CallFrameInstruction T)) → map.len (final_rules s initial ys) ≡ length (registers_with_rule s initial ys)
-  len-rules_left s initial ys = len-entries_at (final_rule s initial ys) (filter_map written_register ys)
+  len-rules_left s initial ys = len-entries_at (final_rule s initial ys) (filter_map (λ j. written_register (action j)) ys)
 
   -- a map that answers as the list's rules is the map of these
   pub is_rules_left : (s : Setting) (initial : ℕ → Option (RegisterRule T)) (ys : List (CallFrameInstruction T)) (m : Rules T) → ((q : ℕ) → map.get m q ≡ final_rule s initial ys q) → m ≡ final_rules s initial ys
   is_rules_left s initial ys m answers = map.same_map nat_cmp_total map.nat_cmp-IsAntisymmetric m (final_rules s initial ys) (λ q. answers q ∙ sym (get-rules_left s initial ys q))
 
-  names_other : (i : CallFrameInstruction T) (q r : ℕ) → written_register i ≡ Some r → (q ≡ r → ⊥) → names q i ≡ false
+  names_other : (i : CallFrameInstruction T) (q r : ℕ) → written_register (action i) ≡ Some r → (q ≡ r → ⊥) → names q (action i) ≡ false
   names_other i q r e ne = ap (λ o. option_map_or (λ k. eqb k q) o false) e ∙ ne_eqb r q (λ h. ne (sym h))
 
   -- what a change of one register's entry answers
   changed_step : (s : Setting) (initial : ℕ → Option (RegisterRule T)) (ys : List (CallFrameInstruction T)) (i : CallFrameInstruction T) (r : ℕ) (o : Option (RegisterRule T)) →
-      written_register i ≡ Some r → final_rule s initial (ys ++ i ∷ []) r ≡ o → (q : ℕ) → (q ≡ r) ⊎ (q ≡ r → ⊥) → cond (eq_by_cmp nat_cmp q r) o (map.get (final_rules s initial ys) q) ≡ final_rule s initial (ys ++ i ∷ []) q
+      written_register (action i) ≡ Some r → final_rule s initial (ys ++ i ∷ []) r ≡ o → (q : ℕ) → (q ≡ r) ⊎ (q ≡ r → ⊥) → cond (eq_by_cmp nat_cmp q r) o (map.get (final_rules s initial ys) q) ≡ final_rule s initial (ys ++ i ∷ []) q
   changed_step s initial ys i r o named changed q (inl e) = ap (λ b. cond b o (map.get (final_rules s initial ys) q)) (unsigned_tied q r ∙ eq-eqb q r e) ∙ sym changed ∙ ap (final_rule s initial (ys ++ i ∷ [])) (sym e)
   changed_step s initial ys i r o named changed q (inr ne) = ap (λ b. cond b o (map.get (final_rules s initial ys) q)) (unsigned_tied q r ∙ ne_eqb q r ne) ∙ get-rules_left s initial ys q ∙ sym (rule_push_other s initial ys i q (names_other i q r named ne))
 
   -- where the register's rule is new, the map has it inserted; where it is none, removed
   pub rules_push_insert : (s : Setting) (initial : ℕ → Option (RegisterRule T)) (ys : List (CallFrameInstruction T)) (i : CallFrameInstruction T) (r : ℕ) (v : RegisterRule T) →
-      written_register i ≡ Some r → final_rule s initial (ys ++ i ∷ []) r ≡ Some v → map.insert (final_rules s initial ys) r v ≡ final_rules s initial (ys ++ i ∷ [])
+      written_register (action i) ≡ Some r → final_rule s initial (ys ++ i ∷ []) r ≡ Some v → map.insert (final_rules s initial ys) r v ≡ final_rules s initial (ys ++ i ∷ [])
   rules_push_insert s initial ys i r v named changed = is_rules_left s initial (ys ++ i ∷ []) _ (λ q. get-insert (final_rules s initial ys) r v q ∙ changed_step s initial ys i r (Some v) named changed q (cases_eq q r))
 
   pub rules_push_remove : (s : Setting) (initial : ℕ → Option (RegisterRule T)) (ys : List (CallFrameInstruction T)) (i : CallFrameInstruction T) (r : ℕ) →
-      written_register i ≡ Some r → final_rule s initial (ys ++ i ∷ []) r ≡ None → map.remove (final_rules s initial ys) r ≡ final_rules s initial (ys ++ i ∷ [])
+      written_register (action i) ≡ Some r → final_rule s initial (ys ++ i ∷ []) r ≡ None → map.remove (final_rules s initial ys) r ≡ final_rules s initial (ys ++ i ∷ [])
   rules_push_remove s initial ys i r named changed = is_rules_left s initial (ys ++ i ∷ []) _ (λ q. get-remove (final_rules s initial ys) r q ∙ changed_step s initial ys i r None named changed q (cases_eq q r))
 
-  pub rules_push_unnamed : (s : Setting) (initial : ℕ → Option (RegisterRule T)) (ys : List (CallFrameInstruction T)) (i : CallFrameInstruction T) → written_register i ≡ None → final_rules s initial ys ≡ final_rules s initial (ys ++ i ∷ [])
+  pub rules_push_unnamed : (s : Setting) (initial : ℕ → Option (RegisterRule T)) (ys : List (CallFrameInstruction T)) (i : CallFrameInstruction T) → written_register (action i) ≡ None → final_rules s initial ys ≡ final_rules s initial (ys ++ i ∷ [])
   rules_push_unnamed s initial ys i unnamed = is_rules_left s initial (ys ++ i ∷ []) _ (λ q. get-rules_left s initial ys q ∙ sym (rule_push_other s initial ys i q (ap (λ o. option_map_or (λ k. eqb k q) o false) unnamed)))
 
   -- ---- the CFA and the argument size
 
   pub cfa_push : (s : Setting) (ys : List (CallFrameInstruction T)) (i : CallFrameInstruction T) →
-      final_cfa s (ys ++ i ∷ []) ≡ cfa_from (option_flatten (option_or (written_cfa i) (last_written written_cfa ys))) (unwrap_or (option_or (written_cfa_register i) (last_written written_cfa_register ys)) (record { 0 = 0 })) (unwrap_or (option_or (written_cfa_offset s i) (last_written (written_cfa_offset s) ys)) (pos 0))
+      final_cfa s (ys ++ i ∷ []) ≡ cfa_from (option_flatten (option_or (written_cfa (action i)) (last_written written_cfa ys))) (unwrap_or (option_or (written_cfa_register (action i)) (last_written written_cfa_register ys)) (record { 0 = 0 })) (unwrap_or (option_or (written_cfa_offset s (action i)) (last_written (written_cfa_offset s) ys)) (pos 0))
   cfa_push s ys i = λ k. cfa_from (option_flatten (last_written_push written_cfa ys i k)) (unwrap_or (last_written_push written_cfa_register ys i k) (record { 0 = 0 })) (unwrap_or (last_written_push (written_cfa_offset s) ys i k) (pos 0))
 
-  pub args_size_push : (ys : List (CallFrameInstruction T)) (i : CallFrameInstruction T) → final_args_size (ys ++ i ∷ []) ≡ unwrap_or (option_or (written_args_size i) (last_written written_args_size ys)) 0
+  pub args_size_push : (ys : List (CallFrameInstruction T)) (i : CallFrameInstruction T) → final_args_size (ys ++ i ∷ []) ≡ unwrap_or (option_or (written_args_size (action i)) (last_written written_args_size ys)) 0
   args_size_push ys i = ap (λ o. unwrap_or o 0) (last_written_push written_args_size ys i)
 
   -- ---- all parts
@@ -151,11 +152,11 @@ module _ {T : Type 0} where
 
   -- an instruction that writes nothing
   pub record IsSilent (s : Setting) (i : CallFrameInstruction T) : Type 0 where
-    pub cfa : written_cfa i ≡ None
-    pub cfa_register : written_cfa_register i ≡ None
-    pub cfa_offset : written_cfa_offset s i ≡ None
-    pub args_size : written_args_size i ≡ None
-    pub register : written_register i ≡ None
+    pub cfa : written_cfa (action i) ≡ None
+    pub cfa_register : written_cfa_register (action i) ≡ None
+    pub cfa_offset : written_cfa_offset s (action i) ≡ None
+    pub args_size : written_args_size (action i) ≡ None
+    pub register : written_register (action i) ≡ None
 
   pub parts_push_silent : (s : Setting) (initial : ℕ → Option (RegisterRule T)) (ys : List (CallFrameInstruction T)) (i : CallFrameInstruction T) → IsSilent s i → final_parts s initial (ys ++ i ∷ []) ≡ final_parts s initial ys
   parts_push_silent s initial ys i silent =
@@ -184,7 +185,7 @@ module _ {T : Type 0} where
   toggled_below zero o h = h
   toggled_below (suc n) o h = omega arith
 
-  written_below : (s : Setting) (initial : ℕ → Option (RegisterRule T)) → ((r : ℕ) → constant_or_zero (initial r) < 2) → (i : CallFrameInstruction T) → constant_or_zero (written_rule s initial i) < 2
+  written_below : (s : Setting) (initial : ℕ → Option (RegisterRule T)) → ((r : ℕ) → constant_or_zero (initial r) < 2) → (i : CallFrameInstruction T) → constant_or_zero (written_rule s initial (action i)) < 2
   written_below s initial h (instruction.Restore r) = h r.0
   written_below s initial h _ = omega arith
 
@@ -194,7 +195,7 @@ module _ {T : Type 0} where
 
   pub before_toggles_below : (s : Setting) (initial : ℕ → Option (RegisterRule T)) → ((r : ℕ) → constant_or_zero (initial r) < 2) → (ys : List (CallFrameInstruction T)) (r : ℕ) → constant_or_zero (rule_before_toggles s initial ys r) < 2
   before_toggles_below s initial h [] r = omega arith
-  before_toggles_below s initial h (y ∷ ys) r = flatten_or (λ o. constant_or_zero o < 2) (last_written (λ j. cond (writes_rule r j) (Some (written_rule s initial j)) None) ys) _ (before_toggles_below s initial h ys r) (chosen_below (writes_rule r y) (written_rule s initial y) (written_below s initial h y))
+  before_toggles_below s initial h (y ∷ ys) r = flatten_or (λ o. constant_or_zero o < 2) (last_written (λ j. cond (writes_rule r j) (Some (written_rule s initial j)) None) ys) _ (before_toggles_below s initial h ys r) (chosen_below (writes_rule r (action y)) (written_rule s initial (action y)) (written_below s initial h y))
 
   pub rule_left_below : (s : Setting) (initial : ℕ → Option (RegisterRule T)) → ((r : ℕ) → constant_or_zero (initial r) < 2) → (ys : List (CallFrameInstruction T)) (r : ℕ) → constant_or_zero (final_rule s initial ys r) < 2
   rule_left_below s initial h ys r = toggled_below (final_toggles ys r) (rule_before_toggles s initial ys r) (before_toggles_below s initial h ys r)

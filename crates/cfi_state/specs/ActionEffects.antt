@@ -1,24 +1,21 @@
--- Call frame instructions by what they change, in the order of the standard.
---     target s location i      where a move goes (DWARF 5 section 6.4.2.1)
---     cfa_given s cfa i      the rule of the CFA, where i defines it and `cfa` is the rule before (section 6.4.2.2)
---     rule_given s i      the register that i gives a rule, and the rule (section 6.4.2.3)
+-- Actions by what they change, in the order of the standard.
+--     target s location a      where a move goes (DWARF 5 section 6.4.2.1)
+--     cfa_given s cfa a      the rule of the CFA, where a defines it and `cfa` is the rule before (section 6.4.2.2)
+--     rule_given s a      the register that a gives a rule, and the rule (section 6.4.2.3)
 use Rattle.std.specs.Prelude.{ℕ, nat_lt, cond, ℤ, Option, Some, None, Result, Ok, Err}
-use Rattle.std.specs.Int.{w64, cast_signed}
 use Rattle.cfi_read_core.specs.declared.common.Register.{Register}
 use Rattle.cfi_read_core.specs.declared.error.Error.{Error}
 use Rattle.cfi_read_core.specs.declared.error.Error.TheVariants.{AddressOverflow, InvalidCfiSetLoc, CfiInstructionInInvalidContext}
-use Rattle.cfi_parts.specs.declared.instruction.CallFrameInstruction.{CallFrameInstruction}
-use Rattle.cfi_parts.specs.declared.instruction.CallFrameInstruction.TheVariants as instruction
 use Rattle.cfi_state.specs.declared.table.rules.CfaRule.{CfaRule}
 use Rattle.cfi_state.specs.declared.table.rules.CfaRule.TheVariants as cfa
 use Rattle.cfi_state.specs.declared.table.rules.RegisterRule.{RegisterRule}
-use Rattle.cfi_state.specs.declared.table.rules.RegisterRule.TheVariants as rule
-use Rattle.cfi_state.specs.ProgramSettings.{Setting, times_factor, unsigned_times_factor, advanced_location, fits_address}
+use Rattle.cfi_state.specs.Actions.{Action, sets_location, advances_location, defines_cfa, defines_cfa_register, defines_cfa_offset, defines_cfa_expression, gives_rule}
+use Rattle.cfi_state.specs.ProgramSettings.{Setting, advanced_location, fits_address}
 
 module _ {T : Type 0} where
-  abbrev pub target : Setting → ℕ → CallFrameInstruction T → Result (Option ℕ) Error
-  target s location (instruction.SetLoc address) = cond (nat_lt address location) (Err (InvalidCfiSetLoc address)) (Ok (Some address))
-  target s location (instruction.AdvanceLoc delta) =
+  abbrev pub target : Setting → ℕ → Action T → Result (Option ℕ) Error
+  target s location (sets_location address) = cond (nat_lt address location) (Err (InvalidCfiSetLoc address)) (Ok (Some address))
+  target s location (advances_location delta) =
       cond (fits_address s (advanced_location s location delta)) (Ok (Some (advanced_location s location delta))) (Err AddressOverflow)
   target s location _ = Ok None
 
@@ -31,23 +28,13 @@ module _ {T : Type 0} where
   with_offset (cfa.RegisterAndOffset r _) offset = Ok (Some (cfa.RegisterAndOffset r offset))
   with_offset (cfa.Expression _) offset = Err CfiInstructionInInvalidContext
 
-  abbrev pub cfa_given : Setting → CfaRule T → CallFrameInstruction T → Result (Option (CfaRule T)) Error
-  cfa_given s old (instruction.DefCfa r offset) = Ok (Some (cfa.RegisterAndOffset r (cast_signed w64 offset)))
-  cfa_given s old (instruction.DefCfaSf r offset) = Ok (Some (cfa.RegisterAndOffset r (times_factor s offset)))
-  cfa_given s old (instruction.DefCfaRegister r) = with_register old r
-  cfa_given s old (instruction.DefCfaOffset offset) = with_offset old (cast_signed w64 offset)
-  cfa_given s old (instruction.DefCfaOffsetSf offset) = with_offset old (times_factor s offset)
-  cfa_given s old (instruction.DefCfaExpression e) = Ok (Some (cfa.Expression e))
+  abbrev pub cfa_given : Setting → CfaRule T → Action T → Result (Option (CfaRule T)) Error
+  cfa_given s old (defines_cfa r offset) = Ok (Some (cfa.RegisterAndOffset r (offset s.data_alignment_factor)))
+  cfa_given s old (defines_cfa_register r) = with_register old r
+  cfa_given s old (defines_cfa_offset offset) = with_offset old (offset s.data_alignment_factor)
+  cfa_given s old (defines_cfa_expression e) = Ok (Some (cfa.Expression e))
   cfa_given s old _ = Ok None
 
-  abbrev pub rule_given : Setting → CallFrameInstruction T → Option (Register × RegisterRule T)
-  rule_given s (instruction.Undefined r) = Some (r, rule.Undefined)
-  rule_given s (instruction.SameValue r) = Some (r, rule.SameValue)
-  rule_given s (instruction.Offset r n) = Some (r, rule.Offset (unsigned_times_factor s n))
-  rule_given s (instruction.OffsetExtendedSf r n) = Some (r, rule.Offset (times_factor s n))
-  rule_given s (instruction.ValOffset r n) = Some (r, rule.ValOffset (unsigned_times_factor s n))
-  rule_given s (instruction.ValOffsetSf r n) = Some (r, rule.ValOffset (times_factor s n))
-  rule_given s (instruction.Register r source) = Some (r, rule.Register source)
-  rule_given s (instruction.Expression r e) = Some (r, rule.Expression e)
-  rule_given s (instruction.ValExpression r e) = Some (r, rule.ValExpression e)
+  abbrev pub rule_given : Setting → Action T → Option (Register × RegisterRule T)
+  rule_given s (gives_rule r rule) = Some (r, rule s.data_alignment_factor)
   rule_given s _ = None

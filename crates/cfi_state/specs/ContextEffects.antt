@@ -2,14 +2,13 @@
 --     setting_of parameters rule_limit stack_limit      what stays fixed, and the limits of a storage
 --     Evaluates s copies_free location i old new result      what the instruction i at the location does to a context, and answers
 --     EndsCie s copies_free location old new result      the same of the end of a CIE's initial instructions
-use Rattle.std.specs.Prelude.{◌≡◌, ℕ, Bool, IsTrue, List, ◌∷◌, Option, Some, None, is_some, Result, Ok, Err, IsOk, ◌⊎◌}
+use Rattle.std.specs.Prelude.{◌≡◌, ℕ, Bool, List, ◌∷◌, Option, Some, None, Result, Ok, Err}
 use Rattle.cfi_read_core.specs.declared.error.Error.{Error}
-use Rattle.cfi_read_core.specs.declared.error.Error.TheVariants.{OutOfMemory}
 use Rattle.cfi_parts.specs.declared.instruction.CallFrameInstruction.{CallFrameInstruction}
-use Rattle.cfi_parts.specs.declared.instruction.CallFrameInstruction.TheVariants.{RememberState, RestoreState}
+use Rattle.cfi_state.specs.Actions.{Action, remembers_state, restores_state, action}
 use Rattle.cfi_state.specs.declared.table.machine.Parameters.{Parameters}
 use Rattle.cfi_state.specs.ProgramSettings.{Setting}
-use Rattle.cfi_state.specs.Machine.{State, step, end_of_cie}
+use Rattle.cfi_state.specs.Machine.{step, end_of_cie}
 use Rattle.cfi_state.specs.Memory.{may_allocate_at, may_allocate_at_end}
 use Rattle.cfi_state.specs.Outcome.{IsRefusal}
 use Rattle.cfi_state.specs.Row.{Row}
@@ -27,11 +26,14 @@ setting_of parameters rule_limit stack_limit = record {
 }
 
 module _ {T : Type 0} where
-  -- the remembered rows after an instruction; they keep the addresses that they had
+  -- the remembered rows after an action; they keep the addresses that they had
+  abbrev pub rows_after : Action T → ContextState T → List (Row T)
+  rows_after remembers_state x = x.row ∷ x.remembered
+  rows_after restores_state x = later_rows x.remembered
+  rows_after _ x = x.remembered
+
   abbrev pub remembered_after : CallFrameInstruction T → ContextState T → List (Row T)
-  remembered_after RememberState x = x.row ∷ x.remembered
-  remembered_after RestoreState x = later_rows x.remembered
-  remembered_after _ x = x.remembered
+  remembered_after i x = rows_after (action i) x
 
 -- An accepted instruction that is no move: the step from the old state gives the new one, and no row moves.
 pub record IsChange {T : Type 0} (s : Setting) (location : ℕ) (i : CallFrameInstruction T) (old new : ContextState T) : Type 0 where

@@ -1,4 +1,5 @@
 -- What call frame instructions mean (DWARF 5 section 6.4): the machine that runs them, and the form without a machine.
+pub mod Actions
 pub mod ProgramSettings
 pub mod Machine
 pub mod Row

@@ -4,19 +4,18 @@
 --     end_of_cie s x      the state where the FDE's program begins, or the refusal
 use Rattle.std.specs.Prelude.{ℕ, ◌+◌, cond, not, ◌&&◌, nat_lt, nat_le, ℤ, pos, List, [], ◌∷◌, length, Option, Some, None, Result, Ok, Err, bit_xor}
 use Rattle.std.specs.Ordering.{nat_cmp}
-use Rattle.std.specs.Int.{w64, cast_signed}
 use Rattle.std.specs.FinMap as map
 use Rattle.std.specs.FinMap.{FinMap}
 use Rattle.cfi_read_core.specs.declared.common.Register.{Register}
 use Rattle.cfi_read_core.specs.declared.error.Error.{Error}
 use Rattle.cfi_read_core.specs.declared.error.Error.TheVariants.{AddressOverflow, InvalidCfiSetLoc, CfiInstructionInInvalidContext, StackFull, PopWithEmptyStack, TooManyRegisterRules}
 use Rattle.cfi_parts.specs.declared.instruction.CallFrameInstruction.{CallFrameInstruction}
-use Rattle.cfi_parts.specs.declared.instruction.CallFrameInstruction.TheVariants as instruction
 use Rattle.cfi_state.specs.declared.table.rules.CfaRule.{CfaRule}
 use Rattle.cfi_state.specs.declared.table.rules.CfaRule.TheVariants as cfa
 use Rattle.cfi_state.specs.declared.table.rules.RegisterRule.{RegisterRule}
 use Rattle.cfi_state.specs.declared.table.rules.RegisterRule.TheVariants as rule
-use Rattle.cfi_state.specs.ProgramSettings.{Setting, ra_sign_state, is_at_limit, times_factor, unsigned_times_factor, advanced_location, fits_address}
+use Rattle.cfi_state.specs.ProgramSettings.{Setting, ra_sign_state, is_at_limit, advanced_location, fits_address}
+use Rattle.cfi_state.specs.Actions.{Action, sets_location, advances_location, defines_cfa, defines_cfa_register, defines_cfa_offset, defines_cfa_expression, gives_rule, restores_rule, toggles_sign_state, remembers_state, restores_state, sets_args_size, changes_nothing, action}
 
 -- the rules of registers, by number; a register that is not in the map has no rule
 abbrev pub Rules : Type 0 → Type 0
@@ -90,30 +89,23 @@ module _ {T : Type 0} where
   restore_state x [] = Err PopWithEmptyStack
   restore_state x (parts ∷ remembered) = Ok (record x { parts = parts; remembered = remembered })
 
+  abbrev pub perform : Setting → State T → Action T → Result (State T) Error
+  perform s x (sets_location address) = cond (nat_lt address x.location) (Err (InvalidCfiSetLoc address)) (Ok (record x { location = address }))
+  perform s x (advances_location delta) = cond (fits_address s (advanced_location s x.location delta)) (Ok (record x { location = advanced_location s x.location delta })) (Err AddressOverflow)
+  perform s x (defines_cfa r offset) = Ok (with_cfa x (cfa.RegisterAndOffset r (offset s.data_alignment_factor)))
+  perform s x (defines_cfa_register r) = set_cfa_register x r x.parts.cfa
+  perform s x (defines_cfa_offset offset) = set_cfa_offset x (offset s.data_alignment_factor) x.parts.cfa
+  perform s x (defines_cfa_expression e) = Ok (with_cfa x (cfa.Expression e))
+  perform s x (gives_rule r rule) = set_rule s x r.0 (rule s.data_alignment_factor)
+  perform s x (restores_rule r) = restore_rule s x r.0 x.initial_rules
+  perform s x toggles_sign_state = toggle s x (map.get x.parts.rules ra_sign_state)
+  perform s x remembers_state = cond (is_at_limit s.stack_limit (rows_held x)) (Err StackFull) (Ok (record x { remembered = x.parts ∷ x.remembered }))
+  perform s x restores_state = restore_state x x.remembered
+  perform s x (sets_args_size size) = Ok (record x { parts = record x.parts { args_size = size } })
+  perform s x changes_nothing = Ok x
+
   abbrev pub step : Setting → State T → CallFrameInstruction T → Result (State T) Error
-  step s x (instruction.SetLoc address) = cond (nat_lt address x.location) (Err (InvalidCfiSetLoc address)) (Ok (record x { location = address }))
-  step s x (instruction.AdvanceLoc delta) = cond (fits_address s (advanced_location s x.location delta)) (Ok (record x { location = advanced_location s x.location delta })) (Err AddressOverflow)
-  step s x (instruction.DefCfa r offset) = Ok (with_cfa x (cfa.RegisterAndOffset r (cast_signed w64 offset)))
-  step s x (instruction.DefCfaSf r offset) = Ok (with_cfa x (cfa.RegisterAndOffset r (times_factor s offset)))
-  step s x (instruction.DefCfaRegister r) = set_cfa_register x r x.parts.cfa
-  step s x (instruction.DefCfaOffset offset) = set_cfa_offset x (cast_signed w64 offset) x.parts.cfa
-  step s x (instruction.DefCfaOffsetSf offset) = set_cfa_offset x (times_factor s offset) x.parts.cfa
-  step s x (instruction.DefCfaExpression e) = Ok (with_cfa x (cfa.Expression e))
-  step s x (instruction.Undefined r) = set_rule s x r.0 rule.Undefined
-  step s x (instruction.SameValue r) = set_rule s x r.0 rule.SameValue
-  step s x (instruction.Offset r n) = set_rule s x r.0 (rule.Offset (unsigned_times_factor s n))
-  step s x (instruction.OffsetExtendedSf r n) = set_rule s x r.0 (rule.Offset (times_factor s n))
-  step s x (instruction.ValOffset r n) = set_rule s x r.0 (rule.ValOffset (unsigned_times_factor s n))
-  step s x (instruction.ValOffsetSf r n) = set_rule s x r.0 (rule.ValOffset (times_factor s n))
-  step s x (instruction.Register r source) = set_rule s x r.0 (rule.Register source)
-  step s x (instruction.Expression r e) = set_rule s x r.0 (rule.Expression e)
-  step s x (instruction.ValExpression r e) = set_rule s x r.0 (rule.ValExpression e)
-  step s x (instruction.Restore r) = restore_rule s x r.0 x.initial_rules
-  step s x instruction.RememberState = cond (is_at_limit s.stack_limit (rows_held x)) (Err StackFull) (Ok (record x { remembered = x.parts ∷ x.remembered }))
-  step s x instruction.RestoreState = restore_state x x.remembered
-  step s x (instruction.ArgsSize size) = Ok (record x { parts = record x.parts { args_size = size } })
-  step s x instruction.NegateRaState = toggle s x (map.get x.parts.rules ra_sign_state)
-  step s x instruction.Nop = Ok x
+  step s x i = perform s x (action i)
 
   -- the FDE's program begins at the initial address, with the parts and the remembered parts that the CIE's initial instructions left
   abbrev pub end_of_cie : Setting → State T → Result (State T) Error

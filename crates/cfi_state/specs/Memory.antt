@@ -4,7 +4,7 @@
 use Rattle.std.specs.Prelude.{ℕ, Bool, false, not, ◌&&◌, nat_le, Option, Some, None, is_some}
 use Rattle.std.specs.FinMap as map
 use Rattle.cfi_parts.specs.declared.instruction.CallFrameInstruction.{CallFrameInstruction}
-use Rattle.cfi_parts.specs.declared.instruction.CallFrameInstruction.TheVariants as instruction
+use Rattle.cfi_state.specs.Actions.{Action, gives_rule, restores_rule, toggles_sign_state, remembers_state, action}
 use Rattle.cfi_state.specs.ProgramSettings.{Setting, ra_sign_state}
 use Rattle.cfi_state.specs.Machine.{Rules, State}
 
@@ -22,20 +22,15 @@ module _ {T : Type 0} where
   has_initial_rule (Some rules) r = map.contains_key rules r
 
   -- what grows nothing wants no memory, nor does the replacement of a rule
+  abbrev pub may_allocate_for : Setting → Bool → State T → Action T → Bool
+  may_allocate_for s copies_free x (gives_rule r rule) = adds_rule s x r.0
+  may_allocate_for s copies_free x (restores_rule r) = has_initial_rule x.initial_rules r.0 && adds_rule s x r.0
+  may_allocate_for s copies_free x toggles_sign_state = adds_rule s x ra_sign_state
+  may_allocate_for s copies_free x remembers_state = copies_row s copies_free
+  may_allocate_for s copies_free x _ = false
+
   abbrev pub may_allocate_at : Setting → Bool → State T → CallFrameInstruction T → Bool
-  may_allocate_at s copies_free x (instruction.Undefined r) = adds_rule s x r.0
-  may_allocate_at s copies_free x (instruction.SameValue r) = adds_rule s x r.0
-  may_allocate_at s copies_free x (instruction.Offset r n) = adds_rule s x r.0
-  may_allocate_at s copies_free x (instruction.OffsetExtendedSf r n) = adds_rule s x r.0
-  may_allocate_at s copies_free x (instruction.ValOffset r n) = adds_rule s x r.0
-  may_allocate_at s copies_free x (instruction.ValOffsetSf r n) = adds_rule s x r.0
-  may_allocate_at s copies_free x (instruction.Register r source) = adds_rule s x r.0
-  may_allocate_at s copies_free x (instruction.Expression r e) = adds_rule s x r.0
-  may_allocate_at s copies_free x (instruction.ValExpression r e) = adds_rule s x r.0
-  may_allocate_at s copies_free x (instruction.Restore r) = has_initial_rule x.initial_rules r.0 && adds_rule s x r.0
-  may_allocate_at s copies_free x instruction.RememberState = copies_row s copies_free
-  may_allocate_at s copies_free x instruction.NegateRaState = adds_rule s x ra_sign_state
-  may_allocate_at s copies_free x _ = false
+  may_allocate_at s copies_free x i = may_allocate_for s copies_free x (action i)
 
   -- two initial rules or more are kept in a row of the stack
   abbrev pub may_allocate_at_end : Setting → Bool → State T → Bool

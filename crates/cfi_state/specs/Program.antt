@@ -10,7 +10,7 @@ use Rattle.std.specs.Option.{option_or}
 use Rattle.cfi_read_core.specs.declared.error.Error.{Error}
 use Rattle.cfi_read_core.specs.declared.error.Error.TheVariants.{AddressOverflow, InvalidCfiSetLoc, CfiInstructionInInvalidContext, StackFull, PopWithEmptyStack, TooManyRegisterRules}
 use Rattle.cfi_parts.specs.declared.instruction.CallFrameInstruction.{CallFrameInstruction}
-use Rattle.cfi_parts.specs.declared.instruction.CallFrameInstruction.TheVariants as instruction
+use Rattle.cfi_state.specs.Actions.{Action, sets_location, advances_location, defines_cfa, defines_cfa_register, defines_cfa_offset, defines_cfa_expression, gives_rule, restores_rule, toggles_sign_state, remembers_state, restores_state, sets_args_size, changes_nothing, action}
 use Rattle.cfi_state.specs.declared.table.rules.CfaRule.{CfaRule}
 use Rattle.cfi_state.specs.declared.table.rules.CfaRule.TheVariants as cfa
 use Rattle.cfi_state.specs.declared.table.rules.RegisterRule.{RegisterRule}
@@ -95,30 +95,23 @@ module _ {T : Type 0} where
   abbrev pub has_no_room : Setting → Program T → ℕ → Bool
   has_no_room s p r = not (is_some (rule_of s p r)) && is_at_limit s.rule_limit (rule_count s p)
 
+  abbrev pub refusal_of : Setting → Program T → Action T → Option Error
+  refusal_of s p (sets_location address) = refused_if (nat_lt address (location_of s p)) (InvalidCfiSetLoc address)
+  refusal_of s p (advances_location delta) = refused_if (not (fits_address s (advanced_location s (location_of s p) delta))) AddressOverflow
+  refusal_of s p (defines_cfa r offset) = None
+  refusal_of s p (defines_cfa_register r) = refused_if (is_expression (cfa_of s p)) CfiInstructionInInvalidContext
+  refusal_of s p (defines_cfa_offset offset) = refused_if (is_expression (cfa_of s p)) CfiInstructionInInvalidContext
+  refusal_of s p (defines_cfa_expression e) = None
+  refusal_of s p (gives_rule r rule) = refused_if (has_no_room s p r.0) TooManyRegisterRules
+  refusal_of s p (restores_rule r) = option_or (refused_if (is_in_cie p) CfiInstructionInInvalidContext) (refused_if (is_some (initial_rule s p r.0) && has_no_room s p r.0) TooManyRegisterRules)
+  refusal_of s p toggles_sign_state = option_or (refused_if (is_no_constant (rule_of s p ra_sign_state)) CfiInstructionInInvalidContext) (refused_if (has_no_room s p ra_sign_state) TooManyRegisterRules)
+  refusal_of s p remembers_state = refused_if (is_stack_full s p) StackFull
+  refusal_of s p restores_state = refused_if (open_count p == 0) PopWithEmptyStack
+  refusal_of s p (sets_args_size size) = None
+  refusal_of s p changes_nothing = None
+
   abbrev pub refusal : Setting → Program T → CallFrameInstruction T → Option Error
-  refusal s p (instruction.SetLoc address) = refused_if (nat_lt address (location_of s p)) (InvalidCfiSetLoc address)
-  refusal s p (instruction.AdvanceLoc delta) = refused_if (not (fits_address s (advanced_location s (location_of s p) delta))) AddressOverflow
-  refusal s p (instruction.DefCfa r offset) = None
-  refusal s p (instruction.DefCfaSf r offset) = None
-  refusal s p (instruction.DefCfaRegister r) = refused_if (is_expression (cfa_of s p)) CfiInstructionInInvalidContext
-  refusal s p (instruction.DefCfaOffset offset) = refused_if (is_expression (cfa_of s p)) CfiInstructionInInvalidContext
-  refusal s p (instruction.DefCfaOffsetSf offset) = refused_if (is_expression (cfa_of s p)) CfiInstructionInInvalidContext
-  refusal s p (instruction.DefCfaExpression e) = None
-  refusal s p (instruction.Undefined r) = refused_if (has_no_room s p r.0) TooManyRegisterRules
-  refusal s p (instruction.SameValue r) = refused_if (has_no_room s p r.0) TooManyRegisterRules
-  refusal s p (instruction.Offset r n) = refused_if (has_no_room s p r.0) TooManyRegisterRules
-  refusal s p (instruction.OffsetExtendedSf r n) = refused_if (has_no_room s p r.0) TooManyRegisterRules
-  refusal s p (instruction.ValOffset r n) = refused_if (has_no_room s p r.0) TooManyRegisterRules
-  refusal s p (instruction.ValOffsetSf r n) = refused_if (has_no_room s p r.0) TooManyRegisterRules
-  refusal s p (instruction.Register r source) = refused_if (has_no_room s p r.0) TooManyRegisterRules
-  refusal s p (instruction.Expression r e) = refused_if (has_no_room s p r.0) TooManyRegisterRules
-  refusal s p (instruction.ValExpression r e) = refused_if (has_no_room s p r.0) TooManyRegisterRules
-  refusal s p (instruction.Restore r) = option_or (refused_if (is_in_cie p) CfiInstructionInInvalidContext) (refused_if (is_some (initial_rule s p r.0) && has_no_room s p r.0) TooManyRegisterRules)
-  refusal s p instruction.RememberState = refused_if (is_stack_full s p) StackFull
-  refusal s p instruction.RestoreState = refused_if (open_count p == 0) PopWithEmptyStack
-  refusal s p (instruction.ArgsSize size) = None
-  refusal s p instruction.NegateRaState = option_or (refused_if (is_no_constant (rule_of s p ra_sign_state)) CfiInstructionInInvalidContext) (refused_if (has_no_room s p ra_sign_state) TooManyRegisterRules)
-  refusal s p instruction.Nop = None
+  refusal s p i = refusal_of s p (action i)
 
   -- the end of the CIE's initial instructions
   abbrev pub refusal_at_end : Setting → List (CallFrameInstruction T) → Option Error

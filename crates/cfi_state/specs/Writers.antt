@@ -7,22 +7,21 @@ use Rattle.std.specs.Prelude.{ℕ, zero, suc, ◌+◌, ◌%◌, Bool, false, con
 use Rattle.std.specs.List.{list_any}
 use Rattle.std.specs.Option.{option_or, option_flatten, option_map, option_map_or}
 use Rattle.std.specs.FinMap as map
-use Rattle.std.specs.Int.{w64, cast_signed}
 use Rattle.cfi_read_core.specs.declared.common.Register.{Register}
 use Rattle.cfi_parts.specs.declared.instruction.UnwindExpression.{UnwindExpression}
 use Rattle.cfi_parts.specs.declared.instruction.CallFrameInstruction.{CallFrameInstruction}
-use Rattle.cfi_parts.specs.declared.instruction.CallFrameInstruction.TheVariants as instruction
 use Rattle.cfi_state.specs.declared.table.rules.CfaRule.{CfaRule}
 use Rattle.cfi_state.specs.declared.table.rules.CfaRule.TheVariants as cfa
 use Rattle.cfi_state.specs.declared.table.rules.RegisterRule.{RegisterRule}
 use Rattle.cfi_state.specs.declared.table.rules.RegisterRule.TheVariants as rule
 use Rattle.cfi_state.specs.Machine.{Rules, Parts}
-use Rattle.cfi_state.specs.ProgramSettings.{Setting, ra_sign_state, times_factor, unsigned_times_factor, is_toggle}
+use Rattle.cfi_state.specs.ProgramSettings.{Setting, ra_sign_state, is_toggle}
+use Rattle.cfi_state.specs.Actions.{Action, defines_cfa, defines_cfa_register, defines_cfa_offset, defines_cfa_expression, gives_rule, restores_rule, toggles_sign_state, sets_args_size, action}
 
 -- what the last instruction that writes something wrote
-abbrev pub last_written : {A B : Type 0} → (A → Option B) → List A → Option B
+abbrev pub last_written : {T B : Type 0} → (Action T → Option B) → List (CallFrameInstruction T) → Option B
 last_written f [] = None
-last_written f (x ∷ xs) = option_or (last_written f xs) (f x)
+last_written f (i ∷ ys) = option_or (last_written f ys) (f (action i))
 
 -- what stands after the last element that passes, or all where none does
 abbrev pub after_last : {A : Type 0} → (A → Bool) → List A → List A
@@ -36,67 +35,47 @@ distinct_numbers (r ∷ rs) = cond (list_any (λ q. q == r) rs) (distinct_number
 
 module _ {T : Type 0} where
   -- the whole of the CFA: an expression, or none where a register and an offset are written
-  abbrev pub written_cfa : CallFrameInstruction T → Option (Option (UnwindExpression T))
-  written_cfa (instruction.DefCfa r offset) = Some None
-  written_cfa (instruction.DefCfaSf r offset) = Some None
-  written_cfa (instruction.DefCfaExpression e) = Some (Some e)
+  abbrev pub written_cfa : Action T → Option (Option (UnwindExpression T))
+  written_cfa (defines_cfa r offset) = Some None
+  written_cfa (defines_cfa_expression e) = Some (Some e)
   written_cfa _ = None
 
-  abbrev pub written_cfa_register : CallFrameInstruction T → Option Register
-  written_cfa_register (instruction.DefCfa r offset) = Some r
-  written_cfa_register (instruction.DefCfaSf r offset) = Some r
-  written_cfa_register (instruction.DefCfaRegister r) = Some r
+  abbrev pub written_cfa_register : Action T → Option Register
+  written_cfa_register (defines_cfa r offset) = Some r
+  written_cfa_register (defines_cfa_register r) = Some r
   written_cfa_register _ = None
 
-  abbrev pub written_cfa_offset : Setting → CallFrameInstruction T → Option ℤ
-  written_cfa_offset s (instruction.DefCfa r offset) = Some (cast_signed w64 offset)
-  written_cfa_offset s (instruction.DefCfaSf r offset) = Some (times_factor s offset)
-  written_cfa_offset s (instruction.DefCfaOffset offset) = Some (cast_signed w64 offset)
-  written_cfa_offset s (instruction.DefCfaOffsetSf offset) = Some (times_factor s offset)
+  abbrev pub written_cfa_offset : Setting → Action T → Option ℤ
+  written_cfa_offset s (defines_cfa r offset) = Some (offset s.data_alignment_factor)
+  written_cfa_offset s (defines_cfa_offset offset) = Some (offset s.data_alignment_factor)
   written_cfa_offset s _ = None
 
-  abbrev pub written_args_size : CallFrameInstruction T → Option ℕ
-  written_args_size (instruction.ArgsSize size) = Some size
+  abbrev pub written_args_size : Action T → Option ℕ
+  written_args_size (sets_args_size size) = Some size
   written_args_size _ = None
 
   -- the register whose rule is written or toggled
-  abbrev pub written_register : CallFrameInstruction T → Option ℕ
-  written_register (instruction.Undefined r) = Some r.0
-  written_register (instruction.SameValue r) = Some r.0
-  written_register (instruction.Offset r n) = Some r.0
-  written_register (instruction.OffsetExtendedSf r n) = Some r.0
-  written_register (instruction.ValOffset r n) = Some r.0
-  written_register (instruction.ValOffsetSf r n) = Some r.0
-  written_register (instruction.Register r source) = Some r.0
-  written_register (instruction.Expression r e) = Some r.0
-  written_register (instruction.ValExpression r e) = Some r.0
-  written_register (instruction.Restore r) = Some r.0
-  written_register instruction.NegateRaState = Some ra_sign_state
+  abbrev pub written_register : Action T → Option ℕ
+  written_register (gives_rule r rule) = Some r.0
+  written_register (restores_rule r) = Some r.0
+  written_register toggles_sign_state = Some ra_sign_state
   written_register _ = None
 
   -- the rule that a writer gives its register; a restore gives the rule that the CIE's initial instructions left, which may be none
-  abbrev pub written_rule : Setting → (ℕ → Option (RegisterRule T)) → CallFrameInstruction T → Option (RegisterRule T)
-  written_rule s initial (instruction.Undefined r) = Some rule.Undefined
-  written_rule s initial (instruction.SameValue r) = Some rule.SameValue
-  written_rule s initial (instruction.Offset r n) = Some (rule.Offset (unsigned_times_factor s n))
-  written_rule s initial (instruction.OffsetExtendedSf r n) = Some (rule.Offset (times_factor s n))
-  written_rule s initial (instruction.ValOffset r n) = Some (rule.ValOffset (unsigned_times_factor s n))
-  written_rule s initial (instruction.ValOffsetSf r n) = Some (rule.ValOffset (times_factor s n))
-  written_rule s initial (instruction.Register r source) = Some (rule.Register source)
-  written_rule s initial (instruction.Expression r e) = Some (rule.Expression e)
-  written_rule s initial (instruction.ValExpression r e) = Some (rule.ValExpression e)
-  written_rule s initial (instruction.Restore r) = initial r.0
+  abbrev pub written_rule : Setting → (ℕ → Option (RegisterRule T)) → Action T → Option (RegisterRule T)
+  written_rule s initial (gives_rule r rule) = Some (rule s.data_alignment_factor)
+  written_rule s initial (restores_rule r) = initial r.0
   written_rule s initial _ = None
 
   -- whether the rule of register r is written or toggled, written, or toggled
-  abbrev pub names : ℕ → CallFrameInstruction T → Bool
-  names r i = option_map_or (λ q. q == r) (written_register i) false
+  abbrev pub names : ℕ → Action T → Bool
+  names r a = option_map_or (λ q. q == r) (written_register a) false
 
-  abbrev pub writes_rule : ℕ → CallFrameInstruction T → Bool
-  writes_rule r i = not (is_toggle i) && names r i
+  abbrev pub writes_rule : ℕ → Action T → Bool
+  writes_rule r a = not (is_toggle a) && names r a
 
-  abbrev pub toggles : ℕ → CallFrameInstruction T → Bool
-  toggles r i = is_toggle i && names r i
+  abbrev pub toggles : ℕ → Action T → Bool
+  toggles r a = is_toggle a && names r a
 
   -- ---- what a list of instructions leaves, none of which is struck
 
@@ -112,10 +91,10 @@ module _ {T : Type 0} where
 
   -- the rule that the last writer of register r gave it
   abbrev pub rule_before_toggles : Setting → (ℕ → Option (RegisterRule T)) → List (CallFrameInstruction T) → ℕ → Option (RegisterRule T)
-  rule_before_toggles s initial ys r = option_flatten (last_written (λ i. cond (writes_rule r i) (Some (written_rule s initial i)) None) ys)
+  rule_before_toggles s initial ys r = option_flatten (last_written (λ a. cond (writes_rule r a) (Some (written_rule s initial a)) None) ys)
 
   abbrev pub final_toggles : List (CallFrameInstruction T) → ℕ → ℕ
-  final_toggles ys r = count_by (toggles r) (after_last (writes_rule r) ys)
+  final_toggles ys r = count_by (λ i. toggles r (action i)) (after_last (λ i. writes_rule r (action i)) ys)
 
   abbrev pub constant_or_zero : Option (RegisterRule T) → ℕ
   constant_or_zero (Some (rule.Constant value)) = value
@@ -130,7 +109,7 @@ module _ {T : Type 0} where
   final_rule s initial ys r = rule_after_toggles (final_toggles ys r) (rule_before_toggles s initial ys r)
 
   abbrev pub registers_named : List (CallFrameInstruction T) → List ℕ
-  registers_named ys = distinct_numbers (filter_map written_register ys)
+  registers_named ys = distinct_numbers (filter_map (λ i. written_register (action i)) ys)
 
   abbrev pub registers_with_rule : Setting → (ℕ → Option (RegisterRule T)) → List (CallFrameInstruction T) → List ℕ
   registers_with_rule s initial ys = filter (λ r. is_some (final_rule s initial ys r)) (registers_named ys)

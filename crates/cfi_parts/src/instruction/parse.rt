@@ -1,23 +1,23 @@
 //! One call frame instruction (DWARF 5 sections 6.4.2 and 7.24).
-ghost use Rattle.std.specs.Prelude.{◌≡◌, ◌≤◌, ◌++◌};
+ghost use Rattle.std.specs.Prelude.{◌≡◌, ◌≤◌};
 ghost use Rattle.cfi_read_core.specs.Addresses.{IsAddressSize};
 ghost use Rattle.cfi_read_core.specs.Numbers.{offset_leb128, register_leb128};
 ghost use Rattle.cfi_read_core.specs.Reading.{chosen_from};
 ghost use Rattle.cfi_read_core.specs.Readers.{Reads};
 ghost use Rattle.cfi_parts.specs.Contexts.{instruction_context, pointer_context};
-ghost use Rattle.cfi_parts.specs.Instructions.{cfa_definition, expression, instruction, location_by, offset_rules, register_rules, row_creation, state_and_others, unknown_opcode};
+ghost use Rattle.cfi_parts.specs.Instructions.{expression, extended_opcodes, instruction, location_by, unknown_opcode};
 ghost use Rattle.cfi_parts.specs.Views.{map_expression, map_instruction};
 
 use crate::instruction::{CallFrameInstruction, UnwindExpression};
 use crate::pointer::{PointerEncodingParameters, parse_encoded_pointer};
 use cfi_read_core::constants::{
-    DW_CFA_AARCH64_negate_ra_state, DW_CFA_GNU_args_size, DW_CFA_advance_loc1, DW_CFA_advance_loc2,
-    DW_CFA_advance_loc4, DW_CFA_def_cfa, DW_CFA_def_cfa_expression, DW_CFA_def_cfa_offset,
-    DW_CFA_def_cfa_offset_sf, DW_CFA_def_cfa_register, DW_CFA_def_cfa_sf, DW_CFA_expression,
-    DW_CFA_nop, DW_CFA_offset_extended, DW_CFA_offset_extended_sf, DW_CFA_register,
-    DW_CFA_remember_state, DW_CFA_restore_extended, DW_CFA_restore_state, DW_CFA_same_value,
-    DW_CFA_set_loc, DW_CFA_undefined, DW_CFA_val_expression, DW_CFA_val_offset,
-    DW_CFA_val_offset_sf,
+    DW_CFA_AARCH64_negate_ra_state, DW_CFA_GNU_args_size, DW_CFA_advance_loc, DW_CFA_advance_loc1,
+    DW_CFA_advance_loc2, DW_CFA_advance_loc4, DW_CFA_def_cfa, DW_CFA_def_cfa_expression,
+    DW_CFA_def_cfa_offset, DW_CFA_def_cfa_offset_sf, DW_CFA_def_cfa_register, DW_CFA_def_cfa_sf,
+    DW_CFA_expression, DW_CFA_nop, DW_CFA_offset, DW_CFA_offset_extended,
+    DW_CFA_offset_extended_sf, DW_CFA_register, DW_CFA_remember_state, DW_CFA_restore,
+    DW_CFA_restore_extended, DW_CFA_restore_state, DW_CFA_same_value, DW_CFA_set_loc,
+    DW_CFA_undefined, DW_CFA_val_expression, DW_CFA_val_offset, DW_CFA_val_offset_sf,
 };
 use cfi_read_core::{DwCfa, DwEhPe, Error, Reader, ReaderOffset, Register, Result, Vendor};
 
@@ -90,35 +90,35 @@ pub fn parse_instruction<R: Reader>(
     let opcode = input.read_u8()?;
     // A primary opcode is the two high bits alone; the low six bits are its first operand.
     let low = opcode % 0x40;
-    match opcode / 0x40 {
-        1 => Ok(CallFrameInstruction::AdvanceLoc {
+    match DwCfa(opcode - low) {
+        DW_CFA_advance_loc => Ok(CallFrameInstruction::AdvanceLoc {
             delta: u32::from(low),
         }),
-        2 => Ok(CallFrameInstruction::Offset {
+        DW_CFA_offset => Ok(CallFrameInstruction::Offset {
             register: Register(u16::from(low)),
             factored_offset: input.read_uleb128()?,
         }),
-        3 => Ok(CallFrameInstruction::Restore {
+        DW_CFA_restore => Ok(CallFrameInstruction::Restore {
             register: Register(u16::from(low)),
         }),
-        _ => parse_row_creation(DwCfa(opcode), parameters, input),
+        _ => parse_extended(DwCfa(opcode), parameters, input),
     }
 }
 
-/// Reads the operands of an opcode for row creation (DWARF 5 section 6.4.2.1), and hands on others.
-fn parse_row_creation<R: Reader>(
+/// Reads the operands of an opcode whose two high bits are 0.
+fn parse_extended<R: Reader>(
     opcode: DwCfa,
     parameters: &InstructionParameters<'_, R>,
     input: &mut R,
 ) -> Result<CallFrameInstruction<R::Offset>>
     requires sized { IsAddressSize parameters.now.pointers.address_size }
     requires behind { (R.position parameters.now.pointers.section.now).place ≤ (R.position input.old).place }
-    ensures { let c = instruction_context R.position parameters.now in
-        Reads (map_instruction R.Offset.number)
-        (chosen_from opcode.0 (row_creation c ++ cfa_definition c ++ offset_rules ++ register_rules c ++ state_and_others c) (unknown_opcode opcode.0))
+    ensures { Reads (map_instruction R.Offset.number)
+        (chosen_from opcode.0 (extended_opcodes (instruction_context R.position parameters.now)) (unknown_opcode opcode.0))
         (R.position input.old) result (R.position input.new) }
 {
     match opcode {
+        // row creation (section 6.4.2.1)
         DW_CFA_set_loc => Ok(CallFrameInstruction::SetLoc {
             address: parse_location(parameters, input)?,
         }),
@@ -131,23 +131,7 @@ fn parse_row_creation<R: Reader>(
         DW_CFA_advance_loc4 => Ok(CallFrameInstruction::AdvanceLoc {
             delta: input.read_u32()?,
         }),
-        _ => parse_cfa_definition(opcode, parameters, input),
-    }
-}
-
-/// Reads the operands of an opcode for the CFA's definition (section 6.4.2.2), and hands on others.
-fn parse_cfa_definition<R: Reader>(
-    opcode: DwCfa,
-    parameters: &InstructionParameters<'_, R>,
-    input: &mut R,
-) -> Result<CallFrameInstruction<R::Offset>>
-    requires { (R.position parameters.now.pointers.section.now).place ≤ (R.position input.old).place }
-    ensures { let c = instruction_context R.position parameters.now in
-        Reads (map_instruction R.Offset.number)
-        (chosen_from opcode.0 (cfa_definition c ++ offset_rules ++ register_rules c ++ state_and_others c) (unknown_opcode opcode.0))
-        (R.position input.old) result (R.position input.new) }
-{
-    match opcode {
+        // the CFA's definition (section 6.4.2.2)
         DW_CFA_def_cfa => Ok(CallFrameInstruction::DefCfa {
             register: read_register(input)?,
             offset: input.read_uleb128()?,
@@ -168,23 +152,7 @@ fn parse_cfa_definition<R: Reader>(
         DW_CFA_def_cfa_offset_sf => Ok(CallFrameInstruction::DefCfaOffsetSf {
             factored_offset: input.read_sleb128()?,
         }),
-        _ => parse_offset_rule(opcode, parameters, input),
-    }
-}
-
-/// Reads the operands of an opcode for a rule with an offset from the CFA (section 6.4.2.3), and hands on others.
-fn parse_offset_rule<R: Reader>(
-    opcode: DwCfa,
-    parameters: &InstructionParameters<'_, R>,
-    input: &mut R,
-) -> Result<CallFrameInstruction<R::Offset>>
-    requires { (R.position parameters.now.pointers.section.now).place ≤ (R.position input.old).place }
-    ensures { let c = instruction_context R.position parameters.now in
-        Reads (map_instruction R.Offset.number)
-        (chosen_from opcode.0 (offset_rules ++ register_rules c ++ state_and_others c) (unknown_opcode opcode.0))
-        (R.position input.old) result (R.position input.new) }
-{
-    match opcode {
+        // register rules (section 6.4.2.3)
         DW_CFA_offset_extended => Ok(CallFrameInstruction::Offset {
             register: read_register(input)?,
             factored_offset: input.read_uleb128()?,
@@ -201,23 +169,6 @@ fn parse_offset_rule<R: Reader>(
             register: read_register(input)?,
             factored_offset: input.read_sleb128()?,
         }),
-        _ => parse_register_rule(opcode, parameters, input),
-    }
-}
-
-/// Reads the operands of an opcode for another register rule (section 6.4.2.3), and hands on others.
-fn parse_register_rule<R: Reader>(
-    opcode: DwCfa,
-    parameters: &InstructionParameters<'_, R>,
-    input: &mut R,
-) -> Result<CallFrameInstruction<R::Offset>>
-    requires { (R.position parameters.now.pointers.section.now).place ≤ (R.position input.old).place }
-    ensures { let c = instruction_context R.position parameters.now in
-        Reads (map_instruction R.Offset.number)
-        (chosen_from opcode.0 (register_rules c ++ state_and_others c) (unknown_opcode opcode.0))
-        (R.position input.old) result (R.position input.new) }
-{
-    match opcode {
         DW_CFA_restore_extended => Ok(CallFrameInstruction::Restore {
             register: read_register(input)?,
         }),
@@ -239,21 +190,7 @@ fn parse_register_rule<R: Reader>(
             register: read_register(input)?,
             expression: parse_expression(&parameters.pointers, input)?,
         }),
-        _ => parse_state_or_other(opcode, parameters, input),
-    }
-}
-
-/// Reads the operands of an opcode for a row's state (section 6.4.2.4), of padding, or of a vendor's opcode.
-fn parse_state_or_other<R: Reader>(
-    opcode: DwCfa,
-    parameters: &InstructionParameters<'_, R>,
-    input: &mut R,
-) -> Result<CallFrameInstruction<R::Offset>>
-    ensures { Reads (map_instruction R.Offset.number)
-        (chosen_from opcode.0 (state_and_others (instruction_context R.position parameters.now)) (unknown_opcode opcode.0))
-        (R.position input.old) result (R.position input.new) }
-{
-    match opcode {
+        // a row's state (section 6.4.2.4), padding, and vendors' opcodes
         DW_CFA_nop => Ok(CallFrameInstruction::Nop),
         DW_CFA_remember_state => Ok(CallFrameInstruction::RememberState),
         DW_CFA_restore_state => Ok(CallFrameInstruction::RestoreState),

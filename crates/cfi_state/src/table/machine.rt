@@ -11,6 +11,7 @@ ghost use Rattle.cfi_state.specs.Row.{at_start, at_end};
 ghost use Rattle.cfi_state.specs.Context.{empty_context, machine_state, with_row};
 ghost use Rattle.cfi_state.specs.declared.table.machine.Parameters.{Parameters};
 ghost use Rattle.cfi_state.specs.ContextEffects.{setting_of, Changes, Evaluates, EndsCie};
+ghost use Rattle.cfi_state.specs.Actions.{action};
 ghost use Rattle.cfi_state.specs.ActionEffects as groups;
 
 use super::context::UnwindContext;
@@ -156,7 +157,7 @@ fn target<T: ReaderOffset>(
     instruction: CallFrameInstruction<T>,
 ) -> Result<Option<u64>>
     requires { IsAddressSize parameters.now.address_size }
-    ensures { result ≡ groups.target (setting_of parameters.now None None) location instruction }
+    ensures { result ≡ groups.target (setting_of parameters.now None None) location (action instruction) }
 {
     match instruction {
         CallFrameInstruction::SetLoc { address } => {
@@ -180,7 +181,7 @@ fn cfa_given<T: ReaderOffset>(
     old: CfaRule<T>,
     instruction: CallFrameInstruction<T>,
 ) -> Result<Option<CfaRule<T>>>
-    ensures { result ≡ groups.cfa_given (setting_of parameters.now None None) old instruction }
+    ensures { result ≡ groups.cfa_given (setting_of parameters.now None None) old (action instruction) }
 {
     match instruction {
         CallFrameInstruction::DefCfa { register, offset } => {
@@ -235,7 +236,7 @@ fn rule_given<T: ReaderOffset>(
     parameters: &Parameters,
     instruction: CallFrameInstruction<T>,
 ) -> Option<(Register, RegisterRule<T>)>
-    ensures { result ≡ groups.rule_given (setting_of parameters.now None None) instruction }
+    ensures { result ≡ groups.rule_given (setting_of parameters.now None None) (action instruction) }
 {
     match instruction {
         CallFrameInstruction::Undefined { register } => Some((register, RegisterRule::Undefined)),

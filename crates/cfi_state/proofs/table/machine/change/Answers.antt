@@ -1,7 +1,10 @@
-use Rattle.std.proofs.Common.{sym, ◌∙◌, subst}
+use Rattle.std.proofs.Common.{None, refl, sym, ap, ◌∙◌, subst, inl}
+use Rattle.std.proofs.lemmas.Result.{err_from_is_err_and, IfErr-at_err}
 use Rattle.std.specs.Option.{IfSome}
+use Rattle.cfi_state.specs.Actions.{action}
+use Rattle.cfi_state.specs.ActionEffects.{cfa_given}
 use Rattle.cfi_state.specs.ContextEffects.{Changes, setting_of}
-use Rattle.cfi_state.proofs.Evaluation.{IsSet, sets-given}
+use Rattle.cfi_state.proofs.Evaluation.{IsSet, sets-given, cfa-refused}
 use Rattle.cfi_state.proofs.table.machine.change.Goals as goal
 
 pub returns-in-Some-rule_given : goal.returns-in-Some-rule_given
@@ -17,3 +20,13 @@ returns-in-Restore g c = rw c.in-Restore.is (λ location. c.restore_rule.ensures
 
 pub returns-in-NegateRaState : goal.returns-in-NegateRaState
 returns-in-NegateRaState g c = rw c.in-NegateRaState.is (λ location. c.negate_ra_state.ensures c.args.parameters.now location)
+
+pub returns-in_err-cfa : goal.returns-in_err-cfa
+returns-in_err-cfa g c =
+    let refusal = err_from_is_err_and c.from_residual.result c.from_residual.ensures.1 in
+    let old_cfa = c.cfa.ensures ∙ ap (λ row. row.parts.cfa) c.row.ensures in
+    λ location. rw (refusal.1, refusal.2) (
+      refl,
+      inl (IfErr-at_err _ (ap (λ cfa. cfa_given (setting_of c.args.parameters.now None None) cfa (action c.args.instruction)) (sym old_cfa) ∙ sym c.cfa_given.ensures ∙ c.in_err-cfa.was)
+          (cfa-refused c.args.parameters.now g.S.Rules.ArrayLike.limit g.S-Stack-ArrayLike.limit g.S.Rules.CopyList.copies_free location c.args.context.now c.args.context.now (action c.args.instruction))),
+    )
