@@ -16,7 +16,7 @@ use Rattle.cfi_state.specs.Context.{ContextState, machine_state, later_rows}
 
 abbrev pub setting_of : Parameters → Option ℕ → Option ℕ → Setting
 setting_of parameters rule_limit stack_limit = record {
-  address_size = parameters.address_size;
+  address_size = parameters.address_size.bytes;
   code_alignment_factor = parameters.code_alignment_factor;
   data_alignment_factor = parameters.data_alignment_factor;
   initial_address = parameters.initial_address;

@@ -10,6 +10,7 @@ use super::table::row::UnwindTableRow;
 use super::table::rules::RegisterRule;
 use arrayvec::ArrayVec;
 use cfi_parts::instruction::CallFrameInstruction;
+use cfi_read_core::address::AddressSize;
 use cfi_read_core::{Error, ReaderOffset, Register, Result};
 use std::test::Fail;
 
@@ -24,13 +25,15 @@ impl<T: ReaderOffset> UnwindContextStorage<T> for StoreOfOne {
     ghost has_room = { lit≤ tt };
 }
 
-const PARAMETERS: Parameters = Parameters {
-    code_alignment_factor: 1,
-    data_alignment_factor: -8,
-    address_size: 8,
-    initial_address: 0x1000,
-    end_address: 0x1020,
-};
+fn parameters() -> Parameters {
+    Parameters {
+        code_alignment_factor: 1,
+        data_alignment_factor: -8,
+        address_size: AddressSize::new(8),
+        initial_address: 0x1000,
+        end_address: 0x1020,
+    }
+}
 
 fn offset(number: u16) -> CallFrameInstruction<usize> {
     CallFrameInstruction::Offset {
@@ -45,7 +48,7 @@ fn run<S: UnwindContextStorage<usize>>(
 ) -> Result<Option<u64>>
     ensures { context.new.initial_rules ≡ context.old.initial_rules }
 {
-    evaluate(context, &PARAMETERS, 0x1000, instruction)
+    evaluate(context, &parameters(), 0x1000, instruction)
 }
 
 #[test]

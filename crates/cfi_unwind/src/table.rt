@@ -3,7 +3,6 @@ ghost use Rattle.std.specs.Prelude.{◌≡◌, ℕ, Option, true, false, IfOk, I
 ghost use Rattle.std.specs.Borrow.{sem};
 ghost use Rattle.std.specs.Io.BufRead.{Rests};
 ghost use mir.Syntax.{named};
-ghost use Rattle.cfi_read_core.specs.Addresses.{IsAddressSize, is_sized};
 ghost use Rattle.cfi_parts.specs.CallFrameSections.{IsOf};
 ghost use Rattle.cfi_parts.specs.Iterators.{instruction_reader};
 ghost use Rattle.cfi_parts.specs.InstructionReaders.{instructions_left};
@@ -34,13 +33,6 @@ use cfi_state::table::machine::{
 };
 use cfi_state::table::row::UnwindTableRow;
 
-// Parameters whose address size is 1, 2, 4 or 8.
-#[derive(Drop, Debug)]
-struct SizedParameters {
-    values: Parameters,
-    ghost sized: { is_sized values.address_size ≡ true },
-}
-
 /// The rows of an FDE, in order (DWARF 5 section 6.4.1).
 ///
 /// The rows are made in an unwind context, from which each is lent until the next call. Nothing is copied, and no memory is
@@ -48,7 +40,7 @@ struct SizedParameters {
 #[derive(Drop)]
 #[derive_where(Debug)]
 pub struct UnwindTable<'a, 'ctx, R: Reader, S: UnwindContextStorage<R::Offset> = StoreOnHeap> {
-    parameters: SizedParameters,
+    parameters: Parameters,
     instructions: CallFrameInstructionIter<'a, R>,
     next_start_address: u64,
     // Whether the last row was returned.
@@ -82,7 +74,7 @@ impl<'a, 'ctx, R: Reader, S: UnwindContextStorage<R::Offset>> UnwindTable<'a, 'c
             (setting S.Rules.limit S.Stack.limit (fde_view R.position R.Offset.number fde.now)) S.Rules.copies_free
             (section_of (Section.view section.now) bases.now) (fde_view R.position R.Offset.number fde.now) result }
         ensures setting { IfOk result (λ table. (rules stack : Option ℕ) →
-            setting_of table.parameters.values rules stack ≡ setting rules stack (fde_view R.position R.Offset.number fde.now)) }
+            setting_of table.parameters rules stack ≡ setting rules stack (fde_view R.position R.Offset.number fde.now)) }
         ensures holds_row { IfOk result (λ table. table.holds_row ≡ false) }
         ensures same_reference { IfOk result (λ table. table.context.ghost_name ≡ ctx.entry.ghost_name) }
     {
@@ -98,14 +90,13 @@ impl<'a, 'ctx, R: Reader, S: UnwindContextStorage<R::Offset>> UnwindTable<'a, 'c
         fde_instructions: CallFrameInstructionIter<'a, R>,
         context: &'ctx mut UnwindContext<R::Offset, S>,
     ) -> Result<Self>
-        requires { IsAddressSize parameters.address_size }
         ensures cie { let s = setting_of parameters S.Rules.limit S.Stack.limit in
             RunsInitialInstructions (may_allocate s S.Rules.copies_free) s fresh_state (instructions_left (instruction_reader R.position cie_instructions.entry))
             (map_ok (λ table. (table_state R.position R.Offset.number table).so_far) result) }
         ensures kept { KeepsCieProgram (setting_of parameters S.Rules.limit S.Stack.limit) S.Rules.copies_free (instructions_left (instruction_reader R.position cie_instructions.entry))
             (map_ok (λ table. (table_state R.position R.Offset.number table).so_far) result) }
         ensures fde { IfOk result (λ table. table.instructions ≡ fde_instructions.entry) }
-        ensures parameters { IfOk result (λ table. table.parameters.values ≡ parameters) }
+        ensures parameters { IfOk result (λ table. table.parameters ≡ parameters) }
         ensures has_ended { IfOk result (λ table. table.has_ended ≡ false) }
         ensures holds_row { IfOk result (λ table. table.holds_row ≡ false) }
         ensures same_reference { IfOk result (λ table. table.context.ghost_name ≡ context.entry.ghost_name) }
@@ -113,7 +104,7 @@ impl<'a, 'ctx, R: Reader, S: UnwindContextStorage<R::Offset>> UnwindTable<'a, 'c
         reset(context);
         run_initial(context, &parameters, cie_instructions)?;
         Ok(UnwindTable {
-            parameters: SizedParameters { values: parameters },
+            parameters,
             instructions: fde_instructions,
             next_start_address: parameters.initial_address,
             has_ended: false,
@@ -124,16 +115,16 @@ impl<'a, 'ctx, R: Reader, S: UnwindContextStorage<R::Offset>> UnwindTable<'a, 'c
 
     // Goes on to the next row, and answers whether there is one.
     fn advance(&mut self) -> Result<bool>
-        ensures next { GivesNextAnswer (setting_of self.old.parameters.values S.Rules.limit S.Stack.limit) S.Rules.copies_free
+        ensures next { GivesNextAnswer (setting_of self.old.parameters S.Rules.limit S.Stack.limit) S.Rules.copies_free
             (table_state R.position R.Offset.number self.old)
             (row_given R.Offset.number self.new.context.now result)
             (table_state R.position R.Offset.number self.new) }
-        ensures kept { AnswersWithoutMachine (setting_of self.old.parameters.values S.Rules.limit S.Stack.limit) S.Rules.copies_free
+        ensures kept { AnswersWithoutMachine (setting_of self.old.parameters S.Rules.limit S.Stack.limit) S.Rules.copies_free
             (table_state R.position R.Offset.number self.old)
             (row_given R.Offset.number self.new.context.now result)
             (table_state R.position R.Offset.number self.new) }
         ensures holds_row { MatchResult result (λ found. self.new.holds_row ≡ found) (λ _. self.new.holds_row ≡ false) }
-        ensures parameters { self.new.parameters.values ≡ self.old.parameters.values }
+        ensures parameters { self.new.parameters ≡ self.old.parameters }
         ensures same_reference { self.new.context.ghost_name ≡ self.old.context.ghost_name }
     {
         self.holds_row = false;
@@ -144,7 +135,7 @@ impl<'a, 'ctx, R: Reader, S: UnwindContextStorage<R::Offset>> UnwindTable<'a, 'c
         set_start_address(self.context, location);
         let moved = run_to_move(
             self.context,
-            &self.parameters.values,
+            &self.parameters,
             location,
             &mut self.instructions,
         )?;
@@ -156,7 +147,7 @@ impl<'a, 'ctx, R: Reader, S: UnwindContextStorage<R::Offset>> UnwindTable<'a, 'c
                 Ok(true)
             }
             None => {
-                set_end_address(self.context, self.parameters.values.end_address);
+                set_end_address(self.context, self.parameters.end_address);
                 self.has_ended = true;
                 self.holds_row = true;
                 Ok(true)
@@ -178,9 +169,9 @@ impl<'a, 'ctx, R: Reader, S: UnwindContextStorage<R::Offset>> UnwindTable<'a, 'c
             R.Endian.Endianity.own R.Endian.Debug R.Endian.PartialEq
             S.Rules.ArrayLike S.Rules.CopyList.own S.Stack.ArrayLike)
             self.entry
-            (λ new. LendsNextRow R.Offset.number (setting_of self.old.parameters.values S.Rules.limit S.Stack.limit) S.Rules.copies_free
+            (λ new. LendsNextRow R.Offset.number (setting_of self.old.parameters S.Rules.limit S.Stack.limit) S.Rules.copies_free
             (table_state R.position R.Offset.number self.old) result (table_state R.position R.Offset.number new) new.context.now new.holds_row
-            × (new.parameters.values ≡ self.old.parameters.values) × (new.context.ghost_name ≡ self.old.context.ghost_name))) }
+            × (new.parameters ≡ self.old.parameters) × (new.context.ghost_name ≡ self.old.context.ghost_name))) }
     {
         if self.advance()? {
             Ok(Some(current_row(self.context)))
@@ -216,7 +207,6 @@ fn run_to_move<'a, R: Reader, S: UnwindContextStorage<R::Offset>>(
     location: u64,
     instructions: &mut CallFrameInstructionIter<'a, R>,
 ) -> Result<Option<u64>>
-    requires { IsAddressSize parameters.now.address_size }
     ensures next { let s = setting_of parameters.now S.Rules.limit S.Stack.limit in
         GivesNextAnswer s S.Rules.copies_free
         (before_last_row (state_in_numbers R.Offset.number location context.old) (instructions_left (instruction_reader R.position instructions.old)))
@@ -238,7 +228,6 @@ fn run_initial<R: Reader, S: UnwindContextStorage<R::Offset>>(
     parameters: &Parameters,
     instructions: CallFrameInstructionIter<'_, R>,
 ) -> Result<()>
-    requires sized { IsAddressSize parameters.now.address_size }
     requires empty { context.old ≡ empty_context }
     ensures { let s = setting_of parameters.now S.Rules.limit S.Stack.limit in
         RunsInitialInstructions (may_allocate s S.Rules.copies_free) s fresh_state (instructions_left (instruction_reader R.position instructions.entry))
@@ -272,7 +261,6 @@ pub(crate) fn unwind_info_for_address<
     context: &'ctx mut UnwindContext<R::Offset, S>,
     address: u64,
 ) -> Result<&'ctx UnwindTableRow<R::Offset, S::Rules>>
-    requires { IsAddressSize parameters.address_size }
     ensures run { let s = setting_of parameters S.Rules.limit S.Stack.limit in
         AnswersFde (may_allocate s S.Rules.copies_free) s
         (instructions_left (instruction_reader R.position cie_instructions.entry)) (instructions_left (instruction_reader R.position fde_instructions.entry))

@@ -4,8 +4,7 @@
 //! no business with them.
 ghost use Rattle.std.specs.Prelude.{◌≡◌, ℕ, None, IfOk, is_some, false};
 ghost use Rattle.std.specs.Int.{w64, int_wrapping_mul};
-ghost use Rattle.cfi_read_core.specs.Addresses.{IsAddressSize};
-ghost use Rattle.cfi_state.specs.ProgramSettings.{is_move};
+ghost use Rattle.cfi_state.specs.ProgramSettings.{Setting, is_move};
 ghost use Rattle.cfi_parts.specs.declared.instruction.CallFrameInstruction.TheVariants as instruction;
 ghost use Rattle.cfi_state.specs.Row.{at_start, at_end};
 ghost use Rattle.cfi_state.specs.Context.{empty_context, machine_state, with_row};
@@ -19,6 +18,7 @@ use super::row::UnwindTableRow;
 use super::rules::{CfaRule, RA_SIGN_STATE, RegisterRule};
 use crate::storage::UnwindContextStorage;
 use cfi_parts::instruction::CallFrameInstruction;
+use cfi_read_core::address::AddressSize;
 use cfi_read_core::{Error, ReaderAddress, ReaderOffset, Register, Result};
 
 /// What stays fixed while the programs of a CIE and an FDE run.
@@ -28,8 +28,8 @@ pub struct Parameters {
     pub code_alignment_factor: u64,
     /// What one unit of a factored offset is, in bytes (DWARF 5 section 6.4.1).
     pub data_alignment_factor: i64,
-    /// How many bytes an address takes: 1, 2, 4 or 8.
-    pub address_size: u8,
+    /// How many bytes an address takes.
+    pub address_size: AddressSize,
     /// The FDE's first address.
     pub initial_address: u64,
     /// The first address after the FDE's range.
@@ -94,7 +94,6 @@ pub fn evaluate<T: ReaderOffset, S: UnwindContextStorage<T>>(
     location: u64,
     instruction: CallFrameInstruction<T>,
 ) -> Result<Option<u64>>
-    requires { IsAddressSize parameters.now.address_size }
     ensures step { Evaluates (setting_of parameters.now S.Rules.limit S.Stack.limit) S.Rules.copies_free
         location instruction context.old context.new result }
     ensures moves { IfOk result (λ moved. is_some moved ≡ is_move instruction) }
@@ -156,7 +155,6 @@ fn target<T: ReaderOffset>(
     location: u64,
     instruction: CallFrameInstruction<T>,
 ) -> Result<Option<u64>>
-    requires { IsAddressSize parameters.now.address_size }
     ensures { result ≡ groups.target (setting_of parameters.now None None) location (action instruction) }
 {
     match instruction {
@@ -168,7 +166,7 @@ fn target<T: ReaderOffset>(
         }
         CallFrameInstruction::AdvanceLoc { delta } => {
             let distance = u64::from(delta).wrapping_mul(parameters.code_alignment_factor);
-            let address = location.add_sized(distance, parameters.address_size)?;
+            let address = location.add_sized(distance, parameters.address_size.bytes())?;
             Ok(Some(address))
         }
         _ => Ok(None),
@@ -290,7 +288,7 @@ fn restore_rule<T: ReaderOffset, S: UnwindContextStorage<T>>(
     context: &mut UnwindContext<T, S>,
     register: Register,
 ) -> Result<()>
-    ensures { (p : Parameters) (location : ℕ) → Changes (setting_of p S.Rules.limit S.Stack.limit) S.Rules.copies_free
+    ensures { (s : Setting) (location : ℕ) → Changes (record s { rule_limit = S.Rules.limit; stack_limit = S.Stack.limit }) S.Rules.copies_free
         location (instruction.Restore register) context.old context.new result }
 {
     match context.initial_rule(register)? {

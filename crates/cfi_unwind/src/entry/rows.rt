@@ -1,6 +1,5 @@
 //! The rows of an FDE, and the row that it gives for an address (DWARF 5 section 6.4.1).
 ghost use Rattle.std.specs.Prelude.{◌≡◌, ℕ, Option, IfOk, false};
-ghost use Rattle.cfi_read_core.specs.Addresses.{IsAddressSize};
 ghost use Rattle.cfi_read_core.specs.Readers.{map_ok};
 ghost use Rattle.cfi_parts.specs.CallFrameSections.{IsOf};
 ghost use Rattle.cfi_state.specs.ContextEffects.{setting_of};
@@ -26,12 +25,11 @@ impl<R: Reader> FrameDescriptionEntry<R> {
     // What stays fixed while the programs of the FDE and its CIE run.
     pub(crate) fn parameters(&self) -> Parameters
         ensures setting { (rules stack : Option ℕ) → setting_of result rules stack ≡ setting rules stack (fde_view R.position R.Offset.number self.now) }
-        ensures sized { IsAddressSize result.address_size }
     {
         Parameters {
             code_alignment_factor: self.cie.code_alignment_factor,
             data_alignment_factor: self.cie.data_alignment_factor,
-            address_size: self.cie.address_size.bytes(),
+            address_size: self.cie.address_size,
             initial_address: self.initial_address,
             end_address: self.end_address(),
         }
@@ -54,7 +52,7 @@ impl<R: Reader> FrameDescriptionEntry<R> {
             (setting S.Rules.limit S.Stack.limit (fde_view R.position R.Offset.number self.now)) S.Rules.copies_free
             (section_of (Section.view section.now) bases.now) (fde_view R.position R.Offset.number self.now) result }
         ensures setting { IfOk result (λ table. (rules stack : Option ℕ) →
-            setting_of table.parameters.values rules stack ≡ setting rules stack (fde_view R.position R.Offset.number self.now)) }
+            setting_of table.parameters rules stack ≡ setting rules stack (fde_view R.position R.Offset.number self.now)) }
         ensures holds_row { IfOk result (λ table. table.holds_row ≡ false) }
         ensures same_reference { IfOk result (λ table. table.context.ghost_name ≡ ctx.entry.ghost_name) }
     {

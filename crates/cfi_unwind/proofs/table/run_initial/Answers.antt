@@ -45,4 +45,4 @@ end_cie-requires g c = c.loop-instruction.invariant.1
 pub returns : goal.returns
 returns g c =
     cie-ends _ _ _ _ c.loop-instruction.context c.end_cie.new.context _ _ c.loop-instruction.invariant.0
-    (reads-none _ c.next.result _ _ c.next.ensures.met (c.in_ok-instruction.was ∙ ap Ok c.in_default.is)).0 c.end_cie.result (c.end_cie.ensures _ _)
+    (reads-none _ c.next.result _ _ c.next.ensures.met (c.in_ok-instruction.was ∙ ap Ok c.in_default.is)).0 c.end_cie.result (c.end_cie.ensures c.args.parameters.now _)

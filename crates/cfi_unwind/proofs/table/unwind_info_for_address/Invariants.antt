@@ -11,7 +11,7 @@ invariant-loop-row g l =
     LeadsToAnswer (setting_of l.fn.parameters g.S.Rules.ArrayLike.limit g.S-Stack-ArrayLike.limit) g.S.Rules.CopyList.copies_free
     (instructions_left (instruction_reader g.R.Reader.position l.fn.cie_instructions)) (instructions_left (instruction_reader g.R.Reader.position l.fn.fde_instructions)) l.fn.address
     (table_state g.R.Reader.position g.R.Offset.ReaderOffset.number l.table)
-    × (l.table.parameters.values ≡ l.fn.parameters)
+    × (l.table.parameters ≡ l.fn.parameters)
 
 abbrev pub decreases-loop-row : goal.decreases-loop-row
 decreases-loop-row g l = answers_left (table_state g.R.Reader.position g.R.Offset.ReaderOffset.number l.table)

@@ -16,7 +16,7 @@ returns-in-Some-rule_given g c =
     c.set_rule.ensures
 
 pub returns-in-Restore : goal.returns-in-Restore
-returns-in-Restore g c = rw c.in-Restore.is (λ location. c.restore_rule.ensures c.args.parameters.now location)
+returns-in-Restore g c = rw c.in-Restore.is (λ location. c.restore_rule.ensures (setting_of c.args.parameters.now None None) location)
 
 pub returns-in-NegateRaState : goal.returns-in-NegateRaState
 returns-in-NegateRaState g c = rw c.in-NegateRaState.is (λ location. c.negate_ra_state.ensures c.args.parameters.now location)
