@@ -7,3 +7,4 @@ pub mod Within
 pub mod TableSteps
 pub mod RowLemmas
 pub mod StartLemmas
+pub mod Answered

@@ -52,20 +52,21 @@ module _ {F : Type 0} (gives : F → ℕ → Result Cie Error → F → Type 0) 
   pub scans_at : {xs ys : Readings Entry} {f : F} {r q : Result Fde Error} {g : F} → xs ≡ ys → r ≡ q → Scans gives section a ys f q g → Scans gives section a xs f r g
   scans_at {xs = xs} {ys = ys} {f = f} {r = r} {q = q} {g = g} e k h = subst (λ x. Scans gives section a x f r g) (sym e) (subst (λ x. Scans gives section a ys f x g) (sym k) h)
 
--- Where each CIE that is given is the one to which its FDE points, the answer is the chosen FDE.
-module _ {F : Type 0} (gives : F → ℕ → Result Cie Error → F → Type 0) (section : Section) (reads : (f : F) (offset : ℕ) (given : Result Cie Error) (g : F) → gives f offset given g → given ≡ cie_at section offset) where
-  given_own : (partials : List PartialFde) (f : F) (given : List (Result Cie Error)) (g : F) → IsGiven gives partials f given g → given ≡ take (length given) (own_cies section partials)
-  given_own partials f [] g is = refl
-  given_own [] f (cie ∷ given) g is = absurd is
-  given_own (partial ∷ partials) f (cie ∷ given) g (next, asked, others) =
-      ap (λ (x : Result Cie Error). x ∷ given) (reads f partial.cie_offset cie next asked)
-      ∙ ap (λ (xs : List (Result Cie Error)). cie_at section partial.cie_offset ∷ xs) (given_own partials next given g others)
+-- Where each call gives the CIE to which the FDE points, by what it keeps, the answer is the chosen FDE.
+module _ {F : Type 0} (gives : F → ℕ → Result Cie Error → F → Type 0) (section : Section) (I : F → Type 0) (reads : (f : F) (offset : ℕ) (given : Result Cie Error) (g : F) → I f → gives f offset given g → I g × (given ≡ cie_at section offset)) where
+  given_own : (partials : List PartialFde) (f : F) (given : List (Result Cie Error)) (g : F) → I f → IsGiven gives partials f given g → given ≡ take (length given) (own_cies section partials)
+  given_own partials f [] g holds is = refl
+  given_own [] f (cie ∷ given) g holds is = absurd is
+  given_own (partial ∷ partials) f (cie ∷ given) g holds (next, asked, others) =
+      let read = reads f partial.cie_offset cie next holds asked in
+      ap (λ (x : Result Cie Error). x ∷ given) read.1
+      ∙ ap (λ (xs : List (Result Cie Error)). cie_at section partial.cie_offset ∷ xs) (given_own partials next given g read.0 others)
 
-  pub scan_reads : (a : ℕ) (f : F) (answer : Result Fde Error) (g : F) → Scans gives section a (entries section) f answer g → answer ≡ chosen_fde section a
-  scan_reads a f answer g (given, answers, e) =
+  pub scan_reads : (a : ℕ) (f : F) (answer : Result Fde Error) (g : F) → I f → Scans gives section a (entries section) f answer g → answer ≡ chosen_fde section a
+  scan_reads a f answer g holds (given, answers, e) =
       let partials = partial_fdes (entries section).values in
       let own : chosen_of_given a section partials (entries section).refusal (take (length given) (own_cies section partials)) ≡ Some answer =
-      ap (λ (xs : List (Result Cie Error)). chosen_of_given a section partials (entries section).refusal xs) (sym (given_own partials f given g answers)) ∙ e in
+      ap (λ (xs : List (Result Cie Error)). chosen_of_given a section partials (entries section).refusal xs) (sym (given_own partials f given g holds answers)) ∙ e in
       sym (own_chosen a section partials (entries section).refusal (length given) answer own)
 
 -- what holds of each value holds of one that there is

@@ -1,5 +1,5 @@
 -- Asking for CIEs, whoever answers.
-use Rattle.std.specs.Prelude.{◌≡◌, ℕ, List, Some, Result, Ok, Err}
+use Rattle.std.specs.Prelude.{◌≡◌, ℕ, List, [], ◌∷◌, Some, Result, Ok, Err}
 use Rattle.std.specs.Fn.{Called, Mut}
 use Rattle.std.specs.Borrow.{Bor}
 use Rattle.cfi_read_core.specs.Readers.{map_ok}
@@ -12,28 +12,37 @@ use Rattle.cfi_unwind.specs.Fdes.{PartialFde, Fde}
 use Rattle.cfi_unwind.specs.Entries.{Entry, fde_with}
 use Rattle.cfi_unwind.specs.Scan.{IsGiven, chosen_of_given, partial_fdes}
 
--- A call of f with the section and the bases, for the CIE at an offset: what was given, and the state g after it.
-pub record GetCieCall {F S O C : Type 0} (calls : Mut F (Bor S × (Bor BaseAddresses × (O × Unit {0}))) (Result C Error)) (number : O → ℕ) (view : C → Cie) (section : S) (bases : BaseAddresses) (f : F) (offset : ℕ) (given : Result Cie Error) (g : F) : Type 0 where
+-- A call of f with the section and the bases, for the CIE at the offset `asked`: its answer, and the state g after it.
+pub record IsCallFor {F S O C : Type 0} (calls : Mut F (Bor S × (Bor BaseAddresses × (O × Unit {0}))) (Result C Error)) (section : S) (bases : BaseAddresses) (f : F) (asked : O) (answer : Result C Error) (g : F) : Type 0 where
   pub shown_section : Bor S
   pub shown_bases : Bor BaseAddresses
-  pub asked : O
-  pub answer : Result C Error
   pub at_section : shown_section.now ≡ section
   pub at_bases : shown_bases.now ≡ bases
-  pub at_offset : number asked ≡ offset
-  pub seen : map_ok view answer ≡ given
   pub call : Called calls f (shown_section, (shown_bases, (asked, tt))) answer g
 
--- The CIE is one that a call with the section and the bases answered.
-pub record IsAnswered {F S O C : Type 0} (calls : Mut F (Bor S × (Bor BaseAddresses × (O × Unit {0}))) (Result C Error)) (section : S) (bases : BaseAddresses) (cie : C) : Type 0 where
-  pub before : F
-  pub after : F
-  pub shown_section : Bor S
-  pub shown_bases : Bor BaseAddresses
+-- Such a call, with the offset as a number and what was given as the definitions see it.
+pub record GetCieCall {F S O C : Type 0} (calls : Mut F (Bor S × (Bor BaseAddresses × (O × Unit {0}))) (Result C Error)) (number : O → ℕ) (view : C → Cie) (section : S) (bases : BaseAddresses) (f : F) (offset : ℕ) (given : Result Cie Error) (g : F) : Type 0 where
   pub asked : O
-  pub at_section : shown_section.now ≡ section
-  pub at_bases : shown_bases.now ≡ bases
-  pub call : Called calls before (shown_section, (shown_bases, (asked, tt))) (Ok cie) after
+  pub answer : Result C Error
+  pub at_offset : number asked ≡ offset
+  pub seen : map_ok view answer ≡ given
+  pub call : IsCallFor calls section bases f asked answer g
+
+-- Calls lead from the state f to the state g; the list has what each was asked and answered, the last one first.
+abbrev pub CallsLead : {F S O C : Type 0} → Mut F (Bor S × (Bor BaseAddresses × (O × Unit {0}))) (Result C Error) → S → BaseAddresses → F → List (O × Result C Error) → F → Type 0
+CallsLead calls section bases f [] g = g ≡ f
+CallsLead {F} calls section bases f (last ∷ earlier) g =
+    (before : F) × CallsLead calls section bases f earlier before × IsCallFor calls section bases before last.0 last.1 g
+
+-- The CIE is one that a call with the section and the bases answered, in a state to which such calls lead from `first`,
+-- the closure as it was handed in. What it would answer in other states doesn't count.
+pub record IsAnswered {F S O C : Type 0} (calls : Mut F (Bor S × (Bor BaseAddresses × (O × Unit {0}))) (Result C Error)) (section : S) (bases : BaseAddresses) (first : F) (cie : C) : Type 0 where
+  pub earlier : List (O × Result C Error)
+  pub before : F
+  pub led : CallsLead calls section bases first earlier before
+  pub asked : O
+  pub after : F
+  pub call : IsCallFor calls section bases before asked (Ok cie) after
 
 -- From one state of the callback to another, reading an FDE answers this: its refusal, before anything is asked, or what
 -- the FDE and the CIE that was given mean.

@@ -9,6 +9,7 @@ pub mod Views
 pub mod EntryViews
 pub mod Walks
 pub mod GetCieCalls
+pub mod KeptCie
 pub mod AddressRow
 pub mod UnwindTables
 pub mod TableViews

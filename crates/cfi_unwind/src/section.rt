@@ -10,6 +10,7 @@ ghost use Rattle.cfi_unwind.specs.AddressRow.{IsRowOfFound};
 ghost use Rattle.cfi_unwind.specs.Fdes.{Covers, Fde};
 ghost use Rattle.cfi_unwind.specs.Entries.{cie_at, entries, partial_fde_at};
 ghost use Rattle.cfi_unwind.specs.Scan.{chosen_fde};
+ghost use Rattle.cfi_unwind.specs.KeptCie.{KeepsCie};
 ghost use Rattle.cfi_unwind.specs.GetCieCalls.{GetCieCall, IsAnswered, ReadsWith, Scans};
 ghost use Rattle.cfi_unwind.specs.Views.{cie_view, fde_view};
 ghost use Rattle.cfi_unwind.specs.EntryViews.{partial_of};
@@ -25,7 +26,7 @@ use crate::entry::{
 };
 use cfi_parts::pointer::BaseAddresses;
 use cfi_parts::unwind_section::{_UnwindSectionPrivate, UnwindOffset};
-use cfi_read_core::{Error, Reader, Result};
+use cfi_read_core::{Error, Reader, ReaderOffset, Result};
 use cfi_state::storage::UnwindContextStorage;
 use cfi_state::table::context::UnwindContext;
 use cfi_state::table::row::UnwindTableRow;
@@ -108,7 +109,7 @@ pub trait UnwindSection<R: Reader>: Copy + Debug + _UnwindSectionPrivate<R> {
             (GetCieCall F.FnMut (λ o. R.Offset.number (Self.Offset.offset o)) (cie_view R.position R.Offset.number) self.now bases.now)
             (section_of (Self.view self.now) bases.now) (partial_fde_at (section_of (Self.view self.now) bases.now) (R.Offset.number (Self.Offset.offset offset)))
             get_cie (map_ok (fde_view R.position R.Offset.number) result) last }
-        ensures cie { IfOk result (λ fde. IsAnswered F.FnMut self.now bases.now fde.cie) }
+        ensures cie { IfOk result (λ fde. IsAnswered F.FnMut self.now bases.now get_cie fde.cie) }
         ensures part { IfOk result (λ fde. IsOf (R.position fde.instructions) (Self.view self.now).position) }
     {
         let partial = self.partial_fde_from_offset(bases, offset)?;
@@ -133,7 +134,7 @@ pub trait UnwindSection<R: Reader>: Copy + Debug + _UnwindSectionPrivate<R> {
             (GetCieCall F.FnMut (λ o. R.Offset.number (Self.Offset.offset o)) (cie_view R.position R.Offset.number) self.now bases.now)
             (section_of (Self.view self.now) bases.now) address (entries (section_of (Self.view self.now) bases.now))
             get_cie (map_ok (fde_view R.position R.Offset.number) result) last }
-        ensures cie { IfOk result (λ fde. IsAnswered F.FnMut self.now bases.now fde.cie) }
+        ensures cie { IfOk result (λ fde. IsAnswered F.FnMut self.now bases.now get_cie fde.cie) }
         ensures part { IfOk result (λ fde. IsOf (R.position fde.instructions) (Self.view self.now).position) }
         ensures contains { IfOk result (λ fde. Covers (fde_view R.position R.Offset.number fde) address) }
     {
@@ -166,7 +167,7 @@ pub trait UnwindSection<R: Reader>: Copy + Debug + _UnwindSectionPrivate<R> {
         S: UnwindContextStorage<R::Offset>,
         F: FnMut(&Self, &BaseAddresses, Self::Offset) -> Result<CommonInformationEntry<R>>,
         requires callable { F.IsAlwaysCallable get_cie }
-        requires of_section { (cie : CieFields R R.Offset) → IsAnswered F.FnMut self.now bases.now cie → IsOf (R.position cie.initial_instructions) (Self.view self.now).position }
+        requires of_section { (cie : CieFields R R.Offset) → IsAnswered F.FnMut self.now bases.now get_cie cie → IsOf (R.position cie.initial_instructions) (Self.view self.now).position }
         ensures row { (found : Result Fde Error) × (last : F) × Scans
             (GetCieCall F.FnMut (λ o. R.Offset.number (Self.Offset.offset o)) (cie_view R.position R.Offset.number) self.now bases.now)
             (section_of (Self.view self.now) bases.now) address (entries (section_of (Self.view self.now) bases.now))
@@ -193,13 +194,39 @@ pub fn scan_for_fde<R: Reader, S: UnwindSection<R>>(
     ensures cie_part { IfOk result (λ fde. IsOf (R.position fde.cie.initial_instructions) (S.view section.now).position) }
     ensures contains { IfOk result (λ fde. Covers (fde_view R.position R.Offset.number fde) address) }
 {
-    let reader = *section.section();
+    let mut kept: Option<(u64, CommonInformationEntry<R>)> = None;
     section.fde_for_address(
         bases,
         address,
         |from: &S, bases: &BaseAddresses, offset: S::Offset| {
-            let _reader = reader;
-            from.cie_from_offset(bases, offset)
+            cie_kept_or_read(&mut kept, from, bases, offset)
         },
     )
+}
+
+/// The CIE at an offset of the section: the kept one where it was read there, else it is read, and kept.
+///
+/// FDEs in a row mostly point to one CIE, which is then read once.
+fn cie_kept_or_read<R: Reader, S: UnwindSection<R>>(
+    kept: &mut Option<(u64, CommonInformationEntry<R>)>,
+    section: &S,
+    bases: &BaseAddresses,
+    offset: S::Offset,
+) -> Result<CommonInformationEntry<R>>
+    ensures read { KeepsCie R.position R.Offset.number (S.view section.now) bases.now kept.old →
+        map_ok (cie_view R.position R.Offset.number) result ≡ cie_at (section_of (S.view section.now) bases.now) (R.Offset.number (S.Offset.offset offset)) }
+    ensures part { KeepsCie R.position R.Offset.number (S.view section.now) bases.now kept.old →
+        IfOk result (λ cie. IsOf (R.position cie.initial_instructions) (S.view section.now).position) }
+    ensures keeps { KeepsCie R.position R.Offset.number (S.view section.now) bases.now kept.old →
+        KeepsCie R.position R.Offset.number (S.view section.now) bases.now kept.new }
+{
+    let place = UnwindOffset::into(offset).into_u64();
+    if let Some((known, cie)) = *kept {
+        if known == place {
+            return Ok(cie);
+        }
+    }
+    let cie = section.cie_from_offset(bases, offset)?;
+    *kept = Some((place, cie));
+    Ok(cie)
 }

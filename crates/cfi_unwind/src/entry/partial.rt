@@ -124,7 +124,7 @@ impl<'bases, Section: UnwindSection<R>, R: Reader> PartialFrameDescriptionEntry<
             (GetCieCall F.FnMut (λ o. R.Offset.number (Section.Offset.offset o)) (cie_view R.position R.Offset.number) self.now.section self.now.bases.now)
             (section_of (Section.view self.now.section) self.now.bases.now) (Ok (partial_of R.position R.Offset.number self.now.found self.now.cie_offset))
             get_cie (map_ok (fde_view R.position R.Offset.number) result) last }
-        ensures cie { IfOk result (λ fde. IsAnswered F.FnMut self.now.section self.now.bases.now fde.cie) }
+        ensures cie { IfOk result (λ fde. IsAnswered F.FnMut self.now.section self.now.bases.now get_cie fde.cie) }
         ensures part { IfOk result (λ fde. IsOf (R.position fde.instructions) (Section.view self.now.section).position) }
     {
         let cie = get_cie(&self.section, self.bases, self.cie_offset())?;

@@ -117,7 +117,7 @@ where
         (section_view R.position frame.now bases.now) address
         (offset_of_pointer (R.position table.now.hdr.now.section).source.greatest table.now.hdr.now.eh_frame_ptr target)
         get_cie (map_ok (fde_view R.position R.Offset.number) result) last }
-    ensures cie { IfOk result (λ fde. IsAnswered F.FnMut frame.now bases.now fde.cie) }
+    ensures cie { IfOk result (λ fde. IsAnswered F.FnMut frame.now bases.now get_cie fde.cie) }
     ensures part { IfOk result (λ fde. IsOf (R.position fde.instructions) (R.position frame.now.section)) }
     ensures contains { IfOk result (λ fde. Covers (fde_view R.position R.Offset.number fde) address) }
 {
@@ -156,7 +156,7 @@ impl<R: Reader> EhHdrTable<'_, R> {
             (header_section_view R.position self.now.hdr.now bases.now) (table_view R.position self.now) self.now.hdr.now.eh_frame_ptr
             (section_view R.position frame.now bases.now) address
             get_cie (map_ok (fde_view R.position R.Offset.number) result) last }
-        ensures cie { IfOk result (λ fde. IsAnswered F.FnMut frame.now bases.now fde.cie) }
+        ensures cie { IfOk result (λ fde. IsAnswered F.FnMut frame.now bases.now get_cie fde.cie) }
         ensures part { IfOk result (λ fde. IsOf (R.position fde.instructions) (R.position frame.now.section)) }
         ensures contains { IfOk result (λ fde. Covers (fde_view R.position R.Offset.number fde) address) }
     {
@@ -185,7 +185,7 @@ impl<R: Reader> EhHdrTable<'_, R> {
             EhFrameOffset<R::Offset>,
         ) -> Result<CommonInformationEntry<R>>,
         requires callable { F.IsAlwaysCallable get_cie }
-        requires of_section { (cie : CieFields R R.Offset) → IsAnswered F.FnMut frame.now bases.now cie → IsOf (R.position cie.initial_instructions) (R.position frame.now.section) }
+        requires of_section { (cie : CieFields R R.Offset) → IsAnswered F.FnMut frame.now bases.now get_cie cie → IsOf (R.position cie.initial_instructions) (R.position frame.now.section) }
         ensures row { (found : Result Fde Refusal) × (last : F) × FindsByTable
             (GetCieCall F.FnMut (λ o. R.Offset.number o.0) (cie_view R.position R.Offset.number) frame.now bases.now)
             (header_section_view R.position self.now.hdr.now bases.now) (table_view R.position self.now) self.now.hdr.now.eh_frame_ptr

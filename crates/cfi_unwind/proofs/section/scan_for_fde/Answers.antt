@@ -1,12 +1,18 @@
-use Rattle.std.proofs.Common.{◌≡◌, ◌∙◌, rules, sym}
-use Rattle.cfi_read_core.specs.Readers.{map_ok}
-use Rattle.cfi_unwind.specs.Entries.{cie_at}
-use Rattle.cfi_unwind.specs.Sections.{section_of}
-use Rattle.cfi_unwind.specs.Views.{cie_view}
-use Rattle.cfi_unwind.proofs.ScanSteps.{scan_reads}
+use Rattle.std.proofs.Common.{◌≡◌, rules}
+use Rattle.cfi_parts.specs.CallFrameSections.{IsOf}
+use Rattle.cfi_unwind.specs.KeptCie.{KeepsCie}
+use Rattle.cfi_unwind.proofs.Answered.{chosen_by, ok_answered_by}
 use Rattle.cfi_unwind.proofs.section.scan_for_fde.Goals as goal
 
 pub returns-clause-scan : goal.returns-clause-scan
 returns-clause-scan g c =
-    let scan = c.fde_for_address.ensures.scan in
-    scan_reads _ (section_of (g.S._UnwindSectionPrivate.view c.args.section.now) c.args.bases.now) (λ f offset given h q. let read : map_ok (cie_view g.R.Reader.position g.R.Offset.ReaderOffset.number) q.answer ≡ cie_at (section_of (g.S._UnwindSectionPrivate.view q.shown_section.now) q.shown_bases.now) (g.R.Offset.ReaderOffset.number (g.S.Offset.UnwindOffset.offset q.asked)) = search rules in sym q.seen ∙ (rw (q.at_section, q.at_bases, q.at_offset) at read)) _ _ _ _ scan.1
+    chosen_by _ _ _ _ _ _ (λ kept. KeepsCie g.R.Reader.position g.R.Offset.ReaderOffset.number (g.S._UnwindSectionPrivate.view c.args.section.now) c.args.bases.now kept.0.now)
+        _ _ _ _ tt c.fde_for_address.ensures.scan.1
+        (λ f asked answer h holds call. let met = rw (call.at_section, call.at_bases) at call.call.met in (search rules, search rules))
+
+pub returns-clause-cie_part : goal.returns-clause-cie_part
+returns-clause-cie_part g c =
+    ok_answered_by _ _ _ (λ fde. fde.cie)
+        (λ kept. KeepsCie g.R.Reader.position g.R.Offset.ReaderOffset.number (g.S._UnwindSectionPrivate.view c.args.section.now) c.args.bases.now kept.0.now)
+        (λ cie. IsOf (g.R.Reader.position cie.initial_instructions) (g.S._UnwindSectionPrivate.view c.args.section.now).position) _ tt _ c.fde_for_address.ensures.cie
+        (λ f asked answer h holds call. let met = rw (call.at_section, call.at_bases) at call.call.met in (search rules, search rules))

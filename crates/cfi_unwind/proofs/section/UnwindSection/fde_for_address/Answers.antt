@@ -1,4 +1,4 @@
-use Rattle.std.proofs.Common.{◌≡◌, ◌∙◌, Err, Ok, ap, of_calls, refl, rules, sym}
+use Rattle.std.proofs.Common.{◌≡◌, ◌∙◌, [], ◌∷◌, Err, Ok, ap, of_calls, refl, rules, sym}
 use Rattle.cfi_read_core.specs.Readers.{map_ok}
 use Rattle.cfi_unwind.specs.Entries.{entries_left}
 use Rattle.cfi_unwind.specs.EntryViews.{partial_of}
@@ -6,6 +6,17 @@ use Rattle.cfi_unwind.specs.Sections.{section_of}
 use Rattle.cfi_unwind.specs.Views.{cie_view, fde_view}
 use Rattle.cfi_unwind.proofs.ScanSteps.{scans_at, scans_cie_at, scans_end, scans_found, scans_passed, scans_refusal, scans_refused_fde}
 use Rattle.cfi_unwind.proofs.section.UnwindSection.fde_for_address.Goals as goal
+
+pub loop-get_cie-init : goal.loop-get_cie-init
+loop-get_cie-init g c =
+    let start = c.entries-entries.ensures in
+    record {
+      callable = λ h. h;
+      led = ([], refl);
+      same_section = start.section;
+      same_bases = start.bases;
+      leads_back = search rules;
+    }
 
 pub returns-in_err-entry-clause-scan : goal.returns-in_err-entry-clause-scan
 returns-in_err-entry-clause-scan g c =
@@ -24,15 +35,11 @@ returns-in_err-cie-clause-scan g c =
       c.get_cie.new.self,
       c.loop-get_cie.invariant.leads_back _ _
           (scans_at _ _ _ met (ap (map_ok (fde_view g.R.Reader.position g.R.Offset.ReaderOffset.number)) gives) (scans_refused_fde _ section _ (partial_of g.R.Reader.position g.R.Offset.ReaderOffset.number c.in-Fde.partial.found c.in-Fde.partial.cie_offset) others (Err c.in_err-cie.field-0.0) _ _ (record {
-            shown_section = _;
-            shown_bases = _;
             asked = _;
             answer = c.get_cie.result;
-            at_section = refl;
-            at_bases = search;
             at_offset = search (ap g.R.Offset.ReaderOffset.number (g.met.Self.Offset.UnwindOffset.inverse _ _ c.from.ensures));
             seen = search (ap (map_ok (cie_view g.R.Reader.position g.R.Offset.ReaderOffset.number)) c.in_err-cie.was);
-            call = c.get_cie.ensures;
+            call = record { shown_section = _; shown_bases = _; at_section = refl; at_bases = search; call = c.get_cie.ensures };
           }) _ refl)),
     )
 
@@ -47,15 +54,11 @@ returns-in_err-fde-clause-scan g c =
       c.get_cie.new.self,
       c.loop-get_cie.invariant.leads_back _ _
           (scans_at _ _ _ met (ap (map_ok (fde_view g.R.Reader.position g.R.Offset.ReaderOffset.number)) gives) (scans_refused_fde _ section _ (partial_of g.R.Reader.position g.R.Offset.ReaderOffset.number c.in-Fde.partial.found c.in-Fde.partial.cie_offset) others (Ok (cie_view g.R.Reader.position g.R.Offset.ReaderOffset.number c.in_ok-cie.cie)) _ _ (record {
-            shown_section = _;
-            shown_bases = _;
             asked = _;
             answer = c.get_cie.result;
-            at_section = refl;
-            at_bases = refl;
             at_offset = ap g.R.Offset.ReaderOffset.number (g.met.Self.Offset.UnwindOffset.inverse _ _ c.from.ensures);
             seen = ap (map_ok (cie_view g.R.Reader.position g.R.Offset.ReaderOffset.number)) c.in_ok-cie.was;
-            call = c.get_cie.ensures;
+            call = record { shown_section = _; shown_bases = _; at_section = refl; at_bases = refl; call = c.get_cie.ensures };
           }) _ (sym read))),
     )
 
@@ -69,29 +72,23 @@ returns-then-contains-clause-scan g c =
       c.get_cie.new.self,
       c.loop-get_cie.invariant.leads_back _ _
           (scans_at _ _ _ met refl (scans_found _ section _ (partial_of g.R.Reader.position g.R.Offset.ReaderOffset.number c.in-Fde.partial.found c.in-Fde.partial.cie_offset) others (Ok (cie_view g.R.Reader.position g.R.Offset.ReaderOffset.number c.in_ok-cie.cie)) _ _ (record {
-            shown_section = _;
-            shown_bases = _;
             asked = _;
             answer = c.get_cie.result;
-            at_section = refl;
-            at_bases = refl;
             at_offset = ap g.R.Offset.ReaderOffset.number (g.met.Self.Offset.UnwindOffset.inverse _ _ c.from.ensures);
             seen = ap (map_ok (cie_view g.R.Reader.position g.R.Offset.ReaderOffset.number)) c.in_ok-cie.was;
-            call = c.get_cie.ensures;
+            call = record { shown_section = _; shown_bases = _; at_section = refl; at_bases = refl; call = c.get_cie.ensures };
           }) _ (sym read) (sym c.contains.ensures ∙ c.if-contains.true))),
     )
 
 pub returns-then-contains-clause-cie : goal.returns-then-contains-clause-cie
 returns-then-contains-clause-cie g c =
     rw c.in_ok-fde.ensures.cie (record {
+      earlier = c.loop-get_cie.invariant.led.0;
       before = _;
-      after = _;
-      shown_section = _;
-      shown_bases = _;
+      led = c.loop-get_cie.invariant.led.1;
       asked = _;
-      at_section = refl;
-      at_bases = refl;
-      call = c.in_ok-cie.ensures;
+      after = _;
+      call = record { shown_section = _; shown_bases = _; at_section = refl; at_bases = refl; call = c.in_ok-cie.ensures };
     })
 
 pub loop-get_cie-preserved-else-contains : goal.loop-get_cie-preserved-else-contains
@@ -103,19 +100,23 @@ loop-get_cie-preserved-else-contains g c =
     let read = rw (same_section_and_bases.0 ∙ c.loop-get_cie.invariant.same_section, same_section_and_bases.1 ∙ c.loop-get_cie.invariant.same_bases) at c.in_ok-fde.ensures.read in
     record {
       callable = search of_calls;
+      led = (
+        (c.from.result, c.get_cie.result) ∷ c.loop-get_cie.invariant.led.0,
+        (
+          _,
+          c.loop-get_cie.invariant.led.1,
+          record { shown_section = _; shown_bases = _; at_section = refl; at_bases = refl; call = c.get_cie.ensures },
+        ),
+      );
       same_section = c.next.ensures.section ∙ c.loop-get_cie.invariant.same_section;
       same_bases = c.next.ensures.bases ∙ c.loop-get_cie.invariant.same_bases;
       leads_back = λ r last behind. c.loop-get_cie.invariant.leads_back r last
           (scans_at _ _ _ met refl (scans_passed _ section _ (partial_of g.R.Reader.position g.R.Offset.ReaderOffset.number c.in-Fde.partial.found c.in-Fde.partial.cie_offset) others (Ok (cie_view g.R.Reader.position g.R.Offset.ReaderOffset.number c.in_ok-cie.cie)) _ _ (record {
-            shown_section = _;
-            shown_bases = _;
             asked = _;
             answer = c.get_cie.result;
-            at_section = refl;
-            at_bases = refl;
             at_offset = ap g.R.Offset.ReaderOffset.number (g.met.Self.Offset.UnwindOffset.inverse _ _ c.from.ensures);
             seen = ap (map_ok (cie_view g.R.Reader.position g.R.Offset.ReaderOffset.number)) c.in_ok-cie.was;
-            call = c.get_cie.ensures;
+            call = record { shown_section = _; shown_bases = _; at_section = refl; at_bases = refl; call = c.get_cie.ensures };
           }) _ r last (sym read) (sym c.contains.ensures ∙ c.if-contains.false) behind));
     }
 
@@ -126,6 +127,7 @@ loop-get_cie-preserved g c =
     let met = rw (c.next.ensures.section, c.next.ensures.bases, c.loop-get_cie.invariant.same_section, c.loop-get_cie.invariant.same_bases, c.in-Some.is, c.in_default-entry.is) at c.in_ok-entry.ensures.met in
     record {
       callable = c.loop-get_cie.invariant.callable;
+      led = c.loop-get_cie.invariant.led;
       same_section = c.next.ensures.section ∙ c.loop-get_cie.invariant.same_section;
       same_bases = c.next.ensures.bases ∙ c.loop-get_cie.invariant.same_bases;
       leads_back = λ r last behind. c.loop-get_cie.invariant.leads_back r last

@@ -3,7 +3,7 @@ use denote.Param.Always.{always_mut}
 use Rattle.cfi_unwind.specs.Sections.{section_of}
 use Rattle.cfi_unwind.specs.Entries.{entries, entries_left}
 use Rattle.cfi_unwind.specs.Walks.{items}
-use Rattle.cfi_unwind.specs.GetCieCalls.{GetCieCall, Scans}
+use Rattle.cfi_unwind.specs.GetCieCalls.{GetCieCall, CallsLead, Scans}
 use Rattle.cfi_unwind.specs.Views.{cie_view}
 use Rattle.cfi_unwind.proofs.section.UnwindSection.fde_for_address.Given as goal
 
@@ -15,6 +15,7 @@ invariant-loop-get_cie g l =
     let asks = GetCieCall g.F.FnMut (λ o. g.R.Offset.ReaderOffset.number (g.Self.Offset.UnwindOffset.offset o)) (cie_view position g.R.Offset.ReaderOffset.number) l.self l.bases in
     record {
       callable : always_mut g.F.FnMut l.initial.get_cie → always_mut g.F.FnMut l.get_cie;
+      led : (earlier : _) × CallsLead g.F.FnMut l.self l.bases l.initial.get_cie earlier l.get_cie;
       same_section : l.entries.section ≡ l.self;
       same_bases : l.entries.bases.now ≡ l.bases;
       leads_back : (r : _) (last : _) → Scans asks section l.address (entries_left section (position l.entries.input).place) l.get_cie r last → Scans asks section l.address (entries section) l.initial.get_cie r last;

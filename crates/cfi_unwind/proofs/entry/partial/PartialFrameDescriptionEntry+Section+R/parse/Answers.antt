@@ -1,4 +1,4 @@
-use Rattle.std.proofs.Common.{◌≡◌, Err, Ok, ap, refl, rules}
+use Rattle.std.proofs.Common.{◌≡◌, [], Err, Ok, ap, refl, rules}
 use Rattle.cfi_read_core.specs.Readers.{map_ok}
 use Rattle.cfi_unwind.specs.Views.{cie_view, fde_view}
 use Rattle.cfi_unwind.proofs.ScanSteps.{if_ok}
@@ -12,15 +12,11 @@ returns-in_err-cie-clause-read g c =
       (
         Err c.in_err-cie.field-0.0,
         record {
-          shown_section = _;
-          shown_bases = _;
           asked = _;
           answer = c.get_cie.result;
-          at_section = refl;
-          at_bases = refl;
           at_offset = ap number c.cie_offset.ensures;
           seen = cc c.in_err-cie.was;
-          call = c.get_cie.ensures;
+          call = record { shown_section = _; shown_bases = _; at_section = refl; at_bases = refl; call = c.get_cie.ensures };
         },
         ap (map_ok (fde_view g.R.Reader.position number)) gives,
       ),
@@ -33,15 +29,11 @@ returns-clause-read g c =
       (
         Ok (cie_view g.R.Reader.position number c.in_ok-cie.cie),
         record {
-          shown_section = _;
-          shown_bases = _;
           asked = _;
           answer = c.get_cie.result;
-          at_section = refl;
-          at_bases = refl;
           at_offset = ap number c.cie_offset.ensures;
           seen = ap (map_ok (cie_view g.R.Reader.position number)) c.in_ok-cie.was;
-          call = c.get_cie.ensures;
+          call = record { shown_section = _; shown_bases = _; at_section = refl; at_bases = refl; call = c.get_cie.ensures };
         },
         c.with_cie.ensures.read,
       ),
@@ -50,12 +42,10 @@ returns-clause-read g c =
 pub returns-clause-cie : goal.returns-clause-cie
 returns-clause-cie g c =
     if_ok c.with_cie.result (λ fde same. rw same (record {
+      earlier = [];
       before = _;
-      after = _;
-      shown_section = _;
-      shown_bases = _;
+      led = refl;
       asked = _;
-      at_section = refl;
-      at_bases = refl;
-      call = c.in_ok-cie.ensures;
+      after = _;
+      call = record { shown_section = _; shown_bases = _; at_section = refl; at_bases = refl; call = c.in_ok-cie.ensures };
     })) c.with_cie.ensures.cie

@@ -1,0 +1,14 @@
+-- A CIE that is kept with its offset, to be answered again.
+use Rattle.std.specs.Prelude.{◌≡◌, ℕ, Option, Ok, IfSome}
+use Rattle.cfi_read_core.specs.Reading.{Position}
+use Rattle.cfi_parts.specs.CallFrameSections.{SectionView, IsOf}
+use Rattle.cfi_parts.specs.declared.pointer.BaseAddresses.{BaseAddresses}
+use Rattle.cfi_unwind.specs.Sections.{section_of}
+use Rattle.cfi_unwind.specs.Entries.{cie_at}
+use Rattle.cfi_unwind.specs.Views.{cie_view}
+use Rattle.cfi_unwind.specs.declared.entry.cie.CieFields.{CieFields}
+
+-- the CIE that is kept, if there is one, is the section's at its offset
+abbrev pub KeepsCie : {R O : Type 0} → (R → Position) → (O → ℕ) → SectionView → BaseAddresses → Option (ℕ × CieFields R O) → Type 0
+KeepsCie position number frame bases kept =
+    IfSome kept (λ known. (Ok (cie_view position number known.1) ≡ cie_at (section_of frame bases) known.0) × IsOf (position known.1.initial_instructions) frame.position)
