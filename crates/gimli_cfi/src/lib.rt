@@ -1,8 +1,11 @@
 //! The call frame layer of gimli: from the bytes of `.debug_frame` and `.eh_frame` (DWARF 5 section 6.4; LSB Core,
 //! "Exception Frames") to the unwind row of an address, or a named refusal.
 //!
+//! All that a user needs is here, under gimli's names, as at gimli's root: `use gimli_cfi::{EhFrame, EndianSlice, ..}`.
 //! Each module has what stands under its name in gimli's `read::cfi`. The crates below have the bodies; what they
 //! need of each other alone isn't passed on.
+//!
+//! Version 0.1.0, after gimli 0.34.0.
 #![tactic(auto)]
 
 pub mod call_count;
@@ -13,3 +16,33 @@ pub mod pointer;
 pub mod section;
 pub mod storage;
 pub mod table;
+
+pub use call_count::CallCount;
+pub use cfi_read_core::dwarf_section::Expression;
+pub use cfi_read_core::{
+    BigEndian, DebugFrameOffset, DwCfa, DwEhPe, EhFrameOffset, Encoding, EndianSlice, Endianity,
+    Error, Format, LittleEndian, NarrowSlice, Reader, ReaderAddress, ReaderOffset, ReaderOffsetId,
+    Register, Result, RunTimeEndian, Section, SectionId, Vendor, constants,
+};
+pub use entry::{
+    Augmentation, CfiEntriesIter, CieOrFde, CommonInformationEntry, FrameDescriptionEntry,
+    PartialFrameDescriptionEntry,
+};
+pub use hdr::{
+    EhFrameHdr, EhHdrTable, EhHdrTableIter, ParsedEhFrameHdr, StartSource, TableStarts,
+    row_by_table, search_starts,
+};
+pub use instruction::{CallFrameInstruction, CallFrameInstructionIter, UnwindExpression};
+pub use pointer::{BaseAddresses, Pointer, SectionBaseAddresses};
+pub use section::{
+    _UnwindSectionPrivate, CieOffsetEncoding, DebugFrame, EhFrame, UnwindOffset, UnwindSection,
+    scan_for_fde,
+};
+pub use storage::{
+    ArrayLike, CapacityFull, CopyList, Refused, StoreGrowing, StoreOnHeap, UnwindContextStorage,
+    Why,
+};
+pub use table::{
+    CfaRule, RA_SIGN_STATE, RegisterRule, RegisterRuleIter, UnwindContext, UnwindTable,
+    UnwindTableRow, row_by_scan,
+};
