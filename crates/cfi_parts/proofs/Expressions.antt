@@ -1,11 +1,12 @@
 -- The bytes of an expression that was read in a section are there.
 use Rattle.std.proofs.Common.{◌≡◌, ◌≤◌, ◌<◌, ◌+◌, ◌-◌, ℕ, Bool, true, false, List, length, Result, Ok, Err, refl, sym, ap, ◌∙◌, subst, arith, nat_lt, length-take, drop}
-use Rattle.std.specs.Prelude.{nat_le, slice_index, if◌then◌else◌}
+use Rattle.std.specs.Prelude.{nat_le, if◌then◌else◌}
+use Rattle.std.specs.List.{slice_get}
 use borrow.Author.Tests.{ltb-true, leb-true, le-leb}
 use Rattle.cfi_read_core.specs.declared.error.Error.{Error}
 use Rattle.cfi_read_core.specs.declared.error.Error.TheVariants.{BadUnsignedLeb128, UnsupportedOffset}
 use Rattle.cfi_read_core.specs.Reading.{Read, Source, Position, Extent, Outcome, carry_on, ◌>>=◌, ◌>>◌, split, give, refuse, refuse_if, unexpected_eof, offset, rest}
-use Rattle.cfi_read_core.specs.Numbers.{continuation_count, leb128_bytes, leb128_sum, unsigned_leb128, offset_leb128}
+use Rattle.cfi_read_core.specs.Numbers.{continuation_count, is_bad_byte, leb128_bytes, leb128_sum, unsigned_leb128, offset_leb128}
 use Rattle.cfi_read_core.specs.Readers.{IsPartOf, extent_of}
 use Rattle.cfi_read_core.proofs.Onward.{onward_offset_leb128}
 use Rattle.cfi_parts.specs.declared.instruction.UnwindExpression.{UnwindExpression}
@@ -58,9 +59,9 @@ inside_leb128_bytes = record {
 inside_unsigned_leb128 : IsInside unsigned_leb128
 unfolding unsigned_leb128
 inside_unsigned_leb128 =
-    inside_bind leb128_bytes (λ bs. refuse_if (nat_lt 1 (slice_index bs 9)) BadUnsignedLeb128 >> give (leb128_sum bs)) inside_leb128_bytes (λ bs.
-    inside_bind (refuse_if (nat_lt 1 (slice_index bs 9)) BadUnsignedLeb128) (λ _. give (leb128_sum bs))
-    (inside_if (nat_lt 1 (slice_index bs 9)) (refuse BadUnsignedLeb128) (give (nat_lt 1 (slice_index bs 9))) (inside_refuse _) (inside_give _))
+    inside_bind leb128_bytes (λ bs. refuse_if (is_bad_byte (λ tenth. nat_lt 1 tenth) (slice_get bs 9)) BadUnsignedLeb128 >> give (leb128_sum bs)) inside_leb128_bytes (λ bs.
+    inside_bind (refuse_if (is_bad_byte (λ tenth. nat_lt 1 tenth) (slice_get bs 9)) BadUnsignedLeb128) (λ _. give (leb128_sum bs))
+    (inside_if (is_bad_byte (λ tenth. nat_lt 1 tenth) (slice_get bs 9)) (refuse BadUnsignedLeb128) (give (is_bad_byte (λ tenth. nat_lt 1 tenth) (slice_get bs 9))) (inside_refuse _) (inside_give _))
     (λ _. inside_give _))
 
 inside_offset_leb128 : IsInside offset_leb128

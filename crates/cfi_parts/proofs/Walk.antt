@@ -5,9 +5,9 @@ use Rattle.std.proofs.lemmas.Bool.{eqb-true, eqb-false, eq-eqb}
 use borrow.Author.Tests.{le-leb, lt-leb}
 use Rattle.cfi_read_core.specs.declared.error.Error.{Error}
 use Rattle.cfi_read_core.specs.Reading.{Source, Position, Outcome, with_first, no_values, readings_with}
-use Rattle.cfi_read_core.specs.Readers.{IsPartOf, extent_of, remaining, end_position}
+use Rattle.cfi_read_core.specs.Readers.{remaining, end_position}
 use Rattle.cfi_read_core.proofs.Repeating.{readings_from, one_turn}
-use Rattle.cfi_parts.specs.Instructions.{Instruction, InstructionContext, instruction, instructions}
+use Rattle.cfi_parts.specs.Instructions.{Instruction, InstructionContext, instruction}
 use Rattle.cfi_parts.specs.InstructionReaders.{instructions_left}
 use Rattle.cfi_parts.proofs.InstructionLemmas.{advances_instruction}
 
@@ -55,7 +55,3 @@ pub at_exhausted : (c : InstructionContext) (s t : Position) → t ≡ end_posit
 at_exhausted c s t e =
     ap (λ (u : Position). instructions_left (record { context = c; position = u })) e
     ∙ at_end c (end_position s) (eq-eqb (remaining (end_position s)) 0 (omega arith))
-
--- over a part of a section: the instructions in its extent
-pub left_in_part : (c : InstructionContext) (part outer : Position) → IsPartOf part outer → instructions_left (record { context = c; position = part }) ≡ instructions c (extent_of part) outer.source
-left_in_part c part outer e = ap (λ (s : Source). instructions c (extent_of part) s) e

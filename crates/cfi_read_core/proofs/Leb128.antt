@@ -1,14 +1,14 @@
 -- An unsigned LEB128 number, byte by byte.
 use Rattle.std.proofs.Common.{◌≡◌, ◌≤◌, ◌<◌, ◌+◌, ◌-◌, ◌*◌, ◌^◌, ◌%◌, ℕ, zero, suc, Bool, true, false, List, [], ◌∷◌, length, take, drop, get_or, Ok, Err, cond, refl, sym, ap, ◌∙◌, arith, add-zero, drop-cons, ⊎_elim}
 use Rattle.std.specs.Prelude.{nat_lt, nat_le, slice_index, slice_range, if◌then◌else◌}
-use Rattle.std.specs.List.{prefix_len}
+use Rattle.std.specs.List.{prefix_len, slice_get}
 use Rattle.std.proofs.lemmas.Bool.{cases_lt}
 use Rattle.std.proofs.Math.Nat.{pow-le-pow_right, pow-suc, mul-le-mul_right}
 use Rattle.cfi_read_core.specs.declared.error.Error.{Error}
 use Rattle.cfi_read_core.specs.declared.error.Error.TheVariants.{BadUnsignedLeb128}
 use Rattle.cfi_read_core.specs.Reading.{Read, Source, Outcome, unexpected_eof, rest, carry_on, refuse_if, refuse, give, ◌>>◌}
 use Rattle.std.specs.Int.{w8}
-use Rattle.cfi_read_core.specs.Numbers.{unsigned, number_of, leb128_sum, continuation_count, leb128_bytes, unsigned_leb128}
+use Rattle.cfi_read_core.specs.Numbers.{unsigned, number_of, leb128_sum, continuation_count, leb128_bytes, is_bad_byte, unsigned_leb128}
 use borrow.Author.Tests.{le-leb, lt-leb, lt-ltb, le-ltb}
 
 abbrev pub goes_on : ℕ → Bool
@@ -94,8 +94,17 @@ tenth_too_large w v b place bs h =
     last_at (nat_lt 1 b) 0 w v b place bs
     ∙ (ap (λ (large : Bool). given true large 0 (v + w * (b % 128)) place) (lt-ltb 1 b h) ∙ (rw next refl))
 
+-- a byte that isn't there counts as 0, which is no bad one
+pub bad_byte_at : (is_bad : ℕ → Bool) → is_bad 0 ≡ false → (bs : List ℕ) (i : ℕ) → is_bad_byte is_bad (slice_get bs i) ≡ is_bad (slice_index bs i)
+bad_byte_at is_bad zero_good [] i = sym zero_good
+bad_byte_at is_bad zero_good (b ∷ bs) zero = refl
+bad_byte_at is_bad zero_good (b ∷ bs) (suc i) = bad_byte_at is_bad zero_good bs i
+
+abbrev too_large : List ℕ → Bool
+too_large bs = is_bad_byte (λ tenth. nat_lt 1 tenth) (slice_get bs 9)
+
 abbrev finish : List ℕ → Read ℕ
-finish bs = refuse_if (nat_lt 1 (slice_index bs 9)) BadUnsignedLeb128 >> give (leb128_sum bs)
+finish bs = refuse_if (too_large bs) BadUnsignedLeb128 >> give (leb128_sum bs)
 
 finished : (source : Source) (place : ℕ) (bs : List ℕ) (large : Bool) → carry_on (λ _. give (leb128_sum bs)) source ((if large then refuse BadUnsignedLeb128 else give large) source place).value ((if large then refuse BadUnsignedLeb128 else give large) source place).place ≡
     (let o : Outcome ℕ = record { value = if large then Err BadUnsignedLeb128 else Ok (0 + 1 * leb128_sum bs); place = place } in o)
@@ -111,7 +120,10 @@ chosen false large n number place = refl
 by_test : (source : Source) (place n : ℕ) (bs : List ℕ) (t : Bool) →
     let o : Outcome (List ℕ) = if t then record { value = Ok bs; place = place + n + 1 } else record { value = Err (unexpected_eof (place + n)); place = place + n } in
     carry_on finish source o.value o.place ≡ given t (nat_lt 1 (slice_index bs 9)) n (0 + 1 * leb128_sum bs) place
-by_test source place n bs true = finished source (place + n + 1) bs (nat_lt 1 (slice_index bs 9)) ∙ sym (chosen true (nat_lt 1 (slice_index bs 9)) n (0 + 1 * leb128_sum bs) place)
+by_test source place n bs true =
+    finished source (place + n + 1) bs (too_large bs)
+    ∙ sym (chosen true (too_large bs) n (0 + 1 * leb128_sum bs) place)
+    ∙ ap (λ (large : Bool). given true large n (0 + 1 * leb128_sum bs) place) (bad_byte_at (λ tenth. nat_lt 1 tenth) refl bs 9)
 by_test source place n bs false = refl
 
 pub whole_number : (source : Source) (place : ℕ) → unsigned_leb128 source place ≡ left_gives 9 1 0 (rest source place) place

@@ -1,12 +1,12 @@
 -- Reads that never go back.
 use Rattle.std.proofs.Common.{◌≤◌, ◌+◌, ◌-◌, ℕ, Bool, true, false, not, ◌||◌, List, [], ◌∷◌, length, Option, Some, None, Result, Ok, Err, arith, nat_lt}
-use Rattle.std.specs.Prelude.{nat_le, ◌==◌, slice_index, if◌then◌else◌}
-use Rattle.std.specs.List.{AllByRecursion}
+use Rattle.std.specs.Prelude.{nat_le, ◌==◌, if◌then◌else◌}
+use Rattle.std.specs.List.{AllByRecursion, slice_get}
 use Rattle.std.specs.Int.{Width, byte_len, cast_signed}
 use Rattle.cfi_read_core.specs.declared.error.Error.{Error}
 use Rattle.cfi_read_core.specs.declared.error.Error.TheVariants.{BadUnsignedLeb128, BadSignedLeb128}
 use Rattle.cfi_read_core.specs.Reading.{Read, Source, Outcome, Extent, carry_on, ◌>>=◌, ◌>>◌, give, refuse, of_result, refuse_if, here, split, bytes, within, offset, rest, chosen_from}
-use Rattle.cfi_read_core.specs.Numbers.{unsigned, signed, continuation_count, leb128_bytes, leb128_sum, signed_leb128_sum, unsigned_leb128, signed_leb128, offset_leb128, register_of, register_leb128, length_in, initial_length}
+use Rattle.cfi_read_core.specs.Numbers.{unsigned, signed, continuation_count, leb128_bytes, is_bad_byte, leb128_sum, signed_leb128_sum, unsigned_leb128, signed_leb128, offset_leb128, register_of, register_leb128, length_in, initial_length}
 use Rattle.cfi_read_core.specs.declared.common.Format.{Format}
 use Rattle.cfi_read_core.specs.declared.common.Format.TheVariants.{Dwarf32, Dwarf64}
 use Rattle.cfi_read_core.specs.Addresses.{address, address_width, of_width}
@@ -91,14 +91,14 @@ onward_leb128_bytes = record {
 pub onward_unsigned_leb128 : IsOnward unsigned_leb128
 unfolding unsigned_leb128
 onward_unsigned_leb128 =
-    onward_bind leb128_bytes (λ bs. refuse_if (nat_lt 1 (slice_index bs 9)) BadUnsignedLeb128 >> give (leb128_sum bs)) onward_leb128_bytes (λ bs.
-    onward_bind (refuse_if (nat_lt 1 (slice_index bs 9)) BadUnsignedLeb128) (λ _. give (leb128_sum bs)) (onward_refuse_if _ _) (λ _. onward_give _))
+    onward_bind leb128_bytes (λ bs. refuse_if (is_bad_byte (λ tenth. nat_lt 1 tenth) (slice_get bs 9)) BadUnsignedLeb128 >> give (leb128_sum bs)) onward_leb128_bytes (λ bs.
+    onward_bind (refuse_if (is_bad_byte (λ tenth. nat_lt 1 tenth) (slice_get bs 9)) BadUnsignedLeb128) (λ _. give (leb128_sum bs)) (onward_refuse_if _ _) (λ _. onward_give _))
 
 pub onward_signed_leb128 : IsOnward signed_leb128
 unfolding signed_leb128
 onward_signed_leb128 =
-    onward_bind leb128_bytes (λ bs. refuse_if (not (slice_index bs 9 == 0 || slice_index bs 9 == 0x7f)) BadSignedLeb128 >> give (signed_leb128_sum bs)) onward_leb128_bytes (λ bs.
-    onward_bind (refuse_if (not (slice_index bs 9 == 0 || slice_index bs 9 == 0x7f)) BadSignedLeb128) (λ _. give (signed_leb128_sum bs)) (onward_refuse_if _ _) (λ _. onward_give _))
+    onward_bind leb128_bytes (λ bs. refuse_if (is_bad_byte (λ tenth. not (tenth == 0 || tenth == 0x7f)) (slice_get bs 9)) BadSignedLeb128 >> give (signed_leb128_sum bs)) onward_leb128_bytes (λ bs.
+    onward_bind (refuse_if (is_bad_byte (λ tenth. not (tenth == 0 || tenth == 0x7f)) (slice_get bs 9)) BadSignedLeb128) (λ _. give (signed_leb128_sum bs)) (onward_refuse_if _ _) (λ _. onward_give _))
 
 pub onward_offset_leb128 : IsOnward offset_leb128
 unfolding offset_leb128

@@ -1,16 +1,16 @@
 -- A signed LEB128 number, byte by byte.
-use Rattle.std.proofs.Common.{◌≡◌, ◌≤◌, ◌<◌, ◌+◌, ◌-◌, ◌*◌, ◌^◌, ◌%◌, ℕ, zero, suc, ℤ, pos, negsuc, Bool, true, false, not, ◌||◌, List, [], ◌∷◌, length, take, Ok, Err, Result, cond, refl, sym, ap, ◌∙◌, arith, ⊎_elim, ◌⊎◌, ne_eqb, subst}
+use Rattle.std.proofs.Common.{◌≡◌, ◌≤◌, ◌<◌, ◌+◌, ◌-◌, ◌*◌, ◌^◌, ◌%◌, ℕ, zero, suc, ℤ, pos, negsuc, Bool, true, false, not, ◌||◌, List, [], ◌∷◌, length, take, Ok, Err, cond, refl, sym, ap, ◌∙◌, arith, ⊎_elim, ◌⊎◌, ne_eqb, subst}
 use Rattle.std.specs.Prelude.{◌-ℤ◌, nat_lt, nat_le, slice_index, ◌==◌, if◌then◌else◌}
 use Rattle.std.specs.Int.{w8, w64, cast_signed, cast_unsigned}
-use Rattle.std.specs.List.{prefix_len}
-use Rattle.std.proofs.lemmas.Bool.{lt-ltb, le-ltb, cases_lt}
+use Rattle.std.specs.List.{prefix_len, slice_get}
+use Rattle.std.proofs.lemmas.Bool.{lt-ltb, le-ltb}
 use Rattle.std.proofs.Math.Nat.{pow-suc, pow-le-pow_right, mul-le-mul_right}
 use borrow.Author.Tests.{le-leb, lt-leb}
 use Rattle.cfi_read_core.specs.declared.error.Error.{Error}
 use Rattle.cfi_read_core.specs.declared.error.Error.TheVariants.{BadSignedLeb128}
 use Rattle.cfi_read_core.specs.Reading.{Read, Source, Outcome, unexpected_eof, rest, carry_on, refuse_if, refuse, give, ◌>>◌}
-use Rattle.cfi_read_core.specs.Numbers.{unsigned, leb128_sum, continuation_count, leb128_bytes, is_below_zero, number_by, signed_leb128_sum, signed_leb128}
-use Rattle.cfi_read_core.proofs.Leb128.{goes_on, same_test, byte_there, no_byte_there}
+use Rattle.cfi_read_core.specs.Numbers.{unsigned, leb128_sum, continuation_count, leb128_bytes, is_bad_byte, is_below_zero, number_by, signed_leb128_sum, signed_leb128}
+use Rattle.cfi_read_core.proofs.Leb128.{bad_byte_at, goes_on, same_test, byte_there, no_byte_there}
 
 abbrev pub is_bad : ℕ → Bool
 is_bad tenth = not (tenth == 0 || tenth == 0x7f)
@@ -39,10 +39,6 @@ shifted : (t bad below : Bool) (n number power place : ℕ) → given t bad belo
 shifted true true below n number power place = ap (λ (p : ℕ). let o : Outcome ℤ = record { value = Err BadSignedLeb128; place = p } in o) (omega arith)
 shifted true false below n number power place = ap (λ (p : ℕ). let o : Outcome ℤ = record { value = Ok (number_by below number power); place = p } in o) (omega arith)
 shifted false bad below n number power place = ap (λ (p : ℕ). let o : Outcome ℤ = record { value = Err (unexpected_eof p); place = p } in o) (omega arith)
-
--- without a last byte the sign doesn't count
-sign_of_none : (bad below below' : Bool) (n number power place : ℕ) → given false bad below n number power place ≡ given false bad below' n number power place
-sign_of_none bad below below' n number power place = refl
 
 -- the sign is the last byte's
 same_sign : (b c : ℕ) (ds : List ℕ) → is_below_zero (b ∷ c ∷ ds) ≡ is_below_zero (c ∷ ds)
@@ -117,7 +113,7 @@ tenth_bad w v b place bs bad =
 -- ---- the whole number
 
 abbrev finish : List ℕ → Read ℤ
-finish bs = refuse_if (not (slice_index bs 9 == 0 || slice_index bs 9 == 0x7f)) BadSignedLeb128 >> give (signed_leb128_sum bs)
+finish bs = refuse_if (is_bad_byte (λ tenth. is_bad tenth) (slice_get bs 9)) BadSignedLeb128 >> give (signed_leb128_sum bs)
 
 summed : (below : Bool) (bs : List ℕ) → number_by below (leb128_sum bs) (128 ^ length bs) ≡ number_by below (0 + 1 * leb128_sum bs) (1 * 128 ^ length bs)
 summed true bs =
@@ -135,7 +131,9 @@ finished source place n bs false = ap (λ (x : ℤ). let o : Outcome ℤ = recor
 by_test : (source : Source) (place n : ℕ) (bs : List ℕ) (t : Bool) →
     let o : Outcome (List ℕ) = if t then record { value = Ok bs; place = place + n + 1 } else record { value = Err (unexpected_eof (place + n)); place = place + n } in
     carry_on finish source o.value o.place ≡ given t (is_bad (slice_index bs 9)) (is_below_zero bs) n (0 + 1 * leb128_sum bs) (1 * 128 ^ length bs) place
-by_test source place n bs true = finished source place n bs (is_bad (slice_index bs 9))
+by_test source place n bs true =
+    finished source place n bs (is_bad_byte (λ tenth. is_bad tenth) (slice_get bs 9))
+    ∙ ap (λ (bad : Bool). given true bad (is_below_zero bs) n (0 + 1 * leb128_sum bs) (1 * 128 ^ length bs) place) (bad_byte_at (λ tenth. is_bad tenth) refl bs 9)
 by_test source place n bs false = refl
 
 pub whole_number : (source : Source) (place : ℕ) → signed_leb128 source place ≡ left_gives 9 1 0 (rest source place) place
@@ -195,13 +193,6 @@ module _ (source : Source) (inside : source.last ≤ length source.whole) (place
 minus : (a b : ℕ) → a < b → pos a -ℤ pos b ≡ negsuc (b - suc a)
 minus a zero h = absurd (omega arith)
 minus a (suc k) h = let less : nat_lt a (suc k) ≡ true = lt-ltb _ _ h in rw less refl
-
--- a number below its weight, less the weight
-pub below_zero : (v w : ℕ) → v < w → w ≤ 9223372036854775808 → cast_signed w64 (18446744073709551615 - (w - 1 - v)) ≡ pos v -ℤ pos w
-below_zero v w h top =
-    let high : nat_lt (18446744073709551615 - (w - 1 - v)) 9223372036854775808 ≡ false = le-ltb _ _ (omega arith) in
-    let same : 18446744073709551616 - suc (18446744073709551615 - (w - 1 - v)) ≡ w - suc v = omega arith in
-    rw (high, minus v w h) (ap negsuc same)
 
 -- it fits 64 bits
 pub signed_bits : (below : Bool) (v w : ℕ) (z : ℤ) → v < w → w ≤ 9223372036854775808 → z ≡ number_by below v w → cast_signed w64 (cast_unsigned w64 z) ≡ number_by below v w

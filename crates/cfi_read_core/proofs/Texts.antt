@@ -16,10 +16,6 @@ found : (t : Bool) (m n : ℕ) (e : Error) → ok_or (cond t (Some m) None) e �
 found true m n e h = (refl, cc)
 found false m n e h = absurd (cc)
 
-not_found : (t : Bool) (m : ℕ) (e r : Error) → ok_or (cond t (Some m) None) e ≡ Err r → (t ≡ false) × (e ≡ r)
-not_found true m e r h = absurd (cc)
-not_found false m e r h = (refl, cc)
-
 abbrev answered : Bool → ℕ → Source → ℕ → Outcome (List ℕ)
 answered t n source place =
     if t then record { value = Ok (take n (rest source place)); place = place + n + 1 } else record { value = Err (unexpected_eof place); place = place }
@@ -36,14 +32,6 @@ text_there s n h =
       ap (λ (t : Bool). answered t m s.source s.place) both.0 ∙ ap (λ (k : ℕ). answered true k s.source s.place) both.1,
       subst (λ (k : ℕ). k < length (bytes_left s)) both.1 (ltb-true m (length (bytes_left s)) both.0),
     )
-
-pub text_missing : (s : Position) (e : Error) → find_byte 0 s ≡ Err e → text s.source s.place ≡ record { value = Err e; place = s.place }
-unfolding text
-text_missing s e h =
-    let m = zero_at s.source s.place in
-    let both = not_found (nat_lt m (length (bytes_left s))) m (unexpected_eof s.place) e h in
-    ap (λ (t : Bool). answered t m s.source s.place) both.0
-    ∙ ap (λ (r : Error). let o : Outcome (List ℕ) = record { value = Err r; place = s.place } in o) both.1
 
 -- ---- a split
 

@@ -1,5 +1,5 @@
 -- Addresses of 1, 2, 4 or 8 bytes (DWARF 5 section 7.3).
-use Rattle.std.specs.Prelude.{◌≡◌, ℕ, ◌+◌, ◌*◌, ◌^◌, ◌%◌, ◌<◌, ◌⊎◌, Bool, true, false, ◌||◌, nat_lt, Option, Some, None, Result, Ok, Err, ◌==◌, if◌then◌else◌}
+use Rattle.std.specs.Prelude.{◌≡◌, ℕ, ◌+◌, ◌*◌, ◌^◌, ◌%◌, ◌⊎◌, Bool, true, false, ◌||◌, nat_lt, Option, Some, None, Result, Ok, Err, ◌==◌, if◌then◌else◌}
 use Rattle.std.specs.Int.{Width, w8, w16, w32, w64}
 use Rattle.std.proofs.Common.{inl, inr}
 use Rattle.std.proofs.lemmas.Bool.{eqb-true}
@@ -12,13 +12,13 @@ use Rattle.cfi_read_core.specs.Numbers.{unsigned}
 abbrev pub wrap : ℕ → ℕ → ℕ → ℕ
 wrap a b size = (a + b) % 2 ^ (8 * size)
 
--- the sum is an address of the size
-abbrev pub Fits : ℕ → ℕ → ℕ → Type 0
-Fits a b size = a + b < 2 ^ (8 * size)
+-- whether a number is an address of the size
+abbrev pub fits : ℕ → ℕ → Bool
+fits size n = nat_lt n (2 ^ (8 * size))
 
 -- the sum, where it is an address of the size
 abbrev pub checked_sum : ℕ → ℕ → ℕ → Result ℕ Error
-checked_sum a b size = if nat_lt (a + b) (2 ^ (8 * size)) then Ok (a + b) else Err AddressOverflow
+checked_sum a b size = if fits size (a + b) then Ok (a + b) else Err AddressOverflow
 
 -- the sizes, in bytes, that an address may have
 abbrev pub IsAddressSize : ℕ → Type 0

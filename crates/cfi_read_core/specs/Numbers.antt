@@ -1,6 +1,6 @@
 -- Numbers of a fixed width, LEB128 numbers, initial lengths and texts at a place (DWARF 5 sections 7.4 to 7.6).
-use Rattle.std.specs.Prelude.{ℕ, ◌+◌, ◌-◌, ◌*◌, ◌^◌, ◌%◌, ℤ, pos, ◌-ℤ◌, Bool, not, ◌||◌, List, [], ◌∷◌, length, take, Result, Ok, Err, nat_lt, nat_le, ◌==◌, slice_index, if◌then◌else◌}
-use Rattle.std.specs.List.{prefix_len}
+use Rattle.std.specs.Prelude.{ℕ, ◌+◌, ◌-◌, ◌*◌, ◌^◌, ◌%◌, ℤ, pos, ◌-ℤ◌, Bool, false, not, ◌||◌, List, [], ◌∷◌, length, take, Result, Ok, Err, nat_lt, nat_le, ◌==◌, slice_index, Option, Some, None, if◌then◌else◌}
+use Rattle.std.specs.List.{prefix_len, slice_get}
 use Rattle.std.specs.Int.{Width, w32, w64, byte_len, from_be_bytes, from_le_bytes, cast_signed}
 use Rattle.cfi_read_core.specs.declared.common.Format.{Format}
 use Rattle.cfi_read_core.specs.declared.common.Format.TheVariants.{Dwarf32, Dwarf64}
@@ -45,11 +45,16 @@ leb128_bytes source place =
     then record { value = Ok (take (n + 1) left); place = place + n + 1 }
     else record { value = Err (unexpected_eof (place + n)); place = place + n }
 
+-- whether a byte that may be there is a bad one
+abbrev pub is_bad_byte : (ℕ → Bool) → Option ℕ → Bool
+is_bad_byte is_bad (Some byte) = is_bad byte
+is_bad_byte is_bad None = false
+
 -- a tenth byte has room for one bit
 unfoldable pub unsigned_leb128 : Read ℕ
 unsigned_leb128 = do
   bs ← leb128_bytes
-  refuse_if (nat_lt 1 (slice_index bs 9)) BadUnsignedLeb128
+  refuse_if (is_bad_byte (λ tenth. nat_lt 1 tenth) (slice_get bs 9)) BadUnsignedLeb128
   give (leb128_sum bs)
 
 -- bit 6 of the last byte is the sign
@@ -67,7 +72,7 @@ signed_leb128_sum bs = number_by (is_below_zero bs) (leb128_sum bs) (128 ^ lengt
 unfoldable pub signed_leb128 : Read ℤ
 signed_leb128 = do
   bs ← leb128_bytes
-  refuse_if (not (slice_index bs 9 == 0 || slice_index bs 9 == 0x7f)) BadSignedLeb128
+  refuse_if (is_bad_byte (λ tenth. not (tenth == 0 || tenth == 0x7f)) (slice_get bs 9)) BadSignedLeb128
   give (signed_leb128_sum bs)
 
 -- a LEB128 number that has to be an offset

@@ -2,13 +2,13 @@
 ghost use Rattle.std.specs.Prelude.{◌≡◌, ℕ, ◌-◌, ◌≤◌, ◌==◌, IfOk};
 ghost use Rattle.std.specs.Int.{w8, w16, w32, w64};
 ghost use Rattle.cfi_read_core.specs.Reading.{Position, skip, split};
-ghost use Rattle.cfi_read_core.specs.Numbers.{InitialLength, unsigned, signed, unsigned_leb128, signed_leb128, initial_length, text};
+ghost use Rattle.cfi_read_core.specs.Numbers.{InitialLength, unsigned, signed, unsigned_leb128, signed_leb128, offset_leb128, register_leb128, initial_length, text};
 ghost use Rattle.cfi_read_core.specs.Addresses.{address, address_size};
 ghost use Rattle.cfi_read_core.specs.Readers.{IsSound, IsPartOf, Reads, bytes_left, end_position, extent_of, find_byte, remaining, map_ok, same_reader};
 ghost use Rattle.std.specs.Prelude.{◌<◌};
 ghost use Rattle.cfi_read_core.specs.Numbers.{number_by};
 
-use crate::common::Format;
+use crate::common::{Format, Register};
 use crate::endianity::Endianity;
 use crate::error::{Error, Result};
 use crate::offset::ReaderOffset;
@@ -225,6 +225,24 @@ pub trait Reader: Copy + Debug + Eq {
 
     /// The greatest offset is the offset type's.
     ghost greatest: { (r : Self) → (position r).source.greatest ≡ Self.Offset.GREATEST };
+}
+
+/// A LEB128 number that has to be an offset. One that does not fit the offset type is refused with
+/// `UnsupportedOffset`, and counts as read.
+#[tactic(auto, unfolding(crate::specs::Numbers::offset_leb128))]
+pub fn read_offset<R: Reader>(input: &mut R) -> Result<R::Offset>
+    ensures { Reads R.Offset.number offset_leb128 (R.position input.old) result (R.position input.new) }
+{
+    R::Offset::from_u64(input.read_uleb128()?)
+}
+
+/// A LEB128 number that has to be a register's. One above 65535 is refused with `UnsupportedRegister`, and counts as
+/// read.
+#[tactic(auto, unfolding(crate::specs::Numbers::register_leb128))]
+pub fn read_register<R: Reader>(input: &mut R) -> Result<Register>
+    ensures { Reads (λ x. x) register_leb128 (R.position input.old) result (R.position input.new) }
+{
+    Register::from_u64(input.read_uleb128()?)
 }
 
 /// The number of these bits below the weight, less the weight where the sign is set.

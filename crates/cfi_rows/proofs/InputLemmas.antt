@@ -1,11 +1,11 @@
 -- What is read of the input.
-use Rattle.std.proofs.Common.{◌≡◌, ◌≢◌, ◌⊎◌, inl, inr, ℕ, ◌+◌, ◌<◌, ◌≤◌, Bool, true, false, List, length, take, drop, get_or, Option, Some, None, Result, Ok, Err, refl, sym, ap, subst, ◌∙◌, arith, add-one, nat_lt}
+use Rattle.std.proofs.Common.{◌≡◌, ◌≢◌, ◌⊎◌, inl, inr, ℕ, ◌+◌, ◌<◌, ◌≤◌, Bool, true, false, List, length, take, drop, get_or, Result, Err, refl, sym, ap, ◌∙◌, arith, add-one, nat_lt}
 use Rattle.std.proofs.Math.Seq.{drop-cons}
 use Rattle.std.proofs.lemmas.Bool.Decides.{nat_tests}
 use Rattle.std.proofs.lemmas.List.{drop_all, get_or-take, length-take-le}
 use Rattle.std.proofs.lemmas.List.Sums.{passes_at_first, position_or_len_is}
 use Rattle.std.specs.List.{All, after_first, position_or_len}
-use Rattle.cfi_rows.specs.Input.{Bytes, decoded_bytes, is_line_feed, with_header, IsReading}
+use Rattle.cfi_rows.specs.Input.{decoded_bytes, is_line_feed}
 use Rattle.std.specs.Result.{IsErr}
 use Rattle.hex.specs.declared.error.FromHexError.{FromHexError}
 use Rattle.hex.specs.declared.error.FromHexError.TheVariants as hex
@@ -49,25 +49,3 @@ line_end xs n le before found =
     (λ h. let feed : get_or xs n 0 ≡ 10 = found h in grind (arith, nat_tests))
 
 -- ---- what comes of the parts
-
-none_first : (section header : Result (List ℕ) FromHexError) → IsErr section → with_header section header ≡ None
-none_first (Ok bytes) header h = cc
-none_first (Err e) header h = refl
-
-none_second : (section header : Result (List ℕ) FromHexError) → IsErr header → with_header section header ≡ None
-none_second (Ok bytes) (Ok more) h = cc
-none_second (Ok bytes) (Err e) h = refl
-none_second (Err e) header h = refl
-
-not_read : (meant : Option Bytes) (d : Result (List ℕ) FromHexError) (e : InputError) → (IsErr d → meant ≡ None) → (e ≡ errors.OutOfMemory) ⊎ ((e ≡ errors.NotHexadecimal) × IsErr d) → IsReading meant (Err e)
-not_read meant d e none (inl memory) = subst (λ refusal. IsReading meant (Err refusal)) (sym memory) tt
-not_read meant d e none (inr (text, bad)) = subst (λ refusal. IsReading meant (Err refusal)) (sym text) (none bad)
-
-pub section_refused : (section header : Result (List ℕ) FromHexError) (e : InputError) → (e ≡ errors.OutOfMemory) ⊎ ((e ≡ errors.NotHexadecimal) × IsErr section) → IsReading (with_header section header) (Err e)
-section_refused section header e why = not_read (with_header section header) section e (none_first section header) why
-
-pub header_refused : (section header : Result (List ℕ) FromHexError) (e : InputError) → (e ≡ errors.OutOfMemory) ⊎ ((e ≡ errors.NotHexadecimal) × IsErr header) → IsReading (with_header section header) (Err e)
-header_refused section header e why = not_read (with_header section header) header e (none_second section header) why
-
-pub both_read : (section header : Result (List ℕ) FromHexError) (first second : List ℕ) → section ≡ Ok first → header ≡ Ok second → with_header section header ≡ Some (record { section = first; header = second })
-both_read section header first second p q = rw (p, q) refl

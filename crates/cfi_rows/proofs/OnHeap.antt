@@ -1,10 +1,10 @@
 -- Over the fixed storage the answer is that of the bytes alone.
-use Rattle.std.proofs.Common.{◌≡◌, ℕ, Some, None, Result, refl, ap, subst, ◌∙◌}
+use Rattle.std.proofs.Common.{◌≡◌, ℕ, Some, Result, refl, subst}
 use Rattle.cfi_read_core.specs.declared.error.Error.{Error}
 use Rattle.cfi_state.specs.Row.{Row}
 use Rattle.cfi_unwind.specs.Fdes.{Fde}
 use Rattle.cfi_unwind.specs.Scan.{answer_by}
-use Rattle.cfi_unwind.specs.AddressRow.{row_of_fde, row_by_scan}
+use Rattle.cfi_unwind.specs.AddressRow.{row_of_fde}
 use Rattle.cfi_rows.specs.declared.words.Request.{Request}
 use Rattle.cfi_rows.specs.declared.words.Storage.TheVariants.{OnHeap}
 use Rattle.cfi_rows.specs.Input.{Bytes}
@@ -15,9 +15,3 @@ pub row_of_found : (r : Request) (bytes : Bytes) (answer : Result (Row ℕ) Erro
 row_of_found r bytes answer e is =
     let so : IsAnswer (room_of OnHeap) r bytes answer = subst (λ storage. IsAnswer (room_of storage) r bytes answer) e is in
     (so.found, so.finds, so.answers.fixed (refl, refl, refl))
-
-pub row_without_header : (r : Request) (bytes : Bytes) (answer : Result (Row ℕ) Error) → r.storage ≡ OnHeap → r.header ≡ None → answers r bytes answer
-    → answer ≡ row_by_scan (Some 192) (Some 4) (section_of r bytes.section) r.address
-row_without_header r bytes answer e none is =
-    let so = row_of_found r bytes answer e is in
-    so.2 ∙ ap (answer_by (row_of_fde (Some 192) (Some 4) (section_of r bytes.section) r.address)) (subst (λ h. FoundByBase r bytes h so.0) none so.1)

@@ -1,5 +1,5 @@
 -- What a run prints.
-use Rattle.std.proofs.Common.{◌≡◌, ◌⊎◌, inl, inr, ◌≤◌, ◌<◌, ℕ, List, [], ◌++◌, get_or, Option, Some, None, Result, Ok, Err, refl, sym, ◌∙◌, ap, subst, arith, append-nil, append_assoc, IfSome}
+use Rattle.std.proofs.Common.{◌≡◌, ◌⊎◌, inl, inr, ◌≤◌, ◌<◌, ℕ, List, [], ◌++◌, get_or, Option, Some, None, Result, Ok, Err, refl, sym, ◌∙◌, ap, subst, arith, append-nil, IfSome}
 use Rattle.std.specs.Option.{IsSome}
 use Rattle.std.specs.Io.KnownBytes.{Appends, Keeps}
 use Rattle.cfi_read_core.specs.declared.error.Error.{Error}
@@ -10,7 +10,7 @@ use Rattle.cfi_rows.specs.ProgramOutput.{RequestAnswer, IsOwed, IsRun, LineOfInp
 use Rattle.cfi_rows.specs.Input.{Bytes, bytes_by}
 use Rattle.cfi_rows.specs.Lines.{Line, answer_line, wrong_words, wrong_hexadecimal, wrong_input}
 use Rattle.cfi_rows.specs.CommandLine.{CanBeAnswered, request_of_words}
-use Rattle.cfi_rows.specs.Written.{IsBeginning, Writes, Prints}
+use Rattle.cfi_rows.specs.Written.{IsBeginning, Prints}
 use Rattle.cfi_rows.proofs.WrittenLemmas.{appends_then, keeps_is}
 
 -- ---- the line that is owed
@@ -116,18 +116,6 @@ is_run answers words input written status printed owed (rest, begins) whole high
   words_wrong = λ _ e. words_wrong answers (request_of_words words) input printed owed (code_at 0 written rest wrong_words.text printed begins e) (code_at 6 written rest wrong_words.text printed begins e);
   hexadecimal_wrong = λ _ e. hexadecimal_wrong answers (request_of_words words) input printed owed (code_at 0 written rest wrong_hexadecimal.text printed begins e) (code_at 6 written rest wrong_hexadecimal.text printed begins e);
 }
-
--- what was written, and that it begins the line
-front_of : {E : Type 0} (old mid new : Option (List ℕ)) (result : Result ℕ E) (text : List ℕ) → Keeps mid new → Writes old mid result text →
-    (written : List ℕ) × Appends old new written × IsBeginning written text
-front_of old mid new (Ok status) text keeps writes = (text ++ [], appends_then old mid new text [] writes (keeps_is mid new keeps), ([], append-nil (text ++ []) ∙ append-nil text))
-front_of old mid new (Err e) text keeps (front, writes, (rest, begins)) = (front ++ [], appends_then old mid new front [] writes (keeps_is mid new keeps), (rest, append_assoc front [] rest ∙ begins))
-
-pub run_fails : {E : Type 0} (answers : RequestAnswer) (words : Option (List (List ℕ))) (input : List ℕ) (old mid new : Option (List ℕ)) (result : Result ℕ E) → Keeps mid new →
-    ((printed : Line) × Prints printed old mid result × IsOwed answers (request_of_words words) input printed) → (written : List ℕ) × Appends old new written × IsRun answers words input written 2
-run_fails answers words input old mid new result keeps (printed, prints, owed) =
-    let front = front_of old mid new result printed.text keeps prints.0 in
-    (front.0, front.1, is_run answers words input front.0 2 printed owed front.2 (λ low. absurd (omega arith)) (λ _. refl))
 
 bound_by : (printed line : Line) → line.status ≤ 2 → printed ≡ line → printed.status ≤ 2
 bound_by printed line h e = rw e h

@@ -67,9 +67,6 @@ given_then old new newer part left text is more = record {
   whole = append_assoc is.front part left ∙ is.whole;
 }
 
-pub given_none : (old new newer : Option (List ℕ)) (left text : List ℕ) → IsGiven old new left text → new ≡ newer → IsGiven old newer left text
-given_none old new newer left text is same = rw (← same) is
-
 -- a beginning of the next part is a beginning of the whole
 pub beginning_then : (old new newer : Option (List ℕ)) (part left text : List ℕ) → IsGiven old new (part ++ left) text →
     ((front : List ℕ) × Appends new newer front × IsBeginning front part) → (front : List ℕ) × Appends old newer front × IsBeginning front text

@@ -3,7 +3,7 @@ ghost use Rattle.std.specs.Prelude.{◌≡◌, Some};
 ghost use Rattle.cfi_read_core.specs.declared.error.Error.{Error as Refusal};
 ghost use Rattle.cfi_read_core.specs.Readers.{map_ok};
 ghost use Rattle.cfi_read_core.specs.Addresses.{IsAddressSize};
-ghost use Rattle.cfi_state.specs.Numbered.{map_row};
+ghost use Rattle.cfi_state.specs.Numbered.{row_lent};
 ghost use Rattle.gimli_cfi.specs.Headers.{header_section};
 ghost use Rattle.gimli_cfi.specs.Views.{section_view};
 ghost use Rattle.cfi_rows.specs.ProgramOutput.{answers, room, IsAnswer, IsLineFor, IsRowByHeader};
@@ -103,7 +103,7 @@ fn row_by_header<'ctx, R: Reader, S: UnwindContextStorage<R::Offset>>(
 ) -> Result<&'ctx UnwindTableRow<R::Offset, S::Rules>, Error>
     requires { IsAddressSize address_size }
     ensures { IsRowByHeader (room S.Rules.limit S.Stack.limit S.Rules.copies_free) (section_view R.position frame.now bases.now) address
-        (header_section (R.position header.now.0) address_size bases.now.eh_frame_hdr) (map_ok (λ row. map_row R.Offset.number row.now) result) }
+        (header_section (R.position header.now.0) address_size bases.now.eh_frame_hdr) (row_lent R.Offset.number result) }
 {
     let header = header.parse(bases, address_size)?;
     let Some(table) = header.table() else {

@@ -23,9 +23,6 @@ module _ {T : Type 0} (eq : T → T → Bool) (a b : ContextState T) (x y : Row 
   rows : row_eq eq a.row b.row ≡ row_eq eq x y
   rows = λ i. row_eq eq (sym at_a i) (sym at_b i)
 
-  pub rows_apart : row_eq eq x y ≡ false → false ≡ context_eq eq a b
-  rows_apart other = sym (ap (λ t. t && (pointwise (row_eq eq) a.remembered b.remembered && option_eq (rules_eq eq) a.initial_rules b.initial_rules)) (rows ∙ other))
-
   module _ (alike : row_eq eq x y ≡ true) (xs ys : List (Row T)) (of_a : reverse xs ≡ a.remembered) (of_b : reverse ys ≡ b.remembered) where
     by_remembered : context_eq eq a b ≡ (pointwise (row_eq eq) xs ys && option_eq (rules_eq eq) a.initial_rules b.initial_rules)
     by_remembered =

@@ -1,12 +1,11 @@
 -- Finite maps made of lists whose keys differ.
-use Rattle.std.proofs.Common.{◌≡◌, ◌≢◌, ℕ, ◌+◌, ◌<◌, ◌&&◌, Bool, true, false, cond, zero, suc, Option, Some, None, is_some, List, [], ◌∷◌, ◌++◌, length, map, get_or, refl, sym, ap, ◌∙◌, subst, add-one}
+use Rattle.std.proofs.Common.{◌≡◌, ℕ, ◌+◌, ◌&&◌, Bool, true, false, cond, zero, suc, Option, Some, None, is_some, List, [], ◌∷◌, ◌++◌, length, map, refl, sym, ap, ◌∙◌, subst, add-one}
 use Rattle.std.proofs.Math.ListN.{set}
 use Rattle.std.specs.Ordering.{eq_by_cmp, is_eq}
 use Rattle.std.specs.declared.cmp.Ordering.{Ordering}
 use Rattle.std.specs.declared.cmp.Ordering.TheVariants.{Less, Equal, Greater}
 use Rattle.std.specs.Cmp.{IsTotalOrder, eq_by_cmp_equiv, Equal-is}
-use Rattle.std.proofs.lemmas.List.Elements.{All-head, All-tail}
-use Rattle.std.specs.List.{All, IsDistinct, Contains, slice_get, list_any, list_all}
+use Rattle.std.specs.List.{IsDistinct, Contains, slice_get, list_any, list_all}
 use Rattle.std.specs.FinMap.Entries.{is_some-find, by_order}
 use Rattle.std.proofs.Math.Seq.{map-set_same}
 use Rattle.std.proofs.lemmas.List.{map-append, nil_from_length}
@@ -153,14 +152,6 @@ module _ {K X : Type 0} {R : K → K → Ordering} (o : IsTotalOrder R) (same : 
       let keys : map (λ e. e.0) (es ++ (k, v) ∷ []) ≡ map (λ e. e.0) es ++ k ∷ [] = map-append (λ (e : K × X). e.0) es ((k, v) ∷ []) in
       let absent : list_any (eq_by_cmp R k) (map (λ e. e.0) es) ≡ false = sym (is_some-find R k es) ∙ ap is_some none in
       subst (IsDistinct (eq_by_cmp R)) (sym keys) (IsDistinct-push (eq_by_cmp_equiv o) _ k distinct absent)
-
-  pub find-absent : (es : List (K × X)) (q : K) → All (λ e. e.0 ≢ q) es → find R q es ≡ None
-  find-absent [] q absent = refl
-  find-absent (e ∷ es) q absent =
-      elim (eq_by_cmp R q e.0) as (λ b. eq_by_cmp R q e.0 ≡ b → cond b (Some e.1) (find R q es) ≡ None) [
-        | true ↦ λ ties. absurd (All-head (λ (e : K × X). e.0 ≢ q) e es absent (sym (same q e.0 ((Equal-is _).0 ties))))
-        | false ↦ λ _. find-absent es q (All-tail (λ (e : K × X). e.0 ≢ q) e es absent)
-      ] refl
 
   pub len-from_entries : (es : List (K × X)) → HasDistinctKeys es → len (from_entries {R = R} es) ≡ length es
   len-from_entries [] distinct = len-empty R X

@@ -3,6 +3,7 @@ use Rattle.std.proofs.Common.{rules, ap, ◌∙◌, ◌≡◌, ℕ, ℤ, ltb, Bo
 use Rattle.std.specs.Option.{IfSome}
 use Rattle.std.specs.Result.{IfErr}
 use Rattle.std.specs.FinMap.{insert, len, contains_key}
+use Rattle.cfi_read_core.specs.Readers.{map_ok}
 use Rattle.cfi_read_core.specs.declared.common.Register.{Register}
 use Rattle.cfi_read_core.specs.declared.error.Error.{Error}
 use Rattle.cfi_read_core.specs.declared.error.Error.TheVariants.{TooManyRegisterRules}
@@ -11,7 +12,7 @@ use Rattle.cfi_state.specs.declared.table.rules.CfaRule.{CfaRule}
 use Rattle.cfi_state.specs.declared.table.rules.CfaRule.TheVariants as cfa
 use Rattle.cfi_state.specs.declared.table.rules.RegisterRule.{RegisterRule}
 use Rattle.cfi_state.specs.declared.table.machine.Parameters.{Parameters}
-use Rattle.cfi_state.specs.Outcome.{Performs, result_map}
+use Rattle.cfi_state.specs.Outcome.{Performs}
 use Rattle.cfi_state.specs.ProgramSettings.{Setting, is_at_limit, advanced_location, fits_address}
 use Rattle.cfi_state.specs.Machine.{Rules, State, perform, step}
 use Rattle.cfi_state.specs.Machine as machine
@@ -42,7 +43,7 @@ module _ {T : Type 0} (p : Parameters) (rule_limit stack_limit : Option ℕ) (co
   abbrev pub IsSet : Register → RegisterRule T → Result (Unit {0}) Error → Type 0
   IsSet register rule result =
       Performs (AddsRule rule_limit old.row.parts.rules register.0)
-      (result_map (λ rules. with_row old (row_with_rules old.row rules)) (map_set_rule rule_limit old.row.parts.rules register.0 rule)) old new result
+      (map_ok (λ rules. with_row old (row_with_rules old.row rules)) (map_set_rule rule_limit old.row.parts.rules register.0 rule)) old new result
 
   -- the same by the machine
   abbrev Sets : Register → Result (State T) Error → Result (Unit {0}) Error → Type 0
@@ -54,7 +55,7 @@ module _ {T : Type 0} (p : Parameters) (rule_limit stack_limit : Option ℕ) (co
 
   by_test : (register : Register) (rules : Rules T) (test : Bool) (result : Result (Unit {0}) Error)
       → Performs (AddsRule rule_limit old.row.parts.rules register.0)
-      (result_map (λ rules. with_row old (row_with_rules old.row rules)) (cond test (Err TooManyRegisterRules) (Ok rules))) old new result
+      (map_ok (λ rules. with_row old (row_with_rules old.row rules)) (cond test (Err TooManyRegisterRules) (Ok rules))) old new result
       → Sets register (cond test (Err TooManyRegisterRules) (Ok (machine.with_rules (machine_state location old) rules))) result
   by_test register rules true (Ok _) performs = absurd performs
   by_test register rules true (Err error) performs = (performs.1, inl (ap Err (sym performs.0)))

@@ -1,5 +1,5 @@
 -- When the rules are equal that the programs of two CIEs ended with, by how they are kept.
-use Rattle.std.proofs.Common.{◌≡◌, ℕ, ◌+◌, ◌≤◌, Bool, true, false, ◌&&◌, ◌==◌, eqb, cond, Option, Some, None, List, [], ◌∷◌, length, map, refl, sym, ap, ◌∙◌, arith}
+use Rattle.std.proofs.Common.{◌≡◌, ℕ, Bool, true, false, ◌&&◌, eqb, cond, Option, Some, None, List, [], ◌∷◌, length, map, refl, sym, ap, ◌∙◌, arith}
 use Rattle.std.proofs.lemmas.List.{length-map, nil_from_length}
 use Rattle.std.specs.Option.{option_eq, option_map}
 use Rattle.std.specs.List.{list_all}
@@ -7,7 +7,6 @@ use Rattle.std.specs.Ordering.{nat_cmp, eq_by_cmp, is_lt}
 use Rattle.std.specs.Cmp.{IsEquivalence, nat_cmp_total, eq_by_cmp_equiv, unsigned_ties}
 use Rattle.std.specs.FinMap.{FinMap, nat_cmp-IsAntisymmetric, empty, insert, get, keys, entries, entries_sorted, len, find, put, is_sorted, from_sorted, get-entries, len-entries, len-empty, get-empty, get-insert, entries-insert, entries-from_sorted, get-from_sorted, same_map}
 use Rattle.std.specs.FinMap.Entries.{below_all}
-use Rattle.cfi_read_core.specs.declared.common.Register.{Register}
 use Rattle.cfi_state.specs.declared.table.rules.RegisterRule.{RegisterRule}
 use Rattle.cfi_state.specs.declared.table.context.InitialRules.{InitialRules}
 use Rattle.cfi_state.specs.declared.table.context.InitialRules.TheVariants.{NotYet, NoRule, OneRule, AtTheBottom}
@@ -151,9 +150,3 @@ module _ {T : Type 0} (eq : T → T → Bool) where
   kept_alike e xs ys (OneRule r x) NotYet same above = cc
   kept_alike e xs ys (OneRule r x) NoRule same above = cc
   kept_alike e xs ys (OneRule r x) AtTheBottom same above = cc
-
-  pub both_at_bottom : (l : InitialRules T) → kept_eq eq AtTheBottom l ≡ true → l ≡ AtTheBottom
-  both_at_bottom AtTheBottom same = refl
-  both_at_bottom NotYet same = cc
-  both_at_bottom NoRule same = cc
-  both_at_bottom (OneRule s y) same = cc

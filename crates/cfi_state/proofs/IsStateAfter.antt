@@ -8,7 +8,7 @@ use Rattle.cfi_parts.specs.declared.instruction.CallFrameInstruction.{CallFrameI
 use Rattle.cfi_state.specs.ProgramSettings.{Setting}
 use Rattle.cfi_state.specs.Machine.{State, fresh_state, step, end_of_cie}
 use Rattle.cfi_state.specs.Program.{Program, in_cie, in_fde, followed_by, refusal, refusal_at_end, IsAccepted, nothing, one_more, cie_ended}
-use Rattle.cfi_state.specs.Rows.{or_refused, on_result, on_option, rows_ended, row_ended, answers_of, answers, first_refusal, cie_refusal, run_answers_of, run_answers, run_all, run_cie, program_state, IsStateAfter}
+use Rattle.cfi_state.specs.Rows.{or_refused, on_result, on_option, rows_ended, row_ended, answers_of, first_refusal, cie_refusal, run_answers_of, run_all, run_cie, program_state, IsStateAfter}
 use Rattle.cfi_state.proofs.Law.{step_law, fresh_law}
 use Rattle.cfi_state.proofs.CieEnd.{end_law}
 
@@ -63,13 +63,6 @@ module _ {T : Type 0} where
       ap (on_result (λ y. row_ended (program_state s p) i y ++ run_answers_of s y xs unread) (λ e. Err e ∷ run_answers_of s (program_state s p) xs unread)) (step_law s p i a)
       ∙ answer_step s p i xs unread (refusal s p i) a refl (run_law s xs unread)
 
-  -- a state that stands after a program meets the program's answers
-  pub stands_run : (s : Setting) (x : State T) (p : Program T) (xs : List (CallFrameInstruction T)) (unread : Option Error) → IsStateAfter s x p → run_answers_of s x xs unread ≡ answers_of s p xs unread
-  stands_run s x p xs unread (a, is) = ap (λ z. run_answers_of s z xs unread) is ∙ run_law s xs unread p a
-
-  pub stands_answers : (s : Setting) (x : State T) (p : Program T) (reads : Readings (CallFrameInstruction T)) → IsStateAfter s x p → run_answers s x reads ≡ answers s p reads
-  stands_answers s x p reads (a, is) = ap (λ z. run_answers s z reads) is ∙ run_law s reads.values reads.refusal p a
-
   -- ---- the CIE's initial instructions
 
   accepted_all : (s : Setting) (xs cie : List (CallFrameInstruction T)) → IsAccepted s (in_cie cie) → first_refusal s (in_cie cie) xs ≡ None → IsAccepted s (in_cie (cie ++ xs))
@@ -108,9 +101,3 @@ module _ {T : Type 0} where
       let first = or_None_first (first_refusal s (in_cie []) reads.values) _ e in
       let rest = or_None_second (first_refusal s (in_cie []) reads.values) _ e in
       cie_ended reads.values (accepted_all s reads.values [] nothing first) (or_None_second reads.refusal _ rest)
-
-  -- a whole run: the CIE's initial instructions and then the FDE's
-  pub whole_run_law : (s : Setting) (cie fde : Readings (CallFrameInstruction T)) → cie_refusal s cie ≡ None → (x : State T) → run_cie s cie ≡ Ok x → run_answers s x fde ≡ answers s (in_fde cie.values []) fde
-  whole_run_law s cie fde accepted x e =
-      let is = (accepted_value (cie_refusal s cie) (program_state s (in_fde cie.values [])) x (sym (cie_law s cie) ∙ e)).1 in
-      stands_answers s x (in_fde cie.values []) fde (cie_accepted s cie accepted, is)

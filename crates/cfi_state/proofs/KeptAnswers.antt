@@ -1,6 +1,6 @@
 -- What the machine answers next is what the struck-out form answers next, and the machine then stands after the program
 -- with the instructions kept on the way.
-use Rattle.std.proofs.Common.{◌≡◌, ℕ, Bool, false, cond, List, [], ◌∷◌, ◌++◌, Option, Some, None, Result, Ok, Err, is_some, append_assoc, refl, sym, ap, subst, ◌∙◌, inl, inr, ◌⊎◌, IfOk}
+use Rattle.std.proofs.Common.{◌≡◌, ℕ, Bool, true, false, cond, List, [], ◌∷◌, ◌++◌, Option, Some, None, Result, Ok, Err, append_assoc, refl, sym, ap, subst, ◌∙◌, inl, inr}
 use Rattle.std.specs.Bool.{IsTrue}
 use Rattle.std.specs.Option.{option_or}
 use Rattle.std.specs.Result.{IsOk}
@@ -8,22 +8,39 @@ use Rattle.std.proofs.lemmas.Bool.{false≢true}
 use Rattle.std.proofs.lemmas.List.{append-nil}
 use Rattle.cfi_read_core.specs.Reading.{Readings, with_first, no_values}
 use Rattle.cfi_read_core.specs.declared.error.Error.{Error}
-use Rattle.cfi_read_core.specs.declared.error.Error.TheVariants.{OutOfMemory}
 use Rattle.cfi_parts.specs.declared.instruction.CallFrameInstruction.{CallFrameInstruction}
 use Rattle.cfi_state.specs.Row.{Row}
-use Rattle.cfi_state.specs.ProgramSettings.{Setting}
+use Rattle.cfi_state.specs.ProgramSettings.{Setting, is_move}
 use Rattle.cfi_state.specs.Machine.{State, fresh_state, step, end_of_cie}
-use Rattle.cfi_state.specs.Program.{Program, in_cie, in_fde, followed_by, location_of, refusal, refusal_at_end, kept_program}
-use Rattle.cfi_state.specs.Rows.{or_refused, on_option, row_until, answer_at, fde_answer, answers, first_refusal, cie_refusal, program_state, IsStateAfter}
+use Rattle.cfi_state.specs.Program.{Program, in_cie, in_fde, followed_by, location_of, refusal, refusal_at_end}
+use Rattle.cfi_state.specs.Rows.{or_refused, on_option, row_until, rows_ended, answers_of, answer_at, fde_answer, answers, first_refusal, cie_refusal, program_state, IsStateAfter}
 use Rattle.cfi_state.specs.Outcome.{IsRefusal}
-use Rattle.cfi_state.specs.TableStates.{TableState, before_last_row, after_last_row, run_answers_to_come, answers_to_come, IsNext}
+use Rattle.cfi_state.specs.TableStates.{TableState, before_last_row, after_last_row, answers_to_come, IsNext}
 use Rattle.cfi_state.specs.Runs.{MayAllocate, AreNever, current_row, NextAnswer, passes, ends_row, refuses, cannot_read, last_row, no_row, RunsInitialInstructions, cie_passes, cie_refuses, cie_cannot_read, cie_ends, cie_end_refused, FindsRow, contains_it, goes_on, is_refused, comes_to_end, AnswersFde, by_cie, by_rows}
 use Rattle.cfi_state.specs.Kept.{at_program, AnswersForProgram, IsLeftOut, NextKeptAnswer, keeps, keeps_move, leaves_out, finds_unreadable, gives_last_row, gives_no_row, KeepsInitialInstructions, cie_keeps, cie_leaves_out, cie_finds_unreadable, cie_is_kept, cie_end_left_out, AnswersByKept, refused_by_cie, found_in_rows}
 use Rattle.cfi_state.proofs.Law.{step_law}
 use Rattle.cfi_state.proofs.CieEnd.{end_law}
-use Rattle.cfi_state.proofs.IsStateAfter.{accepted_value, refused_error, stands_next, stands_refused, stands_at_end, stands_fresh, stands_answers}
-use Rattle.cfi_state.proofs.RunAnswers.{finds_is, fde_answer_or_memory}
-use Rattle.cfi_state.proofs.RowLaws.{answers-other, answers-move, answers-refused, fde_answer_law}
+use Rattle.cfi_state.proofs.IsStateAfter.{accepted_value, refused_error, stands_next, stands_refused, stands_at_end, stands_fresh}
+use Rattle.cfi_state.proofs.RunAnswers.{finds_is}
+
+module _ {T : Type 0} where
+  -- ---- the next answer
+
+  -- an accepted instruction that is no move gives none
+  pub answers-other : (s : Setting) (p : Program T) (i : CallFrameInstruction T) (xs : List (CallFrameInstruction T)) (unread : Option Error) → refusal s p i ≡ None → is_move i ≡ false → answers_of s p (i ∷ xs) unread ≡ answers_of s (followed_by p i) xs unread
+  answers-other s p i xs unread accepted still =
+      ap (on_option (rows_ended s p i ++ answers_of s (followed_by p i) xs unread) (λ e. Err e ∷ answers_of s p xs unread)) accepted
+      ∙ ap (λ b. cond b (Ok (row_until s p (location_of s (followed_by p i))) ∷ []) [] ++ answers_of s (followed_by p i) xs unread) still
+
+  -- an accepted move gives the row that it ends
+  pub answers-move : (s : Setting) (p : Program T) (i : CallFrameInstruction T) (xs : List (CallFrameInstruction T)) (unread : Option Error) → refusal s p i ≡ None → is_move i ≡ true → answers_of s p (i ∷ xs) unread ≡ Ok (row_until s p (location_of s (followed_by p i))) ∷ answers_of s (followed_by p i) xs unread
+  answers-move s p i xs unread accepted moves =
+      ap (on_option (rows_ended s p i ++ answers_of s (followed_by p i) xs unread) (λ e. Err e ∷ answers_of s p xs unread)) accepted
+      ∙ ap (λ b. cond b (Ok (row_until s p (location_of s (followed_by p i))) ∷ []) [] ++ answers_of s (followed_by p i) xs unread) moves
+
+  -- a refused instruction gives its refusal, and the program stays
+  pub answers-refused : (s : Setting) (p : Program T) (i : CallFrameInstruction T) (xs : List (CallFrameInstruction T)) (unread : Option Error) (e : Error) → refusal s p i ≡ Some e → answers_of s p (i ∷ xs) unread ≡ Err e ∷ answers_of s p xs unread
+  answers-refused s p i xs unread e refused = ap (on_option (rows_ended s p i ++ answers_of s (followed_by p i) xs unread) (λ d. Err d ∷ answers_of s p xs unread)) refused
 
 none_refused : {A : Type 0} (o : Option Error) (a : A) → IsOk (or_refused o a) → o ≡ None
 none_refused None a ok = refl
@@ -90,21 +107,6 @@ module _ {T : Type 0} (allocates : MayAllocate T) (s : Setting) where
   keeps_cie x reads result (cie_ends x' y is) cie h = (cie, cie_is_kept cie (accepted_end x' y cie h is), stands_at_end s x' y cie h is)
   keeps_cie x reads result (cie_end_refused x' e refusal) cie h = cie_end_left_out cie e (end_left_out x' cie e h refusal)
 
-  -- a CIE's initial instructions that are not refused is kept whole
-  kept_whole : (cie : List (CallFrameInstruction T)) (reads : Readings (CallFrameInstruction T)) (result : Result (List (CallFrameInstruction T)) Error) → KeepsInitialInstructions allocates s cie reads result → IfOk result (λ all. all ≡ cie ++ reads.values)
-  kept_whole cie reads result (cie_keeps cie' i rest result' accepted keeps_rest) =
-      subst (λ l. IfOk result' (λ all. all ≡ l)) (append_assoc cie' (i ∷ []) rest.values) (kept_whole (cie' ++ i ∷ []) rest result' keeps_rest)
-  kept_whole cie reads result (cie_leaves_out cie' i rest e out) = tt
-  kept_whole cie reads result (cie_finds_unreadable cie' e) = tt
-  kept_whole cie reads result (cie_is_kept cie' accepted) = sym (append-nil cie')
-  kept_whole cie reads result (cie_end_left_out cie' e out) = tt
-
-  -- after it the machine stands after the CIE's instructions
-  pub cie_stands : (cie : Readings (CallFrameInstruction T)) (x : State T) → RunsInitialInstructions allocates s fresh_state cie (Ok x) → IsStateAfter s x (in_fde cie.values [])
-  cie_stands cie x runs =
-      let all = keeps_cie fresh_state cie (Ok x) runs [] (stands_fresh s) in
-      subst (λ l. IsStateAfter s x (in_fde l [])) (kept_whole [] cie (Ok all.0) all.1) all.2
-
   -- of the search for an address
   pub finds_kept : (address : ℕ) (p : TableState (State T) T) (result : Result (Row T) Error) → FindsRow (NextAnswer allocates s) address p result → (g : Program T) → IsStateAfter s p.so_far g → FindsRow (NextKeptAnswer allocates s) address (at_program p g) result
   finds_kept address p result (contains_it p' q row next inside) g h =
@@ -141,19 +143,6 @@ module _ {T : Type 0} (allocates : MayAllocate T) (s : Setting) (never : AreNeve
   kept_next_is p answer q (gives_last_row g) = refl
   kept_next_is p answer q (gives_no_row g left) = (refl, refl)
 
-  -- and the program is followed by those of the instructions passed that are kept
-  pub kept_passed : (p : TableState (Program T) T) (answer : Result (Option (Row T)) Error) (q : TableState (Program T) T) → NextKeptAnswer allocates s p answer q →
-      (passed : List (CallFrameInstruction T)) × (p.left.values ≡ passed ++ q.left.values) × (q.so_far ≡ kept_program s p.so_far passed)
-  kept_passed p answer q (keeps g i rest answer' q' still accepted next) =
-      let more = kept_passed (before_last_row (followed_by g i) rest) answer' q' next in
-      (i ∷ more.0, ap (λ l. i ∷ l) more.1, more.2 ∙ ap (λ o. kept_program s (cond (is_some o) g (followed_by g i)) more.0) (sym accepted))
-  kept_passed p answer q (keeps_move g i rest moves accepted) = (i ∷ [], refl, ap (λ o. cond (is_some o) g (followed_by g i)) (sym accepted))
-  kept_passed p answer q (leaves_out g i rest e out) =
-      (i ∷ [], refl, ap (λ o. cond (is_some o) g (followed_by g i)) (sym (due_left_out (allocates.at (program_state s g) i) (refusal s g i) e (never.at (program_state s g) i) out)))
-  kept_passed p answer q (finds_unreadable g e) = ([], refl, refl)
-  kept_passed p answer q (gives_last_row g) = ([], refl, refl)
-  kept_passed p answer q (gives_no_row g left) = ([], refl, refl)
-
 -- ---- the definitions of the struck-out form, where no instruction runs out of memory
 
 module _ {T : Type 0} (allocates : MayAllocate T) (s : Setting) (never : AreNever allocates) where
@@ -189,15 +178,3 @@ module _ {T : Type 0} (allocates : MayAllocate T) (s : Setting) (never : AreNeve
   answers_by_kept_is cie fde address result (found_in_rows all result' keeps_all finds) =
       accepted_cie cie fde address all (cie_refusal s cie) (kept_cie_is cie (Ok all) keeps_all)
       ∙ finds_is (NextKeptAnswer allocates s) (answers_to_come s) address (kept_next_is allocates s never) (before_last_row (in_fde all []) fde) result' finds
-
--- the answer of the runs is that of the struck-out form
-pub fde_answer_kept : {T : Type 0} (allocates : MayAllocate T) (s : Setting) → AreNever allocates → (cie fde : Readings (CallFrameInstruction T)) (address : ℕ) (result : Result (Row T) Error) → AnswersFde allocates s cie fde address result → fde_answer s cie fde address ≡ result
-fde_answer_kept allocates s never cie fde address result answers_it = answers_by_kept_is allocates s never cie fde address result (answers_by_kept allocates s cie fde address result answers_it)
-
--- and so it is over any storage, but for an instruction that memory refused
-pub fde_answer_kept_or_memory : {T : Type 0} (allocates : MayAllocate T) (s : Setting) (cie fde : Readings (CallFrameInstruction T)) (address : ℕ) (result : Result (Row T) Error) → AnswersFde allocates s cie fde address result → (fde_answer s cie fde address ≡ result) ⊎ (result ≡ Err OutOfMemory)
-fde_answer_kept_or_memory allocates s cie fde address result answers_it = subst (λ r. (r ≡ result) ⊎ (result ≡ Err OutOfMemory)) (fde_answer_law s cie fde address) (fde_answer_or_memory allocates s cie fde address result answers_it)
-
--- what is still to come of the machine is what is still to come of the program after which it stands
-pub to_come_law : {T : Type 0} (s : Setting) (p : TableState (State T) T) (g : Program T) → IsStateAfter s p.so_far g → run_answers_to_come s p ≡ answers_to_come s (at_program p g)
-to_come_law s p g h = ap (cond p.has_ended []) (stands_answers s p.so_far g p.left h)

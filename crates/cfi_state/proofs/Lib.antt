@@ -10,14 +10,13 @@ pub mod PartsEnds
 pub mod Law
 pub mod CieEnd
 pub mod IsStateAfter
-pub mod MachineSteps
-pub mod RowLaws
 pub mod NumberedMaps
 pub mod NumberedSteps
 pub mod RunSteps
 pub mod NumberedRuns
 pub mod RunAnswers
 pub mod KeptAnswers
+pub mod Laws
 pub mod FixedStorage
 pub mod MemoryExamples
 pub mod Entries
@@ -28,5 +27,4 @@ pub mod Contexts
 pub mod InitialRules
 pub mod ContextEquality
 pub mod Evaluation
-pub mod ContextRuns
 pub mod NumberedSame

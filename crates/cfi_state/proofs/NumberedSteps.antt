@@ -1,10 +1,9 @@
 -- The machine does the same along a map of the offsets.
-use Rattle.std.proofs.Common.{◌≡◌, ℕ, ◌+◌, Bool, true, false, cond, not, ◌&&◌, leb, ℤ, List, [], ◌∷◌, ◌++◌, map, Option, Some, None, Result, Ok, Err, bit_xor, refl, sym, ap, ◌∙◌}
+use Rattle.std.proofs.Common.{◌≡◌, ℕ, ◌+◌, Bool, true, false, cond, not, ◌&&◌, leb, ℤ, List, [], ◌∷◌, map, Option, Some, None, Ok, Err, bit_xor, refl, sym, ap, ◌∙◌}
 use Rattle.std.specs.Option.{option_map}
 use Rattle.std.specs.FinMap as map
 use Rattle.std.proofs.lemmas.List.{length-map}
 use Rattle.cfi_read_core.specs.Readers.{map_ok}
-use Rattle.cfi_read_core.specs.Reading.{Readings}
 use Rattle.cfi_read_core.specs.declared.common.Register.{Register}
 use Rattle.cfi_read_core.specs.declared.error.Error.{Error}
 use Rattle.cfi_read_core.specs.declared.error.Error.TheVariants.{StackFull, TooManyRegisterRules}
@@ -18,9 +17,7 @@ use Rattle.cfi_state.specs.ProgramSettings.{Setting, ra_sign_state, is_at_limit,
 use Rattle.cfi_state.specs.Actions.{Action, sets_location, advances_location, defines_cfa, defines_cfa_register, defines_cfa_offset, defines_cfa_expression, gives_rule, restores_rule, toggles_sign_state, remembers_state, restores_state, sets_args_size, changes_nothing, action}
 use Rattle.cfi_state.specs.Machine.{Rules, Parts, State, fresh_state, copies_held, rows_held, with_rules, set_rule, set_or_remove_rule, restore_rule, set_cfa_register, set_cfa_offset, toggle, restore_state, perform, step, end_of_cie}
 use Rattle.cfi_parts.specs.Views.{map_expression, map_instruction}
-use Rattle.cfi_state.specs.Row.{Row}
-use Rattle.cfi_state.specs.Rows.{on_result, on_option, row_ended, run_answers_of, run_answers, run_all, run_cie, row_contains, answer_at, run_fde_answer}
-use Rattle.cfi_state.specs.Numbered.{map_cfa, map_rule, map_rules, map_parts, map_state, map_row, map_program_reads}
+use Rattle.cfi_state.specs.Numbered.{map_cfa, map_rule, map_rules, map_parts, map_state}
 use Rattle.cfi_state.proofs.NumberedMaps.{get-map_values, len-map_values, contains-map_values, insert-map_values, remove-map_values, empty-map_values}
 
 map_ok-cond : {A B : Type 0} (g : A → B) (b : Bool) (e : Error) (x : A) → map_ok g (cond b (Err e) (Ok x)) ≡ cond b (Err e) (Ok (g x))
@@ -127,79 +124,3 @@ module _ {A B : Type 0} (f : A → B) where
 
   pub is_move-mapped : (i : CallFrameInstruction A) → is_move (map_instruction f i) ≡ is_move i
   is_move-mapped i = ap moves (action-mapped i) ∙ moves-mapped (action i)
-
-  -- ---- whole runs
-
-  run_all-step : (s : Setting) (xs : List (CallFrameInstruction A)) (r : Result (State A) Error) → ((y : State A) → run_all s (mapped y) (map (map_instruction f) xs) ≡ map_ok mapped (run_all s y xs)) →
-      on_result (λ y. run_all s y (map (map_instruction f) xs)) (λ e. Err e) (map_ok mapped r) ≡ map_ok mapped (on_result (λ y. run_all s y xs) (λ e. Err e) r)
-  run_all-step s xs (Ok y) rest = rest y
-  run_all-step s xs (Err e) rest = refl
-
-  run_all-mapped : (s : Setting) (xs : List (CallFrameInstruction A)) (x : State A) → run_all s (mapped x) (map (map_instruction f) xs) ≡ map_ok mapped (run_all s x xs)
-  run_all-mapped s [] x = refl
-  run_all-mapped s (i ∷ xs) x = ap (on_result (λ y. run_all s y (map (map_instruction f) xs)) (λ e. Err e)) (step-mapped s x i) ∙ run_all-step s xs (step s x i) (run_all-mapped s xs)
-
-  ended-mapped : (s : Setting) (unread : Option Error) (x : State A) → on_option (end_of_cie s (mapped x)) (λ e. Err e) unread ≡ map_ok mapped (on_option (end_of_cie s x) (λ e. Err e) unread)
-  ended-mapped s None x = end_of_cie-mapped s x
-  ended-mapped s (Some e) x = refl
-
-  run_cie-step : (s : Setting) (unread : Option Error) (r : Result (State A) Error) → on_result (λ x. on_option (end_of_cie s x) (λ e. Err e) unread) (λ e. Err e) (map_ok mapped r) ≡ map_ok mapped (on_result (λ x. on_option (end_of_cie s x) (λ e. Err e) unread) (λ e. Err e) r)
-  run_cie-step s unread (Ok x) = ended-mapped s unread x
-  run_cie-step s unread (Err e) = refl
-
-  pub run_cie-mapped : (s : Setting) (reads : Readings (CallFrameInstruction A)) → run_cie s (map_program_reads f reads) ≡ map_ok mapped (run_cie s reads)
-  run_cie-mapped s reads =
-      ap (on_result (λ x. on_option (end_of_cie s x) (λ e. Err e) reads.refusal) (λ e. Err e))
-      (ap (λ x. run_all s x (map (map_instruction f) reads.values)) (sym fresh-mapped) ∙ run_all-mapped s reads.values fresh_state)
-      ∙ run_cie-step s reads.refusal (run_all s fresh_state reads.values)
-
-  abbrev mapped_answers : List (Result (Row A) Error) → List (Result (Row B) Error)
-  mapped_answers = map (map_ok (map_row f))
-
-  ended_row-mapped : (x y : State A) (b : Bool) (l : List (Result (Row A) Error)) →
-      cond b (Ok (record { start_address = x.location; end_address = y.location; parts = map_parts f x.parts }) ∷ []) [] ++ mapped_answers l
-      ≡ mapped_answers (cond b (Ok (record { start_address = x.location; end_address = y.location; parts = x.parts }) ∷ []) [] ++ l)
-  ended_row-mapped x y true l = refl
-  ended_row-mapped x y false l = refl
-
-  abbrev RunsAlike : Setting → List (CallFrameInstruction A) → Option Error → State A → Type 0
-  RunsAlike s xs unread y = run_answers_of s (mapped y) (map (map_instruction f) xs) unread ≡ mapped_answers (run_answers_of s y xs unread)
-
-  answers-step : (s : Setting) (x : State A) (i : CallFrameInstruction A) (xs : List (CallFrameInstruction A)) (unread : Option Error) (r : Result (State A) Error) → ((y : State A) → RunsAlike s xs unread y) →
-      on_result (λ y. row_ended (mapped x) (map_instruction f i) y ++ run_answers_of s y (map (map_instruction f) xs) unread) (λ e. Err e ∷ run_answers_of s (mapped x) (map (map_instruction f) xs) unread) (map_ok mapped r)
-      ≡ mapped_answers (on_result (λ y. row_ended x i y ++ run_answers_of s y xs unread) (λ e. Err e ∷ run_answers_of s x xs unread) r)
-  answers-step s x i xs unread (Ok y) rest =
-      (λ k. cond (is_move-mapped i k) (Ok (record { start_address = x.location; end_address = y.location; parts = map_parts f x.parts }) ∷ []) [] ++ rest y k)
-      ∙ ended_row-mapped x y (is_move i) (run_answers_of s y xs unread)
-  answers-step s x i xs unread (Err e) rest = ap (λ l. Err e ∷ l) (rest x)
-
-  last-mapped : (s : Setting) (unread : Option Error) (x : State A) → RunsAlike s [] unread x
-  last-mapped s None x = refl
-  last-mapped s (Some e) x = refl
-
-  answers_of-mapped : (s : Setting) (xs : List (CallFrameInstruction A)) (unread : Option Error) (x : State A) → RunsAlike s xs unread x
-  answers_of-mapped s [] unread x = last-mapped s unread x
-  answers_of-mapped s (i ∷ xs) unread x =
-      ap (on_result (λ y. row_ended (mapped x) (map_instruction f i) y ++ run_answers_of s y (map (map_instruction f) xs) unread) (λ e. Err e ∷ run_answers_of s (mapped x) (map (map_instruction f) xs) unread)) (step-mapped s x i)
-      ∙ answers-step s x i xs unread (step s x i) (answers_of-mapped s xs unread)
-
-  pub run_answers-mapped : (s : Setting) (x : State A) (reads : Readings (CallFrameInstruction A)) → run_answers s (mapped x) (map_program_reads f reads) ≡ map (map_ok (map_row f)) (run_answers s x reads)
-  run_answers-mapped s x reads = answers_of-mapped s reads.values reads.refusal x
-
-  answer_at-step : (address : ℕ) (row : Row A) (b : Bool) (r : Result (Row A) Error) → cond b (Ok (map_row f row)) (map_ok (map_row f) r) ≡ map_ok (map_row f) (cond b (Ok row) r)
-  answer_at-step address row true r = refl
-  answer_at-step address row false r = refl
-
-  pub answer_at-mapped : (address : ℕ) (l : List (Result (Row A) Error)) → answer_at address (map (map_ok (map_row f)) l) ≡ map_ok (map_row f) (answer_at address l)
-  answer_at-mapped address [] = refl
-  answer_at-mapped address (Err e ∷ l) = refl
-  answer_at-mapped address (Ok row ∷ l) = ap (cond (row_contains address row) (Ok (map_row f row))) (answer_at-mapped address l) ∙ answer_at-step address row (row_contains address row) (answer_at address l)
-
-  fde_answer-step : (s : Setting) (fde : Readings (CallFrameInstruction A)) (address : ℕ) (r : Result (State A) Error) →
-      on_result (λ x. answer_at address (run_answers s x (map_program_reads f fde))) (λ e. Err e) (map_ok mapped r) ≡ map_ok (map_row f) (on_result (λ x. answer_at address (run_answers s x fde)) (λ e. Err e) r)
-  fde_answer-step s fde address (Ok x) = ap (answer_at address) (run_answers-mapped s x fde) ∙ answer_at-mapped address (run_answers s x fde)
-  fde_answer-step s fde address (Err e) = refl
-
-  pub run_fde_answer-mapped : (s : Setting) (cie fde : Readings (CallFrameInstruction A)) (address : ℕ) → run_fde_answer s (map_program_reads f cie) (map_program_reads f fde) address ≡ map_ok (map_row f) (run_fde_answer s cie fde address)
-  run_fde_answer-mapped s cie fde address =
-      ap (on_result (λ x. answer_at address (run_answers s x (map_program_reads f fde))) (λ e. Err e)) (run_cie-mapped s cie) ∙ fde_answer-step s fde address (run_cie s cie)

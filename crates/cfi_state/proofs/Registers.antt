@@ -1,5 +1,5 @@
 -- Lists of registers with their rules, and the maps that they stand for.
-use Rattle.std.proofs.Common.{◌≡◌, ◌≢◌, ℕ, ◌+◌, Bool, true, false, eqb, Option, Some, None, IsNone, IsSomeAnd, is_some, List, [], ◌∷◌, ◌++◌, length, map, get_or, refl, sym, ap, ◌∙◌, subst, cond, Result, Ok, Err, ◌↔◌, arith}
+use Rattle.std.proofs.Common.{◌≡◌, ◌≢◌, ℕ, ◌+◌, Bool, true, false, eqb, Option, Some, None, IsNone, IsSomeAnd, is_some, List, [], ◌∷◌, ◌++◌, length, map, refl, sym, ap, ◌∙◌, subst, cond, Result, Ok, Err, ◌↔◌, arith}
 use Rattle.std.proofs.Math.ListN.{set}
 use Rattle.std.proofs.lemmas.List.{map-set, map-append, length-map}
 use Rattle.std.proofs.lemmas.List.Elements.{All-head, All-tail}
@@ -25,7 +25,7 @@ use Rattle.cfi_state.specs.Limit.{IsAtLimit}
 use Rattle.cfi_state.specs.ProgramSettings.{is_at_limit}
 use Rattle.cfi_state.specs.Machine.{Rules}
 use Rattle.cfi_state.specs.Rules.{numbered_pair, rules_of, map_set_rule, IsDistinctRegisters, AddsRule}
-use Rattle.cfi_state.proofs.Entries.{find_at, find-absent, from_entries-set, distinct-set, from_entries-push, distinct-push, from_entries-without, distinct-without, remove-absent, len-from_entries}
+use Rattle.cfi_state.proofs.Entries.{find_at, from_entries-set, distinct-set, from_entries-push, distinct-push, from_entries-without, distinct-without, remove-absent, len-from_entries}
 
 module _ {T : Type 0} (pairs : List (Register × RegisterRule T)) where
   pub distinct-empty : pairs ≡ [] → IsDistinctRegisters pairs

@@ -1,7 +1,6 @@
--- Where no instruction runs out of memory, the runs give exactly the answers of the machine's functions.
-use Rattle.std.proofs.Common.{◌≡◌, ℕ, Bool, true, false, cond, List, [], ◌∷◌, ◌++◌, Option, Some, None, Result, Ok, Err, refl, sym, ap, subst, ◌∙◌, inl, inr, ◌⊎◌, IfOk}
-use Rattle.std.proofs.lemmas.Bool.{false≢true}
-use Rattle.cfi_read_core.specs.Reading.{Readings, with_first, no_values}
+-- The answers of a run are those of the machine's functions, but for one that is refused for lack of memory.
+use Rattle.std.proofs.Common.{◌≡◌, ℕ, Bool, true, false, cond, List, [], ◌∷◌, ◌++◌, Option, Some, None, Result, Ok, Err, refl, sym, ap, subst, ◌∙◌, inl, inr, ◌⊎◌}
+use Rattle.cfi_read_core.specs.Reading.{Readings, with_first}
 use Rattle.cfi_read_core.specs.declared.error.Error.{Error}
 use Rattle.cfi_read_core.specs.declared.error.Error.TheVariants.{OutOfMemory, NoUnwindInfoForAddress}
 use Rattle.cfi_parts.specs.declared.instruction.CallFrameInstruction.{CallFrameInstruction}
@@ -11,12 +10,24 @@ use Rattle.cfi_state.specs.Machine.{State, fresh_state, step, end_of_cie}
 use Rattle.cfi_state.specs.Rows.{on_result, on_option, row_ended, run_answers, run_answers_of, run_all, run_cie, row_contains, answer_at, run_fde_answer}
 use Rattle.cfi_state.specs.Outcome.{IsRefusal}
 use Rattle.cfi_state.specs.TableStates.{TableState, before_last_row, run_answers_to_come, IsNext}
-use Rattle.cfi_state.specs.Runs.{MayAllocate, AreNever, current_row, NextAnswer, passes, ends_row, refuses, cannot_read, last_row, no_row, RunsInitialInstructions, cie_passes, cie_refuses, cie_cannot_read, cie_ends, cie_end_refused, FindsRow, contains_it, goes_on, is_refused, comes_to_end, AnswersFde, by_cie, by_rows}
-use Rattle.cfi_state.proofs.MachineSteps.{run_answers-other, run_answers-move, run_answers-refused}
+use Rattle.cfi_state.specs.Runs.{MayAllocate, NextAnswer, passes, ends_row, refuses, cannot_read, last_row, no_row, RunsInitialInstructions, cie_passes, cie_refuses, cie_cannot_read, cie_ends, cie_end_refused, FindsRow, contains_it, goes_on, is_refused, comes_to_end, AnswersFde, by_cie, by_rows}
 
-pub due_refusal : {A : Type 0} (w : Bool) (due : Result A Error) (e : Error) → w ≡ false → IsRefusal w due e → due ≡ Err e
-due_refusal w due e never (inl is) = is
-due_refusal w due e never (inr wanting) = absurd (false≢true (sym never ∙ wanting.0))
+-- ---- what one step does to the answers of a run
+
+module _ {T : Type 0} where
+  pub run_answers-other : (s : Setting) (x y : State T) (i : CallFrameInstruction T) (xs : List (CallFrameInstruction T)) (unread : Option Error) → step s x i ≡ Ok y → is_move i ≡ false → run_answers_of s x (i ∷ xs) unread ≡ run_answers_of s y xs unread
+  run_answers-other s x y i xs unread e still =
+      ap (on_result (λ z. row_ended x i z ++ run_answers_of s z xs unread) (λ d. Err d ∷ run_answers_of s x xs unread)) e
+      ∙ ap (λ b. cond b (Ok (record { start_address = x.location; end_address = y.location; parts = x.parts }) ∷ []) [] ++ run_answers_of s y xs unread) still
+
+  pub run_answers-move : (s : Setting) (x y : State T) (i : CallFrameInstruction T) (xs : List (CallFrameInstruction T)) (unread : Option Error) → step s x i ≡ Ok y → is_move i ≡ true →
+      run_answers_of s x (i ∷ xs) unread ≡ Ok (record { start_address = x.location; end_address = y.location; parts = x.parts }) ∷ run_answers_of s y xs unread
+  run_answers-move s x y i xs unread e moves =
+      ap (on_result (λ z. row_ended x i z ++ run_answers_of s z xs unread) (λ d. Err d ∷ run_answers_of s x xs unread)) e
+      ∙ ap (λ b. cond b (Ok (record { start_address = x.location; end_address = y.location; parts = x.parts }) ∷ []) [] ++ run_answers_of s y xs unread) moves
+
+  pub run_answers-refused : (s : Setting) (x : State T) (i : CallFrameInstruction T) (xs : List (CallFrameInstruction T)) (unread : Option Error) (d : Error) → step s x i ≡ Err d → run_answers_of s x (i ∷ xs) unread ≡ Err d ∷ run_answers_of s x xs unread
+  run_answers-refused s x i xs unread d e = ap (on_result (λ z. row_ended x i z ++ run_answers_of s z xs unread) (λ b. Err b ∷ run_answers_of s x xs unread)) e
 
 -- an answer that is found among those that come next is that of the answers still to come
 pub finds_is : {T P : Type 0} (Next : P → Result (Option (Row T)) Error → P → Type 0) (still : P → List (Result (Row T) Error)) (address : ℕ)
@@ -32,45 +43,7 @@ finds_is Next still address is p result (comes_to_end p' q next) = ap (answer_at
 abbrev run_from : {T : Type 0} → Setting → State T → Readings (CallFrameInstruction T) → Result (State T) Error
 run_from s x reads = on_result (λ y. on_option (end_of_cie s y) (λ e. Err e) reads.refusal) (λ e. Err e) (run_all s x reads.values)
 
--- a row that is found contains the address
-pub found_contains : {T P : Type 0} (Next : P → Result (Option (Row T)) Error → P → Type 0) (address : ℕ) (p : P) (result : Result (Row T) Error) → FindsRow Next address p result → IfOk result (λ row. row_contains address row ≡ true)
-found_contains Next address p result (contains_it p' q row next inside) = inside
-found_contains Next address p result (goes_on p' q row result' next outside finds) = found_contains Next address q result' finds
-found_contains Next address p result (is_refused p' q e next) = tt
-found_contains Next address p result (comes_to_end p' q next) = tt
-
-module _ {T : Type 0} (allocates : MayAllocate T) (s : Setting) (never : AreNever allocates) where
-  -- the next answer is the first of those still to come
-  pub next_is : (p : TableState (State T) T) (answer : Result (Option (Row T)) Error) (q : TableState (State T) T) → NextAnswer allocates s p answer q → IsNext (run_answers_to_come s p) answer (run_answers_to_come s q)
-  next_is p answer q (passes x y i rest answer' q' still stepped next) =
-      subst (λ l. IsNext l answer' (run_answers_to_come s q')) (sym (run_answers-other s x y i rest.values rest.refusal stepped still)) (next_is (before_last_row y rest) answer' q' next)
-  next_is p answer q (ends_row x y i rest moves stepped) = run_answers-move s x y i rest.values rest.refusal stepped moves
-  next_is p answer q (refuses x i rest e refusal) = run_answers-refused s x i rest.values rest.refusal e (due_refusal (allocates.at x i) (step s x i) e (never.at x i) refusal)
-  next_is p answer q (cannot_read x e) = refl
-  next_is p answer q (last_row x) = refl
-  next_is p answer q (no_row x left) = (refl, refl)
-
-  pub finds_answer : (address : ℕ) (p : TableState (State T) T) (result : Result (Row T) Error) → FindsRow (NextAnswer allocates s) address p result → answer_at address (run_answers_to_come s p) ≡ result
-  finds_answer address = finds_is (NextAnswer allocates s) (run_answers_to_come s) address next_is
-
-  cie_from : (x : State T) (reads : Readings (CallFrameInstruction T)) (result : Result (State T) Error) → RunsInitialInstructions allocates s x reads result → run_from s x reads ≡ result
-  cie_from x reads result (cie_passes x' y i rest result' stepped runs) =
-      ap (λ r. on_result (λ z. on_option (end_of_cie s z) (λ e. Err e) rest.refusal) (λ e. Err e) (on_result (λ z. run_all s z rest.values) (λ e. Err e) r)) stepped ∙ cie_from y rest result' runs
-  cie_from x reads result (cie_refuses x' i rest e refusal) =
-      ap (λ r. on_result (λ z. on_option (end_of_cie s z) (λ e. Err e) rest.refusal) (λ e. Err e) (on_result (λ z. run_all s z rest.values) (λ e. Err e) r)) (due_refusal (allocates.at x' i) (step s x' i) e (never.at x' i) refusal)
-  cie_from x reads result (cie_cannot_read x' e) = refl
-  cie_from x reads result (cie_ends x' y is) = is
-  cie_from x reads result (cie_end_refused x' e refusal) = due_refusal (allocates.at_end x') (end_of_cie s x') e (never.at_end x') refusal
-
-  pub cie_is : (reads : Readings (CallFrameInstruction T)) (result : Result (State T) Error) → RunsInitialInstructions allocates s fresh_state reads result → run_cie s reads ≡ result
-  cie_is reads = cie_from fresh_state reads
-
-  pub fde_answer_is : (cie fde : Readings (CallFrameInstruction T)) (address : ℕ) (result : Result (Row T) Error) → AnswersFde allocates s cie fde address result → run_fde_answer s cie fde address ≡ result
-  fde_answer_is cie fde address result (by_cie e runs) = ap (on_result (λ x. answer_at address (run_answers s x fde)) (λ d. Err d)) (cie_is cie (Err e) runs)
-  fde_answer_is cie fde address result (by_rows x result' runs finds) =
-      ap (on_result (λ y. answer_at address (run_answers s y fde)) (λ d. Err d)) (cie_is cie (Ok x) runs) ∙ finds_answer address (before_last_row x fde) result' finds
-
--- ---- out of memory apart, they are the same: one that memory refused is answered so
+-- ---- the answers of a run
 
 due_or_memory : {A : Type 0} (w : Bool) (due : Result A Error) (e : Error) → IsRefusal w due e → (due ≡ Err e) ⊎ (e ≡ OutOfMemory)
 due_or_memory w due e (inl is) = inl is
@@ -149,69 +122,3 @@ module _ {T : Type 0} (allocates : MayAllocate T) (s : Setting) where
   pub fde_answer_or_memory : (cie fde : Readings (CallFrameInstruction T)) (address : ℕ) (result : Result (Row T) Error) → AnswersFde allocates s cie fde address result → (run_fde_answer s cie fde address ≡ result) ⊎ (result ≡ Err OutOfMemory)
   fde_answer_or_memory cie fde address result (by_cie e runs) = by_cie_refusal cie fde address e (cie_or_memory cie (Err e) runs)
   fde_answer_or_memory cie fde address result (by_rows x result' runs finds) = by_cie_end cie fde address x result' (cie_or_memory cie (Ok x) runs) (finds_or_memory address (before_last_row x fde) result' finds)
-
--- ---- and the functions' answers are always among those of the runs
-
-module _ {T : Type 0} (allocates : MayAllocate T) (s : Setting) where
-  abbrev Next : TableState (State T) T → Result (Option (Row T)) Error → TableState (State T) T → Type 0
-  Next = NextAnswer allocates s
-
-  -- what comes next at q comes next at p
-  finds_on : (address : ℕ) (p q : TableState (State T) T) (result : Result (Row T) Error) → ((answer : Result (Option (Row T)) Error) (after : TableState (State T) T) → Next q answer after → Next p answer after) →
-      FindsRow Next address q result → FindsRow Next address p result
-  finds_on address p q result leads (contains_it q' after row next inside) = contains_it p after row (leads (Ok (Some row)) after next) inside
-  finds_on address p q result leads (goes_on q' after row result' next outside finds) = goes_on p after row result' (leads (Ok (Some row)) after next) outside finds
-  finds_on address p q result leads (is_refused q' after e next) = is_refused p after e (leads (Err e) after next)
-  finds_on address p q result leads (comes_to_end q' after next) = comes_to_end p after (leads (Ok None) after next)
-
-  found_or : (address : ℕ) (p q : TableState (State T) T) (row : Row T) (others : Result (Row T) Error) (b : Bool) → row_contains address row ≡ b → Next p (Ok (Some row)) q → FindsRow Next address q others → FindsRow Next address p (cond b (Ok row) others)
-  found_or address p q row others true is next finds = contains_it p q row next is
-  found_or address p q row others false is next finds = goes_on p q row others next is finds
-
-  abbrev Finds : ℕ → List (CallFrameInstruction T) → Option Error → State T → Type 0
-  Finds address xs unread x = FindsRow Next address (before_last_row x (record { values = xs; refusal = unread })) (answer_at address (run_answers_of s x xs unread))
-
-  finds_behind_move : (address : ℕ) (x y : State T) (i : CallFrameInstruction T) (xs : List (CallFrameInstruction T)) (unread : Option Error) (b : Bool) → is_move i ≡ b → step s x i ≡ Ok y → Finds address xs unread y →
-      FindsRow Next address (before_last_row x (record { values = i ∷ xs; refusal = unread })) (answer_at address (cond b (Ok (current_row x y.location) ∷ []) [] ++ run_answers_of s y xs unread))
-  finds_behind_move address x y i xs unread true moves stepped finds =
-      found_or address _ _ (current_row x y.location) _ (row_contains address (current_row x y.location)) refl (ends_row x y i (record { values = xs; refusal = unread }) moves stepped) finds
-  finds_behind_move address x y i xs unread false still stepped finds =
-      finds_on address _ _ _ (λ answer after next. passes x y i (record { values = xs; refusal = unread }) answer after still stepped next) finds
-
-  finds_behind : (address : ℕ) (x : State T) (i : CallFrameInstruction T) (xs : List (CallFrameInstruction T)) (unread : Option Error) (r : Result (State T) Error) → step s x i ≡ r → ((y : State T) → Finds address xs unread y) →
-      FindsRow Next address (before_last_row x (record { values = i ∷ xs; refusal = unread })) (answer_at address (on_result (λ y. row_ended x i y ++ run_answers_of s y xs unread) (λ e. Err e ∷ run_answers_of s x xs unread) r))
-  finds_behind address x i xs unread (Ok y) stepped finds = finds_behind_move address x y i xs unread (is_move i) refl stepped (finds y)
-  finds_behind address x i xs unread (Err e) stepped finds = is_refused _ _ e (refuses x i (record { values = xs; refusal = unread }) e (inl stepped))
-
-  finds_from : (address : ℕ) (xs : List (CallFrameInstruction T)) (unread : Option Error) (x : State T) → Finds address xs unread x
-  finds_from address [] None x =
-      found_or address _ _ (current_row x s.end_address) _ (row_contains address (current_row x s.end_address)) refl (last_row x) (comes_to_end _ _ (no_row x (no_values None)))
-  finds_from address [] (Some e) x = is_refused _ _ e (cannot_read x e)
-  finds_from address (i ∷ xs) unread x = finds_behind address x i xs unread (step s x i) refl (finds_from address xs unread)
-
-  pub answer_is_found : (address : ℕ) (x : State T) (left : Readings (CallFrameInstruction T)) → FindsRow Next address (before_last_row x left) (answer_at address (run_answers s x left))
-  answer_is_found address x left = finds_from address left.values left.refusal x
-
-  runs_on : (x : State T) (i : CallFrameInstruction T) (xs : List (CallFrameInstruction T)) (unread : Option Error) (r : Result (State T) Error) → step s x i ≡ r → ((y : State T) → RunsInitialInstructions allocates s y (record { values = xs; refusal = unread }) (run_from s y (record { values = xs; refusal = unread }))) →
-      RunsInitialInstructions allocates s x (record { values = i ∷ xs; refusal = unread }) (on_result (λ y. on_option (end_of_cie s y) (λ e. Err e) unread) (λ e. Err e) (on_result (λ y. run_all s y xs) (λ e. Err e) r))
-  runs_on x i xs unread (Ok y) stepped runs = cie_passes x y i (record { values = xs; refusal = unread }) _ stepped (runs y)
-  runs_on x i xs unread (Err e) stepped runs = cie_refuses x i (record { values = xs; refusal = unread }) e (inl stepped)
-
-  ends_with : (x : State T) (r : Result (State T) Error) → end_of_cie s x ≡ r → RunsInitialInstructions allocates s x (no_values None) r
-  ends_with x (Ok y) is = cie_ends x y is
-  ends_with x (Err e) is = cie_end_refused x e (inl is)
-
-  runs_from : (xs : List (CallFrameInstruction T)) (unread : Option Error) (x : State T) → RunsInitialInstructions allocates s x (record { values = xs; refusal = unread }) (run_from s x (record { values = xs; refusal = unread }))
-  runs_from [] None x = ends_with x (end_of_cie s x) refl
-  runs_from [] (Some e) x = cie_cannot_read x e
-  runs_from (i ∷ xs) unread x = runs_on x i xs unread (step s x i) refl (runs_from xs unread)
-
-  pub cie_is_run : (reads : Readings (CallFrameInstruction T)) → RunsInitialInstructions allocates s fresh_state reads (run_cie s reads)
-  cie_is_run reads = runs_from reads.values reads.refusal fresh_state
-
-  answered : (cie fde : Readings (CallFrameInstruction T)) (address : ℕ) (r : Result (State T) Error) → RunsInitialInstructions allocates s fresh_state cie r → AnswersFde allocates s cie fde address (on_result (λ x. answer_at address (run_answers s x fde)) (λ e. Err e) r)
-  answered cie fde address (Ok x) runs = by_rows x _ runs (answer_is_found address x fde)
-  answered cie fde address (Err e) runs = by_cie e runs
-
-  pub fde_is_answered : (cie fde : Readings (CallFrameInstruction T)) (address : ℕ) → AnswersFde allocates s cie fde address (run_fde_answer s cie fde address)
-  fde_is_answered cie fde address = answered cie fde address (run_cie s cie) (cie_is_run cie)

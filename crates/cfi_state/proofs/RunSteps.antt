@@ -1,9 +1,8 @@
 -- How the evaluation of single instructions makes up a run, for loops whose invariant goes backwards: what comes next from
 -- where the loop is, also comes next from where it began.
---     LeadsTo, leads-on, next-row, next-refused, next-unreadable, next-last      the rows of an FDE
+--     LeadsTo, leads-on, next-row      the rows of an FDE
 --     LeadsToCie, cie-leads-on, cie-refused, cie-unreadable, cie-ended, cie-end-refused      the program of a CIE
---     LeadsToRow, row-leads-on      the search for the row of an address
-use Rattle.std.proofs.Common.{◌≡◌, ℕ, true, false, Option, Some, None, Result, Ok, Err, sym, subst}
+use Rattle.std.proofs.Common.{◌≡◌, true, false, Option, Some, None, Result, Ok, Err, sym, subst}
 use Rattle.cfi_read_core.specs.Reading.{Readings, with_first, no_values}
 use Rattle.cfi_read_core.specs.declared.error.Error.{Error}
 use Rattle.cfi_parts.specs.declared.instruction.CallFrameInstruction.{CallFrameInstruction}
@@ -11,9 +10,8 @@ use Rattle.cfi_state.specs.Row.{Row}
 use Rattle.cfi_state.specs.ProgramSettings.{Setting, is_move}
 use Rattle.cfi_state.specs.Machine.{State, step, end_of_cie}
 use Rattle.cfi_state.specs.Outcome.{IsRefusal}
-use Rattle.cfi_state.specs.Rows.{row_contains}
-use Rattle.cfi_state.specs.TableStates.{TableState, before_last_row, after_last_row}
-use Rattle.cfi_state.specs.Runs.{MayAllocate, current_row, NextAnswer, passes, ends_row, refuses, cannot_read, last_row, RunsInitialInstructions, cie_passes, cie_refuses, cie_cannot_read, cie_ends, cie_end_refused, FindsRow, goes_on}
+use Rattle.cfi_state.specs.TableStates.{TableState, before_last_row}
+use Rattle.cfi_state.specs.Runs.{MayAllocate, current_row, NextAnswer, passes, ends_row, RunsInitialInstructions, cie_passes, cie_refuses, cie_cannot_read, cie_ends, cie_end_refused}
 
 module _ {T : Type 0} (allocates : MayAllocate T) (s : Setting) where
   -- ---- the rows of an FDE
@@ -26,21 +24,12 @@ module _ {T : Type 0} (allocates : MayAllocate T) (s : Setting) where
     at_place : (rest : Readings (CallFrameInstruction T)) (answer : Result (Option (Row T)) Error) (after : TableState (State T) T) → left ≡ rest → NextAnswer allocates s (before_last_row x rest) answer after → NextAnswer allocates s p answer after
     at_place rest answer after is next = leads answer after (subst (λ l. NextAnswer allocates s (before_last_row x l) answer after) (sym is) next)
 
-    pub next-unreadable : (rest : Readings (CallFrameInstruction T)) (e : Error) → left ≡ no_values (Some e) → rest ≡ no_values None → NextAnswer allocates s p (Err e) (before_last_row x rest)
-    next-unreadable rest e is none = subst (λ l. NextAnswer allocates s p (Err e) (before_last_row x l)) (sym none) (at_place _ _ _ is (cannot_read x e))
-
-    pub next-last : (rest : Readings (CallFrameInstruction T)) → left ≡ no_values None → rest ≡ no_values None → NextAnswer allocates s p (Ok (Some (current_row x s.end_address))) (after_last_row x rest)
-    next-last rest is none = subst (λ l. NextAnswer allocates s p (Ok (Some (current_row x s.end_address))) (after_last_row x l)) (sym none) (at_place _ _ _ is (last_row x))
-
     module _ (i : CallFrameInstruction T) (rest : Readings (CallFrameInstruction T)) (reads : left ≡ with_first i rest) where
       pub leads-on : (y : State T) → is_move i ≡ false → step s x i ≡ Ok y → LeadsTo p (before_last_row y rest)
       leads-on y still stepped answer after next = at_place _ _ _ reads (passes x y i rest answer after still stepped next)
 
       pub next-row : (y : State T) → is_move i ≡ true → step s x i ≡ Ok y → NextAnswer allocates s p (Ok (Some (current_row x y.location))) (before_last_row y rest)
       next-row y moves stepped = at_place _ _ _ reads (ends_row x y i rest moves stepped)
-
-      pub next-refused : (y : State T) (e : Error) → IsRefusal (allocates.at x i) (step s x i) e → y ≡ x → NextAnswer allocates s p (Err e) (before_last_row y rest)
-      next-refused y e refusal stays = subst (λ z. NextAnswer allocates s p (Err e) (before_last_row z rest)) (sym stays) (at_place _ _ _ reads (refuses x i rest e refusal))
 
   -- ---- the program of a CIE
 
@@ -66,12 +55,3 @@ module _ {T : Type 0} (allocates : MayAllocate T) (s : Setting) where
 
       pub cie-refused : (e : Error) → IsRefusal (allocates.at x i) (step s x i) e → RunsInitialInstructions allocates s first all (Err e)
       cie-refused e refusal = at_reads _ _ reads (cie_refuses x i rest e refusal)
-
--- ---- the search for the row of an address
-
-module _ {T P : Type 0} (Next : P → Result (Option (Row T)) Error → P → Type 0) (address : ℕ) where
-  abbrev pub LeadsToRow : P → P → Type 0
-  LeadsToRow p q = (result : Result (Row T) Error) → FindsRow Next address q result → FindsRow Next address p result
-
-  pub row-leads-on : (first p q : P) (row : Row T) → LeadsToRow first p → Next p (Ok (Some row)) q → row_contains address row ≡ false → LeadsToRow first q
-  row-leads-on first p q row leads next outside result finds = leads result (goes_on p q row result next outside finds)

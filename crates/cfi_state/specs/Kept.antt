@@ -3,11 +3,11 @@
 --     NextKeptAnswer allocates s p answer q      the next answer at the place p, and then the place is q
 --     AnswersForProgram allocates s p answer q      the answer that takes a machine from p to q is that of any program after which it stands
 --     KeepsInitialInstructions, AnswersByKept      the program of a CIE, and the answer for an address
-use Rattle.std.specs.Prelude.{◌≡◌, ℕ, Bool, true, false, List, [], ◌∷◌, ◌++◌, Option, Some, None, IsTrue, Result, Ok, Err, ◌⊎◌}
+use Rattle.std.specs.Prelude.{◌≡◌, ℕ, Bool, true, false, List, [], ◌∷◌, ◌++◌, Option, Some, None, Result, Ok, Err}
 use Rattle.cfi_read_core.specs.Reading.{Readings, with_first, no_values}
 use Rattle.cfi_read_core.specs.declared.error.Error.{Error}
-use Rattle.cfi_read_core.specs.declared.error.Error.TheVariants.{OutOfMemory}
 use Rattle.cfi_parts.specs.declared.instruction.CallFrameInstruction.{CallFrameInstruction}
+use Rattle.cfi_state.specs.Outcome.{IsDueOrMemory}
 use Rattle.cfi_state.specs.Row.{Row}
 use Rattle.cfi_state.specs.ProgramSettings.{Setting, is_move}
 use Rattle.cfi_state.specs.Machine.{State}
@@ -16,9 +16,9 @@ use Rattle.cfi_state.specs.Rows.{row_until, program_state, IsStateAfter}
 use Rattle.cfi_state.specs.TableStates.{TableState, before_last_row, after_last_row}
 use Rattle.cfi_state.specs.Runs.{MayAllocate, FindsRow}
 
--- the refusal that was due or, where none was due and it may run out of memory, `OutOfMemory`
+-- what an instruction that is left out was refused with
 abbrev pub IsLeftOut : Bool → Option Error → Error → Type 0
-IsLeftOut allocates due e = (due ≡ Some e) ⊎ (IsTrue allocates × (due ≡ None) × (e ≡ OutOfMemory))
+IsLeftOut allocates due e = IsDueOrMemory allocates (due ≡ Some e) (due ≡ None) e
 
 module _ {T : Type 0} where
   pub data NextKeptAnswer (allocates : MayAllocate T) (s : Setting) : TableState (Program T) T → Result (Option (Row T)) Error → TableState (Program T) T → Type 0 where

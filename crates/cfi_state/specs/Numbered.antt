@@ -2,14 +2,15 @@
 -- The code's offsets are of a reader's type and the definitions' are numbers. Offsets stand only in expressions, so a
 -- map along `f` changes nothing else.
 --     map_rule f, map_rules f, map_parts f, map_state f, map_row f      along f : A → B
---     map_readings f, map_program_reads f      what was read, each value by f, and instructions along f
-use Rattle.std.specs.Prelude.{map}
+--     row_lent f      the answer of a call that lends a row
+use Rattle.std.specs.Prelude.{map, Result}
+use Rattle.std.specs.Borrow.{Bor}
 use Rattle.std.specs.Option.{option_map}
 use Rattle.std.specs.Ordering.{nat_cmp}
 use Rattle.std.specs.FinMap.{FinMap, entries, from_sorted}
-use Rattle.cfi_read_core.specs.Reading.{Readings}
-use Rattle.cfi_parts.specs.declared.instruction.CallFrameInstruction.{CallFrameInstruction}
-use Rattle.cfi_parts.specs.Views.{map_expression, map_instruction}
+use Rattle.cfi_read_core.specs.declared.error.Error.{Error}
+use Rattle.cfi_read_core.specs.Readers.{map_ok}
+use Rattle.cfi_parts.specs.Views.{map_expression}
 use Rattle.cfi_state.specs.declared.table.rules.CfaRule.{CfaRule}
 use Rattle.cfi_state.specs.declared.table.rules.CfaRule.TheVariants as cfa
 use Rattle.cfi_state.specs.declared.table.rules.RegisterRule.{RegisterRule}
@@ -20,9 +21,6 @@ use Rattle.cfi_state.specs.Machine.{Rules, Parts, State}
 -- a map with the same keys
 abbrev pub map_values : {X Y : Type 0} → (X → Y) → FinMap nat_cmp X → FinMap nat_cmp Y
 map_values f m = from_sorted (map (λ e. (e.0, f e.1)) (entries m))
-
-abbrev pub map_readings : {X Y : Type 0} → (X → Y) → Readings X → Readings Y
-map_readings f reads = record { values = map f reads.values; refusal = reads.refusal }
 
 module _ {A B : Type 0} (f : A → B) where
   abbrev pub map_cfa : CfaRule A → CfaRule B
@@ -57,5 +55,9 @@ module _ {A B : Type 0} (f : A → B) where
   abbrev pub map_row : Row A → Row B
   map_row row = record { start_address = row.start_address; end_address = row.end_address; parts = map_parts row.parts }
 
-  abbrev pub map_program_reads : Readings (CallFrameInstruction A) → Readings (CallFrameInstruction B)
-  map_program_reads = map_readings (map_instruction f)
+  -- a row that is lent, as the answer of a call
+  abbrev pub lent_row : Bor (Row A) → Row B
+  lent_row row = map_row row.now
+
+  abbrev pub row_lent : Result (Bor (Row A)) Error → Result (Row B) Error
+  row_lent result = map_ok lent_row result

@@ -11,11 +11,9 @@ Performs may_allocate (Ok after) old new (Err error) = (error ≡ OutOfMemory) �
 Performs may_allocate (Err refusal) old new (Ok _) = ⊥
 Performs may_allocate (Err refusal) old new (Err error) = (error ≡ refusal) × (new ≡ old)
 
--- `r.map(f)`
-abbrev pub result_map : {A B : Type 0} → (A → B) → Result A Error → Result B Error
-result_map f (Ok x) = Ok (f x)
-result_map f (Err e) = Err e
-
 -- the refusal that is due or, where none is due and it may run out of memory, `OutOfMemory`
+abbrev pub IsDueOrMemory : Bool → Type 0 → Type 0 → Error → Type 0
+IsDueOrMemory may_allocate is_due none_is_due error = is_due ⊎ (IsTrue may_allocate × none_is_due × (error ≡ OutOfMemory))
+
 abbrev pub IsRefusal : {A : Type 0} → Bool → Result A Error → Error → Type 0
-IsRefusal may_allocate due error = (due ≡ Err error) ⊎ (IsTrue may_allocate × IsOk due × (error ≡ OutOfMemory))
+IsRefusal may_allocate due error = IsDueOrMemory may_allocate (due ≡ Err error) (IsOk due) error

@@ -4,7 +4,6 @@
 --     parts_of s p, location_of s p      the row's parts and the location after the program
 --     refusal s p i, refusal_at_end s p      why the next instruction, or the end of the CIE's initial instructions, is refused
 --     IsAccepted s p      none of its instructions was refused after those before it
---     kept_program s p xs      the program followed by those of xs that are not refused
 use Rattle.std.specs.Prelude.{◌≡◌, ℕ, ◌+◌, Bool, true, false, cond, not, ◌&&◌, nat_lt, nat_le, ◌==◌, List, [], ◌∷◌, ◌++◌, length, fold, Option, Some, None, is_some}
 use Rattle.std.specs.Option.{option_or}
 use Rattle.cfi_read_core.specs.declared.error.Error.{Error}
@@ -117,15 +116,9 @@ module _ {T : Type 0} where
   abbrev pub refusal_at_end : Setting → List (CallFrameInstruction T) → Option Error
   refusal_at_end s cie = refused_if (nat_le 2 (rule_count s (in_cie cie)) && is_stack_full s (in_cie cie)) StackFull
 
-  -- ---- accepted and kept
+  -- ---- accepted
 
   pub data IsAccepted (s : Setting) : Program T → Type 0 where
     nothing : IsAccepted s (in_cie [])
     one_more : (p : Program T) (i : CallFrameInstruction T) → IsAccepted s p → refusal s p i ≡ None → IsAccepted s (followed_by p i)
     cie_ended : (cie : List (CallFrameInstruction T)) → IsAccepted s (in_cie cie) → refusal_at_end s cie ≡ None → IsAccepted s (in_fde cie [])
-
-  abbrev pub kept_one : Setting → Program T → CallFrameInstruction T → Program T
-  kept_one s p i = cond (is_some (refusal s p i)) p (followed_by p i)
-
-  abbrev pub kept_program : Setting → Program T → List (CallFrameInstruction T) → Program T
-  kept_program s p xs = fold (kept_one s) p xs

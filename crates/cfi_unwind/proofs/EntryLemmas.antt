@@ -7,6 +7,7 @@ use Rattle.cfi_read_core.specs.declared.error.Error.{Error}
 use Rattle.std.specs.Int.{w32, w64}
 use Rattle.cfi_read_core.specs.declared.common.Format.{Format}
 use Rattle.cfi_read_core.specs.declared.common.Format.TheVariants.{Dwarf32, Dwarf64}
+use Rattle.cfi_read_core.specs.Readers.{map_ok}
 use Rattle.cfi_read_core.specs.Reading.{Read, Source, Extent, Readings, ◌>>=◌, give, refuse, offset, here, split, remainder, within, no_values, readings_with}
 use Rattle.cfi_read_core.specs.Numbers.{InitialLength, initial_length, length_in, unsigned}
 use Rattle.cfi_read_core.proofs.Given.{Gives, gives_give, gives_if, gives_bind, gives_bind_from, gives_within}
@@ -17,7 +18,7 @@ use Rattle.cfi_unwind.specs.Prefixes.{Prefix, prefix, fields_after_length, of_le
 use Rattle.cfi_unwind.specs.Cies.{Cie, cie_of}
 use Rattle.cfi_unwind.specs.Fdes.{PartialFde, Fde, fde_fields, addresses, address_encoding_of, lsda}
 use Rattle.cfi_unwind.specs.Scan.{partial_fdes, read_fde, fde_readings, IsAmong}
-use Rattle.cfi_unwind.specs.Entries.{Entry, CieEntry, FdeEntry, entry_of, then_give, entries_with, entries_from, entries_left, entries, prefix_at, partial_fde_at, partial_fde_of, is_cie, cie_at, fde_with, fde_by, fde_at}
+use Rattle.cfi_unwind.specs.Entries.{Entry, CieEntry, FdeEntry, entry_of, entries_with, entries_from, entries_left, entries, prefix_at, partial_fde_at, partial_fde_of, is_cie, cie_at, fde_with, fde_by, fde_at}
 
 -- ---- prefixes
 
@@ -80,13 +81,13 @@ abbrev AreAtTheirOffsets : Section → List Entry → Type 0
 AreAtTheirOffsets section es = AllByRecursion (IsAtItsOffset section) (partial_fdes es)
 
 fde_of_entry : (b : Bool) (cie : Result Cie Error) (fde : Result PartialFde Error) (partial : PartialFde) →
-    (if b then then_give CieEntry cie else then_give FdeEntry fde) ≡ Ok (FdeEntry partial) → (b ≡ false) × (fde ≡ Ok partial)
+    (if b then map_ok CieEntry cie else map_ok FdeEntry fde) ≡ Ok (FdeEntry partial) → (b ≡ false) × (fde ≡ Ok partial)
 fde_of_entry true (Ok cie) fde partial e = absurd (cc)
 fde_of_entry true (Err r) fde partial e = absurd (cc)
 fde_of_entry false cie (Ok fde) partial e = (refl, cc)
 fde_of_entry false cie (Err r) partial e = absurd (cc)
 
-found_kept : (found : Prefix) (offset : Result ℕ Error) (partial : PartialFde) → then_give (λ n. record { found = found; cie_offset = n }) offset ≡ Ok partial → partial.found ≡ found
+found_kept : (found : Prefix) (offset : Result ℕ Error) (partial : PartialFde) → map_ok (λ n. record { found = found; cie_offset = n }) offset ≡ Ok partial → partial.found ≡ found
 found_kept found (Ok n) partial e = let same : record { found = found; cie_offset = n } ≡ partial = cc in sym (ap (λ (p : PartialFde). p.found) same)
 found_kept found (Err r) partial e = absurd (cc)
 

@@ -21,9 +21,6 @@ module _ {F : Type 0} (gives : F → ℕ → Result Cie Error → F → Type 0) 
   unfolding chosen_of_given
   scans_refusal e f = ([], refl, refl)
 
-  pub scans_cie : (cie : Cie) (others : Readings Entry) (f : F) (answer : Result Fde Error) (g : F) → Scans gives section a others f answer g → Scans gives section a (with_first (CieEntry cie) others) f answer g
-  scans_cie cie others f answer g behind = behind
-
   -- the same of equal entries
   pub scans_cie_at : {xs : Readings Entry} (cie : Cie) (others : Readings Entry) (f : F) (answer : Result Fde Error) (g : F) → xs ≡ with_first (CieEntry cie) others →
       Scans gives section a others f answer g → Scans gives section a xs f answer g

@@ -5,18 +5,18 @@ use Rattle.std.proofs.lemmas.Bool.{eqb-false, eqb-true}
 use borrow.Author.Tests.{lt-leb}
 use Rattle.cfi_read_core.specs.declared.error.Error.{Error}
 use Rattle.cfi_read_core.specs.Reading.{Readings, Source, Position, Outcome, carry_on, no_values, readings_with, with_first}
-use Rattle.cfi_read_core.specs.Readers.{end_position}
+use Rattle.cfi_read_core.specs.Readers.{map_ok, end_position}
 use Rattle.cfi_read_core.proofs.Onward.{IsOnward, onward_bind, onward_give, onward_of_result}
 use Rattle.cfi_read_core.proofs.Repeating.{Advances, advances_bind}
 use Rattle.cfi_unwind.specs.Sections.{Section, zero_length_ends}
 use Rattle.cfi_unwind.specs.Prefixes.{Prefix, prefix}
-use Rattle.cfi_unwind.specs.Entries.{Entry, entry_of, entries_with, entries_from, entries_left, then_give}
+use Rattle.cfi_unwind.specs.Entries.{Entry, entry_of, entries_with, entries_from, entries_left}
 use Rattle.cfi_unwind.specs.Walks.{GoesThrough, entry_read, entry_of_prefix}
 use Rattle.cfi_unwind.proofs.EntryLemmas.{advances_prefix, one_entry, onward_prefix}
 
 onward_opened : (section : Section) (found : Option Prefix) → IsOnward (entry_of_prefix section found)
 onward_opened section None = onward_give None
-onward_opened section (Some found) = onward_of_result (then_give Some (entry_of section found))
+onward_opened section (Some found) = onward_of_result (map_ok Some (entry_of section found))
 
 pub onward_entry : (section : Section) → IsOnward (entry_read section)
 unfolding entry_read
@@ -32,7 +32,7 @@ step_gives section (Err e) others = no_values (Some e)
 step_gives section (Ok None) others = if zero_length_ends section.kind then no_values None else others
 step_gives section (Ok (Some e)) others = with_first e others
 
-by_entry : (section : Section) (r : Result Entry Error) (others : Readings Entry) → readings_with false r others ≡ step_gives section (then_give Some r) others
+by_entry : (section : Section) (r : Result Entry Error) (others : Readings Entry) → readings_with false r others ≡ step_gives section (map_ok Some r) others
 by_entry section (Ok e) others = refl
 by_entry section (Err e) others = refl
 

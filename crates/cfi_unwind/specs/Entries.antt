@@ -2,6 +2,7 @@
 use Rattle.std.specs.Prelude.{ℕ, zero, suc, ◌-◌, Bool, true, false, Option, Some, None, Result, Ok, Err, nat_le, ◌==◌, if◌then◌else◌}
 use Rattle.cfi_read_core.specs.declared.error.Error.{Error}
 use Rattle.cfi_read_core.specs.declared.error.Error.TheVariants.{NotCieId, NotCiePointer, NoEntryAtGivenOffset}
+use Rattle.cfi_read_core.specs.Readers.{map_ok}
 use Rattle.cfi_read_core.specs.Reading.{Readings, no_values, readings_with}
 use Rattle.cfi_unwind.specs.Sections.{Section, cie_id, cie_offset_of, zero_length_ends, at_offset}
 use Rattle.cfi_unwind.specs.Prefixes.{Prefix, prefix}
@@ -15,19 +16,15 @@ pub data Entry : Type 0 where
 abbrev pub is_cie : Section → Prefix → Bool
 is_cie section found = found.id == cie_id section.kind found.format
 
-abbrev pub then_give : {A B : Type 0} → (A → B) → Result A Error → Result B Error
-then_give made (Ok x) = Ok (made x)
-then_give made (Err e) = Err e
-
 abbrev pub partial_fde_of : Section → Prefix → Result PartialFde Error
-partial_fde_of section found = then_give (λ offset. record { found = found; cie_offset = offset }) (cie_offset_of section found.id_offset found.id)
+partial_fde_of section found = map_ok (λ offset. record { found = found; cie_offset = offset }) (cie_offset_of section found.id_offset found.id)
 
 -- a CIE is read whole, an FDE as far as the offset of its CIE
 unfoldable pub entry_of : Section → Prefix → Result Entry Error
 entry_of section found =
     if is_cie section found
-    then then_give CieEntry (cie_of section found)
-    else then_give FdeEntry (partial_fde_of section found)
+    then map_ok CieEntry (cie_of section found)
+    else map_ok FdeEntry (partial_fde_of section found)
 
 -- ---- the list of entries
 

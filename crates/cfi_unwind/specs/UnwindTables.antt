@@ -16,12 +16,12 @@ use Rattle.cfi_state.specs.Row.{Row}
 use Rattle.cfi_state.specs.ProgramSettings.{Setting}
 use Rattle.cfi_state.specs.Machine.{State, fresh_state}
 use Rattle.cfi_state.specs.Context.{ContextState, machine_state}
-use Rattle.cfi_state.specs.Numbered.{map_state, map_row}
+use Rattle.cfi_state.specs.Numbered.{map_state, map_row, lent_row}
 use Rattle.cfi_state.specs.TableStates.{TableState, before_last_row, after_last_row}
-use Rattle.cfi_state.specs.Program.{Program, in_fde}
+use Rattle.cfi_state.specs.Program.{in_fde}
 use Rattle.cfi_state.specs.Rows.{IsStateAfter}
 use Rattle.cfi_state.specs.Runs.{current_row, NextAnswer, RunsInitialInstructions, may_allocate}
-use Rattle.cfi_state.specs.Kept.{NextKeptAnswer, KeepsInitialInstructions}
+use Rattle.cfi_state.specs.Kept.{AnswersForProgram, KeepsInitialInstructions}
 use Rattle.cfi_unwind.specs.Sections.{Section}
 use Rattle.cfi_unwind.specs.Fdes.{Fde}
 use Rattle.cfi_unwind.specs.EntryInstructions.{cie_instructions, fde_instructions}
@@ -53,14 +53,10 @@ module _ {T : Type 0} (number : T → ℕ) where
 
 -- ---- without a machine
 
-abbrev pub at_program : TableState (State ℕ) ℕ → Program ℕ → TableState (Program ℕ) ℕ
-at_program p program = record { so_far = program; left = p.left; has_ended = p.has_ended }
-
 -- From each program after which the table stands, the answer is the next one of the form without a machine, and the table
 -- then stands after that program followed by the instructions that were kept.
 pub record AnswersWithoutMachine (s : Setting) (copies_free : Bool) (p : TableState (State ℕ) ℕ) (answer : Result (Option (Row ℕ)) Error) (q : TableState (State ℕ) ℕ) : Type 0 where
-  pub from : (program : Program ℕ) → IsStateAfter s p.so_far program
-      → (after : Program ℕ) × NextKeptAnswer (may_allocate s copies_free) s (at_program p program) answer (at_program q after) × IsStateAfter s q.so_far after
+  pub from : AnswersForProgram (may_allocate s copies_free) s p answer q
 
 -- The program of a CIE is kept, and the state stands after it.
 abbrev pub KeepsCieProgram : Setting → Bool → Readings Instruction → Result (State ℕ) Error → Type 0
@@ -82,7 +78,7 @@ pub record StartsRows {X : Type 0} (place : X → TableState (State ℕ) ℕ) (s
 -- A call returned the row of the context, and the table holds it where there is one.
 pub record LendsNextRow {T : Type 0} (number : T → ℕ) (s : Setting) (copies_free : Bool) (old : TableState (State ℕ) ℕ) (result : Result (Option (Bor (Row T))) Error)
     (new : TableState (State ℕ) ℕ) (context : ContextState T) (holds_row : Bool) : Type 0 where
-  pub next : GivesNextAnswer s copies_free old (map_ok (option_map (λ row. map_row number row.now)) result) new
-  pub kept : AnswersWithoutMachine s copies_free old (map_ok (option_map (λ row. map_row number row.now)) result) new
+  pub next : GivesNextAnswer s copies_free old (map_ok (option_map (lent_row number)) result) new
+  pub kept : AnswersWithoutMachine s copies_free old (map_ok (option_map (lent_row number)) result) new
   pub row : IfOk result (λ found. IfSome found (λ row. row.now ≡ context.row))
   pub held : MatchResult result (λ found. holds_row ≡ is_some found) (λ _. holds_row ≡ false)

@@ -8,7 +8,6 @@ pub(crate) mod fde;
 mod instructions;
 pub(crate) mod partial;
 pub(crate) mod prefix;
-mod rows;
 
 pub use augmentation::Augmentation;
 pub use cie::CommonInformationEntry;

@@ -4,3 +4,4 @@
 pub mod entry;
 pub mod section;
 pub mod table;
+mod unwind;

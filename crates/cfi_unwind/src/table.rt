@@ -11,7 +11,7 @@ ghost use Rattle.cfi_state.specs.ContextEffects.{setting_of};
 ghost use Rattle.cfi_state.specs.Kept.{AnswersByKept};
 ghost use Rattle.cfi_state.specs.Limit.{IsFixed};
 ghost use Rattle.cfi_state.specs.Machine.{fresh_state};
-ghost use Rattle.cfi_state.specs.Numbered.{map_row};
+ghost use Rattle.cfi_state.specs.Numbered.{row_lent};
 ghost use Rattle.cfi_state.specs.TableStates.{before_last_row};
 ghost use Rattle.cfi_state.specs.Rows.{fde_answer};
 ghost use Rattle.cfi_state.specs.Runs.{may_allocate, RunsInitialInstructions, FindsRow, AnswersFde};
@@ -264,14 +264,14 @@ pub(crate) fn unwind_info_for_address<
     ensures run { let s = setting_of parameters S.Rules.limit S.Stack.limit in
         AnswersFde (may_allocate s S.Rules.copies_free) s
         (instructions_left (instruction_reader R.position cie_instructions.entry)) (instructions_left (instruction_reader R.position fde_instructions.entry))
-        address (map_ok (λ row. map_row R.Offset.number row.now) result) }
+        address (row_lent R.Offset.number result) }
     ensures kept { let s = setting_of parameters S.Rules.limit S.Stack.limit in
         AnswersByKept (may_allocate s S.Rules.copies_free) s
         (instructions_left (instruction_reader R.position cie_instructions.entry)) (instructions_left (instruction_reader R.position fde_instructions.entry))
-        address (map_ok (λ row. map_row R.Offset.number row.now) result) }
+        address (row_lent R.Offset.number result) }
     ensures fixed { let s = setting_of parameters S.Rules.limit S.Stack.limit in
         IsFixed S.Rules.limit S.Stack.limit S.Rules.copies_free →
-        map_ok (λ row. map_row R.Offset.number row.now) result
+        row_lent R.Offset.number result
         ≡ fde_answer s (instructions_left (instruction_reader R.position cie_instructions.entry)) (instructions_left (instruction_reader R.position fde_instructions.entry)) address }
 {
     let mut table = UnwindTable::with_instructions(parameters, cie_instructions, fde_instructions, context)?;

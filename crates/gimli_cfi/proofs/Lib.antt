@@ -2,6 +2,7 @@ pub mod StepsLemmas
 pub mod Halving
 pub mod Rising
 pub mod Agreement
+pub mod Laws
 pub mod Computing
 pub mod HeaderReads
 pub mod RowWalk

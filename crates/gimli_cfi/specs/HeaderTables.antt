@@ -10,7 +10,7 @@ use Rattle.cfi_unwind.specs.Cies.{Cie}
 use Rattle.cfi_unwind.specs.Fdes.{Fde, Covers, covers}
 use Rattle.cfi_unwind.specs.Entries.{entries, fde_at, partial_fde_at}
 use Rattle.cfi_unwind.specs.GetCieCalls.{ReadsWith}
-use Rattle.cfi_unwind.specs.Scan.{fde_readings, IsAmong, chosen_fde}
+use Rattle.cfi_unwind.specs.Scan.{fde_readings, IsAmong}
 use Rattle.gimli_cfi.specs.Boundary.{IsBoundaryRow, IsRefusalOfRow}
 use Rattle.gimli_cfi.specs.Headers.{HeaderSection, Table, value_size, start_of, target_of, offset_of_pointer}
 
@@ -88,16 +88,6 @@ pub record FindsByTable {F : Type 0} (get_cie : F → ℕ → Result Cie Error �
   pub searched : IsFoundBySearch (start_of header table) table a (target_of header table) target
   pub read : ReadsTarget get_cie header eh_frame section a target f found g
 
--- ---- the law: where a table is faithful it answers what the scan answers
-
 -- the header's offsets reach to the end of the section
 abbrev pub ReachesAll : HeaderSection → Section → Type 0
 ReachesAll header section = section.source.last - section.first ≤ header.source.greatest
-
--- each boundary row gives the FDE, or the refusal, that the scan gives
-abbrev pub AgreesWithScan : HeaderSection → Table → ℕ → Section → Type 0
-AgreesWithScan header table eh_frame section =
-    (a k : ℕ) → IsBoundaryRow (start_of header table) table.count a k → fde_by_row header table (Direct eh_frame) section a k ≡ chosen_fde section a
-
-abbrev pub RefusesNoStart : HeaderSection → Table → Type 0
-RefusesNoStart header table = (e : Error) → IsRefusalOfRow (start_of header table) table.count e → ⊥

@@ -1,6 +1,5 @@
 //! Unwind contexts, rows and tables, and the row of an address.
-ghost use Rattle.cfi_read_core.specs.Readers.{map_ok};
-ghost use Rattle.cfi_state.specs.Numbered.{map_row};
+ghost use Rattle.cfi_state.specs.Numbered.{row_lent};
 ghost use Rattle.cfi_unwind.specs.Sections.{section_of};
 ghost use Rattle.cfi_unwind.specs.AddressRow.{IsRowByScan};
 
@@ -30,7 +29,7 @@ pub fn row_by_scan<'ctx, R: Reader, Section: UnwindSection<R>, S: UnwindContextS
     address: u64,
 ) -> Result<&'ctx UnwindTableRow<R::Offset, S::Rules>>
     ensures row { IsRowByScan S.Rules.limit S.Stack.limit S.Rules.copies_free
-        (section_of (Section.view section.now) bases.now) address (map_ok (λ row. map_row R.Offset.number row.now) result) }
+        (section_of (Section.view section.now) bases.now) address (row_lent R.Offset.number result) }
 {
     let fde = scan_for_fde(section, bases, address)?;
     fde.unwind_info_for_address(section, bases, ctx, address)

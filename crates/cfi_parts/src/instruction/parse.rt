@@ -1,7 +1,6 @@
 //! One call frame instruction (DWARF 5 sections 6.4.2 and 7.24).
 ghost use Rattle.std.specs.Prelude.{◌≡◌, ◌≤◌};
 ghost use Rattle.cfi_read_core.specs.Addresses.{IsAddressSize};
-ghost use Rattle.cfi_read_core.specs.Numbers.{offset_leb128, register_leb128};
 ghost use Rattle.cfi_read_core.specs.Reading.{chosen_from};
 ghost use Rattle.cfi_read_core.specs.Readers.{Reads};
 ghost use Rattle.cfi_parts.specs.Contexts.{instruction_context, pointer_context};
@@ -19,6 +18,7 @@ use cfi_read_core::constants::{
     DW_CFA_restore_extended, DW_CFA_restore_state, DW_CFA_same_value, DW_CFA_set_loc,
     DW_CFA_undefined, DW_CFA_val_expression, DW_CFA_val_offset, DW_CFA_val_offset_sf,
 };
+use cfi_read_core::reader::{read_offset, read_register};
 use cfi_read_core::{DwCfa, DwEhPe, Error, Reader, ReaderOffset, Register, Result, Vendor};
 
 /// What the instructions of an entry are read with.
@@ -30,20 +30,6 @@ pub struct InstructionParameters<'a, R> {
     pub pointers: PointerEncodingParameters<'a, R>,
     /// Whose vendor opcodes are known.
     pub vendor: Vendor,
-}
-
-#[tactic(auto, unfolding(cfi_read_core::specs::Numbers::register_leb128))]
-fn read_register<R: Reader>(input: &mut R) -> Result<Register>
-    ensures { Reads (λ x. x) register_leb128 (R.position input.old) result (R.position input.new) }
-{
-    Register::from_u64(input.read_uleb128()?)
-}
-
-#[tactic(auto, unfolding(cfi_read_core::specs::Numbers::offset_leb128))]
-fn read_offset<R: Reader>(input: &mut R) -> Result<R::Offset>
-    ensures { Reads R.Offset.number offset_leb128 (R.position input.old) result (R.position input.new) }
-{
-    R::Offset::from_u64(input.read_uleb128()?)
 }
 
 /// Passes an expression, and answers where it stands in the section.

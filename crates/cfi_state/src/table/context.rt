@@ -2,6 +2,7 @@
 ghost use Rattle.std.specs.Prelude.{◌≡◌, ◌≤◌, None, IfOk, IfErr, false, reverse};
 ghost use Rattle.std.specs.Option.{option_eq};
 ghost use Rattle.std.specs.Cmp.{partial_equiv_from_equiv};
+ghost use Rattle.cfi_read_core.specs.Readers.{map_ok};
 ghost use Rattle.cfi_state.specs.Context.{KeepsRules};
 ghost use Rattle.cfi_state.specs.Equality.{kept_eq};
 
@@ -74,7 +75,7 @@ impl<T: ReaderOffset, S: UnwindContextStorage<T>> UnwindContext<T, S> {
     ghost use Rattle.std.specs.FinMap as map;
     ghost use Rattle.cfi_state.specs.ProgramSettings.{is_at_limit};
     ghost use Rattle.cfi_state.specs.Machine.{copies_held};
-    ghost use Rattle.cfi_state.specs.Outcome.{Performs, result_map};
+    ghost use Rattle.cfi_state.specs.Outcome.{Performs};
     ghost use Rattle.cfi_state.specs.Rules.{map_set_rule, AddsRule};
     ghost use Rattle.cfi_state.specs.Row.{at_start, at_end, row_with_cfa, with_args_size, row_with_rules};
     ghost use Rattle.cfi_state.specs.Context.{empty_context, with_row, context_rows_held, context_remember, context_restore, context_end_of_cie, initial_rule, AddsRow, AddsInitialRow};
@@ -144,7 +145,7 @@ impl<T: ReaderOffset, S: UnwindContextStorage<T>> UnwindContext<T, S> {
 
     pub(crate) fn set_rule(&mut self, register: Register, rule: RegisterRule<T>) -> Result<()>
         ensures { Performs (AddsRule S.Rules.limit self.old.row.parts.rules register.0)
-            (result_map (λ rules. with_row self.old (row_with_rules self.old.row rules))
+            (map_ok (λ rules. with_row self.old (row_with_rules self.old.row rules))
             (map_set_rule S.Rules.limit self.old.row.parts.rules register.0 rule))
             self.old self.new result }
     {

@@ -1,6 +1,7 @@
 //! A row of an unwind table.
 ghost use Rattle.std.specs.Prelude.{◌≡◌, ◌<◌, ◌≤◌, ◌↔◌, false, IsTrue, IfOk, IfErr, IsNone};
 ghost use Rattle.std.specs.Cmp.{partial_equiv_from_equiv};
+ghost use Rattle.cfi_read_core.specs.Readers.{map_ok};
 
 use super::rules::{CfaRule, RegisterRule, RegisterRuleIter, RegisterRuleMap};
 use crate::storage::{ArrayLike, CopyList};
@@ -39,7 +40,7 @@ impl<T: ReaderOffset, A: ArrayLike<Item = (Register, RegisterRule<T>)>> Model
 
 impl<T: ReaderOffset, A: ArrayLike<Item = (Register, RegisterRule<T>)>> UnwindTableRow<T, A> {
     ghost use Rattle.std.specs.FinMap as map;
-    ghost use Rattle.cfi_state.specs.Outcome.{Performs, result_map};
+    ghost use Rattle.cfi_state.specs.Outcome.{Performs};
     ghost use Rattle.cfi_state.specs.Rules.{rules_of, map_set_rule, AddsRule, IsDistinctRegisters};
     ghost use Rattle.cfi_state.specs.Row.{empty_row, row_with_cfa, with_args_size, with_parts, row_with_rules, at_start, at_end};
 
@@ -151,7 +152,7 @@ impl<T: ReaderOffset, A: ArrayLike<Item = (Register, RegisterRule<T>)>> UnwindTa
 
     pub(crate) fn set_rule(&mut self, register: Register, rule: RegisterRule<T>) -> Result<()>
         ensures { Performs (AddsRule A.limit self.old.parts.rules register.0)
-            (result_map (row_with_rules self.old) (map_set_rule A.limit self.old.parts.rules register.0 rule))
+            (map_ok (row_with_rules self.old) (map_set_rule A.limit self.old.parts.rules register.0 rule))
             self.old self.new result }
     {
         self.registers.set(register, rule)

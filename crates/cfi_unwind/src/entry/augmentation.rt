@@ -8,12 +8,12 @@ ghost use Rattle.cfi_unwind.specs.Cies.{letters_with_data, augmentation, letter,
 ghost use Rattle.cfi_unwind.specs.Views.{augmentation_view, section_in};
 
 use crate::entry::in_section::InSection;
-use crate::entry::prefix::read_offset;
 use cfi_parts::pointer::{
     Pointer, PointerEncodingParameters, parse_encoded_pointer, parse_pointer_encoding,
 };
 use cfi_parts::unwind_section::_UnwindSectionPrivate;
 use cfi_read_core::address::AddressSize;
+use cfi_read_core::reader::read_offset;
 use cfi_read_core::{DwEhPe, Error, Reader, Result};
 
 /// What an augmentation string and its data mean. Of a repeated letter the last counts.

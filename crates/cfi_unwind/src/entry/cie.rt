@@ -13,6 +13,7 @@ use crate::entry::prefix::EntryPrefix;
 use cfi_parts::pointer::Pointer;
 use cfi_parts::unwind_section::_UnwindSectionPrivate;
 use cfi_read_core::address::AddressSize;
+use cfi_read_core::reader::read_register;
 use cfi_read_core::{DwEhPe, Encoding, Error, Format, Reader, Register, Result};
 
 /// A common information entry, over its reader and the reader's offsets.
@@ -53,14 +54,13 @@ fn read_sizes<R: Reader, S: _UnwindSectionPrivate<R>>(
 }
 
 /// The register that holds the return address.
-#[tactic(auto, unfolding(cfi_read_core::specs::Numbers::register_leb128))]
 fn read_return_register<R: Reader>(version: u8, input: &mut R) -> Result<Register>
     ensures { Reads (λ x. x) (return_register version) (R.position input.old) result (R.position input.new) }
 {
     if version == 1 {
         Ok(Register(u16::from(input.read_u8()?)))
     } else {
-        Register::from_u64(input.read_uleb128()?)
+        read_register(input)
     }
 }
 

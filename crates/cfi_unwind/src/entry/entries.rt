@@ -3,10 +3,11 @@ ghost use Rattle.std.specs.Prelude.{◌≡◌, ⊤, IfOk, IfSome};
 ghost use Rattle.std.specs.Option.{option_map};
 ghost use Rattle.std.specs.Iterator.{YieldsFirstBy, item_count};
 ghost use Rattle.cfi_read_core.specs.Readers.{Reads, map_ok};
+ghost use Rattle.cfi_parts.specs.InstructionReaders.{Meets, items};
 ghost use Rattle.cfi_parts.specs.CallFrameSections.{IsOf};
 ghost use Rattle.cfi_unwind.specs.Sections.{section_of};
 ghost use Rattle.cfi_unwind.specs.Entries.{cie_at, entries_left, entry_of, partial_fde_at, partial_fde_of, prefix_at};
-ghost use Rattle.cfi_unwind.specs.Walks.{GoesThrough, GoesThrough_prop, Meets, entry_read, items};
+ghost use Rattle.cfi_unwind.specs.Walks.{GoesThrough, GoesThrough_prop, entry_read};
 ghost use Rattle.cfi_unwind.specs.Views.{cie_view, prefix_view, section_in};
 ghost use Rattle.cfi_unwind.specs.EntryViews.{OfEither, entry_view, partial_of};
 

@@ -10,12 +10,13 @@ ghost use Rattle.cfi_unwind.specs.Views.{augmentation_view, cie_view, fde_view, 
 use crate::entry::augmentation::Augmentation;
 use crate::entry::cie::{CieFields, CommonInformationEntry};
 use crate::entry::in_section::InSection;
-use crate::entry::prefix::{EntryPrefix, read_offset};
+use crate::entry::prefix::EntryPrefix;
 use cfi_parts::pointer::{
     Pointer, PointerEncodingParameters, parse_encoded_pointer, parse_encoded_value,
 };
 use cfi_parts::unwind_section::_UnwindSectionPrivate;
 use cfi_read_core::address::AddressSize;
+use cfi_read_core::reader::read_offset;
 use cfi_read_core::{DwEhPe, Reader, ReaderAddress, Result};
 
 /// A frame description entry, over its reader and the reader's offsets.

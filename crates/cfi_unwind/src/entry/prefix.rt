@@ -1,7 +1,7 @@
 //! What each entry begins with: its length, which gives the format and the extent, and its id (DWARF 5 section 6.4.1).
 ghost use Rattle.std.specs.Prelude.{◌≡◌, IfOk, IfSome, ◌≤◌};
 ghost use Rattle.std.specs.Option.{option_map};
-ghost use Rattle.cfi_read_core.specs.Numbers.{unsigned, offset_leb128};
+ghost use Rattle.cfi_read_core.specs.Numbers.{unsigned};
 ghost use Rattle.cfi_read_core.specs.Readers.{Reads, map_ok};
 ghost use Rattle.cfi_parts.specs.CallFrameSections.{IsOf, width_of};
 ghost use Rattle.cfi_unwind.specs.Prefixes.{fields_after_length, prefix};
@@ -20,14 +20,6 @@ pub struct EntryPrefix<R, O> {
     pub(crate) id: u64,
     pub(crate) id_offset: O,
     pub(crate) rest: R,
-}
-
-/// A LEB128 number that has to be an offset.
-#[tactic(auto, unfolding(cfi_read_core::specs::Numbers::offset_leb128))]
-pub(crate) fn read_offset<R: Reader>(input: &mut R) -> Result<R::Offset>
-    ensures { Reads R.Offset.number offset_leb128 (R.position input.old) result (R.position input.new) }
-{
-    R::Offset::from_u64(input.read_uleb128()?)
 }
 
 fn read_id<R: Reader>(encoding: CieOffsetEncoding, input: &mut R) -> Result<u64>

@@ -4,9 +4,6 @@ ghost use Rattle.std.specs.Prelude.{◌≡◌, ℕ, ◌+◌, ◌≤◌, ◌<◌,
 ghost use Rattle.cfi_read_core.specs.declared.error.Error.{Error};
 ghost use Rattle.gimli_cfi.specs.Boundary.{IsBoundaryRow, IsRefusalOfRow};
 ghost use Rattle.gimli_cfi.specs.Steps.{steps};
-ghost use Rattle.gimli_cfi.specs.Headers.{HeaderSection, Table};
-ghost use Rattle.gimli_cfi.specs.HeaderTables.{IsFaithful, ReachesAll, AgreesWithScan, RefusesNoStart};
-ghost use Rattle.cfi_unwind.specs.Sections.{Section};
 
 use cfi_read_core::error::Result;
 
@@ -60,10 +57,3 @@ pub fn search_starts<S: StartSource>(source: &mut S, count: u64, address: u64) -
     }
     Ok(first)
 }
-
-/// Where a table lists the FDEs of a section faithfully, each boundary row gives what going through the section
-/// gives.
-pub fn faithful_table_agrees_with_scan()
-    ensures agrees { (header : HeaderSection) (table : Table) (eh_frame : ℕ) (section : Section) → IsFaithful header table eh_frame section → ReachesAll header section → AgreesWithScan header table eh_frame section }
-    ensures no_refusal { (header : HeaderSection) (table : Table) (eh_frame : ℕ) (section : Section) → IsFaithful header table eh_frame section → RefusesNoStart header table }
-{}

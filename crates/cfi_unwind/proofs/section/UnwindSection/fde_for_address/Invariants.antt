@@ -2,7 +2,7 @@ use Rattle.std.proofs.Common.{◌≡◌, length}
 use denote.Param.Always.{always_mut}
 use Rattle.cfi_unwind.specs.Sections.{section_of}
 use Rattle.cfi_unwind.specs.Entries.{entries, entries_left}
-use Rattle.cfi_unwind.specs.Walks.{items}
+use Rattle.cfi_parts.specs.InstructionReaders.{items}
 use Rattle.cfi_unwind.specs.GetCieCalls.{GetCieCall, CallsLead, Scans}
 use Rattle.cfi_unwind.specs.Views.{cie_view}
 use Rattle.cfi_unwind.proofs.section.UnwindSection.fde_for_address.Given as goal

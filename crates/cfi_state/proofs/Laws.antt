@@ -1,43 +1,33 @@
--- Laws of an FDE's rows: they follow each other from its initial address to its end, each address that it contains lies
--- in exactly one of them, and an answer for an address contains it.
+-- What holds of the rows of every FDE, and of the answer for an address.
+--     rows_consecutive      the rows follow each other from the FDE's initial address to its end, without gap or overlap
+--     in_one_row      each address that the FDE contains lies in exactly one of its rows
+--     answer_contains      a row that is the answer for an address contains the address
+--     fde_answer_law      the machine's answer is the one that the kept instructions give without a machine
+--     fde_answer_kept_or_memory      over any storage the answer is that one, or `OutOfMemory`
 use Rattle.std.proofs.Common.{◌≡◌, ℕ, ◌+◌, ◌<◌, ◌≤◌, Bool, true, false, cond, ◌&&◌, List, [], ◌∷◌, ◌++◌, ltb, leb, Option, Some, None, Result, Ok, Err, refl, sym, ap, subst, ◌∙◌, arith, zero-add, inl, inr, ◌⊎◌}
 use Rattle.std.specs.List.{count_by}
 use Rattle.std.proofs.lemmas.List.Sums.{sum_by-cons}
 use Rattle.std.proofs.lemmas.Bool.{false≢true, and_from, cases_lt, lt-ltb, le-ltb, ltb-false, le-leb, lt-leb, cases_Bool}
 use Rattle.cfi_read_core.specs.Reading.{Readings}
 use Rattle.cfi_read_core.specs.declared.error.Error.{Error}
+use Rattle.cfi_read_core.specs.declared.error.Error.TheVariants.{OutOfMemory}
 use Rattle.cfi_parts.specs.declared.instruction.CallFrameInstruction.{CallFrameInstruction}
 use Rattle.cfi_parts.specs.declared.instruction.CallFrameInstruction.TheVariants as instruction
 use Rattle.cfi_state.specs.Row.{Row}
 use Rattle.cfi_state.specs.ProgramSettings.{Setting, next_location, is_move}
+use Rattle.cfi_state.specs.Runs.{MayAllocate, AnswersFde}
 use Rattle.cfi_state.specs.Program.{Program, in_fde, refused_if, followed_by, location_of, refusal}
-use Rattle.cfi_state.specs.Rows.{or_refused, on_option, on_result, refusals, row_until, rows_ended, answers_of, answers, cie_refusal, run_answers, program_state, rows_of, row_contains, AreConsecutive, answer_at, fde_answer, run_fde_answer}
+use Rattle.cfi_state.specs.Rows.{or_refused, on_option, on_result, refusals, row_until, answers_of, answers, cie_refusal, run_answers, program_state, rows_of, row_contains, AreConsecutive, answer_at, fde_answer, run_fde_answer}
 use Rattle.cfi_state.proofs.Law.{location_push}
 use Rattle.cfi_state.proofs.IsStateAfter.{cie_law, cie_accepted, run_law}
+use Rattle.cfi_state.proofs.KeptAnswers.{answers-other, answers-move, answers-refused}
+use Rattle.cfi_state.proofs.RunAnswers.{fde_answer_or_memory}
 
 not_refused : (b : Bool) (e : Error) → refused_if b e ≡ None → b ≡ false
 not_refused true e h = absurd (let wrong : Some e ≡ None = h in cc)
 not_refused false e h = refl
 
 module _ {T : Type 0} where
-  -- ---- the next answer
-
-  -- an accepted instruction that is no move gives none
-  pub answers-other : (s : Setting) (p : Program T) (i : CallFrameInstruction T) (xs : List (CallFrameInstruction T)) (unread : Option Error) → refusal s p i ≡ None → is_move i ≡ false → answers_of s p (i ∷ xs) unread ≡ answers_of s (followed_by p i) xs unread
-  answers-other s p i xs unread accepted still =
-      ap (on_option (rows_ended s p i ++ answers_of s (followed_by p i) xs unread) (λ e. Err e ∷ answers_of s p xs unread)) accepted
-      ∙ ap (λ b. cond b (Ok (row_until s p (location_of s (followed_by p i))) ∷ []) [] ++ answers_of s (followed_by p i) xs unread) still
-
-  -- an accepted move gives the row that it ends
-  pub answers-move : (s : Setting) (p : Program T) (i : CallFrameInstruction T) (xs : List (CallFrameInstruction T)) (unread : Option Error) → refusal s p i ≡ None → is_move i ≡ true → answers_of s p (i ∷ xs) unread ≡ Ok (row_until s p (location_of s (followed_by p i))) ∷ answers_of s (followed_by p i) xs unread
-  answers-move s p i xs unread accepted moves =
-      ap (on_option (rows_ended s p i ++ answers_of s (followed_by p i) xs unread) (λ e. Err e ∷ answers_of s p xs unread)) accepted
-      ∙ ap (λ b. cond b (Ok (row_until s p (location_of s (followed_by p i))) ∷ []) [] ++ answers_of s (followed_by p i) xs unread) moves
-
-  -- a refused instruction gives its refusal, and the program stays
-  pub answers-refused : (s : Setting) (p : Program T) (i : CallFrameInstruction T) (xs : List (CallFrameInstruction T)) (unread : Option Error) (e : Error) → refusal s p i ≡ Some e → answers_of s p (i ∷ xs) unread ≡ Err e ∷ answers_of s p xs unread
-  answers-refused s p i xs unread e refused = ap (on_option (rows_ended s p i ++ answers_of s (followed_by p i) xs unread) (λ d. Err d ∷ answers_of s p xs unread)) refused
-
   -- ---- consecutive rows
 
   -- an accepted instruction does not move back
@@ -138,3 +128,9 @@ module _ {T : Type 0} where
   -- the machine's answer for an address is that of the struck-out form
   pub fde_answer_law : (s : Setting) (cie fde : Readings (CallFrameInstruction T)) (address : ℕ) → run_fde_answer s cie fde address ≡ fde_answer s cie fde address
   fde_answer_law s cie fde address = ap (on_result (λ x. answer_at address (run_answers s x fde)) (λ e. Err e)) (cie_law s cie) ∙ fde_answer_step s cie fde address (cie_refusal s cie) refl
+
+-- over any storage the answer is the function's answer, or `OutOfMemory`
+pub fde_answer_kept_or_memory : {T : Type 0} (allocates : MayAllocate T) (s : Setting) (cie fde : Readings (CallFrameInstruction T)) (address : ℕ) (result : Result (Row T) Error) → AnswersFde allocates s cie fde address result → (fde_answer s cie fde address ≡ result) ⊎ (result ≡ Err OutOfMemory)
+fde_answer_kept_or_memory allocates s cie fde address result answers_it =
+    subst (λ r. (r ≡ result) ⊎ (result ≡ Err OutOfMemory)) (fde_answer_law s cie fde address)
+    (fde_answer_or_memory allocates s cie fde address result answers_it)

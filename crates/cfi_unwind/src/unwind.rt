@@ -1,10 +1,9 @@
 //! The rows of an FDE, and the row that it gives for an address (DWARF 5 section 6.4.1).
 ghost use Rattle.std.specs.Prelude.{◌≡◌, ℕ, Option, IfOk, false};
-ghost use Rattle.cfi_read_core.specs.Readers.{map_ok};
 ghost use Rattle.cfi_parts.specs.CallFrameSections.{IsOf};
 ghost use Rattle.cfi_state.specs.ContextEffects.{setting_of};
 ghost use Rattle.cfi_state.specs.Limit.{IsFixed};
-ghost use Rattle.cfi_state.specs.Numbered.{map_row};
+ghost use Rattle.cfi_state.specs.Numbered.{row_lent};
 ghost use Rattle.cfi_unwind.specs.Sections.{section_of};
 ghost use Rattle.cfi_unwind.specs.AddressRow.{IsRowOfFde, RunsToRowOfFde, row_of_fde, setting};
 ghost use Rattle.cfi_unwind.specs.Views.{fde_view};
@@ -79,11 +78,11 @@ impl<R: Reader> FrameDescriptionEntry<R> {
         requires own { IsOf (R.position self.now.instructions) (Section.view section.now).position }
         requires cie { IsOf (R.position self.now.cie.initial_instructions) (Section.view section.now).position }
         ensures row { IsRowOfFde S.Rules.limit S.Stack.limit S.Rules.copies_free (section_of (Section.view section.now) bases.now) address
-            (fde_view R.position R.Offset.number self.now) (map_ok (λ row. map_row R.Offset.number row.now) result) }
+            (fde_view R.position R.Offset.number self.now) (row_lent R.Offset.number result) }
         ensures run { RunsToRowOfFde S.Rules.limit S.Stack.limit S.Rules.copies_free (section_of (Section.view section.now) bases.now) address
-            (fde_view R.position R.Offset.number self.now) (map_ok (λ row. map_row R.Offset.number row.now) result) }
+            (fde_view R.position R.Offset.number self.now) (row_lent R.Offset.number result) }
         ensures fixed { IsFixed S.Rules.limit S.Stack.limit S.Rules.copies_free →
-            map_ok (λ row. map_row R.Offset.number row.now) result
+            row_lent R.Offset.number result
             ≡ row_of_fde S.Rules.limit S.Stack.limit (section_of (Section.view section.now) bases.now) address (fde_view R.position R.Offset.number self.now) }
     {
         let initial = self.cie.instructions(section, bases);

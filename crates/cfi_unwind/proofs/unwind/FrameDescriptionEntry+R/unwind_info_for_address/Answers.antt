@@ -1,6 +1,6 @@
 use Rattle.std.proofs.Common.{◌∙◌}
 use Rattle.cfi_unwind.proofs.RowLemmas.{same_row, same_run, same_answer}
-use Rattle.cfi_unwind.proofs.entry.rows.FrameDescriptionEntry+R.unwind_info_for_address.Goals as goal
+use Rattle.cfi_unwind.proofs.unwind.FrameDescriptionEntry+R.unwind_info_for_address.Goals as goal
 
 pub returns-clause-row : goal.returns-clause-row
 returns-clause-row g c =
