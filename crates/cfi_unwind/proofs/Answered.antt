@@ -29,8 +29,8 @@ module _ {F S O C : Type 0} (calls : Mut F (Bor S × (Bor BaseAddresses × (O ×
   pub answered_by : (I : F → Type 0) (P : C → Type 0) (first : F) → I first → AnswersAll I P → (cie : C) → IsAnswered calls section bases first cie → P cie
   answered_by I P first at_first each cie is =
       (each is.before is.asked (Ok cie) is.after
-          (kept_to I (λ f asked answer g holds call. (each f asked answer g holds call).0) is.earlier first is.before at_first is.led)
-          is.call).1
+      (kept_to I (λ f asked answer g holds call. (each f asked answer g holds call).0) is.earlier first is.before at_first is.led)
+      is.call).1
 
   -- and of that of an entry, if there is one
   pub ok_answered_by : {A : Type 0} (cie_of : A → C) (I : F → Type 0) (P : C → Type 0) (first : F) → I first → (read : Result A Error) →
@@ -54,8 +54,8 @@ module _ {F S O C : Type 0} (calls : Mut F (Bor S × (Bor BaseAddresses × (O ×
         AnswersOwn number view frame I → found ≡ chosen_fde frame a
     chosen_by a first found last at_first scans each = scan_reads (GetCieCall calls number view section bases) frame I (gives_own each) a first found last at_first scans
 
-    pub read_by : (partial : Result PartialFde Error) (first : F) (read : Result Fde Error) (last : F) → I first → ReadsWith (GetCieCall calls number view section bases) frame partial first read last →
+    pub read_by : (partial : Result PartialFde Error) (first : F) (read : Result Fde Error) → I first → (last : F) × ReadsWith (GetCieCall calls number view section bases) frame partial first read last →
         AnswersOwn number view frame I → read ≡ fde_by frame partial
-    read_by (Err e) first read last at_first reads each = reads.0
-    read_by (Ok partial) first read last at_first reads each =
+    read_by (Err e) first read at_first (last, reads) each = reads.0
+    read_by (Ok partial) first read at_first (last, reads) each =
         reads.2 ∙ ap (fde_with frame partial) (gives_own each first partial.cie_offset reads.0 last at_first reads.1).1

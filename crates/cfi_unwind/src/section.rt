@@ -15,18 +15,20 @@ ghost use Rattle.cfi_unwind.specs.GetCieCalls.{GetCieCall, IsAnswered, ReadsWith
 ghost use Rattle.cfi_unwind.specs.Views.{cie_view, fde_view};
 ghost use Rattle.cfi_unwind.specs.EntryViews.{partial_of};
 
+mod asking;
 mod debug_frame;
 mod eh_frame;
 
 use crate::entry::in_section::InSection;
 use crate::entry::entries::{cie_at, partial_fde_at};
 use crate::entry::{
-    CfiEntriesIter, CieOrFde, CommonInformationEntry, FrameDescriptionEntry,
-    PartialFrameDescriptionEntry,
+    CfiEntriesIter, CommonInformationEntry, FrameDescriptionEntry, PartialFrameDescriptionEntry,
 };
+pub use asking::fde_from_offset_by_ref;
+use asking::{fde_for_address_by_ref, unwind_info_for_address_by_ref};
 use cfi_parts::pointer::BaseAddresses;
 use cfi_parts::unwind_section::{_UnwindSectionPrivate, UnwindOffset};
-use cfi_read_core::{Error, Reader, ReaderOffset, Result};
+use cfi_read_core::{Reader, ReaderOffset, Result};
 use cfi_state::storage::UnwindContextStorage;
 use cfi_state::table::context::UnwindContext;
 use cfi_state::table::row::UnwindTableRow;
@@ -100,7 +102,7 @@ pub trait UnwindSection<R: Reader>: Copy + Debug + _UnwindSectionPrivate<R> {
         &self,
         bases: &BaseAddresses,
         offset: Self::Offset,
-        get_cie: F,
+        mut get_cie: F,
     ) -> Result<FrameDescriptionEntry<R>>
     where
         F: FnMut(&Self, &BaseAddresses, Self::Offset) -> Result<CommonInformationEntry<R>>,
@@ -112,8 +114,7 @@ pub trait UnwindSection<R: Reader>: Copy + Debug + _UnwindSectionPrivate<R> {
         ensures cie { IfOk result (λ fde. IsAnswered F.FnMut self.now bases.now get_cie fde.cie) }
         ensures part { IfOk result (λ fde. IsOf (R.position fde.instructions) (Self.view self.now).position) }
     {
-        let partial = self.partial_fde_from_offset(bases, offset)?;
-        partial.parse(get_cie)
+        fde_from_offset_by_ref(self, bases, offset, &mut get_cie)
     }
 
     /// The first FDE, in the order of the entries, that contains the address, with the CIEs that are answered for the
@@ -138,17 +139,7 @@ pub trait UnwindSection<R: Reader>: Copy + Debug + _UnwindSectionPrivate<R> {
         ensures part { IfOk result (λ fde. IsOf (R.position fde.instructions) (Self.view self.now).position) }
         ensures contains { IfOk result (λ fde. Covers (fde_view R.position R.Offset.number fde) address) }
     {
-        let mut entries = self.entries(bases);
-        while let Some(entry) = entries.next()? {
-            if let CieOrFde::Fde(partial) = entry {
-                let cie = get_cie(self, bases, Self::Offset::from(partial.cie_offset))?;
-                let fde = partial.with_cie(cie)?;
-                if fde.contains(address) {
-                    return Ok(fde);
-                }
-            }
-        }
-        Err(Error::NoUnwindInfoForAddress)
+        fde_for_address_by_ref(self, bases, address, &mut get_cie)
     }
 
     /// The row of that FDE for the address, lent from the context.
@@ -161,7 +152,7 @@ pub trait UnwindSection<R: Reader>: Copy + Debug + _UnwindSectionPrivate<R> {
         bases: &BaseAddresses,
         ctx: &'ctx mut UnwindContext<R::Offset, S>,
         address: u64,
-        get_cie: F,
+        mut get_cie: F,
     ) -> Result<&'ctx UnwindTableRow<R::Offset, S::Rules>>
     where
         S: UnwindContextStorage<R::Offset>,
@@ -175,8 +166,7 @@ pub trait UnwindSection<R: Reader>: Copy + Debug + _UnwindSectionPrivate<R> {
             × IsRowOfFound S.Rules.limit S.Stack.limit S.Rules.copies_free (section_of (Self.view self.now) bases.now) address
             found (map_ok (λ row. map_row R.Offset.number row.now) result) }
     {
-        let fde = self.fde_for_address(bases, address, get_cie)?;
-        fde.unwind_info_for_address(self, bases, ctx, address)
+        unwind_info_for_address_by_ref(self, bases, ctx, address, &mut get_cie)
     }
 }
 

@@ -21,8 +21,8 @@ pub covering_not : (a : ℕ) (fde : Fde) → covers fde a ≡ false → fde_if_c
 covering_not a fde is = rw is refl
 
 module _ {F : Type 0} (gives : F → ℕ → Result Cie Error → F → Type 0) (section : Section) (a : ℕ) where
-  pub at_refused : (r : Result ℕ Error) (e : Error) (f : F) (found : Result Fde Error) → r ≡ Err e → found ≡ Err e → (last : F) × ReadsAt gives section a r f found last
-  at_refused (Err e') e f found is refused = let same : found ≡ Err e' = cc in (f, (same, refl))
+  pub at_refused : (r : Result ℕ Error) (e : Error) (f : F) (found : Result Fde Error) → r ≡ Err e → found ≡ Err e → ReadsAt gives section a r f found f
+  at_refused (Err e') e f found is refused = let same : found ≡ Err e' = cc in (same, refl)
   at_refused (Ok offset) e f found is refused = absurd (cc)
 
   pub at_read : (r : Result ℕ Error) (offset : ℕ) (f last : F) (read found : Result Fde Error) → r ≡ Ok offset →

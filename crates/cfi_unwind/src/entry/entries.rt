@@ -1,8 +1,8 @@
 //! The entries of a section in order, and the entry at an offset.
-ghost use Rattle.std.specs.Prelude.{◌≡◌, ⊤, IfOk, IfSome};
+ghost use Rattle.std.specs.Prelude.{◌≡◌, ◌<◌, ⊤, IfOk, IfSome};
 ghost use Rattle.std.specs.Option.{option_map};
 ghost use Rattle.std.specs.Iterator.{YieldsFirstBy, item_count};
-ghost use Rattle.cfi_read_core.specs.Readers.{Reads, map_ok};
+ghost use Rattle.cfi_read_core.specs.Readers.{Reads, remaining, map_ok};
 ghost use Rattle.cfi_parts.specs.InstructionReaders.{Meets, items};
 ghost use Rattle.cfi_parts.specs.CallFrameSections.{IsOf};
 ghost use Rattle.cfi_unwind.specs.Sections.{section_of};
@@ -106,6 +106,7 @@ fn next_entry<'bases, R: Reader, S: _UnwindSectionPrivate<R> + Copy>(
     ensures met { Meets (entry_view (cie_view R.position R.Offset.number) (λ p. partial_of R.position R.Offset.number p.found p.cie_offset)) result
         (entries_left (section_in S.view at.now) (R.position input.old).place) (entries_left (section_in S.view at.now) (R.position input.new).place) }
     ensures through { GoesThrough (R.position input.new) (S.view at.now.section).position }
+    ensures fewer { IfOk result (λ found. IfSome found (λ _. remaining (R.position input.new) < remaining (R.position input.old))) }
     ensures same_section_and_bases { IfOk result (λ found. IfSome found (OfEither
         (λ cie. IsOf (R.position cie.initial_instructions) (S.view at.now.section).position)
         (λ p. (p.section ≡ at.now.section) × (p.bases.now ≡ at.now.bases.now)))) }
@@ -229,13 +230,15 @@ impl<'bases, Section: _UnwindSectionPrivate<R> + Copy, R: Reader> CfiEntriesIter
     /// The next entry: a CIE whole, or an FDE as far as the offset of its CIE.
     ///
     /// Refused as the bytes of the entry show, and with `UnsupportedOffset` or `OffsetOutOfBounds` where an FDE's
-    /// CIE has no offset in the section. After a refusal or the end it is `None` from then on.
+    /// CIE has no offset in the section. After a refusal or the end it is `None` from then on. Each entry takes a byte at
+    /// least.
     pub fn next(&mut self) -> Result<Option<CieOrFde<'bases, Section, R>>>
         ensures met { Meets (entry_view (cie_view R.position R.Offset.number) (λ p. partial_of R.position R.Offset.number p.found p.cie_offset)) result
             (entries_left (section_of (Section.view self.old.section) self.old.bases.now) (R.position self.old.input).place)
             (entries_left (section_of (Section.view self.new.section) self.new.bases.now) (R.position self.new.input).place) }
         ensures section { self.new.section ≡ self.old.section }
         ensures bases { self.new.bases.now ≡ self.old.bases.now }
+        ensures fewer { IfOk result (λ found. IfSome found (λ _. remaining (R.position self.new.input) < remaining (R.position self.old.input))) }
         ensures same_section_and_bases { IfOk result (λ found. IfSome found (OfEither
             (λ cie. IsOf (R.position cie.initial_instructions) (Section.view self.old.section).position)
             (λ p. (p.section ≡ self.old.section) × (p.bases.now ≡ self.old.bases.now)))) }

@@ -127,6 +127,21 @@ impl<'bases, Section: UnwindSection<R>, R: Reader> PartialFrameDescriptionEntry<
         ensures cie { IfOk result (λ fde. IsAnswered F.FnMut self.now.section self.now.bases.now get_cie fde.cie) }
         ensures part { IfOk result (λ fde. IsOf (R.position fde.instructions) (Section.view self.now.section).position) }
     {
+        self.parse_by_ref(&mut get_cie)
+    }
+
+    // `parse` with `get_cie` lent: the contract names the state in which the one call leaves it.
+    pub(crate) fn parse_by_ref<F>(&self, get_cie: &mut F) -> Result<FrameDescriptionEntry<R>>
+    where
+        F: FnMut(&Section, &BaseAddresses, Section::Offset) -> Result<CommonInformationEntry<R>>,
+        requires { F.IsAlwaysCallable get_cie.old }
+        ensures read { ReadsWith
+            (GetCieCall F.FnMut (λ o. R.Offset.number (Section.Offset.offset o)) (cie_view R.position R.Offset.number) self.now.section self.now.bases.now)
+            (section_of (Section.view self.now.section) self.now.bases.now) (Ok (partial_of R.position R.Offset.number self.now.found self.now.cie_offset))
+            get_cie.old (map_ok (fde_view R.position R.Offset.number) result) get_cie.new }
+        ensures cie { IfOk result (λ fde. IsAnswered F.FnMut self.now.section self.now.bases.now get_cie.old fde.cie) }
+        ensures part { IfOk result (λ fde. IsOf (R.position fde.instructions) (Section.view self.now.section).position) }
+    {
         let cie = get_cie(&self.section, self.bases, self.cie_offset())?;
         self.with_cie(cie)
     }

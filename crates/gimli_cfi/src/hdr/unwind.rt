@@ -24,7 +24,7 @@ use cfi_state::storage::UnwindContextStorage;
 use cfi_state::table::context::UnwindContext;
 use cfi_state::table::row::UnwindTableRow;
 use cfi_unwind::entry::{CommonInformationEntry, FrameDescriptionEntry};
-use cfi_unwind::section::{EhFrame, UnwindSection};
+use cfi_unwind::section::{EhFrame, UnwindSection, fde_from_offset_by_ref};
 
 /// The unwind row of the address in the section, lent from the context, by a header's table.
 ///
@@ -89,21 +89,22 @@ fn table_fde<R: Reader, St: StartSource>(
         frame,
         bases,
         address,
-        |from: &EhFrame<R>, bases: &BaseAddresses, offset: EhFrameOffset<R::Offset>| {
+        &mut |from: &EhFrame<R>, bases: &BaseAddresses, offset: EhFrameOffset<R::Offset>| {
             let _reader = reader;
             from.cie_from_offset(bases, offset)
         },
     )
 }
 
-/// The FDE that a target names, where it contains the address.
+/// The FDE that a target names, where it contains the address; `get_cie` is lent, so that the contract names the state
+/// in which it is left.
 fn fde_at_target<R: Reader, F>(
     table: &EhHdrTable<'_, R>,
     target: Pointer,
     frame: &EhFrame<R>,
     bases: &BaseAddresses,
     address: u64,
-    get_cie: F,
+    get_cie: &mut F,
 ) -> Result<FrameDescriptionEntry<R>>
 where
     F: FnMut(
@@ -111,23 +112,81 @@ where
         &BaseAddresses,
         EhFrameOffset<R::Offset>,
     ) -> Result<CommonInformationEntry<R>>,
-    requires { F.IsAlwaysCallable get_cie }
-    ensures read { (last : F) × ReadsAt
+    requires { F.IsAlwaysCallable get_cie.old }
+    ensures read { ReadsAt
         (GetCieCall F.FnMut (λ o. R.Offset.number o.0) (cie_view R.position R.Offset.number) frame.now bases.now)
         (section_view R.position frame.now bases.now) address
         (offset_of_pointer (R.position table.now.hdr.now.section).source.greatest table.now.hdr.now.eh_frame_ptr target)
-        get_cie (map_ok (fde_view R.position R.Offset.number) result) last }
-    ensures cie { IfOk result (λ fde. IsAnswered F.FnMut frame.now bases.now get_cie fde.cie) }
+        get_cie.old (map_ok (fde_view R.position R.Offset.number) result) get_cie.new }
+    ensures cie { IfOk result (λ fde. IsAnswered F.FnMut frame.now bases.now get_cie.old fde.cie) }
     ensures part { IfOk result (λ fde. IsOf (R.position fde.instructions) (R.position frame.now.section)) }
     ensures contains { IfOk result (λ fde. Covers (fde_view R.position R.Offset.number fde) address) }
 {
     let offset = table.pointer_to_offset(target)?;
-    let fde = frame.fde_from_offset(bases, offset, get_cie)?;
+    let fde = fde_from_offset_by_ref(frame, bases, offset, get_cie)?;
     if fde.contains(address) {
         Ok(fde)
     } else {
         Err(Error::NoUnwindInfoForAddress)
     }
+}
+
+/// `EhHdrTable::fde_for_address` with `get_cie` lent.
+fn fde_for_address_by_ref<R: Reader, F>(
+    table: &EhHdrTable<'_, R>,
+    frame: &EhFrame<R>,
+    bases: &BaseAddresses,
+    address: u64,
+    get_cie: &mut F,
+) -> Result<FrameDescriptionEntry<R>>
+where
+    F: FnMut(
+        &EhFrame<R>,
+        &BaseAddresses,
+        EhFrameOffset<R::Offset>,
+    ) -> Result<CommonInformationEntry<R>>,
+    requires { F.IsAlwaysCallable get_cie.old }
+    ensures found { FindsByTable
+        (GetCieCall F.FnMut (λ o. R.Offset.number o.0) (cie_view R.position R.Offset.number) frame.now bases.now)
+        (header_section_view R.position table.now.hdr.now bases.now) (table_view R.position table.now) table.now.hdr.now.eh_frame_ptr
+        (section_view R.position frame.now bases.now) address
+        get_cie.old (map_ok (fde_view R.position R.Offset.number) result) get_cie.new }
+    ensures cie { IfOk result (λ fde. IsAnswered F.FnMut frame.now bases.now get_cie.old fde.cie) }
+    ensures part { IfOk result (λ fde. IsOf (R.position fde.instructions) (R.position frame.now.section)) }
+    ensures contains { IfOk result (λ fde. Covers (fde_view R.position R.Offset.number fde) address) }
+{
+    let target = table.lookup(address, bases)?;
+    fde_at_target(table, target, frame, bases, address, get_cie)
+}
+
+/// `EhHdrTable::unwind_info_for_address` with `get_cie` lent.
+fn unwind_info_for_address_by_ref<'ctx, R: Reader, S, F>(
+    table: &EhHdrTable<'_, R>,
+    frame: &EhFrame<R>,
+    bases: &BaseAddresses,
+    ctx: &'ctx mut UnwindContext<R::Offset, S>,
+    address: u64,
+    get_cie: &mut F,
+) -> Result<&'ctx UnwindTableRow<R::Offset, S::Rules>>
+where
+    S: UnwindContextStorage<R::Offset>,
+    F: FnMut(
+        &EhFrame<R>,
+        &BaseAddresses,
+        EhFrameOffset<R::Offset>,
+    ) -> Result<CommonInformationEntry<R>>,
+    requires callable { F.IsAlwaysCallable get_cie.old }
+    requires of_section { (cie : CieFields R R.Offset) → IsAnswered F.FnMut frame.now bases.now get_cie.old cie → IsOf (R.position cie.initial_instructions) (R.position frame.now.section) }
+    ensures row { (found : Result Fde Refusal) × FindsByTable
+        (GetCieCall F.FnMut (λ o. R.Offset.number o.0) (cie_view R.position R.Offset.number) frame.now bases.now)
+        (header_section_view R.position table.now.hdr.now bases.now) (table_view R.position table.now) table.now.hdr.now.eh_frame_ptr
+        (section_view R.position frame.now bases.now) address
+        get_cie.old found get_cie.new
+        × IsRowOfFound S.Rules.limit S.Stack.limit S.Rules.copies_free (section_view R.position frame.now bases.now) address
+        found (map_ok (λ row. map_row R.Offset.number row.now) result) }
+{
+    let fde = fde_for_address_by_ref(table, frame, bases, address, get_cie)?;
+    fde.unwind_info_for_address(frame, bases, ctx, address)
 }
 
 impl<R: Reader> EhHdrTable<'_, R> {
@@ -142,7 +201,7 @@ impl<R: Reader> EhHdrTable<'_, R> {
         frame: &EhFrame<R>,
         bases: &BaseAddresses,
         address: u64,
-        get_cie: F,
+        mut get_cie: F,
     ) -> Result<FrameDescriptionEntry<R>>
     where
         F: FnMut(
@@ -160,8 +219,7 @@ impl<R: Reader> EhHdrTable<'_, R> {
         ensures part { IfOk result (λ fde. IsOf (R.position fde.instructions) (R.position frame.now.section)) }
         ensures contains { IfOk result (λ fde. Covers (fde_view R.position R.Offset.number fde) address) }
     {
-        let target = self.lookup(address, bases)?;
-        fde_at_target(self, target, frame, bases, address, get_cie)
+        fde_for_address_by_ref(self, frame, bases, address, &mut get_cie)
     }
 
     /// The row of that FDE for the address, lent from the context.
@@ -175,7 +233,7 @@ impl<R: Reader> EhHdrTable<'_, R> {
         bases: &BaseAddresses,
         ctx: &'ctx mut UnwindContext<R::Offset, S>,
         address: u64,
-        get_cie: F,
+        mut get_cie: F,
     ) -> Result<&'ctx UnwindTableRow<R::Offset, S::Rules>>
     where
         S: UnwindContextStorage<R::Offset>,
@@ -194,7 +252,6 @@ impl<R: Reader> EhHdrTable<'_, R> {
             × IsRowOfFound S.Rules.limit S.Stack.limit S.Rules.copies_free (section_view R.position frame.now bases.now) address
             found (map_ok (λ row. map_row R.Offset.number row.now) result) }
     {
-        let fde = self.fde_for_address(frame, bases, address, get_cie)?;
-        fde.unwind_info_for_address(frame, bases, ctx, address)
+        unwind_info_for_address_by_ref(self, frame, bases, ctx, address, &mut get_cie)
     }
 }

@@ -1,4 +1,4 @@
-use Rattle.std.proofs.Common.{◌∙◌, ap, subst, sym}
+use Rattle.std.proofs.Common.{◌∙◌, ap, arith, subst, sym}
 use Rattle.cfi_unwind.specs.Sections.{zero_length_ends}
 use Rattle.cfi_unwind.specs.Views.{section_in}
 use Rattle.cfi_unwind.specs.Walks.{GoesThrough}
@@ -15,6 +15,13 @@ returns-in-Ok-Some-clause-met g c =
 pub returns-in-Ok-Some-clause-through : goal.returns-in-Ok-Some-clause-through
 returns-in-Ok-Some-clause-through g c =
     step_through (section_in g.S._UnwindSectionPrivate.view c.args.at.now) c.read_entry.ensures.read c.loop-input.invariant.through
+
+pub returns-in-Ok-Some-clause-fewer : goal.returns-in-Ok-Some-clause-fewer
+returns-in-Ok-Some-clause-fewer g c =
+    let some_left = sym c.is_empty.ensures ∙ c.loop-input-test.true in
+    let read = rw c.in-Ok-Some.field-0-is at c.in-Ok-Some.ensures.read in
+    let less = step_fewer (section_in g.S._UnwindSectionPrivate.view c.args.at.now) _ _ _ some_left read in
+    omega (arith, less, c.loop-input.invariant.no_more)
 
 pub returns-then-has_zero_terminator-clause-met : goal.returns-then-has_zero_terminator-clause-met
 returns-then-has_zero_terminator-clause-met g c =
@@ -51,6 +58,7 @@ loop-input-preserved g c =
     record {
       same = sym (step_gap section (g.R.Reader.position c.loop-input.input) (g.R.Reader.position c.read_entry.new.input) c.loop-input.invariant.through.source some_left read.0 passes) ∙ c.loop-input.invariant.same;
       through = step_through section c.read_entry.ensures.read c.loop-input.invariant.through;
+      no_more = omega (arith, step_fewer section _ _ _ some_left read, c.loop-input.invariant.no_more);
     }
 
 pub returns-in-Err-clause-met : goal.returns-in-Err-clause-met

@@ -1,4 +1,4 @@
-use Rattle.std.proofs.Common.{◌≡◌}
+use Rattle.std.proofs.Common.{◌≡◌, ◌≤◌}
 use Rattle.cfi_read_core.specs.Readers.{remaining}
 use Rattle.cfi_unwind.specs.Entries.{entries_left}
 use Rattle.cfi_unwind.specs.Views.{section_in}
@@ -13,6 +13,7 @@ invariant-loop-input g l =
     record {
       same : entries_left (section_in view l.at) (position l.input).place ≡ entries_left (section_in view l.at) (position l.initial.input).place;
       through : GoesThrough (position l.input) (view l.at.section).position;
+      no_more : remaining (position l.input) ≤ remaining (position l.initial.input);
     }
 
 abbrev pub decreases-loop-input : goal.decreases-loop-input

@@ -7,23 +7,17 @@ use Rattle.gimli_cfi.proofs.hdr.unwind.fde_at_target.Goals as goal
 pub returns-in_err-offset-clause-read : goal.returns-in_err-offset-clause-read
 returns-in_err-offset-clause-read g c =
     let gives : c.from_residual.result ≡ Err c.in_err-offset.field-0.0 = search rules in
-    at_refused _ _ _ _ c.in_err-offset.field-0.0 c.args.get_cie _ (sym c.in_err-offset.ensures) (ap (map_ok (fde_view g.R.Reader.position g.R.Offset.ReaderOffset.number)) gives)
+    at_refused _ _ _ _ c.in_err-offset.field-0.0 c.args.get_cie.now _ (sym c.in_err-offset.ensures) (ap (map_ok (fde_view g.R.Reader.position g.R.Offset.ReaderOffset.number)) gives)
 
 pub returns-in_err-fde-clause-read : goal.returns-in_err-fde-clause-read
 returns-in_err-fde-clause-read g c =
-    let gives : c.from_residual-in_err-fde.result ≡ Err c.in_err-fde.field-0.0 = search rules in (
-      c.in_err-fde.ensures.read.0,
-      at_read _ _ _ _ _ _ _ _ _ (sym c.in_ok-offset.ensures) c.in_err-fde.ensures.read.1 (ap (map_ok (fde_view g.R.Reader.position g.R.Offset.ReaderOffset.number)) gives),
-    )
+    let gives : c.from_residual-in_err-fde.result ≡ Err c.in_err-fde.field-0.0 = search rules in
+    at_read _ _ _ _ _ _ _ _ _ (sym c.in_ok-offset.ensures) c.in_err-fde.ensures.read (ap (map_ok (fde_view g.R.Reader.position g.R.Offset.ReaderOffset.number)) gives)
 
 pub returns-then-contains-clause-read : goal.returns-then-contains-clause-read
-returns-then-contains-clause-read g c = (
-  c.in_ok-fde.ensures.read.0,
-  at_read _ _ _ _ _ _ _ _ _ (sym c.in_ok-offset.ensures) c.in_ok-fde.ensures.read.1 (sym (covering_ok c.args.address (fde_view g.R.Reader.position g.R.Offset.ReaderOffset.number c.in_ok-fde.fde) (sym c.contains.ensures ∙ c.if-contains.true))),
-)
+returns-then-contains-clause-read g c =
+    at_read _ _ _ _ _ _ _ _ _ (sym c.in_ok-offset.ensures) c.in_ok-fde.ensures.read (sym (covering_ok c.args.address (fde_view g.R.Reader.position g.R.Offset.ReaderOffset.number c.in_ok-fde.fde) (sym c.contains.ensures ∙ c.if-contains.true)))
 
 pub returns-else-contains-clause-read : goal.returns-else-contains-clause-read
-returns-else-contains-clause-read g c = (
-  c.in_ok-fde.ensures.read.0,
-  at_read _ _ _ _ _ _ _ _ _ (sym c.in_ok-offset.ensures) c.in_ok-fde.ensures.read.1 (sym (covering_not c.args.address (fde_view g.R.Reader.position g.R.Offset.ReaderOffset.number c.in_ok-fde.fde) (sym c.contains.ensures ∙ c.if-contains.false))),
-)
+returns-else-contains-clause-read g c =
+    at_read _ _ _ _ _ _ _ _ _ (sym c.in_ok-offset.ensures) c.in_ok-fde.ensures.read (sym (covering_not c.args.address (fde_view g.R.Reader.position g.R.Offset.ReaderOffset.number c.in_ok-fde.fde) (sym c.contains.ensures ∙ c.if-contains.false)))

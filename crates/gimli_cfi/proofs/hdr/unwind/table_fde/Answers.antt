@@ -19,5 +19,5 @@ returns-clause-found g c =
     found_through (g.St.StartSource.answer c.args.starts.now) (header_section_view g.R.Reader.position c.args.table.now.hdr.now c.args.bases.now)
     (table_view g.R.Reader.position c.args.table.now) c.args.table.now.hdr.now.eh_frame_ptr (section_view g.R.Reader.position c.args.frame.now c.args.bases.now) c.args.address
     (Ok c.in_ok-target.target) _
-    (at_own _ (section_view g.R.Reader.position c.args.frame.now c.args.bases.now) (λ f offset given h q. let own : map_ok (cie_view g.R.Reader.position g.R.Offset.ReaderOffset.number) q.answer ≡ cie_at (section_view g.R.Reader.position q.call.shown_section.now q.call.shown_bases.now) (g.R.Offset.ReaderOffset.number q.asked.0) = search rules in sym q.seen ∙ (rw (q.call.at_section, q.call.at_bases, q.at_offset) at own)) _ _ _ _ _ read.1)
+    (at_own _ (section_view g.R.Reader.position c.args.frame.now c.args.bases.now) (λ f offset given h q. let own : map_ok (cie_view g.R.Reader.position g.R.Offset.ReaderOffset.number) q.answer ≡ cie_at (section_view g.R.Reader.position q.call.shown_section.now q.call.shown_bases.now) (g.R.Offset.ReaderOffset.number q.asked.0) = search rules in sym q.seen ∙ (rw (q.call.at_section, q.call.at_bases, q.at_offset) at own)) _ _ _ _ _ read)
     c.in_ok-target.ensures.found
