@@ -5,11 +5,9 @@ ghost use Rattle.cfi_rows.specs.Lines.{address_text, cfa_text, rule_text, name_o
 ghost use Rattle.cfi_rows.specs.Written.{Writes, Prints};
 
 use arrayvec::ArrayString;
-use cfi_parts::instruction::UnwindExpression;
-use cfi_read_core::{Error, Register};
-use cfi_state::storage::ArrayLike;
-use cfi_state::table::row::UnwindTableRow;
-use cfi_state::table::rules::{CfaRule, RegisterRule};
+use gimli_cfi::{
+    ArrayLike, CfaRule, Error, Register, RegisterRule, UnwindExpression, UnwindTableRow,
+};
 use std::fmt::{Display, Formatter, Write as _};
 use std::io::{ErrorKind, Write};
 use std::{fmt, io};

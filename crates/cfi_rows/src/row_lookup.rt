@@ -15,12 +15,11 @@ ghost use Rattle.cfi_rows.specs.Written.{Prints};
 use crate::input::Sections;
 use crate::line::{write_answer, write_refusal};
 use crate::words::{Kind, Request, Storage};
-use cfi_read_core::{Error, Reader};
-use gimli_cfi::hdr::{EhFrameHdr, TableStarts, row_by_table};
-use gimli_cfi::pointer::{BaseAddresses, SectionBaseAddresses};
-use gimli_cfi::section::{DebugFrame, EhFrame};
-use gimli_cfi::storage::{StoreGrowing, StoreOnHeap, UnwindContextStorage};
-use gimli_cfi::table::{UnwindContext, UnwindTableRow, row_by_scan};
+use gimli_cfi::{
+    BaseAddresses, DebugFrame, EhFrame, EhFrameHdr, Error, Reader, SectionBaseAddresses,
+    StoreGrowing, StoreOnHeap, TableStarts, UnwindContext, UnwindContextStorage, UnwindTableRow,
+    row_by_scan, row_by_table,
+};
 use std::alloc::Global;
 use std::io;
 use std::io::Write;

@@ -12,7 +12,7 @@ use crate::row_lookup::print_answer;
 use crate::input::{InputError, Sections, decode_sections, read_all};
 use crate::line::{write_refusal, write_wrong_hexadecimal, write_wrong_input, write_wrong_words};
 use crate::words::{Request, asked_for};
-use cfi_read_core::Error;
+use gimli_cfi::Error;
 use std::alloc::Global;
 use std::io;
 use std::io::{Read, Write};

@@ -4,7 +4,7 @@ ghost use Rattle.std.specs.Char.{is_ascii_digit, is_ascii_hexdigit};
 ghost use Rattle.std.specs.List.{list_all};
 ghost use Rattle.cfi_rows.specs.CommandLine.{texts, request_of, request_of_words, option_word, number, hexadecimal_number, decimal_number, kind_of, order_of, size_of, first_words, option_words, once_given, after_prefix, set_vendor, set_storage, set_section, set_text, set_data_base, set_header};
 
-use cfi_read_core::{RunTimeEndian, Vendor};
+use gimli_cfi::{RunTimeEndian, Vendor};
 
 /// The section that the input holds.
 #[derive(Clone, Copy, Debug, PartialEq, Eq)]
