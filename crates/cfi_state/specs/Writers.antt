@@ -89,9 +89,13 @@ module _ {T : Type 0} where
   abbrev pub final_args_size : List (CallFrameInstruction T) → ℕ
   final_args_size ys = unwrap_or (last_written written_args_size ys) 0
 
+  -- what an action writes as the rule of register r: nothing, or a rule, which after a restore may be none
+  abbrev pub rule_written_to : Setting → (ℕ → Option (RegisterRule T)) → ℕ → Action T → Option (Option (RegisterRule T))
+  rule_written_to s initial r a = cond (writes_rule r a) (Some (written_rule s initial a)) None
+
   -- the rule that the last writer of register r gave it
   abbrev pub rule_before_toggles : Setting → (ℕ → Option (RegisterRule T)) → List (CallFrameInstruction T) → ℕ → Option (RegisterRule T)
-  rule_before_toggles s initial ys r = option_flatten (last_written (λ a. cond (writes_rule r a) (Some (written_rule s initial a)) None) ys)
+  rule_before_toggles s initial ys r = option_flatten (last_written (rule_written_to s initial r) ys)
 
   abbrev pub final_toggles : List (CallFrameInstruction T) → ℕ → ℕ
   final_toggles ys r = count_by (λ i. toggles r (action i)) (after_last (λ i. writes_rule r (action i)) ys)

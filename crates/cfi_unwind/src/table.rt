@@ -160,6 +160,10 @@ impl<'a, 'ctx, R: Reader, S: UnwindContextStorage<R::Offset>> UnwindTable<'a, 'c
     /// It runs the FDE's program up to the next instruction that moves the location, or to its end, where the row reaches up to
     /// the end of the FDE's range. A refused instruction changes nothing, and the next call goes on after it. After one that
     /// can't be read only the last row is to come. `OutOfMemory` comes only where an instruction allocates.
+    //
+    // The row is lent out of the context, so the clause speaks of the table once the loan has ended (`Rests`). The lines
+    // after `the_row` name the types of the row's storage and what is known of them, as the checker wants them; what is
+    // promised begins at `LendsNextRow`.
     pub fn next_row(&mut self) -> Result<Option<&UnwindTableRow<R::Offset, S::Rules>>>
         ensures* after_borrow { sem 𝓛 (Rests
             (the_row (record { mir = named 1; lft = [] }) (record { mir = named 2; lft = [] })

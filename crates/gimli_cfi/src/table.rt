@@ -22,6 +22,19 @@ pub use cfi_unwind::table::UnwindTable;
 ///
 /// The bases are those of the pointers in the section's entries. Over a fixed storage it takes no memory; over another
 /// one an instruction that needs more room may be refused with `OutOfMemory`.
+///
+/// # Example
+///
+/// ```
+/// let section = EhFrame::new(bytes, LittleEndian);
+/// let bases = BaseAddresses::default().set_eh_frame(0x2040);
+/// // The context is made once, and used for every address.
+/// let mut context: UnwindContext<usize> = UnwindContext::new(alloc)?;
+/// for pc in addresses {
+///     let row = row_by_scan(&section, &bases, &mut context, *pc)?;
+///     let return_address = row.register(Register(16));
+/// }
+/// ```
 pub fn row_by_scan<'ctx, R: Reader, Section: UnwindSection<R>, S: UnwindContextStorage<R::Offset>>(
     section: &Section,
     bases: &BaseAddresses,

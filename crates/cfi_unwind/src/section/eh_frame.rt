@@ -16,6 +16,23 @@ use cfi_read_core::{
 /// The section `.eh_frame` (LSB Core, "The .eh_frame section").
 ///
 /// Made of a reader, its addresses take 8 bytes, and no vendor's opcodes are read.
+///
+/// # Example
+///
+/// ```
+/// let mut section = EhFrame::new(bytes, LittleEndian);
+/// section.set_vendor(Vendor::AArch64);
+/// let bases = BaseAddresses::default().set_eh_frame(0x2040);
+/// let mut entries = section.entries(&bases);
+/// while let Some(entry) = entries.next()? {
+///     match entry {
+///         CieOrFde::Cie(cie) => { /* a CIE, read whole */ }
+///         CieOrFde::Fde(partial) => {
+///             let fde = partial.parse(|section: &EhFrame<_>, bases, offset| section.cie_from_offset(bases, offset))?;
+///         }
+///     }
+/// }
+/// ```
 #[derive(Clone, Copy, Debug, PartialEq, Eq)]
 pub struct EhFrame<R> {
     section: R,

@@ -39,7 +39,7 @@ pub(crate) fn pass_rows<R: Reader>(input: &mut R, size: u64, count: u64) -> Resu
     requires { size ≤ 8 }
     ensures { Reads (λ x. x) (rows_passed size count) (R.position input.old) result (R.position input.new) }
 {
-    // An offset is a `u64`.
+    // It is read for the checker alone, which then knows that each offset is a `u64`.
     let _greatest = R::Offset::GREATEST;
     let Some(bytes) = count.checked_mul(2 * size) else {
         return Err(Error::UnsupportedOffset);

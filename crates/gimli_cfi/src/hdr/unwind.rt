@@ -38,6 +38,17 @@ use cfi_unwind::section::{EhFrame, UnwindSection, fde_from_offset_by_ref};
 /// bases of the header are those in `BaseAddresses::eh_frame_hdr`, those of the section's entries in
 /// `BaseAddresses::eh_frame`. Over a fixed storage it takes no memory; over another one it may be refused with
 /// `OutOfMemory` (LSB Core, "The .eh_frame_hdr section").
+///
+/// # Example
+///
+/// ```
+/// let bases = BaseAddresses::default().set_eh_frame_hdr(0x1f00).set_eh_frame(0x2000);
+/// let header = EhFrameHdr::new(header_bytes, LittleEndian).parse(&bases, 8)?;
+/// if let Some(table) = header.table() {
+///     let mut starts = TableStarts::new(&table, &bases)?;
+///     let row = row_by_table(&table, &mut starts, &eh_frame, &bases, &mut context, 0x1018)?;
+/// }
+/// ```
 pub fn row_by_table<'ctx, R: Reader, St: StartSource, S: UnwindContextStorage<R::Offset>>(
     table: &EhHdrTable<'_, R>,
     starts: &mut St,
@@ -90,6 +101,7 @@ fn table_fde<R: Reader, St: StartSource>(
         bases,
         address,
         &mut |from: &EhFrame<R>, bases: &BaseAddresses, offset: EhFrameOffset<R::Offset>| {
+            // The checker takes the closure only where it captures a value of the reader's type.
             let _reader = reader;
             from.cie_from_offset(bases, offset)
         },
