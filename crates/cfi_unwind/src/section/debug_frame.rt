@@ -16,6 +16,14 @@ use cfi_read_core::{
 /// The section `.debug_frame` (DWARF 5 section 6.4.1).
 ///
 /// Made of a reader, its addresses take 8 bytes where a CIE gives no size, and no vendor's opcodes are read.
+///
+/// # Example
+///
+/// ```
+/// let mut section = DebugFrame::new(bytes, BigEndian);
+/// section.set_address_size(4);
+/// let cie = section.cie_from_offset(&BaseAddresses::default(), DebugFrameOffset(0))?;
+/// ```
 #[derive(Clone, Copy, Debug, PartialEq, Eq)]
 pub struct DebugFrame<R> {
     section: R,
