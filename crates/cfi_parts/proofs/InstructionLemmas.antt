@@ -111,7 +111,7 @@ onward_cfa_definition : (c : InstructionContext) → IsEachOnward (cfa_definitio
 onward_cfa_definition c = (onward_two unsigned_leb128 variant.DefCfa onward_unsigned_leb128, (onward_map register_leb128 variant.DefCfaRegister onward_register_leb128, (onward_map unsigned_leb128 variant.DefCfaOffset onward_unsigned_leb128, (onward_map (expression c.pointers) variant.DefCfaExpression (onward_expression c.pointers), (onward_two signed_leb128 variant.DefCfaSf onward_signed_leb128, (onward_map signed_leb128 variant.DefCfaOffsetSf onward_signed_leb128, tt))))))
 
 onward_offset_rules : IsEachOnward offset_rules
-onward_offset_rules = (onward_two unsigned_leb128 variant.Offset onward_unsigned_leb128, (onward_two signed_leb128 variant.OffsetExtendedSf onward_signed_leb128, (onward_two unsigned_leb128 variant.ValOffset onward_unsigned_leb128, (onward_two signed_leb128 variant.ValOffsetSf onward_signed_leb128, tt))))
+onward_offset_rules = (onward_two unsigned_leb128 variant.Offset onward_unsigned_leb128, (onward_two signed_leb128 variant.OffsetExtendedSf onward_signed_leb128, (onward_two unsigned_leb128 variant.ValOffset onward_unsigned_leb128, (onward_two signed_leb128 variant.ValOffsetSf onward_signed_leb128, (onward_two unsigned_leb128 variant.OffsetExtendedNegative onward_unsigned_leb128, tt)))))
 
 onward_register_rules : (c : InstructionContext) → IsEachOnward (register_rules c)
 onward_register_rules c = (onward_map register_leb128 variant.Restore onward_register_leb128, (onward_map register_leb128 variant.Undefined onward_register_leb128, (onward_map register_leb128 variant.SameValue onward_register_leb128, (onward_two register_leb128 variant.Register onward_register_leb128, (onward_two (expression c.pointers) variant.Expression (onward_expression c.pointers), (onward_two (expression c.pointers) variant.ValExpression (onward_expression c.pointers), tt))))))

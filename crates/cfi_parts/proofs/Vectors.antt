@@ -5,7 +5,7 @@ use Rattle.cfi_read_core.specs.declared.common.Vendor.TheVariants as vendors
 use Rattle.cfi_read_core.specs.Reading.{Source, Readings, unexpected_eof}
 use Rattle.cfi_read_core.specs.Reading.{readings_up_to}
 use Rattle.cfi_read_core.specs.Numbers.{unsigned, signed, leb128_bytes, unsigned_leb128, signed_leb128, register_leb128, offset_leb128}
-use Rattle.cfi_parts.specs.declared.instruction.CallFrameInstruction.TheVariants.{AdvanceLoc, DefCfaSf, DefCfaOffsetSf, DefCfaExpression, Offset, OffsetExtendedSf, Register, ValExpression, Restore}
+use Rattle.cfi_parts.specs.declared.instruction.CallFrameInstruction.TheVariants.{AdvanceLoc, DefCfaSf, DefCfaOffsetSf, DefCfaExpression, Offset, OffsetExtendedSf, OffsetExtendedNegative, Register, ValExpression, Restore}
 use Rattle.cfi_parts.specs.declared.pointer.Pointer.TheVariants.{Direct, Indirect}
 use Rattle.cfi_parts.specs.Pointers.{PointerContext, encoded_value, base_of, pointer}
 use Rattle.cfi_parts.specs.Instructions.{Instruction, InstructionContext, expression, instruction, instructions}
@@ -42,6 +42,10 @@ registers : read_as (0x09 ∷ 0x07 ∷ 0x08 ∷ 0x12 ∷ 0x02 ∷ 0xf1 ∷ 0xb1 
     all (Register (record { 0 = 7 }) (record { 0 = 8 }) ∷ DefCfaSf (record { 0 = 2 }) (negsuc 9998) ∷ DefCfaOffsetSf (negsuc 122) ∷ OffsetExtendedSf (record { 0 = 7 }) (negsuc 32) ∷ [])
 unfolding readings_up_to instruction unsigned leb128_bytes unsigned_leb128 signed_leb128 register_leb128
 registers = refl
+
+negative_offset : read_as (0x2f ∷ 0x06 ∷ 0x02 ∷ []) ≡ all (OffsetExtendedNegative (record { 0 = 6 }) 2 ∷ [])
+unfolding readings_up_to instruction unsigned leb128_bytes unsigned_leb128 register_leb128
+negative_offset = refl
 
 cfa_expression : read_as (0x0f ∷ 0x0a ∷ 0x0a ∷ 0x09 ∷ 0x08 ∷ 0x07 ∷ 0x06 ∷ 0x05 ∷ 0x04 ∷ 0x03 ∷ 0x02 ∷ 0x01 ∷ []) ≡ all (DefCfaExpression (record { offset = 2; length = 10 }) ∷ [])
 unfolding readings_up_to instruction expression unsigned leb128_bytes unsigned_leb128 offset_leb128

@@ -99,6 +99,7 @@ offset_rules =
     ∷ (0x11, register_and signed_leb128 variant.OffsetExtendedSf)
     ∷ (0x14, register_and unsigned_leb128 variant.ValOffset)
     ∷ (0x15, register_and signed_leb128 variant.ValOffsetSf)
+    ∷ (0x2f, register_and unsigned_leb128 variant.OffsetExtendedNegative)
     ∷ []
 
 abbrev pub register_rules : InstructionContext → List (ℕ × Read Instruction)

@@ -20,6 +20,7 @@ map_instruction f (instruction.Undefined register) = instruction.Undefined regis
 map_instruction f (instruction.SameValue register) = instruction.SameValue register
 map_instruction f (instruction.Offset register factored) = instruction.Offset register factored
 map_instruction f (instruction.OffsetExtendedSf register factored) = instruction.OffsetExtendedSf register factored
+map_instruction f (instruction.OffsetExtendedNegative register factored) = instruction.OffsetExtendedNegative register factored
 map_instruction f (instruction.ValOffset register factored) = instruction.ValOffset register factored
 map_instruction f (instruction.ValOffsetSf register factored) = instruction.ValOffsetSf register factored
 map_instruction f (instruction.Register dest src) = instruction.Register dest src

@@ -112,6 +112,11 @@ pub enum CallFrameInstruction<T> {
         register: Register,
         factored_offset: i64,
     },
+    /// The register is saved at the CFA less an offset, which counts the data alignment factor (GNU).
+    OffsetExtendedNegative {
+        register: Register,
+        factored_offset: u64,
+    },
     /// The register's value is the CFA and an offset, which counts the data alignment factor.
     ValOffset {
         register: Register,

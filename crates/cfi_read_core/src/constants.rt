@@ -99,6 +99,8 @@ pub const DW_CFA_val_expression: DwCfa = DwCfa(0x16);
 pub const DW_CFA_AARCH64_negate_ra_state: DwCfa = DwCfa(0x2d);
 /// The size of the arguments on the stack (GNU).
 pub const DW_CFA_GNU_args_size: DwCfa = DwCfa(0x2e);
+/// `DW_CFA_GNU_negative_offset_extended`.
+pub const DW_CFA_GNU_negative_offset_extended: DwCfa = DwCfa(0x2f);
 
 impl DwEhPe {
     /// The format alone, the low four bits.

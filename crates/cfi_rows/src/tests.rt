@@ -1,4 +1,5 @@
 //! Whole runs over memory: worked sections, wrong words and input, failing input and output.
+mod extensions;
 mod header;
 
 use crate::line::{Address, Cfa, Rule, write_part};

@@ -3,7 +3,7 @@
 --     action i      what the instruction i asks for
 --     factored n, unsigned_factored n      an operand times the data alignment factor
 use Rattle.std.specs.Prelude.{ℕ, ℤ}
-use Rattle.std.specs.Int.{w64, cast_signed, int_wrapping_mul}
+use Rattle.std.specs.Int.{w64, cast_signed, int_wrapping_mul, int_wrapping_neg}
 use Rattle.cfi_read_core.specs.declared.common.Register.{Register}
 use Rattle.cfi_parts.specs.declared.instruction.UnwindExpression.{UnwindExpression}
 use Rattle.cfi_parts.specs.declared.instruction.CallFrameInstruction.{CallFrameInstruction}
@@ -53,6 +53,7 @@ module _ {T : Type 0} where
   action (instruction.SameValue r) = gives_rule r (λ factor. rule.SameValue)
   action (instruction.Offset r n) = gives_rule r (λ factor. rule.Offset (unsigned_factored n factor))
   action (instruction.OffsetExtendedSf r n) = gives_rule r (λ factor. rule.Offset (factored n factor))
+  action (instruction.OffsetExtendedNegative r n) = gives_rule r (λ factor. rule.Offset (int_wrapping_neg w64 (unsigned_factored n factor)))
   action (instruction.ValOffset r n) = gives_rule r (λ factor. rule.ValOffset (unsigned_factored n factor))
   action (instruction.ValOffsetSf r n) = gives_rule r (λ factor. rule.ValOffset (factored n factor))
   action (instruction.Register r source) = gives_rule r (λ factor. rule.Register source)

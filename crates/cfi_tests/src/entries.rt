@@ -212,3 +212,68 @@ fn letters_without_data(rt: HostRuntime) -> Result<(), Fail> {
     }
     Ok(())
 }
+
+/// CIEs of `.debug_frame` and of `.eh_frame` with the same letters, and whether the B key signs the return address.
+const B_KEYS: [(&str, &str, Result<bool, Error>); 7] = [
+    (
+        "0c000000 ffffffff 04 4200 0800 017810",
+        "0a000000 00000000 01 4200 017810",
+        Ok(true),
+    ),
+    (
+        "0c000000 ffffffff 04 5300 0800 017810",
+        "0a000000 00000000 01 5300 017810",
+        Ok(false),
+    ),
+    (
+        "0d000000 ffffffff 04 534200 0800 017810",
+        "0b000000 00000000 01 534200 017810",
+        Ok(true),
+    ),
+    (
+        "0e000000 ffffffff 04 7a4200 0800 017810 00",
+        "0c000000 00000000 01 7a4200 017810 00",
+        Ok(true),
+    ),
+    (
+        "10000000 ffffffff 04 7a425200 0800 017810 01 1b",
+        "0e000000 00000000 01 7a425200 017810 01 1b",
+        Ok(true),
+    ),
+    (
+        "0d000000 ffffffff 04 425200 0800 017810",
+        "0b000000 00000000 01 425200 017810",
+        Err(Error::UnknownAugmentation),
+    ),
+    (
+        "0d000000 ffffffff 04 427a00 0800 017810",
+        "0b000000 00000000 01 427a00 017810",
+        Err(Error::UnknownAugmentation),
+    ),
+];
+
+#[test]
+fn keys_of_return_addresses(rt: HostRuntime) -> Result<(), Fail> {
+    let bases = BaseAddresses::default();
+    for (in_debug_frame, in_eh_frame, uses_b_key) in B_KEYS {
+        let bytes = bytes_of(rt.alloc(), in_debug_frame)?;
+        let debug_frame = DebugFrame::new(bytes.as_slice(), LittleEndian);
+        let cie = debug_frame.cie_from_offset(&bases, DebugFrameOffset(0));
+        assert_eq!(rt;
+            cie.map(|cie| cie.uses_b_key()),
+            uses_b_key,
+            "{}",
+            in_debug_frame
+        );
+        let eh_bytes = bytes_of(rt.alloc(), in_eh_frame)?;
+        let eh_frame = EhFrame::new(eh_bytes.as_slice(), LittleEndian);
+        let eh_cie = eh_frame.cie_from_offset(&bases, EhFrameOffset(0));
+        assert_eq!(rt;
+            eh_cie.map(|cie| cie.uses_b_key()),
+            uses_b_key,
+            "{}",
+            in_eh_frame
+        );
+    }
+    Ok(())
+}

@@ -32,7 +32,7 @@ fn first_two(
 
 #[test]
 fn one_by_one(rt: HostRuntime) -> Result<(), Fail> {
-    let vectors: [(&[u8], Instruction); 14] = [
+    let vectors: [(&[u8], Instruction); 15] = [
         (&[0x6a], CallFrameInstruction::AdvanceLoc { delta: 42 }),
         (
             &[0x83, 0xcd, 0x0f],
@@ -104,6 +104,13 @@ fn one_by_one(rt: HostRuntime) -> Result<(), Fail> {
         ),
         (&[0x2e, 0x10], CallFrameInstruction::ArgsSize { size: 16 }),
         (
+            &[0x2f, 6, 2],
+            CallFrameInstruction::OffsetExtendedNegative {
+                register: Register(6),
+                factored_offset: 2,
+            },
+        ),
+        (
             &[1, 8, 7, 6, 5, 4, 3, 2, 1],
             CallFrameInstruction::SetLoc {
                 address: 0x0102030405060708,
@@ -119,9 +126,10 @@ fn one_by_one(rt: HostRuntime) -> Result<(), Fail> {
 
 #[test]
 fn refusals_end_the_instructions(rt: HostRuntime) -> Result<(), Fail> {
-    let refused: [(&[u8], Error); 4] = [
+    let refused: [(&[u8], Error); 5] = [
         (&[0x3f, 0], Error::UnknownCallFrameInstruction(DwCfa(0x3f))),
         (&[2], Error::UnexpectedEof(ReaderOffsetId(1))),
+        (&[0x2f, 6], Error::UnexpectedEof(ReaderOffsetId(2))),
         (&[0x2d, 0], Error::UnknownCallFrameInstruction(DwCfa(0x2d))),
         (&[7, 0x80, 0x80, 4, 0], Error::UnsupportedRegister(65536)),
     ];

@@ -83,10 +83,11 @@ pub onward_letter : (context : PointerContext) (l : ℕ) (known : Augmentation) 
 unfolding letter
 onward_letter context l known =
     onward_if (l == 0x53) (give _) _ (onward_give _)
+    (onward_if (l == 0x42) (give _) _ (onward_give _)
     (onward_if (not known.has_augmentation_data) (refuse _) _ (onward_refuse _)
     (onward_if (l == 0x4c) _ _ (onward_bind encoding_byte _ onward_encoding_byte (λ encoding. onward_give _))
     (onward_if (l == 0x50) _ _ (onward_bind encoding_byte _ onward_encoding_byte (λ encoding. onward_bind (pointer encoding context) _ (onward_pointer encoding context) (λ p. onward_give _)))
-    (onward_if (l == 0x52) _ (refuse _) (onward_bind encoding_byte _ onward_encoding_byte (λ encoding. onward_give _)) (onward_refuse _)))))
+    (onward_if (l == 0x52) _ (refuse _) (onward_bind encoding_byte _ onward_encoding_byte (λ encoding. onward_give _)) (onward_refuse _))))))
 
 pub onward_letters : (context : PointerContext) (ls : List ℕ) (known : Augmentation) → IsOnward (letters context ls known)
 unfolding letters

@@ -20,6 +20,7 @@ pub record Augmentation : Type 0 where
   pub personality : Option (ℕ × Pointer)  -- P: the encoding and the pointer
   pub address_encoding : Option ℕ  -- R: of the FDE's addresses
   pub is_signal_trampoline : Bool  -- S
+  pub uses_b_key : Bool  -- B: the return address is signed with the B key
 
 pub record Cie : Type 0 where
   pub offset : ℕ
@@ -51,15 +52,20 @@ abbrev pub is_trampoline : Option Augmentation → Bool
 is_trampoline None = false
 is_trampoline (Some known) = known.is_signal_trampoline
 
--- ---- augmentation: z 0x7a, L 0x4c, P 0x50, R 0x52, S 0x53
+abbrev pub has_b_key : Option Augmentation → Bool
+has_b_key None = false
+has_b_key (Some known) = known.uses_b_key
+
+-- ---- augmentation: z 0x7a, L 0x4c, P 0x50, R 0x52, S 0x53, B 0x42
 
 abbrev pub no_letters : Augmentation
-no_letters = record { has_augmentation_data = false; lsda_encoding = None; personality = None; address_encoding = None; is_signal_trampoline = false }
+no_letters = record { has_augmentation_data = false; lsda_encoding = None; personality = None; address_encoding = None; is_signal_trampoline = false; uses_b_key = false }
 
 -- what one letter adds, read from the augmentation data
 unfoldable pub letter : PointerContext → ℕ → Augmentation → Read Augmentation
 letter context l known =
     if l == 0x53 then give (record known { is_signal_trampoline = true })
+    else if l == 0x42 then give (record known { uses_b_key = true })
     else if not known.has_augmentation_data then refuse UnknownAugmentation
     else if l == 0x4c then (do
       encoding ← encoding_byte

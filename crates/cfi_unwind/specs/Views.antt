@@ -34,6 +34,7 @@ augmentation_view a = record {
   personality = option_map (λ p. (p.0.0, p.1)) a.personality;
   address_encoding = option_map (λ e. e.0) a.fde_address_encoding;
   is_signal_trampoline = a.is_signal_trampoline;
+  uses_b_key = a.uses_b_key;
 }
 
 abbrev pub cie_view : {R O : Type 0} → (R → Position) → (O → ℕ) → CieFields R O → Cie

@@ -436,6 +436,18 @@ later_z : trampoline_of (cie_at (eh_frame (codes "0b000000 00000000 01 537a00 01
 unfolding computing
 later_z = refl
 
+abbrev b_key_of : Result Cie Error → Result (Option Bool) Error
+b_key_of (Err e) = Err e
+b_key_of (Ok cie) = Ok (option_map (λ known. known.uses_b_key) cie.augmentation)
+
+bare_b : b_key_of (cie_at (debug_frame (codes "0c000000 ffffffff 04 4200 0800 017810")) 0) ≡ Ok (Some true)
+unfolding computing
+bare_b = refl
+
+bare_b_and_r : b_key_of (cie_at (eh_frame (codes "0b000000 00000000 01 425200 017810")) 0) ≡ Err UnknownAugmentation
+unfolding computing
+bare_b_and_r = refl
+
 -- ---- entries at offsets
 
 no_fde_there : partial_fde_at first_row 0 ≡ Err (NotCiePointer 0)

@@ -101,6 +101,26 @@ behind_the_cut : row_at cut_off 0x1001 ≡ Err (unexpected_eof 46)
 unfolding computing
 behind_the_cut = refl
 
+-- ---- offsets below the CFA
+
+abbrev least_factor : Section
+least_factor = debug_frame (codes "17000000 ffffffff 04000800 01 8080808080808080807f 10 0c0708 17000000 00000000 0010000000000000 2000000000000000 2f 06 01")
+
+negation_wraps : row_at least_factor 0x1000 ≡ row 0x1000 0x1020 (cfa_at 7 (pos 8)) ((6, Offset (negsuc 9223372036854775807)) ∷ [])
+unfolding computing
+negation_wraps = refl
+
+abbrev negative_in_brackets : Section
+negative_in_brackets = debug_frame (codes "10000000 ffffffff 04000800 017810 0c0708 9001 1b000000 00000000 0010000000000000 2000000000000000 0a 2f 06 02 41 0b 00")
+
+negative_offset : row_at negative_in_brackets 0x1000 ≡ row 0x1000 0x1001 (cfa_at 7 (pos 8)) ((16, Offset (negsuc 7)) ∷ (6, Offset (pos 16)) ∷ [])
+unfolding computing
+negative_offset = refl
+
+negative_offset_struck : row_at negative_in_brackets 0x1001 ≡ row 0x1001 0x1020 (cfa_at 7 (pos 8)) ((16, Offset (negsuc 7)) ∷ [])
+unfolding computing
+negative_offset_struck = refl
+
 -- ---- the sign state toggles
 
 abbrev signed_state : Section

@@ -20,7 +20,7 @@ the_cie = record {
   length = 20;
   format = Dwarf32;
   version = 1;
-  augmentation = Some (record { has_augmentation_data = true; lsda_encoding = None; personality = None; address_encoding = Some 0x1b; is_signal_trampoline = false });
+  augmentation = Some (record { has_augmentation_data = true; lsda_encoding = None; personality = None; address_encoding = Some 0x1b; is_signal_trampoline = false; uses_b_key = false });
   address_size = 8;
   code_alignment_factor = 1;
   data_alignment_factor = negsuc 7;

@@ -10,13 +10,14 @@ ghost use Rattle.cfi_parts.specs.Views.{map_expression, map_instruction};
 use crate::instruction::{CallFrameInstruction, UnwindExpression};
 use crate::pointer::{PointerEncodingParameters, parse_encoded_pointer};
 use cfi_read_core::constants::{
-    DW_CFA_AARCH64_negate_ra_state, DW_CFA_GNU_args_size, DW_CFA_advance_loc, DW_CFA_advance_loc1,
-    DW_CFA_advance_loc2, DW_CFA_advance_loc4, DW_CFA_def_cfa, DW_CFA_def_cfa_expression,
-    DW_CFA_def_cfa_offset, DW_CFA_def_cfa_offset_sf, DW_CFA_def_cfa_register, DW_CFA_def_cfa_sf,
-    DW_CFA_expression, DW_CFA_nop, DW_CFA_offset, DW_CFA_offset_extended,
-    DW_CFA_offset_extended_sf, DW_CFA_register, DW_CFA_remember_state, DW_CFA_restore,
-    DW_CFA_restore_extended, DW_CFA_restore_state, DW_CFA_same_value, DW_CFA_set_loc,
-    DW_CFA_undefined, DW_CFA_val_expression, DW_CFA_val_offset, DW_CFA_val_offset_sf,
+    DW_CFA_AARCH64_negate_ra_state, DW_CFA_GNU_args_size, DW_CFA_GNU_negative_offset_extended,
+    DW_CFA_advance_loc, DW_CFA_advance_loc1, DW_CFA_advance_loc2, DW_CFA_advance_loc4,
+    DW_CFA_def_cfa, DW_CFA_def_cfa_expression, DW_CFA_def_cfa_offset, DW_CFA_def_cfa_offset_sf,
+    DW_CFA_def_cfa_register, DW_CFA_def_cfa_sf, DW_CFA_expression, DW_CFA_nop, DW_CFA_offset,
+    DW_CFA_offset_extended, DW_CFA_offset_extended_sf, DW_CFA_register, DW_CFA_remember_state,
+    DW_CFA_restore, DW_CFA_restore_extended, DW_CFA_restore_state, DW_CFA_same_value,
+    DW_CFA_set_loc, DW_CFA_undefined, DW_CFA_val_expression, DW_CFA_val_offset,
+    DW_CFA_val_offset_sf,
 };
 use cfi_read_core::reader::{read_offset, read_register};
 use cfi_read_core::{DwCfa, DwEhPe, Error, Reader, ReaderOffset, Register, Result, Vendor};
@@ -146,6 +147,10 @@ fn parse_extended<R: Reader>(
         DW_CFA_offset_extended_sf => Ok(CallFrameInstruction::OffsetExtendedSf {
             register: read_register(input)?,
             factored_offset: input.read_sleb128()?,
+        }),
+        DW_CFA_GNU_negative_offset_extended => Ok(CallFrameInstruction::OffsetExtendedNegative {
+            register: read_register(input)?,
+            factored_offset: input.read_uleb128()?,
         }),
         DW_CFA_val_offset => Ok(CallFrameInstruction::ValOffset {
             register: read_register(input)?,

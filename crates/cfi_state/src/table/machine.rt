@@ -253,6 +253,13 @@ fn rule_given<T: ReaderOffset>(
             let offset = parameters.factored(factored_offset);
             Some((register, RegisterRule::Offset(offset)))
         }
+        CallFrameInstruction::OffsetExtendedNegative {
+            register,
+            factored_offset,
+        } => {
+            let product = parameters.factored(factored_offset.cast_signed());
+            Some((register, RegisterRule::Offset(product.wrapping_neg())))
+        }
         CallFrameInstruction::ValOffset {
             register,
             factored_offset,

@@ -24,6 +24,7 @@ pub struct Augmentation {
     pub(crate) personality: Option<(DwEhPe, Pointer)>,
     pub(crate) fde_address_encoding: Option<DwEhPe>,
     pub(crate) is_signal_trampoline: bool,
+    pub(crate) uses_b_key: bool,
 }
 
 /// What one letter adds, read from the augmentation data.
@@ -41,6 +42,7 @@ fn read_letter<R: Reader, S: _UnwindSectionPrivate<R>>(
     let mut known = known;
     match byte {
         b'S' => known.is_signal_trampoline = true,
+        b'B' => known.uses_b_key = true,
         _ if !known.has_augmentation_data => return Err(Error::UnknownAugmentation),
         b'L' => known.lsda_encoding = Some(parse_pointer_encoding(input)?),
         b'P' => {

@@ -4,7 +4,7 @@ ghost use Rattle.std.specs.Option.{option_map};
 ghost use Rattle.cfi_read_core.specs.Addresses.{IsAddressSize};
 ghost use Rattle.cfi_read_core.specs.Readers.{Reads, map_ok};
 ghost use Rattle.cfi_parts.specs.CallFrameSections.{IsOf};
-ghost use Rattle.cfi_unwind.specs.Cies.{address_encoding_of, cie_of, is_trampoline, lsda_encoding_of, personality_of, return_register, sizes};
+ghost use Rattle.cfi_unwind.specs.Cies.{address_encoding_of, cie_of, has_b_key, is_trampoline, lsda_encoding_of, personality_of, return_register, sizes};
 ghost use Rattle.cfi_unwind.specs.Views.{augmentation_view, cie_view, prefix_view, section_in};
 
 use crate::entry::augmentation::{Augmentation, read_augmentation};
@@ -202,6 +202,16 @@ impl<R: Reader> CommonInformationEntry<R> {
     {
         match self.augmentation {
             Some(known) => known.is_signal_trampoline,
+            None => false,
+        }
+    }
+
+    /// Whether the return address is signed with the B key ("DWARF for the Arm 64-bit Architecture").
+    pub fn uses_b_key(&self) -> bool
+        ensures { result ≡ has_b_key (cie_view R.position R.Offset.number self.now).augmentation }
+    {
+        match self.augmentation {
+            Some(known) => known.uses_b_key,
             None => false,
         }
     }
