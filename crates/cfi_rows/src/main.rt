@@ -5,7 +5,10 @@
 //! what is printed.
 #![tactic(auto)]
 
-ghost use Rattle.std.specs.Prelude.{◌≡◌, IfOk, map, string_bytes};
+ghost use Rattle.std.specs.Prelude.{◌≡◌, ℕ, List, IfOk, IfSome, map, option_map, string_bytes};
+ghost use Rattle.std.specs.Io.KnownBytes.{Appends};
+ghost use Rattle.std.specs.Process.{exit_status};
+ghost use Rattle.cfi_rows.specs.ProgramOutput.{answers, IsRun};
 ghost use Rattle.cfi_rows.specs.CommandLine.{texts};
 
 mod row_lookup;
@@ -18,23 +21,36 @@ mod words;
 
 use run::run;
 use std::alloc::{AllocError, Global};
+use std::io::{Read, Write};
 use std::process::ExitCode;
 use std::rt::Env;
 use std::{env, io};
 
 fn main(rt: HostRuntime) -> ExitCode {
+    let alloc = rt.alloc();
+    let mut input = rt.stdin();
+    let mut output = rt.stdout();
     let Ok(words) = words_after_name(&rt) else {
-        return run_for(&rt, None);
+        return run_for(alloc, None, &mut input, &mut output);
     };
-    match texts_of(rt.alloc(), words.as_slice()) {
-        Ok(texts) => run_for(&rt, Some(texts.as_slice())),
-        Err(_) => run_for(&rt, None),
+    match texts_of(alloc, words.as_slice()) {
+        Ok(texts) => run_for(alloc, Some(texts.as_slice()), &mut input, &mut output),
+        Err(_) => run_for(alloc, None, &mut input, &mut output),
     }
 }
 
-fn run_for(rt: &HostRuntime, words: Option<&[&str]>) -> ExitCode {
-    let status = run(rt.alloc(), words, &mut rt.stdin(), &mut rt.stdout());
-    ExitCode::from(status)
+/// Runs the program, and ends with its status.
+fn run_for<R: Read, W: Write>(
+    alloc: Global,
+    words: Option<&[&str]>,
+    input: &mut R,
+    output: &mut W,
+) -> ExitCode
+    ensures { IfSome (R.remaining input.old) (λ bytes. (written : List ℕ)
+        × Appends (W.contents output.old) (W.contents output.new) written
+        × IsRun answers (option_map (λ list. texts list.now) words.entry) bytes written (exit_status result)) }
+{
+    ExitCode::from(run(alloc, words, input, output))
 }
 
 fn words_after_name(rt: &(impl Env + AllocGlobal)) -> io::Result<Vec<String>> {

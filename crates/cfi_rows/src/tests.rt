@@ -1,5 +1,7 @@
-//! Whole runs over memory: worked sections, wrong words and input, failing input and output.
+//! Whole runs over memory: worked sections, wrong words and input, cut sections, failing input and output.
+mod cuts;
 mod extensions;
+mod failing;
 mod header;
 
 use crate::line::{Address, Cfa, Rule, write_part};
@@ -7,571 +9,172 @@ use crate::run::run;
 use cfi_parts::instruction::UnwindExpression;
 use cfi_state::table::rules::{CfaRule, RegisterRule};
 use std::alloc::{AllocError, Global};
-use std::io;
-use std::io::{ErrorKind, Read, Write};
+use std::process::Abort;
 use std::test::Fail;
 
-/// A run: the words, parts of the input, the line without its line feed, and the status.
-struct Case {
-    words: &'static str,
-    input: &'static [&'static str],
-    line: &'static str,
-    status: u8,
-}
-
-const NO_INPUT: &[&str] = &[];
-
-const REFUSED: &str = "refused NoUnwindInfoForAddress";
-
-/// A CIE of `.debug_frame`: version 4, addresses of 8 bytes, factors 1 and -8, return register 16; r7+8, r16 at -8.
+/// In a table it stands as `CIE`: version 4, addresses of 8 bytes, factors 1 and -8, return register 16; r7+8, r16 at -8.
 const CIE: &str = "10000000 ffffffff 04000800 017810 0c0708 9001";
 
-/// An FDE's CIE pointer 0, start 0x1000 and range 0x20, after its length.
+/// The same with addresses of 4 bytes, in a table `NARROW`.
+const NARROW: &str = "10000000 ffffffff 04000400 017810 0c0708 9001";
+
+/// An FDE's CIE pointer 0, start 0x1000 and range 0x20, after its length; in a table `RANGE`.
 const RANGE: &str = "00000000 0010000000000000 2000000000000000";
 
-/// The CIE at 0 with addresses of 4 bytes.
-const NARROW_CIE: &str = "10000000 ffffffff 04000400 017810 0c0708 9001";
+/// A line a case: its name, the words, the input, and the line that is printed. `same` is the input of the case above.
+struct Table {
+    /// What stands before each input.
+    before: &'static str,
+    cases: &'static str,
+}
 
-const FIRST: &[&str] = &[CIE, "1c000000", RANGE, "41 0e10 8602 43 0d06"];
-
-const REMEMBERED: &[&str] = &[CIE, "19000000", RANGE, "0a 0e20 42 0b"];
-
-const MOVE_IN_CIE: &[&str] = &[
-    "11000000 ffffffff 04000800 017810 0c0708 9001 41",
-    "14000000",
-    RANGE,
-];
-
-const TWO_RULES: &[&str] = &[
-    "12000000 ffffffff 04000800 017810 0c0708 9001 8602",
-    "17000000",
-    RANGE,
-    "0a0a0a",
-];
-
-const FOUR_REMEMBERED: &[&str] = &[CIE, "18000000", RANGE, "0a0a0a0a"];
-
-const FULL_CIE: &[&str] = &[
-    "15000000 ffffffff 04000800 017810 0c0708 9001 8602 0a0a0a",
-    "14000000",
-    RANGE,
-];
-
-const RESTORED: &[&str] = &[
-    "11000000 ffffffff 04000800 017810 0c0708 0a 9001",
-    "17000000",
-    RANGE,
-    "0b 41 d0",
-];
-
-const CUT: &[&str] = &[CIE, "16000000", RANGE, "41 02"];
-
-const SIGNED: &[&str] = &[
-    "0b000000 ffffffff 04000800 017810",
-    "1a000000",
-    RANGE,
-    "2d 41 0a 2d 41 0b",
-];
-
-const LARGE_FACTOR: &[&str] = &[
-    "19000000 ffffffff 04000800 80808080808080808001 7810 0c0708 9001",
-    "15000000",
-    RANGE,
-    "42",
-];
-
-const OVERFLOW: &[&str] = &[NARROW_CIE, "0d000000 00000000 feffffff 01000000 6a"];
-
-const SET_LOC: &[&str] = &[CIE, "1d000000", RANGE, "01 0010000000000000"];
-
-const EXPRESSION: &[&str] = &[CIE, "1b000000", RANGE, "8602 0f0130 0d06"];
-
-const WRAPPED: &[&str] = &[NARROW_CIE, "0c000000 00000000 f0ffffff 20000000"];
-
-const GAP: &[&str] = &[
-    "00000000",
-    CIE,
-    "14000000 04000000 0010000000000000 2000000000000000",
-];
-
-const WIDE_GAP: &[&str] = &[
-    "ffffffff 0000000000000000",
-    CIE,
-    "14000000 0c000000 0010000000000000 2000000000000000",
-];
-
-const THREE: &[&str] = &[
-    "14000000 00000000 01 7a5200 01 78 10 01 1b 0c0708 9001 0000",
-    "10000000 1c000000 e0efffff 10000000 00 000000",
-    "10000000 30000000 dcefffff 10000000 00 410e10",
-    "10000000 44000000 d8efffff 20000000 00 000000",
-    "00000000",
-];
-
-const ARGS_SIZE: &[&str] = &[CIE, "1b000000", RANGE, "2e10 0a 2e20 41 0b"];
-
-const WIDE: &[&str] = &[
-    "ffffffff 1400000000000000 ffffffffffffffff 04000800 017810 0c0708 9001",
-    "ffffffff 1800000000000000 0000000000000000 0010000000000000 2000000000000000",
-];
-
-const TEXT_CIE: &str = "0d000000 00000000 01 7a5200 017810 01 20";
-
-const TEXT: &[&str] = &[
-    TEXT_CIE,
-    "15000000 15000000 0000000000000000 0000010000000000 00",
-];
-
-const TEXT_MOVE: &[&str] = &[
-    TEXT_CIE,
-    "1e000000 15000000 0000000000000000 0000010000000000 00 01 efbe000000000000",
-];
-
-const PADDED: &[&str] = &[CIE, "19000000", RANGE, "41 0e908000"];
-
-const LONG_NUMBER: &[&str] = &[CIE, "1f000000", RANGE, "0e80808080808080808002"];
-
-const LARGE_REGISTER: &[&str] = &[CIE, "18000000", RANGE, "07808004"];
-
-/// Worked sections.
-const WORKED: &[Case] = &[
-    Case {
-        words: "debug_frame le 8 0x1000",
-        input: FIRST,
-        line: "0x1000 0x1001 cfa=r7+8 args=0 r16=offset(-8)",
-        status: 0,
-    },
-    Case {
-        words: "debug_frame le 8 0x1002",
-        input: FIRST,
-        line: "0x1001 0x1004 cfa=r7+16 args=0 r6=offset(-16) r16=offset(-8)",
-        status: 0,
-    },
-    Case {
-        words: "debug_frame le 8 0x1004",
-        input: FIRST,
-        line: "0x1004 0x1020 cfa=r6+16 args=0 r6=offset(-16) r16=offset(-8)",
-        status: 0,
-    },
-    Case {
-        words: "debug_frame le 8 0x1020",
-        input: FIRST,
-        line: REFUSED,
-        status: 1,
-    },
-    Case {
-        words: "debug_frame le 8 0x1000",
-        input: NO_INPUT,
-        line: REFUSED,
-        status: 1,
-    },
-    Case {
-        words: "debug_frame le 8 0x1000",
-        input: REMEMBERED,
-        line: "0x1000 0x1002 cfa=r7+32 args=0 r16=offset(-8)",
-        status: 0,
-    },
-    Case {
-        words: "debug_frame le 8 0x1002",
-        input: REMEMBERED,
-        line: "0x1002 0x1020 cfa=r7+8 args=0 r16=offset(-8)",
-        status: 0,
-    },
-    Case {
-        words: "debug_frame le 8 0x1000",
-        input: MOVE_IN_CIE,
-        line: "0x1000 0x1020 cfa=r7+8 args=0 r16=offset(-8)",
-        status: 0,
-    },
-    Case {
-        words: "debug_frame le 8 0x1000",
-        input: TWO_RULES,
-        line: "refused StackFull",
-        status: 1,
-    },
-    Case {
-        words: "debug_frame le 8 0x1000",
-        input: FOUR_REMEMBERED,
-        line: "refused StackFull",
-        status: 1,
-    },
-    Case {
-        words: "debug_frame le 8 0x1000",
-        input: FULL_CIE,
-        line: "refused StackFull",
-        status: 1,
-    },
-    Case {
-        words: "debug_frame le 8 0x1000",
-        input: RESTORED,
-        line: "0x1000 0x1001 cfa=r7+8 args=0",
-        status: 0,
-    },
-    Case {
-        words: "debug_frame le 8 0x1001",
-        input: RESTORED,
-        line: "0x1001 0x1020 cfa=r7+8 args=0 r16=offset(-8)",
-        status: 0,
-    },
-    Case {
-        words: "debug_frame le 8 0x1000",
-        input: CUT,
-        line: "0x1000 0x1001 cfa=r7+8 args=0 r16=offset(-8)",
-        status: 0,
-    },
-    Case {
-        words: "debug_frame le 8 0x1001",
-        input: CUT,
-        line: "refused UnexpectedEof",
-        status: 1,
-    },
-    Case {
-        words: "debug_frame le 8 0x1000 vendor=aarch64",
-        input: SIGNED,
-        line: "0x1000 0x1001 cfa=r0+0 args=0 r34=constant(1)",
-        status: 0,
-    },
-    Case {
-        words: "debug_frame le 8 0x1001 vendor=aarch64",
-        input: SIGNED,
-        line: "0x1001 0x1002 cfa=r0+0 args=0 r34=constant(0)",
-        status: 0,
-    },
-    Case {
-        words: "debug_frame le 8 0x1002 vendor=aarch64",
-        input: SIGNED,
-        line: "0x1002 0x1020 cfa=r0+0 args=0 r34=constant(1)",
-        status: 0,
-    },
-    Case {
-        words: "debug_frame le 8 0x1000",
-        input: SIGNED,
-        line: "refused UnknownCallFrameInstruction",
-        status: 1,
-    },
-    Case {
-        words: "debug_frame le 8 0x1000",
-        input: LARGE_FACTOR,
-        line: "0x1000 0x1020 cfa=r7+8 args=0 r16=offset(-8)",
-        status: 0,
-    },
-    Case {
-        words: "debug_frame le 8 0xfffffffe",
-        input: OVERFLOW,
-        line: "refused AddressOverflow",
-        status: 1,
-    },
-    Case {
-        words: "debug_frame le 8 0x1000",
-        input: SET_LOC,
-        line: "0x1000 0x1020 cfa=r7+8 args=0 r16=offset(-8)",
-        status: 0,
-    },
-    Case {
-        words: "debug_frame le 8 0x1000",
-        input: EXPRESSION,
-        line: "refused CfiInstructionInInvalidContext",
-        status: 1,
-    },
-    Case {
-        words: "debug_frame le 8 0xfffffff8",
-        input: WRAPPED,
-        line: REFUSED,
-        status: 1,
-    },
-    Case {
-        words: "debug_frame le 8 0x1000",
-        input: GAP,
-        line: "0x1000 0x1020 cfa=r7+8 args=0 r16=offset(-8)",
-        status: 0,
-    },
-    Case {
-        words: "eh_frame le 8 0x1000",
-        input: GAP,
-        line: REFUSED,
-        status: 1,
-    },
-    Case {
-        words: "debug_frame le 8 0x1000",
-        input: WIDE_GAP,
-        line: "0x1000 0x1020 cfa=r7+8 args=0 r16=offset(-8)",
-        status: 0,
-    },
-    Case {
-        words: "eh_frame le 8 0x1000",
-        input: WIDE_GAP,
-        line: REFUSED,
-        status: 1,
-    },
-    Case {
-        words: "eh_frame le 8 0x1000",
-        input: &["04000000 05000000"],
-        line: "refused OffsetOutOfBounds",
-        status: 1,
-    },
-    Case {
-        words: "eh_frame le 8 0x1000",
-        input: &["04000000 04000000"],
-        line: "refused NotCieId",
-        status: 1,
-    },
-    Case {
-        words: "debug_frame le 8 0x1000",
-        input: &["0500"],
-        line: "refused UnexpectedEof",
-        status: 1,
-    },
-    Case {
-        words: "debug_frame le 8 0x1000",
-        input: &["f5ffffff"],
-        line: "refused UnknownReservedLength",
-        status: 1,
-    },
-    Case {
-        words: "debug_frame le 8 0x1000",
-        input: &["ffffffff 39300000"],
-        line: "refused UnexpectedEof",
-        status: 1,
-    },
-    Case {
-        words: "debug_frame le 8 0x1000",
-        input: &["000000ff ffffffff"],
-        line: "refused UnexpectedEof",
-        status: 1,
-    },
-    Case {
-        words: "eh_frame le 8 0xff0 section=0x2000",
-        input: THREE,
-        line: REFUSED,
-        status: 1,
-    },
-    Case {
-        words: "eh_frame le 8 0x1018 section=0x2000",
-        input: THREE,
-        line: "0x1011 0x1020 cfa=r7+16 args=0 r16=offset(-8)",
-        status: 0,
-    },
-    Case {
-        words: "eh_frame le 8 0x1020 section=0x2000",
-        input: THREE,
-        line: "0x1020 0x1040 cfa=r7+8 args=0 r16=offset(-8)",
-        status: 0,
-    },
-    Case {
-        words: "debug_frame le 8 0x1000",
-        input: ARGS_SIZE,
-        line: "0x1000 0x1001 cfa=r7+8 args=32 r16=offset(-8)",
-        status: 0,
-    },
-    Case {
-        words: "debug_frame le 8 0x1001",
-        input: ARGS_SIZE,
-        line: "0x1001 0x1020 cfa=r7+8 args=16 r16=offset(-8)",
-        status: 0,
-    },
-    Case {
-        words: "debug_frame le 8 0x1000",
-        input: WIDE,
-        line: "0x1000 0x1020 cfa=r7+8 args=0 r16=offset(-8)",
-        status: 0,
-    },
-    Case {
-        words: "eh_frame le 8 0xfeedface text=0xfeedface",
-        input: TEXT,
-        line: "0xfeedface 0xfeeeface cfa=r0+0 args=0",
-        status: 0,
-    },
-    Case {
-        words: "eh_frame le 8 0xfeeeb9bd text=0xfeedface",
-        input: TEXT_MOVE,
-        line: "0xfeeeb9bd 0xfeeeface cfa=r0+0 args=0",
-        status: 0,
-    },
-    Case {
-        words: "debug_frame le 8 0x1001",
-        input: PADDED,
-        line: "0x1001 0x1020 cfa=r7+16 args=0 r16=offset(-8)",
-        status: 0,
-    },
-    Case {
-        words: "debug_frame le 8 0x1000",
-        input: LONG_NUMBER,
-        line: "refused BadUnsignedLeb128",
-        status: 1,
-    },
-    Case {
-        words: "debug_frame le 8 0x1000",
-        input: LARGE_REGISTER,
-        line: "refused UnsupportedRegister",
-        status: 1,
-    },
-];
+/// Worked sections. None of these meets a limit of the fixed storage.
+const WORKED: Table = Table {
+    before: "",
+    cases: "
+three rows: the first | debug_frame le 8 0x1000 | CIE 1c000000 RANGE 41 0e10 8602 43 0d06 | 0x1000 0x1001 cfa=r7+8 args=0 r16=offset(-8)
+three rows: the second | debug_frame le 8 0x1002 | same | 0x1001 0x1004 cfa=r7+16 args=0 r6=offset(-16) r16=offset(-8)
+three rows: the third | debug_frame le 8 0x1004 | same | 0x1004 0x1020 cfa=r6+16 args=0 r6=offset(-16) r16=offset(-8)
+three rows: after the last | debug_frame le 8 0x1020 | same | refused NoUnwindInfoForAddress
+empty section | debug_frame le 8 0x1000 | | refused NoUnwindInfoForAddress
+remembered state: before it is restored | debug_frame le 8 0x1000 | CIE 19000000 RANGE 0a 0e20 42 0b | 0x1000 0x1002 cfa=r7+32 args=0 r16=offset(-8)
+remembered state: restored | debug_frame le 8 0x1002 | same | 0x1002 0x1020 cfa=r7+8 args=0 r16=offset(-8)
+move in a CIE | debug_frame le 8 0x1000 | 11000000 ffffffff 04000800 017810 0c0708 9001 41 14000000 RANGE | 0x1000 0x1020 cfa=r7+8 args=0 r16=offset(-8)
+restored from the CIE: before the rule | debug_frame le 8 0x1000 | 11000000 ffffffff 04000800 017810 0c0708 0a 9001 17000000 RANGE 0b 41 d0 | 0x1000 0x1001 cfa=r7+8 args=0
+restored from the CIE: the rule that it ended with | debug_frame le 8 0x1001 | same | 0x1001 0x1020 cfa=r7+8 args=0 r16=offset(-8)
+cut instruction: the row before it | debug_frame le 8 0x1000 | CIE 16000000 RANGE 41 02 | 0x1000 0x1001 cfa=r7+8 args=0 r16=offset(-8)
+cut instruction: its row | debug_frame le 8 0x1001 | same | refused UnexpectedEof
+signed address: once | debug_frame le 8 0x1000 vendor=aarch64 | 0b000000 ffffffff 04000800 017810 1a000000 RANGE 2d 41 0a 2d 41 0b | 0x1000 0x1001 cfa=r0+0 args=0 r34=constant(1)
+signed address: twice | debug_frame le 8 0x1001 vendor=aarch64 | same | 0x1001 0x1002 cfa=r0+0 args=0 r34=constant(0)
+signed address: restored | debug_frame le 8 0x1002 vendor=aarch64 | same | 0x1002 0x1020 cfa=r0+0 args=0 r34=constant(1)
+signed address: of another vendor | debug_frame le 8 0x1000 | same | refused UnknownCallFrameInstruction
+product that wraps to no move | debug_frame le 8 0x1000 | 19000000 ffffffff 04000800 80808080808080808001 7810 0c0708 9001 15000000 RANGE 42 | 0x1000 0x1020 cfa=r7+8 args=0 r16=offset(-8)
+move past four bytes | debug_frame le 8 0xfffffffe | NARROW 0d000000 00000000 feffffff 01000000 6a | refused AddressOverflow
+location set to itself | debug_frame le 8 0x1000 | CIE 1d000000 RANGE 01 0010000000000000 | 0x1000 0x1020 cfa=r7+8 args=0 r16=offset(-8)
+register of an expression | debug_frame le 8 0x1000 | CIE 1b000000 RANGE 8602 0f0130 0d06 | refused CfiInstructionInInvalidContext
+range that wraps | debug_frame le 8 0xfffffff8 | NARROW 0c000000 00000000 f0ffffff 20000000 | refused NoUnwindInfoForAddress
+gap: passed in .debug_frame | debug_frame le 8 0x1000 | 00000000 CIE 14000000 04000000 0010000000000000 2000000000000000 | 0x1000 0x1020 cfa=r7+8 args=0 r16=offset(-8)
+gap: the end of .eh_frame | eh_frame le 8 0x1000 | same | refused NoUnwindInfoForAddress
+gap of 64 bits: passed in .debug_frame | debug_frame le 8 0x1000 | ffffffff 0000000000000000 CIE 14000000 0c000000 0010000000000000 2000000000000000 | 0x1000 0x1020 cfa=r7+8 args=0 r16=offset(-8)
+gap of 64 bits: the end of .eh_frame | eh_frame le 8 0x1000 | same | refused NoUnwindInfoForAddress
+CIE before the section | eh_frame le 8 0x1000 | 04000000 05000000 | refused OffsetOutOfBounds
+FDE that is its own CIE | eh_frame le 8 0x1000 | 04000000 04000000 | refused NotCieId
+length that is cut | debug_frame le 8 0x1000 | 0500 | refused UnexpectedEof
+length that is reserved | debug_frame le 8 0x1000 | f5ffffff | refused UnknownReservedLength
+length of 64 bits that is cut | debug_frame le 8 0x1000 | ffffffff 39300000 | refused UnexpectedEof
+length past the section | debug_frame le 8 0x1000 | 000000ff ffffffff | refused UnexpectedEof
+relative addresses: before the first | eh_frame le 8 0xff0 section=0x2000 | 14000000 00000000 01 7a5200 01 78 10 01 1b 0c0708 9001 0000 10000000 1c000000 e0efffff 10000000 00 000000 10000000 30000000 dcefffff 10000000 00 410e10 10000000 44000000 d8efffff 20000000 00 000000 00000000 | refused NoUnwindInfoForAddress
+relative addresses: the second FDE | eh_frame le 8 0x1018 section=0x2000 | same | 0x1011 0x1020 cfa=r7+16 args=0 r16=offset(-8)
+relative addresses: the third FDE | eh_frame le 8 0x1020 section=0x2000 | same | 0x1020 0x1040 cfa=r7+8 args=0 r16=offset(-8)
+argument size: remembered in a row | debug_frame le 8 0x1000 | CIE 1b000000 RANGE 2e10 0a 2e20 41 0b | 0x1000 0x1001 cfa=r7+8 args=32 r16=offset(-8)
+argument size: restored | debug_frame le 8 0x1001 | same | 0x1001 0x1020 cfa=r7+8 args=16 r16=offset(-8)
+64-bit format | debug_frame le 8 0x1000 | ffffffff 1400000000000000 ffffffffffffffff 04000800 017810 0c0708 9001 ffffffff 1800000000000000 0000000000000000 0010000000000000 2000000000000000 | 0x1000 0x1020 cfa=r7+8 args=0 r16=offset(-8)
+relative to the text | eh_frame le 8 0xfeedface text=0xfeedface | 0d000000 00000000 01 7a5200 017810 01 20 15000000 15000000 0000000000000000 0000010000000000 00 | 0xfeedface 0xfeeeface cfa=r0+0 args=0
+location set relative to the text | eh_frame le 8 0xfeeeb9bd text=0xfeedface | 0d000000 00000000 01 7a5200 017810 01 20 1e000000 15000000 0000000000000000 0000010000000000 00 01 efbe000000000000 | 0xfeeeb9bd 0xfeeeface cfa=r0+0 args=0
+padded number | debug_frame le 8 0x1001 | CIE 19000000 RANGE 41 0e908000 | 0x1001 0x1020 cfa=r7+16 args=0 r16=offset(-8)
+number of eleven bytes | debug_frame le 8 0x1000 | CIE 1f000000 RANGE 0e80808080808080808002 | refused BadUnsignedLeb128
+register 65536 | debug_frame le 8 0x1000 | CIE 18000000 RANGE 07808004 | refused UnsupportedRegister
+state within a state: the inner one | debug_frame le 8 0x1000 | CIE 1f000000 RANGE 0a 0e20 0a 0e30 41 0b 42 0b 43 | 0x1000 0x1001 cfa=r7+48 args=0 r16=offset(-8)
+state within a state: the outer one | debug_frame le 8 0x1002 | same | 0x1001 0x1003 cfa=r7+32 args=0 r16=offset(-8)
+state within a state: both restored | debug_frame le 8 0x1003 | same | 0x1003 0x1006 cfa=r7+8 args=0 r16=offset(-8)
+state within a state: the last move | debug_frame le 8 0x1006 | same | 0x1006 0x1020 cfa=r7+8 args=0 r16=offset(-8)
+restored before any state | debug_frame le 8 0x1000 | CIE 17000000 RANGE 0b 0e10 | refused PopWithEmptyStack
+signed in a state: before it | debug_frame le 8 0x1000 vendor=aarch64 | 0b000000 ffffffff 04000800 017810 1e000000 RANGE 2d 2d 41 0a 2d 2d 2d 42 0b 2d | 0x1000 0x1001 cfa=r0+0 args=0 r34=constant(0)
+signed in a state: within it | debug_frame le 8 0x1002 vendor=aarch64 | same | 0x1001 0x1003 cfa=r0+0 args=0 r34=constant(1)
+signed in a state: after it | debug_frame le 8 0x1003 vendor=aarch64 | same | 0x1003 0x1020 cfa=r0+0 args=0 r34=constant(1)
+signed in a CIE: and in the FDE | debug_frame le 8 0x1000 vendor=aarch64 | 0c000000 ffffffff 04000800 017810 2d 17000000 RANGE 2d 41 e2 | 0x1000 0x1001 cfa=r0+0 args=0 r34=constant(0)
+signed in a CIE: its rule restored | debug_frame le 8 0x1001 vendor=aarch64 | same | 0x1001 0x1020 cfa=r0+0 args=0 r34=constant(1)
+rules by rising number | debug_frame le 8 0x1000 | CIE 18000000 RANGE 8701 8602 | 0x1000 0x1020 cfa=r7+8 args=0 r6=offset(-16) r7=offset(-8) r16=offset(-8)
+rules by rising number, written the other way | debug_frame le 8 0x1000 | CIE 18000000 RANGE 8602 8701 | 0x1000 0x1020 cfa=r7+8 args=0 r6=offset(-16) r7=offset(-8) r16=offset(-8)
+big-endian: addresses of 8 bytes | debug_frame be 8 0x1004 | 00000010 ffffffff 04000800 017810 0c0708 9001 00000019 00000000 0000000000001000 0000000000000020 03 0004 0e10 | 0x1004 0x1020 cfa=r7+16 args=0 r16=offset(-8)
+big-endian: addresses of 2 bytes | debug_frame be 8 0x1004 | 00000010 ffffffff 04000200 017810 0c0708 9001 0000000d 00000000 1000 0020 03 0004 0e10 | 0x1004 0x1020 cfa=r7+16 args=0 r16=offset(-8)
+big-endian: addresses of 1 byte | debug_frame be 8 0x11 | 00000010 ffffffff 04000100 017810 0c0708 9001 0000000b 00000000 10 20 03 0001 0e10 | 0x11 0x30 cfa=r7+16 args=0 r16=offset(-8)
+big-endian: relative addresses | eh_frame be 8 0x1018 section=0x2000 | 00000014 00000000 01 7a5200 01 78 10 01 1b 0c0708 9001 0000 00000010 0000001c ffffefe0 00000010 00 000000 00000010 00000030 ffffefdc 00000010 00 410e10 00000000 | 0x1011 0x1020 cfa=r7+16 args=0 r16=offset(-8)
+version 1: addresses of 2 bytes | debug_frame le 2 0x1001 | 0e000000 ffffffff 01 00 017810 0c0708 9001 0b000000 00000000 0010 2000 41 0e10 | 0x1001 0x1020 cfa=r7+16 args=0 r16=offset(-8)
+version 1: addresses of 1 byte | debug_frame le 1 0x11 | 0e000000 ffffffff 01 00 017810 0c0708 9001 09000000 00000000 10 20 41 0e10 | 0x11 0x30 cfa=r7+16 args=0 r16=offset(-8)
+version 1: a move past 1 byte | debug_frame le 1 0xf1 | 0e000000 ffffffff 01 00 017810 0c0708 9001 08000000 00000000 f0 0f 02 10 | refused AddressOverflow
+",
+};
 
 /// Sections that are answered otherwise where the room for rows grows.
-const GROWING: &[Case] = &[
-    Case {
-        words: "debug_frame le 8 0x1000 store=vec",
-        input: FOUR_REMEMBERED,
-        line: "0x1000 0x1020 cfa=r7+8 args=0 r16=offset(-8)",
-        status: 0,
-    },
-    Case {
-        words: "debug_frame le 8 0x1000 store=vec",
-        input: TWO_RULES,
-        line: "0x1000 0x1020 cfa=r7+8 args=0 r6=offset(-16) r16=offset(-8)",
-        status: 0,
-    },
-    Case {
-        words: "debug_frame le 8 0x1000 store=vec",
-        input: FULL_CIE,
-        line: "0x1000 0x1020 cfa=r7+8 args=0 r6=offset(-16) r16=offset(-8)",
-        status: 0,
-    },
-];
+const LIMITS: Table = Table {
+    before: "",
+    cases: "
+two initial rules and three states | debug_frame le 8 0x1000 | 12000000 ffffffff 04000800 017810 0c0708 9001 8602 17000000 RANGE 0a0a0a | refused StackFull
+two initial rules and three states, growing | debug_frame le 8 0x1000 store=vec | same | 0x1000 0x1020 cfa=r7+8 args=0 r6=offset(-16) r16=offset(-8)
+four states | debug_frame le 8 0x1000 | CIE 18000000 RANGE 0a0a0a0a | refused StackFull
+four states, growing | debug_frame le 8 0x1000 store=vec | same | 0x1000 0x1020 cfa=r7+8 args=0 r16=offset(-8)
+three states in a CIE with two rules | debug_frame le 8 0x1000 | 15000000 ffffffff 04000800 017810 0c0708 9001 8602 0a0a0a 14000000 RANGE | refused StackFull
+three states in a CIE with two rules, growing | debug_frame le 8 0x1000 store=vec | same | 0x1000 0x1020 cfa=r7+8 args=0 r6=offset(-16) r16=offset(-8)
+",
+};
 
 /// Wrong words and input, and the least of right input.
-const WRONG: &[Case] = &[
-    Case {
-        words: "debug_frame le 3 0x1000",
-        input: NO_INPUT,
-        line: "wrong words",
-        status: 2,
-    },
-    Case {
-        words: "debug_frame le 8",
-        input: NO_INPUT,
-        line: "wrong words",
-        status: 2,
-    },
-    Case {
-        words: "debug_frame le 8 1000h",
-        input: NO_INPUT,
-        line: "wrong words",
-        status: 2,
-    },
-    Case {
-        words: "debug_frame le 8 18446744073709551616",
-        input: NO_INPUT,
-        line: "wrong words",
-        status: 2,
-    },
-    Case {
-        words: "debug_frame le 8 0x10000000000000000",
-        input: NO_INPUT,
-        line: "wrong words",
-        status: 2,
-    },
-    Case {
-        words: "debug_frame le 8 0 text=1 text=1",
-        input: NO_INPUT,
-        line: "wrong words",
-        status: 2,
-    },
-    Case {
-        words: "debug_frame le 8 0 store=vec store=vec",
-        input: NO_INPUT,
-        line: "wrong words",
-        status: 2,
-    },
-    Case {
-        words: "debug_frame le 8 0 header=1",
-        input: NO_INPUT,
-        line: "wrong words",
-        status: 2,
-    },
-    Case {
-        words: "debug_frame ne 8 0",
-        input: NO_INPUT,
-        line: "wrong words",
-        status: 2,
-    },
-    Case {
-        words: "debug_frame le 3 0x1000",
-        input: &["0g"],
-        line: "wrong words",
-        status: 2,
-    },
-    Case {
-        words: "debug_frame le 8 0x1000",
-        input: &["0g"],
-        line: "wrong hexadecimal",
-        status: 2,
-    },
-    Case {
-        words: "debug_frame le 8 0x1000",
-        input: &["000"],
-        line: "wrong hexadecimal",
-        status: 2,
-    },
-    Case {
-        words: "debug_frame be 4 18446744073709551615 data=0xAbC",
-        input: &["", "\t", "\r"],
-        line: REFUSED,
-        status: 1,
-    },
-];
+const WRONG: Table = Table {
+    before: "",
+    cases: "
+address size of three | debug_frame le 3 0x1000 | | wrong words
+no address | debug_frame le 8 | | wrong words
+address with a letter after it | debug_frame le 8 1000h | | wrong words
+address of 2^64 | debug_frame le 8 18446744073709551616 | | wrong words
+address of 17 digits | debug_frame le 8 0x10000000000000000 | | wrong words
+base given twice | debug_frame le 8 0 text=1 text=1 | | wrong words
+storage given twice | debug_frame le 8 0 store=vec store=vec | | wrong words
+header of .debug_frame | debug_frame le 8 0 header=1 | | wrong words
+no byte order | debug_frame ne 8 0 | | wrong words
+wrong words before wrong input | debug_frame le 3 0x1000 | 0g | wrong words
+no hexadecimal | debug_frame le 8 0x1000 | 0g | wrong hexadecimal
+odd number of digits | debug_frame le 8 0x1000 | 000 | wrong hexadecimal
+greatest address | debug_frame be 4 18446744073709551615 data=0xAbC | | refused NoUnwindInfoForAddress
+tabs and carriage returns | debug_frame le 8 0 | 00\t00\r0\r\t0 | refused NoUnwindInfoForAddress
+",
+};
 
-/// Gives the bytes one at a time, and fails at the given call.
 #[derive(Drop)]
-struct FailsAt {
-    bytes: &'static [u8],
-    calls: usize,
-    kind: ErrorKind,
+struct Case<'a> {
+    name: &'a str,
+    words: &'a str,
+    input: &'a str,
+    line: &'a str,
 }
 
-impl Read for FailsAt {
-    fn read(&mut self, buf: &mut [u8]) -> io::Result<usize> {
-        if self.calls == 0 {
-            return Err(self.kind.into());
-        }
-        self.calls -= 1;
-        if self.bytes.is_empty() || buf.is_empty() {
-            return Ok(0);
-        }
-        buf[0] = self.bytes[0];
-        self.bytes = &self.bytes[1..];
-        Ok(1)
-    }
+/// The case of a table's line; none of an empty line.
+fn case_of(line: &str) -> Option<Case<'_>> {
+    let mut parts = line.split('|').map(|part| part.trim());
+    Some(Case {
+        name: parts.next()?,
+        words: parts.next()?,
+        input: parts.next()?,
+        line: parts.next()?,
+    })
 }
 
-/// Takes one byte a call, and fails at the given call.
-#[derive(Drop)]
-struct RefusesAt {
-    taken: usize,
-    calls: usize,
-    kind: ErrorKind,
-}
-
-impl Write for RefusesAt {
-    fn write(&mut self, buf: &[u8]) -> io::Result<usize> {
-        if self.calls == 0 {
-            self.calls = usize::MAX;
-            return Err(self.kind.into());
-        }
-        self.calls -= 1;
-        if buf.is_empty() {
-            return Ok(0);
-        }
-        self.taken = self.taken.wrapping_add(1);
-        Ok(1)
-    }
-
-    fn flush(&mut self) -> io::Result<()> {
-        Ok(())
-    }
-}
-
-fn run_case(alloc: Global, case: &Case) -> Result<(u8, Vec<u8>), AllocError> {
-    run_words(alloc, case.words, case.input)
-}
-
-fn run_words(alloc: Global, words: &str, parts: &[&str]) -> Result<(u8, Vec<u8>), AllocError> {
+/// What a table's input stands for.
+fn written_out(alloc: Global, before: &str, input: &str) -> Result<String, AllocError> {
     let mut text = String::new(alloc);
-    for part in parts {
-        text.push_str(part)?;
-        text.push_str("\n")?;
+    text.push_str(before)?;
+    for word in input.split(' ') {
+        let bytes = match word {
+            "CIE" => CIE,
+            "NARROW" => NARROW,
+            "RANGE" => RANGE,
+            _ => word,
+        };
+        text.push_str(bytes)?;
+        text.push_str(" ")?;
     }
-    run_text(alloc, words, text.as_str())
+    Ok(text)
+}
+
+/// The status that a line comes with.
+fn status_of(line: &str) -> u8 {
+    if line.starts_with("refused ") {
+        1
+    } else if line.starts_with("wrong ") {
+        2
+    } else {
+        0
+    }
 }
 
 fn run_text(alloc: Global, words: &str, text: &str) -> Result<(u8, Vec<u8>), AllocError> {
@@ -582,125 +185,67 @@ fn run_text(alloc: Global, words: &str, text: &str) -> Result<(u8, Vec<u8>), All
     Ok((status, output))
 }
 
-#[test]
-fn answers_worked_sections(rt: HostRuntime) -> Result<(), Fail> {
-    for case in WORKED {
-        let (status, output) = run_case(rt.alloc(), case)?;
-        assert_eq!(rt; status, case.status, "{}", case.words);
-        let line = format!(in rt.alloc(); "{}\n", case.line)?;
-        assert_eq!(rt; output.as_slice(), line.as_bytes(), "{}", case.words);
-    }
-    Ok(())
-}
-
-/// Where no limit is met, a storage that grows answers the same.
-#[test]
-fn answers_worked_sections_in_growing_room(rt: HostRuntime) -> Result<(), Fail> {
-    for case in WORKED {
-        if case.line == "refused StackFull" {
+/// Runs each case of the table, with more words, and checks the line and the status.
+fn check(rt: &(impl Abort + AllocGlobal), table: &Table, more_words: &str) -> Result<(), Fail> {
+    let alloc = rt.alloc();
+    let mut text = String::new(alloc);
+    for row in table.cases.lines() {
+        let Some(case) = case_of(row) else {
+            assert_eq!(rt; row, "");
             continue;
+        };
+        if case.input != "same" {
+            text = written_out(alloc, table.before, case.input)?;
         }
-        let words = format!(in rt.alloc(); "{} store=vec", case.words)?;
-        let (status, output) = run_words(rt.alloc(), words.as_str(), case.input)?;
-        assert_eq!(rt; status, case.status, "{}", words);
-        let line = format!(in rt.alloc(); "{}\n", case.line)?;
-        assert_eq!(rt; output.as_slice(), line.as_bytes(), "{}", words);
+        let words = format!(in alloc; "{}{more_words}", case.words)?;
+        let (status, output) = run_text(alloc, words.as_str(), text.as_str())?;
+        let line = format!(in alloc; "{}\n", case.line)?;
+        let printed = str::from_utf8(output.as_slice());
+        assert_eq!(rt; printed, Ok(line.as_str()), "{}{more_words}", case.name);
+        assert_eq!(rt; status, status_of(case.line), "{}{more_words}", case.name);
     }
     Ok(())
 }
 
 #[test]
-fn answers_beyond_the_fixed_room(rt: HostRuntime) -> Result<(), Fail> {
-    for case in GROWING {
-        let (status, output) = run_case(rt.alloc(), case)?;
-        assert_eq!(rt; status, case.status, "{}", case.words);
-        let line = format!(in rt.alloc(); "{}\n", case.line)?;
-        assert_eq!(rt; output.as_slice(), line.as_bytes(), "{}", case.words);
+fn worked_sections(rt: HostRuntime) -> Result<(), Fail> {
+    check(&rt, &WORKED, "")?;
+    check(&rt, &WORKED, " store=vec")?;
+    check(&rt, &LIMITS, "")?;
+    check(&rt, &WRONG, "")
+}
+
+/// 193 registers have no room in a row of the fixed storage.
+#[test]
+fn one_rule_more_than_there_is_room_for(rt: HostRuntime) -> Result<(), Fail> {
+    let alloc = rt.alloc();
+    let mut text = String::new(alloc);
+    text.push_str("0e000000 ffffffff 04000800 017810 0c0708 d7010000 ")?;
+    text.push_str(RANGE)?;
+    let mut line = String::new(alloc);
+    line.push_str("0x1000 0x1020 cfa=r7+8 args=0")?;
+    for register in 0..193u32 {
+        // From 128 on a number takes two bytes.
+        let undefined = if register < 128 {
+            format!(in alloc; " 07{register:02x}")?
+        } else {
+            format!(in alloc; " 07{register:02x}01")?
+        };
+        text.push_str(undefined.as_str())?;
+        let rule = format!(in alloc; " r{register}=undefined")?;
+        line.push_str(rule.as_str())?;
     }
+    line.push_str("\n")?;
+    let (status, output) = run_text(alloc, "debug_frame le 8 0x1000", text.as_str())?;
+    assert_eq!(rt;
+        output.as_slice(),
+        b"refused TooManyRegisterRules\n".as_slice()
+    );
+    assert_eq!(rt; status, 1);
+    let (status, output) = run_text(alloc, "debug_frame le 8 0x1000 store=vec", text.as_str())?;
+    assert_eq!(rt; str::from_utf8(output.as_slice()), Ok(line.as_str()));
+    assert_eq!(rt; status, 0);
     Ok(())
-}
-
-#[test]
-fn refuses_wrong_words_and_input(rt: HostRuntime) -> Result<(), Fail> {
-    for case in WRONG {
-        let (status, output) = run_case(rt.alloc(), case)?;
-        assert_eq!(rt; status, case.status, "{}", case.words);
-        let line = format!(in rt.alloc(); "{}\n", case.line)?;
-        assert_eq!(rt; output.as_slice(), line.as_bytes(), "{}", case.words);
-    }
-    Ok(())
-}
-
-#[test]
-fn refuses_missing_words(rt: HostRuntime) {
-    let mut input: &[u8] = b"";
-    let mut output = Vec::new(rt.alloc());
-    let status = run(rt.alloc(), None, &mut input, &mut output);
-    assert_eq!(rt; status, 2);
-    assert_eq!(rt; output.as_slice(), b"wrong words\n".as_slice());
-}
-
-#[test]
-fn judges_the_words_first(rt: HostRuntime) {
-    let words: &[&str] = &["debug_frame", "le", "8"];
-    let mut input = FailsAt {
-        bytes: b"",
-        calls: 0,
-        kind: ErrorKind::Other,
-    };
-    let mut output = Vec::new(rt.alloc());
-    let status = run(rt.alloc(), Some(words), &mut input, &mut output);
-    assert_eq!(rt; status, 2);
-    assert_eq!(rt; output.as_slice(), b"wrong words\n".as_slice());
-}
-
-#[test]
-fn tells_a_failed_read(rt: HostRuntime) {
-    let words: &[&str] = &["debug_frame", "le", "8", "0x1000"];
-    for kind in [ErrorKind::Other, ErrorKind::Interrupted] {
-        for calls in 0..3 {
-            let mut input = FailsAt {
-                bytes: b"0g",
-                calls,
-                kind,
-            };
-            let mut output = Vec::new(rt.alloc());
-            let status = run(rt.alloc(), Some(words), &mut input, &mut output);
-            assert_eq!(rt; status, 2);
-            assert_eq!(rt; output.as_slice(), b"wrong input\n".as_slice());
-        }
-        let mut input = FailsAt {
-            bytes: b"0g",
-            calls: 3,
-            kind,
-        };
-        let mut output = Vec::new(rt.alloc());
-        let status = run(rt.alloc(), Some(words), &mut input, &mut output);
-        assert_eq!(rt; status, 2);
-        assert_eq!(rt; output.as_slice(), b"wrong hexadecimal\n".as_slice());
-    }
-}
-
-#[test]
-fn ends_at_a_failed_write(rt: HostRuntime) {
-    let words: &[&str] = &["debug_frame", "le", "8", "0x1000"];
-    for calls in 0..REFUSED.len() {
-        let mut input: &[u8] = b"";
-        let mut output = RefusesAt {
-            taken: 0,
-            calls,
-            kind: ErrorKind::Other,
-        };
-        assert_eq!(rt; run(rt.alloc(), Some(words), &mut input, &mut output), 2);
-        let mut input: &[u8] = b"";
-        let mut output = RefusesAt {
-            taken: 0,
-            calls,
-            kind: ErrorKind::Interrupted,
-        };
-        assert_eq!(rt; run(rt.alloc(), Some(words), &mut input, &mut output), 1);
-        assert_eq!(rt; output.taken, REFUSED.len() + 1);
-    }
 }
 
 #[test]

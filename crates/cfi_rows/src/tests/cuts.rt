@@ -1,0 +1,114 @@
+//! Inputs that are cut off at every length: each run prints one line, of a row or of a refusal.
+use super::header::LISTED;
+use super::{LIMITS, Table, WORKED, case_of, run_text, written_out};
+use std::alloc::{AllocError, Global};
+use std::process::Abort;
+use std::test::Fail;
+
+/// The section of three rows.
+const THREE_ROWS: &str = "CIE 1c000000 RANGE 41 0e10 8602 43 0d06";
+
+const SECOND_ROW: &str = "0x1001 0x1004 cfa=r7+16 args=0 r6=offset(-16) r16=offset(-8)\n";
+
+/// The first bytes of a text, without the spaces.
+fn first_bytes(alloc: Global, text: &str, count: usize) -> Result<String, AllocError> {
+    let mut kept = String::new(alloc);
+    let digits = text.chars().filter(|c| c.is_ascii_hexdigit());
+    for digit in digits.take(count.saturating_mul(2)) {
+        kept.push(digit)?;
+    }
+    Ok(kept)
+}
+
+/// How many bytes a text writes.
+fn bytes_in(text: &str) -> usize {
+    text.chars().filter(|c| c.is_ascii_hexdigit()).count() / 2
+}
+
+/// Whether this is one line, of a row with status 0 or of a refusal with status 1.
+fn is_an_answer(status: u8, printed: &str) -> bool {
+    let Some((line, rest)) = printed.split_once('\n') else {
+        return false;
+    };
+    let begins = match status {
+        0 => "0x",
+        1 => "refused ",
+        _ => return false,
+    };
+    rest.is_empty() && line.starts_with(begins)
+}
+
+/// Runs the words with each beginning of the section before what comes after it.
+fn check_cuts(
+    rt: &(impl Abort + AllocGlobal),
+    name: &str,
+    words: &str,
+    before: &str,
+    cut: &str,
+    after: &str,
+) -> Result<(), Fail> {
+    let alloc = rt.alloc();
+    for count in 0..=bytes_in(cut) {
+        let kept = first_bytes(alloc, cut, count)?;
+        let text = format!(in alloc; "{before}{kept}{after}")?;
+        let (status, output) = run_text(alloc, words, text.as_str())?;
+        let printed = str::from_utf8(output.as_slice()).unwrap_or("");
+        assert!(rt;
+            is_an_answer(status, printed),
+            "{name}, {count} bytes: {status} {printed}"
+        );
+    }
+    Ok(())
+}
+
+/// Cuts each section of the table, and each header.
+fn check_table(rt: &(impl Abort + AllocGlobal), table: &Table) -> Result<(), Fail> {
+    let mut text = String::new(rt.alloc());
+    for row in table.cases.lines() {
+        let Some(case) = case_of(row) else {
+            continue;
+        };
+        if case.input != "same" {
+            text = written_out(rt.alloc(), table.before, case.input)?;
+        }
+        match text.as_str().split_once('\n') {
+            None => check_cuts(rt, case.name, case.words, "", text.as_str(), "")?,
+            Some((section, header)) => {
+                let after = format!(in rt.alloc(); "\n{header}")?;
+                check_cuts(rt, case.name, case.words, "", section, after.as_str())?;
+                check_cuts(rt, case.name, case.words, table.before, header, "")?;
+            }
+        }
+    }
+    Ok(())
+}
+
+#[test]
+fn each_cut_of_each_input(rt: HostRuntime) -> Result<(), Fail> {
+    check_table(&rt, &WORKED)?;
+    check_table(&rt, &LIMITS)?;
+    check_table(&rt, &LISTED)
+}
+
+/// Without an FDE there is no row; within an entry the section ends too early.
+#[test]
+fn each_cut_of_three_rows(rt: HostRuntime) -> Result<(), Fail> {
+    let alloc = rt.alloc();
+    let text = written_out(alloc, "", THREE_ROWS)?;
+    assert_eq!(rt; bytes_in(text.as_str()), 52);
+    for count in 0..=52usize {
+        let line = match count {
+            0 | 20 => "refused NoUnwindInfoForAddress\n",
+            52 => SECOND_ROW,
+            _ => "refused UnexpectedEof\n",
+        };
+        let cut = first_bytes(alloc, text.as_str(), count)?;
+        let (_, output) = run_text(alloc, "debug_frame le 8 0x1002", cut.as_str())?;
+        assert_eq!(rt;
+            str::from_utf8(output.as_slice()),
+            Ok(line),
+            "{count} bytes"
+        );
+    }
+    Ok(())
+}
