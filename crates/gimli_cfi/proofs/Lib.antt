@@ -14,3 +14,11 @@ pub mod TableRows
 pub mod WorkedEntries
 pub mod WorkedTable
 pub mod WorkedRows
+pub mod Counting
+pub mod OffsetsRise
+pub mod Faithful
+pub mod Reasons
+pub mod Climbing
+pub mod StartCounts
+pub mod Passed
+pub mod Certificates

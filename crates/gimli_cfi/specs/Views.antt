@@ -12,6 +12,7 @@ use Rattle.gimli_cfi.specs.declared.hdr.table.EhHdrTable.{EhHdrTable}
 use Rattle.gimli_cfi.specs.declared.hdr.iter.EhHdrTableIter.{EhHdrTableIter}
 use Rattle.gimli_cfi.specs.Headers.{HeaderSection, Header, Table, header_section, start_of, table_of}
 use Rattle.gimli_cfi.specs.HeaderRows.{Walk}
+use Rattle.gimli_cfi.specs.FaithfulTables.{Listing}
 
 -- In each type the reader's offset and byte order follow the reader; the braces have what the traits of the three say.
 
@@ -52,4 +53,14 @@ walk_view position it = record {
   encoding = it.hdr.now.table_enc.0;
   count = it.remain;
   position = position it.table;
+}
+
+-- the table with the section
+abbrev pub listing_view : {R O E : Type 0} {a : _} {b : _} {c : _} {d : _} {e : _} {f : _} {g : _} {h : _} {i : _} {j : _} {k : _} →
+    (R → Position) → EhHdrTable R O E a b c d e f g h i j k → EhFrame R → BaseAddresses → Listing
+listing_view position t frame bases = record {
+  header = header_section_view position t.hdr.now bases;
+  table = table_view position t;
+  eh_frame = t.hdr.now.eh_frame_ptr;
+  section = section_view position frame bases;
 }

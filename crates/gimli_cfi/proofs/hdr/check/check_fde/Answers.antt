@@ -1,0 +1,36 @@
+use Rattle.std.proofs.Common.{◌≡◌, ◌≢◌, Ok, ap, sym, ◌∙◌}
+use Rattle.cfi_unwind.specs.Views.{fde_view}
+use Rattle.gimli_cfi.specs.Boundary.{AreRising, IsBoundaryRow}
+use Rattle.gimli_cfi.specs.Headers.{start_of}
+use Rattle.gimli_cfi.specs.Views.{header_section_view, table_view}
+use Rattle.gimli_cfi.proofs.Reasons.{never_refused, no_row_by_start, no_row_by_target}
+use Rattle.gimli_cfi.proofs.hdr.check.check_fde.Goals as goal
+
+pub returns-in-Err-clause-reason : goal.returns-in-Err-clause-reason
+returns-in-Err-clause-reason g c = never_refused _ _ _ c.requires.rising c.in-Err.ensures.refused
+
+pub returns-then-start-address-clause-reason : goal.returns-then-start-address-clause-reason
+returns-then-start-address-clause-reason g c =
+    let header = header_section_view g.R.Reader.position c.args.table.now.hdr.now c.args.bases.now in
+    let table = table_view g.R.Reader.position c.args.table.now in
+    let fde = fde_view g.R.Reader.position g.R.Offset.ReaderOffset.number c.args.fde.now in
+    let initial : c.initial_address-address.result ≡ fde.initial = c.initial_address-address.ensures in
+    let rising : AreRising (start_of header table) table.count = rw c.requires.answers at c.requires.rising in
+    let boundary : IsBoundaryRow (start_of header table) table.count fde.initial c.in-Ok.row = rw (c.requires.answers, initial) at c.in-Ok.ensures.found in
+    let is : start_of header table c.in-Ok.row ≡ Ok c.in_ok-start.start = ap (λ f. f c.in-Ok.row) (sym (c.in-Ok.ensures.same ∙ c.requires.answers)) ∙ c.in_ok-start.ensures.given in
+    let differ : c.in_ok-start.start ≢ fde.initial = λ same. c.if-start-address.true (same ∙ sym initial) in
+    (sym (c.into_u64-offset.ensures.value ∙ c.offset.ensures), sym initial, no_row_by_start header table c.args.eh_frame c.in-Ok.row c.in_ok-start.start fde rising boundary is differ)
+
+pub returns-then-not-is_at-clause-reason : goal.returns-then-not-is_at-clause-reason
+returns-then-not-is_at-clause-reason g c =
+    let header = header_section_view g.R.Reader.position c.args.table.now.hdr.now c.args.bases.now in
+    let table = table_view g.R.Reader.position c.args.table.now in
+    let fde = fde_view g.R.Reader.position g.R.Offset.ReaderOffset.number c.args.fde.now in
+    let initial : c.initial_address-address.result ≡ fde.initial = c.initial_address-address.ensures in
+    let offset : c.into_u64-offset.result ≡ fde.offset = c.into_u64-offset.ensures.value ∙ c.offset.ensures in
+    let rising : AreRising (start_of header table) table.count = rw c.requires.answers at c.requires.rising in
+    let boundary : IsBoundaryRow (start_of header table) table.count fde.initial c.in-Ok.row = rw (c.requires.answers, initial) at c.in-Ok.ensures.found in
+    let given : start_of header table c.in-Ok.row ≡ Ok c.in_ok-start.start = ap (λ f. f c.in-Ok.row) (sym (c.in-Ok.ensures.same ∙ c.requires.answers)) ∙ c.in_ok-start.ensures.given in
+    let is : start_of header table c.in-Ok.row ≡ Ok fde.initial = given ∙ ap Ok (c.if-start-address.false ∙ initial) in
+    let differ = rw offset at (c.is_at.ensures.no c.if-not-is_at.true) in
+    (sym offset, sym initial, no_row_by_target header table c.args.eh_frame c.in-Ok.row c.in_ok-target.target fde rising boundary.inside is c.in_ok-target.ensures.given differ)

@@ -1,0 +1,122 @@
+use Rattle.std.proofs.Common.{◌≡◌, ◌≤◌, ◌-◌, ◌*◌, Ok, Err, sym, subst, refl, ◌∙◌, rules}
+use Rattle.gimli_cfi.specs.Boundary.{AreRising}
+use Rattle.cfi_unwind.specs.Entries.{entries, entries_left}
+use Rattle.cfi_unwind.specs.EntryViews.{partial_of}
+use Rattle.cfi_unwind.specs.Scan.{read_fde}
+use Rattle.cfi_unwind.specs.Views.{fde_view}
+use Rattle.cfi_read_core.specs.Reading.{Position}
+use Rattle.gimli_cfi.specs.FaithfulTables.{starts_for_fde}
+use Rattle.gimli_cfi.specs.Views.{section_view, header_section_view, table_view}
+use Rattle.gimli_cfi.proofs.Passed.{Passed, is_among, passed_fde, passed_none, reason_of_fde, row_left}
+use Rattle.gimli_cfi.proofs.StartCounts.{at_most, none_yet, one_more, with_last}
+use Rattle.gimli_cfi.proofs.hdr.check.check_fdes.Goals as goal
+
+pub loop-entry-init : goal.loop-entry-init
+loop-entry-init g c =
+    let header = header_section_view g.R.Reader.position c.args.table.now.hdr.now c.args.bases.now in
+    let table = table_view g.R.Reader.position c.args.table.now in
+    let section = section_view g.R.Reader.position c.args.frame.now c.args.bases.now in
+    record {
+      same_section = c.entries-entries.ensures.section;
+      same_bases = c.entries-entries.ensures.bases;
+      passed =
+          subst (λ (s : Position). Passed header table c.args.eh_frame section table.count (entries section) (entries_left section s.place)) (sym c.entries-entries.ensures.all)
+          (passed_none header table c.args.eh_frame section);
+      answers = refl;
+      calls = none_yet (g.St.StartSource.calls c.args.starts.now) ((table.count - table.count) * starts_for_fde table.count);
+    }
+
+pub returns-in-Err-clause-calls : goal.returns-in-Err-clause-calls
+returns-in-Err-clause-calls g c =
+    let count = (table_view g.R.Reader.position c.args.table.now).count in
+    at_most (g.St.StartSource.calls c.args.starts.now) _ 0 count c.loop-entry.left (starts_for_fde count) c.loop-entry.invariant.calls
+
+pub returns-in-Err-clause-same : goal.returns-in-Err-clause-same
+returns-in-Err-clause-same g c = c.loop-entry.invariant.answers
+
+pub returns-in-Err-read_whole-clause-calls : goal.returns-in-Err-read_whole-clause-calls
+returns-in-Err-read_whole-clause-calls g c =
+    let count = (table_view g.R.Reader.position c.args.table.now).count in
+    at_most (g.St.StartSource.calls c.args.starts.now) _ 0 count c.loop-entry.left (starts_for_fde count) c.loop-entry.invariant.calls
+
+pub returns-in-Err-read_whole-clause-same : goal.returns-in-Err-read_whole-clause-same
+returns-in-Err-read_whole-clause-same g c = c.loop-entry.invariant.answers
+
+pub check_fde-requires-clause-answers : goal.check_fde-requires-clause-answers
+check_fde-requires-clause-answers g c = c.loop-entry.invariant.answers ∙ c.requires.answers
+
+pub check_fde-requires-clause-rising : goal.check_fde-requires-clause-rising
+check_fde-requires-clause-rising g c =
+    subst (λ f. AreRising f (table_view g.R.Reader.position c.args.table.now).count) (sym c.loop-entry.invariant.answers) c.requires.rising
+
+pub returns-in_err-check_fde-clause-reason : goal.returns-in_err-check_fde-clause-reason
+returns-in_err-check_fde-clause-reason g c =
+    let gives : c.from_residual.result ≡ Err c.in_err-check_fde.field-0.0 = search rules in
+    let header = header_section_view g.R.Reader.position c.args.table.now.hdr.now c.args.bases.now in
+    let table = table_view g.R.Reader.position c.args.table.now in
+    let section = section_view g.R.Reader.position c.args.frame.now c.args.bases.now in
+    let fde = fde_view g.R.Reader.position g.R.Offset.ReaderOffset.number c.in-Ok.fde in
+    let partial = partial_of g.R.Reader.position g.R.Offset.ReaderOffset.number c.in-Fde.partial.found c.in-Fde.partial.cie_offset in
+    let others = entries_left section (g.R.Reader.position c.next.new.self.input).place in
+    let met = rw (c.next.ensures.section, c.next.ensures.bases, c.loop-entry.invariant.same_section, c.loop-entry.invariant.same_bases, c.in-Ok-Some.field-0-is, c.in-Fde.is) at c.in-Ok-Some.ensures.met in
+    let same_section_and_bases = rw (c.in-Ok-Some.field-0-is, c.in-Fde.is) at c.in-Ok-Some.ensures.same_section_and_bases in
+    let read : Ok fde ≡ read_fde section partial = rw (same_section_and_bases.0 ∙ c.loop-entry.invariant.same_section, same_section_and_bases.1 ∙ c.loop-entry.invariant.same_bases) at c.in-Ok.ensures in
+    let among = is_among header table c.args.eh_frame section {others = others} partial c.loop-entry.invariant.passed met fde (sym read) in
+    rw gives (reason_of_fde header table c.args.eh_frame section fde c.in_err-check_fde.field-0.0 among c.in_err-check_fde.ensures.reason)
+
+pub returns-in_err-check_fde-clause-calls : goal.returns-in_err-check_fde-clause-calls
+returns-in_err-check_fde-clause-calls g c =
+    let count = (table_view g.R.Reader.position c.args.table.now).count in
+    with_last (g.St.StartSource.calls c.args.starts.now) _ _ count c.loop-entry.left (starts_for_fde count) c.loop-entry.invariant.calls c.check_fde.ensures.calls
+
+pub returns-in_err-check_fde-clause-same : goal.returns-in_err-check_fde-clause-same
+returns-in_err-check_fde-clause-same g c = c.check_fde.ensures.same ∙ c.loop-entry.invariant.answers
+
+pub overflow_sub-left : goal.overflow_sub-left
+overflow_sub-left g c =
+    let header = header_section_view g.R.Reader.position c.args.table.now.hdr.now c.args.bases.now in
+    let table = table_view g.R.Reader.position c.args.table.now in
+    let section = section_view g.R.Reader.position c.args.frame.now c.args.bases.now in
+    let fde = fde_view g.R.Reader.position g.R.Offset.ReaderOffset.number c.in-Ok.fde in
+    let partial = partial_of g.R.Reader.position g.R.Offset.ReaderOffset.number c.in-Fde.partial.found c.in-Fde.partial.cie_offset in
+    let others = entries_left section (g.R.Reader.position c.next.new.self.input).place in
+    let met = rw (c.next.ensures.section, c.next.ensures.bases, c.loop-entry.invariant.same_section, c.loop-entry.invariant.same_bases, c.in-Ok-Some.field-0-is, c.in-Fde.is) at c.in-Ok-Some.ensures.met in
+    let same_section_and_bases = rw (c.in-Ok-Some.field-0-is, c.in-Fde.is) at c.in-Ok-Some.ensures.same_section_and_bases in
+    let read : Ok fde ≡ read_fde section partial = rw (same_section_and_bases.0 ∙ c.loop-entry.invariant.same_section, same_section_and_bases.1 ∙ c.loop-entry.invariant.same_bases) at c.in-Ok.ensures in
+    row_left header table c.args.eh_frame section {others = others} partial c.loop-entry.invariant.passed met fde (sym read) c.in_ok-check_fde.ensures.row
+
+pub loop-entry-preserved-in-Fde : goal.loop-entry-preserved-in-Fde
+loop-entry-preserved-in-Fde g c =
+    let header = header_section_view g.R.Reader.position c.args.table.now.hdr.now c.args.bases.now in
+    let table = table_view g.R.Reader.position c.args.table.now in
+    let section = section_view g.R.Reader.position c.args.frame.now c.args.bases.now in
+    let fde = fde_view g.R.Reader.position g.R.Offset.ReaderOffset.number c.in-Ok.fde in
+    let partial = partial_of g.R.Reader.position g.R.Offset.ReaderOffset.number c.in-Fde.partial.found c.in-Fde.partial.cie_offset in
+    let others = entries_left section (g.R.Reader.position c.next.new.self.input).place in
+    let met = rw (c.next.ensures.section, c.next.ensures.bases, c.loop-entry.invariant.same_section, c.loop-entry.invariant.same_bases, c.in-Ok-Some.field-0-is, c.in-Fde.is) at c.in-Ok-Some.ensures.met in
+    let same_section_and_bases = rw (c.in-Ok-Some.field-0-is, c.in-Fde.is) at c.in-Ok-Some.ensures.same_section_and_bases in
+    let read : Ok fde ≡ read_fde section partial = rw (same_section_and_bases.0 ∙ c.loop-entry.invariant.same_section, same_section_and_bases.1 ∙ c.loop-entry.invariant.same_bases) at c.in-Ok.ensures in
+    let some : 1 ≤ c.loop-entry.left = row_left header table c.args.eh_frame section {others = others} partial c.loop-entry.invariant.passed met fde (sym read) c.in_ok-check_fde.ensures.row in
+    record {
+      same_section = c.next.ensures.section ∙ c.loop-entry.invariant.same_section;
+      same_bases = c.next.ensures.bases ∙ c.loop-entry.invariant.same_bases;
+      passed = passed_fde header table c.args.eh_frame section {others = others} partial c.loop-entry.invariant.passed met fde (sym read) c.in_ok-check_fde.ensures.row;
+      answers = c.in_ok-check_fde.ensures.same ∙ c.loop-entry.invariant.answers;
+      calls = one_more (g.St.StartSource.calls c.args.starts.now) _ _ table.count c.loop-entry.left (starts_for_fde table.count) some c.loop-entry.invariant.passed.fewer c.loop-entry.invariant.calls c.in_ok-check_fde.ensures.calls;
+    }
+
+pub returns-then-left-eq0-clause-calls : goal.returns-then-left-eq0-clause-calls
+returns-then-left-eq0-clause-calls g c =
+    let count = (table_view g.R.Reader.position c.args.table.now).count in
+    at_most (g.St.StartSource.calls c.args.starts.now) _ 0 count c.loop-entry.left (starts_for_fde count) c.loop-entry.invariant.calls
+
+pub returns-then-left-eq0-clause-same : goal.returns-then-left-eq0-clause-same
+returns-then-left-eq0-clause-same g c = c.loop-entry.invariant.answers
+
+pub returns-else-left-eq0-clause-calls : goal.returns-else-left-eq0-clause-calls
+returns-else-left-eq0-clause-calls g c =
+    let count = (table_view g.R.Reader.position c.args.table.now).count in
+    at_most (g.St.StartSource.calls c.args.starts.now) _ 0 count c.loop-entry.left (starts_for_fde count) c.loop-entry.invariant.calls
+
+pub returns-else-left-eq0-clause-same : goal.returns-else-left-eq0-clause-same
+returns-else-left-eq0-clause-same g c = c.loop-entry.invariant.answers

@@ -1,0 +1,31 @@
+use Rattle.std.proofs.Common.{◌≡◌, Err, sym, ◌∙◌, rules}
+use Rattle.cfi_parts.specs.declared.pointer.Pointer.TheVariants.{Direct}
+use Rattle.cfi_unwind.proofs.ScanSteps.{if_ok}
+use Rattle.gimli_cfi.specs.Boundary.{AreRising}
+use Rattle.gimli_cfi.specs.FaithfulTables.{IsReasonOfStarts}
+use Rattle.gimli_cfi.specs.Headers.{start_of, value_size}
+use Rattle.gimli_cfi.specs.Views.{listing_view}
+use Rattle.gimli_cfi.proofs.Faithful.{faithful}
+use Rattle.gimli_cfi.proofs.Reasons.{not_faithful, reason_of_starts, reason_of_fdes, direct_at, some_of, if_err}
+use Rattle.gimli_cfi.proofs.hdr.check.check_table.Goals as goal
+
+pub returns-in_err-check_starts-clause-unfaithful : goal.returns-in_err-check_starts-clause-unfaithful
+returns-in_err-check_starts-clause-unfaithful g c =
+    let gives : c.from_residual-in_err-check_starts.result ≡ Err c.in_err-check_starts.field-0.0 = search rules in
+    let l = listing_view g.R.Reader.position c.args.table.now c.args.frame.now c.args.bases.now in
+    let why : IsReasonOfStarts (start_of l.header l.table) l.table.count c.in_err-check_starts.field-0.0 = rw c.requires at c.in_err-check_starts.ensures.reason in
+    rw gives (not_faithful l c.in_err-check_starts.field-0.0 (reason_of_starts l c.in_err-check_starts.field-0.0 why))
+
+pub returns-clause-faithful : goal.returns-clause-faithful
+returns-clause-faithful g c =
+    let l = listing_view g.R.Reader.position c.args.table.now c.args.frame.now c.args.bases.now in
+    let at : l.eh_frame ≡ Direct c.in_ok-eh_frame.eh_frame = direct_at l.eh_frame c.in_ok-eh_frame.eh_frame (sym c.in_ok-eh_frame.ensures.given ∙ c.direct.ensures) in
+    let rising : AreRising (start_of l.header l.table) l.table.count = rw c.requires at c.in_ok-check_starts.ensures.rising in
+    if_ok c.check_fdes.result (λ done listed. (c.in_ok-eh_frame.eh_frame, at, faithful l.header l.table c.in_ok-eh_frame.eh_frame l.section rising listed (some_of (value_size l.table.encoding) c.in_ok-size.size _ (sym c.in_ok-size.ensures.given ∙ c.searchable_size.ensures))))
+    c.check_fdes.ensures.listed
+
+pub returns-clause-unfaithful : goal.returns-clause-unfaithful
+returns-clause-unfaithful g c =
+    let l = listing_view g.R.Reader.position c.args.table.now c.args.frame.now c.args.bases.now in
+    let at : l.eh_frame ≡ Direct c.in_ok-eh_frame.eh_frame = direct_at l.eh_frame c.in_ok-eh_frame.eh_frame (sym c.in_ok-eh_frame.ensures.given ∙ c.direct.ensures) in
+    if_err c.check_fdes.result (λ reason why. not_faithful l reason (reason_of_fdes l c.in_ok-eh_frame.eh_frame reason at why)) c.check_fdes.ensures.reason

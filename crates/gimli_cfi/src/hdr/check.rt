@@ -1,0 +1,228 @@
+//! Whether the table of a header lists the FDEs of its section faithfully.
+ghost use Rattle.std.specs.Prelude.{◌≡◌, ◌≢◌, ◌+◌, ◌≤◌, ℕ, IfOk, IfErr, Ok, Some, true, false};
+ghost use Rattle.cfi_read_core.specs.Readers.{map_ok};
+ghost use Rattle.cfi_parts.specs.declared.pointer.Pointer.TheVariants.{Direct};
+ghost use Rattle.cfi_unwind.specs.EntryViews.{partial_of};
+ghost use Rattle.cfi_unwind.specs.Scan.{read_fde};
+ghost use Rattle.cfi_unwind.specs.Views.{fde_view};
+ghost use Rattle.gimli_cfi.specs.Boundary.{AreRising};
+ghost use Rattle.gimli_cfi.specs.FaithfulTables.{AreListed, HasRow, IsReason, IsReasonOfFde, IsReasonOfFdes, IsReasonOfStarts, IsRefusalIn, IsRefusalOfHeader, ListsFaithfully, most_starts, starts_for_fde, starts_for_fdes};
+ghost use Rattle.gimli_cfi.specs.Headers.{target_of, value_size};
+ghost use Rattle.gimli_cfi.specs.Views.{section_view, listing_view, header_section_view, starts_view, table_view};
+
+use crate::hdr::fields::{searchable_size, target_of_row};
+use crate::hdr::search::{StartSource, search_starts};
+use crate::hdr::table::EhHdrTable;
+use crate::hdr::unfaithful_table::Unfaithful;
+use cfi_parts::pointer::{BaseAddresses, Pointer};
+use cfi_read_core::{EhFrameOffset, Error, Reader, ReaderOffset};
+use cfi_unwind::entry::{CieOrFde, FrameDescriptionEntry, PartialFrameDescriptionEntry};
+use cfi_unwind::section::{EhFrame, UnwindSection};
+
+/// Whether the table lists the FDEs of the section faithfully, by a source that answers the starts of its rows, as
+/// `TableStarts` does.
+///
+/// It does where the rows start at the first addresses of the FDEs, rising, each with its FDE as target and each FDE
+/// with a row, where no FDE contains the first address of another, and where all entries of the section are read. Then
+/// a search in the rows answers for every address what going through the section answers. Else the answer is a reason
+/// against it.
+///
+/// The bases of the header are those in `BaseAddresses::eh_frame_hdr`, those of the section's entries in
+/// `BaseAddresses::eh_frame`. Each start is read once in order, then each FDE is searched for: of `n` rows at most
+/// `n + (n + 1) * (b + 2)` starts are read, `b` being the least number with `n <= 2^b`. It takes no memory (LSB Core,
+/// "The .eh_frame_hdr section").
+pub fn check_table<R: Reader, St: StartSource>(
+    table: &EhHdrTable<'_, R>,
+    starts: &mut St,
+    frame: &EhFrame<R>,
+    bases: &BaseAddresses,
+) -> Result<(), Unfaithful>
+    requires { St.answer starts.old ≡ starts_view R.position table.now.hdr.now bases.now }
+    ensures faithful { IfOk result (λ done. ListsFaithfully (listing_view R.position table.now frame.now bases.now)) }
+    ensures reason { IfErr result (IsReason (listing_view R.position table.now frame.now bases.now)) }
+    ensures unfaithful { IfErr result (λ reason. ListsFaithfully (listing_view R.position table.now frame.now bases.now) → ⊥) }
+    ensures calls { St.calls starts.new ≤ St.calls starts.old + most_starts (table_view R.position table.now).count }
+    ensures same { St.answer starts.new ≡ St.answer starts.old }
+{
+    let eh_frame = in_header(table.hdr.eh_frame_ptr.direct())?;
+    let size = in_header(searchable_size(table.hdr.table_enc))?;
+    check_starts(starts, table.hdr.fde_count)?;
+    check_fdes(table, starts, frame, bases, size, eh_frame)
+}
+
+/// What the header gives, or the reason.
+fn in_header(value: cfi_read_core::Result<u64>) -> Result<u64, Unfaithful>
+    ensures given { IfOk result (λ number. value ≡ Ok number) }
+    ensures refused { IfErr result (IsRefusalOfHeader value) }
+{
+    match value {
+        Ok(number) => Ok(number),
+        Err(refusal) => Err(Unfaithful::Header(refusal)),
+    }
+}
+
+/// The start of a row, or the reason.
+fn start_at<St: StartSource>(starts: &mut St, row: u64) -> Result<u64, Unfaithful>
+    ensures given { IfOk result (λ start. St.answer starts.old row ≡ Ok start) }
+    ensures refused { IfErr result (IsRefusalIn (St.answer starts.old row) row) }
+    ensures calls { St.calls starts.new ≡ St.calls starts.old + 1 }
+    ensures same { St.answer starts.new ≡ St.answer starts.old }
+{
+    match starts.start(row) {
+        Ok(start) => Ok(start),
+        Err(refusal) => Err(Unfaithful::Row { row, refusal }),
+    }
+}
+
+/// The target of a row, or the reason.
+fn target_at<R: Reader>(
+    table: &EhHdrTable<'_, R>,
+    bases: &BaseAddresses,
+    size: u64,
+    row: u64,
+) -> Result<Pointer, Unfaithful>
+    requires { value_size table.now.hdr.now.table_enc.0 ≡ Some size }
+    ensures given { IfOk result (λ target. target_of (header_section_view R.position table.now.hdr.now bases.now) (table_view R.position table.now) row ≡ Ok target) }
+    ensures refused { IfErr result (IsRefusalIn (target_of (header_section_view R.position table.now.hdr.now bases.now) (table_view R.position table.now) row) row) }
+{
+    match target_of_row(table.hdr, bases, size, row) {
+        Ok(target) => Ok(target),
+        Err(refusal) => Err(Unfaithful::Row { row, refusal }),
+    }
+}
+
+/// Whether each row has a start, above that of the row before it.
+fn check_starts<St: StartSource>(starts: &mut St, count: u64) -> Result<(), Unfaithful>
+    requires { 1 ≤ count }
+    ensures rising { IfOk result (λ done. AreRising (St.answer starts.old) count) }
+    ensures reason { IfErr result (IsReasonOfStarts (St.answer starts.old) count) }
+    ensures calls { St.calls starts.new ≤ St.calls starts.old + count }
+    ensures same { St.answer starts.new ≡ St.answer starts.old }
+{
+    let mut before = start_at(starts, 0)?;
+    let mut row = 1;
+    while row < count {
+        let start = start_at(starts, row)?;
+        if start <= before {
+            return Err(Unfaithful::Order { row, before, start });
+        }
+        before = start;
+        row += 1;
+    }
+    Ok(())
+}
+
+/// Whether each FDE has a row of its own, and each row an FDE.
+fn check_fdes<R: Reader, St: StartSource>(
+    table: &EhHdrTable<'_, R>,
+    starts: &mut St,
+    frame: &EhFrame<R>,
+    bases: &BaseAddresses,
+    size: u64,
+    eh_frame: u64,
+) -> Result<(), Unfaithful>
+    requires answers { St.answer starts.old ≡ starts_view R.position table.now.hdr.now bases.now }
+    requires size { value_size table.now.hdr.now.table_enc.0 ≡ Some size }
+    requires rising { AreRising (St.answer starts.old) (table_view R.position table.now).count }
+    ensures listed { IfOk result (λ done. AreListed (header_section_view R.position table.now.hdr.now bases.now) (table_view R.position table.now) eh_frame (section_view R.position frame.now bases.now)) }
+    ensures reason { IfErr result (IsReasonOfFdes (header_section_view R.position table.now.hdr.now bases.now) (table_view R.position table.now) eh_frame (section_view R.position frame.now bases.now)) }
+    ensures calls { St.calls starts.new ≤ St.calls starts.old + starts_for_fdes (table_view R.position table.now).count }
+    ensures same { St.answer starts.new ≡ St.answer starts.old }
+{
+    let rows = table.hdr.fde_count;
+    let mut left = rows;
+    let mut entries = frame.entries(bases);
+    loop {
+        let entry = match entries.next() {
+            Ok(Some(entry)) => entry,
+            Ok(None) => break,
+            Err(refusal) => return Err(Unfaithful::Entry(refusal)),
+        };
+        if let CieOrFde::Fde(partial) = entry {
+            let fde = match read_whole(&partial) {
+                Ok(fde) => fde,
+                Err(refusal) => {
+                    let offset = partial.offset().into_u64();
+                    return Err(Unfaithful::Fde { offset, refusal });
+                }
+            };
+            check_fde(table, starts, bases, size, eh_frame, &fde)?;
+            // Each FDE before has a row of its own, so this one's row was left.
+            left -= 1;
+        }
+    }
+    if left == 0 {
+        Ok(())
+    } else {
+        let fdes = rows - left;
+        Err(Unfaithful::Count { rows, fdes })
+    }
+}
+
+/// The FDE with the CIE to which it points.
+fn read_whole<R: Reader>(
+    partial: &PartialFrameDescriptionEntry<'_, EhFrame<R>, R>,
+) -> cfi_read_core::Result<FrameDescriptionEntry<R>>
+    ensures { map_ok (fde_view R.position R.Offset.number) result
+        ≡ read_fde (section_view R.position partial.now.section partial.now.bases.now) (partial_of R.position R.Offset.number partial.now.found partial.now.cie_offset) }
+{
+    let reader = partial.offset();
+    partial.parse(|from: &EhFrame<R>, bases: &BaseAddresses, offset: EhFrameOffset<R::Offset>| {
+        let _reader = reader;
+        from.cie_from_offset(bases, offset)
+    })
+}
+
+/// Whether the FDE has a row, and doesn't contain the start of the row after it.
+fn check_fde<R: Reader, St: StartSource>(
+    table: &EhHdrTable<'_, R>,
+    starts: &mut St,
+    bases: &BaseAddresses,
+    size: u64,
+    eh_frame: u64,
+    fde: &FrameDescriptionEntry<R>,
+) -> Result<(), Unfaithful>
+    requires answers { St.answer starts.old ≡ starts_view R.position table.now.hdr.now bases.now }
+    requires size { value_size table.now.hdr.now.table_enc.0 ≡ Some size }
+    requires rising { AreRising (St.answer starts.old) (table_view R.position table.now).count }
+    ensures row { IfOk result (λ done. HasRow (header_section_view R.position table.now.hdr.now bases.now) (table_view R.position table.now) eh_frame (fde_view R.position R.Offset.number fde.now)) }
+    ensures reason { IfErr result (IsReasonOfFde (header_section_view R.position table.now.hdr.now bases.now) (table_view R.position table.now) eh_frame (fde_view R.position R.Offset.number fde.now)) }
+    ensures calls { St.calls starts.new ≤ St.calls starts.old + starts_for_fde (table_view R.position table.now).count }
+    ensures same { St.answer starts.new ≡ St.answer starts.old }
+{
+    let offset = fde.offset().into_u64();
+    let address = fde.initial_address();
+    let row = match search_starts(starts, table.hdr.fde_count, address) {
+        Ok(row) => row,
+        // Each start was read before, so that none is refused here.
+        Err(_) => return Err(Unfaithful::NoRow { offset, address }),
+    };
+    let start = start_at(starts, row)?;
+    if start != address {
+        return Err(Unfaithful::NoRow { offset, address });
+    }
+    let target = target_at(table, bases, size, row)?;
+    if !is_at(target, eh_frame, offset) {
+        return Err(Unfaithful::NoRow { offset, address });
+    }
+    let after = row + 1;
+    if after < table.hdr.fde_count {
+        let next = start_at(starts, after)?;
+        let end = fde.end_address();
+        if next < end {
+            return Err(Unfaithful::Overlap { offset, end, next });
+        }
+    }
+    Ok(())
+}
+
+/// Whether the pointer is direct, to this offset above the base.
+fn is_at(target: Pointer, base: u64, offset: u64) -> bool
+    ensures yes { result ≡ true → target ≡ Direct (base + offset) }
+    ensures no { result ≡ false → target ≢ Direct (base + offset) }
+{
+    match target {
+        Pointer::Direct(address) => base <= address && address - base == offset,
+        Pointer::Indirect(_) => false,
+    }
+}
