@@ -9,6 +9,8 @@ mod derives;
 #[cfg(test)]
 mod entries;
 #[cfg(test)]
+mod errors;
+#[cfg(test)]
 mod headers;
 #[cfg(test)]
 mod instructions;
