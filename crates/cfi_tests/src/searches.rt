@@ -15,7 +15,7 @@ use gimli_cfi::table::{CfaRule, UnwindContext, UnwindTableRow, row_by_scan};
 use std::test::Fail;
 
 /// A section at 0x2000 of a CIE and three FDEs, at 24, 44 and 64, which begin at 0x1000, 0x1010 and 0x1020.
-const SECTION: [u8; 88] = [
+pub(crate) const SECTION: [u8; 88] = [
     0x14, 0, 0, 0, 0, 0, 0, 0, 1, 0x7a, 0x52, 0, 1, 0x78, 0x10, 1, 0x1b, 0x0c, 7, 8, 0x90, 1, 0, 0,
     0x10, 0, 0, 0, 0x1c, 0, 0, 0, 0xe0, 0xef, 0xff, 0xff, 0x10, 0, 0, 0, 0, 0, 0, 0, 0x10, 0, 0, 0,
     0x30, 0, 0, 0, 0xdc, 0xef, 0xff, 0xff, 0x10, 0, 0, 0, 0, 0x41, 0x0e, 0x10, 0x10, 0, 0, 0, 0x44,
@@ -33,7 +33,7 @@ const MANY_ROWS: [u8; 20] = [
     1, 0, 4, 4, 0, 0x20, 0, 0, 0, 0, 0, 0, 0, 0, 0, 0, 0, 0, 0, 0x80,
 ];
 
-fn bases() -> BaseAddresses {
+pub(crate) fn bases() -> BaseAddresses {
     BaseAddresses::default()
         .set_eh_frame_hdr(0x1f00)
         .set_eh_frame(0x2000)
@@ -99,7 +99,7 @@ fn by_table_and_cies(
 }
 
 /// The header with another target in its second row.
-fn second_target(offset: [u8; 4]) -> [u8; 36] {
+pub(crate) fn second_target(offset: [u8; 4]) -> [u8; 36] {
     let mut header = HEADER;
     header[24] = offset[0];
     header[25] = offset[1];

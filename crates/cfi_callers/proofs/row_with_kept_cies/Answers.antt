@@ -1,0 +1,19 @@
+use Rattle.std.proofs.Common.{◌≡◌}
+use Rattle.cfi_unwind.specs.KeptCie.{KeepsCie}
+use Rattle.cfi_callers.proofs.FoundRow.{by_scan}
+use Rattle.cfi_unwind.proofs.Answered.{answered_by, chosen_by}
+use Rattle.cfi_callers.proofs.row_with_kept_cies.Goals as goal
+
+pub unwind_info_for_address-requires-clause-of_section : goal.unwind_info_for_address-requires-clause-of_section
+unwind_info_for_address-requires-clause-of_section g c =
+    answered_by _ _ _ (λ kept. KeepsCie g.R.Reader.position g.R.Offset.ReaderOffset.number (g.Section._UnwindSectionPrivate.view c.args.section.now) c.args.bases.now kept.0.now) _ _ tt
+    (λ f asked answer h holds call. let met = rw (call.at_section, call.at_bases) at call.call.met in (met.1.1.1 holds, met.1.1.0 holds))
+
+pub returns : goal.returns
+returns g c =
+    let row = c.unwind_info_for_address.ensures.row in
+    record {
+      row = by_scan _ _ _ _ _ row.0 _
+          (chosen_by _ _ _ _ _ _ (λ kept. KeepsCie g.R.Reader.position g.R.Offset.ReaderOffset.number (g.Section._UnwindSectionPrivate.view c.args.section.now) c.args.bases.now kept.0.now) _ _ row.0 row.1 tt row.2
+          (λ f asked answer h holds call. let met = rw (call.at_section, call.at_bases) at call.call.met in (met.1.1.1 holds, met.1.0 holds))) row.3;
+    }
