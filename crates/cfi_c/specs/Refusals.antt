@@ -1,0 +1,72 @@
+-- Refusals as C sees them.
+--     number e      the status; 0 is that of a row
+--     value e      the place, byte or number that it carries, else 0
+use Rattle.std.specs.Prelude.{ℕ, ℤ, pos}
+use Rattle.cfi_read_core.specs.declared.error.Error.{Error}
+use Rattle.cfi_read_core.specs.declared.error.Error.TheVariants.{UnexpectedEof, BadUnsignedLeb128, BadSignedLeb128, UnknownReservedLength, UnsupportedAddressSize, UnsupportedOffset, UnsupportedRegister, AddressOverflow, UnknownVersion, UnsupportedSegmentSize, UnknownAugmentation, UnknownPointerEncoding, CannotParseOmitPointerEncoding, UnsupportedPointerEncoding, PcRelativePointerButSectionBaseIsUndefined, TextRelativePointerButTextBaseIsUndefined, DataRelativePointerButDataBaseIsUndefined, FuncRelativePointerInBadContext, UnsupportedIndirectPointer, NotCieId, NotCiePointer, NoEntryAtGivenOffset, OffsetOutOfBounds, UnknownCallFrameInstruction, CfiInstructionInInvalidContext, InvalidCfiSetLoc, StackFull, PopWithEmptyStack, TooManyRegisterRules, NoUnwindInfoForAddress, OutOfMemory}
+
+abbrev pub number : Error → ℤ
+number (UnexpectedEof x) = pos 1
+number BadUnsignedLeb128 = pos 2
+number BadSignedLeb128 = pos 3
+number (UnknownReservedLength x) = pos 4
+number (UnsupportedAddressSize x) = pos 5
+number UnsupportedOffset = pos 6
+number (UnsupportedRegister x) = pos 7
+number AddressOverflow = pos 8
+number (UnknownVersion x) = pos 9
+number (UnsupportedSegmentSize x) = pos 10
+number UnknownAugmentation = pos 11
+number (UnknownPointerEncoding x) = pos 12
+number CannotParseOmitPointerEncoding = pos 13
+number (UnsupportedPointerEncoding x) = pos 14
+number PcRelativePointerButSectionBaseIsUndefined = pos 15
+number TextRelativePointerButTextBaseIsUndefined = pos 16
+number DataRelativePointerButDataBaseIsUndefined = pos 17
+number FuncRelativePointerInBadContext = pos 18
+number UnsupportedIndirectPointer = pos 19
+number (NotCieId x) = pos 20
+number (NotCiePointer x) = pos 21
+number (NoEntryAtGivenOffset x) = pos 22
+number (OffsetOutOfBounds x) = pos 23
+number (UnknownCallFrameInstruction x) = pos 24
+number CfiInstructionInInvalidContext = pos 25
+number (InvalidCfiSetLoc x) = pos 26
+number StackFull = pos 27
+number PopWithEmptyStack = pos 28
+number TooManyRegisterRules = pos 29
+number NoUnwindInfoForAddress = pos 30
+number OutOfMemory = pos 31
+
+abbrev pub value : Error → ℕ
+value (UnexpectedEof x) = x.0
+value BadUnsignedLeb128 = 0
+value BadSignedLeb128 = 0
+value (UnknownReservedLength x) = x
+value (UnsupportedAddressSize x) = x
+value UnsupportedOffset = 0
+value (UnsupportedRegister x) = x
+value AddressOverflow = 0
+value (UnknownVersion x) = x
+value (UnsupportedSegmentSize x) = x
+value UnknownAugmentation = 0
+value (UnknownPointerEncoding x) = x.0
+value CannotParseOmitPointerEncoding = 0
+value (UnsupportedPointerEncoding x) = x.0
+value PcRelativePointerButSectionBaseIsUndefined = 0
+value TextRelativePointerButTextBaseIsUndefined = 0
+value DataRelativePointerButDataBaseIsUndefined = 0
+value FuncRelativePointerInBadContext = 0
+value UnsupportedIndirectPointer = 0
+value (NotCieId x) = x
+value (NotCiePointer x) = x
+value (NoEntryAtGivenOffset x) = x
+value (OffsetOutOfBounds x) = x
+value (UnknownCallFrameInstruction x) = x.0
+value CfiInstructionInInvalidContext = 0
+value (InvalidCfiSetLoc x) = x
+value StackFull = 0
+value PopWithEmptyStack = 0
+value TooManyRegisterRules = 0
+value NoUnwindInfoForAddress = 0
+value OutOfMemory = 0

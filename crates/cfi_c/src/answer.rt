@@ -1,0 +1,128 @@
+//! Rows, rules and refusals, written into the caller's memory.
+ghost use Rattle.std.specs.Prelude.{◌≡◌, pos};
+ghost use Rattle.cfi_read_core.specs.Readers.{map_ok};
+ghost use Rattle.cfi_c.specs.Answers.{IsAnswered, IsRules, IsWritten, written_rule, rule_at};
+
+use crate::refusal::{number_of, value_of};
+use crate::{CfiRow, CfiRule};
+use gimli_cfi::{ArrayLike, CfaRule, Error, Register, RegisterRule, UnwindTableRow};
+
+/// Writes the answer, and returns its status.
+pub fn write_answer<A: ArrayLike<Item = (Register, RegisterRule<usize>)>>(
+    answer: Result<&UnwindTableRow<usize, A>, Error>,
+    row: &mut CfiRow,
+    rules: &mut [CfiRule],
+) -> i32
+    ensures { IsAnswered (map_ok (λ row. row.now) answer.entry) result row.new rules.new }
+{
+    match answer {
+        Ok(found) => {
+            *row = row_of(found);
+            write_rules(found, rules);
+            0
+        }
+        Err(error) => {
+            row.refused = value_of(error);
+            number_of(error)
+        }
+    }
+}
+
+fn row_of<A: ArrayLike<Item = (Register, RegisterRule<usize>)>>(
+    found: &UnwindTableRow<usize, A>,
+) -> CfiRow
+    ensures { IsWritten found.now result }
+{
+    let start = found.start_address();
+    let end = found.end_address();
+    let args_size = found.saved_args_size();
+    match *found.cfa() {
+        CfaRule::RegisterAndOffset { register, offset } => CfiRow {
+            start,
+            end,
+            args_size,
+            cfa_kind: 0,
+            cfa_register: u32::from(register.0),
+            cfa_offset: offset,
+            cfa_place: 0,
+            cfa_length: 0,
+            refused: 0,
+        },
+        CfaRule::Expression(e) => CfiRow {
+            start,
+            end,
+            args_size,
+            cfa_kind: 1,
+            cfa_register: 0,
+            cfa_offset: 0,
+            cfa_place: e.offset as u64,
+            cfa_length: e.length as u64,
+            refused: 0,
+        },
+    }
+}
+
+fn write_rules<A: ArrayLike<Item = (Register, RegisterRule<usize>)>>(
+    found: &UnwindTableRow<usize, A>,
+    rules: &mut [CfiRule],
+)
+    ensures { IsRules found.now rules.new }
+{
+    for i in 0..rules.len() {
+        rules[i] = rule_of(found_rule(found, i));
+    }
+}
+
+fn found_rule<A: ArrayLike<Item = (Register, RegisterRule<usize>)>>(
+    found: &UnwindTableRow<usize, A>,
+    i: usize,
+) -> Option<RegisterRule<usize>>
+    ensures { result ≡ rule_at found.now i }
+{
+    if i <= 0xffff {
+        found.register(Register(i as u16))
+    } else {
+        None
+    }
+}
+
+fn rule_of(rule: Option<RegisterRule<usize>>) -> CfiRule
+    ensures { result ≡ written_rule rule }
+{
+    let Some(rule) = rule else {
+        return plain(0, 0);
+    };
+    match rule {
+        RegisterRule::Undefined => plain(1, 0),
+        RegisterRule::SameValue => plain(2, 0),
+        RegisterRule::Offset(offset) => plain(3, offset),
+        RegisterRule::ValOffset(offset) => plain(4, offset),
+        RegisterRule::Register(other) => plain(5, i64::from(other.0)),
+        RegisterRule::Expression(e) => placed(6, e.offset as u64, e.length as u64),
+        RegisterRule::ValExpression(e) => placed(7, e.offset as u64, e.length as u64),
+        RegisterRule::Architectural => plain(8, 0),
+        RegisterRule::Constant(value) => placed(9, value, 0),
+    }
+}
+
+fn plain(kind: u64, value: i64) -> CfiRule
+    ensures { result ≡ record { kind = kind; value = value; place = 0; length = 0 } }
+{
+    CfiRule {
+        kind,
+        value,
+        place: 0,
+        length: 0,
+    }
+}
+
+fn placed(kind: u64, place: u64, length: u64) -> CfiRule
+    ensures { result ≡ record { kind = kind; value = pos 0; place = place; length = length } }
+{
+    CfiRule {
+        kind,
+        value: 0,
+        place,
+        length,
+    }
+}
