@@ -13,6 +13,8 @@ mod entries;
 #[cfg(test)]
 mod errors;
 #[cfg(test)]
+mod faithful;
+#[cfg(test)]
 mod headers;
 #[cfg(test)]
 mod instructions;
