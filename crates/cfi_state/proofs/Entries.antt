@@ -1,20 +1,19 @@
 -- Finite maps made of lists whose keys differ.
-use Rattle.std.proofs.Common.{◌≡◌, ℕ, ◌+◌, ◌&&◌, Bool, true, false, cond, zero, suc, Option, Some, None, is_some, List, [], ◌∷◌, ◌++◌, length, map, refl, sym, ap, ◌∙◌, subst, add-one}
+use Rattle.std.proofs.Common.{◌≡◌, ◌≢◌, ℕ, ◌+◌, ◌&&◌, Bool, true, false, cond, zero, suc, Option, Some, None, is_some, List, [], ◌∷◌, length, map, refl, sym, ap, ◌∙◌, add-one}
 use Rattle.std.proofs.Math.ListN.{set}
 use Rattle.std.specs.Ordering.{eq_by_cmp, is_eq}
 use Rattle.std.specs.declared.cmp.Ordering.{Ordering}
 use Rattle.std.specs.declared.cmp.Ordering.TheVariants.{Less, Equal, Greater}
 use Rattle.std.specs.Cmp.{IsTotalOrder, eq_by_cmp_equiv, Equal-is}
-use Rattle.std.specs.List.{IsDistinct, Contains, slice_get, list_any, list_all}
-use Rattle.std.specs.FinMap.Entries.{is_some-find, by_order}
-use Rattle.std.proofs.Math.Seq.{map-set_same}
-use Rattle.std.proofs.lemmas.List.{map-append, nil_from_length}
+use Rattle.std.specs.List.{IsDistinct, Contains, slice_get, list_all}
+use Rattle.std.specs.FinMap.Entries.{by_order}
+use Rattle.std.proofs.lemmas.List.{nil_from_length}
 use Rattle.std.specs.List.Sorted.{IsPermutation}
 use Rattle.std.specs.Map.{lookup}
-use Rattle.std.specs.FinMap.{FinMap, IsAntisymmetric, find, put, keys, entries, get-entries, len-entries, entries-insert, from_entries, get, insert, remove, len, same_map, get_tied, get-from_entries, get-insert, get-remove, len-insert, len-empty, from_entries_push}
+use Rattle.std.specs.FinMap.{FinMap, IsAntisymmetric, find, put, keys, entries, get-entries, len-entries, entries-insert, from_entries, get, insert, remove, len, same_map, get_tied, get-from_entries, get-insert, get-remove, len-insert, len-empty}
 use Rattle.std.proofs.lemmas.Map.{lookup-none}
 use Rattle.std.proofs.lemmas.Map.Entries.{lookup_from_place, place_from_lookup, none_past_head}
-use Rattle.std.proofs.lemmas.Map.Keys.{IsDistinct-IsPermutation, IsDistinct-push, IsDistinct-tail}
+use Rattle.std.proofs.lemmas.Map.Keys.{IsDistinct-IsPermutation, IsDistinct-tail}
 use Rattle.std.proofs.lemmas.List.Sorted.{IsPermutation-sym, IsPermutation-map, Contains-permutation}
 use Rattle.std.proofs.lemmas.Option.{slice_get_within, get_or_from_slice_get, slice_get-get_or}
 
@@ -97,6 +96,11 @@ module _ {K X : Type 0} {R : K → K → Ordering} (o : IsTotalOrder R) (same : 
       ∙ ap (cond (eq_by_cmp R q x.0) None) (sym (find-permuted es (x ∷ rest) moved distinct q) ∙ sym (get-from_entries o es q))
       ∙ sym (get-remove o (from_entries es) x.0 q))
 
+  -- the order of a list does not count
+  pub from_entries-permuted : (es fs : List (K × X)) → IsPermutation es fs → HasDistinctKeys es → from_entries {R = R} es ≡ from_entries fs
+  from_entries-permuted es fs moved distinct =
+      same_map o same _ _ (λ q. get-from_entries o es q ∙ find-permuted es fs moved distinct q ∙ sym (get-from_entries o fs q))
+
   -- nothing is removed where there is no value
   pub remove-absent : (m : FinMap R X) (k : K) → get m k ≡ None → remove m k ≡ m
   remove-absent m k none =
@@ -104,9 +108,6 @@ module _ {K X : Type 0} {R : K → K → Ordering} (o : IsTotalOrder R) (same : 
         | true ↦ λ ties. sym none ∙ get_tied o m q k ((Equal-is _).0 ties)
         | false ↦ λ _. refl
       ] refl)
-
-  pub distinct-without : (es rest : List (K × X)) (x : K × X) → HasDistinctKeys es → IsPermutation es (x ∷ rest) → HasDistinctKeys rest
-  distinct-without es rest x distinct moved = IsDistinct-tail (eq_by_cmp R) x.0 _ (distinct_permuted es (x ∷ rest) moved distinct)
 
   -- an earlier key does not tie with a later one
   apart_from_head : (e : K × X) (es : List (K × X)) (i : ℕ) (k : K) (v : X) → HasDistinctKeys (e ∷ es) → slice_get es i ≡ Some (k, v) → eq_by_cmp R k e.0 ≡ false
@@ -137,21 +138,6 @@ module _ {K X : Type 0} {R : K → K → Ordering} (o : IsTotalOrder R) (same : 
       ∙ find-set es i k u v q distinct at
       ∙ ap (cond (eq_by_cmp R q k) (Some v)) (sym (get-from_entries o es q))
       ∙ sym (get-insert o (from_entries es) k v q))
-
-  pub distinct-set : (es : List (K × X)) (i : ℕ) (k : K) (u v : X) → HasDistinctKeys es → slice_get es i ≡ Some (k, u) → HasDistinctKeys (set es i (k, v))
-  distinct-set es i k u v distinct at =
-      let keys : map (λ e. e.0) (set es i (k, v)) ≡ map (λ e. e.0) es =
-      map-set_same (λ (e : K × X). e.0) es i (k, v) (k, v) (ap (λ (e : K × X). e.0) (sym (get_or_from_slice_get es i (k, u) (k, v) at))) in
-      subst (IsDistinct (eq_by_cmp R)) (sym keys) distinct
-
-  pub from_entries-push : (es : List (K × X)) (k : K) (v : X) → find R k es ≡ None → from_entries {R = R} (es ++ (k, v) ∷ []) ≡ insert (from_entries es) k v
-  from_entries-push es k v none = from_entries_push o same es k v none
-
-  pub distinct-push : (es : List (K × X)) (k : K) (v : X) → HasDistinctKeys es → find R k es ≡ None → HasDistinctKeys (es ++ (k, v) ∷ [])
-  distinct-push es k v distinct none =
-      let keys : map (λ e. e.0) (es ++ (k, v) ∷ []) ≡ map (λ e. e.0) es ++ k ∷ [] = map-append (λ (e : K × X). e.0) es ((k, v) ∷ []) in
-      let absent : list_any (eq_by_cmp R k) (map (λ e. e.0) es) ≡ false = sym (is_some-find R k es) ∙ ap is_some none in
-      subst (IsDistinct (eq_by_cmp R)) (sym keys) (IsDistinct-push (eq_by_cmp_equiv o) _ k distinct absent)
 
   pub len-from_entries : (es : List (K × X)) → HasDistinctKeys es → len (from_entries {R = R} es) ≡ length es
   len-from_entries [] distinct = len-empty R X

@@ -20,6 +20,7 @@ pub mod Laws
 pub mod FixedStorage
 pub mod MemoryExamples
 pub mod Entries
+pub mod Rising
 pub mod Registers
 pub mod Lists
 pub mod Equal

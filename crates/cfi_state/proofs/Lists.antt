@@ -1,8 +1,27 @@
--- Lists that are compared item by item, from either end.
-use Rattle.std.proofs.Common.{◌≡◌, Bool, true, false, ◌&&◌, List, [], ◌∷◌, ◌++◌, reverse, refl, sym, ap, ◌∙◌}
+-- Lists that are compared item by item, from either end, and a list that loses an item.
+use Rattle.std.proofs.Common.{◌≡◌, ℕ, ◌<◌, Bool, true, false, ◌&&◌, Option, Some, None, List, [], ◌∷◌, ◌++◌, length, get_or, reverse, refl, sym, ap, ◌∙◌, arith}
+use Rattle.std.proofs.lemmas.List.{length-append, same_from_push}
+use Rattle.std.proofs.lemmas.List.Edits.{length-remove}
+use Rattle.std.specs.List.{remove}
+use Rattle.std.specs.Option.{IfSome, IfNone}
 use Rattle.std.proofs.Math.Bool.{and_comm}
 use Rattle.std.proofs.lemmas.List.{reverse-append}
 use Rattle.std.specs.Cmp.Lexicographic.{pointwise}
+
+-- the items up to the last, which was rotated there and is popped off what was written back
+pub popped : {A : Type 0} (items : List A) (place : ℕ) (written held rest : List A) (o : Option A) → place < length items
+    → ((d : A) → written ≡ remove items place ++ get_or items place d ∷ []) → (length written ≡ length items → held ≡ written)
+    → IfSome o (λ last. held ≡ rest ++ last ∷ []) → IfNone o ((held ≡ []) × (rest ≡ [])) → rest ≡ remove items place
+popped [] place written held rest o within rotated back some none = absurd (omega arith)
+popped (d ∷ items) place written held rest o within rotated back some none =
+    let whole = rotated d in
+    let count : length written ≡ length (d ∷ items) =
+    omega (arith, ap length whole, length-append (remove (d ∷ items) place) (get_or (d ∷ items) place d ∷ []), length-remove (d ∷ items) place within) in
+    let all = back count ∙ whole in
+    elim o as (λ o. IfSome o (λ last. held ≡ rest ++ last ∷ []) → IfNone o ((held ≡ []) × (rest ≡ [])) → rest ≡ remove (d ∷ items) place) [
+      | Some last ↦ λ some none. (same_from_push rest (remove (d ∷ items) place) last (get_or (d ∷ items) place d) (sym some ∙ all)).0
+      | None ↦ λ some none. absurd (omega (arith, ap length none.0, ap length (back count), count))
+    ] some none
 
 and_assoc : (a b c : Bool) → (a && (b && c)) ≡ ((a && b) && c)
 and_assoc true b c = refl

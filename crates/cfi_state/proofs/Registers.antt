@@ -1,17 +1,19 @@
 -- Lists of registers with their rules, and the maps that they stand for.
-use Rattle.std.proofs.Common.{◌≡◌, ◌≢◌, ℕ, ◌+◌, Bool, true, false, eqb, Option, Some, None, IsNone, IsSomeAnd, is_some, List, [], ◌∷◌, ◌++◌, length, map, refl, sym, ap, ◌∙◌, subst, cond, Result, Ok, Err, ◌↔◌, arith}
+use Rattle.std.proofs.Common.{◌≡◌, ◌≢◌, ℕ, Bool, true, false, eqb, Option, Some, None, IsNone, IsSomeAnd, is_some, List, [], ◌∷◌, length, map, refl, sym, ap, ◌∙◌, subst, cond, Result, Ok, Err, ◌↔◌, arith, inl, inr}
 use Rattle.std.proofs.Math.ListN.{set}
-use Rattle.std.proofs.lemmas.List.{map-set, map-append, length-map}
+use Rattle.std.proofs.lemmas.List.{map-set, length-map}
 use Rattle.std.proofs.lemmas.List.Elements.{All-head, All-tail}
-use Rattle.std.proofs.lemmas.List.Sorted.{IsPermutation-swap_remove, IsPermutation-map}
+use Rattle.std.proofs.lemmas.List.Sorted.{IsPermutation-sym, IsPermutation-insert, IsPermutation-remove, IsPermutation-map}
 use Rattle.std.proofs.lemmas.Option.{slice_get_within, get_or_from_slice_get, slice_get-map}
+use Rattle.std.proofs.lemmas.Bool.{cases_lt}
 use Rattle.std.proofs.lemmas.Bool.Decides.{nat_tests}
 use Rattle.std.specs.Option.{option_map}
 use Rattle.std.specs.Ordering.{nat_cmp, eq_by_cmp}
 use Rattle.std.specs.Bool.{then_some}
 use Rattle.std.specs.Cmp.{nat_cmp_total, unsigned_ties}
-use Rattle.std.specs.List.{All, IsDistinct, slice_get, swap_remove}
-use Rattle.std.specs.List.Sorted.{IsPermutation}
+use Rattle.std.specs.List as list
+use Rattle.std.specs.List.{All, slice_get}
+use Rattle.std.specs.List.Sorted.{IsPermutation, IsStrictlySortedBy}
 use Rattle.std.specs.FinMap.{nat_cmp-IsAntisymmetric, find, get, insert, remove, contains_key, get-from_entries, len}
 use Rattle.cfi_read_core.specs.declared.common.Register.{Register}
 use Rattle.cfi_read_core.specs.declared.error.Error.{Error}
@@ -24,13 +26,14 @@ use Rattle.cfi_state.specs.Refusal.{refusal_for}
 use Rattle.cfi_state.specs.Limit.{IsAtLimit}
 use Rattle.cfi_state.specs.ProgramSettings.{is_at_limit}
 use Rattle.cfi_state.specs.Machine.{Rules}
-use Rattle.cfi_state.specs.Rules.{numbered_pair, rules_of, map_set_rule, IsDistinctRegisters, AddsRule}
-use Rattle.cfi_state.proofs.Entries.{find_at, from_entries-set, distinct-set, from_entries-push, distinct-push, from_entries-without, distinct-without, remove-absent, len-from_entries}
+use Rattle.cfi_state.specs.Rules.{numbered_pair, rules_of, map_set_rule, IsDistinctRegisters, IsRising, BelongsAt, AddsRule}
+use Rattle.cfi_state.proofs.Entries.{find_at, from_entries-set, from_entries-permuted, from_entries-without, remove-absent, len-from_entries}
+use Rattle.cfi_state.proofs.Rising.{distinct-from_rising, rising-inserted}
 
 module _ {T : Type 0} (pairs : List (Register × RegisterRule T)) where
-  pub distinct-empty : pairs ≡ [] → IsDistinctRegisters pairs
-  unfolding IsDistinct
-  distinct-empty none = subst IsDistinctRegisters (sym none) tt
+  pub rising-empty : pairs ≡ [] → IsRising pairs
+  unfolding IsStrictlySortedBy
+  rising-empty none = subst IsRising (sym none) tt
 
   -- the pair at the place where a register was found
   pub pair_at : (place : ℕ) (register : Register) → IsSomeAnd (slice_get pairs place) (λ pair. pair.0 ≡ register)
@@ -73,24 +76,24 @@ module _ {T : Type 0} (pairs : List (Register × RegisterRule T)) where
   len-rules_of distinct =
       len-from_entries nat_cmp_total nat_cmp-IsAntisymmetric (map numbered_pair pairs) distinct ∙ length-map pairs numbered_pair
 
-module _ {T : Type 0} (pairs : List (Register × RegisterRule T)) (distinct : IsDistinctRegisters pairs) (register : Register) where
-  -- the pair taken out stands in front of the rest
-  taken : (place : ℕ) (pair : Register × RegisterRule T) → slice_get pairs place ≡ Some pair
-      → IsPermutation (map numbered_pair pairs) (numbered_pair pair ∷ map numbered_pair (swap_remove pairs place pair))
-  taken place pair at =
-      IsPermutation-map numbered_pair pairs (pair ∷ swap_remove pairs place pair)
-      (IsPermutation-swap_remove pairs place pair (slice_get_within pairs place pair at) (sym (get_or_from_slice_get pairs place pair pair at)))
+  -- a register that belongs at a place stands nowhere
+  pub absent-elsewhere : (place : ℕ) (register : Register) → BelongsAt pairs place register → All (λ pair. pair.0 ≢ register) pairs
+  absent-elsewhere place register belongs i d within =
+      λ same.
+      let number = ap (λ (r : Register). r.0) same in
+      elim (cases_lt i place) [
+        | inl before ↦ let lower = belongs.1 i d before in absurd (omega (arith, number, lower))
+        | inr after ↦ let higher = belongs.2 i d after within in absurd (omega (arith, number, higher))
+      ]
 
-  pub distinct-removed : (place : ℕ) (pair : Register × RegisterRule T) → slice_get pairs place ≡ Some pair → IsDistinctRegisters (swap_remove pairs place pair)
-  distinct-removed place pair at =
-      distinct-without nat_cmp_total nat_cmp-IsAntisymmetric (map numbered_pair pairs) (map numbered_pair (swap_remove pairs place pair)) (numbered_pair pair) distinct (taken place pair at)
-
-  pub rules_of-removed : (place : ℕ) (pair : Register × RegisterRule T) → slice_get pairs place ≡ Some pair
-      → IsSomeAnd (slice_get pairs place) (λ other. other.0 ≡ register) → rules_of (swap_remove pairs place pair) ≡ remove (rules_of pairs) register.0
-  rules_of-removed place pair at found =
-      let is : pair.0 ≡ register = rw at at found in
-      from_entries-without nat_cmp_total nat_cmp-IsAntisymmetric (map numbered_pair pairs) (map numbered_pair (swap_remove pairs place pair)) (numbered_pair pair) distinct (taken place pair at)
-      ∙ ap (λ (r : Register). remove (rules_of pairs) r.0) is
+module _ {T : Type 0} (pairs : List (Register × RegisterRule T)) (rising : IsRising pairs) (register : Register) where
+  pub rules_of-removed : (place : ℕ) → IsSomeAnd (slice_get pairs place) (λ other. other.0 ≡ register) → rules_of (list.remove pairs place) ≡ remove (rules_of pairs) register.0
+  rules_of-removed place found =
+      let at = pair_at pairs place register found in
+      let pair : Register × RegisterRule T = (register, at.0) in
+      from_entries-without nat_cmp_total nat_cmp-IsAntisymmetric (map numbered_pair pairs) (map numbered_pair (list.remove pairs place)) (numbered_pair pair) (distinct-from_rising pairs rising)
+      (IsPermutation-map numbered_pair pairs (pair ∷ list.remove pairs place)
+      (IsPermutation-remove pairs place pair (slice_get_within pairs place pair at.1) (sym (get_or_from_slice_get pairs place pair pair at.1))))
 
   pub rules_of-kept : All (λ pair. pair.0 ≢ register) pairs → rules_of pairs ≡ remove (rules_of pairs) register.0
   rules_of-kept absent =
@@ -105,7 +108,10 @@ pub at_limit-false : {A : Type 0} (limit : Option ℕ) (items : List A) → ¬ I
 at_limit-false None items below = refl
 at_limit-false (Some most) items below = let other : ¬ (length items ≡ most) = λ e. below (ap Some (sym e)) in grind (arith, nat_tests)
 
-module _ {T : Type 0} (limit : Option ℕ) (pairs : List (Register × RegisterRule T)) (distinct : IsDistinctRegisters pairs) (register : Register) (rule : RegisterRule T) where
+module _ {T : Type 0} (limit : Option ℕ) (pairs : List (Register × RegisterRule T)) (rising : IsRising pairs) (register : Register) (rule : RegisterRule T) where
+  distinct : IsDistinctRegisters pairs
+  distinct = distinct-from_rising pairs rising
+
   abbrev Sets : Rules T → Result (Unit {0}) Error → Type 0
   Sets new result =
       Performs (AddsRule limit (rules_of pairs) register.0) (map_set_rule limit (rules_of pairs) register.0 rule) (rules_of pairs) new result
@@ -118,27 +124,19 @@ module _ {T : Type 0} (limit : Option ℕ) (pairs : List (Register × RegisterRu
       → map_set_rule limit (rules_of pairs) register.0 rule ≡ cond full (Err TooManyRegisterRules) (Ok (insert (rules_of pairs) register.0 rule))
   set_rule-absent absent full is = rw (get-absent pairs register absent, len-rules_of pairs distinct, is) refl
 
-  pub distinct-written : (place : ℕ) → IsSomeAnd (slice_get pairs place) (λ pair. pair.0 ≡ register) → IsDistinctRegisters (set pairs place (register, rule))
-  distinct-written place found =
-      let at = pair_at pairs place register found in
-      subst (λ (es : List (ℕ × RegisterRule T)). IsDistinct (eq_by_cmp nat_cmp) (map (λ e. e.0) es)) (sym (map-set numbered_pair pairs place (register, rule)))
-      (distinct-set nat_cmp_total nat_cmp-IsAntisymmetric (map numbered_pair pairs) place register.0 at.0 rule distinct (entry_at pairs place register at.0 at.1))
-
   pub sets-written : (place : ℕ) → IsSomeAnd (slice_get pairs place) (λ pair. pair.0 ≡ register) → Sets (rules_of (set pairs place (register, rule))) (Ok tt)
   sets-written place found =
       let at = pair_at pairs place register found in
       rw (set_rule-found at.0 place at.1, map-set numbered_pair pairs place (register, rule))
       (from_entries-set nat_cmp_total nat_cmp-IsAntisymmetric (map numbered_pair pairs) place register.0 at.0 rule distinct (entry_at pairs place register at.0 at.1))
 
-  pub distinct-pushed : All (λ pair. pair.0 ≢ register) pairs → IsDistinctRegisters (pairs ++ (register, rule) ∷ [])
-  distinct-pushed absent =
-      subst (λ (es : List (ℕ × RegisterRule T)). IsDistinct (eq_by_cmp nat_cmp) (map (λ e. e.0) es)) (sym (map-append numbered_pair pairs ((register, rule) ∷ [])))
-      (distinct-push nat_cmp_total nat_cmp-IsAntisymmetric (map numbered_pair pairs) register.0 rule distinct (find-none pairs register absent))
-
-  pub sets-pushed : All (λ pair. pair.0 ≢ register) pairs → ¬ IsAtLimit limit pairs → Sets (rules_of (pairs ++ (register, rule) ∷ [])) (Ok tt)
-  sets-pushed absent below =
-      rw (set_rule-absent absent false (at_limit-false limit pairs below), map-append numbered_pair pairs ((register, rule) ∷ []))
-      (from_entries-push nat_cmp_total nat_cmp-IsAntisymmetric (map numbered_pair pairs) register.0 rule (find-none pairs register absent))
+  pub sets-inserted : (place : ℕ) → BelongsAt pairs place register → ¬ IsAtLimit limit pairs → Sets (rules_of (list.insert pairs place (register, rule))) (Ok tt)
+  sets-inserted place belongs below =
+      let pair : Register × RegisterRule T = (register, rule) in
+      let moved : IsPermutation (map numbered_pair (list.insert pairs place pair)) (map numbered_pair (pair ∷ pairs)) =
+      IsPermutation-map numbered_pair _ _ (IsPermutation-sym _ _ (IsPermutation-insert pairs place pair)) in
+      rw (set_rule-absent (absent-elsewhere pairs place register belongs) false (at_limit-false limit pairs below))
+      (from_entries-permuted nat_cmp_total nat_cmp-IsAntisymmetric _ _ moved (distinct-from_rising _ (rising-inserted pairs rising place register rule belongs)))
 
   pub sets-refused : All (λ pair. pair.0 ≢ register) pairs → (why : Why) → (why ≡ Full (record {})) ↔ IsAtLimit limit pairs → (why ≡ Memory → IsNone limit)
       → Sets (rules_of pairs) (Err (refusal_for why TooManyRegisterRules))

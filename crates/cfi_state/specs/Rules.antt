@@ -1,8 +1,11 @@
 -- The rules of a row, as a map from registers' numbers, and as the list of pairs that keeps them.
 --     rules_of pairs      the map that the pairs stand for
 --     IsDistinctRegisters pairs      no register stands twice
-use Rattle.std.specs.Prelude.{◌≡◌, ℕ, false, List, map, Option, IsNone, Result, Ok, Err, not, ◌&&◌, cond}
+--     IsRising pairs      the registers strictly rise
+--     BelongsAt pairs place register      the register stands nowhere, and a pair of it belongs at the place
+use Rattle.std.specs.Prelude.{◌≡◌, ℕ, ◌<◌, ◌≤◌, false, List, map, length, slice_index_or, Option, IsNone, Result, Ok, Err, not, ◌&&◌, cond}
 use Rattle.std.specs.List.{IsDistinct}
+use Rattle.std.specs.List.Sorted.{IsStrictlySortedBy}
 use Rattle.std.specs.Ordering.{nat_cmp, eq_by_cmp}
 use Rattle.std.specs.FinMap.{from_entries, insert, len, contains_key}
 use Rattle.cfi_read_core.specs.declared.common.Register.{Register}
@@ -21,6 +24,16 @@ module _ {T : Type 0} where
 
   abbrev pub IsDistinctRegisters : List (Register × RegisterRule T) → Type 0
   IsDistinctRegisters pairs = IsDistinct (eq_by_cmp nat_cmp) (map (λ entry. entry.0) (map numbered_pair pairs))
+
+  -- the registers strictly rise
+  abbrev pub IsRising : List (Register × RegisterRule T) → Type 0
+  IsRising pairs = IsStrictlySortedBy nat_cmp (map (λ entry. entry.0) (map numbered_pair pairs))
+
+  -- each register in front of the place is lower, and each from there on is higher
+  abbrev pub BelongsAt : List (Register × RegisterRule T) → ℕ → Register → Type 0
+  BelongsAt pairs place register =
+      (place ≤ length pairs) × ((i : ℕ) (d : Register × RegisterRule T) → i < place → (slice_index_or pairs i d).0.0 < register.0)
+      × ((i : ℕ) (d : Register × RegisterRule T) → place ≤ i → i < length pairs → register.0 < (slice_index_or pairs i d).0.0)
 
   -- the rules with one set; only a register without a rule needs room
   abbrev pub map_set_rule : Option ℕ → Rules T → ℕ → RegisterRule T → Result (Rules T) Error

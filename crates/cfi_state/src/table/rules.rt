@@ -6,11 +6,11 @@ ghost use Rattle.std.specs.Iterator.{YieldsFirstRef, item_count};
 ghost use Rattle.std.specs.Cmp.{partial_equiv_from_equiv};
 ghost use Rattle.std.specs.FinMap.{get};
 ghost use Rattle.cfi_state.specs.Refusal.{refusal_for};
-ghost use Rattle.cfi_state.specs.Rules.{rules_of, IsDistinctRegisters};
+ghost use Rattle.cfi_state.specs.Rules.{rules_of, IsDistinctRegisters, IsRising, BelongsAt};
 ghost use Rattle.cfi_state.specs.Equality.{is_within, rule_eq, rules_eq};
 ghost use Rattle.cfi_state.specs.EqualityLaws.{rules_equiv};
 
-use crate::storage::{ArrayLike, CopyList, Refused, Why, write_at};
+use crate::storage::{ArrayLike, CopyList, Refused, Why, remove_at, write_at};
 use arrayvec::ArrayVec;
 use cfi_parts::instruction::UnwindExpression;
 use cfi_read_core::{Error, ReaderOffset, Register, Result};
@@ -78,7 +78,7 @@ impl<T> Default for RegisterRule<T> {
     }
 }
 
-/// The registers that have a rule, each once.
+/// The registers that have a rule, each once, the lowest first.
 #[derive(Drop)]
 pub(crate) struct RegisterRuleMap<
     T: ReaderOffset,
@@ -99,7 +99,7 @@ impl<T: ReaderOffset, A: ArrayLike<Item = (Register, RegisterRule<T>)>> Model
     ghost use Rattle.std.specs.FinMap as map;
     ghost use Rattle.std.specs.Coded.{codes};
     ghost use Rattle.cfi_state.specs.Machine.{Rules};
-    ghost use Rattle.cfi_state.specs.Rules.{rules_of, IsDistinctRegisters};
+    ghost use Rattle.cfi_state.specs.Rules.{rules_of, IsRising};
 
     ghost Value = { Rules T };
 
@@ -107,13 +107,13 @@ impl<T: ReaderOffset, A: ArrayLike<Item = (Register, RegisterRule<T>)>> Model
 
     ghost view = { λ map. rules_of (A.items map.pairs) };
 
-    ghost invariant = { λ map. IsDistinctRegisters (A.items map.pairs) };
+    ghost invariant = { λ map. IsRising (A.items map.pairs) };
 }
 
 impl<T: ReaderOffset, A: ArrayLike<Item = (Register, RegisterRule<T>)>> RegisterRuleMap<T, A> {
     ghost use Rattle.std.specs.FinMap as map;
     ghost use Rattle.cfi_state.specs.Outcome.{Performs};
-    ghost use Rattle.cfi_state.specs.Rules.{rules_of, map_set_rule, IsDistinctRegisters, AddsRule};
+    ghost use Rattle.cfi_state.specs.Rules.{rules_of, map_set_rule, IsDistinctRegisters, IsRising, AddsRule};
 
     pub(crate) fn make(alloc: Global) -> Result<Self>
         ensures ok { IfOk result (λ rules. rules ≡ map.empty) }
@@ -124,10 +124,11 @@ impl<T: ReaderOffset, A: ArrayLike<Item = (Register, RegisterRule<T>)>> Register
         })
     }
 
-    /// The registers with their rules, each once.
+    /// The registers with their rules, each once, the lowest register first.
     pub(crate) fn pairs(&self) -> &[(Register, RegisterRule<T>)]
         ensures rules { rules_of result.now ≡ self.now }
         ensures distinct { IsDistinctRegisters result.now }
+        ensures rising { IsRising result.now }
     {
         self.pairs.as_slice()
     }
@@ -150,11 +151,14 @@ impl<T: ReaderOffset, A: ArrayLike<Item = (Register, RegisterRule<T>)>> Register
     pub(crate) fn set(&mut self, register: Register, rule: RegisterRule<T>) -> Result<()>
         ensures { Performs (AddsRule A.limit self.old register.0) (map_set_rule A.limit self.old register.0 rule) self.old self.new result }
     {
-        if let Some(place) = index_of(self.pairs.as_slice(), register) {
-            write_at(&mut self.pairs, place, (register, rule));
-            return Ok(());
-        }
-        let Err(refused) = self.pairs.try_push((register, rule)) else {
+        let place = match index_of(self.pairs.as_slice(), register) {
+            Ok(place) => {
+                write_at(&mut self.pairs, place, (register, rule));
+                return Ok(());
+            }
+            Err(place) => place,
+        };
+        let Err(refused) = self.pairs.try_insert(place, (register, rule)) else {
             return Ok(());
         };
         Err(refusal_of(refused, Error::TooManyRegisterRules))
@@ -163,8 +167,8 @@ impl<T: ReaderOffset, A: ArrayLike<Item = (Register, RegisterRule<T>)>> Register
     pub(crate) fn remove(&mut self, register: Register)
         ensures { self.new ≡ map.remove self.old register.0 }
     {
-        if let Some(place) = index_of(self.pairs.as_slice(), register) {
-            let _pair = self.pairs.swap_remove(place);
+        if let Ok(place) = index_of(self.pairs.as_slice(), register) {
+            remove_at(&mut self.pairs, place);
         }
     }
 
@@ -225,13 +229,13 @@ impl<T: ReaderOffset, A: ArrayLike<Item = (Register, RegisterRule<T>)>> Eq
     ghost laws = { rules_equiv T.Eq.laws };
 }
 
-// Whether two lists stand for equal maps, in whatever order.
+// Whether two lists stand for equal maps.
 pub(crate) fn is_same_rules<T: ReaderOffset>(
     a: &[(Register, RegisterRule<T>)],
     b: &[(Register, RegisterRule<T>)],
 ) -> bool
-    requires a { IsDistinctRegisters a.now }
-    requires b { IsDistinctRegisters b.now }
+    requires a { IsRising a.now }
+    requires b { IsRising b.now }
     ensures { result ≡ rules_eq T.eq (rules_of a.now) (rules_of b.now) }
 {
     has_same_rules(a, b) && has_same_rules(b, a)
@@ -242,8 +246,8 @@ fn has_same_rules<T: ReaderOffset>(
     pairs: &[(Register, RegisterRule<T>)],
     others: &[(Register, RegisterRule<T>)],
 ) -> bool
-    requires pairs { IsDistinctRegisters pairs.now }
-    requires others { IsDistinctRegisters others.now }
+    requires pairs { IsRising pairs.now }
+    requires others { IsRising others.now }
     ensures { result ≡ is_within (rule_eq T.eq) (rules_of pairs.now) (rules_of others.now) }
 {
     for pair in pairs {
@@ -262,30 +266,40 @@ pub(crate) fn rule_of<T: ReaderOffset>(
     pairs: &[(Register, RegisterRule<T>)],
     register: Register,
 ) -> Option<RegisterRule<T>>
-    requires { IsDistinctRegisters pairs.now }
+    requires { IsRising pairs.now }
     ensures { result ≡ get (rules_of pairs.now) register.0 }
 {
     match index_of(pairs, register) {
-        Some(place) => Some(pairs[place].1),
-        None => None,
+        Ok(place) => Some(pairs[place].1),
+        Err(_) => None,
     }
 }
 
-// Where the register stands in a list of pairs.
+// Where the register stands in a list of pairs, by halving, and else where it belongs.
 fn index_of<T: ReaderOffset>(
     pairs: &[(Register, RegisterRule<T>)],
     register: Register,
-) -> Option<usize>
-    ensures bound { IfSome result (λ place. place < length pairs.now) }
-    ensures found { IfSome result (λ place. IsSomeAnd (slice_get pairs.now place) (λ pair. pair.0 ≡ register)) }
-    ensures none { IfNone result (All (λ pair. pair.0 ≢ register) pairs.now) }
+) -> std::result::Result<usize, usize>
+    requires { IsRising pairs.now }
+    ensures bound { IfOk result (λ place. place < length pairs.now) }
+    ensures found { IfOk result (λ place. IsSomeAnd (slice_get pairs.now place) (λ pair. pair.0 ≡ register)) }
+    ensures absent { IfErr result (λ place. BelongsAt pairs.now place register) }
 {
-    for place in 0..pairs.len() {
-        if pairs[place].0 == register {
-            return Some(place);
+    let mut low = 0;
+    let mut high = pairs.len();
+    while low < high {
+        let middle = low + (high - low) / 2;
+        let other = pairs[middle].0;
+        if other == register {
+            return Ok(middle);
+        }
+        if other.0 < register.0 {
+            low = middle + 1;
+        } else {
+            high = middle;
         }
     }
-    None
+    Err(low)
 }
 
 /// The refusal that stands for an item that a list didn't take.
