@@ -9,7 +9,7 @@ ghost use Rattle.std.specs.Prelude.{◌≡◌, ◌⊎◌, IfOk, IfSome, Ok, Resu
 ghost use Rattle.cfi_read_core.specs.Readers.{map_ok};
 ghost use Rattle.cfi_read_core.specs.declared.error.Error.{Error as Refusal};
 ghost use Rattle.cfi_parts.specs.CallFrameSections.{IsOf};
-ghost use Rattle.cfi_state.specs.Numbered.{map_row};
+ghost use Rattle.cfi_state.specs.Numbered.{row_lent};
 ghost use Rattle.cfi_unwind.specs.Sections.{section_of};
 ghost use Rattle.cfi_unwind.specs.Entries.{cie_at, fde_at, fde_by};
 ghost use Rattle.cfi_unwind.specs.EntryViews.{partial_of};
@@ -71,7 +71,7 @@ pub fn row_with_kept_cies<
     address: u64,
 ) -> Result<&'ctx UnwindTableRow<R::Offset, S::Rules>>
     ensures row { IsRowByScan S.Rules.limit S.Stack.limit S.Rules.copies_free
-        (section_of (Section.view section.now) bases.now) address (map_ok (λ row. map_row R.Offset.number row.now) result) }
+        (section_of (Section.view section.now) bases.now) address (row_lent R.Offset.number result) }
 {
     let mut kept: Kept<R> = None;
     section.unwind_info_for_address(
@@ -100,7 +100,7 @@ pub fn row_of_found_fde<
     address: u64,
 ) -> Result<&'ctx UnwindTableRow<R::Offset, S::Rules>>
     ensures row { IsRowByScan S.Rules.limit S.Stack.limit S.Rules.copies_free
-        (section_of (Section.view section.now) bases.now) address (map_ok (λ row. map_row R.Offset.number row.now) result) }
+        (section_of (Section.view section.now) bases.now) address (row_lent R.Offset.number result) }
 {
     let fde = fde_with_kept_cies(section, bases, address)?;
     fde.unwind_info_for_address(section, bases, ctx, address)
@@ -229,7 +229,7 @@ pub fn row_by_table_with_kept_cies<'ctx, R: Reader, S: UnwindContextStorage<R::O
     address: u64,
 ) -> Result<&'ctx UnwindTableRow<R::Offset, S::Rules>>
     ensures row { (found : Result Fde Refusal) × IsRowOfFound S.Rules.limit S.Stack.limit S.Rules.copies_free (section_view R.position frame.now bases.now) address
-        found (map_ok (λ row. map_row R.Offset.number row.now) result) }
+        found (row_lent R.Offset.number result) }
 {
     let mut kept: Option<CommonInformationEntry<R>> = None;
     table.unwind_info_for_address(

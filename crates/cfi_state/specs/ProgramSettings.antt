@@ -1,7 +1,8 @@
 -- What stays fixed while a program of call frame instructions runs (DWARF 5, section 6.4.2), and which instructions move.
 --     Setting      the entry's factors and addresses, and the storage's limits
 --     next_location s location i      the location after the instruction i
-use Rattle.std.specs.Prelude.{ℕ, ◌+◌, ◌*◌, ◌%◌, ◌^◌, Bool, true, false, nat_lt, ◌==◌, ℤ, Option, Some, None}
+use Rattle.std.specs.Prelude.{ℕ, ◌+◌, ◌*◌, ◌%◌, ◌^◌, Bool, true, false, ◌==◌, ℤ, Option, Some, None}
+use Rattle.cfi_read_core.specs.Addresses.{fits}
 use Rattle.cfi_parts.specs.declared.instruction.CallFrameInstruction.{CallFrameInstruction}
 use Rattle.cfi_state.specs.Actions.{Action, sets_location, advances_location, remembers_state, restores_state, toggles_sign_state, action}
 
@@ -29,7 +30,7 @@ abbrev pub advanced_location : Setting → ℕ → ℕ → ℕ
 advanced_location s location delta = location + delta * s.code_alignment_factor % 2 ^ 64
 
 abbrev pub fits_address : Setting → ℕ → Bool
-fits_address s address = nat_lt address (2 ^ (8 * s.address_size))
+fits_address s address = fits s.address_size address
 
 module _ {T : Type 0} where
   abbrev pub location_after : Setting → ℕ → Action T → ℕ

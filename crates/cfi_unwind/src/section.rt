@@ -4,7 +4,7 @@ ghost use Rattle.cfi_read_core.specs.Readers.{map_ok};
 ghost use Rattle.cfi_read_core.specs.declared.error.Error.{Error};
 ghost use Rattle.cfi_parts.specs.CallFrameSections.{IsOf};
 ghost use Rattle.cfi_unwind.specs.Sections.{section_of};
-ghost use Rattle.cfi_state.specs.Numbered.{map_row};
+ghost use Rattle.cfi_state.specs.Numbered.{row_lent};
 ghost use Rattle.cfi_unwind.specs.declared.entry.cie.CieFields.{CieFields};
 ghost use Rattle.cfi_unwind.specs.AddressRow.{IsRowOfFound};
 ghost use Rattle.cfi_unwind.specs.Fdes.{Covers, Fde};
@@ -164,7 +164,7 @@ pub trait UnwindSection<R: Reader>: Copy + Debug + _UnwindSectionPrivate<R> {
             (section_of (Self.view self.now) bases.now) address (entries (section_of (Self.view self.now) bases.now))
             get_cie found last
             × IsRowOfFound S.Rules.limit S.Stack.limit S.Rules.copies_free (section_of (Self.view self.now) bases.now) address
-            found (map_ok (λ row. map_row R.Offset.number row.now) result) }
+            found (row_lent R.Offset.number result) }
     {
         unwind_info_for_address_by_ref(self, bases, ctx, address, &mut get_cie)
     }

@@ -4,7 +4,7 @@ ghost use Rattle.std.specs.Prelude.{◌≡◌, IfOk, Result};
 ghost use Rattle.cfi_read_core.specs.Readers.{map_ok};
 ghost use Rattle.cfi_read_core.specs.declared.error.Error.{Error};
 ghost use Rattle.cfi_parts.specs.CallFrameSections.{IsOf};
-ghost use Rattle.cfi_state.specs.Numbered.{map_row};
+ghost use Rattle.cfi_state.specs.Numbered.{row_lent};
 ghost use Rattle.cfi_unwind.specs.Sections.{section_of};
 ghost use Rattle.cfi_unwind.specs.declared.entry.cie.CieFields.{CieFields};
 ghost use Rattle.cfi_unwind.specs.AddressRow.{IsRowOfFound};
@@ -91,7 +91,7 @@ where
         (section_of (Section.view section.now) bases.now) address (entries (section_of (Section.view section.now) bases.now))
         get_cie.old found get_cie.new
         × IsRowOfFound S.Rules.limit S.Stack.limit S.Rules.copies_free (section_of (Section.view section.now) bases.now) address
-        found (map_ok (λ row. map_row R.Offset.number row.now) result) }
+        found (row_lent R.Offset.number result) }
 {
     let fde = fde_for_address_by_ref(section, bases, address, get_cie)?;
     fde.unwind_info_for_address(section, bases, ctx, address)

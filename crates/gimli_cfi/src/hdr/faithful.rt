@@ -1,7 +1,7 @@
 //! A table that was checked against its section.
 ghost use Rattle.std.specs.Prelude.{◌≡◌, ⊤, IfOk, IfErr};
-ghost use Rattle.cfi_read_core.specs.Readers.{map_ok};
-ghost use Rattle.cfi_state.specs.Numbered.{map_row};
+
+ghost use Rattle.cfi_state.specs.Numbered.{row_lent};
 ghost use Rattle.cfi_unwind.specs.AddressRow.{IsRowByScan};
 ghost use Rattle.gimli_cfi.specs.FaithfulTables.{IsReason, ListsFaithfully};
 ghost use Rattle.gimli_cfi.specs.Views.{section_view, listing_view};
@@ -83,7 +83,7 @@ impl<'a, R: Reader> FaithfulTable<'a, R> {
         address: u64,
     ) -> Result<&'ctx UnwindTableRow<R::Offset, S::Rules>, Error>
         ensures { IsRowByScan S.Rules.limit S.Stack.limit S.Rules.copies_free (section_view R.position self.now.frame.now self.now.bases.now) address
-            (map_ok (λ row. map_row R.Offset.number row.now) result) }
+            (row_lent R.Offset.number result) }
     {
         let mut starts = TableStarts::new(&self.table, self.bases)?;
         row_by_table(

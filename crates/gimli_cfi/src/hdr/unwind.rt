@@ -4,7 +4,7 @@ ghost use Rattle.cfi_read_core.specs.declared.error.Error.{Error as Refusal};
 ghost use Rattle.cfi_read_core.specs.Readers.{map_ok};
 ghost use Rattle.cfi_parts.specs.declared.pointer.Pointer.TheVariants.{Direct};
 ghost use Rattle.cfi_parts.specs.CallFrameSections.{IsOf};
-ghost use Rattle.cfi_state.specs.Numbered.{map_row};
+ghost use Rattle.cfi_state.specs.Numbered.{row_lent};
 ghost use Rattle.cfi_unwind.specs.declared.entry.cie.CieFields.{CieFields};
 ghost use Rattle.cfi_unwind.specs.GetCieCalls.{GetCieCall, IsAnswered};
 ghost use Rattle.cfi_unwind.specs.Fdes.{Covers, Fde};
@@ -61,13 +61,13 @@ pub fn row_by_table<'ctx, R: Reader, St: StartSource, S: UnwindContextStorage<R:
         × IsFoundByTable (St.answer starts.old) (header_section_view R.position table.now.hdr.now bases.now) (table_view R.position table.now) table.now.hdr.now.eh_frame_ptr
         (section_view R.position frame.now bases.now) address found
         × IsRowOfFound S.Rules.limit S.Stack.limit S.Rules.copies_free (section_view R.position frame.now bases.now) address
-        found (map_ok (λ row. map_row R.Offset.number row.now) result) }
+        found (row_lent R.Offset.number result) }
     ensures faithful { (eh_frame : ℕ) → table.now.hdr.now.eh_frame_ptr ≡ Direct eh_frame →
         IsFaithful (header_section_view R.position table.now.hdr.now bases.now) (table_view R.position table.now) eh_frame (section_view R.position frame.now bases.now) →
         ((k : ℕ) → k < (table_view R.position table.now).count →
         St.answer starts.old k ≡ start_of (header_section_view R.position table.now.hdr.now bases.now) (table_view R.position table.now) k) →
         IsRowByScan S.Rules.limit S.Stack.limit S.Rules.copies_free (section_view R.position frame.now bases.now) address
-        (map_ok (λ row. map_row R.Offset.number row.now) result) }
+        (row_lent R.Offset.number result) }
     ensures calls { St.calls starts.new ≤ St.calls starts.old + steps (table_view R.position table.now).count }
     ensures not_asked { value_size (table_view R.position table.now).encoding ≡ None → St.calls starts.new ≡ St.calls starts.old }
     ensures same { St.answer starts.new ≡ St.answer starts.old }
@@ -195,7 +195,7 @@ where
         (section_view R.position frame.now bases.now) address
         get_cie.old found get_cie.new
         × IsRowOfFound S.Rules.limit S.Stack.limit S.Rules.copies_free (section_view R.position frame.now bases.now) address
-        found (map_ok (λ row. map_row R.Offset.number row.now) result) }
+        found (row_lent R.Offset.number result) }
 {
     let fde = fde_for_address_by_ref(table, frame, bases, address, get_cie)?;
     fde.unwind_info_for_address(frame, bases, ctx, address)
@@ -262,7 +262,7 @@ impl<R: Reader> EhHdrTable<'_, R> {
             (section_view R.position frame.now bases.now) address
             get_cie found last
             × IsRowOfFound S.Rules.limit S.Stack.limit S.Rules.copies_free (section_view R.position frame.now bases.now) address
-            found (map_ok (λ row. map_row R.Offset.number row.now) result) }
+            found (row_lent R.Offset.number result) }
     {
         unwind_info_for_address_by_ref(self, frame, bases, ctx, address, &mut get_cie)
     }
