@@ -1,15 +1,11 @@
 -- When contexts are equal, part by part.
 use Rattle.std.proofs.Common.{◌≡◌, Bool, true, false, not, ◌&&◌, List, reverse, refl, sym, ap, ◌∙◌}
 use Rattle.std.specs.Option.{option_eq}
-use Rattle.std.specs.Cmp.{IsEquivalence}
 use Rattle.std.specs.Cmp.Lexicographic.{pointwise}
-use Rattle.cfi_state.specs.declared.table.context.InitialRules.{InitialRules}
-use Rattle.cfi_state.specs.declared.table.context.InitialRules.TheVariants.{AtTheBottom}
 use Rattle.cfi_state.specs.Row.{Row}
-use Rattle.cfi_state.specs.Context.{ContextState, context_of, IsKept}
-use Rattle.cfi_state.specs.Equality.{row_eq, rules_eq, kept_eq, context_eq}
+use Rattle.cfi_state.specs.Context.{ContextState}
+use Rattle.cfi_state.specs.Equality.{row_eq, rules_eq, context_eq}
 use Rattle.cfi_state.proofs.Lists.{pointwise-reverse}
-use Rattle.cfi_state.proofs.InitialRules.{kept_otherwise, kept_alike}
 
 pub not_true : (b : Bool) → not b ≡ true → b ≡ false
 not_true true is = cc
@@ -35,13 +31,3 @@ module _ {T : Type 0} (eq : T → T → Bool) (a b : ContextState T) (x y : Row 
 
     pub by_initial_rules : pointwise (row_eq eq) xs ys ≡ true → option_eq (rules_eq eq) a.initial_rules b.initial_rules ≡ context_eq eq a b
     by_initial_rules same = sym (by_remembered ∙ ap (λ t. t && option_eq (rules_eq eq) a.initial_rules b.initial_rules) same)
-
-module _ {T : Type 0} (eq : T → T → Bool) (e : IsEquivalence eq) (a b : ContextState T) (x y : Row T) (xs ys : List (Row T)) (k l : InitialRules T)
-    (of_a : context_of x xs k ≡ a) (of_b : context_of y ys l ≡ b) where
-  pub initial_apart : IsKept xs k → IsKept ys l → kept_eq eq k l ≡ false → false ≡ option_eq (rules_eq eq) a.initial_rules b.initial_rules
-  initial_apart is also other =
-      kept_otherwise eq e xs ys k l is also other ∙ (λ i. option_eq (rules_eq eq) (of_a i).initial_rules (of_b i).initial_rules)
-
-  pub initial_alike : kept_eq eq k l ≡ true → ¬ (k ≡ AtTheBottom) → true ≡ option_eq (rules_eq eq) a.initial_rules b.initial_rules
-  initial_alike same above =
-      kept_alike eq e xs ys k l same above ∙ (λ i. option_eq (rules_eq eq) (of_a i).initial_rules (of_b i).initial_rules)

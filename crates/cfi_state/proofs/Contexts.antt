@@ -1,225 +1,170 @@
 -- How the rows of a stack show a context.
-use Rattle.std.proofs.Common.{◌≡◌, Result, Ok, Err, ℕ, ◌+◌, ◌-◌, ◌≤◌, false, nat_le, ◌==◌, eqb, Option, Some, None, List, [], ◌∷◌, ◌++◌, length, reverse, take, drop, refl, sym, ap, ◌∙◌, subst, arith}
-use Rattle.std.proofs.lemmas.List.{length-drop, take_all, length-reverse, length-append, reverse-append, nil_from_length}
+use Rattle.std.proofs.Common.{◌≡◌, ◌≢◌, Result, Ok, Err, ℕ, ◌+◌, ◌-◌, ◌<◌, ◌≤◌, Bool, true, false, nat_le, eqb, ◌&&◌, cond, Option, Some, None, IsSomeAnd, List, [], ◌∷◌, ◌++◌, length, reverse, take, get_or, refl, sym, ap, ◌∙◌, subst, arith}
+use Rattle.std.proofs.lemmas.List.{length-take-le, take_more, length-reverse, reverse-append}
+use Rattle.std.proofs.lemmas.Option.{get_or_from_slice_get, slice_get_within}
 use Rattle.std.proofs.lemmas.Bool.Decides.{nat_tests}
-use Rattle.std.specs.FinMap.{empty, insert, len, len-empty, len-insert, get-empty}
-use Rattle.std.specs.Ordering.{nat_cmp}
-use Rattle.std.specs.Cmp.{nat_cmp_total}
-use Rattle.cfi_read_core.specs.declared.common.Register.{Register}
-use Rattle.cfi_state.specs.declared.table.rules.RegisterRule.{RegisterRule}
-use Rattle.cfi_state.specs.declared.table.context.InitialRules.{InitialRules}
-use Rattle.cfi_state.specs.declared.table.context.InitialRules.TheVariants.{NotYet, NoRule, OneRule, AtTheBottom}
+use Rattle.std.specs.FinMap.{len}
+use Rattle.std.specs.List.{slice_get}
 use Rattle.cfi_read_core.specs.declared.error.Error.{Error}
-use Rattle.cfi_read_core.specs.declared.error.Error.TheVariants.{PopWithEmptyStack}
-use Rattle.cfi_state.specs.Outcome.{Performs}
+use Rattle.cfi_read_core.specs.declared.error.Error.TheVariants.{StackFull, PopWithEmptyStack, OutOfMemory}
 use Rattle.cfi_state.specs.Limit.{HasRoomFor}
 use Rattle.cfi_state.specs.ProgramSettings.{is_at_limit}
 use Rattle.cfi_state.specs.Machine.{Rules, copies_held}
+use Rattle.cfi_state.specs.Outcome.{Performs}
 use Rattle.cfi_state.specs.Row.{Row, with_parts}
-use Rattle.cfi_state.specs.Context.{ContextState, shown_rows, initial_of, context_of, IsKept, IsContext, context_rows_held, KeepsRules, context_restore, context_restore_from, context_end_of_cie}
-
-pub copies_held-none : (T : Type 0) → 0 ≡ copies_held {T = T} (Some empty)
-copies_held-none T = rw (len-empty nat_cmp (RegisterRule T)) refl
+use Rattle.cfi_state.specs.Context.{ContextState, initial_of, context_of, IsContext, IsSameBelow, IsKept, context_rows_held, context_remember, context_restore, context_restore_from, context_end_of_cie}
 
 module _ {T : Type 0} where
-  pub len-one : (register : Register) (rule : RegisterRule T) → len (insert {R = nat_cmp} empty register.0 rule) ≡ 1
-  len-one register rule =
-      len-insert nat_cmp_total empty register.0 rule
-      ∙ rw (get-empty nat_cmp register.0, len-empty nat_cmp (RegisterRule T)) refl
+  pub copies_held-many : (rules : Rules T) (count : ℕ) → len rules ≡ count → 2 ≤ count → 1 ≡ copies_held (Some rules)
+  copies_held-many rules count is many = grind (arith, nat_tests)
 
-  pub copies_held-one : (register : Register) (rule : RegisterRule T) → 0 ≡ copies_held (Some (insert empty register.0 rule))
-  copies_held-one register rule = rw (len-one register rule) refl
+  pub copies_held-few : (rules : Rules T) (count : ℕ) → len rules ≡ count → count < 2 → 0 ≡ copies_held (Some rules)
+  copies_held-few rules count is few = grind (arith, nat_tests)
 
-  pub copies_held-two : (rules : Rules T) → 2 ≤ len rules → 1 ≡ copies_held (Some rules)
-  copies_held-two rules two = grind (arith, nat_tests)
+  module _ (limit : Option ℕ) (row : Row T) (rows : List (Row T)) (depth : ℕ) (rules : Rules T) (ended : Bool) (context : IsContext limit rows depth rules ended) where
+    rows_held-state : context_rows_held (context_of row rows depth rules ended) ≡ 1 + depth + copies_held (initial_of rules ended)
+    rows_held-state = omega (arith, length-reverse (take depth rows), length-take-le depth rows context.0)
 
-  -- the rows at the bottom and the remembered ones are all
-  hidden_and_shown : (rows : List (Row T)) (kept : InitialRules T) → IsKept rows kept
-      → copies_held (initial_of rows kept) + length (shown_rows rows kept) ≡ length rows
-  hidden_and_shown rows NotYet is = omega arith
-  hidden_and_shown rows NoRule is = rw (len-empty nat_cmp (RegisterRule T)) (omega arith)
-  hidden_and_shown rows (OneRule register rule) is = rw (len-one register rule) (omega arith)
-  hidden_and_shown [] AtTheBottom is = absurd (omega (arith, is.0))
-  hidden_and_shown (row ∷ rows) AtTheBottom is = let two = is.1 in grind (arith, nat_tests)
+    pub room-within : (most : ℕ) → limit ≡ Some most → 1 + depth + copies_held (initial_of rules ended) ≤ most
+    room-within most is = subst (λ l. HasRoomFor l (1 + depth + copies_held (initial_of rules ended))) is context.1
 
-  pub rows_held-state : (row : Row T) (rows : List (Row T)) (kept : InitialRules T) → IsKept rows kept
-      → context_rows_held (context_of row rows kept) ≡ length rows + 1
-  rows_held-state row rows kept is =
-      omega (arith, hidden_and_shown rows kept is, length-reverse (shown_rows rows kept))
+    pub is_at_limit-state : (most : ℕ) → limit ≡ Some most → (state : ContextState T) → context_of row rows depth rules ended ≡ state → (copies : ℕ) → copies ≡ copies_held state.initial_rules
+        → eqb (depth + copies) (most - 1) ≡ is_at_limit limit (context_rows_held state)
+    is_at_limit-state most is state shows copies count =
+        let held = rows_held-state in
+        let room = room-within most is in
+        let hidden : copies ≡ copies_held (initial_of rules ended) = count ∙ ap (λ (s : ContextState T). copies_held s.initial_rules) (sym shows) in
+        let test : eqb (depth + copies) (most - 1) ≡ eqb (context_rows_held (context_of row rows depth rules ended)) most = grind (arith, nat_tests) in
+        test ∙ ap (λ l. is_at_limit l (context_rows_held (context_of row rows depth rules ended))) (sym is) ∙ ap (λ s. is_at_limit limit (context_rows_held s)) shows
 
-  pub is_at_limit-state : (limit : Option ℕ) (most : ℕ) (row : Row T) (rows : List (Row T)) (kept : InitialRules T)
-      → limit ≡ Some most → IsContext limit rows kept
-      → eqb (length rows) (most - 1) ≡ is_at_limit limit (context_rows_held (context_of row rows kept))
-  is_at_limit-state None most row rows kept is context = cc
-  is_at_limit-state (Some other) most row rows kept is context =
-      let same : other ≡ most = cc in
-      let room = context.0 in
-      rw (rows_held-state row rows kept context.1) (grind (arith, nat_tests))
+  -- ---- remembered rows
 
-  pub remembered-none : (rows : List (Row T)) (kept : InitialRules T) → IsKept rows kept → length rows ≡ copies_held (initial_of rows kept)
-      → reverse (shown_rows rows kept) ≡ []
-  remembered-none rows kept is count =
-      ap reverse (nil_from_length (shown_rows rows kept) (omega (arith, hidden_and_shown rows kept is)))
+  -- a restore takes the last one
+  remembered-last : (rows : List (Row T)) (last : ℕ) (row : Row T) → last < length rows → row ≡ get_or rows last row
+      → reverse (take (last + 1) rows) ≡ row ∷ reverse (take last rows)
+  remembered-last rows last row within is =
+      ap reverse (take_more rows last row within) ∙ reverse-append (take last rows) (get_or rows last row ∷ []) ∙ ap (λ r. r ∷ reverse (take last rows)) (sym is)
 
-  -- ---- one more row at the end
-  shown-push : (rows : List (Row T)) (kept : InitialRules T) (last : Row T) → IsKept rows kept
-      → shown_rows (rows ++ last ∷ []) kept ≡ shown_rows rows kept ++ last ∷ []
-  shown-push rows NotYet last is = refl
-  shown-push rows NoRule last is = refl
-  shown-push rows (OneRule register rule) last is = refl
-  shown-push [] AtTheBottom last is = absurd (omega (arith, is.0))
-  shown-push (row ∷ rows) AtTheBottom last is = refl
+  pub remembers : (allocates : Type 0) (limit : Option ℕ) (row : Row T) (rows new : List (Row T)) (depth deeper : ℕ) (rules : Rules T) (ended : Bool) (state : ContextState T)
+      → context_of row rows depth rules ended ≡ state → is_at_limit limit (context_rows_held state) ≡ false → IsKept rows depth row new deeper
+      → Performs allocates (context_remember limit state) state (context_of row new deeper rules ended) (Ok (tt {0}))
+  remembers allocates limit row rows new depth deeper rules ended state shows below kept =
+      let expected : context_remember limit state ≡ Ok (record state { remembered = state.row ∷ state.remembered }) = rw below refl in
+      let remembered : reverse (take deeper new) ≡ row ∷ reverse (take depth rows) = ap reverse kept.2 ∙ reverse-append (take depth rows) (row ∷ []) in
+      subst (λ r. Performs allocates r state (context_of row new deeper rules ended) (Ok (tt {0}))) (sym expected)
+      ((λ i. record { row = row; remembered = remembered i; initial_rules = initial_of rules ended })
+      ∙ ap (λ (s : ContextState T). record s { remembered = s.row ∷ s.remembered }) shows)
 
-  initial-push : (rows : List (Row T)) (kept : InitialRules T) (last : Row T) → IsKept rows kept
-      → initial_of (rows ++ last ∷ []) kept ≡ initial_of rows kept
-  initial-push rows NotYet last is = refl
-  initial-push rows NoRule last is = refl
-  initial-push rows (OneRule register rule) last is = refl
-  initial-push [] AtTheBottom last is = absurd (omega (arith, is.0))
-  initial-push (row ∷ rows) AtTheBottom last is = refl
+  pub same-below : (row : Row T) (rows new : List (Row T)) (depth : ℕ) (rules : Rules T) (ended : Bool) → IsSameBelow depth rows new
+      → context_of row new depth rules ended ≡ context_of row rows depth rules ended
+  same-below row rows new depth rules ended same = λ i. record { row = row; remembered = reverse (same.1 i); initial_rules = initial_of rules ended }
 
-  remembered-push : (rows : List (Row T)) (kept : InitialRules T) (last : Row T) → IsKept rows kept
-      → reverse (shown_rows (rows ++ last ∷ []) kept) ≡ last ∷ reverse (shown_rows rows kept)
-  remembered-push rows kept last is =
-      ap reverse (shown-push rows kept last is) ∙ reverse-append (shown_rows rows kept) (last ∷ [])
-
-  abbrev pub Restores : ContextState T → ContextState T → Result (Unit {0}) Error → Type 0
-  Restores old new result = Performs ⊥ (context_restore old) old new result
-
-  pub state-push : (row : Row T) (rows : List (Row T)) (kept : InitialRules T) (last : Row T) → IsKept rows kept
-      → context_of row (rows ++ last ∷ []) kept ≡ record (context_of row rows kept) { remembered = last ∷ (context_of row rows kept).remembered }
-  state-push row rows kept last is =
-      λ i. record { row = row; remembered = remembered-push rows kept last is i; initial_rules = initial-push rows kept last is i }
-
-  pub room-pop : (limit : Option ℕ) (rows : List (Row T)) (last : Row T) → HasRoomFor limit (length (rows ++ last ∷ []) + 1) → HasRoomFor limit (length rows + 1)
-  room-pop None rows last room = tt
-  room-pop (Some most) rows last room = let count = length-append rows (last ∷ []) in omega arith
-
-  pub kept-push : (rows : List (Row T)) (kept : InitialRules T) (last : Row T) → IsKept rows kept → IsKept (rows ++ last ∷ []) kept
-  kept-push rows NotYet last is = tt
-  kept-push rows NoRule last is = tt
-  kept-push rows (OneRule register rule) last is = tt
-  kept-push [] AtTheBottom last is = absurd (omega (arith, is.0))
-  kept-push (row ∷ rows) AtTheBottom last is = (omega arith, is.1)
-
-  pub kept-pop : (rows : List (Row T)) (kept : InitialRules T) (last : Row T) → IsKept (rows ++ last ∷ []) kept
-      → ¬ (length (rows ++ last ∷ []) ≡ copies_held (initial_of (rows ++ last ∷ []) kept)) → IsKept rows kept
-  kept-pop rows NotYet last is more = tt
-  kept-pop rows NoRule last is more = tt
-  kept-pop rows (OneRule register rule) last is more = tt
-  kept-pop [] AtTheBottom last is more =
-      let two = is.1 in
-      let one : 1 ≡ copies_held (Some last.parts.rules) = grind (arith, nat_tests) in
-      absurd (more one)
-  kept-pop (row ∷ rows) AtTheBottom last is more = (omega arith, is.1)
-
-  pub restores-none : (row : Row T) (rows : List (Row T)) (kept : InitialRules T) (state : ContextState T) → context_of row rows kept ≡ state
-      → IsKept rows kept → length rows ≡ copies_held state.initial_rules → Restores state state (Err PopWithEmptyStack)
-  restores-none row rows kept state shows is count =
-      let none : state.remembered ≡ [] =
-      ap (λ (s : ContextState T). s.remembered) (sym shows)
-      ∙ remembered-none rows kept is (count ∙ ap (λ (s : ContextState T). copies_held s.initial_rules) (sym shows)) in
-      subst (λ remembered. Performs {B = Unit {0}} ⊥ (context_restore_from state remembered) state state (Err PopWithEmptyStack)) (sym none) (refl, refl)
-
-  pub restores-last : (row after : Row T) (held rows : List (Row T)) (kept : InitialRules T) (last : Row T) (state : ContextState T)
-      → context_of row held kept ≡ state → after ≡ with_parts row last.parts → held ≡ rows ++ last ∷ [] → IsKept held kept
-      → ¬ (length held ≡ copies_held state.initial_rules) → Restores state (context_of after rows kept) (Ok tt)
-  restores-last row after held rows kept last state shows changed popped is more =
-      let kept_rows : IsKept rows kept =
-      kept-pop rows kept last (subst (λ xs. IsKept xs kept) popped is)
-      (λ count. more (ap length popped ∙ count ∙ ap (λ xs. copies_held (initial_of xs kept)) (sym popped) ∙ ap (λ (s : ContextState T). copies_held s.initial_rules) shows)) in
-      let pushed : state ≡ record (context_of row rows kept) { remembered = last ∷ (context_of row rows kept).remembered } =
-      sym shows ∙ ap (λ xs. context_of row xs kept) popped ∙ state-push row rows kept last kept_rows in
-      subst (λ s. Restores s (context_of after rows kept) (Ok tt)) (sym pushed)
-      (λ i. record { row = changed i; remembered = (context_of row rows kept).remembered; initial_rules = (context_of row rows kept).initial_rules })
-
-  pub context-pop : (limit : Option ℕ) (row : Row T) (held rows : List (Row T)) (kept : InitialRules T) (last : Row T) (state : ContextState T)
-      → context_of row held kept ≡ state → held ≡ rows ++ last ∷ [] → IsContext limit held kept → ¬ (length held ≡ copies_held state.initial_rules)
-      → IsContext limit rows kept
-  context-pop limit row held rows kept last state shows popped context more =
-      let same = subst (λ xs. IsContext limit xs kept) popped context in (
-        room-pop limit rows last same.0,
-        kept-pop rows kept last same.1
-            (λ count. more (ap length popped ∙ count ∙ ap (λ xs. copies_held (initial_of xs kept)) (sym popped) ∙ ap (λ (s : ContextState T). copies_held s.initial_rules) shows)),
+  pub context-kept : (limit : Option ℕ) (row : Row T) (rows new : List (Row T)) (depth deeper : ℕ) (rules : Rules T) (ended : Bool) (state : ContextState T)
+      → context_of row rows depth rules ended ≡ state → IsContext limit rows depth rules ended → is_at_limit limit (context_rows_held state) ≡ false → IsKept rows depth row new deeper
+      → IsContext limit new deeper rules ended
+  context-kept limit row rows new depth deeper rules ended state shows context below kept =
+      let count : context_rows_held state ≡ 1 + depth + copies_held (initial_of rules ended) =
+      ap context_rows_held (sym shows) ∙ rows_held-state limit row rows depth rules ended context in (
+        kept.1,
+        elim limit as (λ l. is_at_limit l (context_rows_held state) ≡ false → HasRoomFor l (1 + depth + copies_held (initial_of rules ended)) → HasRoomFor l (1 + deeper + copies_held (initial_of rules ended))) [
+          | None ↦ λ below room. tt
+          | Some most ↦ λ below room.
+              let other : eqb (context_rows_held state) most ≡ false = below in
+              let more : deeper ≡ depth + 1 = kept.0 in
+              grind (arith, nat_tests)
+        ] below context.1,
       )
 
+  pub restores-none : (row : Row T) (rows : List (Row T)) (depth : ℕ) (rules : Rules T) (ended : Bool) (state : ContextState T)
+      → context_of row rows depth rules ended ≡ state → depth ≡ 0 → Performs {B = Unit {0}} ⊥ (context_restore state) state state (Err PopWithEmptyStack)
+  restores-none row rows depth rules ended state shows none =
+      let empty : state.remembered ≡ [] = ap (λ (s : ContextState T). s.remembered) (sym shows) ∙ ap (λ n. reverse (take n rows)) none in
+      subst (λ remembered. Performs {B = Unit {0}} ⊥ (context_restore_from state remembered) state state (Err PopWithEmptyStack)) (sym empty) (refl, refl)
+
+  pub restores-last : (row after : Row T) (rows new : List (Row T)) (depth last : ℕ) (rules : Rules T) (ended : Bool) (state : ContextState T)
+      → context_of row rows depth rules ended ≡ state → depth ≤ length rows → last + 1 ≡ depth
+      → IsSomeAnd (slice_get rows last) (λ r. after ≡ with_parts row r.parts) → IsSameBelow last rows new
+      → Performs {B = Unit {0}} ⊥ (context_restore state) state (context_of after new last rules ended) (Ok tt)
+  restores-last row after rows new depth last rules ended state shows within one brought same =
+      elim (slice_get rows last) as (λ o. slice_get rows last ≡ o → IsSomeAnd o (λ r. after ≡ with_parts row r.parts) → Performs {B = Unit {0}} ⊥ (context_restore state) state (context_of after new last rules ended) (Ok tt)) [
+        | None ↦ λ at brought. absurd brought
+        | Some r ↦ λ at brought.
+            let top : reverse (take depth rows) ≡ r ∷ reverse (take last rows) =
+            ap (λ n. reverse (take n rows)) (sym one) ∙ remembered-last rows last r (omega (arith, within, one)) (sym (get_or_from_slice_get rows last r r at)) in
+            let whole : state ≡ record { row = row; remembered = r ∷ reverse (take last rows); initial_rules = initial_of rules ended } =
+            sym shows ∙ (λ i. record { row = row; remembered = top i; initial_rules = initial_of rules ended }) in
+            subst (λ s. Performs {B = Unit {0}} ⊥ (context_restore s) s (context_of after new last rules ended) (Ok tt)) (sym whole)
+            (λ i. record { row = brought i; remembered = reverse (same.1 i); initial_rules = initial_of rules ended })
+      ] refl brought
+
   -- ---- the rules that the CIE's initial instructions ended with
-  not_yet : (held : List (Row T)) (kept : InitialRules T) → initial_of held kept ≡ None → kept ≡ NotYet
-  not_yet held NotYet none = refl
-  not_yet held NoRule none = cc
-  not_yet held (OneRule register rule) none = cc
-  not_yet held AtTheBottom none = cc
 
-  few : (kept : InitialRules T) (rules : Rules T) → KeepsRules rules kept → ¬ (kept ≡ AtTheBottom) → nat_le 2 (len rules) ≡ false
-  few NotYet rules keeps other = absurd keeps
-  few NoRule rules keeps other = rw (keeps, len-empty nat_cmp (RegisterRule T)) refl
-  few (OneRule register rule) rules keeps other = rw (keeps, len-one register rule) refl
-  few AtTheBottom rules keeps other = absurd (other refl)
+  not_ended : (rules : Rules T) (ended : Bool) → initial_of rules ended ≡ None → ended ≡ false
+  not_ended rules true none = cc
+  not_ended rules false none = refl
 
-  initial_kept : (held : List (Row T)) (kept : InitialRules T) (rules : Rules T) → KeepsRules rules kept → ¬ (kept ≡ AtTheBottom) → initial_of held kept ≡ Some rules
-  initial_kept held NotYet rules keeps other = absurd keeps
-  initial_kept held NoRule rules keeps other = ap Some (sym keeps)
-  initial_kept held (OneRule register rule) rules keeps other = ap Some (sym keeps)
-  initial_kept held AtTheBottom rules keeps other = absurd (other refl)
+  taken : (rules : Rules T) (held most depth : ℕ) → (nat_le 2 (len rules) && eqb held most) ≡ false → held ≤ most → held ≡ 1 + depth → 1 + depth + copies_held (Some rules) ≤ most
+  taken rules held most depth room within is =
+      elim (nat_le 2 (len rules)) as (λ t. (t && eqb held most) ≡ false → 1 + depth + cond t 1 0 ≤ most) [
+        | true ↦ λ room. grind (arith, nat_tests)
+        | false ↦ λ room. omega arith
+      ] room
 
-  shown_all : (held : List (Row T)) (kept : InitialRules T) → ¬ (kept ≡ AtTheBottom) → shown_rows held kept ≡ held
-  shown_all held NotYet other = refl
-  shown_all held NoRule other = refl
-  shown_all held (OneRule register rule) other = refl
-  shown_all held AtTheBottom other = absurd (other refl)
+  -- two rules or more don't fit
+  abbrev pub has_no_room : Option ℕ → ContextState T → Bool
+  has_no_room limit state = nat_le 2 (len state.row.parts.rules) && is_at_limit limit (context_rows_held state)
 
-  pub saves-apart : (may_allocate : Type 0) (limit : Option ℕ) (row : Row T) (held : List (Row T)) (old kept : InitialRules T) (state : ContextState T)
-      → context_of row held old ≡ state → state.initial_rules ≡ None → KeepsRules row.parts.rules kept → ¬ (kept ≡ AtTheBottom)
-      → Performs may_allocate (context_end_of_cie limit state) state (context_of row held kept) (Ok (tt {0}))
-  saves-apart may_allocate limit row held old kept state shows first keeps_row other =
-      let keeps : KeepsRules state.row.parts.rules kept = subst (λ (s : ContextState T). KeepsRules s.row.parts.rules kept) shows keeps_row in
-      let started : old ≡ NotYet = not_yet held old (ap (λ (s : ContextState T). s.initial_rules) shows ∙ first) in
-      let rules = state.row.parts.rules in
-      let remembered : reverse (shown_rows held kept) ≡ state.remembered =
-      ap reverse (shown_all held kept other) ∙ ap (λ k. reverse (shown_rows held k)) (sym started) ∙ ap (λ (s : ContextState T). s.remembered) shows in
-      let expected : context_end_of_cie limit state ≡ Ok (record state { initial_rules = Some rules }) = rw (few kept rules keeps other) refl in
-      subst (λ r. Performs may_allocate r state (context_of row held kept) (Ok (tt {0}))) (sym expected)
-      (λ i. record { row = (shows i).row; remembered = remembered i; initial_rules = initial_kept held kept rules keeps other i })
+  module _ (limit : Option ℕ) (state : ContextState T) where
+    pub no_room : (count : ℕ) → len state.row.parts.rules ≡ count → 2 ≤ count → is_at_limit limit (context_rows_held state) ≡ true → has_no_room limit state ≡ true
+    no_room count is many full =
+        let two : nat_le 2 (len state.row.parts.rules) ≡ true = grind (arith, nat_tests) in
+        ap (λ t. t && is_at_limit limit (context_rows_held state)) two ∙ full
 
-  -- ---- room for one more row
-  room-more : (limit : Option ℕ) (row : Row T) (held : List (Row T)) (kept : InitialRules T) (state : ContextState T) → context_of row held kept ≡ state
-      → IsContext limit held kept → is_at_limit limit (context_rows_held state) ≡ false → HasRoomFor limit (length held + 1 + 1)
-  room-more None row held kept state shows context below = tt
-  room-more (Some most) row held kept state shows context below =
-      let count : context_rows_held state ≡ length held + 1 = ap context_rows_held (sym shows) ∙ rows_held-state row held kept context.1 in
-      let other : (context_rows_held state == most) ≡ false = below in
-      let room = context.0 in
-      grind (arith, nat_tests)
+    pub room-for_few : (count : ℕ) → len state.row.parts.rules ≡ count → count < 2 → has_no_room limit state ≡ false
+    room-for_few count is few =
+        let less : nat_le 2 (len state.row.parts.rules) ≡ false = grind (arith, nat_tests) in
+        ap (λ t. t && is_at_limit limit (context_rows_held state)) less
 
-  pub context-push : (limit : Option ℕ) (row : Row T) (held rows : List (Row T)) (kept : InitialRules T) (last : Row T) (state : ContextState T)
-      → context_of row held kept ≡ state → rows ≡ held ++ last ∷ [] → IsContext limit held kept → is_at_limit limit (context_rows_held state) ≡ false
-      → IsContext limit rows kept
-  context-push limit row held rows kept last state shows pushed context below =
-      let room = room-more limit row held kept state shows context below in
-      let count : length (held ++ last ∷ []) ≡ length held + 1 = length-append held (last ∷ []) in
-      subst (λ xs. IsContext limit xs kept) (sym pushed)
-      (subst (λ n. HasRoomFor limit (n + 1)) (sym count) room, kept-push held kept last context.1)
+    pub room-left : is_at_limit limit (context_rows_held state) ≡ false → has_no_room limit state ≡ false
+    room-left below = elim (nat_le 2 (len state.row.parts.rules)) as (λ t. (t && is_at_limit limit (context_rows_held state)) ≡ false) [ true ↦ below | false ↦ refl ]
 
-  -- ---- the remembered rows
+    pub saves-full : (allocates : Type 0) → has_no_room limit state ≡ true → Performs {B = Unit {0}} allocates (context_end_of_cie limit state) state state (Err StackFull)
+    saves-full allocates full = rw full (refl, refl)
 
-  shown-drop : (rows : List (Row T)) (kept : InitialRules T) → IsKept rows kept → drop (copies_held (initial_of rows kept)) rows ≡ shown_rows rows kept
-  shown-drop rows NotYet is = refl
-  shown-drop rows NoRule is = ap (λ n. drop n rows) (sym (copies_held-none T))
-  shown-drop rows (OneRule register rule) is = ap (λ n. drop n rows) (sym (copies_held-one register rule))
-  shown-drop [] AtTheBottom is = absurd (omega (arith, is.0))
-  shown-drop (row ∷ rows) AtTheBottom is = ap (λ n. drop n (row ∷ rows)) (sym (copies_held-two row.parts.rules is.1))
+  module _ (limit : Option ℕ) (row : Row T) (rows : List (Row T)) (depth : ℕ) (old new : Rules T) (ended : Bool) (state : ContextState T)
+      (shows : context_of row rows depth old ended ≡ state) (first : state.initial_rules ≡ None) where
+    still : ended ≡ false
+    still = not_ended old ended (ap (λ (s : ContextState T). s.initial_rules) shows ∙ first)
 
-  module _ (row : Row T) (rows : List (Row T)) (kept : InitialRules T) (context : ContextState T)
-      (shows : context_of row rows kept ≡ context) (is : IsKept rows kept) (held : List (Row T)) (same : held ≡ rows) (hidden : ℕ) (count : hidden ≡ copies_held context.initial_rules) where
-    copies : hidden ≡ copies_held (initial_of rows kept)
-    copies = count ∙ ap (λ (x : ContextState T). copies_held x.initial_rules) (sym shows)
+    pub saves : (allocates : Type 0) → has_no_room limit state ≡ false → new ≡ state.row.parts.rules
+        → Performs allocates (context_end_of_cie limit state) state (context_of row rows depth new true) (Ok (tt {0}))
+    saves allocates room is =
+        let expected : context_end_of_cie limit state ≡ Ok (record state { initial_rules = Some state.row.parts.rules }) = rw room refl in
+        subst (λ r. Performs allocates r state (context_of row rows depth new true) (Ok (tt {0}))) (sym expected)
+        (λ i. record { row = (shows i).row; remembered = (shows i).remembered; initial_rules = Some (is i) })
 
-    pub hidden-within : hidden ≤ length held
-    hidden-within = let all = hidden_and_shown rows kept is in let lengths = ap length same in let c = copies in omega arith
+    -- a refusal midway is not seen
+    pub unsaved : context_of row rows depth new ended ≡ state
+    unsaved = (λ i. record { row = row; remembered = reverse (take depth rows); initial_rules = initial_of new (still i) })
+        ∙ (λ i. record { row = row; remembered = reverse (take depth rows); initial_rules = initial_of old (sym still i) }) ∙ shows
 
-    pub shown-remembered : reverse (take (length held - hidden) (drop hidden held)) ≡ context.remembered
-    shown-remembered =
-        let enough : length (drop hidden held) ≤ length held - hidden = omega (arith, length-drop hidden held) in
-        ap reverse (take_all (length held - hidden) (drop hidden held) enough)
-        ∙ ap reverse (ap (drop hidden) same ∙ ap (λ n. drop n rows) copies ∙ shown-drop rows kept is)
-        ∙ ap (λ (x : ContextState T). x.remembered) shows
+    pub saves-refused : (allocates : Type 0) → has_no_room limit state ≡ false → (error : Error) → error ≡ OutOfMemory → allocates
+        → Performs {B = Unit {0}} allocates (context_end_of_cie limit state) state (context_of row rows depth new ended) (Err error)
+    saves-refused allocates room error is wanted =
+        let expected : context_end_of_cie limit state ≡ Ok (record state { initial_rules = Some state.row.parts.rules }) = rw room refl in
+        subst (λ r. Performs {B = Unit {0}} allocates r state (context_of row rows depth new ended) (Err error)) (sym expected) (is, unsaved, wanted)
+
+    pub context-unsaved : IsContext limit rows depth old ended → IsContext limit rows depth new ended
+    context-unsaved context = subst (λ e. IsContext limit rows depth old e → IsContext limit rows depth new e) (sym still) (λ c. c) context
+
+    pub context-saved : IsContext limit rows depth old ended → has_no_room limit state ≡ false → new ≡ state.row.parts.rules → IsContext limit rows depth new true
+    context-saved context room is =
+        let count : context_rows_held state ≡ 1 + depth + copies_held (initial_of old ended) =
+        ap context_rows_held (sym shows) ∙ rows_held-state limit row rows depth old ended context in
+        let none : copies_held (initial_of old ended) ≡ 0 = ap (λ e. copies_held (initial_of old e)) still in (
+          context.0,
+          elim limit as (λ l. (nat_le 2 (len state.row.parts.rules) && is_at_limit l (context_rows_held state)) ≡ false → HasRoomFor l (1 + depth + copies_held (initial_of old ended)) → HasRoomFor l (1 + depth + copies_held (Some new))) [
+            | None ↦ λ room held. tt
+            | Some most ↦ λ room held. subst (λ rules. 1 + depth + copies_held (Some rules) ≤ most) (sym is) (taken state.row.parts.rules (context_rows_held state) most depth room (omega (arith, held, none, count)) (omega (arith, none, count)))
+          ] room context.1,
+        )

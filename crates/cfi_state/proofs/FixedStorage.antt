@@ -1,5 +1,5 @@
 -- Over a fixed storage no instruction runs out of memory.
-use Rattle.std.proofs.Common.{◌≡◌, ℕ, Bool, true, false, not, ◌&&◌, leb, refl, ap, ◌∙◌}
+use Rattle.std.proofs.Common.{◌≡◌, ℕ, Bool, true, false, not, ◌&&◌, ◌||◌, leb, refl, ap, ◌∙◌}
 use Rattle.std.specs.Bool.{IsTrue}
 use Rattle.std.specs.Option.{IsSome}
 use Rattle.std.specs.FinMap as map
@@ -29,4 +29,4 @@ module _ (s : Setting) (free : Bool) (rules : IsSome s.rule_limit) (stack : IsSo
     never_for x _ = refl
 
     pub fixed_never : AreNever (may_allocate {T = T} s free)
-    fixed_never = record { at = λ x i. never_for x (action i); at_end = λ x. ap (λ b. leb 2 (map.len x.parts.rules) && b) no_copies ∙ and_false _ }
+    fixed_never = record { at = λ x i. never_for x (action i); at_end = λ x. ap (λ b. leb 1 (map.len x.parts.rules) && not (b || free)) rules ∙ and_false _ }

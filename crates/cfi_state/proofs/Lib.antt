@@ -25,7 +25,6 @@ pub mod Registers
 pub mod Lists
 pub mod Equal
 pub mod Contexts
-pub mod InitialRules
 pub mod ContextEquality
 pub mod Evaluation
 pub mod NumberedSame

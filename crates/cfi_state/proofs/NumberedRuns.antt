@@ -1,5 +1,5 @@
 -- What allocates, and what is refused, is the same along a map of the offsets.
-use Rattle.std.proofs.Common.{◌≡◌, ℕ, Bool, not, ◌&&◌, leb, Option, Some, None, Result, Ok, Err, is_some, refl, sym, ap, subst, ◌∙◌, inl, inr}
+use Rattle.std.proofs.Common.{◌≡◌, ℕ, Bool, not, ◌&&◌, ◌||◌, leb, Option, Some, None, Result, Ok, Err, is_some, refl, sym, ap, subst, ◌∙◌, inl, inr}
 use Rattle.std.specs.Option.{option_map}
 use Rattle.std.specs.Result.{IsOk}
 use Rattle.cfi_read_core.specs.Readers.{map_ok}
@@ -45,7 +45,7 @@ module _ {A B : Type 0} (f : A → B) where
   wants_at-mapped s free x i = ap (may_allocate_for s free (map_state f x)) (action-mapped f i) ∙ wants_for-mapped s free x (action i)
 
   pub wants_at_end-mapped : (s : Setting) (free : Bool) (x : State A) → may_allocate_at_end s free (map_state f x) ≡ may_allocate_at_end s free x
-  wants_at_end-mapped s free x = ap (λ n. leb 2 n && copies_row s free) (len-map_values (map_rule f) x.parts.rules)
+  wants_at_end-mapped s free x = ap (λ n. leb 1 n && not (is_some s.rule_limit || free)) (len-map_values (map_rule f) x.parts.rules)
 
   -- ---- one instruction, and the end of a CIE's initial instructions
 

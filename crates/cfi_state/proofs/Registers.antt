@@ -1,11 +1,11 @@
 -- Lists of registers with their rules, and the maps that they stand for.
-use Rattle.std.proofs.Common.{◌≡◌, ◌≢◌, ℕ, Bool, true, false, eqb, Option, Some, None, IsNone, IsSomeAnd, is_some, List, [], ◌∷◌, length, map, refl, sym, ap, ◌∙◌, subst, cond, Result, Ok, Err, ◌↔◌, arith, inl, inr}
+use Rattle.std.proofs.Common.{◌≡◌, ◌≢◌, ℕ, ◌+◌, Bool, true, false, eqb, Option, Some, None, IsNone, IsSomeAnd, is_some, List, [], ◌∷◌, ◌++◌, length, map, get_or, refl, sym, ap, ◌∙◌, subst, cond, Result, Ok, Err, ◌↔◌, arith, inl, inr, ◌<◌, ◌≤◌, take, ◌⊎◌, IfErr, OnOk, OnErr}
 use Rattle.std.proofs.Math.ListN.{set}
-use Rattle.std.proofs.lemmas.List.{map-set, length-map}
+use Rattle.std.proofs.lemmas.List.{map-set, map-append, length-map, length-take-le}
 use Rattle.std.proofs.lemmas.List.Elements.{All-head, All-tail}
 use Rattle.std.proofs.lemmas.List.Sorted.{IsPermutation-sym, IsPermutation-insert, IsPermutation-remove, IsPermutation-map}
 use Rattle.std.proofs.lemmas.Option.{slice_get_within, get_or_from_slice_get, slice_get-map}
-use Rattle.std.proofs.lemmas.Bool.{cases_lt}
+use Rattle.std.proofs.lemmas.Bool.{cases_lt, false≢true}
 use Rattle.std.proofs.lemmas.Bool.Decides.{nat_tests}
 use Rattle.std.specs.Option.{option_map}
 use Rattle.std.specs.Ordering.{nat_cmp, eq_by_cmp}
@@ -17,16 +17,16 @@ use Rattle.std.specs.List.Sorted.{IsPermutation, IsStrictlySortedBy}
 use Rattle.std.specs.FinMap.{nat_cmp-IsAntisymmetric, find, get, insert, remove, contains_key, get-from_entries, len}
 use Rattle.cfi_read_core.specs.declared.common.Register.{Register}
 use Rattle.cfi_read_core.specs.declared.error.Error.{Error}
-use Rattle.cfi_read_core.specs.declared.error.Error.TheVariants.{TooManyRegisterRules}
+use Rattle.cfi_read_core.specs.declared.error.Error.TheVariants.{TooManyRegisterRules, OutOfMemory}
 use Rattle.cfi_state.specs.declared.table.rules.RegisterRule.{RegisterRule}
 use Rattle.cfi_state.specs.declared.storage.Why.{Why}
 use Rattle.cfi_state.specs.declared.storage.Why.TheVariants.{Full, Memory}
 use Rattle.cfi_state.specs.Outcome.{Performs}
 use Rattle.cfi_state.specs.Refusal.{refusal_for}
-use Rattle.cfi_state.specs.Limit.{IsAtLimit}
+use Rattle.cfi_state.specs.Limit.{IsAtLimit, IsWithinLimit}
 use Rattle.cfi_state.specs.ProgramSettings.{is_at_limit}
 use Rattle.cfi_state.specs.Machine.{Rules}
-use Rattle.cfi_state.specs.Rules.{numbered_pair, rules_of, map_set_rule, IsDistinctRegisters, IsRising, BelongsAt, AddsRule}
+use Rattle.cfi_state.specs.Rules.{numbered_pair, rules_of, map_set_rule, IsDistinctRegisters, IsRising, BelongsAt, AddsRule, AddsRules}
 use Rattle.cfi_state.proofs.Entries.{find_at, from_entries-set, from_entries-permuted, from_entries-without, remove-absent, len-from_entries}
 use Rattle.cfi_state.proofs.Rising.{distinct-from_rising, rising-inserted}
 
@@ -107,6 +107,34 @@ at_limit-true (Some most) items at = let same : most ≡ length items = cc in gr
 pub at_limit-false : {A : Type 0} (limit : Option ℕ) (items : List A) → ¬ IsAtLimit limit items → is_at_limit limit (length items) ≡ false
 at_limit-false None items below = refl
 at_limit-false (Some most) items below = let other : ¬ (length items ≡ most) = λ e. below (ap Some (sym e)) in grind (arith, nat_tests)
+
+-- a list takes each item of one that is no longer than its limit, but for lack of memory
+pub fill-refused : {A : Type 0} (limit : Option ℕ) (items held : List A) (index : ℕ) (why : Why) → IsWithinLimit limit items → held ≡ take index items → index < length items
+    → (why ≡ Full (record {})) ↔ IsAtLimit limit held → (why ≡ Memory → IsNone limit)
+    → (refusal_for why TooManyRegisterRules ≡ OutOfMemory) × IsNone limit × (1 ≤ length items)
+fill-refused limit items held index (Full _) within is before full memory =
+    let room : length items ≤ length held = subst (λ l. IsWithinLimit l items) (full.0 refl) within in
+    absurd (omega (arith, room, ap length is, length-take-le index items (omega arith)))
+fill-refused limit items held index Memory within is before full memory = (refl, memory refl, omega arith)
+
+pub limited : (limit : Option ℕ) → is_some limit ≡ true → IsNone limit → ⊥
+limited limit some none = false≢true (sym none ∙ some)
+
+-- what was written over a list rises as what it was written from, or is empty
+pub rising-filled : {T : Type 0} (new pairs items : List (Register × RegisterRule T)) (result : Result (Unit {0}) Error) → pairs ≡ items → IsRising items
+    → OnOk result (new ≡ pairs) → OnErr result (new ≡ []) → IsRising new
+rising-filled new pairs items (Ok _) same rising ok err = subst IsRising (sym (ok ∙ same)) rising
+rising-filled new pairs items (Err _) same rising ok err = rising-empty new err
+
+module _ {T : Type 0} (pairs items : List (Register × RegisterRule T)) (rules : Rules T) (limit : Option ℕ) (copies_free : Bool) where
+  pub copy-refused : (result : Result (Unit {0}) Error) → rules_of items ≡ rules → IsRising items → pairs ≡ items → (copies_free ≡ false) ⊎ (IsNone limit → ⊥)
+      → IfErr result (λ error. (error ≡ OutOfMemory) × IsNone limit × (1 ≤ length pairs))
+      → IfErr result (λ error. (error ≡ OutOfMemory) × AddsRules limit copies_free rules)
+  copy-refused (Ok _) shows rising same takes memory = tt
+  copy-refused (Err error) shows rising same (inr limited) memory = absurd (limited memory.1)
+  copy-refused (Err error) shows rising same (inl takes) memory =
+      let count = sym (ap len shows) ∙ len-rules_of items (distinct-from_rising items rising) in
+      (memory.0, (memory.1, takes, omega (arith, count, ap length same, memory.2)))
 
 module _ {T : Type 0} (limit : Option ℕ) (pairs : List (Register × RegisterRule T)) (rising : IsRising pairs) (register : Register) (rule : RegisterRule T) where
   distinct : IsDistinctRegisters pairs

@@ -2,14 +2,11 @@
 --     ContextState      its rows, and the rules that the CIE's initial instructions ended with
 --     machine_state location x      the state of the machine, which keeps no addresses of rows
 --     empty_context, context_remember, context_restore, context_end_of_cie      what the operations do
-use Rattle.std.specs.Prelude.{◌≡◌, ℕ, ◌+◌, ◌≤◌, Option, Some, None, List, [], ◌∷◌, length, map, reverse, nat_le, ◌&&◌, cond, ◌⊎◌, Bool, false, IsNone, Result, Ok, Err}
-use Rattle.std.specs.FinMap.{empty, insert, get, len}
-use Rattle.cfi_read_core.specs.declared.common.Register.{Register}
+use Rattle.std.specs.Prelude.{◌≡◌, ℕ, ◌+◌, ◌≤◌, Option, Some, None, List, [], ◌∷◌, ◌++◌, length, map, take, reverse, nat_le, ◌&&◌, cond, ◌⊎◌, Bool, false, IsNone, Result, Ok, Err}
+use Rattle.std.specs.FinMap.{get, len}
 use Rattle.cfi_read_core.specs.declared.error.Error.{Error}
 use Rattle.cfi_read_core.specs.declared.error.Error.TheVariants.{StackFull, PopWithEmptyStack, CfiInstructionInInvalidContext}
 use Rattle.cfi_state.specs.declared.table.rules.RegisterRule.{RegisterRule}
-use Rattle.cfi_state.specs.declared.table.context.InitialRules.{InitialRules}
-use Rattle.cfi_state.specs.declared.table.context.InitialRules.TheVariants.{NotYet, NoRule, OneRule, AtTheBottom}
 use Rattle.cfi_state.specs.Limit.{HasRoomFor}
 use Rattle.cfi_state.specs.ProgramSettings.{is_at_limit}
 use Rattle.cfi_state.specs.Machine.{Rules, State, copies_held}
@@ -36,49 +33,31 @@ module _ {T : Type 0} where
 
   -- ---- how the fields are seen
 
-  -- the first row, and a blank one where there is none
-  abbrev pub first_row : List (Row T) → Row T
-  first_row [] = empty_row
-  first_row (row ∷ rows) = row
+  -- the rules that the CIE's initial instructions ended with, once it has
+  abbrev pub initial_of : Rules T → Bool → Option (Rules T)
+  initial_of rules has_ended_cie = cond has_ended_cie (Some rules) None
+
+  -- the first rows of the stack are the remembered ones
+  abbrev pub context_of : Row T → List (Row T) → ℕ → Rules T → Bool → ContextState T
+  context_of row rows depth rules has_ended_cie =
+      record { row = row; remembered = reverse (take depth rows); initial_rules = initial_of rules has_ended_cie }
+
+  -- the current row and the initial rules count among those that the limit bounds
+  abbrev pub IsContext : Option ℕ → List (Row T) → ℕ → Rules T → Bool → Type 0
+  IsContext limit rows depth rules has_ended_cie =
+      (depth ≤ length rows) × HasRoomFor limit (1 + depth + copies_held (initial_of rules has_ended_cie))
+
+  -- the rows in front of the place are as before
+  abbrev pub IsSameBelow : ℕ → List (Row T) → List (Row T) → Type 0
+  IsSameBelow place old new = (place ≤ length new) × (take place new ≡ take place old)
+
+  -- the row is the one after the first `depth` rows
+  abbrev pub IsKept : List (Row T) → ℕ → Row T → List (Row T) → ℕ → Type 0
+  IsKept old depth row new deeper = (deeper ≡ depth + 1) × (deeper ≤ length new) × (take deeper new ≡ take depth old ++ row ∷ [])
 
   abbrev pub later_rows : List (Row T) → List (Row T)
   later_rows [] = []
   later_rows (row ∷ rows) = rows
-
-  -- the rows of a stack but for the copy that holds the initial rules
-  abbrev pub shown_rows : List (Row T) → InitialRules T → List (Row T)
-  shown_rows rows AtTheBottom = later_rows rows
-  shown_rows rows NotYet = rows
-  shown_rows rows NoRule = rows
-  shown_rows rows (OneRule register rule) = rows
-
-  -- the rules that the CIE's initial instructions ended with
-  abbrev pub initial_of : List (Row T) → InitialRules T → Option (Rules T)
-  initial_of rows NotYet = None
-  initial_of rows NoRule = Some empty
-  initial_of rows (OneRule register rule) = Some (insert empty register.0 rule)
-  initial_of rows AtTheBottom = Some (first_row rows).parts.rules
-
-  abbrev pub context_of : Row T → List (Row T) → InitialRules T → ContextState T
-  context_of row rows kept = record { row = row; remembered = reverse (shown_rows rows kept); initial_rules = initial_of rows kept }
-
-  -- only a copy of two rules or more is kept at the bottom
-  abbrev pub IsKept : List (Row T) → InitialRules T → Type 0
-  IsKept rows AtTheBottom = (1 ≤ length rows) × (2 ≤ len (first_row rows).parts.rules)
-  IsKept rows NotYet = Unit {0}
-  IsKept rows NoRule = Unit {0}
-  IsKept rows (OneRule register rule) = Unit {0}
-
-  -- the current row counts among those that the limit bounds
-  abbrev pub IsContext : Option ℕ → List (Row T) → InitialRules T → Type 0
-  IsContext limit rows kept = HasRoomFor limit (length rows + 1) × IsKept rows kept
-
-  -- how a map of rules is kept
-  abbrev pub KeepsRules : Rules T → InitialRules T → Type 0
-  KeepsRules rules NotYet = ⊥
-  KeepsRules rules NoRule = rules ≡ empty
-  KeepsRules rules (OneRule register rule) = rules ≡ insert empty register.0 rule
-  KeepsRules rules AtTheBottom = 2 ≤ len rules
 
   -- ---- what the operations do
 
@@ -111,9 +90,6 @@ module _ {T : Type 0} where
   context_end_of_cie limit context =
       cond (nat_le 2 (len context.row.parts.rules) && is_at_limit limit (context_rows_held context)) (Err StackFull)
       (Ok (record context { initial_rules = Some context.row.parts.rules }))
-
-  abbrev pub AddsInitialRow : Option ℕ → Bool → Rules T → Type 0
-  AddsInitialRow limit copies_free rules = (2 ≤ len rules) × AddsRow limit copies_free
 
   abbrev pub initial_rule_in : Option (Rules T) → ℕ → Result (Option (RegisterRule T)) Error
   initial_rule_in None register = Err CfiInstructionInInvalidContext

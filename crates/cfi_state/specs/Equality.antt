@@ -10,8 +10,6 @@ use Rattle.cfi_state.specs.declared.table.rules.CfaRule.{CfaRule}
 use Rattle.cfi_state.specs.declared.table.rules.CfaRule.TheVariants as cfa
 use Rattle.cfi_state.specs.declared.table.rules.RegisterRule.{RegisterRule}
 use Rattle.cfi_state.specs.declared.table.rules.RegisterRule.TheVariants as rule
-use Rattle.cfi_state.specs.declared.table.context.InitialRules.{InitialRules}
-use Rattle.cfi_state.specs.declared.table.context.InitialRules.TheVariants.{NotYet, NoRule, OneRule, AtTheBottom}
 use Rattle.cfi_state.specs.Machine.{Rules, Parts}
 use Rattle.cfi_state.specs.Row.{Row}
 use Rattle.cfi_state.specs.Context.{ContextState}
@@ -44,14 +42,6 @@ module _ {T : Type 0} (eq : T → T → Bool) where
   rule_eq rule.Architectural rule.Architectural = true
   rule_eq (rule.Constant m) (rule.Constant n) = m == n
   rule_eq _ _ = false
-
-  -- the initial rules are kept alike, and with equal rules where it is one
-  abbrev pub kept_eq : InitialRules T → InitialRules T → Bool
-  kept_eq NotYet NotYet = true
-  kept_eq NoRule NoRule = true
-  kept_eq (OneRule r x) (OneRule s y) = (r.0 == s.0) && rule_eq x y
-  kept_eq AtTheBottom AtTheBottom = true
-  kept_eq _ _ = false
 
   abbrev pub rules_eq : Rules T → Rules T → Bool
   rules_eq = map_eq rule_eq

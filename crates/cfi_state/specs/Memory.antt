@@ -1,7 +1,7 @@
 -- Where an instruction may allocate: only where a list grows that no limit bounds, or where a row is copied and copies take memory.
 --     may_allocate_at s copies_free x i      whether the instruction i may allocate in the state x
 --     may_allocate_at_end s copies_free x      whether the end of a CIE's initial instructions may
-use Rattle.std.specs.Prelude.{ℕ, Bool, false, not, ◌&&◌, nat_le, Option, Some, None, is_some}
+use Rattle.std.specs.Prelude.{ℕ, Bool, false, not, ◌&&◌, ◌||◌, nat_le, Option, Some, None, is_some}
 use Rattle.std.specs.FinMap as map
 use Rattle.cfi_parts.specs.declared.instruction.CallFrameInstruction.{CallFrameInstruction}
 use Rattle.cfi_state.specs.Actions.{Action, gives_rule, restores_rule, toggles_sign_state, remembers_state, action}
@@ -32,6 +32,6 @@ module _ {T : Type 0} where
   abbrev pub may_allocate_at : Setting → Bool → State T → CallFrameInstruction T → Bool
   may_allocate_at s copies_free x i = may_allocate_for s copies_free x (action i)
 
-  -- two initial rules or more are kept in a row of the stack
+  -- the initial rules are copied to a list that there is
   abbrev pub may_allocate_at_end : Setting → Bool → State T → Bool
-  may_allocate_at_end s copies_free x = nat_le 2 (map.len x.parts.rules) && copies_row s copies_free
+  may_allocate_at_end s copies_free x = nat_le 1 (map.len x.parts.rules) && not (is_some s.rule_limit || copies_free)

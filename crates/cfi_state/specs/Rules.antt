@@ -3,7 +3,7 @@
 --     IsDistinctRegisters pairs      no register stands twice
 --     IsRising pairs      the registers strictly rise
 --     BelongsAt pairs place register      the register stands nowhere, and a pair of it belongs at the place
-use Rattle.std.specs.Prelude.{◌≡◌, ℕ, ◌<◌, ◌≤◌, false, List, map, length, slice_index_or, Option, IsNone, Result, Ok, Err, not, ◌&&◌, cond}
+use Rattle.std.specs.Prelude.{◌≡◌, ℕ, ◌<◌, ◌≤◌, Bool, false, List, map, length, slice_index_or, Option, IsNone, Result, Ok, Err, not, ◌&&◌, cond}
 use Rattle.std.specs.List.{IsDistinct}
 use Rattle.std.specs.List.Sorted.{IsStrictlySortedBy}
 use Rattle.std.specs.Ordering.{nat_cmp, eq_by_cmp}
@@ -43,3 +43,7 @@ module _ {T : Type 0} where
   -- a rule may run out of memory only where no limit bounds the list and the register has no rule yet
   abbrev pub AddsRule : Option ℕ → Rules T → ℕ → Type 0
   AddsRule limit rules register = IsNone limit × (contains_key rules register ≡ false)
+
+  -- it may run out of memory for a copy of rules in a list that there is only where no limit bounds it, a copy takes memory and there is a rule
+  abbrev pub AddsRules : Option ℕ → Bool → Rules T → Type 0
+  AddsRules limit copies_free rules = IsNone limit × (copies_free ≡ false) × (1 ≤ len rules)

@@ -21,6 +21,8 @@ mod instructions;
 #[cfg(test)]
 mod reads;
 #[cfg(test)]
+mod register_order;
+#[cfg(test)]
 mod rows;
 #[cfg(test)]
 mod searches;

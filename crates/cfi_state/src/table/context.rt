@@ -1,27 +1,18 @@
 //! The state of an unwind that is kept from one entry to the next.
-ghost use Rattle.std.specs.Prelude.{◌≡◌, ◌≤◌, None, IfOk, IfErr, false, reverse};
+ghost use Rattle.std.specs.Prelude.{◌≡◌, ◌≢◌, ◌<◌, ◌≤◌, ◌∷◌, ◌++◌, [], Some, None, IfOk, OnOk, IfErr, OnErr, IsSomeAnd, false, length, reverse, slice_get, slice_set};
 ghost use Rattle.std.specs.Option.{option_eq};
 ghost use Rattle.std.specs.Cmp.{partial_equiv_from_equiv};
 ghost use Rattle.cfi_read_core.specs.Readers.{map_ok};
-ghost use Rattle.cfi_state.specs.Context.{KeepsRules};
-ghost use Rattle.cfi_state.specs.Equality.{kept_eq};
+ghost use Rattle.cfi_state.specs.Row.{with_parts};
+ghost use Rattle.cfi_state.specs.Context.{AddsRow, IsKept, IsSameBelow};
 
 use super::row::UnwindTableRow;
 use super::rules::{CfaRule, RegisterRule, RegisterRuleMap, refusal_of};
-use crate::storage::{ArrayLike, CopyList, UnwindContextStorage};
+use crate::storage::{ArrayLike, UnwindContextStorage};
 use cfi_read_core::{Error, ReaderOffset, Register, Result, StoreOnHeap};
 use std::alloc::Global;
 use std::fmt::{Debug, Formatter, Write};
 use std::marker::Model;
-
-/// Where the rules that a CIE's initial instructions ended with are kept.
-#[derive(Clone, Copy, Debug, PartialEq, Eq)]
-enum InitialRules<T> {
-    NotYet,
-    NoRule,
-    OneRule(Register, RegisterRule<T>),
-    AtTheBottom,
-}
 
 /// The state of an unwind: the current row, the remembered rows and the CIE's final rules.
 ///
@@ -29,18 +20,21 @@ enum InitialRules<T> {
 #[derive(Drop)]
 pub struct UnwindContext<T: ReaderOffset, S: UnwindContextStorage<T> = StoreOnHeap> {
     row: UnwindTableRow<T, S::Rules>,
-    // The remembered rows, the last one last. Below them stands a copy of the row that the CIE's initial instructions
-    // ended with, where it has two rules or more.
+    // The first `depth` rows are the remembered ones, the last one last. The room of those after them is used again.
     stack: S::Stack,
-    initial_rules: InitialRules<T>,
+    depth: usize,
+    // What the CIE's initial instructions ended with, once it has. Two rules or more count as a row of the stack.
+    initial_rules: RegisterRuleMap<T, S::Rules>,
+    has_ended_cie: bool,
 }
 
 impl<T: ReaderOffset, S: UnwindContextStorage<T>> Debug for UnwindContext<T, S> {
     fn fmt<W: Write>(&self, f: &mut Formatter<W>) -> std::fmt::Result {
+        let initial_rules = self.has_ended_cie.then_some(&self.initial_rules);
         f.debug_struct("UnwindContext")
             .field("row", &self.row)
-            .field("stack", &self.stack.as_slice())
-            .field("initial_rules", &self.initial_rules)
+            .field("remembered", &self.remembered())
+            .field("initial_rules", &initial_rules)
             .finish()
     }
 }
@@ -54,9 +48,9 @@ impl<T: ReaderOffset, S: UnwindContextStorage<T>> Model for UnwindContext<T, S> 
 
     ghost coded = { Prim.hlevel (codes, T.code, map.code) };
 
-    ghost view = { λ context. context_of context.row (S.Stack.items context.stack) context.initial_rules };
+    ghost view = { λ context. context_of context.row (S.Stack.items context.stack) context.depth context.initial_rules context.has_ended_cie };
 
-    ghost invariant = { λ context. IsContext S.Stack.limit (S.Stack.items context.stack) context.initial_rules };
+    ghost invariant = { λ context. IsContext S.Stack.limit (S.Stack.items context.stack) context.depth context.initial_rules context.has_ended_cie };
 }
 
 impl<T: ReaderOffset> UnwindContext<T> {
@@ -76,9 +70,9 @@ impl<T: ReaderOffset, S: UnwindContextStorage<T>> UnwindContext<T, S> {
     ghost use Rattle.cfi_state.specs.ProgramSettings.{is_at_limit};
     ghost use Rattle.cfi_state.specs.Machine.{copies_held};
     ghost use Rattle.cfi_state.specs.Outcome.{Performs};
-    ghost use Rattle.cfi_state.specs.Rules.{map_set_rule, AddsRule};
+    ghost use Rattle.cfi_state.specs.Rules.{map_set_rule, AddsRule, AddsRules};
     ghost use Rattle.cfi_state.specs.Row.{at_start, at_end, row_with_cfa, with_args_size, row_with_rules};
-    ghost use Rattle.cfi_state.specs.Context.{empty_context, with_row, context_rows_held, context_remember, context_restore, context_end_of_cie, initial_rule, AddsRow, AddsInitialRow};
+    ghost use Rattle.cfi_state.specs.Context.{empty_context, with_row, context_rows_held, context_remember, context_restore, context_end_of_cie, initial_rule};
 
     /// A context over the lists of `S`. `OutOfMemory` where their room cannot be allocated.
     pub fn new_in(alloc: Global) -> Result<Self>
@@ -88,7 +82,9 @@ impl<T: ReaderOffset, S: UnwindContextStorage<T>> UnwindContext<T, S> {
         Ok(UnwindContext {
             row: UnwindTableRow::make(alloc)?,
             stack: S::Stack::make(alloc)?,
-            initial_rules: InitialRules::NotYet,
+            depth: 0,
+            initial_rules: RegisterRuleMap::make(alloc)?,
+            has_ended_cie: false,
         })
     }
 
@@ -97,10 +93,13 @@ impl<T: ReaderOffset, S: UnwindContextStorage<T>> UnwindContext<T, S> {
         ensures ok { IfOk result (λ context. context ≡ self.now) }
         ensures err { IfErr result (λ error. error ≡ Error.OutOfMemory) }
     {
+        let stack = copy_of::<T, S>(self.remembered(), alloc)?;
         Ok(UnwindContext {
             row: self.row.try_clone()?,
-            stack: copy_of::<T, S>(self.stack.as_slice(), alloc)?,
-            initial_rules: self.initial_rules,
+            depth: stack.as_slice().len(),
+            stack,
+            initial_rules: self.initial_rules.copy()?,
+            has_ended_cie: self.has_ended_cie,
         })
     }
 
@@ -109,8 +108,8 @@ impl<T: ReaderOffset, S: UnwindContextStorage<T>> UnwindContext<T, S> {
         ensures { self.new ≡ empty_context }
     {
         self.row.reset();
-        self.stack.clear();
-        self.initial_rules = InitialRules::NotYet;
+        self.depth = 0;
+        self.has_ended_cie = false;
     }
 
     pub(crate) fn row(&self) -> &UnwindTableRow<T, S::Rules>
@@ -158,13 +157,22 @@ impl<T: ReaderOffset, S: UnwindContextStorage<T>> UnwindContext<T, S> {
         self.row.clear_rule(register);
     }
 
+    // How many rows of the stack the initial rules count as.
+    fn copies_held(&self) -> usize
+        ensures { result ≡ copies_held self.now.initial_rules }
+    {
+        if self.has_ended_cie && 2 <= self.initial_rules.pairs().len() {
+            return 1;
+        }
+        0
+    }
+
     // Whether the stack has no room for another row.
     fn is_full(&self) -> bool
         ensures { result ≡ is_at_limit S.Stack.limit (context_rows_held self.now) }
     {
-        let rows = self.stack.as_slice().len();
         match S::Stack::limit() {
-            Some(limit) => rows == limit - 1,
+            Some(limit) => self.depth + self.copies_held() == limit - 1,
             None => false,
         }
     }
@@ -177,71 +185,34 @@ impl<T: ReaderOffset, S: UnwindContextStorage<T>> UnwindContext<T, S> {
         if self.is_full() {
             return Err(Error::StackFull);
         }
-        let copy = self.row.try_clone()?;
-        let Err(refused) = self.stack.try_push(copy) else {
-            return Ok(());
-        };
-        Err(refusal_of(refused, Error::StackFull))
-    }
-
-    // How many rows at the stack's bottom are no remembered ones.
-    fn hidden_rows(&self) -> usize
-        ensures { result ≡ copies_held self.now.initial_rules }
-    {
-        match self.initial_rules {
-            InitialRules::NotYet => 0,
-            InitialRules::NoRule => 0,
-            InitialRules::OneRule(_, _) => 0,
-            InitialRules::AtTheBottom => 1,
-        }
+        self.depth = keep_row::<T, S>(&mut self.stack, self.depth, &self.row)?;
+        Ok(())
     }
 
     // Brings the last remembered row back, but for its addresses (DWARF 5 section 6.4.2.4).
     pub(crate) fn restore(&mut self) -> Result<()>
         ensures { Performs ⊥ (context_restore self.old) self.old self.new result }
     {
-        if self.stack.as_slice().len() == self.hidden_rows() {
+        if self.depth == 0 {
             return Err(Error::PopWithEmptyStack);
         }
-        match self.stack.pop() {
-            Some(mut row) => {
-                row.take_addresses(&self.row);
-                self.row = row;
-                Ok(())
-            }
-            None => Err(Error::PopWithEmptyStack),
-        }
+        let last = self.depth - 1;
+        bring_back::<T, S>(&mut self.row, &mut self.stack, last);
+        self.depth = last;
+        Ok(())
     }
 
     // Keeps the rules that the CIE's initial instructions ended with.
     pub(crate) fn save_initial_rules(&mut self) -> Result<()>
         requires { self.old.initial_rules ≡ None }
-        ensures { Performs (AddsInitialRow S.Stack.limit S.Rules.copies_free self.old.row.parts.rules)
+        ensures { Performs (AddsRules S.Rules.limit S.Rules.copies_free self.old.row.parts.rules)
             (context_end_of_cie S.Stack.limit self.old) self.old self.new result }
     {
-        let kept = kept_for(self.row.rules());
-        if let InitialRules::AtTheBottom = kept {
-            return self.save_at_the_bottom();
-        }
-        self.initial_rules = kept;
-        Ok(())
-    }
-
-    // Two rules or more take a row of the stack.
-    fn save_at_the_bottom(&mut self) -> Result<()>
-        requires first { self.old.initial_rules ≡ None }
-        requires two_or_more { 2 ≤ map.len self.old.row.parts.rules }
-        ensures { Performs (AddsInitialRow S.Stack.limit S.Rules.copies_free self.old.row.parts.rules)
-            (context_end_of_cie S.Stack.limit self.old) self.old self.new result }
-    {
-        if self.is_full() {
+        if 2 <= self.row.rules().pairs().len() && self.is_full() {
             return Err(Error::StackFull);
         }
-        let copy = self.row.try_clone()?;
-        if let Err(refused) = self.stack.try_insert(0, copy) {
-            return Err(refusal_of(refused, Error::StackFull));
-        }
-        self.initial_rules = InitialRules::AtTheBottom;
+        self.initial_rules.copy_from(self.row.rules())?;
+        self.has_ended_cie = true;
         Ok(())
     }
 
@@ -249,12 +220,10 @@ impl<T: ReaderOffset, S: UnwindContextStorage<T>> UnwindContext<T, S> {
     pub(crate) fn initial_rule(&self, register: Register) -> Result<Option<RegisterRule<T>>>
         ensures { result ≡ initial_rule self.now register.0 }
     {
-        match self.initial_rules {
-            InitialRules::NotYet => Err(Error::CfiInstructionInInvalidContext),
-            InitialRules::NoRule => Ok(None),
-            InitialRules::OneRule(only, rule) => Ok((register == only).then_some(rule)),
-            InitialRules::AtTheBottom => Ok(self.stack.as_slice()[0].register(register)),
+        if !self.has_ended_cie {
+            return Err(Error::CfiInstructionInInvalidContext);
         }
+        Ok(self.initial_rules.get(register))
     }
 }
 
@@ -291,39 +260,85 @@ impl<T: ReaderOffset, S: UnwindContextStorage<T>> UnwindContext<T, S> {
     fn remembered(&self) -> &[UnwindTableRow<T, S::Rules>]
         ensures { reverse result.now ≡ self.now.remembered }
     {
-        let hidden = self.hidden_rows();
-        &self.stack.as_slice()[hidden..]
+        &self.stack.as_slice()[..self.depth]
     }
 
     // Whether both or neither have ended a CIE, with equal rules.
     fn has_initial_rules_of(&self, other: &Self) -> bool
         ensures { result ≡ option_eq (rules_eq T.eq) self.now.initial_rules other.now.initial_rules }
     {
-        if !is_kept_alike(self.initial_rules, other.initial_rules) {
-            return false;
+        if self.has_ended_cie && other.has_ended_cie {
+            return self.initial_rules == other.initial_rules;
         }
-        let InitialRules::AtTheBottom = self.initial_rules else {
-            return true;
-        };
-        let row = &self.stack.as_slice()[0];
-        let others = &other.stack.as_slice()[0];
-        row.rules() == others.rules()
+        self.has_ended_cie == other.has_ended_cie
     }
 }
 
-// Whether two contexts keep the rules in the same place, and the same rule where it is one.
-fn is_kept_alike<T: ReaderOffset>(a: InitialRules<T>, b: InitialRules<T>) -> bool
-    ensures { result ≡ kept_eq T.eq a b }
+// Writes a copy of the row to the stack at the depth, and returns the depth that it then has.
+fn keep_row<T: ReaderOffset, S: UnwindContextStorage<T>>(
+    stack: &mut S::Stack,
+    depth: usize,
+    row: &UnwindTableRow<T, S::Rules>,
+) -> Result<usize>
+    requires within { depth ≤ length (S.Stack.items stack.old) }
+    requires room { S.Stack.limit ≢ Some depth }
+    ensures ok { IfOk result (λ deeper. IsKept (S.Stack.items stack.old) depth row.now (S.Stack.items stack.new) deeper) }
+    ensures err { OnErr result (IsSameBelow depth (S.Stack.items stack.old) (S.Stack.items stack.new)) }
+    ensures memory { IfErr result (λ error. (error ≡ Error.OutOfMemory) × AddsRow S.Stack.limit S.Rules.copies_free) }
 {
-    match a {
-        InitialRules::NotYet => matches!(b, InitialRules::NotYet),
-        InitialRules::NoRule => matches!(b, InitialRules::NoRule),
-        InitialRules::OneRule(register, rule) => match b {
-            InitialRules::OneRule(other, others) => register == other && rule == others,
-            _ => false,
-        },
-        InitialRules::AtTheBottom => matches!(b, InitialRules::AtTheBottom),
+    if depth < stack.as_slice().len() {
+        copy_over::<T, S>(stack, depth, row)?;
+        return Ok(depth + 1);
     }
+    append_copy::<T, S>(stack, row)?;
+    Ok(stack.as_slice().len())
+}
+
+// Writes a copy of the row over the one at the place, in the room that it has.
+fn copy_over<T: ReaderOffset, S: UnwindContextStorage<T>>(
+    stack: &mut S::Stack,
+    place: usize,
+    row: &UnwindTableRow<T, S::Rules>,
+) -> Result<()>
+    requires { place < length (S.Stack.items stack.old) }
+    ensures ok { OnOk result (S.Stack.items stack.new ≡ slice_set (S.Stack.items stack.old) place row.now) }
+    ensures err { OnErr result (IsSameBelow place (S.Stack.items stack.old) (S.Stack.items stack.new)) }
+    ensures memory { IfErr result (λ error. (error ≡ Error.OutOfMemory) × (S.Rules.copies_free ≡ false)) }
+{
+    let rows = stack.as_mut_slice();
+    rows[place].copy_from(row)
+}
+
+// Appends a copy of the row. A function of its own, as each call fills its local of a row's size.
+#[inline(never)]
+fn append_copy<T: ReaderOffset, S: UnwindContextStorage<T>>(
+    stack: &mut S::Stack,
+    row: &UnwindTableRow<T, S::Rules>,
+) -> Result<()>
+    requires { S.Stack.limit ≢ Some (length (S.Stack.items stack.old)) }
+    ensures ok { OnOk result (S.Stack.items stack.new ≡ S.Stack.items stack.old ++ row.now ∷ []) }
+    ensures err { OnErr result (S.Stack.items stack.new ≡ S.Stack.items stack.old) }
+    ensures memory { IfErr result (λ error. (error ≡ Error.OutOfMemory) × AddsRow S.Stack.limit S.Rules.copies_free) }
+{
+    let copy = row.try_clone()?;
+    let Err(refused) = stack.try_push(copy) else {
+        return Ok(());
+    };
+    Err(refusal_of(refused, Error::StackFull))
+}
+
+// Gives the row the parts of the one at the place.
+fn bring_back<T: ReaderOffset, S: UnwindContextStorage<T>>(
+    row: &mut UnwindTableRow<T, S::Rules>,
+    stack: &mut S::Stack,
+    place: usize,
+)
+    requires { place < length (S.Stack.items stack.old) }
+    ensures row { IsSomeAnd (slice_get (S.Stack.items stack.old) place) (λ last. row.new ≡ with_parts row.old last.parts) }
+    ensures stack { IsSameBelow place (S.Stack.items stack.old) (S.Stack.items stack.new) }
+{
+    let rows = stack.as_mut_slice();
+    row.take_parts(&mut rows[place]);
 }
 
 // A list of equal rows.
@@ -342,17 +357,4 @@ fn copy_of<T: ReaderOffset, S: UnwindContextStorage<T>>(
         return Err(Error::OutOfMemory);
     }
     Ok(stack)
-}
-
-// How the rules are kept.
-fn kept_for<T: ReaderOffset, A: ArrayLike<Item = (Register, RegisterRule<T>)>>(
-    rules: &RegisterRuleMap<T, A>,
-) -> InitialRules<T>
-    ensures { KeepsRules rules.now result }
-{
-    match rules.pairs() {
-        [] => InitialRules::NoRule,
-        [pair] => InitialRules::OneRule(pair.0, pair.1),
-        _ => InitialRules::AtTheBottom,
-    }
 }

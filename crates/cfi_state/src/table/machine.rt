@@ -137,8 +137,8 @@ fn change<T: ReaderOffset, S: UnwindContextStorage<T>>(
 }
 
 /// Keeps the rules with which the CIE's initial instructions ended, for `DW_CFA_restore` in the FDE's. `StackFull` where two rules or more
-/// would take one row too many; `OutOfMemory` only where they take a row and the stack has no limit or a row's copy takes
-/// memory. A refusal leaves the context as it is.
+/// would take one row too many; `OutOfMemory` only where there is a rule, in a list that memory alone bounds. A refusal
+/// leaves the context as it is.
 pub fn end_cie<T: ReaderOffset, S: UnwindContextStorage<T>>(
     context: &mut UnwindContext<T, S>,
 ) -> Result<()>

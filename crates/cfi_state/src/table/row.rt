@@ -1,5 +1,5 @@
 //! A row of an unwind table.
-ghost use Rattle.std.specs.Prelude.{◌≡◌, ◌<◌, ◌≤◌, ◌↔◌, false, IsTrue, IfOk, IfErr, IsNone};
+ghost use Rattle.std.specs.Prelude.{◌≡◌, ◌<◌, ◌≤◌, ◌↔◌, false, IsTrue, IfOk, OnOk, IfErr, IsNone};
 ghost use Rattle.std.specs.Cmp.{partial_equiv_from_equiv};
 ghost use Rattle.cfi_read_core.specs.Readers.{map_ok};
 
@@ -130,12 +130,13 @@ impl<T: ReaderOffset, A: ArrayLike<Item = (Register, RegisterRule<T>)>> UnwindTa
         self.end_address = address;
     }
 
-    // Puts the row where `other` is.
-    pub(crate) fn take_addresses(&mut self, other: &Self)
-        ensures { self.new ≡ with_parts other.now self.old.parts }
+    // Takes the parts of another row, and leaves it some rules. It takes no memory.
+    pub(crate) fn take_parts(&mut self, other: &mut Self)
+        ensures { self.new ≡ with_parts self.old other.old.parts }
     {
-        self.start_address = other.start_address;
-        self.end_address = other.end_address;
+        self.saved_args_size = other.saved_args_size;
+        self.cfa = other.cfa;
+        self.registers.take_from(&mut other.registers);
     }
 
     pub(crate) fn set_cfa(&mut self, cfa: CfaRule<T>)
@@ -213,6 +214,19 @@ impl<T: ReaderOffset, A: ArrayLike<Item = (Register, RegisterRule<T>)> + CopyLis
             cfa: self.cfa,
             registers: self.registers.copy()?,
         })
+    }
+
+    // Becomes equal to another row, in its own room. `OutOfMemory` only where a copy of the rules takes memory.
+    pub(crate) fn copy_from(&mut self, other: &Self) -> Result<()>
+        ensures ok { OnOk result (self.new ≡ other.now) }
+        ensures err { IfErr result (λ error. (error ≡ Error.OutOfMemory) × (A.copies_free ≡ false)) }
+    {
+        self.registers.copy_from(&other.registers)?;
+        self.start_address = other.start_address;
+        self.end_address = other.end_address;
+        self.saved_args_size = other.saved_args_size;
+        self.cfa = other.cfa;
+        Ok(())
     }
 }
 

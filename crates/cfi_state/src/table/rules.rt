@@ -1,12 +1,13 @@
 //! The rules of a row.
-ghost use Rattle.std.specs.Prelude.{◌≡◌, ◌≢◌, ◌<◌, false, All, IfOk, IfErr, IfSome, IfNone, IsSomeAnd, slice_get, length, pos};
+ghost use Rattle.std.specs.Prelude.{◌≡◌, ◌<◌, ◌≤◌, [], false, IfOk, OnOk, IfErr, OnErr, IsNone, IsSomeAnd, slice_get, length, pos};
 ghost use Rattle.cfi_state.specs.declared.table.rules.CfaRule.TheVariants.{RegisterAndOffset};
 ghost use Rattle.cfi_state.specs.declared.table.rules.RegisterRule.TheVariants.{Undefined};
 ghost use Rattle.std.specs.Iterator.{YieldsFirstRef, item_count};
 ghost use Rattle.std.specs.Cmp.{partial_equiv_from_equiv};
 ghost use Rattle.std.specs.FinMap.{get};
+ghost use Rattle.cfi_state.specs.Limit.{IsWithinLimit};
 ghost use Rattle.cfi_state.specs.Refusal.{refusal_for};
-ghost use Rattle.cfi_state.specs.Rules.{rules_of, IsDistinctRegisters, IsRising, BelongsAt};
+ghost use Rattle.cfi_state.specs.Rules.{rules_of, IsDistinctRegisters, IsRising, BelongsAt, AddsRules};
 ghost use Rattle.cfi_state.specs.Equality.{is_within, rule_eq, rules_eq};
 ghost use Rattle.cfi_state.specs.EqualityLaws.{rules_equiv};
 
@@ -177,6 +178,18 @@ impl<T: ReaderOffset, A: ArrayLike<Item = (Register, RegisterRule<T>)>> Register
     {
         self.pairs.clear();
     }
+
+    // Takes the rules of another map, and leaves it some. It takes no memory: lists that grow are exchanged, others
+    // written over.
+    pub(crate) fn take_from(&mut self, other: &mut Self)
+        ensures { self.new ≡ other.old }
+    {
+        if A::limit().is_none() {
+            std::mem::swap(&mut self.pairs, &mut other.pairs);
+            return;
+        }
+        let _filled = fill(&mut self.pairs, other.pairs.as_slice());
+    }
 }
 
 impl<T: ReaderOffset, A: ArrayLike<Item = (Register, RegisterRule<T>)> + CopyList> RegisterRuleMap<
@@ -191,6 +204,41 @@ impl<T: ReaderOffset, A: ArrayLike<Item = (Register, RegisterRule<T>)> + CopyLis
             pairs: self.pairs.copy()?,
         })
     }
+
+    // Takes the rules of another map in place of its own, in its own room. `OutOfMemory` only where memory alone bounds the
+    // list, copies take memory and there is a rule.
+    pub(crate) fn copy_from(&mut self, other: &Self) -> Result<()>
+        ensures ok { OnOk result (self.new ≡ other.now) }
+        ensures err { IfErr result (λ error. (error ≡ Error.OutOfMemory) × AddsRules A.limit A.copies_free other.now) }
+    {
+        // a push may allocate where a copy takes none
+        if A::copies_free() && A::limit().is_none() {
+            self.pairs = other.pairs.copy()?;
+            return Ok(());
+        }
+        fill(&mut self.pairs, other.pairs.as_slice())
+    }
+}
+
+// Writes the pairs over those of a list. A refusal leaves the list empty.
+fn fill<T: ReaderOffset, A: ArrayLike<Item = (Register, RegisterRule<T>)>>(
+    list: &mut A,
+    pairs: &[(Register, RegisterRule<T>)],
+) -> Result<()>
+    requires { IsWithinLimit A.limit pairs.now }
+    ensures ok { OnOk result (A.items list.new ≡ pairs.now) }
+    ensures err { OnErr result (A.items list.new ≡ []) }
+    ensures memory { IfErr result (λ error. (error ≡ Error.OutOfMemory) × IsNone A.limit × (1 ≤ length pairs.now)) }
+{
+    list.clear();
+    for pair in pairs {
+        let Err(refused) = list.try_push(*pair) else {
+            continue;
+        };
+        list.clear();
+        return Err(refusal_of(refused, Error::TooManyRegisterRules));
+    }
+    Ok(())
 }
 
 /// The registers that have a rule, each once with its rule. The order is open.

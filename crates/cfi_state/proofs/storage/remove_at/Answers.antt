@@ -1,4 +1,4 @@
-use Rattle.std.proofs.Common.{ap, ◌∙◌, arith, length, ◌-◌, ◌<◌}
+use Rattle.std.proofs.Common.{ap, sym, ◌∙◌, arith, length, ◌-◌, ◌<◌}
 use Rattle.std.proofs.lemmas.Slice.{put_mid-rotated}
 use borrow.Rule.Slice.PartMut.{put_mid}
 use Rattle.std.specs.List.{remove}
