@@ -13,7 +13,7 @@ use std::test::Fail;
 type Slice<'a> = EndianSlice<'a, LittleEndian>;
 
 /// The bytes that the digits write, spaces left out.
-fn bytes_of(alloc: Global, text: &str) -> Result<Vec<u8>, FromHexError> {
+pub(crate) fn bytes_of(alloc: Global, text: &str) -> Result<Vec<u8>, FromHexError> {
     let mut digits = Vec::new(alloc);
     if digits.extend_from_slice(text.as_bytes()).is_err() {
         return Err(FromHexError::OutOfMemory);

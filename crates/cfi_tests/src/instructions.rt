@@ -1,33 +1,50 @@
-//! Call frame instructions, one by one, as the tests of gimli spell them.
-use cfi_parts::instruction::{CallFrameInstruction, CallFrameInstructionIter, UnwindExpression};
-use cfi_parts::pointer::{PointerEncodingParameters, SectionBaseAddresses};
-use cfi_read_core::constants::{DW_EH_PE_sdata4, DwCfa, DwEhPe};
-use cfi_read_core::{EndianSlice, Error, LittleEndian, ReaderOffsetId, Register, Vendor};
+//! Call frame instructions of an FDE, one by one, as the tests of gimli spell them.
+use crate::entries::bytes_of;
+use cfi_read_core::constants::DwCfa;
+use cfi_read_core::{DebugFrameOffset, Error, LittleEndian, ReaderOffsetId, Register, Vendor};
+use gimli_cfi::instruction::{CallFrameInstruction, UnwindExpression};
+use gimli_cfi::pointer::BaseAddresses;
+use gimli_cfi::section::{DebugFrame, UnwindSection};
+use std::alloc::Global;
 use std::test::Fail;
 
 type Instruction = CallFrameInstruction<usize>;
 
-/// The first instruction of the bytes, and the one after it.
-fn first_two(
-    bytes: &[u8],
-    encoding: Option<DwEhPe>,
-    vendor: Vendor,
-) -> (
+/// The first instruction of a program, and the next.
+type FirstTwo = (
     Result<Option<Instruction>, Error>,
     Result<Option<Instruction>, Error>,
-) {
-    let section = EndianSlice::new(bytes, LittleEndian);
-    let bases = SectionBaseAddresses::default();
-    let pointers = PointerEncodingParameters {
-        bases: &bases,
-        func_base: None,
-        address_size: 8,
-        section: &section,
-    };
-    let mut instructions = CallFrameInstructionIter::new(section, encoding, pointers, vendor);
+);
+
+/// A CIE at 0.
+const CIE: &str = "10000000 ffffffff 04000800 017810 0c0708 9001";
+
+/// A CIE at 0 whose FDEs have addresses of four bytes with a sign.
+const ENCODED_CIE: &str = "0d000000 ffffffff 01 7a5200 017810 01 0b";
+
+/// The first instruction of the FDE at the offset, and the one after it.
+fn first_two(bytes: &[u8], offset: usize, vendor: Vendor) -> Result<FirstTwo, Error> {
+    let mut section = DebugFrame::new(bytes, LittleEndian);
+    section.set_vendor(vendor);
+    let bases = BaseAddresses::default();
+    let fde = section.fde_from_offset(&bases, DebugFrameOffset(offset), |from, bases, offset| {
+        from.cie_from_offset(bases, offset)
+    })?;
+    let mut instructions = fde.instructions(&section, &bases);
     let first = instructions.next();
     let second = instructions.next();
-    (first, second)
+    Ok((first, second))
+}
+
+/// The same of a program after a CIE of 20 bytes; the program begins at 44.
+fn of_program(alloc: Global, program: &[u8], vendor: Vendor) -> Result<FirstTwo, Fail> {
+    let mut bytes = bytes_of(alloc, CIE)?;
+    let length = 20u32.saturating_add(program.len() as u32);
+    bytes.extend_from_slice(&length.to_le_bytes())?;
+    let range = bytes_of(alloc, "00000000 0010000000000000 2000000000000000")?;
+    bytes.extend_from_slice(range.as_slice())?;
+    bytes.extend_from_slice(program)?;
+    Ok(first_two(bytes.as_slice(), 20, vendor)?)
 }
 
 #[test]
@@ -87,7 +104,7 @@ fn one_by_one(rt: HostRuntime) -> Result<(), Fail> {
             &[0x0f, 0x0a, 0x0a, 9, 8, 7, 6, 5, 4, 3, 2, 1],
             CallFrameInstruction::DefCfaExpression {
                 expression: UnwindExpression {
-                    offset: 2,
+                    offset: 46,
                     length: 10,
                 },
             },
@@ -97,7 +114,7 @@ fn one_by_one(rt: HostRuntime) -> Result<(), Fail> {
             CallFrameInstruction::ValExpression {
                 register: Register(50),
                 expression: UnwindExpression {
-                    offset: 3,
+                    offset: 47,
                     length: 6,
                 },
             },
@@ -118,7 +135,7 @@ fn one_by_one(rt: HostRuntime) -> Result<(), Fail> {
         ),
     ];
     for (bytes, instruction) in vectors {
-        let read = first_two(bytes, None, Vendor::Default);
+        let read = of_program(rt.alloc(), bytes, Vendor::Default)?;
         assert_eq!(rt; read, (Ok(Some(instruction)), Ok(None)));
     }
     Ok(())
@@ -126,32 +143,55 @@ fn one_by_one(rt: HostRuntime) -> Result<(), Fail> {
 
 #[test]
 fn refusals_end_the_instructions(rt: HostRuntime) -> Result<(), Fail> {
-    let refused: [(&[u8], Error); 5] = [
+    let refused: [(&[u8], Error); 6] = [
         (&[0x3f, 0], Error::UnknownCallFrameInstruction(DwCfa(0x3f))),
-        (&[2], Error::UnexpectedEof(ReaderOffsetId(1))),
-        (&[0x2f, 6], Error::UnexpectedEof(ReaderOffsetId(2))),
+        (&[2], Error::UnexpectedEof(ReaderOffsetId(45))),
+        (&[0x2f, 6], Error::UnexpectedEof(ReaderOffsetId(46))),
         (&[0x2d, 0], Error::UnknownCallFrameInstruction(DwCfa(0x2d))),
         (&[7, 0x80, 0x80, 4, 0], Error::UnsupportedRegister(65536)),
     ];
     for (bytes, refusal) in refused {
-        let read = first_two(bytes, None, Vendor::Default);
+        let read = of_program(rt.alloc(), bytes, Vendor::Default)?;
         assert_eq!(rt; read, (Err(refusal), Ok(None)));
     }
-    let signed = first_two(&[0x2d, 0], None, Vendor::AArch64);
+    let signed = of_program(rt.alloc(), &[0x2d, 0], Vendor::AArch64)?;
     let both = (
         Ok(Some(CallFrameInstruction::NegateRaState)),
         Ok(Some(CallFrameInstruction::Nop)),
     );
     assert_eq!(rt; signed, both);
-    let encoded = first_two(
-        &[1, 0xf0, 0xff, 0xff, 0xff],
-        Some(DW_EH_PE_sdata4),
-        Vendor::Default,
-    );
+    let mut bytes = bytes_of(rt.alloc(), ENCODED_CIE)?;
+    let fde = bytes_of(
+        rt.alloc(),
+        "12000000 00000000 00100000 20000000 00 01 f0ffffff",
+    )?;
+    bytes.extend_from_slice(fde.as_slice())?;
+    let encoded = first_two(bytes.as_slice(), 17, Vendor::Default)?;
     let address = 0xffff_ffff_ffff_fff0;
     assert_eq!(rt;
         encoded,
         (Ok(Some(CallFrameInstruction::SetLoc { address })), Ok(None))
     );
+    Ok(())
+}
+
+#[test]
+fn of_a_cie(rt: HostRuntime) -> Result<(), Fail> {
+    let bytes = bytes_of(rt.alloc(), CIE)?;
+    let section = DebugFrame::new(bytes.as_slice(), LittleEndian);
+    let bases = BaseAddresses::default();
+    let cie = section.cie_from_offset(&bases, DebugFrameOffset(0))?;
+    let mut instructions = cie.instructions(&section, &bases);
+    let cfa = CallFrameInstruction::DefCfa {
+        register: Register(7),
+        offset: 8,
+    };
+    let saved = CallFrameInstruction::Offset {
+        register: Register(16),
+        factored_offset: 1,
+    };
+    assert_eq!(rt; instructions.next(), Ok(Some(cfa)));
+    assert_eq!(rt; instructions.next(), Ok(Some(saved)));
+    assert_eq!(rt; instructions.next(), Ok(None));
     Ok(())
 }

@@ -7,6 +7,8 @@ mod asked;
 #[cfg(test)]
 mod counted;
 #[cfg(test)]
+mod cuts;
+#[cfg(test)]
 mod derives;
 #[cfg(test)]
 mod entries;
@@ -15,13 +17,21 @@ mod errors;
 #[cfg(test)]
 mod faithful;
 #[cfg(test)]
+mod happy_paths;
+#[cfg(test)]
 mod headers;
 #[cfg(test)]
 mod instructions;
 #[cfg(test)]
+mod lists;
+#[cfg(test)]
 mod reads;
 #[cfg(test)]
 mod register_order;
+#[cfg(test)]
+mod refused_growth;
+#[cfg(test)]
+mod reuse;
 #[cfg(test)]
 mod rows;
 #[cfg(test)]

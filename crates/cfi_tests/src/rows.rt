@@ -1,14 +1,14 @@
 //! The rows of an FDE in order, and the row of an address with any `get_cie`.
+use crate::entries::bytes_of;
 use crate::sections::THREE_ROWS;
 use cfi_parts::instruction::UnwindExpression;
 use cfi_read_core::dwarf_section::Expression;
-use cfi_read_core::{
-    DebugFrameOffset, Error, LittleEndian, Reader, ReaderOffsetId, Register, StoreOnHeap,
-};
+use cfi_read_core::{DebugFrameOffset, Error, LittleEndian, Reader, ReaderOffsetId, Register};
 use cfi_unwind::section::scan_for_fde;
 use gimli_cfi::pointer::BaseAddresses;
 use gimli_cfi::section::{DebugFrame, UnwindSection};
-use gimli_cfi::table::{CfaRule, RegisterRule, UnwindContext, UnwindTable};
+use gimli_cfi::storage::{ArrayLike, UnwindContextStorage};
+use gimli_cfi::table::{CfaRule, RegisterRule, UnwindContext, UnwindTable, UnwindTableRow};
 use std::test::Fail;
 
 /// The CIE; an FDE that remembers a row, sets the CFA, moves and restores.
@@ -39,8 +39,16 @@ const TWO_CIES: [u8; 88] = [
     0x20, 0, 0, 0, 0, 0, 0, 0x20, 0, 0, 0, 0, 0, 0, 0,
 ];
 
+/// A CIE whose code alignment factor is 2^63, and an FDE that moves by two of it.
+const LARGE_FACTOR: &str = "19000000 ffffffff 04000800 80808080808080808001 7810 0c0708 9001 \
+    15000000 00000000 0010000000000000 2000000000000000 42";
+
+/// An FDE that sets the location to its first address.
+const SET_LOC: &str = "10000000 ffffffff 04000800 017810 0c0708 9001 \
+    1d000000 00000000 0010000000000000 2000000000000000 01 0010000000000000";
+
 /// A row: its addresses, its CFA, and the rules of registers 6 and 16.
-type Shown = (
+pub(crate) type Shown = (
     u64,
     u64,
     CfaRule<usize>,
@@ -48,26 +56,32 @@ type Shown = (
     Option<RegisterRule<usize>>,
 );
 
+pub(crate) fn shown<A: ArrayLike<Item = (Register, RegisterRule<usize>)>>(
+    row: &UnwindTableRow<usize, A>,
+) -> Shown {
+    (
+        row.start_address(),
+        row.end_address(),
+        *row.cfa(),
+        row.register(Register(6)),
+        row.register(Register(16)),
+    )
+}
+
 /// The next row of a table.
-fn next_shown<R: Reader<Offset = usize>>(
-    table: &mut UnwindTable<'_, '_, R, StoreOnHeap>,
+fn next_shown<R: Reader<Offset = usize>, S: UnwindContextStorage<usize>>(
+    table: &mut UnwindTable<'_, '_, R, S>,
 ) -> Result<Option<Shown>, Error> {
     match table.next_row()? {
-        Some(row) => Ok(Some((
-            row.start_address(),
-            row.end_address(),
-            *row.cfa(),
-            row.register(Register(6)),
-            row.register(Register(16)),
-        ))),
+        Some(row) => Ok(Some(shown(row))),
         None => Ok(None),
     }
 }
 
 /// Whether the FDE for 0x1000 yields these answers in order, and no current row after the last.
-fn hands_out<R: Reader<Offset = usize>>(
+pub(crate) fn hands_out<R: Reader<Offset = usize>, S: UnwindContextStorage<usize>>(
     section: &DebugFrame<R>,
-    context: &mut UnwindContext<usize>,
+    context: &mut UnwindContext<usize, S>,
     answers: &[Result<Option<Shown>, Error>],
 ) -> Result<bool, Error> {
     let bases = BaseAddresses::default();
@@ -97,7 +111,7 @@ fn first_end<R: Reader<Offset = usize>>(
 }
 
 /// A CFA of a register and an offset.
-fn cfa(register: u16, offset: i64) -> CfaRule<usize> {
+pub(crate) fn cfa(register: u16, offset: i64) -> CfaRule<usize> {
     CfaRule::RegisterAndOffset {
         register: Register(register),
         offset,
@@ -112,7 +126,17 @@ fn rows_one_by_one(rt: HostRuntime) -> Result<(), Fail> {
         offset: 48,
         length: 1,
     });
-    let tables: [(&[u8], &[Result<Option<Shown>, Error>]); 4] = [
+    let large_factor = bytes_of(rt.alloc(), LARGE_FACTOR)?;
+    let set_loc = bytes_of(rt.alloc(), SET_LOC)?;
+    // A move that leads to the same address ends a row of no addresses.
+    let at_once: &[Result<Option<Shown>, Error>] = &[
+        Ok(Some((0x1000, 0x1000, cfa(7, 8), None, address))),
+        Ok(Some((0x1000, 0x1020, cfa(7, 8), None, address))),
+        Ok(None),
+    ];
+    let tables: [(&[u8], &[Result<Option<Shown>, Error>]); 6] = [
+        (large_factor.as_slice(), at_once),
+        (set_loc.as_slice(), at_once),
         (
             &THREE_ROWS,
             &[
@@ -198,17 +222,11 @@ fn with_changing_cies(
         asked = asked.saturating_add(1);
         from.cie_from_offset(bases, DebugFrameOffset(offset))
     });
-    let shown = match found {
-        Ok(row) => Ok((
-            row.start_address(),
-            row.end_address(),
-            *row.cfa(),
-            row.register(Register(6)),
-            row.register(Register(16)),
-        )),
+    let answer = match found {
+        Ok(row) => Ok(shown(row)),
         Err(refusal) => Err(refusal),
     };
-    (shown, asked)
+    (answer, asked)
 }
 
 #[test]

@@ -1,0 +1,272 @@
+//! Memory that is refused at one growth after the other of an unwind, by lists of the tests' own.
+ghost use Rattle.std.proofs.Common.{sym, ◌∙◌};
+ghost use Rattle.std.specs.Vec as vec;
+ghost use Rattle.std.specs.Prelude.{◌≡◌, None, false};
+ghost use Rattle.cfi_state.specs.Refill.{refill-same};
+
+use crate::entries::bytes_of;
+use crate::reuse::{check_three_rows, row_of};
+use cfi_read_core::{Error, LittleEndian, ReaderOffset, Register, Vendor};
+use gimli_cfi::section::DebugFrame;
+use gimli_cfi::storage::{ArrayLike, CopyList, Refused, StoreGrowing, UnwindContextStorage, Why};
+use gimli_cfi::table::{RegisterRule, UnwindContext, UnwindTableRow};
+use std::alloc::{AllocFailed, Global};
+use std::cell::Cell;
+use std::test::Fail;
+
+/// An item that may tell the list that takes it which of its next growths to refuse; 0 is none of them.
+trait Tells {
+    fn told(&self) -> Option<u32>;
+}
+
+/// What a rule tells.
+fn told_by<T: ReaderOffset>(rule: RegisterRule<T>) -> Option<u32> {
+    match rule {
+        RegisterRule::ValOffset(growth) => u32::try_from(growth).ok(),
+        _ => None,
+    }
+}
+
+/// The rules of the registers 65533 and 65535 tell.
+impl<T: ReaderOffset> Tells for (Register, RegisterRule<T>) {
+    fn told(&self) -> Option<u32> {
+        match self.0 {
+            Register(65533) => told_by(self.1),
+            Register(65535) => told_by(self.1),
+            _ => None,
+        }
+    }
+}
+
+/// In a row the rule of the register 65534 tells.
+impl<T: ReaderOffset, A: ArrayLike<Item = (Register, RegisterRule<T>)>> Tells
+    for UnwindTableRow<T, A> {
+    fn told(&self) -> Option<u32> {
+        told_by(self.register(Register(65534))?)
+    }
+}
+
+/// A list without a limit that refuses one of its growths. Each new item is a growth, and so is a copy.
+#[derive(Drop)]
+struct Refusing<I> {
+    kept: Vec<I>,
+    /// Which of the next growths is refused.
+    refused: Cell<u32>,
+}
+
+impl<I> Refusing<I> {
+    /// Whether the next growth is the refused one.
+    fn refuses(&self) -> bool {
+        let refused = self.refused.get();
+        self.refused.set(refused.saturating_sub(1));
+        refused == 1
+    }
+}
+
+fn no_memory<I>(item: I) -> Refused<I>
+    ensures { result ≡ record { why = Why.Memory; item = item } }
+{
+    Refused {
+        why: Why::Memory,
+        item,
+    }
+}
+
+impl<I: Tells + Drop> ArrayLike for Refusing<I> {
+    type Item = I;
+
+    ghost items = { λ list. list.kept.items };
+
+    ghost limit = { None };
+
+    ghost with_items = { λ list written. record { kept = vec.with_items list.kept written; refused = list.refused } };
+
+    fn limit() -> Option<usize> {
+        None
+    }
+
+    fn make(alloc: Global) -> Result<Self, Error> {
+        Ok(Refusing {
+            kept: Vec::new(alloc),
+            refused: Cell::new(0),
+        })
+    }
+
+    fn as_slice(&self) -> &[I] {
+        self.kept.as_slice()
+    }
+
+    fn as_mut_slice(&mut self) -> &mut [I] {
+        self.kept.as_mut_slice()
+    }
+
+    fn clear(&mut self) {
+        self.kept.clear();
+    }
+
+    fn try_push(&mut self, item: I) -> Result<(), Refused<I>> {
+        match item.told() {
+            Some(growth) => self.refused.set(growth),
+            None => {
+                if self.refuses() {
+                    return Err(no_memory(item));
+                }
+            }
+        }
+        match self.kept.push(item) {
+            Ok(()) => Ok(()),
+            Err(AllocFailed { value }) => Err(no_memory(value)),
+        }
+    }
+
+    fn try_insert(&mut self, index: usize, item: I) -> Result<(), Refused<I>> {
+        match item.told() {
+            Some(growth) => self.refused.set(growth),
+            None => {
+                if self.refuses() {
+                    return Err(no_memory(item));
+                }
+            }
+        }
+        match self.kept.insert(index, item) {
+            Ok(()) => Ok(()),
+            Err(AllocFailed { value }) => Err(no_memory(value)),
+        }
+    }
+
+    fn pop(&mut self) -> Option<I> {
+        self.kept.pop()
+    }
+
+    fn swap_remove(&mut self, index: usize) -> I {
+        self.kept.swap_remove(index)
+    }
+
+    ghost items_of_with_items = { λ list written same. refill-same _ list.kept.items written (list.kept.ok.0 ∙ sym same) };
+}
+
+impl<I: Tells + Copy> CopyList for Refusing<I> {
+    ghost copies_free = { false };
+
+    fn copies_free() -> bool {
+        false
+    }
+
+    fn copy(&self) -> Result<Self, Error> {
+        if self.refuses() {
+            return Err(Error::OutOfMemory);
+        }
+        Ok(Refusing {
+            kept: CopyList::copy(&self.kept)?,
+            refused: Cell::new(self.refused.get()),
+        })
+    }
+}
+
+/// The storage of such lists.
+struct StoreRefusing;
+
+impl<T: ReaderOffset> UnwindContextStorage<T> for StoreRefusing {
+    type Rules = Refusing<(Register, RegisterRule<T>)>;
+
+    type Stack = Refusing<UnwindTableRow<T, Self::Rules>>;
+
+    ghost has_room = { tt };
+}
+
+/// Tells the context's lists which of their growths to refuse in the next unwind.
+///
+/// The FDE's program takes back what its rules were told, tells the list of rows by a row that it remembers and restores,
+/// and then tells the list of rules.
+fn tell(
+    alloc: Global,
+    context: &mut UnwindContext<usize, StoreRefusing>,
+    of_rules: u8,
+    of_rows: u8,
+) -> Result<(), Fail> {
+    let mut bytes = bytes_of(
+        alloc,
+        "0b000000 ffffffff 04000800 010110 \
+        25000000 00000000 0010000000000000 2000000000000000 14fdff0300 14feff03",
+    )?;
+    bytes.push(of_rows)?;
+    bytes.extend_from_slice(&[0x0a, 0x0b, 0x14, 0xff, 0xff, 3, of_rules])?;
+    let section = DebugFrame::new(bytes.as_slice(), LittleEndian);
+    let _told = row_of(&section, context, 0x1000)?;
+    Ok(())
+}
+
+/// Sections with states that are remembered, in a CIE, in an FDE and in both; the address of the last row.
+const SECTIONS: [(&str, u64); 7] = [
+    (
+        "10000000 ffffffff 04000800 017810 0c0708 9001 \
+        19000000 00000000 0010000000000000 2000000000000000 0a 0e20 42 0b",
+        0x1002,
+    ),
+    (
+        "12000000 ffffffff 04000800 017810 0c0708 9001 8602 \
+        17000000 00000000 0010000000000000 2000000000000000 0a0a0a",
+        0x1000,
+    ),
+    (
+        "10000000 ffffffff 04000800 017810 0c0708 9001 \
+        18000000 00000000 0010000000000000 2000000000000000 0a0a0a0a",
+        0x1000,
+    ),
+    (
+        "15000000 ffffffff 04000800 017810 0c0708 9001 8602 0a0a0a \
+        14000000 00000000 0010000000000000 2000000000000000",
+        0x1000,
+    ),
+    (
+        "11000000 ffffffff 04000800 017810 0c0708 0a 9001 \
+        17000000 00000000 0010000000000000 2000000000000000 0b 41 d0",
+        0x1001,
+    ),
+    (
+        "0b000000 ffffffff 04000800 017810 \
+        1a000000 00000000 0010000000000000 2000000000000000 2d 41 0a 2d 41 0b",
+        0x1002,
+    ),
+    (
+        "10000000 ffffffff 04000800 017810 0c0708 9001 \
+        1b000000 00000000 0010000000000000 2000000000000000 2e10 0a 2e20 41 0b",
+        0x1001,
+    ),
+];
+
+#[test]
+fn each_growth_in_turn(rt: HostRuntime) -> Result<(), Fail> {
+    let mut growing: UnwindContext<usize, StoreGrowing> = UnwindContext::new_in(rt.alloc())?;
+    let mut context: UnwindContext<usize, StoreRefusing> = UnwindContext::new_in(rt.alloc())?;
+    for (text, address) in SECTIONS {
+        let bytes = bytes_of(rt.alloc(), text)?;
+        let mut section = DebugFrame::new(bytes.as_slice(), LittleEndian);
+        section.set_vendor(Vendor::AArch64);
+        let row = row_of(&section, &mut growing, address);
+        assert!(rt; row.is_ok(), "{text}");
+        for refuses_rows in [false, true] {
+            let mut refusals = 0u32;
+            let mut met_none = false;
+            for growth in 1..20u8 {
+                let (of_rules, of_rows) = if refuses_rows {
+                    (0, growth)
+                } else {
+                    (growth, 0)
+                };
+                tell(rt.alloc(), &mut context, of_rules, of_rows)?;
+                let answer = row_of(&section, &mut context, address);
+                if answer == row {
+                    met_none = true;
+                    break;
+                }
+                assert_eq!(rt; answer, Err(Error::OutOfMemory), "{text}: growth {growth}");
+                refusals = refusals.saturating_add(1);
+                check_three_rows(&rt, &mut context, text)?;
+            }
+            assert!(rt; met_none, "{text}");
+            assert!(rt; refusals > 0, "{text}");
+        }
+    }
+    Ok(())
+}
