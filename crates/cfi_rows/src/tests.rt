@@ -126,7 +126,7 @@ wrong words before wrong input | debug_frame le 3 0x1000 | 0g | wrong words
 no hexadecimal | debug_frame le 8 0x1000 | 0g | wrong hexadecimal
 odd number of digits | debug_frame le 8 0x1000 | 000 | wrong hexadecimal
 greatest address | debug_frame be 4 18446744073709551615 data=0xAbC | | refused NoUnwindInfoForAddress
-tabs and carriage returns | debug_frame le 8 0 | 00\t00\r0\r\t0 | refused NoUnwindInfoForAddress
+tabs and carriage returns | debug_frame le 8 0 | 00\t00\r00\r\t0\t0 | refused NoUnwindInfoForAddress
 ",
 };
 

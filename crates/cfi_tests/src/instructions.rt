@@ -143,7 +143,7 @@ fn one_by_one(rt: HostRuntime) -> Result<(), Fail> {
 
 #[test]
 fn refusals_end_the_instructions(rt: HostRuntime) -> Result<(), Fail> {
-    let refused: [(&[u8], Error); 6] = [
+    let refused: [(&[u8], Error); 5] = [
         (&[0x3f, 0], Error::UnknownCallFrameInstruction(DwCfa(0x3f))),
         (&[2], Error::UnexpectedEof(ReaderOffsetId(45))),
         (&[0x2f, 6], Error::UnexpectedEof(ReaderOffsetId(46))),

@@ -238,7 +238,7 @@ const SECTIONS: [(&str, u64); 7] = [
 #[test]
 fn each_growth_in_turn(rt: HostRuntime) -> Result<(), Fail> {
     let mut growing: UnwindContext<usize, StoreGrowing> = UnwindContext::new_in(rt.alloc())?;
-    let mut context: UnwindContext<usize, StoreRefusing> = UnwindContext::new_in(rt.alloc())?;
+    let mut row_refusals = 0u32;
     for (text, address) in SECTIONS {
         let bytes = bytes_of(rt.alloc(), text)?;
         let mut section = DebugFrame::new(bytes.as_slice(), LittleEndian);
@@ -254,6 +254,8 @@ fn each_growth_in_turn(rt: HostRuntime) -> Result<(), Fail> {
                 } else {
                     (growth, 0)
                 };
+                let mut context: UnwindContext<usize, StoreRefusing> =
+                    UnwindContext::new_in(rt.alloc())?;
                 tell(rt.alloc(), &mut context, of_rules, of_rows)?;
                 let answer = row_of(&section, &mut context, address);
                 if answer == row {
@@ -265,8 +267,14 @@ fn each_growth_in_turn(rt: HostRuntime) -> Result<(), Fail> {
                 check_three_rows(&rt, &mut context, text)?;
             }
             assert!(rt; met_none, "{text}");
-            assert!(rt; refusals > 0, "{text}");
+            if refuses_rows {
+                row_refusals = row_refusals.saturating_add(refusals);
+            } else {
+                assert!(rt; refusals > 0, "{text}");
+            }
         }
     }
+    // A row that the stack once grew is used again, so not every section grows it.
+    assert!(rt; row_refusals > 0);
     Ok(())
 }
