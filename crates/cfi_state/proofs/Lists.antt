@@ -1,27 +1,46 @@
 -- Lists that are compared item by item, from either end, and a list that loses an item.
-use Rattle.std.proofs.Common.{◌≡◌, ℕ, ◌<◌, Bool, true, false, ◌&&◌, Option, Some, None, List, [], ◌∷◌, ◌++◌, length, get_or, reverse, refl, sym, ap, ◌∙◌, arith}
-use Rattle.std.proofs.lemmas.List.{length-append, same_from_push}
-use Rattle.std.proofs.lemmas.List.Edits.{length-remove}
-use Rattle.std.specs.List.{remove}
+use Rattle.std.proofs.Common.{◌≡◌, ℕ, ◌<◌, Bool, true, false, ◌&&◌, Option, Some, None, List, [], ◌∷◌, ◌++◌, length, get_or, take, drop, reverse, ◌+◌, ◌-◌, refl, sym, ap, ◌∙◌, arith}
+use Rattle.std.proofs.Math.ListN.{drop_of_length-le}
+use Rattle.std.proofs.Math.Numerals.{add-one}
+use Rattle.std.proofs.lemmas.List.{length-append, length-drop, drop_more, append_assoc, same_from_push}
+use Rattle.std.proofs.lemmas.List.Edits.{length-remove, paste_all}
+use Rattle.std.specs.List.{remove, copy_within}
 use Rattle.std.specs.Option.{IfSome, IfNone}
 use Rattle.std.proofs.Math.Bool.{and_comm}
 use Rattle.std.proofs.lemmas.List.{reverse-append}
 use Rattle.std.specs.Cmp.Lexicographic.{pointwise}
 
--- the items up to the last, which was rotated there and is popped off what was written back
-pub popped : {A : Type 0} (items : List A) (place : ℕ) (written held rest : List A) (o : Option A) → place < length items
-    → ((d : A) → written ≡ remove items place ++ get_or items place d ∷ []) → (length written ≡ length items → held ≡ written)
+-- the items up to the last, which is popped off what was written back
+pub popped : {A : Type 0} (items : List A) (place : ℕ) (last_of : A → A) (written held rest : List A) (o : Option A) → place < length items
+    → ((d : A) → written ≡ remove items place ++ last_of d ∷ []) → (length written ≡ length items → held ≡ written)
     → IfSome o (λ last. held ≡ rest ++ last ∷ []) → IfNone o ((held ≡ []) × (rest ≡ [])) → rest ≡ remove items place
-popped [] place written held rest o within rotated back some none = absurd (omega arith)
-popped (d ∷ items) place written held rest o within rotated back some none =
-    let whole = rotated d in
+popped [] place last_of written held rest o within moved back some none = absurd (omega arith)
+popped (d ∷ items) place last_of written held rest o within moved back some none =
+    let whole = moved d in
     let count : length written ≡ length (d ∷ items) =
-    omega (arith, ap length whole, length-append (remove (d ∷ items) place) (get_or (d ∷ items) place d ∷ []), length-remove (d ∷ items) place within) in
+    omega (arith, ap length whole, length-append (remove (d ∷ items) place) (last_of d ∷ []), length-remove (d ∷ items) place within) in
     let all = back count ∙ whole in
     elim o as (λ o. IfSome o (λ last. held ≡ rest ++ last ∷ []) → IfNone o ((held ≡ []) × (rest ≡ [])) → rest ≡ remove (d ∷ items) place) [
-      | Some last ↦ λ some none. (same_from_push rest (remove (d ∷ items) place) last (get_or (d ∷ items) place d) (sym some ∙ all)).0
+      | Some last ↦ λ some none. (same_from_push rest (remove (d ∷ items) place) last (last_of d) (sym some ∙ all)).0
       | None ↦ λ some none. absurd (omega (arith, ap length none.0, ap length (back count), count))
     ] some none
+
+-- the last item alone is left of a list from its place on
+last_alone : {A : Type 0} (items : List A) (place : ℕ) (d : A) → place < length items
+    → drop (place + (length items - (place + 1))) items ≡ get_or items (length items - 1) d ∷ []
+last_alone items place d within =
+    let at : place + (length items - (place + 1)) ≡ length items - 1 = omega (arith, within) in
+    ap (λ k. drop k items) at ∙ drop_more items (length items - 1) d (omega (arith, within))
+    ∙ ap (λ l. get_or items (length items - 1) d ∷ l) (drop_of_length-le items (omega (arith, within)))
+
+-- the later items moved down by one; the last one then stands twice
+pub moved_down : {A : Type 0} (items : List A) (place : ℕ) (d : A) → place < length items
+    → copy_within items (place + 1) (length items) place ≡ remove items place ++ get_or items (length items - 1) d ∷ []
+moved_down items place d within =
+    paste_all items place (drop (place + 1) items) (length items - (place + 1)) (sym (length-drop (place + 1) items))
+    ∙ ap (λ l. take place items ++ (drop (place + 1) items ++ l)) (last_alone items place d within)
+    ∙ sym (append_assoc (take place items) (drop (place + 1) items) (get_or items (length items - 1) d ∷ []))
+    ∙ ap (λ k. (take place items ++ drop k items) ++ get_or items (length items - 1) d ∷ []) (add-one place)
 
 and_assoc : (a b c : Bool) → (a && (b && c)) ≡ ((a && b) && c)
 and_assoc true b c = refl

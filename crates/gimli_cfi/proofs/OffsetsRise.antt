@@ -9,7 +9,8 @@ use Rattle.cfi_unwind.specs.Prefixes.{Prefix, prefix}
 use Rattle.cfi_unwind.specs.Cies.{Cie, cie_of}
 use Rattle.cfi_unwind.specs.Fdes.{PartialFde, Fde, fde_fields, addresses, address_encoding_of, lsda}
 use Rattle.cfi_unwind.specs.Scan.{partial_fdes, read_fde, fde_readings}
-use Rattle.cfi_unwind.specs.Entries.{Entry, CieEntry, FdeEntry, entry_of, then_give, entries_with, entries_from, entries, partial_fde_of, is_cie, cie_at, fde_with}
+use Rattle.cfi_read_core.specs.Readers.{map_ok}
+use Rattle.cfi_unwind.specs.Entries.{Entry, CieEntry, FdeEntry, entry_of, entries_with, entries_from, entries, partial_fde_of, is_cie, cie_at, fde_with}
 use Rattle.cfi_unwind.proofs.EntryLemmas.{advances_prefix, onward_prefix, prefix_offset}
 
 -- each stands at or after the offset and after those before it
@@ -27,13 +28,13 @@ lower m n [] h rise = tt
 lower m n (p ∷ ps) h rise = (omega (arith, rise.0), rise.1)
 
 fde_of_entry : (b : Bool) (cie : Result Cie Error) (fde : Result PartialFde Error) (partial : PartialFde) →
-    (if b then then_give CieEntry cie else then_give FdeEntry fde) ≡ Ok (FdeEntry partial) → fde ≡ Ok partial
+    (if b then map_ok CieEntry cie else map_ok FdeEntry fde) ≡ Ok (FdeEntry partial) → fde ≡ Ok partial
 fde_of_entry true (Ok cie) fde partial e = absurd (cc)
 fde_of_entry true (Err r) fde partial e = absurd (cc)
 fde_of_entry false cie (Ok fde) partial e = cc
 fde_of_entry false cie (Err r) partial e = absurd (cc)
 
-found_kept : (found : Prefix) (offset : Result ℕ Error) (partial : PartialFde) → then_give (λ n. record { found = found; cie_offset = n }) offset ≡ Ok partial → partial.found ≡ found
+found_kept : (found : Prefix) (offset : Result ℕ Error) (partial : PartialFde) → map_ok (λ n. record { found = found; cie_offset = n }) offset ≡ Ok partial → partial.found ≡ found
 found_kept found (Ok n) partial e = let same : record { found = found; cie_offset = n } ≡ partial = cc in sym (ap (λ (p : PartialFde). p.found) same)
 found_kept found (Err r) partial e = absurd (cc)
 
