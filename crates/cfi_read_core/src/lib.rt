@@ -5,13 +5,13 @@ pub mod address;
 mod bytes;
 pub mod common;
 pub mod constants;
+pub mod dwarf_section;
 pub mod endian_slice;
 pub mod endianity;
 pub mod error;
 pub mod narrow_slice;
 pub mod offset;
 pub mod reader;
-pub mod dwarf_section;
 mod window;
 
 pub use address::ReaderAddress;
@@ -19,10 +19,10 @@ pub use common::{
     DebugFrameOffset, EhFrameOffset, Encoding, Format, Register, SectionId, StoreOnHeap, Vendor,
 };
 pub use constants::{DwCfa, DwEhPe};
+pub use dwarf_section::Section;
 pub use endian_slice::EndianSlice;
 pub use endianity::{BigEndian, Endianity, LittleEndian, RunTimeEndian};
 pub use error::{Error, ReaderOffsetId, Result};
 pub use narrow_slice::NarrowSlice;
 pub use offset::ReaderOffset;
 pub use reader::Reader;
-pub use dwarf_section::Section;

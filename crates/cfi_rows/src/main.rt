@@ -11,9 +11,9 @@ ghost use Rattle.std.specs.Process.{exit_status};
 ghost use Rattle.cfi_rows.specs.ProgramOutput.{answers, IsRun};
 ghost use Rattle.cfi_rows.specs.CommandLine.{texts};
 
-mod row_lookup;
 mod input;
 mod line;
+mod row_lookup;
 mod run;
 #[cfg(test)]
 mod tests;

@@ -27,9 +27,9 @@ mod lists;
 #[cfg(test)]
 mod reads;
 #[cfg(test)]
-mod register_order;
-#[cfg(test)]
 mod refused_growth;
+#[cfg(test)]
+mod register_order;
 #[cfg(test)]
 mod reuse;
 #[cfg(test)]

@@ -254,8 +254,9 @@ fn each_growth_in_turn(rt: HostRuntime) -> Result<(), Fail> {
                 } else {
                     (growth, 0)
                 };
-                let mut context: UnwindContext<usize, StoreRefusing> =
-                    UnwindContext::new_in(rt.alloc())?;
+                let mut context: UnwindContext<usize, StoreRefusing> = UnwindContext::new_in(
+                    rt.alloc(),
+                )?;
                 tell(rt.alloc(), &mut context, of_rules, of_rows)?;
                 let answer = row_of(&section, &mut context, address);
                 if answer == row {

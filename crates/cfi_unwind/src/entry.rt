@@ -2,9 +2,9 @@
 
 pub(crate) mod augmentation;
 pub(crate) mod cie;
-pub(crate) mod in_section;
 pub(crate) mod entries;
 pub(crate) mod fde;
+pub(crate) mod in_section;
 mod instructions;
 pub(crate) mod partial;
 pub(crate) mod prefix;

@@ -19,8 +19,8 @@ mod asking;
 mod debug_frame;
 mod eh_frame;
 
-use crate::entry::in_section::InSection;
 use crate::entry::entries::{cie_at, partial_fde_at};
+use crate::entry::in_section::InSection;
 use crate::entry::{
     CfiEntriesIter, CommonInformationEntry, FrameDescriptionEntry, PartialFrameDescriptionEntry,
 };

@@ -278,7 +278,12 @@ pub(crate) fn unwind_info_for_address<
         row_lent R.Offset.number result
         ≡ fde_answer s (instructions_left (instruction_reader R.position cie_instructions.entry)) (instructions_left (instruction_reader R.position fde_instructions.entry)) address }
 {
-    let mut table = UnwindTable::with_instructions(parameters, cie_instructions, fde_instructions, context)?;
+    let mut table = UnwindTable::with_instructions(
+        parameters,
+        cie_instructions,
+        fde_instructions,
+        context,
+    )?;
     while let Some(row) = table.next_row()? {
         if row.contains(address) {
             let Some(current) = table.into_current_row() else {

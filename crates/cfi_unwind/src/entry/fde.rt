@@ -109,12 +109,7 @@ pub(crate) fn read_fde<R: Reader, S: _UnwindSectionPrivate<R>>(
         None => None,
     };
     let address_size = cie.address_size;
-    let (initial_address, address_range) = read_addresses(
-        at,
-        address_size,
-        encoding,
-        &mut input,
-    )?;
+    let (initial_address, address_range) = read_addresses(at, address_size, encoding, &mut input)?;
     let lsda = read_lsda(
         at,
         address_size,

@@ -3,8 +3,8 @@ ghost use Rattle.std.specs.Prelude.{◌≡◌, ⊤};
 ghost use Rattle.cfi_parts.specs.CallFrameSections.{IsOf, IsOf_prop};
 
 use crate::entry::cie::CommonInformationEntry;
-use crate::entry::in_section::InSection;
 use crate::entry::fde::{FrameDescriptionEntry, read_fde};
+use crate::entry::in_section::InSection;
 use crate::entry::prefix::EntryPrefix;
 use crate::section::UnwindSection;
 use cfi_parts::pointer::BaseAddresses;

@@ -1,16 +1,15 @@
 //! A table that was checked against its section.
 ghost use Rattle.std.specs.Prelude.{◌≡◌, ⊤, IfOk, IfErr};
-
 ghost use Rattle.cfi_state.specs.Numbered.{row_lent};
 ghost use Rattle.cfi_unwind.specs.AddressRow.{IsRowByScan};
 ghost use Rattle.gimli_cfi.specs.FaithfulTables.{IsReason, ListsFaithfully};
 ghost use Rattle.gimli_cfi.specs.Views.{section_view, listing_view};
 
 use crate::hdr::check::check_table;
-use crate::hdr::unwind::row_by_table;
 use crate::hdr::starts::TableStarts;
 use crate::hdr::table::EhHdrTable;
 use crate::hdr::unfaithful_table::Unfaithful;
+use crate::hdr::unwind::row_by_table;
 use cfi_parts::pointer::BaseAddresses;
 use cfi_read_core::{Error, Reader};
 use cfi_state::storage::UnwindContextStorage;
