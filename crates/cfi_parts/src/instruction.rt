@@ -220,8 +220,8 @@ impl<'a, R: Reader> CallFrameInstructionIter<'a, R> {
     ///
     /// Refused with `UnexpectedEof` where the bytes end in an instruction, `UnknownCallFrameInstruction` for an opcode
     /// that isn't known to the vendor, `BadUnsignedLeb128`, `BadSignedLeb128` or `UnsupportedRegister` for an operand,
-    /// `UnsupportedOffset` for the length of an expression that does not fit the offset type, and for the address of `DW_CFA_set_loc`
-    /// as `parse_encoded_pointer` and `Pointer::direct`.
+    /// `UnsupportedOffset` for the length of an expression that does not fit the offset type, and for the address of
+    /// `DW_CFA_set_loc` wherever `parse_encoded_pointer` or `Pointer::direct` refuses it.
     pub fn next(&mut self) -> Result<Option<CallFrameInstruction<R::Offset>>>
         ensures met { Meets (map_instruction R.Offset.number) result (instructions_left (instruction_reader R.position self.old)) (instructions_left (instruction_reader R.position self.new)) }
         ensures context { (instruction_reader R.position self.new).context ≡ (instruction_reader R.position self.old).context }

@@ -77,7 +77,7 @@ pub struct BaseAddresses {
 }
 
 impl BaseAddresses {
-    /// Sets the address of `.eh_frame_hdr`, to which the header's data-relative pointers count too.
+    /// Sets the address of `.eh_frame_hdr`, from which the header's data-relative pointers are counted too.
     pub fn set_eh_frame_hdr(self, addr: u64) -> BaseAddresses
         ensures { result ≡ record self { eh_frame_hdr = record self.eh_frame_hdr { section = Some addr; data_base = Some addr } } }
     {

@@ -32,7 +32,7 @@ abbrev pub leb128_sum : List ℕ → ℕ
 leb128_sum [] = 0
 leb128_sum (b ∷ bs) = b % 128 + 128 * leb128_sum bs
 
--- how many bytes go on to another one: they have the high bit, and the tenth byte is the last
+-- how many leading bytes have the high bit, nine at most: the tenth byte is the last
 abbrev pub continuation_count : List ℕ → ℕ
 continuation_count left = prefix_len (λ b. nat_le 128 b) (take 9 left)
 

@@ -90,7 +90,7 @@ bytes n = split n >>= λ extent source. give (bytes_of source extent) source
 abbrev pub remainder : Read Extent
 remainder = λ source place. record { value = Ok (record { first = place; last = source.last }); place = source.last }
 
--- a read of an extent from its first place, which leaves the reader outside where it was
+-- reads an extent from its first place; the outer reader stays where it was
 abbrev pub within : {A : Type 0} → Extent → Read A → Read A
 within extent read = λ source place. record { value = (read (record source { last = extent.last }) extent.first).value; place = place }
 

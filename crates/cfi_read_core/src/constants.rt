@@ -38,7 +38,7 @@ pub const DW_EH_PE_datarel: DwEhPe = DwEhPe(0x30);
 pub const DW_EH_PE_funcrel: DwEhPe = DwEhPe(0x40);
 /// Aligned to an address.
 pub const DW_EH_PE_aligned: DwEhPe = DwEhPe(0x50);
-/// The value is where the pointer points.
+/// The value is the address at which the pointer is stored.
 pub const DW_EH_PE_indirect: DwEhPe = DwEhPe(0x80);
 /// There is no value.
 pub const DW_EH_PE_omit: DwEhPe = DwEhPe(0xff);
@@ -117,7 +117,7 @@ impl DwEhPe {
         DwEhPe(self.0 / 16 % 8 * 16)
     }
 
-    /// Whether bit 7 is set: the value is where the pointer points.
+    /// Whether bit 7 is set: the value is the address at which the pointer is stored.
     pub fn is_indirect(self) -> bool
         ensures { result ≡ is_indirect self.0 }
     {

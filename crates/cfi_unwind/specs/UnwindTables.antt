@@ -53,7 +53,7 @@ module _ {T : Type 0} (number : T → ℕ) where
 
 -- ---- without a machine
 
--- From each program after which the table stands, the answer is the next one of the form without a machine, and the table
+-- From each program after which the table stands, the answer is the next one that the definition without a machine gives, and the table
 -- then stands after that program followed by the instructions that were kept.
 pub record AnswersWithoutMachine (s : Setting) (copies_free : Bool) (p : TableState (State ℕ) ℕ) (answer : Result (Option (Row ℕ)) Error) (q : TableState (State ℕ) ℕ) : Type 0 where
   pub from : AnswersForProgram (may_allocate s copies_free) s p answer q

@@ -20,7 +20,7 @@ use cfi_parts::unwind_section::_UnwindSectionPrivate;
 use cfi_read_core::{Error, Reader, ReaderOffset, Result};
 use std::alloc::AllocError;
 
-/// An entry, over what a CIE and what an FDE is.
+/// An entry, generic over the types of its CIE and its FDE.
 #[derive(Clone, Copy, Debug, PartialEq, Eq)]
 pub enum EntryFields<C, F> {
     /// A common information entry.

@@ -45,7 +45,7 @@ impl<R: Reader> Copy for FaithfulTable<'_, R> {}
 impl<'a, R: Reader> FaithfulTable<'a, R> {
     /// Checks the table against the section, as `check_table` with the starts of the table's own rows.
     ///
-    /// Where the table doesn't list the FDEs of the section faithfully, the answer is a reason against it. The bases of
+    /// Where the table doesn't list the FDEs of the section faithfully, the answer is a reason why it doesn't. The bases of
     /// the header are those in `BaseAddresses::eh_frame_hdr`, those of the section's entries in
     /// `BaseAddresses::eh_frame`. It takes no memory (LSB Core, "The .eh_frame_hdr section").
     pub fn new(
