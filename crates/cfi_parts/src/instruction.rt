@@ -64,16 +64,16 @@ pub enum CallFrameInstruction<T> {
     SetLoc {
         address: u64,
     },
-    /// A new row begins so many code units further on: the delta counts the code alignment factor.
+    /// A new row begins so many code units further on: the delta is in units of the code alignment factor.
     AdvanceLoc {
         delta: u32,
     },
-    /// The CFA is the register and the offset.
+    /// The CFA is the register plus the offset.
     DefCfa {
         register: Register,
         offset: u64,
     },
-    /// The CFA is the register and the offset, which counts the data alignment factor.
+    /// The CFA is the register plus the offset, which is in units of the data alignment factor.
     DefCfaSf {
         register: Register,
         factored_offset: i64,
@@ -86,7 +86,7 @@ pub enum CallFrameInstruction<T> {
     DefCfaOffset {
         offset: u64,
     },
-    /// The CFA's offset changes, and its register stays. The offset counts the data alignment factor.
+    /// The CFA's offset changes, and its register stays. The offset is in units of the data alignment factor.
     DefCfaOffsetSf {
         factored_offset: i64,
     },
@@ -94,7 +94,7 @@ pub enum CallFrameInstruction<T> {
     DefCfaExpression {
         expression: UnwindExpression<T>,
     },
-    /// The register's value in the caller can't be had.
+    /// The register's value in the caller cannot be recovered.
     Undefined {
         register: Register,
     },
@@ -102,27 +102,27 @@ pub enum CallFrameInstruction<T> {
     SameValue {
         register: Register,
     },
-    /// The register is saved at an offset from the CFA, which counts the data alignment factor.
+    /// The register is saved at an offset from the CFA, which is in units of the data alignment factor.
     Offset {
         register: Register,
         factored_offset: u64,
     },
-    /// The register is saved at a signed offset from the CFA, which counts the data alignment factor.
+    /// The register is saved at a signed offset from the CFA, which is in units of the data alignment factor.
     OffsetExtendedSf {
         register: Register,
         factored_offset: i64,
     },
-    /// The register is saved at the CFA less an offset, which counts the data alignment factor (GNU).
+    /// The register is saved at the CFA less an offset, which is in units of the data alignment factor (GNU).
     OffsetExtendedNegative {
         register: Register,
         factored_offset: u64,
     },
-    /// The register's value is the CFA and an offset, which counts the data alignment factor.
+    /// The register's value is the CFA plus an offset, which is in units of the data alignment factor.
     ValOffset {
         register: Register,
         factored_offset: u64,
     },
-    /// The register's value is the CFA and a signed offset, which counts the data alignment factor.
+    /// The register's value is the CFA plus a signed offset, which is in units of the data alignment factor.
     ValOffsetSf {
         register: Register,
         factored_offset: i64,
@@ -146,9 +146,9 @@ pub enum CallFrameInstruction<T> {
     Restore {
         register: Register,
     },
-    /// The row's rules are remembered.
+    /// The row's CFA, rules and argument size are remembered.
     RememberState,
-    /// The rules that were remembered last come back.
+    /// What was remembered last comes back.
     RestoreState,
     /// The size in bytes of the arguments on the stack (GNU).
     ArgsSize {

@@ -10,15 +10,15 @@ pub struct DwEhPe(pub u8);
 #[derive(Clone, Copy, Debug, PartialEq, Eq)]
 pub struct DwCfa(pub u8);
 
-/// An address of the section's size.
+/// An address, in the section's address size.
 pub const DW_EH_PE_absptr: DwEhPe = DwEhPe(0x00);
 /// An unsigned LEB128 number.
 pub const DW_EH_PE_uleb128: DwEhPe = DwEhPe(0x01);
-/// Two bytes.
+/// Two bytes, unsigned.
 pub const DW_EH_PE_udata2: DwEhPe = DwEhPe(0x02);
-/// Four bytes.
+/// Four bytes, unsigned.
 pub const DW_EH_PE_udata4: DwEhPe = DwEhPe(0x03);
-/// Eight bytes.
+/// Eight bytes, unsigned.
 pub const DW_EH_PE_udata8: DwEhPe = DwEhPe(0x04);
 /// A signed LEB128 number.
 pub const DW_EH_PE_sleb128: DwEhPe = DwEhPe(0x09);

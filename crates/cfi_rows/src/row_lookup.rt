@@ -1,4 +1,4 @@
-//! The answer to a request.
+//! The row for the address that a request asks for.
 ghost use Rattle.std.specs.Prelude.{◌≡◌, Some};
 ghost use Rattle.cfi_read_core.specs.declared.error.Error.{Error as Refusal};
 ghost use Rattle.cfi_read_core.specs.Readers.{map_ok};

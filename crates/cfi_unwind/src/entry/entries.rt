@@ -183,8 +183,7 @@ pub(crate) fn partial_fde_at<'bases, R: Reader, S: _UnwindSectionPrivate<R> + Co
     }
 }
 
-/// The entries of a section, in order from its beginning. After a refusal or the end there is none for
-/// good.
+/// The entries of a section, in order from its beginning. After a refusal or the end it yields nothing more.
 #[derive(Debug)]
 pub struct CfiEntriesIter<'bases, Section: _UnwindSectionPrivate<R>, R: Reader> {
     pub(crate) section: Section,
