@@ -39,7 +39,8 @@ fn first_two(bytes: &[u8], offset: usize, vendor: Vendor) -> Result<FirstTwo, Er
 /// The same of a program after a CIE of 20 bytes; the program begins at 44.
 fn of_program(alloc: Global, program: &[u8], vendor: Vendor) -> Result<FirstTwo, Fail> {
     let mut bytes = bytes_of(alloc, CIE)?;
-    let length = 20u32.saturating_add(program.len() as u32);
+    let size = u32::try_from(program.len()).unwrap_or(u32::MAX);
+    let length = 20u32.saturating_add(size);
     bytes.extend_from_slice(&length.to_le_bytes())?;
     let range = bytes_of(alloc, "00000000 0010000000000000 2000000000000000")?;
     bytes.extend_from_slice(range.as_slice())?;
