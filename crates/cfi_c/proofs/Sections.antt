@@ -7,8 +7,8 @@ use Rattle.cfi_read_core.specs.Reading.{Position}
 use Rattle.cfi_read_core.specs.Readers.{all_of, map_ok}
 use Rattle.cfi_parts.specs.declared.pointer.SectionBaseAddresses.{SectionBaseAddresses}
 use Rattle.cfi_state.specs.Row.{Row}
-use Rattle.cfi_state.specs.Numbered.{map_row}
-use Rattle.cfi_state.proofs.NumberedSame.{as_it_is, same_row}
+use Rattle.cfi_state.specs.MappedStates.{map_row}
+use Rattle.cfi_state.proofs.MappedEquality.{as_it_is, same_row}
 use Rattle.cfi_unwind.specs.Sections.{Section, EhFrame}
 use Rattle.cfi_c.specs.declared.CfiBases.{CfiBases}
 use Rattle.cfi_c.specs.Answers.{section_of}

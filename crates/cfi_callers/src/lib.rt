@@ -9,7 +9,7 @@ ghost use Rattle.std.specs.Prelude.{◌≡◌, ◌⊎◌, IfOk, IfSome, Ok, Resu
 ghost use Rattle.cfi_read_core.specs.Readers.{map_ok};
 ghost use Rattle.cfi_read_core.specs.declared.error.Error.{Error as Refusal};
 ghost use Rattle.cfi_parts.specs.CallFrameSections.{IsOf};
-ghost use Rattle.cfi_state.specs.Numbered.{row_lent};
+ghost use Rattle.cfi_state.specs.MappedStates.{row_lent};
 ghost use Rattle.cfi_unwind.specs.Sections.{section_of};
 ghost use Rattle.cfi_unwind.specs.Entries.{cie_at, fde_at, fde_by};
 ghost use Rattle.cfi_unwind.specs.EntryViews.{partial_of};
@@ -17,8 +17,8 @@ ghost use Rattle.cfi_unwind.specs.Fdes.{Covers, Fde};
 ghost use Rattle.cfi_unwind.specs.Scan.{chosen_fde};
 ghost use Rattle.cfi_unwind.specs.AddressRow.{IsRowByScan, IsRowOfFound};
 ghost use Rattle.cfi_unwind.specs.KeptCie.{KeepsCie};
-ghost use Rattle.cfi_unwind.specs.Views.{cie_view, fde_view};
-ghost use Rattle.gimli_cfi.specs.Views.{section_view};
+ghost use Rattle.cfi_unwind.specs.EntryFieldViews.{cie_view, fde_view};
+ghost use Rattle.gimli_cfi.specs.HeaderViews.{section_view};
 
 use cfi_read_core::{EhFrameOffset, Reader, ReaderOffset, Result};
 use gimli_cfi::entry::{

@@ -2,6 +2,6 @@ pub mod Pointers
 pub mod Contexts
 pub mod CallFrameSections
 pub mod Instructions
-pub mod Views
+pub mod MappedInstructions
 pub mod InstructionReaders
 pub mod Iterators

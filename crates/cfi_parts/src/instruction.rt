@@ -6,7 +6,7 @@ ghost use Rattle.cfi_parts.specs.Contexts.{instruction_context};
 ghost use Rattle.cfi_parts.specs.CallFrameSections.{IsOf};
 ghost use Rattle.cfi_parts.specs.Instructions.{IsReadIn, expression_bytes};
 ghost use Rattle.cfi_parts.specs.InstructionReaders.{Meets, instructions_left, items};
-ghost use Rattle.cfi_parts.specs.Views.{map_expression, map_instruction};
+ghost use Rattle.cfi_parts.specs.MappedInstructions.{map_expression, map_instruction};
 
 mod parse;
 

@@ -11,8 +11,8 @@ use Rattle.cfi_read_core.specs.Reading.{Position}
 use Rattle.cfi_read_core.specs.Readers.{all_of, map_ok}
 use Rattle.cfi_parts.specs.declared.pointer.SectionBaseAddresses.{SectionBaseAddresses}
 use Rattle.cfi_state.specs.Row.{Row}
-use Rattle.cfi_state.specs.Numbered.{map_row}
-use Rattle.cfi_state.proofs.NumberedSame.{as_it_is, same_row}
+use Rattle.cfi_state.specs.MappedStates.{map_row}
+use Rattle.cfi_state.proofs.MappedEquality.{as_it_is, same_row}
 use Rattle.cfi_unwind.specs.Sections as sections
 use Rattle.cfi_unwind.specs.Sections.{Section}
 use Rattle.cfi_unwind.specs.Scan.{chosen_fde}
@@ -22,10 +22,10 @@ use Rattle.gimli_cfi.specs.HeaderTables.{IsFoundByTable, SearchedBy, fde_by_row}
 use Rattle.cfi_unwind.specs.AddressRow.{IsRowOfFound}
 use Rattle.cfi_rows.specs.Lines.{Line}
 use Rattle.cfi_rows.specs.Input.{Bytes}
-use Rattle.cfi_rows.specs.declared.words.Kind.{Kind}
-use Rattle.cfi_rows.specs.declared.words.Kind.TheVariants.{DebugFrame, EhFrame}
-use Rattle.cfi_rows.specs.declared.words.Request.{Request}
-use Rattle.cfi_rows.specs.declared.words.Storage.{Storage}
+use Rattle.cfi_rows.specs.declared.command_line.Kind.{Kind}
+use Rattle.cfi_rows.specs.declared.command_line.Kind.TheVariants.{DebugFrame, EhFrame}
+use Rattle.cfi_rows.specs.declared.command_line.Request.{Request}
+use Rattle.cfi_rows.specs.declared.command_line.Storage.{Storage}
 use Rattle.cfi_rows.specs.ProgramOutput.{FoundByBase, FoundByHeader, FoundByRows, IsLineFor, IsRowByHeader, Room, room_of, IsAnswer, answers, header_section_of, kind_of_section, section_of}
 
 -- a section by its parts

@@ -1,10 +1,10 @@
 mod Computing
 pub mod InputLemmas
-pub mod LineLemmas
+pub mod OutputLineLemmas
 mod Printed
 pub mod RequestLemmas
 pub mod RunLemmas
-pub mod WordLemmas
+pub mod CommandLineLemmas
 pub mod WrittenLemmas
 pub mod AnswerLemmas
 mod OnHeap

@@ -5,8 +5,8 @@ use Rattle.cfi_state.specs.Row.{Row}
 use Rattle.cfi_unwind.specs.Fdes.{Fde}
 use Rattle.cfi_unwind.specs.Scan.{answer_by}
 use Rattle.cfi_unwind.specs.AddressRow.{row_of_fde}
-use Rattle.cfi_rows.specs.declared.words.Request.{Request}
-use Rattle.cfi_rows.specs.declared.words.Storage.TheVariants.{OnHeap}
+use Rattle.cfi_rows.specs.declared.command_line.Request.{Request}
+use Rattle.cfi_rows.specs.declared.command_line.Storage.TheVariants.{OnHeap}
 use Rattle.cfi_rows.specs.Input.{Bytes}
 use Rattle.cfi_rows.specs.ProgramOutput.{FoundByBase, IsAnswer, answers, room_of, section_of}
 

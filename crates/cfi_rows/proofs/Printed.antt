@@ -6,8 +6,8 @@ use Rattle.cfi_state.specs.declared.table.rules.RegisterRule.{RegisterRule}
 use Rattle.cfi_state.specs.declared.table.rules.RegisterRule.TheVariants as rules
 use Rattle.cfi_read_core.specs.declared.common.Vendor.TheVariants as vendors
 use Rattle.cfi_read_core.specs.declared.endianity.RunTimeEndian.TheVariants.{Little, Big}
-use Rattle.cfi_rows.specs.declared.words.Kind.TheVariants.{DebugFrame, EhFrame}
-use Rattle.cfi_rows.specs.declared.words.Storage.TheVariants.{OnHeap, Growing}
+use Rattle.cfi_rows.specs.declared.command_line.Kind.TheVariants.{DebugFrame, EhFrame}
+use Rattle.cfi_rows.specs.declared.command_line.Storage.TheVariants.{OnHeap, Growing}
 use Rattle.std.specs.FinMap as map
 use Rattle.cfi_state.specs.declared.table.rules.CfaRule.{CfaRule}
 use Rattle.cfi_state.specs.Row.{Row}

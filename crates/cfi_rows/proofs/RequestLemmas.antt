@@ -5,11 +5,11 @@ use Rattle.std.specs.Str.{bytes_eq}
 use Rattle.cfi_read_core.specs.Addresses.{IsAddressSize}
 use Rattle.cfi_read_core.specs.declared.common.Vendor.{Vendor}
 use Rattle.cfi_read_core.specs.declared.common.Vendor.TheVariants as vendors
-use Rattle.cfi_rows.specs.declared.words.Kind.{Kind}
-use Rattle.cfi_rows.specs.declared.words.Kind.TheVariants.{DebugFrame, EhFrame}
-use Rattle.cfi_rows.specs.declared.words.Storage.{Storage}
-use Rattle.cfi_rows.specs.declared.words.Storage.TheVariants.{OnHeap, Growing}
-use Rattle.cfi_rows.specs.declared.words.Request.{Request}
+use Rattle.cfi_rows.specs.declared.command_line.Kind.{Kind}
+use Rattle.cfi_rows.specs.declared.command_line.Kind.TheVariants.{DebugFrame, EhFrame}
+use Rattle.cfi_rows.specs.declared.command_line.Storage.{Storage}
+use Rattle.cfi_rows.specs.declared.command_line.Storage.TheVariants.{OnHeap, Growing}
+use Rattle.cfi_rows.specs.declared.command_line.Request.{Request}
 use Rattle.cfi_rows.specs.CommandLine.{CanBeAnswered, request_of_words, after_prefix, either, first_words, kind_of, number, once_given, option_word, option_words, order_of, request_of, set_data_base, set_header, set_section, set_storage, set_text, set_vendor, size_of}
 
 -- ---- steps that may give nothing

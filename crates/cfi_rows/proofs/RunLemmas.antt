@@ -5,7 +5,7 @@ use Rattle.std.specs.Io.KnownBytes.{Appends, Keeps}
 use Rattle.cfi_read_core.specs.declared.error.Error.{Error}
 use Rattle.cfi_read_core.specs.declared.error.Error.TheVariants.{OutOfMemory}
 use Rattle.cfi_state.specs.Row.{Row}
-use Rattle.cfi_rows.specs.declared.words.Request.{Request}
+use Rattle.cfi_rows.specs.declared.command_line.Request.{Request}
 use Rattle.cfi_rows.specs.ProgramOutput.{RequestAnswer, IsOwed, IsRun, LineOfInput, LineOfRequest, LineOfWords, out_of_memory, IsLineFor}
 use Rattle.cfi_rows.specs.Input.{Bytes, bytes_by}
 use Rattle.cfi_rows.specs.Lines.{Line, answer_line, wrong_words, wrong_hexadecimal, wrong_input}

@@ -11,11 +11,11 @@ use Rattle.cfi_read_core.specs.declared.common.Vendor.{Vendor}
 use Rattle.cfi_read_core.specs.declared.common.Vendor.TheVariants as vendors
 use Rattle.cfi_read_core.specs.declared.endianity.RunTimeEndian.{RunTimeEndian}
 use Rattle.cfi_read_core.specs.declared.endianity.RunTimeEndian.TheVariants.{Little, Big}
-use Rattle.cfi_rows.specs.declared.words.Kind.{Kind}
-use Rattle.cfi_rows.specs.declared.words.Kind.TheVariants.{DebugFrame, EhFrame}
-use Rattle.cfi_rows.specs.declared.words.Storage.{Storage}
-use Rattle.cfi_rows.specs.declared.words.Storage.TheVariants.{OnHeap, Growing}
-use Rattle.cfi_rows.specs.declared.words.Request.{Request}
+use Rattle.cfi_rows.specs.declared.command_line.Kind.{Kind}
+use Rattle.cfi_rows.specs.declared.command_line.Kind.TheVariants.{DebugFrame, EhFrame}
+use Rattle.cfi_rows.specs.declared.command_line.Storage.{Storage}
+use Rattle.cfi_rows.specs.declared.command_line.Storage.TheVariants.{OnHeap, Growing}
+use Rattle.cfi_rows.specs.declared.command_line.Request.{Request}
 
 -- ---- texts
 

@@ -13,11 +13,11 @@ use Rattle.cfi_unwind.specs.Scan.{chosen_fde}
 use Rattle.gimli_cfi.specs.Headers.{HeaderSection, Header, Table, header_of, start_of}
 use Rattle.gimli_cfi.specs.HeaderTables.{IsFoundByTable}
 use Rattle.cfi_unwind.specs.AddressRow.{IsRowOfFound}
-use Rattle.cfi_rows.specs.declared.words.Kind.{Kind}
-use Rattle.cfi_rows.specs.declared.words.Kind.TheVariants.{DebugFrame, EhFrame}
-use Rattle.cfi_rows.specs.declared.words.Storage.{Storage}
-use Rattle.cfi_rows.specs.declared.words.Storage.TheVariants.{OnHeap, Growing}
-use Rattle.cfi_rows.specs.declared.words.Request.{Request}
+use Rattle.cfi_rows.specs.declared.command_line.Kind.{Kind}
+use Rattle.cfi_rows.specs.declared.command_line.Kind.TheVariants.{DebugFrame, EhFrame}
+use Rattle.cfi_rows.specs.declared.command_line.Storage.{Storage}
+use Rattle.cfi_rows.specs.declared.command_line.Storage.TheVariants.{OnHeap, Growing}
+use Rattle.cfi_rows.specs.declared.command_line.Request.{Request}
 use Rattle.cfi_rows.specs.CommandLine.{request_of_words}
 use Rattle.cfi_rows.specs.Input.{Bytes, bytes_by}
 use Rattle.cfi_rows.specs.Lines.{Line, answer_line, wrong_words, wrong_hexadecimal, wrong_input}

@@ -11,13 +11,13 @@ ghost use Rattle.std.specs.Process.{exit_status};
 ghost use Rattle.cfi_rows.specs.ProgramOutput.{answers, IsRun};
 ghost use Rattle.cfi_rows.specs.CommandLine.{texts};
 
+mod command_line;
 mod input;
-mod line;
+mod output_line;
 mod row_lookup;
 mod run;
 #[cfg(test)]
 mod tests;
-mod words;
 
 use run::run;
 use std::alloc::{AllocError, Global};

@@ -3,18 +3,18 @@ ghost use Rattle.std.specs.Prelude.{◌≡◌, Some};
 ghost use Rattle.cfi_read_core.specs.declared.error.Error.{Error as Refusal};
 ghost use Rattle.cfi_read_core.specs.Readers.{map_ok};
 ghost use Rattle.cfi_read_core.specs.Addresses.{IsAddressSize};
-ghost use Rattle.cfi_state.specs.Numbered.{row_lent};
+ghost use Rattle.cfi_state.specs.MappedStates.{row_lent};
 ghost use Rattle.gimli_cfi.specs.Headers.{header_section};
-ghost use Rattle.gimli_cfi.specs.Views.{section_view};
+ghost use Rattle.gimli_cfi.specs.HeaderViews.{section_view};
 ghost use Rattle.cfi_rows.specs.ProgramOutput.{answers, room, IsAnswer, IsLineFor, IsRowByHeader};
 ghost use Rattle.cfi_rows.specs.Input.{bytes_of};
 ghost use Rattle.cfi_rows.specs.Lines.{Line};
 ghost use Rattle.cfi_rows.specs.CommandLine.{CanBeAnswered};
 ghost use Rattle.cfi_rows.specs.Written.{Prints};
 
+use crate::command_line::{Kind, Request, Storage};
 use crate::input::Sections;
-use crate::line::{write_answer, write_refusal};
-use crate::words::{Kind, Request, Storage};
+use crate::output_line::{write_answer, write_refusal};
 use gimli_cfi::{
     BaseAddresses, DebugFrame, EhFrame, EhFrameHdr, Error, Reader, SectionBaseAddresses,
     StoreGrowing, StoreOnHeap, TableStarts, UnwindContext, UnwindContextStorage, UnwindTableRow,

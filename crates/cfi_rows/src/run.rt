@@ -8,10 +8,12 @@ ghost use Rattle.cfi_rows.specs.Written.{Prints};
 ghost use Rattle.cfi_read_core.specs.Readers.{map_ok};
 ghost use Rattle.cfi_rows.specs.Input.{IsDecoded, bytes_of};
 
+use crate::command_line::{Request, asked_for};
 use crate::input::{InputError, Sections, decode_sections, read_all};
-use crate::line::{write_refusal, write_wrong_hexadecimal, write_wrong_input, write_wrong_words};
+use crate::output_line::{
+    write_refusal, write_wrong_hexadecimal, write_wrong_input, write_wrong_words,
+};
 use crate::row_lookup::print_answer;
-use crate::words::{Request, asked_for};
 use gimli_cfi::Error;
 use std::alloc::Global;
 use std::io;

@@ -4,7 +4,7 @@ mod extensions;
 mod failing;
 mod header;
 
-use crate::line::{Address, Cfa, Rule, write_part};
+use crate::output_line::{Address, Cfa, Rule, write_part};
 use crate::run::run;
 use cfi_parts::instruction::UnwindExpression;
 use cfi_state::table::rules::{CfaRule, RegisterRule};

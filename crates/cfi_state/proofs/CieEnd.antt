@@ -10,15 +10,15 @@ use Rattle.cfi_parts.specs.declared.instruction.CallFrameInstruction.{CallFrameI
 use Rattle.cfi_parts.specs.declared.instruction.CallFrameInstruction.TheVariants as instruction
 use Rattle.cfi_state.specs.declared.table.rules.RegisterRule.{RegisterRule}
 use Rattle.cfi_state.specs.Actions.{action}
-use Rattle.cfi_state.specs.ProgramSettings.{Setting, is_at_limit}
+use Rattle.cfi_state.specs.MachineSettings.{Setting, is_at_limit}
 use Rattle.cfi_state.specs.Machine.{Parts, State, rows_held, end_of_cie}
-use Rattle.cfi_state.specs.Brackets.{survivors, before_open}
+use Rattle.cfi_state.specs.RememberedStates.{survivors, before_open}
 use Rattle.cfi_state.specs.Writers.{last_written, written_rule, writes_rule, rule_after_toggles, final_toggles, final_rule, final_rules, final_parts}
 use Rattle.cfi_state.specs.Program.{Program, in_cie, in_fde, followed_by, no_rule, parts_of, rule_count, is_stack_full, refusal, refusal_at_end, IsAccepted, nothing, one_more, cie_ended}
 use Rattle.cfi_state.specs.Rows.{or_refused, program_state}
-use Rattle.cfi_state.proofs.BracketCounts.{closings}
-use Rattle.cfi_state.proofs.BracketEnds.{is_gone, left, stays_open, fronts, map_twice}
-use Rattle.cfi_state.proofs.BracketPlaces.{survivors-left, before_open-fronts}
+use Rattle.cfi_state.proofs.RememberedStateCounts.{closings}
+use Rattle.cfi_state.proofs.RememberedStateEnds.{is_gone, left, stays_open, fronts, map_twice}
+use Rattle.cfi_state.proofs.RememberedStatePlaces.{survivors-left, before_open-fronts}
 use Rattle.cfi_state.proofs.PartsEnds.{get-rules_left, len-rules_left, is_rules_left, same_parts}
 use Rattle.cfi_state.proofs.Law.{accepted_closings, is_full_is, or-refused_if, state}
 

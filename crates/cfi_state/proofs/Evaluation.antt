@@ -13,7 +13,7 @@ use Rattle.cfi_state.specs.declared.table.rules.CfaRule.TheVariants as cfa
 use Rattle.cfi_state.specs.declared.table.rules.RegisterRule.{RegisterRule}
 use Rattle.cfi_state.specs.declared.table.machine.Parameters.{Parameters}
 use Rattle.cfi_state.specs.Outcome.{Performs}
-use Rattle.cfi_state.specs.ProgramSettings.{Setting, is_at_limit, advanced_location, fits_address}
+use Rattle.cfi_state.specs.MachineSettings.{Setting, is_at_limit, advanced_location, fits_address}
 use Rattle.cfi_state.specs.Machine.{Rules, State, perform, step}
 use Rattle.cfi_state.specs.Machine as machine
 use Rattle.cfi_state.specs.Rules.{map_set_rule, AddsRule}

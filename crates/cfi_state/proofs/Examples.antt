@@ -12,7 +12,7 @@ use Rattle.cfi_state.specs.declared.table.rules.CfaRule.TheVariants as cfa
 use Rattle.cfi_state.specs.declared.table.rules.RegisterRule.{RegisterRule}
 use Rattle.cfi_state.specs.declared.table.rules.RegisterRule.TheVariants as rule
 use Rattle.cfi_state.specs.Row.{Row}
-use Rattle.cfi_state.specs.ProgramSettings.{Setting}
+use Rattle.cfi_state.specs.MachineSettings.{Setting}
 use Rattle.cfi_state.specs.Program.{in_fde}
 use Rattle.cfi_state.specs.Rows.{answers, cie_refusal, run_answers, run_cie, or_refused, on_result}
 use Rattle.cfi_state.proofs.RuleMaps.{map_values}

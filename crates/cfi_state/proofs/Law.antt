@@ -16,16 +16,16 @@ use Rattle.cfi_parts.specs.declared.instruction.CallFrameInstruction.TheVariants
 use Rattle.cfi_state.specs.declared.table.rules.CfaRule.{CfaRule}
 use Rattle.cfi_state.specs.declared.table.rules.RegisterRule.{RegisterRule}
 use Rattle.cfi_state.specs.declared.table.rules.RegisterRule.TheVariants as rule
-use Rattle.cfi_state.specs.ProgramSettings.{Setting, ra_sign_state, is_at_limit, advanced_location, fits_address, location_after, remembers, restores, next_location, is_move, is_remember, is_restore, is_toggle}
+use Rattle.cfi_state.specs.MachineSettings.{Setting, ra_sign_state, is_at_limit, advanced_location, fits_address, location_after, remembers, restores, next_location, is_move, is_remember, is_restore, is_toggle}
 use Rattle.cfi_state.specs.Actions.{Action, sets_location, advances_location, defines_cfa, defines_cfa_register, defines_cfa_offset, defines_cfa_expression, gives_rule, restores_rule, toggles_sign_state, remembers_state, restores_state, sets_args_size, changes_nothing, action}
 use Rattle.cfi_state.specs.Machine.{Rules, Parts, State, fresh_state, copies_held, rows_held, with_cfa, with_rules, set_rule, set_or_remove_rule, set_cfa_register, set_cfa_offset, toggle, restore_state, perform, step}
-use Rattle.cfi_state.specs.Brackets.{survivors, open_indices, before_open}
+use Rattle.cfi_state.specs.RememberedStates.{survivors, open_indices, before_open}
 use Rattle.cfi_state.specs.Writers.{last_written, written_cfa, written_cfa_register, written_cfa_offset, written_args_size, written_register, written_rule, names, cfa_from, final_cfa, final_args_size, rule_before_toggles, final_toggles, constant_or_zero, final_rule, final_rules, final_parts}
 use Rattle.cfi_state.specs.Program.{Program, in_cie, in_fde, refused_if, instructions, followed_by, location_of, no_rule, initial_rule, rule_of, parts_of, open_count, extra_count, is_stack_full, is_expression, is_no_constant, has_no_room, refusal_of, refusal, IsAccepted, nothing, one_more, cie_ended}
 use Rattle.cfi_state.specs.Rows.{or_refused, initial_rules_of, remembered_of, program_state}
-use Rattle.cfi_state.proofs.BracketCounts.{closing, closings, opens, closings-append}
-use Rattle.cfi_state.proofs.BracketEnds.{left, fronts, left-append, fronts-append, closings_before, length-fronts, restored, no_length}
-use Rattle.cfi_state.proofs.BracketPlaces.{survivors-left, before_open-fronts, open_places-length}
+use Rattle.cfi_state.proofs.RememberedStateCounts.{closing, closings, opens, closings-append}
+use Rattle.cfi_state.proofs.RememberedStateEnds.{left, fronts, left-append, fronts-append, closings_before, length-fronts, restored, no_length}
+use Rattle.cfi_state.proofs.RememberedStatePlaces.{survivors-left, before_open-fronts, open_places-length}
 use Rattle.cfi_state.proofs.PartsEnds.{rule_push_writer, rule_push_toggle, get-rules_left, len-rules_left, rules_push_insert, rules_push_remove, rules_push_unnamed, cfa_push, args_size_push, same_parts, parts_moves, before_toggles_below, rule_left_below, toggled_none, toggled_constant}
 
 pub or-refused_if : {A : Type 0} (b : Bool) (e : Error) (a : A) → or_refused (refused_if b e) a ≡ cond b (Err e) (Ok a)

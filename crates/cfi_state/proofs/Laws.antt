@@ -14,8 +14,8 @@ use Rattle.cfi_read_core.specs.declared.error.Error.TheVariants.{OutOfMemory}
 use Rattle.cfi_parts.specs.declared.instruction.CallFrameInstruction.{CallFrameInstruction}
 use Rattle.cfi_parts.specs.declared.instruction.CallFrameInstruction.TheVariants as instruction
 use Rattle.cfi_state.specs.Row.{Row}
-use Rattle.cfi_state.specs.ProgramSettings.{Setting, next_location, is_move}
-use Rattle.cfi_state.specs.Runs.{MayAllocate, AnswersFde}
+use Rattle.cfi_state.specs.MachineSettings.{Setting, next_location, is_move}
+use Rattle.cfi_state.specs.MachineRuns.{MayAllocate, AnswersFde}
 use Rattle.cfi_state.specs.Program.{Program, in_fde, refused_if, followed_by, location_of, refusal}
 use Rattle.cfi_state.specs.Rows.{or_refused, on_option, on_result, refusals, row_until, answers_of, answers, cie_refusal, run_answers, program_state, rows_of, row_contains, AreConsecutive, answer_at, fde_answer, run_fde_answer}
 use Rattle.cfi_state.proofs.Law.{location_push}

@@ -1,19 +1,19 @@
 -- Proofs about the meaning of call frame instructions.
 pub mod RuleMaps
 pub mod Examples
-pub mod BracketCounts
-pub mod BracketEnds
+pub mod RememberedStateCounts
+pub mod RememberedStateEnds
 pub mod Ranges
-pub mod BracketPlaces
+pub mod RememberedStatePlaces
 pub mod WriterEnds
 pub mod PartsEnds
 pub mod Law
 pub mod CieEnd
 pub mod IsStateAfter
-pub mod NumberedMaps
-pub mod NumberedSteps
+pub mod MappedMaps
+pub mod MappedSteps
 pub mod RunSteps
-pub mod NumberedRuns
+pub mod MappedRuns
 pub mod RunAnswers
 pub mod KeptAnswers
 pub mod Laws
@@ -27,4 +27,4 @@ pub mod Equal
 pub mod Contexts
 pub mod ContextEquality
 pub mod Evaluation
-pub mod NumberedSame
+pub mod MappedEquality

@@ -8,10 +8,10 @@ use Rattle.cfi_parts.specs.declared.instruction.CallFrameInstruction.{CallFrameI
 use Rattle.cfi_parts.specs.declared.instruction.CallFrameInstruction.TheVariants as instruction
 use Rattle.cfi_state.specs.declared.table.rules.CfaRule.TheVariants as cfa
 use Rattle.cfi_state.specs.Row.{Row}
-use Rattle.cfi_state.specs.ProgramSettings.{Setting}
+use Rattle.cfi_state.specs.MachineSettings.{Setting}
 use Rattle.cfi_state.specs.Machine.{State, no_rules}
 use Rattle.cfi_state.specs.TableStates.{TableState, before_last_row, after_last_row}
-use Rattle.cfi_state.specs.Runs.{NextAnswer, passes, refuses, last_row, may_allocate}
+use Rattle.cfi_state.specs.MachineRuns.{NextAnswer, passes, refuses, last_row, may_allocate}
 
 -- no limits, and copies of rules allocate; the FDE covers 0x1000 up to 0x1020
 abbrev growing : Setting

@@ -24,7 +24,7 @@ use Rattle.cfi_state.specs.declared.storage.Why.TheVariants.{Full, Memory}
 use Rattle.cfi_state.specs.Outcome.{Performs}
 use Rattle.cfi_state.specs.Refusal.{refusal_for}
 use Rattle.cfi_state.specs.Limit.{IsAtLimit, IsWithinLimit}
-use Rattle.cfi_state.specs.ProgramSettings.{is_at_limit}
+use Rattle.cfi_state.specs.MachineSettings.{is_at_limit}
 use Rattle.cfi_state.specs.Machine.{Rules}
 use Rattle.cfi_state.specs.Rules.{numbered_pair, rules_of, map_set_rule, IsDistinctRegisters, IsRising, BelongsAt, AddsRule, AddsRules}
 use Rattle.cfi_state.proofs.Entries.{find_at, from_entries-set, from_entries-permuted, from_entries-without, remove-absent, len-from_entries}

@@ -5,12 +5,12 @@ use Rattle.cfi_read_core.specs.declared.error.Error.{Error}
 use Rattle.cfi_read_core.specs.declared.error.Error.TheVariants.{OutOfMemory, NoUnwindInfoForAddress}
 use Rattle.cfi_parts.specs.declared.instruction.CallFrameInstruction.{CallFrameInstruction}
 use Rattle.cfi_state.specs.Row.{Row}
-use Rattle.cfi_state.specs.ProgramSettings.{Setting, is_move}
+use Rattle.cfi_state.specs.MachineSettings.{Setting, is_move}
 use Rattle.cfi_state.specs.Machine.{State, fresh_state, step, end_of_cie}
 use Rattle.cfi_state.specs.Rows.{on_result, on_option, row_ended, run_answers, run_answers_of, run_all, run_cie, row_contains, answer_at, run_fde_answer}
 use Rattle.cfi_state.specs.Outcome.{IsRefusal}
 use Rattle.cfi_state.specs.TableStates.{TableState, before_last_row, run_answers_to_come, IsNext}
-use Rattle.cfi_state.specs.Runs.{MayAllocate, NextAnswer, passes, ends_row, refuses, cannot_read, last_row, no_row, RunsInitialInstructions, cie_passes, cie_refuses, cie_cannot_read, cie_ends, cie_end_refused, FindsRow, contains_it, goes_on, is_refused, comes_to_end, AnswersFde, by_cie, by_rows}
+use Rattle.cfi_state.specs.MachineRuns.{MayAllocate, NextAnswer, passes, ends_row, refuses, cannot_read, last_row, no_row, RunsInitialInstructions, cie_passes, cie_refuses, cie_cannot_read, cie_ends, cie_end_refused, FindsRow, contains_it, goes_on, is_refused, comes_to_end, AnswersFde, by_cie, by_rows}
 
 -- ---- what one step does to the answers of a run
 

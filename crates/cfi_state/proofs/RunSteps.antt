@@ -7,11 +7,11 @@ use Rattle.cfi_read_core.specs.Reading.{Readings, with_first, no_values}
 use Rattle.cfi_read_core.specs.declared.error.Error.{Error}
 use Rattle.cfi_parts.specs.declared.instruction.CallFrameInstruction.{CallFrameInstruction}
 use Rattle.cfi_state.specs.Row.{Row}
-use Rattle.cfi_state.specs.ProgramSettings.{Setting, is_move}
+use Rattle.cfi_state.specs.MachineSettings.{Setting, is_move}
 use Rattle.cfi_state.specs.Machine.{State, step, end_of_cie}
 use Rattle.cfi_state.specs.Outcome.{IsRefusal}
 use Rattle.cfi_state.specs.TableStates.{TableState, before_last_row}
-use Rattle.cfi_state.specs.Runs.{MayAllocate, current_row, NextAnswer, passes, ends_row, RunsInitialInstructions, cie_passes, cie_refuses, cie_cannot_read, cie_ends, cie_end_refused}
+use Rattle.cfi_state.specs.MachineRuns.{MayAllocate, current_row, NextAnswer, passes, ends_row, RunsInitialInstructions, cie_passes, cie_refuses, cie_cannot_read, cie_ends, cie_end_refused}
 
 module _ {T : Type 0} (allocates : MayAllocate T) (s : Setting) where
   -- ---- the rows of an FDE

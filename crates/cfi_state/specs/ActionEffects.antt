@@ -10,7 +10,7 @@ use Rattle.cfi_state.specs.declared.table.rules.CfaRule.{CfaRule}
 use Rattle.cfi_state.specs.declared.table.rules.CfaRule.TheVariants as cfa
 use Rattle.cfi_state.specs.declared.table.rules.RegisterRule.{RegisterRule}
 use Rattle.cfi_state.specs.Actions.{Action, sets_location, advances_location, defines_cfa, defines_cfa_register, defines_cfa_offset, defines_cfa_expression, gives_rule}
-use Rattle.cfi_state.specs.ProgramSettings.{Setting, advanced_location, fits_address}
+use Rattle.cfi_state.specs.MachineSettings.{Setting, advanced_location, fits_address}
 
 module _ {T : Type 0} where
   abbrev pub target : Setting → ℕ → Action T → Result (Option ℕ) Error

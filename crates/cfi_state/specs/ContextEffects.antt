@@ -7,7 +7,7 @@ use Rattle.cfi_read_core.specs.declared.error.Error.{Error}
 use Rattle.cfi_parts.specs.declared.instruction.CallFrameInstruction.{CallFrameInstruction}
 use Rattle.cfi_state.specs.Actions.{Action, remembers_state, restores_state, action}
 use Rattle.cfi_state.specs.declared.table.machine.Parameters.{Parameters}
-use Rattle.cfi_state.specs.ProgramSettings.{Setting}
+use Rattle.cfi_state.specs.MachineSettings.{Setting}
 use Rattle.cfi_state.specs.Machine.{step, end_of_cie}
 use Rattle.cfi_state.specs.Memory.{may_allocate_at, may_allocate_at_end}
 use Rattle.cfi_state.specs.Outcome.{IsRefusal}

@@ -9,12 +9,12 @@ use Rattle.cfi_read_core.specs.declared.error.Error.{Error}
 use Rattle.cfi_parts.specs.declared.instruction.CallFrameInstruction.{CallFrameInstruction}
 use Rattle.cfi_state.specs.Outcome.{IsDueOrMemory}
 use Rattle.cfi_state.specs.Row.{Row}
-use Rattle.cfi_state.specs.ProgramSettings.{Setting, is_move}
+use Rattle.cfi_state.specs.MachineSettings.{Setting, is_move}
 use Rattle.cfi_state.specs.Machine.{State}
 use Rattle.cfi_state.specs.Program.{Program, in_cie, in_fde, followed_by, location_of, refusal, refusal_at_end}
 use Rattle.cfi_state.specs.Rows.{row_until, program_state, IsStateAfter}
 use Rattle.cfi_state.specs.TableStates.{TableState, before_last_row, after_last_row}
-use Rattle.cfi_state.specs.Runs.{MayAllocate, FindsRow}
+use Rattle.cfi_state.specs.MachineRuns.{MayAllocate, FindsRow}
 
 -- what an instruction that is left out was refused with
 abbrev pub IsLeftOut : Bool → Option Error → Error → Type 0

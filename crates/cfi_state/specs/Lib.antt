@@ -1,17 +1,17 @@
 -- What call frame instructions mean (DWARF 5 section 6.4): the machine that runs them, and the form without a machine.
 pub mod Actions
-pub mod ProgramSettings
+pub mod MachineSettings
 pub mod Machine
 pub mod Row
 pub mod Outcome
 pub mod Memory
-pub mod Brackets
+pub mod RememberedStates
 pub mod Writers
 pub mod Program
 pub mod Rows
-pub mod Numbered
+pub mod MappedStates
 pub mod TableStates
-pub mod Runs
+pub mod MachineRuns
 pub mod Kept
 pub mod Limit
 pub mod Refill

@@ -5,7 +5,7 @@ use Rattle.std.specs.Prelude.{ℕ, Bool, false, not, ◌&&◌, ◌||◌, nat_le,
 use Rattle.std.specs.FinMap as map
 use Rattle.cfi_parts.specs.declared.instruction.CallFrameInstruction.{CallFrameInstruction}
 use Rattle.cfi_state.specs.Actions.{Action, gives_rule, restores_rule, toggles_sign_state, remembers_state, action}
-use Rattle.cfi_state.specs.ProgramSettings.{Setting, ra_sign_state}
+use Rattle.cfi_state.specs.MachineSettings.{Setting, ra_sign_state}
 use Rattle.cfi_state.specs.Machine.{Rules, State}
 
 -- a row is put on the stack, which may grow, or copies of whose rows allocate

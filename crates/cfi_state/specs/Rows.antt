@@ -13,9 +13,9 @@ use Rattle.cfi_read_core.specs.declared.error.Error.{Error}
 use Rattle.cfi_read_core.specs.declared.error.Error.TheVariants.{NoUnwindInfoForAddress}
 use Rattle.cfi_parts.specs.declared.instruction.CallFrameInstruction.{CallFrameInstruction}
 use Rattle.cfi_state.specs.Row.{Row}
-use Rattle.cfi_state.specs.ProgramSettings.{Setting, is_move}
+use Rattle.cfi_state.specs.MachineSettings.{Setting, is_move}
 use Rattle.cfi_state.specs.Machine.{Rules, Parts, State, fresh_state, step, end_of_cie}
-use Rattle.cfi_state.specs.Brackets.{survivors, before_open}
+use Rattle.cfi_state.specs.RememberedStates.{survivors, before_open}
 use Rattle.cfi_state.specs.Writers.{final_rules, final_parts}
 use Rattle.cfi_state.specs.Program.{Program, in_cie, in_fde, instructions, followed_by, location_of, no_rule, initial_rule, parts_of, refusal, refusal_at_end, IsAccepted}
 

@@ -15,7 +15,7 @@ use Rattle.cfi_state.specs.declared.table.rules.CfaRule.TheVariants as cfa
 use Rattle.cfi_state.specs.declared.table.rules.RegisterRule.{RegisterRule}
 use Rattle.cfi_state.specs.declared.table.rules.RegisterRule.TheVariants as rule
 use Rattle.cfi_state.specs.Machine.{Rules, Parts}
-use Rattle.cfi_state.specs.ProgramSettings.{Setting, ra_sign_state, is_toggle}
+use Rattle.cfi_state.specs.MachineSettings.{Setting, ra_sign_state, is_toggle}
 use Rattle.cfi_state.specs.Actions.{Action, defines_cfa, defines_cfa_register, defines_cfa_offset, defines_cfa_expression, gives_rule, restores_rule, toggles_sign_state, sets_args_size, action}
 
 -- what the last instruction that writes something wrote

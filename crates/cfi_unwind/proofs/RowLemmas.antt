@@ -3,10 +3,10 @@ use Rattle.std.proofs.Common.{◌≡◌, ℕ, Bool, Result, ap, subst, ◌∙◌
 use Rattle.cfi_read_core.specs.declared.error.Error.{Error}
 use Rattle.cfi_read_core.specs.Reading.{Readings}
 use Rattle.cfi_parts.specs.Instructions.{Instruction}
-use Rattle.cfi_state.specs.ProgramSettings.{Setting}
+use Rattle.cfi_state.specs.MachineSettings.{Setting}
 use Rattle.cfi_state.specs.Row.{Row}
 use Rattle.cfi_state.specs.Rows.{fde_answer}
-use Rattle.cfi_state.specs.Runs.{may_allocate, AnswersFde}
+use Rattle.cfi_state.specs.MachineRuns.{may_allocate, AnswersFde}
 use Rattle.cfi_state.specs.Kept.{AnswersByKept}
 
 module _ (s t : Setting) (setting : s ≡ t) (cie cie' : Readings Instruction) (cies : cie ≡ cie') (fde fde' : Readings Instruction) (fdes : fde ≡ fde') where

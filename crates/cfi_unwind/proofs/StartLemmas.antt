@@ -5,10 +5,10 @@ use Rattle.cfi_read_core.specs.declared.error.Error.{Error}
 use Rattle.cfi_read_core.specs.Reading.{Readings}
 use Rattle.cfi_read_core.specs.Readers.{map_ok}
 use Rattle.cfi_parts.specs.Instructions.{Instruction}
-use Rattle.cfi_state.specs.ProgramSettings.{Setting}
+use Rattle.cfi_state.specs.MachineSettings.{Setting}
 use Rattle.cfi_state.specs.Machine.{State, fresh_state}
 use Rattle.cfi_state.specs.TableStates.{TableState}
-use Rattle.cfi_state.specs.Runs.{may_allocate, RunsInitialInstructions}
+use Rattle.cfi_state.specs.MachineRuns.{may_allocate, RunsInitialInstructions}
 use Rattle.cfi_unwind.specs.Sections.{Section}
 use Rattle.cfi_unwind.specs.Fdes.{Fde}
 use Rattle.cfi_unwind.specs.EntryInstructions.{cie_instructions, fde_instructions}

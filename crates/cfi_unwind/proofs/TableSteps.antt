@@ -11,19 +11,19 @@ use Rattle.cfi_read_core.specs.declared.error.Error.TheVariants.{NoUnwindInfoFor
 use Rattle.cfi_parts.specs.declared.instruction.CallFrameInstruction.{CallFrameInstruction}
 use Rattle.cfi_parts.specs.Instructions.{Instruction}
 use Rattle.cfi_parts.specs.InstructionReaders.{Meets}
-use Rattle.cfi_parts.specs.Views.{map_instruction}
+use Rattle.cfi_parts.specs.MappedInstructions.{map_instruction}
 use Rattle.cfi_state.specs.Row.{Row, at_start, at_end}
-use Rattle.cfi_state.specs.ProgramSettings.{Setting, is_move}
+use Rattle.cfi_state.specs.MachineSettings.{Setting, is_move}
 use Rattle.cfi_state.specs.Machine.{State, fresh_state, step}
 use Rattle.cfi_state.specs.Context.{ContextState, machine_state, with_row, empty_context}
 use Rattle.cfi_state.specs.ContextEffects.{Evaluates, EndsCie}
-use Rattle.cfi_state.specs.Numbered.{map_parts, map_row}
+use Rattle.cfi_state.specs.MappedStates.{map_parts, map_row}
 use Rattle.cfi_state.specs.TableStates.{TableState, before_last_row, after_last_row}
-use Rattle.cfi_state.specs.Runs.{MayAllocate, may_allocate, current_row, NextAnswer, passes, ends_row, refuses, cannot_read, last_row, no_row, RunsInitialInstructions, FindsRow, contains_it, goes_on, is_refused, comes_to_end, AnswersFde, by_cie, by_rows}
+use Rattle.cfi_state.specs.MachineRuns.{MayAllocate, may_allocate, current_row, NextAnswer, passes, ends_row, refuses, cannot_read, last_row, no_row, RunsInitialInstructions, FindsRow, contains_it, goes_on, is_refused, comes_to_end, AnswersFde, by_cie, by_rows}
 use Rattle.cfi_state.specs.Rows.{row_contains, fde_answer}
 use Rattle.cfi_state.specs.Limit.{IsFixed}
-use Rattle.cfi_state.proofs.NumberedRuns.{step_ok-mapped, end_ok-mapped, step_refusal-mapped, end_refusal-mapped}
-use Rattle.cfi_state.proofs.NumberedSteps.{is_move-mapped, fresh-mapped}
+use Rattle.cfi_state.proofs.MappedRuns.{step_ok-mapped, end_ok-mapped, step_refusal-mapped, end_refusal-mapped}
+use Rattle.cfi_state.proofs.MappedSteps.{is_move-mapped, fresh-mapped}
 use Rattle.cfi_state.proofs.RunSteps.{LeadsTo, leads-on, next-row, LeadsToCie, cie-leads-on, cie-refused, cie-unreadable, cie-ended, cie-end-refused}
 use Rattle.cfi_state.proofs.KeptAnswers.{keeps_next, keeps_cie, answers_by_kept, answers_by_kept_is}
 use Rattle.cfi_state.proofs.IsStateAfter.{stands_fresh}

@@ -7,10 +7,10 @@
 --     IsRowByScan      that, of what going through the section finds
 use Rattle.std.specs.Prelude.{◌≡◌, ℕ, Bool, Option, Result, Ok, Err}
 use Rattle.cfi_read_core.specs.declared.error.Error.{Error}
-use Rattle.cfi_state.specs.ProgramSettings.{Setting}
+use Rattle.cfi_state.specs.MachineSettings.{Setting}
 use Rattle.cfi_state.specs.Row.{Row}
 use Rattle.cfi_state.specs.Rows.{fde_answer}
-use Rattle.cfi_state.specs.Runs.{may_allocate, AnswersFde}
+use Rattle.cfi_state.specs.MachineRuns.{may_allocate, AnswersFde}
 use Rattle.cfi_state.specs.Kept.{AnswersByKept}
 use Rattle.cfi_state.specs.Limit.{IsFixed}
 use Rattle.cfi_unwind.specs.Sections.{Section}

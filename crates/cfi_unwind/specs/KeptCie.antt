@@ -5,7 +5,7 @@ use Rattle.cfi_parts.specs.CallFrameSections.{SectionView, IsOf}
 use Rattle.cfi_parts.specs.declared.pointer.BaseAddresses.{BaseAddresses}
 use Rattle.cfi_unwind.specs.Sections.{section_of}
 use Rattle.cfi_unwind.specs.Entries.{cie_at}
-use Rattle.cfi_unwind.specs.Views.{cie_view}
+use Rattle.cfi_unwind.specs.EntryFieldViews.{cie_view}
 use Rattle.cfi_unwind.specs.declared.entry.cie.CieFields.{CieFields}
 
 -- the CIE that is kept, if there is one, is the section's at its offset

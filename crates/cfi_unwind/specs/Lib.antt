@@ -5,7 +5,7 @@ pub mod Fdes
 pub mod EntryInstructions
 pub mod Entries
 pub mod Scan
-pub mod Views
+pub mod EntryFieldViews
 pub mod EntryViews
 pub mod Walks
 pub mod GetCieCalls

@@ -13,14 +13,14 @@ use Rattle.cfi_read_core.specs.Readers.{map_ok}
 use Rattle.cfi_read_core.specs.declared.error.Error.{Error}
 use Rattle.cfi_parts.specs.Instructions.{Instruction}
 use Rattle.cfi_state.specs.Row.{Row}
-use Rattle.cfi_state.specs.ProgramSettings.{Setting}
+use Rattle.cfi_state.specs.MachineSettings.{Setting}
 use Rattle.cfi_state.specs.Machine.{State, fresh_state}
 use Rattle.cfi_state.specs.Context.{ContextState, machine_state}
-use Rattle.cfi_state.specs.Numbered.{map_state, map_row, lent_row}
+use Rattle.cfi_state.specs.MappedStates.{map_state, map_row, lent_row}
 use Rattle.cfi_state.specs.TableStates.{TableState, before_last_row, after_last_row}
 use Rattle.cfi_state.specs.Program.{in_fde}
 use Rattle.cfi_state.specs.Rows.{IsStateAfter}
-use Rattle.cfi_state.specs.Runs.{current_row, NextAnswer, RunsInitialInstructions, may_allocate}
+use Rattle.cfi_state.specs.MachineRuns.{current_row, NextAnswer, RunsInitialInstructions, may_allocate}
 use Rattle.cfi_state.specs.Kept.{AnswersForProgram, KeepsInitialInstructions}
 use Rattle.cfi_unwind.specs.Sections.{Section}
 use Rattle.cfi_unwind.specs.Fdes.{Fde}

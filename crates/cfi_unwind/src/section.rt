@@ -4,7 +4,7 @@ ghost use Rattle.cfi_read_core.specs.Readers.{map_ok};
 ghost use Rattle.cfi_read_core.specs.declared.error.Error.{Error};
 ghost use Rattle.cfi_parts.specs.CallFrameSections.{IsOf};
 ghost use Rattle.cfi_unwind.specs.Sections.{section_of};
-ghost use Rattle.cfi_state.specs.Numbered.{row_lent};
+ghost use Rattle.cfi_state.specs.MappedStates.{row_lent};
 ghost use Rattle.cfi_unwind.specs.declared.entry.cie.CieFields.{CieFields};
 ghost use Rattle.cfi_unwind.specs.AddressRow.{IsRowOfFound};
 ghost use Rattle.cfi_unwind.specs.Fdes.{Covers, Fde};
@@ -12,7 +12,7 @@ ghost use Rattle.cfi_unwind.specs.Entries.{cie_at, entries, partial_fde_at};
 ghost use Rattle.cfi_unwind.specs.Scan.{chosen_fde};
 ghost use Rattle.cfi_unwind.specs.KeptCie.{KeepsCie};
 ghost use Rattle.cfi_unwind.specs.GetCieCalls.{GetCieCall, IsAnswered, ReadsWith, Scans};
-ghost use Rattle.cfi_unwind.specs.Views.{cie_view, fde_view};
+ghost use Rattle.cfi_unwind.specs.EntryFieldViews.{cie_view, fde_view};
 ghost use Rattle.cfi_unwind.specs.EntryViews.{partial_of};
 
 mod asking;

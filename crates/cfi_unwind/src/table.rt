@@ -11,14 +11,14 @@ ghost use Rattle.cfi_state.specs.ContextEffects.{setting_of};
 ghost use Rattle.cfi_state.specs.Kept.{AnswersByKept};
 ghost use Rattle.cfi_state.specs.Limit.{IsFixed};
 ghost use Rattle.cfi_state.specs.Machine.{fresh_state};
-ghost use Rattle.cfi_state.specs.Numbered.{row_lent};
+ghost use Rattle.cfi_state.specs.MappedStates.{row_lent};
 ghost use Rattle.cfi_state.specs.TableStates.{before_last_row};
 ghost use Rattle.cfi_state.specs.Rows.{fde_answer};
-ghost use Rattle.cfi_state.specs.Runs.{may_allocate, RunsInitialInstructions, FindsRow, AnswersFde};
+ghost use Rattle.cfi_state.specs.MachineRuns.{may_allocate, RunsInitialInstructions, FindsRow, AnswersFde};
 ghost use Rattle.cfi_read_core.specs.Readers.{map_ok};
 ghost use Rattle.cfi_unwind.specs.AddressRow.{setting};
 ghost use Rattle.cfi_unwind.specs.Sections.{section_of};
-ghost use Rattle.cfi_unwind.specs.Views.{fde_view};
+ghost use Rattle.cfi_unwind.specs.EntryFieldViews.{fde_view};
 ghost use Rattle.cfi_unwind.specs.UnwindTables.{GivesNextAnswer, AnswersWithoutMachine, KeepsCieProgram, StartsRows, state_in_numbers, row_due, row_given, state_after, LendsNextRow};
 
 use crate::entry::FrameDescriptionEntry;

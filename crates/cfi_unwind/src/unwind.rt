@@ -3,10 +3,10 @@ ghost use Rattle.std.specs.Prelude.{◌≡◌, ℕ, Option, IfOk, false};
 ghost use Rattle.cfi_parts.specs.CallFrameSections.{IsOf};
 ghost use Rattle.cfi_state.specs.ContextEffects.{setting_of};
 ghost use Rattle.cfi_state.specs.Limit.{IsFixed};
-ghost use Rattle.cfi_state.specs.Numbered.{row_lent};
+ghost use Rattle.cfi_state.specs.MappedStates.{row_lent};
 ghost use Rattle.cfi_unwind.specs.Sections.{section_of};
 ghost use Rattle.cfi_unwind.specs.AddressRow.{IsRowOfFde, RunsToRowOfFde, row_of_fde, setting};
-ghost use Rattle.cfi_unwind.specs.Views.{fde_view};
+ghost use Rattle.cfi_unwind.specs.EntryFieldViews.{fde_view};
 ghost use Rattle.cfi_unwind.specs.UnwindTables.{StartsRows};
 ghost use Rattle.cfi_unwind.specs.TableViews.{table_state};
 

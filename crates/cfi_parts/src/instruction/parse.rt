@@ -5,7 +5,7 @@ ghost use Rattle.cfi_read_core.specs.Reading.{chosen_from};
 ghost use Rattle.cfi_read_core.specs.Readers.{Reads};
 ghost use Rattle.cfi_parts.specs.Contexts.{instruction_context, pointer_context};
 ghost use Rattle.cfi_parts.specs.Instructions.{expression, extended_opcodes, instruction, location_by, unknown_opcode};
-ghost use Rattle.cfi_parts.specs.Views.{map_expression, map_instruction};
+ghost use Rattle.cfi_parts.specs.MappedInstructions.{map_expression, map_instruction};
 
 use crate::instruction::{CallFrameInstruction, UnwindExpression};
 use crate::pointer::{PointerEncodingParameters, parse_encoded_pointer};

@@ -67,7 +67,7 @@ impl<T: ReaderOffset> UnwindContext<T> {
 
 impl<T: ReaderOffset, S: UnwindContextStorage<T>> UnwindContext<T, S> {
     ghost use Rattle.std.specs.FinMap as map;
-    ghost use Rattle.cfi_state.specs.ProgramSettings.{is_at_limit};
+    ghost use Rattle.cfi_state.specs.MachineSettings.{is_at_limit};
     ghost use Rattle.cfi_state.specs.Machine.{copies_held};
     ghost use Rattle.cfi_state.specs.Outcome.{Performs};
     ghost use Rattle.cfi_state.specs.Rules.{map_set_rule, AddsRule, AddsRules};

@@ -4,7 +4,7 @@
 //! no business with them.
 ghost use Rattle.std.specs.Prelude.{◌≡◌, ℕ, None, IfOk, is_some, false};
 ghost use Rattle.std.specs.Int.{w64, int_wrapping_mul};
-ghost use Rattle.cfi_state.specs.ProgramSettings.{Setting, is_move};
+ghost use Rattle.cfi_state.specs.MachineSettings.{Setting, is_move};
 ghost use Rattle.cfi_parts.specs.declared.instruction.CallFrameInstruction.TheVariants as instruction;
 ghost use Rattle.cfi_state.specs.Row.{at_start, at_end};
 ghost use Rattle.cfi_state.specs.Context.{empty_context, machine_state, with_row};

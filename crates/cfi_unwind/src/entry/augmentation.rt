@@ -5,7 +5,7 @@ ghost use Rattle.cfi_read_core.specs.Readers.{Reads, bytes_left};
 ghost use Rattle.cfi_parts.specs.CallFrameSections.{IsOf};
 ghost use Rattle.cfi_unwind.specs.Sections.{pointer_context};
 ghost use Rattle.cfi_unwind.specs.Cies.{letters_with_data, augmentation, letter, letters};
-ghost use Rattle.cfi_unwind.specs.Views.{augmentation_view, section_in};
+ghost use Rattle.cfi_unwind.specs.EntryFieldViews.{augmentation_view, section_in};
 
 use crate::entry::in_section::InSection;
 use cfi_parts::pointer::{

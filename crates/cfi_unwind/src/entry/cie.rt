@@ -5,7 +5,7 @@ ghost use Rattle.cfi_read_core.specs.Addresses.{IsAddressSize};
 ghost use Rattle.cfi_read_core.specs.Readers.{Reads, map_ok};
 ghost use Rattle.cfi_parts.specs.CallFrameSections.{IsOf};
 ghost use Rattle.cfi_unwind.specs.Cies.{address_encoding_of, cie_of, has_b_key, is_trampoline, lsda_encoding_of, personality_of, return_register, sizes};
-ghost use Rattle.cfi_unwind.specs.Views.{augmentation_view, cie_view, prefix_view, section_in};
+ghost use Rattle.cfi_unwind.specs.EntryFieldViews.{augmentation_view, cie_view, prefix_view, section_in};
 
 use crate::entry::augmentation::{Augmentation, read_augmentation};
 use crate::entry::in_section::InSection;

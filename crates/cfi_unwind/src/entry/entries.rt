@@ -8,7 +8,7 @@ ghost use Rattle.cfi_parts.specs.CallFrameSections.{IsOf};
 ghost use Rattle.cfi_unwind.specs.Sections.{section_of};
 ghost use Rattle.cfi_unwind.specs.Entries.{cie_at, entries_left, entry_of, partial_fde_at, partial_fde_of, prefix_at};
 ghost use Rattle.cfi_unwind.specs.Walks.{GoesThrough, GoesThrough_prop, entry_read};
-ghost use Rattle.cfi_unwind.specs.Views.{cie_view, prefix_view, section_in};
+ghost use Rattle.cfi_unwind.specs.EntryFieldViews.{cie_view, prefix_view, section_in};
 ghost use Rattle.cfi_unwind.specs.EntryViews.{OfEither, entry_view, partial_of};
 
 use crate::entry::cie::{CommonInformationEntry, read_cie};

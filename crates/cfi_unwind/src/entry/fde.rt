@@ -5,7 +5,7 @@ ghost use Rattle.cfi_read_core.specs.Readers.{Reads, map_ok};
 ghost use Rattle.cfi_parts.specs.CallFrameSections.{IsOf};
 ghost use Rattle.cfi_unwind.specs.Cies.{is_trampoline, personality_of};
 ghost use Rattle.cfi_unwind.specs.Fdes.{addresses, covers, end_of, fde_after, lsda};
-ghost use Rattle.cfi_unwind.specs.Views.{augmentation_view, cie_view, fde_view, prefix_view, section_in};
+ghost use Rattle.cfi_unwind.specs.EntryFieldViews.{augmentation_view, cie_view, fde_view, prefix_view, section_in};
 
 use crate::entry::augmentation::Augmentation;
 use crate::entry::cie::{CieFields, CommonInformationEntry};

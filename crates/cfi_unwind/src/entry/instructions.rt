@@ -5,7 +5,7 @@ ghost use Rattle.cfi_parts.specs.Iterators.{instruction_reader};
 ghost use Rattle.cfi_parts.specs.InstructionReaders.{instructions_left};
 ghost use Rattle.cfi_unwind.specs.Sections.{section_of};
 ghost use Rattle.cfi_unwind.specs.EntryInstructions.{cie_instructions, fde_instructions};
-ghost use Rattle.cfi_unwind.specs.Views.{cie_view, fde_view};
+ghost use Rattle.cfi_unwind.specs.EntryFieldViews.{cie_view, fde_view};
 
 use crate::entry::cie::CommonInformationEntry;
 use crate::entry::fde::FrameDescriptionEntry;

@@ -59,7 +59,7 @@ impl<'bases, Section: _UnwindSectionPrivate<R> + Copy, R: Reader> PartialFrameDe
     ghost use Rattle.cfi_read_core.specs.Readers.{map_ok};
     ghost use Rattle.cfi_unwind.specs.Sections.{section_of};
     ghost use Rattle.cfi_unwind.specs.Fdes.{fde_of};
-    ghost use Rattle.cfi_unwind.specs.Views.{cie_view, fde_view};
+    ghost use Rattle.cfi_unwind.specs.EntryFieldViews.{cie_view, fde_view};
     ghost use Rattle.cfi_unwind.specs.EntryViews.{partial_of};
 
     /// Where the entry begins in its section.
@@ -103,7 +103,7 @@ impl<'bases, Section: UnwindSection<R>, R: Reader> PartialFrameDescriptionEntry<
     ghost use Rattle.cfi_read_core.specs.Readers.{map_ok};
     ghost use Rattle.cfi_unwind.specs.Sections.{section_of};
     ghost use Rattle.cfi_unwind.specs.GetCieCalls.{GetCieCall, IsAnswered, ReadsWith};
-    ghost use Rattle.cfi_unwind.specs.Views.{cie_view, fde_view};
+    ghost use Rattle.cfi_unwind.specs.EntryFieldViews.{cie_view, fde_view};
     ghost use Rattle.cfi_unwind.specs.EntryViews.{partial_of};
 
     /// Where the entry's CIE begins in its section.

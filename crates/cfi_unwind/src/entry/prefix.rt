@@ -5,7 +5,7 @@ ghost use Rattle.cfi_read_core.specs.Numbers.{unsigned};
 ghost use Rattle.cfi_read_core.specs.Readers.{Reads, map_ok};
 ghost use Rattle.cfi_parts.specs.CallFrameSections.{IsOf, width_of};
 ghost use Rattle.cfi_unwind.specs.Prefixes.{fields_after_length, prefix};
-ghost use Rattle.cfi_unwind.specs.Views.{prefix_view, section_in};
+ghost use Rattle.cfi_unwind.specs.EntryFieldViews.{prefix_view, section_in};
 
 use crate::entry::in_section::InSection;
 use cfi_parts::unwind_section::{_UnwindSectionPrivate, CieOffsetEncoding};

@@ -4,11 +4,11 @@ ghost use Rattle.cfi_read_core.specs.Readers.{map_ok};
 ghost use Rattle.cfi_parts.specs.declared.pointer.Pointer.TheVariants.{Direct};
 ghost use Rattle.cfi_unwind.specs.EntryViews.{partial_of};
 ghost use Rattle.cfi_unwind.specs.Scan.{read_fde};
-ghost use Rattle.cfi_unwind.specs.Views.{fde_view};
+ghost use Rattle.cfi_unwind.specs.EntryFieldViews.{fde_view};
 ghost use Rattle.gimli_cfi.specs.Boundary.{AreRising};
 ghost use Rattle.gimli_cfi.specs.FaithfulTables.{AreListed, HasRow, IsReason, IsReasonOfFde, IsReasonOfFdes, IsReasonOfStarts, IsRefusalIn, IsRefusalOfHeader, ListsFaithfully, most_starts, starts_for_fde, starts_for_fdes};
 ghost use Rattle.gimli_cfi.specs.Headers.{target_of, value_size};
-ghost use Rattle.gimli_cfi.specs.Views.{section_view, listing_view, header_section_view, starts_view, table_view};
+ghost use Rattle.gimli_cfi.specs.HeaderViews.{section_view, listing_view, header_section_view, starts_view, table_view};
 
 use crate::hdr::fields::{searchable_size, target_of_row};
 use crate::hdr::search::{StartSource, search_starts};

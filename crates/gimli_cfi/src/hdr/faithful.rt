@@ -1,9 +1,9 @@
 //! A table that was checked against its section.
 ghost use Rattle.std.specs.Prelude.{◌≡◌, ⊤, IfOk, IfErr};
-ghost use Rattle.cfi_state.specs.Numbered.{row_lent};
+ghost use Rattle.cfi_state.specs.MappedStates.{row_lent};
 ghost use Rattle.cfi_unwind.specs.AddressRow.{IsRowByScan};
 ghost use Rattle.gimli_cfi.specs.FaithfulTables.{IsReason, ListsFaithfully};
-ghost use Rattle.gimli_cfi.specs.Views.{section_view, listing_view};
+ghost use Rattle.gimli_cfi.specs.HeaderViews.{section_view, listing_view};
 
 use crate::hdr::check::check_table;
 use crate::hdr::starts::TableStarts;

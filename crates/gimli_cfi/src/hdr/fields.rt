@@ -6,7 +6,7 @@ ghost use Rattle.cfi_read_core.specs.Reading.{skip};
 ghost use Rattle.cfi_read_core.specs.declared.error.Error.TheVariants.{UnsupportedPointerEncoding};
 ghost use Rattle.cfi_parts.specs.Contexts.{pointer_context};
 ghost use Rattle.gimli_cfi.specs.Headers.{header_context, rows_passed, start_field, start_of, target_field, target_of, value_size};
-ghost use Rattle.gimli_cfi.specs.Views.{rows_view, header_section_view};
+ghost use Rattle.gimli_cfi.specs.HeaderViews.{rows_view, header_section_view};
 
 use crate::hdr::header::ParsedEhFrameHdr;
 use cfi_parts::pointer::{

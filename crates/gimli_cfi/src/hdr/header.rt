@@ -58,7 +58,7 @@ impl<R> Section<R> for EhFrameHdr<R> {
 }
 
 impl<R: Reader> EhFrameHdr<R> {
-    ghost use Rattle.gimli_cfi.specs.Views.{header_view};
+    ghost use Rattle.gimli_cfi.specs.HeaderViews.{header_view};
 
     /// Reads the header as far as the rows of its table, of which none is read yet.
     ///
@@ -148,7 +148,7 @@ impl<R: Reader> Clone for ParsedEhFrameHdr<R> {
 impl<R: Reader> Copy for ParsedEhFrameHdr<R> {}
 
 impl<R: Reader> ParsedEhFrameHdr<R> {
-    ghost use Rattle.gimli_cfi.specs.Views.{header_view, table_view};
+    ghost use Rattle.gimli_cfi.specs.HeaderViews.{header_view, table_view};
 
     /// Where `.eh_frame` is.
     pub fn eh_frame_ptr(&self) -> Pointer

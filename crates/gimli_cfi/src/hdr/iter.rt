@@ -29,7 +29,7 @@ pub struct EhHdrTableIter<'a, 'bases, R: Reader> {
 }
 
 impl<'a, 'bases, R: Reader> EhHdrTableIter<'a, 'bases, R> {
-    ghost use Rattle.gimli_cfi.specs.Views.{rows_view, header_section_view, walk_view};
+    ghost use Rattle.gimli_cfi.specs.HeaderViews.{rows_view, header_section_view, walk_view};
 
     /// All rows of the header's table.
     pub(crate) fn new(hdr: &'a ParsedEhFrameHdr<R>, bases: &'bases BaseAddresses) -> Self
@@ -74,7 +74,7 @@ impl<'a, 'bases, R: Reader> EhHdrTableIter<'a, 'bases, R> {
 impl<R: Reader> Iterator for EhHdrTableIter<'_, '_, R> {
     type Item = Result<(Pointer, Pointer)>;
 
-    ghost use Rattle.gimli_cfi.specs.Views.{walk_view};
+    ghost use Rattle.gimli_cfi.specs.HeaderViews.{walk_view};
 
     ghost next_gives = { λ s r t. YieldsFirst (λ it. rows_left (walk_view R.position it)) s r t
         × Reads (λ found. found) (next_row (walk_view R.position s)) (R.position s.table) (option_transpose r) (R.position t.table)

@@ -14,7 +14,7 @@ use cfi_parts::pointer::{BaseAddresses, Pointer};
 use cfi_read_core::{EhFrameOffset, Error, Reader, ReaderOffset, Result};
 
 impl<R: Reader> EhHdrTable<'_, R> {
-    ghost use Rattle.gimli_cfi.specs.Views.{header_section_view, starts_view, table_view};
+    ghost use Rattle.gimli_cfi.specs.HeaderViews.{header_section_view, starts_view, table_view};
 
     /// The target of a boundary row for the address: where the FDE for the address is, if the table names one.
     ///

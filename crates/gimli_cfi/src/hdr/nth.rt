@@ -9,7 +9,7 @@ use cfi_parts::pointer::Pointer;
 use cfi_read_core::{Reader, Result};
 
 impl<R: Reader> EhHdrTableIter<'_, '_, R> {
-    ghost use Rattle.gimli_cfi.specs.Views.{walk_view};
+    ghost use Rattle.gimli_cfi.specs.HeaderViews.{walk_view};
 
     /// The row after the next `n` rows, which are passed at once and aren't read. `None`, and no rows left, where no
     /// more than `n` remain.

@@ -48,7 +48,7 @@ impl<'a, 'bases, R: Reader> TableStarts<'a, 'bases, R> {
 }
 
 impl<R: Reader> StartSource for TableStarts<'_, '_, R> {
-    ghost use Rattle.gimli_cfi.specs.Views.{starts_view};
+    ghost use Rattle.gimli_cfi.specs.HeaderViews.{starts_view};
 
     ghost answer = { λ s. starts_view R.position s.hdr.now s.bases.now };
 

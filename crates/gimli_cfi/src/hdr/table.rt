@@ -31,7 +31,7 @@ impl<R: Reader> Clone for EhHdrTable<'_, R> {
 impl<R: Reader> Copy for EhHdrTable<'_, R> {}
 
 impl<'a, R: Reader> EhHdrTable<'a, R> {
-    ghost use Rattle.gimli_cfi.specs.Views.{header_section_view, table_view, walk_view};
+    ghost use Rattle.gimli_cfi.specs.HeaderViews.{header_section_view, table_view, walk_view};
 
     /// The table of a header that has rows.
     pub(crate) fn new(hdr: &'a ParsedEhFrameHdr<R>) -> Self

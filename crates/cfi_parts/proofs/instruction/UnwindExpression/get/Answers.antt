@@ -1,6 +1,6 @@
 use Rattle.std.proofs.Common.{◌∙◌, ap, sym}
 use Rattle.cfi_read_core.specs.Reading.{Extent, Outcome}
-use Rattle.cfi_parts.specs.Views.{map_expression}
+use Rattle.cfi_parts.specs.MappedInstructions.{map_expression}
 use Rattle.cfi_parts.proofs.Expressions.{bytes_are_read, bytes_lie_in}
 use Rattle.cfi_parts.proofs.instruction.UnwindExpression.get.Goals as goal
 

@@ -4,7 +4,7 @@ use Rattle.cfi_unwind.proofs.EntryReads.{byte_taken, none_taken, fewer_left, let
 use Rattle.cfi_unwind.proofs.Within.{not_before}
 use Rattle.cfi_unwind.specs.Cies.{letters}
 use Rattle.cfi_unwind.specs.Sections.{pointer_context}
-use Rattle.cfi_unwind.specs.Views.{augmentation_view, section_in}
+use Rattle.cfi_unwind.specs.EntryFieldViews.{augmentation_view, section_in}
 use Rattle.cfi_unwind.proofs.entry.augmentation.read_letters.Goals as goal
 
 pub returns-in_err-known : goal.returns-in_err-known

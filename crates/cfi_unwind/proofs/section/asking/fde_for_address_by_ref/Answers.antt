@@ -3,7 +3,7 @@ use Rattle.cfi_read_core.specs.Readers.{map_ok}
 use Rattle.cfi_unwind.specs.Entries.{entries_left}
 use Rattle.cfi_unwind.specs.EntryViews.{partial_of}
 use Rattle.cfi_unwind.specs.Sections.{section_of}
-use Rattle.cfi_unwind.specs.Views.{cie_view, fde_view}
+use Rattle.cfi_unwind.specs.EntryFieldViews.{cie_view, fde_view}
 use Rattle.cfi_unwind.proofs.ScanSteps.{scans_at, scans_cie_at, scans_end, scans_found, scans_passed, scans_refusal, scans_refused_fde}
 use Rattle.cfi_unwind.proofs.section.asking.fde_for_address_by_ref.Goals as goal
 

@@ -4,7 +4,7 @@ use Rattle.cfi_unwind.specs.Sections.{section_of}
 use Rattle.cfi_unwind.specs.Entries.{entries, entries_left}
 use Rattle.cfi_parts.specs.InstructionReaders.{items}
 use Rattle.cfi_unwind.specs.GetCieCalls.{GetCieCall, CallsLead, Scans}
-use Rattle.cfi_unwind.specs.Views.{cie_view}
+use Rattle.cfi_unwind.specs.EntryFieldViews.{cie_view}
 use Rattle.cfi_unwind.proofs.section.asking.fde_for_address_by_ref.Given as goal
 
 -- the entries that are left make the answer of all

@@ -1,6 +1,6 @@
 use Rattle.std.proofs.Common.{◌≡◌, Err, ap, refl, rules, sym}
 use Rattle.cfi_read_core.specs.Readers.{map_ok}
-use Rattle.cfi_unwind.specs.Views.{fde_view}
+use Rattle.cfi_unwind.specs.EntryFieldViews.{fde_view}
 use Rattle.cfi_unwind.proofs.section.asking.fde_from_offset_by_ref.Goals as goal
 
 pub returns-in_err-partial-clause-read : goal.returns-in_err-partial-clause-read

@@ -3,10 +3,10 @@ use Rattle.gimli_cfi.specs.Boundary.{AreRising}
 use Rattle.cfi_unwind.specs.Entries.{entries, entries_left}
 use Rattle.cfi_unwind.specs.EntryViews.{partial_of}
 use Rattle.cfi_unwind.specs.Scan.{read_fde}
-use Rattle.cfi_unwind.specs.Views.{fde_view}
+use Rattle.cfi_unwind.specs.EntryFieldViews.{fde_view}
 use Rattle.cfi_read_core.specs.Reading.{Position}
 use Rattle.gimli_cfi.specs.FaithfulTables.{starts_for_fde}
-use Rattle.gimli_cfi.specs.Views.{section_view, header_section_view, table_view}
+use Rattle.gimli_cfi.specs.HeaderViews.{section_view, header_section_view, table_view}
 use Rattle.gimli_cfi.proofs.Passed.{Passed, is_among, passed_fde, passed_none, reason_of_fde, row_left}
 use Rattle.gimli_cfi.proofs.StartCounts.{at_most, none_yet, one_more, with_last}
 use Rattle.gimli_cfi.proofs.hdr.check.check_fdes.Goals as goal

@@ -4,7 +4,7 @@ use Rattle.cfi_unwind.proofs.ScanSteps.{if_ok}
 use Rattle.gimli_cfi.specs.Boundary.{AreRising}
 use Rattle.gimli_cfi.specs.FaithfulTables.{IsReasonOfStarts}
 use Rattle.gimli_cfi.specs.Headers.{start_of, value_size}
-use Rattle.gimli_cfi.specs.Views.{listing_view}
+use Rattle.gimli_cfi.specs.HeaderViews.{listing_view}
 use Rattle.gimli_cfi.proofs.Faithful.{faithful}
 use Rattle.gimli_cfi.proofs.Reasons.{not_faithful, reason_of_starts, reason_of_fdes, direct_at, some_of, if_err}
 use Rattle.gimli_cfi.proofs.hdr.check.check_table.Goals as goal

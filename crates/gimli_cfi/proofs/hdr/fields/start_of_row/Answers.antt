@@ -1,5 +1,5 @@
 use Rattle.std.proofs.Common.{◌≡◌, Err, refl, ◌∙◌, rules, sym}
-use Rattle.gimli_cfi.specs.Views.{rows_view, header_section_view}
+use Rattle.gimli_cfi.specs.HeaderViews.{rows_view, header_section_view}
 use Rattle.gimli_cfi.proofs.RowReads.{start_refused, start_given}
 use Rattle.gimli_cfi.proofs.hdr.fields.start_of_row.Goals as goal
 

@@ -1,5 +1,5 @@
 use Rattle.std.proofs.Common.{refl, ◌∙◌, sym}
-use Rattle.gimli_cfi.specs.Views.{rows_view, header_section_view}
+use Rattle.gimli_cfi.specs.HeaderViews.{rows_view, header_section_view}
 use Rattle.gimli_cfi.proofs.RowReads.{target_given, with_itself}
 use Rattle.gimli_cfi.proofs.hdr.fields.target_of_row.Goals as goal
 

@@ -1,6 +1,6 @@
 use Rattle.std.proofs.Common.{◌≡◌, Err, ap, refl, rules}
 use Rattle.cfi_read_core.specs.Readers.{map_ok}
-use Rattle.cfi_unwind.specs.Views.{fde_view}
+use Rattle.cfi_unwind.specs.EntryFieldViews.{fde_view}
 use Rattle.gimli_cfi.proofs.hdr.unwind.fde_for_address_by_ref.Goals as goal
 
 pub returns-in_err-target-clause-found : goal.returns-in_err-target-clause-found

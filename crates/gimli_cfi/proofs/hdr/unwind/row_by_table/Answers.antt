@@ -1,6 +1,6 @@
 use Rattle.std.proofs.Common.{◌≡◌, Err, ap, rules}
 use Rattle.cfi_read_core.specs.Readers.{map_ok}
-use Rattle.gimli_cfi.specs.Views.{section_view, header_section_view, table_view}
+use Rattle.gimli_cfi.specs.HeaderViews.{section_view, header_section_view, table_view}
 use Rattle.gimli_cfi.proofs.TableRows.{as_by_scan, reaches_all}
 use Rattle.gimli_cfi.proofs.hdr.unwind.row_by_table.Goals as goal
 

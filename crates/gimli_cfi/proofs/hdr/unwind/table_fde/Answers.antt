@@ -1,8 +1,8 @@
 use Rattle.std.proofs.Common.{◌≡◌, Err, Ok, ap, rules, sym, ◌∙◌}
 use Rattle.cfi_read_core.specs.Readers.{map_ok}
 use Rattle.cfi_unwind.specs.Entries.{cie_at}
-use Rattle.cfi_unwind.specs.Views.{cie_view, fde_view}
-use Rattle.gimli_cfi.specs.Views.{section_view, header_section_view, table_view}
+use Rattle.cfi_unwind.specs.EntryFieldViews.{cie_view, fde_view}
+use Rattle.gimli_cfi.specs.HeaderViews.{section_view, header_section_view, table_view}
 use Rattle.gimli_cfi.proofs.TableFinds.{at_own, found_through}
 use Rattle.gimli_cfi.proofs.hdr.unwind.table_fde.Goals as goal
 

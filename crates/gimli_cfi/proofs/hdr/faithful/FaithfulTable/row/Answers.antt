@@ -1,5 +1,5 @@
 use Rattle.std.proofs.Common.{sym}
-use Rattle.gimli_cfi.specs.Views.{listing_view, starts_view}
+use Rattle.gimli_cfi.specs.HeaderViews.{listing_view, starts_view}
 use Rattle.gimli_cfi.proofs.Certificates.{never_unsearchable, row_by_scan}
 use Rattle.gimli_cfi.proofs.TableRows.{reaches_all}
 use Rattle.gimli_cfi.proofs.hdr.faithful.FaithfulTable.row.Goals as goal

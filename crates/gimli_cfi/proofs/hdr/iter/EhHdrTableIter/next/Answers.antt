@@ -2,7 +2,7 @@ use Rattle.std.proofs.Common.{◌≡◌, ◌+◌, ◌-◌, Err, arith, rules}
 use Rattle.cfi_unwind.proofs.Within.{behind_of}
 use Rattle.gimli_cfi.proofs.HeaderReads.{onward_row}
 use Rattle.gimli_cfi.proofs.RowWalk.{none_left, first_left}
-use Rattle.gimli_cfi.specs.Views.{header_section_view}
+use Rattle.gimli_cfi.specs.HeaderViews.{header_section_view}
 use Rattle.gimli_cfi.proofs.hdr.iter.EhHdrTableIter.next.Goals as goal
 
 pub returns-then-self-eq0-clause-met : goal.returns-then-self-eq0-clause-met

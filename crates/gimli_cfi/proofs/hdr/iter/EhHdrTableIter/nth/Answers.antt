@@ -1,5 +1,5 @@
 use Rattle.std.proofs.Common.{◌≡◌, Err, refl, rules, sym}
-use Rattle.gimli_cfi.specs.Views.{walk_view}
+use Rattle.gimli_cfi.specs.HeaderViews.{walk_view}
 use Rattle.gimli_cfi.proofs.PassingRows.{past_unsearchable, past_all, past_refused, past_given, meets_by, none_read, not_refused}
 use Rattle.gimli_cfi.proofs.hdr.iter.EhHdrTableIter.nth.Goals as goal
 

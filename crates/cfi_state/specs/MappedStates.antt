@@ -1,0 +1,63 @@
+-- The same rules, states and rows with their offsets in another type.
+-- The code's offsets are of a reader's type and the definitions' are numbers. Offsets stand only in expressions, so a
+-- map along `f` changes nothing else.
+--     map_rule f, map_rules f, map_parts f, map_state f, map_row f      along f : A → B
+--     row_lent f      the answer of a call that lends a row
+use Rattle.std.specs.Prelude.{map, Result}
+use Rattle.std.specs.Borrow.{Bor}
+use Rattle.std.specs.Option.{option_map}
+use Rattle.std.specs.Ordering.{nat_cmp}
+use Rattle.std.specs.FinMap.{FinMap, entries, from_sorted}
+use Rattle.cfi_read_core.specs.declared.error.Error.{Error}
+use Rattle.cfi_read_core.specs.Readers.{map_ok}
+use Rattle.cfi_parts.specs.MappedInstructions.{map_expression}
+use Rattle.cfi_state.specs.declared.table.rules.CfaRule.{CfaRule}
+use Rattle.cfi_state.specs.declared.table.rules.CfaRule.TheVariants as cfa
+use Rattle.cfi_state.specs.declared.table.rules.RegisterRule.{RegisterRule}
+use Rattle.cfi_state.specs.declared.table.rules.RegisterRule.TheVariants as rule
+use Rattle.cfi_state.specs.Row.{Row}
+use Rattle.cfi_state.specs.Machine.{Rules, Parts, State}
+
+-- a map with the same keys
+abbrev pub map_values : {X Y : Type 0} → (X → Y) → FinMap nat_cmp X → FinMap nat_cmp Y
+map_values f m = from_sorted (map (λ e. (e.0, f e.1)) (entries m))
+
+module _ {A B : Type 0} (f : A → B) where
+  abbrev pub map_cfa : CfaRule A → CfaRule B
+  map_cfa (cfa.RegisterAndOffset r offset) = cfa.RegisterAndOffset r offset
+  map_cfa (cfa.Expression e) = cfa.Expression (map_expression f e)
+
+  abbrev pub map_rule : RegisterRule A → RegisterRule B
+  map_rule rule.Undefined = rule.Undefined
+  map_rule rule.SameValue = rule.SameValue
+  map_rule (rule.Offset offset) = rule.Offset offset
+  map_rule (rule.ValOffset offset) = rule.ValOffset offset
+  map_rule (rule.Register r) = rule.Register r
+  map_rule (rule.Expression e) = rule.Expression (map_expression f e)
+  map_rule (rule.ValExpression e) = rule.ValExpression (map_expression f e)
+  map_rule rule.Architectural = rule.Architectural
+  map_rule (rule.Constant value) = rule.Constant value
+
+  abbrev pub map_rules : Rules A → Rules B
+  map_rules = map_values map_rule
+
+  abbrev pub map_parts : Parts A → Parts B
+  map_parts parts = record { cfa = map_cfa parts.cfa; rules = map_rules parts.rules; args_size = parts.args_size }
+
+  abbrev pub map_state : State A → State B
+  map_state x = record {
+    location = x.location;
+    parts = map_parts x.parts;
+    remembered = map map_parts x.remembered;
+    initial_rules = option_map map_rules x.initial_rules;
+  }
+
+  abbrev pub map_row : Row A → Row B
+  map_row row = record { start_address = row.start_address; end_address = row.end_address; parts = map_parts row.parts }
+
+  -- a row that is lent, as the answer of a call
+  abbrev pub lent_row : Bor (Row A) → Row B
+  lent_row row = map_row row.now
+
+  abbrev pub row_lent : Result (Bor (Row A)) Error → Result (Row B) Error
+  row_lent result = map_ok lent_row result
