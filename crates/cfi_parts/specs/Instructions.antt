@@ -1,5 +1,5 @@
 -- Call frame instructions (DWARF 5 sections 6.4.2 and 7.24).
-use Rattle.std.specs.Prelude.{◌≡◌, ◌≤◌, ℕ, ◌-◌, ◌%◌, Option, Some, None, List, [], ◌∷◌, ◌++◌, Ok}
+use Rattle.std.specs.Prelude.{◌≡◌, ◌≢◌, ◌≤◌, ℕ, ◌-◌, ◌%◌, Option, Some, None, List, [], ◌∷◌, ◌++◌, Ok}
 use Rattle.std.specs.Int.{w8, w16, w32}
 use Rattle.cfi_read_core.specs.declared.common.Register.{Register as RegisterNumber}
 use Rattle.cfi_read_core.specs.declared.common.Vendor.{Vendor}
@@ -125,6 +125,13 @@ state_and_others c =
 -- the opcodes whose two high bits are 0, with what is read after them
 abbrev pub extended_opcodes : InstructionContext → List (ℕ × Read Instruction)
 extended_opcodes c = row_creation c ++ cfa_definition c ++ offset_rules ++ register_rules c ++ state_and_others c
+
+-- Not one of the opcodes whose two high bits are 0 that compilers write most: padding, short moves, a new place of the CFA,
+-- and the state of a row.
+abbrev pub IsRare : ℕ → Type 0
+IsRare opcode =
+    (opcode ≢ 0x00) × (opcode ≢ 0x02) × (opcode ≢ 0x03) × (opcode ≢ 0x04) × (opcode ≢ 0x0a) × (opcode ≢ 0x0b)
+    × (opcode ≢ 0x0c) × (opcode ≢ 0x0d) × (opcode ≢ 0x0e)
 
 -- the primary opcodes, which are the two high bits alone: the low six bits are the first operand
 abbrev pub primary_opcodes : ℕ → List (ℕ × Read Instruction)

@@ -4,7 +4,7 @@ ghost use Rattle.cfi_read_core.specs.Addresses.{IsAddressSize};
 ghost use Rattle.cfi_read_core.specs.Reading.{chosen_from};
 ghost use Rattle.cfi_read_core.specs.Readers.{Reads};
 ghost use Rattle.cfi_parts.specs.Contexts.{instruction_context, pointer_context};
-ghost use Rattle.cfi_parts.specs.Instructions.{expression, extended_opcodes, instruction, location_by, unknown_opcode};
+ghost use Rattle.cfi_parts.specs.Instructions.{IsRare, expression, extended_opcodes, instruction, location_by, unknown_opcode};
 ghost use Rattle.cfi_parts.specs.MappedInstructions.{map_expression, map_instruction};
 
 use crate::instruction::{CallFrameInstruction, UnwindExpression};
@@ -92,7 +92,8 @@ pub fn parse_instruction<R: Reader>(
     }
 }
 
-/// Reads the operands of an opcode whose two high bits are 0.
+/// Reads the operands of an opcode whose two high bits are 0. The opcodes that compilers write most are read here, and the
+/// others apart, since a function clears the room for what each of its arms reads.
 fn parse_extended<R: Reader>(
     opcode: DwCfa,
     parameters: &InstructionParameters<'_, R>,
@@ -106,9 +107,6 @@ fn parse_extended<R: Reader>(
 {
     match opcode {
         // row creation (section 6.4.2.1)
-        DW_CFA_set_loc => Ok(CallFrameInstruction::SetLoc {
-            address: parse_location(parameters, input)?,
-        }),
         DW_CFA_advance_loc1 => Ok(CallFrameInstruction::AdvanceLoc {
             delta: u32::from(input.read_u8()?),
         }),
@@ -129,6 +127,33 @@ fn parse_extended<R: Reader>(
         DW_CFA_def_cfa_offset => Ok(CallFrameInstruction::DefCfaOffset {
             offset: input.read_uleb128()?,
         }),
+        // a row's state (section 6.4.2.4), and padding
+        DW_CFA_nop => Ok(CallFrameInstruction::Nop),
+        DW_CFA_remember_state => Ok(CallFrameInstruction::RememberState),
+        DW_CFA_restore_state => Ok(CallFrameInstruction::RestoreState),
+        _ => parse_rare(opcode, parameters, input),
+    }
+}
+
+/// Reads the operands of one of the other opcodes whose two high bits are 0.
+fn parse_rare<R: Reader>(
+    opcode: DwCfa,
+    parameters: &InstructionParameters<'_, R>,
+    input: &mut R,
+) -> Result<CallFrameInstruction<R::Offset>>
+    requires sized { IsAddressSize parameters.now.pointers.address_size }
+    requires rare { IsRare opcode.0 }
+    requires behind { (R.position parameters.now.pointers.section.now).place ≤ (R.position input.old).place }
+    ensures { Reads (map_instruction R.Offset.number)
+        (chosen_from opcode.0 (extended_opcodes (instruction_context R.position parameters.now)) (unknown_opcode opcode.0))
+        (R.position input.old) result (R.position input.new) }
+{
+    match opcode {
+        // row creation (section 6.4.2.1)
+        DW_CFA_set_loc => Ok(CallFrameInstruction::SetLoc {
+            address: parse_location(parameters, input)?,
+        }),
+        // the CFA's definition (section 6.4.2.2)
         DW_CFA_def_cfa_expression => Ok(CallFrameInstruction::DefCfaExpression {
             expression: parse_expression(&parameters.pointers, input)?,
         }),
@@ -181,10 +206,7 @@ fn parse_extended<R: Reader>(
             register: read_register(input)?,
             expression: parse_expression(&parameters.pointers, input)?,
         }),
-        // a row's state (section 6.4.2.4), padding, and vendors' opcodes
-        DW_CFA_nop => Ok(CallFrameInstruction::Nop),
-        DW_CFA_remember_state => Ok(CallFrameInstruction::RememberState),
-        DW_CFA_restore_state => Ok(CallFrameInstruction::RestoreState),
+        // vendors' opcodes
         DW_CFA_AARCH64_negate_ra_state => match parameters.vendor {
             Vendor::AArch64 => Ok(CallFrameInstruction::NegateRaState),
             Vendor::Default => Err(Error::UnknownCallFrameInstruction(opcode)),
