@@ -228,10 +228,7 @@ impl<'a, R: Reader> CallFrameInstructionIter<'a, R> {
         ensures source { (instruction_reader R.position self.new).position.source ≡ (instruction_reader R.position self.old).position.source }
         ensures fewer { IfOk result (λ found. IfSome found (λ _. remaining (instruction_reader R.position self.new).position < remaining (instruction_reader R.position self.old).position)) }
     {
-        let mut input = self.input;
-        let answer = next_instruction(&self.parameters, &mut input);
-        self.input = input;
-        answer
+        next_instruction(&self.parameters, &mut self.input)
     }
 }
 
