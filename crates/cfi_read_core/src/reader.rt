@@ -124,9 +124,14 @@ pub trait Reader: Copy + Debug + Eq {
     fn read_uleb128(&mut self) -> Result<u64>
         ensures { Reads (λ x. x) unsigned_leb128 (position self.old) result (position self.new) }
     {
-        let mut value = 0u64;
-        let mut weight = 1u64;
-        for index in 0..10u32 {
+        // most numbers take one byte
+        let first = self.read_u8()?;
+        if first < 128 {
+            return Ok(u64::from(first));
+        }
+        let mut value = u64::from(first % 128);
+        let mut weight = 128u64;
+        for index in 1..10u32 {
             let byte = self.read_u8()?;
             if index == 9 && byte > 1 {
                 return Err(Error::BadUnsignedLeb128);
