@@ -2,14 +2,15 @@
 --     target s location a      where a move goes (DWARF 5 section 6.4.2.1)
 --     cfa_given s cfa a      the rule of the CFA, where a defines it and `cfa` is the rule before (section 6.4.2.2)
 --     rule_given s a      the register that a gives a rule, and the rule (section 6.4.2.3)
-use Rattle.std.specs.Prelude.{ℕ, nat_lt, cond, ℤ, Option, Some, None, Result, Ok, Err}
+--     is_of_state a      whether a is none of those
+use Rattle.std.specs.Prelude.{ℕ, Bool, true, false, nat_lt, cond, ℤ, Option, Some, None, Result, Ok, Err}
 use Rattle.cfi_read_core.specs.declared.common.Register.{Register}
 use Rattle.cfi_read_core.specs.declared.error.Error.{Error}
 use Rattle.cfi_read_core.specs.declared.error.Error.TheVariants.{AddressOverflow, InvalidCfiSetLoc, CfiInstructionInInvalidContext}
 use Rattle.cfi_state.specs.declared.table.rules.CfaRule.{CfaRule}
 use Rattle.cfi_state.specs.declared.table.rules.CfaRule.TheVariants as cfa
 use Rattle.cfi_state.specs.declared.table.rules.RegisterRule.{RegisterRule}
-use Rattle.cfi_state.specs.Actions.{Action, sets_location, advances_location, defines_cfa, defines_cfa_register, defines_cfa_offset, defines_cfa_expression, gives_rule}
+use Rattle.cfi_state.specs.Actions.{Action, sets_location, advances_location, defines_cfa, defines_cfa_register, defines_cfa_offset, defines_cfa_expression, gives_rule, restores_rule, toggles_sign_state, remembers_state, restores_state, sets_args_size, changes_nothing}
 use Rattle.cfi_state.specs.MachineSettings.{Setting, advanced_location, fits_address}
 
 module _ {T : Type 0} where
@@ -38,3 +39,13 @@ module _ {T : Type 0} where
   abbrev pub rule_given : Setting → Action T → Option (Register × RegisterRule T)
   rule_given s (gives_rule r rule) = Some (r, rule s.data_alignment_factor)
   rule_given s _ = None
+
+  -- what neither moves nor gives the CFA or a register a rule
+  abbrev pub is_of_state : Action T → Bool
+  is_of_state (restores_rule _) = true
+  is_of_state toggles_sign_state = true
+  is_of_state remembers_state = true
+  is_of_state restores_state = true
+  is_of_state (sets_args_size _) = true
+  is_of_state changes_nothing = true
+  is_of_state _ = false

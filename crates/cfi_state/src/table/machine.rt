@@ -2,7 +2,7 @@
 //!
 //! What the crates above this one do to a context stands here, as free functions: a user of an unwind context has
 //! no business with them.
-ghost use Rattle.std.specs.Prelude.{◌≡◌, ℕ, None, IfOk, is_some, false};
+ghost use Rattle.std.specs.Prelude.{◌≡◌, ℕ, None, IfOk, is_some, true, false};
 ghost use Rattle.std.specs.Int.{w64, int_wrapping_mul};
 ghost use Rattle.cfi_state.specs.MachineSettings.{Setting, is_move};
 ghost use Rattle.cfi_parts.specs.declared.instruction.CallFrameInstruction.TheVariants as instruction;
@@ -123,6 +123,18 @@ fn change<T: ReaderOffset, S: UnwindContextStorage<T>>(
     if let Some((register, rule)) = rule_given(parameters, instruction) {
         return context.set_rule(register, rule);
     }
+    change_state(context, instruction)
+}
+
+// Runs an instruction that neither moves nor gives the CFA or a register a rule.
+fn change_state<T: ReaderOffset, S: UnwindContextStorage<T>>(
+    context: &mut UnwindContext<T, S>,
+    instruction: CallFrameInstruction<T>,
+) -> Result<()>
+    requires { groups.is_of_state (action instruction) ≡ true }
+    ensures { (p : Parameters) (location : ℕ) → Changes (setting_of p S.Rules.limit S.Stack.limit) S.Rules.copies_free
+        location instruction context.old context.new result }
+{
     match instruction {
         CallFrameInstruction::Restore { register } => restore_rule(context, register),
         CallFrameInstruction::NegateRaState => negate_ra_state(context),

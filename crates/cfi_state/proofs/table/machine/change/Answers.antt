@@ -15,12 +15,6 @@ returns-in-Some-rule_given g c =
     (sets-given c.args.parameters.now g.S.Rules.ArrayLike.limit g.S-Stack-ArrayLike.limit g.S.Rules.CopyList.copies_free location c.args.context.now c.set_rule.new.self c.args.instruction c.set_rule.result)
     c.set_rule.ensures
 
-pub returns-in-Restore : goal.returns-in-Restore
-returns-in-Restore g c = rw c.in-Restore.is (λ location. c.restore_rule.ensures (setting_of c.args.parameters.now None None) location)
-
-pub returns-in-NegateRaState : goal.returns-in-NegateRaState
-returns-in-NegateRaState g c = rw c.in-NegateRaState.is (λ location. c.negate_ra_state.ensures c.args.parameters.now location)
-
 pub returns-in_err-cfa : goal.returns-in_err-cfa
 returns-in_err-cfa g c =
     let refusal = err_from_is_err_and c.from_residual.result c.from_residual.ensures.1 in
@@ -30,3 +24,6 @@ returns-in_err-cfa g c =
       inl (IfErr-at_err _ (ap (λ cfa. cfa_given (setting_of c.args.parameters.now None None) cfa (action c.args.instruction)) (sym old_cfa) ∙ sym c.cfa_given.ensures ∙ c.in_err-cfa.was)
           (cfa-refused c.args.parameters.now g.S.Rules.ArrayLike.limit g.S-Stack-ArrayLike.limit g.S.Rules.CopyList.copies_free location c.args.context.now c.args.context.now (action c.args.instruction))),
     )
+
+pub returns : goal.returns
+returns g c = λ location. c.change_state.ensures c.args.parameters.now location
