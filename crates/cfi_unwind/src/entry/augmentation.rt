@@ -19,27 +19,27 @@ use cfi_read_core::{DwEhPe, Error, Reader, Result};
 /// What an augmentation string and its data mean. Of a repeated letter the last counts.
 #[derive(Clone, Copy, Debug, Default, PartialEq, Eq)]
 pub struct Augmentation {
+    // The small fields stand together, which leaves few gaps.
     pub(crate) has_augmentation_data: bool,
     pub(crate) lsda_encoding: Option<DwEhPe>,
-    pub(crate) personality: Option<(DwEhPe, Pointer)>,
     pub(crate) fde_address_encoding: Option<DwEhPe>,
     pub(crate) is_signal_trampoline: bool,
     pub(crate) uses_b_key: bool,
+    pub(crate) personality: Option<(DwEhPe, Pointer)>,
 }
 
-/// What one letter adds, read from the augmentation data.
+/// Adds what one letter means, read from the augmentation data.
 #[tactic(auto, unfolding(crate::specs::Cies::letter))]
 fn read_letter<R: Reader, S: _UnwindSectionPrivate<R>>(
     at: &InSection<'_, S>,
     address_size: AddressSize,
     byte: u8,
-    known: Augmentation,
+    known: &mut Augmentation,
     input: &mut R,
-) -> Result<Augmentation>
+) -> Result<()>
     requires { (S.view at.now.section).position.place ≤ (R.position input.old).place }
-    ensures { Reads augmentation_view (letter (pointer_context (section_in S.view at.now) None address_size.bytes) byte (augmentation_view known)) (R.position input.old) result (R.position input.new) }
+    ensures { Reads (λ _. augmentation_view known.new) (letter (pointer_context (section_in S.view at.now) None address_size.bytes) byte (augmentation_view known.old)) (R.position input.old) result (R.position input.new) }
 {
-    let mut known = known;
     match byte {
         b'S' => known.is_signal_trampoline = true,
         b'B' => known.uses_b_key = true,
@@ -59,26 +59,25 @@ fn read_letter<R: Reader, S: _UnwindSectionPrivate<R>>(
         b'R' => known.fde_address_encoding = Some(parse_pointer_encoding(input)?),
         _ => return Err(Error::UnknownAugmentation),
     }
-    Ok(known)
+    Ok(())
 }
 
-/// What the letters of a text add, read from the augmentation data.
+/// Adds what the letters of a text mean, read from the augmentation data.
 fn read_letters<R: Reader, S: _UnwindSectionPrivate<R>>(
     at: &InSection<'_, S>,
     address_size: AddressSize,
     text: R,
-    known: Augmentation,
+    known: &mut Augmentation,
     input: &mut R,
-) -> Result<Augmentation>
+) -> Result<()>
     requires { (S.view at.now.section).position.place ≤ (R.position input.old).place }
-    ensures { Reads augmentation_view (letters (pointer_context (section_in S.view at.now) None address_size.bytes) (bytes_left (R.position text)) (augmentation_view known)) (R.position input.old) result (R.position input.new) }
+    ensures { Reads (λ _. augmentation_view known.new) (letters (pointer_context (section_in S.view at.now) None address_size.bytes) (bytes_left (R.position text)) (augmentation_view known.old)) (R.position input.old) result (R.position input.new) }
 {
     let mut text = text;
-    let mut known = known;
     while let Ok(byte) = text.read_u8() {
-        known = read_letter(at, address_size, byte, known, input)?;
+        read_letter(at, address_size, byte, known, input)?;
     }
-    Ok(known)
+    Ok(())
 }
 
 /// Reads the augmentation data, by the letters after the `z` that announces them. What the letters leave is dropped.
@@ -96,7 +95,8 @@ fn read_letters_with_data<R: Reader, S: _UnwindSectionPrivate<R>>(
     let mut data = input.split(length)?;
     let mut known = Augmentation::default();
     known.has_augmentation_data = true;
-    Ok(Some(read_letters(at, address_size, letters, known, &mut data)?))
+    read_letters(at, address_size, letters, &mut known, &mut data)?;
+    Ok(Some(known))
 }
 
 /// Reads what an augmentation string means, and the data that it announces. An empty text is no augmentation.
@@ -116,6 +116,7 @@ pub(crate) fn read_augmentation<R: Reader, S: _UnwindSectionPrivate<R>>(
     if first == b'z' {
         return read_letters_with_data(at, address_size, letters, input);
     }
-    let known = Augmentation::default();
-    Ok(Some(read_letters(at, address_size, text, known, input)?))
+    let mut known = Augmentation::default();
+    read_letters(at, address_size, text, &mut known, input)?;
+    Ok(Some(known))
 }

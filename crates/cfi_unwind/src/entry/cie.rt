@@ -19,16 +19,17 @@ use cfi_read_core::{DwEhPe, Encoding, Error, Format, Reader, Register, Result};
 /// A common information entry, over its reader and the reader's offsets.
 #[derive(Clone, Copy, Debug, PartialEq, Eq)]
 pub struct CieFields<R, O> {
+    // In an order that leaves few gaps, since a CIE is copied into each of its FDEs.
     pub(crate) offset: O,
     pub(crate) length: O,
     pub(crate) format: Format,
     pub(crate) version: u8,
-    pub(crate) augmentation: Option<Augmentation>,
     pub(crate) address_size: AddressSize,
+    pub(crate) return_address_register: Register,
     pub(crate) code_alignment_factor: u64,
     pub(crate) data_alignment_factor: i64,
-    pub(crate) return_address_register: Register,
     pub(crate) initial_instructions: R,
+    pub(crate) augmentation: Option<Augmentation>,
 }
 
 /// A common information entry: what the frame description entries that point to it share.

@@ -64,13 +64,13 @@ fn read_lsda<R: Reader, S: _UnwindSectionPrivate<R>>(
     at: &InSection<'_, S>,
     address_size: AddressSize,
     initial_address: u64,
-    augmentation: Option<Augmentation>,
+    augmentation: &Option<Augmentation>,
     input: &mut R,
 ) -> Result<Option<Pointer>>
     requires { IsOf (R.position input.old) (S.view at.now.section).position }
-    ensures { Reads (λ x. x) (lsda (section_in S.view at.now) address_size.bytes initial_address (option_map augmentation_view augmentation)) (R.position input.old) result (R.position input.new) }
+    ensures { Reads (λ x. x) (lsda (section_in S.view at.now) address_size.bytes initial_address (option_map augmentation_view augmentation.now)) (R.position input.old) result (R.position input.new) }
 {
-    let Some(augmentation) = augmentation else {
+    let Some(augmentation) = *augmentation else {
         return Ok(None);
     };
     if !augmentation.has_augmentation_data {
@@ -95,13 +95,13 @@ fn read_lsda<R: Reader, S: _UnwindSectionPrivate<R>>(
 pub(crate) fn read_fde<R: Reader, S: _UnwindSectionPrivate<R>>(
     at: &InSection<'_, S>,
     found: &EntryPrefix<R, R::Offset>,
-    cie: CommonInformationEntry<R>,
+    cie: &CommonInformationEntry<R>,
 ) -> Result<FrameDescriptionEntry<R>>
     requires { IsOf (R.position found.now.rest) (S.view at.now.section).position }
     ensures read { map_ok (fde_view R.position R.Offset.number) result
-        ≡ fde_after (section_in S.view at.now) (prefix_view R.position R.Offset.number found.now) (cie_view R.position R.Offset.number cie) }
+        ≡ fde_after (section_in S.view at.now) (prefix_view R.position R.Offset.number found.now) (cie_view R.position R.Offset.number cie.now) }
     ensures part { IfOk result (λ fde. IsOf (R.position fde.instructions) (S.view at.now.section).position) }
-    ensures cie { IfOk result (λ fde. fde.cie ≡ cie) }
+    ensures cie { IfOk result (λ fde. fde.cie ≡ cie.now) }
 {
     let mut input = found.rest;
     let encoding = match cie.augmentation {
@@ -114,13 +114,13 @@ pub(crate) fn read_fde<R: Reader, S: _UnwindSectionPrivate<R>>(
         at,
         address_size,
         initial_address,
-        cie.augmentation,
+        &cie.augmentation,
         &mut input,
     )?;
     Ok(FdeFields {
         offset: found.offset,
         length: found.length,
-        cie,
+        cie: *cie,
         initial_address,
         address_range,
         lsda,

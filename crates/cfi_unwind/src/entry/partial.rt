@@ -79,12 +79,12 @@ impl<'bases, Section: _UnwindSectionPrivate<R> + Copy, R: Reader> PartialFrameDe
     /// The whole entry, with its CIE.
     pub(crate) fn with_cie(
         &self,
-        cie: CommonInformationEntry<R>,
+        cie: &CommonInformationEntry<R>,
     ) -> Result<FrameDescriptionEntry<R>>
         ensures read { map_ok (fde_view R.position R.Offset.number) result
-            ≡ fde_of (section_of (Section.view self.now.section) self.now.bases.now) (partial_of R.position R.Offset.number self.now.found self.now.cie_offset) (cie_view R.position R.Offset.number cie) }
+            ≡ fde_of (section_of (Section.view self.now.section) self.now.bases.now) (partial_of R.position R.Offset.number self.now.found self.now.cie_offset) (cie_view R.position R.Offset.number cie.now) }
         ensures part { IfOk result (λ fde. IsOf (R.position fde.instructions) (Section.view self.now.section).position) }
-        ensures cie { IfOk result (λ fde. fde.cie ≡ cie) }
+        ensures cie { IfOk result (λ fde. fde.cie ≡ cie.now) }
     {
         let at = InSection {
             section: self.section,
@@ -143,6 +143,6 @@ impl<'bases, Section: UnwindSection<R>, R: Reader> PartialFrameDescriptionEntry<
         ensures part { IfOk result (λ fde. IsOf (R.position fde.instructions) (Section.view self.now.section).position) }
     {
         let cie = get_cie(&self.section, self.bases, self.cie_offset())?;
-        self.with_cie(cie)
+        self.with_cie(&cie)
     }
 }

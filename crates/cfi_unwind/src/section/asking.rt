@@ -64,7 +64,7 @@ where
     while let Some(entry) = entries.next()? {
         if let CieOrFde::Fde(partial) = entry {
             let cie = get_cie(section, bases, S::Offset::from(partial.cie_offset))?;
-            let fde = partial.with_cie(cie)?;
+            let fde = partial.with_cie(&cie)?;
             if fde.contains(address) {
                 return Ok(fde);
             }

@@ -7,15 +7,15 @@ use Rattle.cfi_unwind.specs.Sections.{pointer_context}
 use Rattle.cfi_unwind.specs.EntryFieldViews.{augmentation_view, section_in}
 use Rattle.cfi_unwind.proofs.entry.augmentation.read_letters.Goals as goal
 
-pub returns-in_err-known : goal.returns-in_err-known
-returns-in_err-known g c =
+pub returns-in_err-read_letter : goal.returns-in_err-read_letter
+returns-in_err-read_letter g c =
     let pointers = pointer_context (section_in g.S._UnwindSectionPrivate.view c.args.at.now) None c.args.address_size.bytes in
     let stands = g.R.Reader.position c.loop-byte.input in
-    let gives : c.from_residual.result ≡ Err c.in_err-known.field-0.0 = search rules in
+    let gives : c.from_residual.result ≡ Err c.in_err-read_letter.field-0.0 = search rules in
     let taken = byte_taken (g.met.R.Reader.sound c.loop-byte.text) c.in-Ok.ensures in
     rw gives (
-      sym c.loop-byte.invariant.same ∙ (ap (λ (ls : List ℕ). letters pointers ls (augmentation_view c.loop-byte.known) stands.source stands.place) taken ∙ letters_refused pointers _ _ _ stands _ _ c.in_err-known.ensures.0),
-      c.in_err-known.ensures.1 ∙ c.loop-byte.invariant.source,
+      sym c.loop-byte.invariant.same ∙ (ap (λ (ls : List ℕ). letters pointers ls (augmentation_view c.loop-byte.known) stands.source stands.place) taken ∙ letters_refused pointers _ _ _ stands _ _ c.in_err-read_letter.ensures.0),
+      c.in_err-read_letter.ensures.1 ∙ c.loop-byte.invariant.source,
     )
 
 pub loop-byte-smaller : goal.loop-byte-smaller
@@ -26,12 +26,12 @@ loop-byte-preserved g c =
     let pointers = pointer_context (section_in g.S._UnwindSectionPrivate.view c.args.at.now) None c.args.address_size.bytes in
     let stands = g.R.Reader.position c.loop-byte.input in
     let taken = byte_taken (g.met.R.Reader.sound c.loop-byte.text) c.in-Ok.ensures in
-    let behind = not_before (onward_letter pointers c.in-Ok.byte (augmentation_view c.loop-byte.known)) c.in_ok-known.ensures in
+    let behind = not_before (onward_letter pointers c.in-Ok.byte (augmentation_view c.loop-byte.known)) c.in_ok-read_letter.ensures in
     record {
       same =
-          sym (letters_on pointers _ _ _ _ stands _ c.in_ok-known.ensures)
+          sym (letters_on pointers _ _ _ _ stands _ c.in_ok-read_letter.ensures)
           ∙ (ap (λ (ls : List ℕ). letters pointers ls (augmentation_view c.loop-byte.known) stands.source stands.place) (sym taken) ∙ c.loop-byte.invariant.same);
-      source = c.in_ok-known.ensures.1 ∙ c.loop-byte.invariant.source;
+      source = c.in_ok-read_letter.ensures.1 ∙ c.loop-byte.invariant.source;
       behind = omega (arith, c.loop-byte.invariant.behind);
     }
 
