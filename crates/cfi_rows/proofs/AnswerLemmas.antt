@@ -2,53 +2,32 @@
 use Rattle.std.proofs.Common.{◌∙◌, ◌≡◌, ℕ, List, Option, Some, None, Result, Ok, Err, refl, sym, ap, subst}
 use Rattle.std.specs.Option.{IsSome}
 use Rattle.std.specs.Prelude.{ok_or}
-use Rattle.cfi_read_core.specs.declared.common.Vendor.{Vendor}
 use Rattle.cfi_read_core.specs.declared.error.Error.{Error}
 use Rattle.cfi_read_core.specs.declared.error.Error.TheVariants.{UnsupportedPointerEncoding}
 use Rattle.cfi_parts.specs.declared.pointer.Pointer.{Pointer}
-use Rattle.cfi_read_core.specs.ByteOrder.{is_big}
-use Rattle.cfi_read_core.specs.Reading.{Position}
-use Rattle.cfi_read_core.specs.Readers.{all_of, map_ok}
-use Rattle.cfi_parts.specs.declared.pointer.SectionBaseAddresses.{SectionBaseAddresses}
+use Rattle.cfi_read_core.specs.Readers.{map_ok}
 use Rattle.cfi_state.specs.Row.{Row}
 use Rattle.cfi_state.specs.MappedStates.{map_row}
 use Rattle.cfi_state.proofs.MappedEquality.{as_it_is, same_row}
-use Rattle.cfi_unwind.specs.Sections as sections
 use Rattle.cfi_unwind.specs.Sections.{Section}
 use Rattle.cfi_unwind.specs.Scan.{chosen_fde}
 use Rattle.cfi_unwind.specs.Fdes.{Fde}
-use Rattle.gimli_cfi.specs.Headers.{HeaderSection, Header, Table, header_of, header_section, start_of, value_size}
+use Rattle.gimli_cfi.specs.Headers.{HeaderSection, Header, Table, header_of, start_of, value_size}
 use Rattle.gimli_cfi.specs.HeaderTables.{IsFoundByTable, SearchedBy, fde_by_row}
 use Rattle.cfi_unwind.specs.AddressRow.{IsRowOfFound}
-use Rattle.cfi_rows.specs.Lines.{Line}
-use Rattle.cfi_rows.specs.Input.{Bytes}
-use Rattle.cfi_rows.specs.declared.command_line.Kind.{Kind}
-use Rattle.cfi_rows.specs.declared.command_line.Kind.TheVariants.{DebugFrame, EhFrame}
+use Rattle.cfi_program.specs.Lines.{Line}
+use Rattle.cfi_program.specs.Input.{Bytes}
+use Rattle.cfi_program.specs.SectionOfWords.{header_section_of, section_of}
+use Rattle.cfi_program.specs.declared.words.Kind.{Kind}
+use Rattle.cfi_program.specs.declared.words.Kind.TheVariants.{DebugFrame, EhFrame}
 use Rattle.cfi_rows.specs.declared.command_line.Request.{Request}
 use Rattle.cfi_rows.specs.declared.command_line.Storage.{Storage}
-use Rattle.cfi_rows.specs.ProgramOutput.{FoundByBase, FoundByHeader, FoundByRows, IsLineFor, IsRowByHeader, Room, room_of, IsAnswer, answers, header_section_of, kind_of_section, section_of}
-
--- a section by its parts
-abbrev pub of_parts : sections.SectionKind → Position → ℕ → Vendor → SectionBaseAddresses → Section
-of_parts kind position size vendor bases = record { kind = kind; source = position.source; first = position.place; address_size = size; vendor = vendor; bases = bases }
-
-pub same_section : (r : Request) (bytes : List ℕ) (kind : sections.SectionKind) (position : Position) (size : ℕ) (vendor : Vendor) (bases : SectionBaseAddresses)
-    → kind_of_section r.kind ≡ kind → position ≡ all_of bytes (is_big r.endian) 18446744073709551615 → size ≡ r.address_size → vendor ≡ r.vendor
-    → bases ≡ record { section = r.section; text = r.text; data_base = r.data_base }
-    → of_parts kind position size vendor bases ≡ section_of r bytes
-same_section r bytes kind position size vendor bases kinds stands sizes vendors based = λ i. of_parts (sym kinds i) (stands i) (sizes i) (vendors i) (based i)
+use Rattle.cfi_rows.specs.ProgramOutput.{FoundByBase, FoundByHeader, FoundByRows, IsLineFor, IsRowByHeader, Room, room_of, IsAnswer, answers}
 
 -- rows over offsets that are numbers
 pub same_rows : {B : Type 0} (now : B → Row ℕ) (r : Result B Error) → map_ok (λ row. map_row as_it_is (now row)) r ≡ map_ok (λ row. now row) r
 same_rows now (Ok row) = ap Ok (same_row (now row))
 same_rows now (Err e) = refl
-
--- a header's section by its parts
-pub same_header_section : (r : Request) (base : ℕ) (bytes : List ℕ) (position : Position) (bases : SectionBaseAddresses)
-    → position ≡ all_of bytes (is_big r.endian) 18446744073709551615 → bases ≡ record { section = r.header; text = r.text; data_base = r.header } → r.header ≡ Some base
-    → header_section position r.address_size bases ≡ header_section_of r base bytes
-same_header_section r base bytes position bases stands based given =
-    (λ i. header_section (stands i) r.address_size (based i)) ∙ ap (λ at. header_section (all_of bytes (is_big r.endian) 18446744073709551615) r.address_size (record { section = at; text = r.text; data_base = at })) given
 
 -- ---- without a header
 
@@ -58,25 +37,25 @@ no_header (Some base) kind h e =
     let clash : DebugFrame ≡ EhFrame = sym e ∙ h refl in
     cc
 
-pub answered : (r : Request) (bytes : Bytes) (shown : List ℕ) (room : Room) (section : Section) (answer : Result (Row ℕ) Error) → r.header ≡ None → shown ≡ bytes.section → section ≡ section_of r shown
+pub answered : (r : Request) (bytes : Bytes) (shown : List ℕ) (room : Room) (section : Section) (answer : Result (Row ℕ) Error) → r.words.header ≡ None → shown ≡ bytes.section → section ≡ section_of r.words shown
     → IsRowOfFound room.rule_limit room.stack_limit room.copies_free section r.address (chosen_fde section r.address) answer → IsAnswer room r bytes answer
 answered r bytes shown room section answer none whole same is =
-    let of_bytes : section ≡ section_of r bytes.section = same ∙ ap (section_of r) whole in
+    let of_bytes : section ≡ section_of r.words bytes.section = same ∙ ap (section_of r.words) whole in
     record {
-      found = chosen_fde (section_of r bytes.section) r.address;
-      finds = subst (λ h. FoundByBase r bytes h (chosen_fde (section_of r bytes.section) r.address)) (sym none) refl;
+      found = chosen_fde (section_of r.words bytes.section) r.address;
+      finds = subst (λ h. FoundByBase r bytes h (chosen_fde (section_of r.words bytes.section) r.address)) (sym none) refl;
       answers = subst (λ s. IsRowOfFound room.rule_limit room.stack_limit room.copies_free s r.address (chosen_fde s r.address) answer) of_bytes is;
     }
 
 -- ---- with a header
 
-pub answered_by_header : (r : Request) (base : ℕ) (bytes : Bytes) (shown headed : List ℕ) (room : Room) (section : Section) (header : HeaderSection) (answer : Result (Row ℕ) Error) → r.header ≡ Some base
-    → shown ≡ bytes.section → section ≡ section_of r shown → headed ≡ bytes.header → header ≡ header_section_of r base headed → IsRowByHeader room section r.address header answer → IsAnswer room r bytes answer
+pub answered_by_header : (r : Request) (base : ℕ) (bytes : Bytes) (shown headed : List ℕ) (room : Room) (section : Section) (header : HeaderSection) (answer : Result (Row ℕ) Error) → r.words.header ≡ Some base
+    → shown ≡ bytes.section → section ≡ section_of r.words shown → headed ≡ bytes.header → header ≡ header_section_of r.words base headed → IsRowByHeader room section r.address header answer → IsAnswer room r bytes answer
 answered_by_header r base bytes shown headed room section header answer given whole same all same_header is =
-    let of_section : section ≡ section_of r bytes.section = same ∙ ap (section_of r) whole in
-    let of_header : header ≡ header_section_of r base bytes.header = same_header ∙ ap (header_section_of r base) all in
-    let so : IsRowByHeader room (section_of r bytes.section) r.address (header_section_of r base bytes.header) answer =
-    subst (λ s. IsRowByHeader room s r.address (header_section_of r base bytes.header) answer) of_section
+    let of_section : section ≡ section_of r.words bytes.section = same ∙ ap (section_of r.words) whole in
+    let of_header : header ≡ header_section_of r.words base bytes.header = same_header ∙ ap (header_section_of r.words base) all in
+    let so : IsRowByHeader room (section_of r.words bytes.section) r.address (header_section_of r.words base bytes.header) answer =
+    subst (λ s. IsRowByHeader room s r.address (header_section_of r.words base bytes.header) answer) of_section
     (subst (λ h. IsRowByHeader room section r.address h answer) of_header is) in
     record {
       found = so.0;

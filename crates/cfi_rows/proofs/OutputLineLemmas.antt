@@ -4,8 +4,8 @@ use Rattle.std.specs.Fmt.{decimal}
 use Rattle.std.specs.Io.KnownBytes.{Appends}
 use Rattle.cfi_state.specs.declared.table.rules.RegisterRule.{RegisterRule}
 use Rattle.cfi_rows.specs.Lines.{rule_text, ruled, rules_text}
-use Rattle.cfi_rows.specs.Written.{IsBeginning}
-use Rattle.cfi_rows.proofs.WrittenLemmas.{IsGiven, given_then, beginning_then}
+use Rattle.cfi_program.specs.Written.{IsBeginning}
+use Rattle.cfi_program.proofs.WrittenLemmas.{IsGiven, given_then, beginning_then}
 
 rules_more : (n r : ℕ) (rule_of : ℕ → Option (RegisterRule ℕ)) → r < n →
     rules_text (n - r) r rule_of ≡ ruled r (rule_of r) ++ rules_text (n - (r + 1)) (r + 1) rule_of

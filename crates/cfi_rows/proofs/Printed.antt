@@ -1,49 +1,51 @@
 -- Words, input and printed lines, by computation.
-use Rattle.std.proofs.Common.{◌≡◌, ℕ, [], ◌∷◌, ◌++◌, Option, Some, None, Err, pos, negsuc, refl, codes, ◌==◌, if◌then◌else◌}
-use Rattle.cfi_read_core.specs.declared.error.Error.TheVariants.{NoUnwindInfoForAddress}
+use Rattle.std.proofs.Common.{◌≡◌, ℕ, [], ◌∷◌, ◌++◌, Option, Some, None, pos, negsuc, refl, codes, ◌==◌, if◌then◌else◌}
 use Rattle.cfi_state.specs.declared.table.rules.CfaRule.TheVariants as cfas
 use Rattle.cfi_state.specs.declared.table.rules.RegisterRule.{RegisterRule}
 use Rattle.cfi_state.specs.declared.table.rules.RegisterRule.TheVariants as rules
 use Rattle.cfi_read_core.specs.declared.common.Vendor.TheVariants as vendors
 use Rattle.cfi_read_core.specs.declared.endianity.RunTimeEndian.TheVariants.{Little, Big}
-use Rattle.cfi_rows.specs.declared.command_line.Kind.TheVariants.{DebugFrame, EhFrame}
+use Rattle.cfi_program.specs.declared.words.Kind.TheVariants.{DebugFrame, EhFrame}
 use Rattle.cfi_rows.specs.declared.command_line.Storage.TheVariants.{OnHeap, Growing}
 use Rattle.std.specs.FinMap as map
 use Rattle.cfi_state.specs.declared.table.rules.CfaRule.{CfaRule}
 use Rattle.cfi_state.specs.Row.{Row}
 use Rattle.cfi_rows.specs.CommandLine.{request_of}
-use Rattle.cfi_rows.specs.Input.{bytes_by}
-use Rattle.cfi_rows.specs.Lines.{row_head, rules_text, answer_line}
+use Rattle.cfi_rows.specs.Lines.{row_head, rules_text}
 use Rattle.cfi_rows.proofs.Computing.{computing}
 
 -- ---- words
 
 plain_words : request_of (codes "debug_frame" ∷ codes "le" ∷ codes "8" ∷ codes "0x1002" ∷ []) ≡ Some (record {
-  kind = DebugFrame;
-  endian = Little;
-  address_size = 8;
+  words = record {
+    kind = DebugFrame;
+    endian = Little;
+    address_size = 8;
+    section = None;
+    text = None;
+    data_base = None;
+    vendor = vendors.Default;
+    header = None;
+  };
   address = 0x1002;
-  section = None;
-  text = None;
-  data_base = None;
-  vendor = vendors.Default;
   storage = OnHeap;
-  header = None;
 })
 unfolding computing
 plain_words = refl
 
 all_words : request_of (codes "eh_frame" ∷ codes "be" ∷ codes "4" ∷ codes "4096" ∷ codes "header=0x1F00" ∷ codes "store=vec" ∷ codes "data=3" ∷ codes "text=2" ∷ codes "section=1" ∷ codes "vendor=aarch64" ∷ []) ≡ Some (record {
-  kind = EhFrame;
-  endian = Big;
-  address_size = 4;
+  words = record {
+    kind = EhFrame;
+    endian = Big;
+    address_size = 4;
+    section = Some 1;
+    text = Some 2;
+    data_base = Some 3;
+    vendor = vendors.AArch64;
+    header = Some 0x1f00;
+  };
   address = 4096;
-  section = Some 1;
-  text = Some 2;
-  data_base = Some 3;
-  vendor = vendors.AArch64;
   storage = Growing;
-  header = Some 0x1f00;
 })
 unfolding computing
 all_words = refl
@@ -67,24 +69,6 @@ too_large_a_number = refl
 seventeen_digits : request_of (codes "debug_frame" ∷ codes "le" ∷ codes "8" ∷ codes "0x00000000000000001" ∷ []) ≡ None
 unfolding computing
 seventeen_digits = refl
-
--- ---- input
-
-spaces_are_ignored : bytes_by None (codes "0a 0B" ++ 13 ∷ 10 ∷ 9 ∷ codes "c" ++ codes " d") ≡ Some (record { section = 10 ∷ 11 ∷ 0xcd ∷ []; header = [] })
-unfolding computing
-spaces_are_ignored = refl
-
-no_digit : bytes_by None (codes "0g") ≡ None
-unfolding computing
-no_digit = refl
-
-header_behind_the_line : bytes_by (Some 0) (codes "0102" ++ 10 ∷ codes "03" ++ 10 ∷ codes "04") ≡ Some (record { section = 1 ∷ 2 ∷ []; header = 3 ∷ 4 ∷ [] })
-unfolding computing
-header_behind_the_line = refl
-
-no_header : bytes_by (Some 0) (codes "0102") ≡ Some (record { section = 1 ∷ 2 ∷ []; header = [] })
-unfolding computing
-no_header = refl
 
 -- ---- lines
 
@@ -110,6 +94,3 @@ printed_expression : row_head (row_of 0 0 (cfas.Expression (record { offset = 48
     codes "0x0 0x0 cfa=expr@48:1 args=7 r0=val_expr@3:6 r2=r3 r31=same"
 unfolding computing
 printed_expression = refl
-
-refused : answer_line (Err NoUnwindInfoForAddress) ≡ record { text = codes "refused NoUnwindInfoForAddress" ++ 10 ∷ []; status = 1 }
-refused = refl

@@ -7,20 +7,21 @@ use Rattle.cfi_read_core.specs.declared.error.Error.TheVariants.{OutOfMemory}
 use Rattle.cfi_state.specs.Row.{Row}
 use Rattle.cfi_rows.specs.declared.command_line.Request.{Request}
 use Rattle.cfi_rows.specs.ProgramOutput.{RequestAnswer, IsOwed, IsRun, LineOfInput, LineOfRequest, LineOfWords, out_of_memory, IsLineFor}
-use Rattle.cfi_rows.specs.Input.{Bytes, bytes_by}
-use Rattle.cfi_rows.specs.Lines.{Line, answer_line, wrong_words, wrong_hexadecimal, wrong_input}
 use Rattle.cfi_rows.specs.CommandLine.{CanBeAnswered, request_of_words}
-use Rattle.cfi_rows.specs.Written.{IsBeginning, Prints}
-use Rattle.cfi_rows.proofs.WrittenLemmas.{appends_then, keeps_is}
+use Rattle.cfi_rows.specs.Lines.{answer_line}
+use Rattle.cfi_program.specs.Input.{Bytes, bytes_by}
+use Rattle.cfi_program.specs.Lines.{Line, wrong_words, wrong_hexadecimal, wrong_input}
+use Rattle.cfi_program.specs.Written.{IsBeginning, Prints}
+use Rattle.cfi_program.proofs.WrittenLemmas.{appends_then, keeps_is}
 
 -- ---- the line that is owed
 
-owed_hexadecimal : (answers : RequestAnswer) (r : Request) (input : List ℕ) → bytes_by r.header input ≡ None → LineOfRequest answers (Some r) input wrong_hexadecimal
+owed_hexadecimal : (answers : RequestAnswer) (r : Request) (input : List ℕ) → bytes_by r.words.header input ≡ None → LineOfRequest answers (Some r) input wrong_hexadecimal
 owed_hexadecimal answers r input e =
     let P : Option Bytes → Type 0 = λ bytes. LineOfInput answers r bytes wrong_hexadecimal in
     subst P (sym e) refl
 
-owed_answer : (answers : RequestAnswer) (r : Request) (input : List ℕ) (bytes : Bytes) (printed : Line) → bytes_by r.header input ≡ Some bytes →
+owed_answer : (answers : RequestAnswer) (r : Request) (input : List ℕ) (bytes : Bytes) (printed : Line) → bytes_by r.words.header input ≡ Some bytes →
     ((answer : Result (Row ℕ) Error) × answers r bytes answer × (printed ≡ answer_line answer)) → LineOfRequest answers (Some r) input printed
 owed_answer answers r input bytes printed e is =
     let P : Option Bytes → Type 0 = λ read. LineOfInput answers r read printed in
@@ -31,18 +32,18 @@ known_of o r e h =
     let P : Option Request → Type 0 = λ asked_for. IfSome asked_for CanBeAnswered in
     subst P e h
 
-pub owes_hexadecimal : (answers : RequestAnswer) (o : Option Request) (r : Request) (input : List ℕ) → o ≡ Some r → bytes_by r.header input ≡ None → IsOwed answers o input wrong_hexadecimal
+pub owes_hexadecimal : (answers : RequestAnswer) (o : Option Request) (r : Request) (input : List ℕ) → o ≡ Some r → bytes_by r.words.header input ≡ None → IsOwed answers o input wrong_hexadecimal
 owes_hexadecimal answers o r input e wrong =
     let P : Option Request → Type 0 = λ asked_for. IsOwed answers asked_for input wrong_hexadecimal in
     subst P (sym e) (inl (owed_hexadecimal answers r input wrong))
 
-owes_line : (answers : RequestAnswer) (r : Request) (input : List ℕ) (bytes : Bytes) (printed : Line) → bytes_by r.header input ≡ Some bytes →
+owes_line : (answers : RequestAnswer) (r : Request) (input : List ℕ) (bytes : Bytes) (printed : Line) → bytes_by r.words.header input ≡ Some bytes →
     IsLineFor answers r bytes printed → IsOwed answers (Some r) input printed
 owes_line answers r input bytes printed d (inl is) = inl (owed_answer answers r input bytes printed d is)
 owes_line answers r input bytes printed d (inr memory) = inr (refl, inl memory)
 
 pub owes_answer : (Q : Line → Type 0) (answers : RequestAnswer) (o : Option Request) (r : Request) (input : List ℕ) (bytes : Bytes) → o ≡ Some r →
-    bytes_by r.header input ≡ Some bytes → ((printed : Line) × Q printed × IsLineFor answers r bytes printed) → (printed : Line) × Q printed × IsOwed answers o input printed
+    bytes_by r.words.header input ≡ Some bytes → ((printed : Line) × Q printed × IsLineFor answers r bytes printed) → (printed : Line) × Q printed × IsOwed answers o input printed
 owes_answer Q answers o r input bytes e d (printed, shows, which) =
     let P : Option Request → Type 0 = λ asked_for. IsOwed answers asked_for input printed in
     (printed, shows, subst P (sym e) (owes_line answers r input bytes printed d which))
@@ -73,7 +74,7 @@ words_wrong : (answers : RequestAnswer) (asked_for : Option Request) (input : Li
     get_or printed.text 0 0 ≡ 119 → get_or printed.text 6 0 ≡ 119 → LineOfRequest answers asked_for input wrong_words
 words_wrong answers None input printed owed first seventh = refl
 words_wrong answers (Some r) input printed (inl line) first seventh =
-    let e : ◌≡◌ {A = ℕ} 104 119 = first_of printed wrong_hexadecimal 6 119 seventh (owed_right answers r (bytes_by r.header input) printed line first).0 in
+    let e : ◌≡◌ {A = ℕ} 104 119 = first_of printed wrong_hexadecimal 6 119 seventh (owed_right answers r (bytes_by r.words.header input) printed line first).0 in
     absurd (omega arith)
 words_wrong answers (Some r) input printed (inr (some, inl memory)) first seventh = absurd (first_of_answer (Err OutOfMemory) (first_of printed out_of_memory 0 119 first memory))
 words_wrong answers (Some r) input printed (inr (some, inr unread)) first seventh =
@@ -86,7 +87,7 @@ hexadecimal_wrong answers None input printed (inl line) first seventh =
     let e : ◌≡◌ {A = ℕ} 119 104 = first_of printed wrong_words 6 104 seventh line in
     absurd (omega arith)
 hexadecimal_wrong answers None input printed (inr (none, line)) first seventh = cc
-hexadecimal_wrong answers (Some r) input printed (inl line) first seventh = (owed_right answers r (bytes_by r.header input) printed line first).1
+hexadecimal_wrong answers (Some r) input printed (inl line) first seventh = (owed_right answers r (bytes_by r.words.header input) printed line first).1
 hexadecimal_wrong answers (Some r) input printed (inr (some, inl memory)) first seventh = absurd (first_of_answer (Err OutOfMemory) (first_of printed out_of_memory 0 119 first memory))
 hexadecimal_wrong answers (Some r) input printed (inr (some, inr unread)) first seventh =
     let e : ◌≡◌ {A = ℕ} 105 104 = first_of printed wrong_input 6 104 seventh unread in
@@ -130,7 +131,7 @@ input_bound answers r (Some bytes) printed (answer, is, e) = bound_by printed (a
 
 status_bound : (answers : RequestAnswer) (asked_for : Option Request) (input : List ℕ) (printed : Line) → IsOwed answers asked_for input printed → printed.status ≤ 2
 status_bound answers None input printed (inl e) = bound_by printed wrong_words (omega arith) e
-status_bound answers (Some r) input printed (inl line) = input_bound answers r (bytes_by r.header input) printed line
+status_bound answers (Some r) input printed (inl line) = input_bound answers r (bytes_by r.words.header input) printed line
 status_bound answers asked_for input printed (inr (some, inl e)) = bound_by printed out_of_memory (omega arith) e
 status_bound answers asked_for input printed (inr (some, inr e)) = bound_by printed wrong_input (omega arith) e
 

@@ -1,5 +1,3 @@
 pub mod CommandLine
-pub mod Input
 pub mod Lines
-pub mod Written
 pub mod ProgramOutput

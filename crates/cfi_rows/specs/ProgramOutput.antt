@@ -1,55 +1,23 @@
 -- Which line is right for words and input.
-use Rattle.std.specs.Prelude.{◌≡◌, ◌⊎◌, ℕ, ◌≤◌, ◌<◌, Bool, true, false, Option, Some, None, List, length, Result, Ok, Err, IsSome}
+use Rattle.std.specs.Prelude.{◌≡◌, ◌⊎◌, ℕ, ◌≤◌, ◌<◌, Bool, true, false, Option, Some, None, List, Result, Ok, Err, IsSome}
 use Rattle.cfi_read_core.specs.declared.error.Error.{Error}
 use Rattle.cfi_read_core.specs.declared.error.Error.TheVariants.{OutOfMemory}
-use Rattle.cfi_read_core.specs.ByteOrder.{is_big}
-use Rattle.cfi_read_core.specs.Reading.{Source}
 use Rattle.cfi_parts.specs.declared.pointer.Pointer.{Pointer}
 use Rattle.cfi_state.specs.Row.{Row}
-use Rattle.cfi_unwind.specs.Sections as sections
 use Rattle.cfi_unwind.specs.Sections.{Section}
 use Rattle.cfi_unwind.specs.Fdes.{Fde}
 use Rattle.cfi_unwind.specs.Scan.{chosen_fde}
 use Rattle.gimli_cfi.specs.Headers.{HeaderSection, Header, Table, header_of, start_of}
 use Rattle.gimli_cfi.specs.HeaderTables.{IsFoundByTable}
 use Rattle.cfi_unwind.specs.AddressRow.{IsRowOfFound}
-use Rattle.cfi_rows.specs.declared.command_line.Kind.{Kind}
-use Rattle.cfi_rows.specs.declared.command_line.Kind.TheVariants.{DebugFrame, EhFrame}
 use Rattle.cfi_rows.specs.declared.command_line.Storage.{Storage}
 use Rattle.cfi_rows.specs.declared.command_line.Storage.TheVariants.{OnHeap, Growing}
 use Rattle.cfi_rows.specs.declared.command_line.Request.{Request}
 use Rattle.cfi_rows.specs.CommandLine.{request_of_words}
-use Rattle.cfi_rows.specs.Input.{Bytes, bytes_by}
-use Rattle.cfi_rows.specs.Lines.{Line, answer_line, wrong_words, wrong_hexadecimal, wrong_input}
-
--- ---- what the words and the bytes mean
-
-abbrev pub source_of : Request → List ℕ → Source
-source_of r bytes = record { whole = bytes; last = length bytes; big_endian = is_big r.endian; greatest = 0xffffffffffffffff }
-
-abbrev pub kind_of_section : Kind → sections.SectionKind
-kind_of_section DebugFrame = sections.DebugFrame
-kind_of_section EhFrame = sections.EhFrame
-
--- section= and header= are where the sections lie, data= is the base of data, text= that of text
-abbrev pub section_of : Request → List ℕ → Section
-section_of r bytes = record {
-  kind = kind_of_section r.kind;
-  source = source_of r bytes;
-  first = 0;
-  address_size = r.address_size;
-  vendor = r.vendor;
-  bases = record { section = r.section; text = r.text; data_base = r.data_base };
-}
-
--- in a header data is relative to the header itself
-abbrev pub header_section_of : Request → ℕ → List ℕ → HeaderSection
-header_section_of r base bytes = record {
-  source = source_of r bytes;
-  first = 0;
-  address_size = r.address_size;
-  bases = record { section = Some base; text = r.text; data_base = Some base };
-}
+use Rattle.cfi_program.specs.Input.{Bytes, bytes_by}
+use Rattle.cfi_program.specs.Lines.{Line, wrong_words, wrong_hexadecimal, wrong_input}
+use Rattle.cfi_program.specs.SectionOfWords.{header_section_of, section_of}
+use Rattle.cfi_rows.specs.Lines.{answer_line}
 
 -- ---- the room for an unwind
 
@@ -84,16 +52,16 @@ IsRowByHeader room section a header answer =
 
 -- the base is that of the header, where there is one
 abbrev pub FoundByBase : Request → Bytes → Option ℕ → Result Fde Error → Type 0
-FoundByBase r bytes None found = found ≡ chosen_fde (section_of r bytes.section) r.address
+FoundByBase r bytes None found = found ≡ chosen_fde (section_of r.words bytes.section) r.address
 FoundByBase r bytes (Some base) found =
-    FoundByHeader (section_of r bytes.section) r.address (header_section_of r base bytes.header) (header_of (header_section_of r base bytes.header)) found
+    FoundByHeader (section_of r.words bytes.section) r.address (header_section_of r.words base bytes.header) (header_of (header_section_of r.words base bytes.header)) found
 
 -- What may be answered to a request: the row of the FDE that is found, or the first refusal on the way. Only an
 -- instruction that may allocate may be refused for lack of it; where the room is fixed none is.
 pub record IsAnswer (room : Room) (r : Request) (bytes : Bytes) (answer : Result (Row ℕ) Error) : Type 0 where
   pub found : Result Fde Error
-  pub finds : FoundByBase r bytes r.header found
-  pub answers : IsRowOfFound room.rule_limit room.stack_limit room.copies_free (section_of r bytes.section) r.address found answer
+  pub finds : FoundByBase r bytes r.words.header found
+  pub answers : IsRowOfFound room.rule_limit room.stack_limit room.copies_free (section_of r.words bytes.section) r.address found answer
 
 -- ---- the line
 
@@ -107,7 +75,7 @@ LineOfInput answers r (Some bytes) printed = (answer : Result (Row ℕ) Error) �
 
 abbrev pub LineOfRequest : RequestAnswer → Option Request → List ℕ → Line → Type 0
 LineOfRequest answers None input printed = printed ≡ wrong_words
-LineOfRequest answers (Some r) input printed = LineOfInput answers r (bytes_by r.header input) printed
+LineOfRequest answers (Some r) input printed = LineOfInput answers r (bytes_by r.words.header input) printed
 
 -- for the words after the program's name, or none where they can't be had, and all bytes of the input
 abbrev pub LineOfWords : RequestAnswer → Option (List (List ℕ)) → List ℕ → Line → Type 0

@@ -9,10 +9,9 @@ ghost use Rattle.std.specs.Prelude.{◌≡◌, ℕ, List, IfOk, IfSome, map, opt
 ghost use Rattle.std.specs.Io.KnownBytes.{Appends};
 ghost use Rattle.std.specs.Process.{exit_status};
 ghost use Rattle.cfi_rows.specs.ProgramOutput.{answers, IsRun};
-ghost use Rattle.cfi_rows.specs.CommandLine.{texts};
+ghost use Rattle.cfi_program.specs.Words.{texts};
 
 mod command_line;
-mod input;
 mod output_line;
 mod row_lookup;
 mod run;

@@ -1,62 +1,16 @@
-//! The line that is printed.
+//! The line of a row.
 ghost use Rattle.std.specs.Prelude.{◌≡◌, ◌++◌, [], ◌∷◌, Some, Err, IfSome};
 ghost use Rattle.cfi_read_core.specs.Readers.{map_ok};
-ghost use Rattle.cfi_rows.specs.Lines.{address_text, cfa_text, rule_text, name_of, row_text, row_head, row_rules, answer_line, wrong_words, wrong_hexadecimal, wrong_input};
-ghost use Rattle.cfi_rows.specs.Written.{Writes, Prints};
+ghost use Rattle.cfi_program.specs.Written.{Writes, Prints};
+ghost use Rattle.cfi_rows.specs.Lines.{cfa_text, rule_text, row_text, row_head, row_rules, answer_line};
 
-use arrayvec::ArrayString;
+use cfi_program::lines::{Address, write_part, write_refusal, write_text};
 use gimli_cfi::{
     ArrayLike, CfaRule, Error, Register, RegisterRule, UnwindExpression, UnwindTableRow,
 };
-use std::fmt::{Display, Formatter, Write as _};
-use std::io::{ErrorKind, Write};
+use std::fmt::{Display, Formatter};
+use std::io::Write;
 use std::{fmt, io};
-
-/// More than the longest part of a line that is written at once: two addresses, an expression and a size.
-const PART: usize = 128;
-
-/// Writes the text. Where the writer fails, it was given a beginning of it; an interrupted write is tried again.
-pub fn write_text<W: Write>(output: &mut W, text: &[u8]) -> io::Result<()>
-    ensures { Writes (W.contents output.old) (W.contents output.new) result text.now }
-{
-    let mut rest = text;
-    for _ in 0..u64::MAX {
-        if rest.is_empty() {
-            return Ok(());
-        }
-        match output.write(rest) {
-            Ok(0) => return Err(io::Error::from(ErrorKind::WriteZero)),
-            Ok(n) => rest = &rest[n..],
-            Err(e) => {
-                if e.kind() != ErrorKind::Interrupted {
-                    return Err(e);
-                }
-            }
-        }
-    }
-    Err(io::Error::from(ErrorKind::Interrupted))
-}
-
-/// Writes what `part` displays, of at most 128 bytes. It takes no memory.
-pub fn write_part<W: Write, D: Display + Drop>(output: &mut W, part: D) -> io::Result<()>
-    ensures { IfSome (D.output part) (Writes (W.contents output.old) (W.contents output.new) result) }
-{
-    let mut text = ArrayString::<PART>::new();
-    write!(text, "{part}")?;
-    write_text(output, text.as_bytes())
-}
-
-/// An address, as `0x` and lower-case digits.
-#[derive(Clone, Copy)]
-pub struct Address(pub u64);
-
-impl Display for Address {
-    ghost output = { λ address. Some (address_text address.0) };
-
-    fn fmt<W: fmt::Write>(&self, f: &mut Formatter<W>) -> fmt::Result {
-        write!(f, "0x{:x}", self.0)
-    }
-}
 
 /// The rule of the canonical frame address.
 #[derive(Clone, Copy)]
@@ -109,48 +63,6 @@ impl Display for Rule {
     }
 }
 
-/// The name of a refusal, without its values.
-pub fn name(error: Error) -> &'static str
-    ensures { result.now ≡ name_of error }
-{
-    match error {
-        Error::UnexpectedEof(_) => "UnexpectedEof",
-        Error::BadUnsignedLeb128 => "BadUnsignedLeb128",
-        Error::BadSignedLeb128 => "BadSignedLeb128",
-        Error::UnknownReservedLength(_) => "UnknownReservedLength",
-        Error::UnsupportedAddressSize(_) => "UnsupportedAddressSize",
-        Error::UnsupportedOffset => "UnsupportedOffset",
-        Error::UnsupportedRegister(_) => "UnsupportedRegister",
-        Error::AddressOverflow => "AddressOverflow",
-        Error::UnknownVersion(_) => "UnknownVersion",
-        Error::UnsupportedSegmentSize(_) => "UnsupportedSegmentSize",
-        Error::UnknownAugmentation => "UnknownAugmentation",
-        Error::UnknownPointerEncoding(_) => "UnknownPointerEncoding",
-        Error::CannotParseOmitPointerEncoding => "CannotParseOmitPointerEncoding",
-        Error::UnsupportedPointerEncoding(_) => "UnsupportedPointerEncoding",
-        Error::PcRelativePointerButSectionBaseIsUndefined =>
-            "PcRelativePointerButSectionBaseIsUndefined",
-        Error::TextRelativePointerButTextBaseIsUndefined =>
-            "TextRelativePointerButTextBaseIsUndefined",
-        Error::DataRelativePointerButDataBaseIsUndefined =>
-            "DataRelativePointerButDataBaseIsUndefined",
-        Error::FuncRelativePointerInBadContext => "FuncRelativePointerInBadContext",
-        Error::UnsupportedIndirectPointer => "UnsupportedIndirectPointer",
-        Error::NotCieId(_) => "NotCieId",
-        Error::NotCiePointer(_) => "NotCiePointer",
-        Error::NoEntryAtGivenOffset(_) => "NoEntryAtGivenOffset",
-        Error::OffsetOutOfBounds(_) => "OffsetOutOfBounds",
-        Error::UnknownCallFrameInstruction(_) => "UnknownCallFrameInstruction",
-        Error::CfiInstructionInInvalidContext => "CfiInstructionInInvalidContext",
-        Error::InvalidCfiSetLoc(_) => "InvalidCfiSetLoc",
-        Error::StackFull => "StackFull",
-        Error::PopWithEmptyStack => "PopWithEmptyStack",
-        Error::TooManyRegisterRules => "TooManyRegisterRules",
-        Error::NoUnwindInfoForAddress => "NoUnwindInfoForAddress",
-        Error::OutOfMemory => "OutOfMemory",
-    }
-}
-
 /// Prints the line of an answer: a row's, with status 0, or a refusal's, with status 1.
 pub fn write_answer<W: Write, A: ArrayLike<Item = (Register, RegisterRule<usize>)>>(
     output: &mut W,
@@ -165,39 +77,6 @@ pub fn write_answer<W: Write, A: ArrayLike<Item = (Register, RegisterRule<usize>
         }
         Err(error) => write_refusal(output, error),
     }
-}
-
-/// Prints that the words are wrong, with status 2.
-pub fn write_wrong_words<W: Write>(output: &mut W) -> io::Result<u8>
-    ensures { Prints wrong_words (W.contents output.old) (W.contents output.new) result }
-{
-    write_text(output, b"wrong words\n")?;
-    Ok(2)
-}
-
-/// Prints that the input is no hexadecimal, with status 2.
-pub fn write_wrong_hexadecimal<W: Write>(output: &mut W) -> io::Result<u8>
-    ensures { Prints wrong_hexadecimal (W.contents output.old) (W.contents output.new) result }
-{
-    write_text(output, b"wrong hexadecimal\n")?;
-    Ok(2)
-}
-
-/// Prints that the input can't be read, with status 2.
-pub fn write_wrong_input<W: Write>(output: &mut W) -> io::Result<u8>
-    ensures { Prints wrong_input (W.contents output.old) (W.contents output.new) result }
-{
-    write_text(output, b"wrong input\n")?;
-    Ok(2)
-}
-
-/// Prints the line of a refusal, with status 1.
-pub fn write_refusal<W: Write>(output: &mut W, error: Error) -> io::Result<u8>
-    ensures { Prints (answer_line (Err error)) (W.contents output.old) (W.contents output.new) result }
-{
-    let name = name(error);
-    write_part(output, format_args!("refused {name}\n"))?;
-    Ok(1)
 }
 
 /// Writes the line of a row. The registers stand by rising number.

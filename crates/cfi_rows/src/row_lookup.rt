@@ -7,18 +7,19 @@ ghost use Rattle.cfi_state.specs.MappedStates.{row_lent};
 ghost use Rattle.gimli_cfi.specs.Headers.{header_section};
 ghost use Rattle.gimli_cfi.specs.HeaderViews.{section_view};
 ghost use Rattle.cfi_rows.specs.ProgramOutput.{answers, room, IsAnswer, IsLineFor, IsRowByHeader};
-ghost use Rattle.cfi_rows.specs.Input.{bytes_of};
-ghost use Rattle.cfi_rows.specs.Lines.{Line};
 ghost use Rattle.cfi_rows.specs.CommandLine.{CanBeAnswered};
-ghost use Rattle.cfi_rows.specs.Written.{Prints};
+ghost use Rattle.cfi_program.specs.Input.{bytes_of};
+ghost use Rattle.cfi_program.specs.Lines.{Line};
+ghost use Rattle.cfi_program.specs.Written.{Prints};
 
-use crate::command_line::{Kind, Request, Storage};
-use crate::input::Sections;
-use crate::output_line::{write_answer, write_refusal};
+use crate::command_line::{Request, Storage};
+use crate::output_line::write_answer;
+use cfi_program::input::Sections;
+use cfi_program::lines::write_refusal;
+use cfi_program::words::Kind;
 use gimli_cfi::{
-    BaseAddresses, DebugFrame, EhFrame, EhFrameHdr, Error, Reader, SectionBaseAddresses,
-    StoreGrowing, StoreOnHeap, TableStarts, UnwindContext, UnwindContextStorage, UnwindTableRow,
-    row_by_scan, row_by_table,
+    BaseAddresses, DebugFrame, EhFrame, EhFrameHdr, Error, Reader, StoreGrowing, StoreOnHeap,
+    TableStarts, UnwindContext, UnwindContextStorage, UnwindTableRow, row_by_scan, row_by_table,
 };
 use std::alloc::Global;
 use std::io;
@@ -68,24 +69,25 @@ fn find_row<'ctx, S: UnwindContextStorage<usize>>(
     requires { CanBeAnswered request.now }
     ensures { IsAnswer (room S.Rules.limit S.Stack.limit S.Rules.copies_free) request.now (bytes_of sections.now) (map_ok (λ row. row.now) result) }
 {
-    let bases = bases_of(request);
+    let words = &request.words;
+    let bases = words.bases();
     let section = sections.section.as_slice();
-    match request.kind {
+    match words.kind {
         Kind::DebugFrame => {
-            let mut frame = DebugFrame::new(section, request.endian);
-            frame.set_address_size(request.address_size);
-            frame.set_vendor(request.vendor);
+            let mut frame = DebugFrame::new(section, words.endian);
+            frame.set_address_size(words.address_size);
+            frame.set_vendor(words.vendor);
             row_by_scan(&frame, &bases, context, request.address)
         }
         Kind::EhFrame => {
-            let mut frame = EhFrame::new(section, request.endian);
-            frame.set_address_size(request.address_size);
-            frame.set_vendor(request.vendor);
-            let Some(_) = request.header else {
+            let mut frame = EhFrame::new(section, words.endian);
+            frame.set_address_size(words.address_size);
+            frame.set_vendor(words.vendor);
+            let Some(_) = words.header else {
                 return row_by_scan(&frame, &bases, context, request.address);
             };
-            let header = EhFrameHdr::new(sections.header.as_slice(), request.endian);
-            let size = request.address_size;
+            let header = EhFrameHdr::new(sections.header.as_slice(), words.endian);
+            let size = words.address_size;
             row_by_header(&header, size, &frame, &bases, context, request.address)
         }
     }
@@ -110,23 +112,4 @@ fn row_by_header<'ctx, R: Reader, S: UnwindContextStorage<R::Offset>>(
     };
     let mut starts = TableStarts::new(&table, bases)?;
     row_by_table(&table, &mut starts, frame, bases, context, address)
-}
-
-/// The bases of the pointers in the section's entries, and of those in its header.
-fn bases_of(request: &Request) -> BaseAddresses
-    ensures section { result.eh_frame ≡ record { section = request.now.section; text = request.now.text; data_base = request.now.data_base } }
-    ensures header { result.eh_frame_hdr ≡ record { section = request.now.header; text = request.now.text; data_base = request.now.header } }
-{
-    BaseAddresses {
-        eh_frame_hdr: SectionBaseAddresses {
-            section: request.header,
-            text: request.text,
-            data_base: request.header,
-        },
-        eh_frame: SectionBaseAddresses {
-            section: request.section,
-            text: request.text,
-            data_base: request.data_base,
-        },
-    }
 }

@@ -2,18 +2,19 @@
 ghost use Rattle.std.specs.Prelude.{◌≡◌, ◌⊎◌, ◌≤◌, ℕ, List, IfSome, IsNone, None, option_map};
 ghost use Rattle.std.specs.Io.KnownBytes.{Appends};
 ghost use Rattle.cfi_rows.specs.ProgramOutput.{answers, IsRun, IsOwed, LineOfRequest};
-ghost use Rattle.cfi_rows.specs.Lines.{Line};
-ghost use Rattle.cfi_rows.specs.CommandLine.{CanBeAnswered, request_of_words, texts};
-ghost use Rattle.cfi_rows.specs.Written.{Prints};
+ghost use Rattle.cfi_rows.specs.CommandLine.{CanBeAnswered, request_of_words};
 ghost use Rattle.cfi_read_core.specs.Readers.{map_ok};
-ghost use Rattle.cfi_rows.specs.Input.{IsDecoded, bytes_of};
+ghost use Rattle.cfi_program.specs.Input.{IsDecoded, bytes_of};
+ghost use Rattle.cfi_program.specs.Lines.{Line};
+ghost use Rattle.cfi_program.specs.Words.{texts};
+ghost use Rattle.cfi_program.specs.Written.{Prints};
 
 use crate::command_line::{Request, asked_for};
-use crate::input::{InputError, Sections, decode_sections, read_all};
-use crate::output_line::{
+use crate::row_lookup::print_answer;
+use cfi_program::input::{InputError, Sections, decode_sections, read_all};
+use cfi_program::lines::{
     write_refusal, write_wrong_hexadecimal, write_wrong_input, write_wrong_words,
 };
-use crate::row_lookup::print_answer;
 use gimli_cfi::Error;
 use std::alloc::Global;
 use std::io;
@@ -61,7 +62,7 @@ fn print_line<R: Read, W: Write>(
     let Some(request) = request else {
         return write_wrong_words(output);
     };
-    match read_sections(alloc, request.header, input) {
+    match read_sections(alloc, request.words.header, input) {
         Ok(sections) => print_answer(alloc, &request, &sections, output),
         Err(InputError::Unreadable) => write_wrong_input(output),
         Err(InputError::NotHexadecimal) => write_wrong_hexadecimal(output),

@@ -1,5 +1,6 @@
 use Rattle.std.proofs.Common.{◌≡◌, drop}
-use Rattle.cfi_rows.specs.CommandLine.{texts, option_words}
+use Rattle.cfi_program.specs.Words.{texts}
+use Rattle.cfi_rows.specs.CommandLine.{option_words}
 use Rattle.cfi_rows.proofs.command_line.with_options.Given as goal
 
 abbrev pub invariant-loop-word : goal.invariant-loop-word

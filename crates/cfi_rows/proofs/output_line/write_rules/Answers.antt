@@ -1,6 +1,6 @@
 use Rattle.std.proofs.Common.{arith}
 use Rattle.cfi_rows.proofs.OutputLineLemmas.{rules_end, rules_without, rule_given, rule_begun}
-use Rattle.cfi_rows.proofs.WrittenLemmas.{given_all, writes_refused}
+use Rattle.cfi_program.proofs.WrittenLemmas.{given_all, writes_refused}
 use Rattle.cfi_rows.proofs.output_line.write_rules.Goals as goal
 use Rattle.cfi_rows.proofs.output_line.write_rules.Goals.{in-Some+in_ok-write_part, in_default}
 

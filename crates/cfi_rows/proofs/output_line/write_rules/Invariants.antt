@@ -1,7 +1,7 @@
 use Rattle.std.proofs.Common.{◌-◌}
 use Rattle.std.specs.FinMap as map
 use Rattle.cfi_rows.specs.Lines.{rules_text, row_rules}
-use Rattle.cfi_rows.proofs.WrittenLemmas.{IsGiven}
+use Rattle.cfi_program.proofs.WrittenLemmas.{IsGiven}
 use Rattle.cfi_rows.proofs.output_line.write_rules.Given as goal
 
 abbrev pub invariant-loop-number : goal.invariant-loop-number

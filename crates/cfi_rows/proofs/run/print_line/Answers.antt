@@ -1,8 +1,8 @@
 use Rattle.std.proofs.lemmas.Option.{IfSome_then}
-use Rattle.cfi_rows.specs.Lines.{wrong_hexadecimal}
+use Rattle.cfi_program.specs.Lines.{wrong_hexadecimal}
 use Rattle.cfi_rows.specs.ProgramOutput.{answers}
-use Rattle.cfi_rows.specs.Input.{bytes_of}
-use Rattle.cfi_rows.specs.Written.{Prints}
+use Rattle.cfi_program.specs.Input.{bytes_of}
+use Rattle.cfi_program.specs.Written.{Prints}
 use Rattle.cfi_rows.proofs.RunLemmas.{known_of, owes_answer, owes_hexadecimal}
 use Rattle.cfi_rows.proofs.run.print_line.Goals as goal
 

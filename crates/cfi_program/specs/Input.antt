@@ -1,0 +1,45 @@
+-- The input: a section in hexadecimal, and after its first line the header where one is asked for.
+use Rattle.std.specs.Prelude.{◌≡◌, ℕ, Bool, not, ◌||◌, Option, Some, None, List, [], Result, Ok, Err, ◌==◌, filter}
+use Rattle.std.specs.List.{before_first, after_first}
+use Rattle.hex.specs.Hex.{decode_of}
+use Rattle.cfi_program.specs.declared.input.InputError.{InputError}
+use Rattle.cfi_program.specs.declared.input.InputError.TheVariants.{Unreadable, NotHexadecimal, OutOfMemory}
+use Rattle.cfi_program.specs.declared.input.Sections.{Sections}
+use Rattle.hex.specs.declared.error.FromHexError.{FromHexError}
+
+-- a space, a tab, a carriage return or a line feed
+abbrev pub is_space : ℕ → Bool
+is_space c = c == 32 || (c == 9 || (c == 13 || c == 10))
+
+abbrev pub is_line_feed : ℕ → Bool
+is_line_feed c = c == 10
+
+abbrev pub decoded_bytes : List ℕ → Result (List ℕ) FromHexError
+decoded_bytes input = decode_of (filter (λ c. not (is_space c)) input)
+
+pub record Bytes : Type 0 where
+  pub section : List ℕ
+  pub header : List ℕ  -- empty where none is asked for
+
+abbrev pub with_header : Result (List ℕ) FromHexError → Result (List ℕ) FromHexError → Option Bytes
+with_header (Ok section) (Ok header) = Some (record { section = section; header = header })
+with_header (Ok section) (Err e) = None
+with_header (Err e) header = None
+
+-- none where the input is no hexadecimal
+abbrev pub bytes_by : Option ℕ → List ℕ → Option Bytes
+bytes_by None input = with_header (decoded_bytes input) (Ok [])
+bytes_by (Some base) input = with_header (decoded_bytes (before_first is_line_feed input)) (decoded_bytes (after_first is_line_feed input))
+
+-- what comes of the input, for the bytes that it means; lack of memory and a failed read are no fault of its bytes
+abbrev pub IsReading : Option Bytes → Result Bytes InputError → Type 0
+IsReading meant (Ok bytes) = meant ≡ Some bytes
+IsReading meant (Err NotHexadecimal) = meant ≡ None
+IsReading meant (Err Unreadable) = Unit {0}
+IsReading meant (Err OutOfMemory) = Unit {0}
+
+abbrev pub IsDecoded : Option ℕ → List ℕ → Result Bytes InputError → Type 0
+IsDecoded header input result = IsReading (bytes_by header input) result
+
+abbrev pub bytes_of : Sections → Bytes
+bytes_of sections = record { section = sections.section.items; header = sections.header.items }

@@ -1,0 +1,5 @@
+pub mod Words
+pub mod SectionOfWords
+pub mod Input
+pub mod Lines
+pub mod Written

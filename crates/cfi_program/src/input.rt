@@ -1,0 +1,140 @@
+//! The input: a section in hexadecimal, and after its first line its header where one is asked for.
+ghost use Rattle.std.specs.Prelude.{◌≡◌, ◌≢◌, ℕ, ◌⊎◌, ◌<◌, ◌≤◌, List, length, take, slice_index, IfOk, IfErr, IsErr, Some, Ok, OnErr, IfSome, vec_items};
+ghost use Rattle.std.specs.Io.KnownBytes.{Consumes, IsAtEnd};
+ghost use Rattle.hex.specs.declared.error.FromHexError.TheVariants.{OutOfMemory};
+ghost use Rattle.std.specs.List.{All, before_first, after_first};
+ghost use Rattle.cfi_read_core.specs.Readers.{map_ok};
+ghost use Rattle.cfi_program.specs.Input.{is_space, is_line_feed, decoded_bytes, bytes_of, IsDecoded};
+
+use hex::FromHexError;
+use std::alloc::Global;
+use std::io::Read;
+
+/// How many bytes are asked for at once.
+const CHUNK: usize = 16384;
+
+/// Why there are no bytes.
+#[derive(Clone, Copy, Debug, PartialEq, Eq)]
+pub enum InputError {
+    /// A read failed.
+    Unreadable,
+    /// The text is no hexadecimal.
+    NotHexadecimal,
+    /// Memory was refused.
+    OutOfMemory,
+}
+
+/// Reads the input to its end. A read that is interrupted is one that failed.
+pub fn read_all<R: Read>(alloc: Global, input: &mut R) -> Result<Vec<u8>, InputError>
+    ensures all { IfOk result (λ bytes. IfSome (R.remaining input.old) (λ xs. bytes.items ≡ xs)) }
+    ensures refused { IfErr result (λ e. (e ≡ InputError.Unreadable) ⊎ (e ≡ InputError.OutOfMemory)) }
+{
+    let mut bytes = Vec::new(alloc);
+    let mut chunk = [0u8; CHUNK];
+    for _ in 0..u64::MAX {
+        match input.read(&mut chunk) {
+            Ok(0) => return Ok(bytes),
+            Ok(n) => {
+                if bytes.extend_from_slice(&chunk[..n]).is_err() {
+                    return Err(InputError::OutOfMemory);
+                }
+            }
+            Err(_) => return Err(InputError::Unreadable),
+        }
+    }
+    Err(InputError::Unreadable)
+}
+
+/// What the input holds.
+#[derive(Debug, Drop)]
+pub struct Sections {
+    /// The bytes of the section.
+    pub section: Vec<u8>,
+    /// The bytes of its header; none where the input has no header.
+    pub header: Vec<u8>,
+}
+
+/// The bytes that the text of the input writes: the section, and where a header is asked for, the section in the first
+/// line and the header after it.
+pub fn decode_sections(
+    alloc: Global,
+    header: Option<u64>,
+    text: Vec<u8>,
+) -> Result<Sections, InputError>
+    ensures read { IsDecoded header text.items (map_ok bytes_of result) }
+    ensures refused { IfErr result (λ e. e ≢ InputError.Unreadable) }
+{
+    match header {
+        None => Ok(Sections {
+            section: decode(alloc, text)?,
+            header: Vec::new(alloc),
+        }),
+        Some(_) => decode_lines(alloc, text),
+    }
+}
+
+/// The bytes of the section in the first line, and of the header after it.
+fn decode_lines(alloc: Global, text: Vec<u8>) -> Result<Sections, InputError>
+    ensures read { IsDecoded (Some 0) text.items (map_ok bytes_of result) }
+    ensures refused { IfErr result (λ e. e ≢ InputError.Unreadable) }
+{
+    let mut first_line = text;
+    let rest = split_after_first_line(&mut first_line)?;
+    let section = decode(alloc, first_line)?;
+    let header = decode(alloc, rest)?;
+    Ok(Sections { section, header })
+}
+
+/// Takes what stands after the first line, with the line feed between.
+fn split_after_first_line(text: &mut Vec<u8>) -> Result<Vec<u8>, InputError>
+    ensures first { IfOk result (λ rest. text.new.items ≡ before_first is_line_feed text.old.items) }
+    ensures rest { IfOk result (λ rest. decoded_bytes rest.items ≡ decoded_bytes (after_first is_line_feed text.old.items)) }
+    ensures refused { IfErr result (λ e. e ≡ InputError.OutOfMemory) }
+{
+    let end = first_line_len(text.as_slice());
+    match text.split_off(end) {
+        Ok(rest) => Ok(rest),
+        Err(_) => Err(InputError::OutOfMemory),
+    }
+}
+
+/// How many bytes the first line has, its line feed left out.
+fn first_line_len(text: &[u8]) -> usize
+    ensures within { result ≤ length text.now }
+    ensures before { All (λ byte. byte ≢ 10) (take result text.now) }
+    ensures found { result < length text.now → slice_index text.now result ≡ 10 }
+{
+    text.iter()
+        .position(|byte| *byte == b'\n')
+        .unwrap_or(text.len())
+}
+
+/// The bytes that hexadecimal text writes, spaces left out.
+fn decode(alloc: Global, text: Vec<u8>) -> Result<Vec<u8>, InputError>
+    ensures value { IfOk result (λ bytes. decoded_bytes text.items ≡ Ok bytes.items) }
+    ensures refused { IfErr result (λ e. (e ≡ InputError.OutOfMemory) ⊎ ((e ≡ InputError.NotHexadecimal) × IsErr (decoded_bytes text.items))) }
+{
+    let mut digits = text;
+    digits.retain(|byte| !is_space_byte(*byte));
+    match hex::decode(alloc, digits.as_slice()) {
+        Ok(bytes) => Ok(bytes),
+        Err(e) => Err(refusal_of(e)),
+    }
+}
+
+fn refusal_of(error: FromHexError) -> InputError
+    ensures memory { error ≡ OutOfMemory → result ≡ InputError.OutOfMemory }
+    ensures text { error ≢ OutOfMemory → result ≡ InputError.NotHexadecimal }
+{
+    match error {
+        FromHexError::OutOfMemory => InputError::OutOfMemory,
+        _ => InputError::NotHexadecimal,
+    }
+}
+
+/// A space, a tab, a carriage return or a line feed.
+fn is_space_byte(byte: u8) -> bool
+    ensures { result ≡ is_space byte }
+{
+    byte == b' ' || byte == b'\t' || byte == b'\r' || byte == b'\n'
+}
