@@ -1,5 +1,6 @@
 mod Computing
 pub mod InputLemmas
+pub mod RunLemmas
 mod Printed
 pub mod SectionLemmas
 pub mod SectionWordsLemmas

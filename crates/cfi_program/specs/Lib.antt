@@ -3,3 +3,4 @@ pub mod SectionOfWords
 pub mod Input
 pub mod Lines
 pub mod Written
+pub mod Runs

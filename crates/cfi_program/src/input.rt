@@ -45,6 +45,18 @@ pub fn read_all<R: Read>(alloc: Global, input: &mut R) -> Result<Vec<u8>, InputE
     Err(InputError::Unreadable)
 }
 
+/// Reads the input to its end, and then decodes it.
+pub fn read_sections<R: Read>(
+    alloc: Global,
+    header: Option<u64>,
+    input: &mut R,
+) -> Result<Sections, InputError>
+    ensures { IfSome (R.remaining input.old) (λ bytes. IsDecoded header bytes (map_ok bytes_of result)) }
+{
+    let text = read_all(alloc, input)?;
+    decode_sections(alloc, header, text)
+}
+
 /// What the input holds.
 #[derive(Debug, Drop)]
 pub struct Sections {

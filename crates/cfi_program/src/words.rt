@@ -1,10 +1,13 @@
 //! The words of the command line that say of what kind a section is, and where it lies.
-ghost use Rattle.std.specs.Prelude.{◌≡◌, option_map};
+ghost use Rattle.std.specs.Prelude.{◌≡◌, IfOk, map, option_map, string_bytes};
 ghost use Rattle.std.specs.Char.{is_ascii_digit, is_ascii_hexdigit};
 ghost use Rattle.std.specs.List.{list_all};
 ghost use Rattle.cfi_program.specs.Words.{texts, number, hexadecimal_number, decimal_number, kind_of, order_of, size_of, first_words, section_word, section_words, once_given, after_prefix, set_vendor, set_section, set_text, set_data_base, set_header};
 
 use gimli_cfi::{BaseAddresses, RunTimeEndian, SectionBaseAddresses, Vendor};
+use std::alloc::{AllocError, Global};
+use std::rt::Env;
+use std::{env, io};
 
 /// The section that the input holds.
 #[derive(Clone, Copy, Debug, PartialEq, Eq)]
@@ -55,6 +58,19 @@ impl SectionWords {
             },
         }
     }
+}
+
+/// The words after the program's name.
+pub fn words_after_name(rt: &(impl Env + AllocGlobal)) -> io::Result<Vec<String>> {
+    let words = env::args(rt)?.skip(1).collect(rt.alloc())?;
+    Ok(words)
+}
+
+/// The words as texts, each in its place.
+pub fn texts_of(alloc: Global, words: &[String]) -> Result<Vec<&str>, AllocError>
+    ensures { IfOk result (λ list. texts list.items ≡ map string_bytes words.now) }
+{
+    words.iter().map(|word| word.as_str()).collect(alloc)
 }
 
 /// What the first three words say: `debug_frame` or `eh_frame`, `le` or `be`, and 1, 2, 4 or 8. `None` where one is

@@ -17,12 +17,13 @@ use Rattle.gimli_cfi.specs.HeaderTables.{IsFoundByTable, SearchedBy, fde_by_row}
 use Rattle.cfi_unwind.specs.AddressRow.{IsRowOfFound}
 use Rattle.cfi_program.specs.Lines.{Line}
 use Rattle.cfi_program.specs.Input.{Bytes}
+use Rattle.cfi_program.specs.Runs.{IsLineFor}
 use Rattle.cfi_program.specs.SectionOfWords.{header_section_of, section_of}
 use Rattle.cfi_program.specs.declared.words.Kind.{Kind}
 use Rattle.cfi_program.specs.declared.words.Kind.TheVariants.{DebugFrame, EhFrame}
 use Rattle.cfi_rows.specs.declared.command_line.Request.{Request}
 use Rattle.cfi_rows.specs.declared.command_line.Storage.{Storage}
-use Rattle.cfi_rows.specs.ProgramOutput.{FoundByBase, FoundByHeader, FoundByRows, IsLineFor, IsRowByHeader, Room, room_of, IsAnswer, answers}
+use Rattle.cfi_rows.specs.ProgramOutput.{FoundByBase, FoundByHeader, FoundByRows, IsRowByHeader, Room, room_of, IsAnswer, answers, rows_in}
 
 -- rows over offsets that are numbers
 pub same_rows : {B : Type 0} (now : B → Row ℕ) (r : Result B Error) → map_ok (λ row. map_row as_it_is (now row)) r ≡ map_ok (λ row. now row) r
@@ -101,6 +102,6 @@ answered_by_table room section a header source h t start eh_frame answer is rows
 
 -- the line of the storage that is asked for
 pub in_storage : (Q : Line → Type 0) (r : Request) (s : Storage) (bytes : Bytes) → r.storage ≡ s
-    → ((printed : Line) × Q printed × IsLineFor (IsAnswer (room_of s)) r bytes printed) → (printed : Line) × Q printed × IsLineFor answers r bytes printed
+    → ((printed : Line) × Q printed × IsLineFor (rows_in (λ _. room_of s)) r bytes printed) → (printed : Line) × Q printed × IsLineFor answers r bytes printed
 in_storage Q r s bytes e h =
-    subst (λ storage. (printed : Line) × Q printed × IsLineFor (IsAnswer (room_of storage)) r bytes printed) (sym e) h
+    subst (λ storage. (printed : Line) × Q printed × IsLineFor (rows_in (λ _. room_of storage)) r bytes printed) (sym e) h

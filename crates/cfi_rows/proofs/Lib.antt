@@ -2,7 +2,7 @@ mod Computing
 pub mod OutputLineLemmas
 mod Printed
 pub mod RequestLemmas
-pub mod RunLemmas
+pub mod PlainLines
 pub mod CommandLineLemmas
 pub mod AnswerLemmas
 mod OnHeap

@@ -9,9 +9,9 @@ use Rattle.cfi_rows.specs.declared.command_line.Request.{Request}
 use Rattle.cfi_rows.specs.declared.command_line.Storage.TheVariants.{OnHeap}
 use Rattle.cfi_program.specs.Input.{Bytes}
 use Rattle.cfi_program.specs.SectionOfWords.{section_of}
-use Rattle.cfi_rows.specs.ProgramOutput.{FoundByBase, IsAnswer, answers, room_of}
+use Rattle.cfi_rows.specs.ProgramOutput.{FoundByBase, IsAnswer, room_of}
 
-pub row_of_found : (r : Request) (bytes : Bytes) (answer : Result (Row ℕ) Error) → r.storage ≡ OnHeap → answers r bytes answer
+pub row_of_found : (r : Request) (bytes : Bytes) (answer : Result (Row ℕ) Error) → r.storage ≡ OnHeap → IsAnswer (room_of r.storage) r bytes answer
     → (found : Result Fde Error) × FoundByBase r bytes r.words.header found × (answer ≡ answer_by (row_of_fde (Some 192) (Some 4) (section_of r.words bytes.section) r.address) found)
 row_of_found r bytes answer e is =
     let so : IsAnswer (room_of OnHeap) r bytes answer = subst (λ storage. IsAnswer (room_of storage) r bytes answer) e is in

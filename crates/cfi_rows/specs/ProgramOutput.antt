@@ -1,7 +1,6 @@
 -- Which line is right for words and input.
-use Rattle.std.specs.Prelude.{◌≡◌, ◌⊎◌, ℕ, ◌≤◌, ◌<◌, Bool, true, false, Option, Some, None, List, Result, Ok, Err, IsSome}
+use Rattle.std.specs.Prelude.{◌≡◌, ℕ, Bool, true, false, Option, Some, None, Result, Ok, Err}
 use Rattle.cfi_read_core.specs.declared.error.Error.{Error}
-use Rattle.cfi_read_core.specs.declared.error.Error.TheVariants.{OutOfMemory}
 use Rattle.cfi_parts.specs.declared.pointer.Pointer.{Pointer}
 use Rattle.cfi_state.specs.Row.{Row}
 use Rattle.cfi_unwind.specs.Sections.{Section}
@@ -13,9 +12,9 @@ use Rattle.cfi_unwind.specs.AddressRow.{IsRowOfFound}
 use Rattle.cfi_rows.specs.declared.command_line.Storage.{Storage}
 use Rattle.cfi_rows.specs.declared.command_line.Storage.TheVariants.{OnHeap, Growing}
 use Rattle.cfi_rows.specs.declared.command_line.Request.{Request}
-use Rattle.cfi_rows.specs.CommandLine.{request_of_words}
-use Rattle.cfi_program.specs.Input.{Bytes, bytes_by}
-use Rattle.cfi_program.specs.Lines.{Line, wrong_words, wrong_hexadecimal, wrong_input}
+use Rattle.cfi_rows.specs.CommandLine.{request_of}
+use Rattle.cfi_program.specs.Input.{Bytes}
+use Rattle.cfi_program.specs.Runs.{Program}
 use Rattle.cfi_program.specs.SectionOfWords.{header_section_of, section_of}
 use Rattle.cfi_rows.specs.Lines.{answer_line}
 
@@ -65,46 +64,15 @@ pub record IsAnswer (room : Room) (r : Request) (bytes : Bytes) (answer : Result
 
 -- ---- the line
 
--- the answers to a request, for the bytes of the input
-abbrev pub RequestAnswer : Type 1
-RequestAnswer = Request → Bytes → Result (Row ℕ) Error → Type 0
-
-abbrev pub LineOfInput : RequestAnswer → Request → Option Bytes → Line → Type 0
-LineOfInput answers r None printed = printed ≡ wrong_hexadecimal
-LineOfInput answers r (Some bytes) printed = (answer : Result (Row ℕ) Error) × answers r bytes answer × (printed ≡ answer_line answer)
-
-abbrev pub LineOfRequest : RequestAnswer → Option Request → List ℕ → Line → Type 0
-LineOfRequest answers None input printed = printed ≡ wrong_words
-LineOfRequest answers (Some r) input printed = LineOfInput answers r (bytes_by r.words.header input) printed
-
--- for the words after the program's name, or none where they can't be had, and all bytes of the input
-abbrev pub LineOfWords : RequestAnswer → Option (List (List ℕ)) → List ℕ → Line → Type 0
-LineOfWords answers words input printed = LineOfRequest answers (request_of_words words) input printed
+-- the rows of sections, where the unwind of a request has so much room
+abbrev pub rows_in : (Request → Room) → Program
+rows_in room_for = record {
+  Request = Request;
+  request_of = request_of;
+  header_of = λ r. r.words.header;
+  IsLine = λ r bytes printed. (answer : Result (Row ℕ) Error) × IsAnswer (room_for r) r bytes answer × (printed ≡ answer_line answer);
+}
 
 -- what the program answers
-abbrev pub answers : RequestAnswer
-answers r = IsAnswer (room_of r.storage) r
-
--- the line where memory was refused
-abbrev pub out_of_memory : Line
-out_of_memory = answer_line (Err OutOfMemory)
-
--- ---- what a run prints
-
--- the line of an answer for the bytes of the input, or that memory was refused
-abbrev pub IsLineFor : RequestAnswer → Request → Bytes → Line → Type 0
-IsLineFor answers r bytes printed = ((answer : Result (Row ℕ) Error) × answers r bytes answer × (printed ≡ answer_line answer)) ⊎ (printed ≡ out_of_memory)
-
--- a line that is right, or that there was no memory or no input
-abbrev pub IsOwed : RequestAnswer → Option Request → List ℕ → Line → Type 0
-IsOwed answers asked_for input printed =
-    LineOfRequest answers asked_for input printed ⊎ (IsSome asked_for × ((printed ≡ out_of_memory) ⊎ (printed ≡ wrong_input)))
-
--- What was written by a run that answers the status, for the words and all bytes of the input.
-pub record IsRun (answers : RequestAnswer) (words : Option (List (List ℕ))) (input written : List ℕ) (status : ℕ) : Type 0 where
-  -- Where there is an answer, the words are right, and its line is all that is written. Memory may have been refused.
-  pub answered : status ≤ 1 → IsSome (request_of_words words) × (LineOfWords answers words input (record { text = written; status = status }) ⊎ (record { text = written; status = status } ≡ out_of_memory))
-  pub otherwise : 1 < status → status ≡ 2
-  -- where the words or the input are said to be wrong, they are
-  pub words_wrong : status ≡ 2 → written ≡ wrong_words.text → LineOfWords answers words input wrong_words
-  pub hexadecimal_wrong : status ≡ 2 → written ≡ wrong_hexadecimal.text → LineOfWords answers words input wrong_hexadecimal
+abbrev pub answers : Program
+answers = rows_in (λ r. room_of r.storage)

@@ -5,11 +5,12 @@
 //! what is printed.
 #![tactic(auto)]
 
-ghost use Rattle.std.specs.Prelude.{◌≡◌, ℕ, List, IfOk, IfSome, map, option_map, string_bytes};
+ghost use Rattle.std.specs.Prelude.{ℕ, List, IfSome, option_map};
 ghost use Rattle.std.specs.Io.KnownBytes.{Appends};
 ghost use Rattle.std.specs.Process.{exit_status};
-ghost use Rattle.cfi_rows.specs.ProgramOutput.{answers, IsRun};
+ghost use Rattle.cfi_program.specs.Runs.{IsRun};
 ghost use Rattle.cfi_program.specs.Words.{texts};
+ghost use Rattle.cfi_rows.specs.ProgramOutput.{answers};
 
 mod command_line;
 mod output_line;
@@ -18,12 +19,11 @@ mod run;
 #[cfg(test)]
 mod tests;
 
+use cfi_program::words::{texts_of, words_after_name};
 use run::run;
-use std::alloc::{AllocError, Global};
+use std::alloc::Global;
 use std::io::{Read, Write};
 use std::process::ExitCode;
-use std::rt::Env;
-use std::{env, io};
 
 fn main(rt: HostRuntime) -> ExitCode {
     let alloc = rt.alloc();
@@ -50,16 +50,4 @@ fn run_for<R: Read, W: Write>(
         × IsRun answers (option_map (λ list. texts list.now) words.entry) bytes written (exit_status result)) }
 {
     ExitCode::from(run(alloc, words, input, output))
-}
-
-fn words_after_name(rt: &(impl Env + AllocGlobal)) -> io::Result<Vec<String>> {
-    let words = env::args(rt)?.skip(1).collect(rt.alloc())?;
-    Ok(words)
-}
-
-/// The words as texts, each in its place.
-fn texts_of(alloc: Global, words: &[String]) -> Result<Vec<&str>, AllocError>
-    ensures { IfOk result (λ list. texts list.items ≡ map string_bytes words.now) }
-{
-    words.iter().map(|word| word.as_str()).collect(alloc)
 }

@@ -6,10 +6,11 @@ ghost use Rattle.cfi_read_core.specs.Addresses.{IsAddressSize};
 ghost use Rattle.cfi_state.specs.MappedStates.{row_lent};
 ghost use Rattle.gimli_cfi.specs.Headers.{header_section};
 ghost use Rattle.gimli_cfi.specs.HeaderViews.{section_view};
-ghost use Rattle.cfi_rows.specs.ProgramOutput.{answers, room, IsAnswer, IsLineFor, IsRowByHeader};
+ghost use Rattle.cfi_rows.specs.ProgramOutput.{answers, room, rows_in, IsAnswer, IsRowByHeader};
 ghost use Rattle.cfi_rows.specs.CommandLine.{CanBeAnswered};
 ghost use Rattle.cfi_program.specs.Input.{bytes_of};
 ghost use Rattle.cfi_program.specs.Lines.{Line};
+ghost use Rattle.cfi_program.specs.Runs.{IsLineFor};
 ghost use Rattle.cfi_program.specs.Written.{Prints};
 
 use crate::command_line::{Request, Storage};
@@ -51,7 +52,7 @@ fn print_row<S: UnwindContextStorage<usize>, W: Write>(
 ) -> io::Result<u8>
     requires { CanBeAnswered request.now }
     ensures { (printed : Line) × Prints printed (W.contents output.old) (W.contents output.new) result
-        × IsLineFor (IsAnswer (room S.Rules.limit S.Stack.limit S.Rules.copies_free)) request.now (bytes_of sections.now) printed }
+        × IsLineFor (rows_in (λ _. room S.Rules.limit S.Stack.limit S.Rules.copies_free)) request.now (bytes_of sections.now) printed }
 {
     let mut context = match UnwindContext::<usize, S>::new_in(alloc) {
         Ok(context) => context,

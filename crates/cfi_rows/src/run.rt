@@ -1,17 +1,16 @@
 //! The whole program, over any reader and writer.
 ghost use Rattle.std.specs.Prelude.{◌≡◌, ◌⊎◌, ◌≤◌, ℕ, List, IfSome, IsNone, None, option_map};
 ghost use Rattle.std.specs.Io.KnownBytes.{Appends};
-ghost use Rattle.cfi_rows.specs.ProgramOutput.{answers, IsRun, IsOwed, LineOfRequest};
+ghost use Rattle.cfi_rows.specs.ProgramOutput.{answers};
 ghost use Rattle.cfi_rows.specs.CommandLine.{CanBeAnswered, request_of_words};
-ghost use Rattle.cfi_read_core.specs.Readers.{map_ok};
-ghost use Rattle.cfi_program.specs.Input.{IsDecoded, bytes_of};
 ghost use Rattle.cfi_program.specs.Lines.{Line};
+ghost use Rattle.cfi_program.specs.Runs.{IsRun, IsOwed};
 ghost use Rattle.cfi_program.specs.Words.{texts};
 ghost use Rattle.cfi_program.specs.Written.{Prints};
 
 use crate::command_line::{Request, asked_for};
 use crate::row_lookup::print_answer;
-use cfi_program::input::{InputError, Sections, decode_sections, read_all};
+use cfi_program::input::{InputError, read_sections};
 use cfi_program::lines::{
     write_refusal, write_wrong_hexadecimal, write_wrong_input, write_wrong_words,
 };
@@ -68,15 +67,4 @@ fn print_line<R: Read, W: Write>(
         Err(InputError::NotHexadecimal) => write_wrong_hexadecimal(output),
         Err(InputError::OutOfMemory) => write_refusal(output, Error::OutOfMemory),
     }
-}
-
-fn read_sections<R: Read>(
-    alloc: Global,
-    header: Option<u64>,
-    input: &mut R,
-) -> Result<Sections, InputError>
-    ensures { IfSome (R.remaining input.old) (λ bytes. IsDecoded header bytes (map_ok bytes_of result)) }
-{
-    let text = read_all(alloc, input)?;
-    decode_sections(alloc, header, text)
 }

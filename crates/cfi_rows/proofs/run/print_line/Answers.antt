@@ -1,9 +1,10 @@
 use Rattle.std.proofs.lemmas.Option.{IfSome_then}
 use Rattle.cfi_program.specs.Lines.{wrong_hexadecimal}
+use Rattle.cfi_rows.specs.CommandLine.{CanBeAnswered}
 use Rattle.cfi_rows.specs.ProgramOutput.{answers}
 use Rattle.cfi_program.specs.Input.{bytes_of}
 use Rattle.cfi_program.specs.Written.{Prints}
-use Rattle.cfi_rows.proofs.RunLemmas.{known_of, owes_answer, owes_hexadecimal}
+use Rattle.cfi_program.proofs.RunLemmas.{known_of, owes_answer, owes_hexadecimal}
 use Rattle.cfi_rows.proofs.run.print_line.Goals as goal
 
 pub returns-in-Ok-clause-printed : goal.returns-in-Ok-clause-printed
@@ -16,4 +17,4 @@ returns-in-Err-NotHexadecimal-clause-printed g c = IfSome_then (g.R.Read.remaini
     (wrong_hexadecimal, c.write_wrong_hexadecimal.ensures, owes_hexadecimal answers c.args.request c.in-Some.request bytes c.in-Some.is wrong))
 
 pub print_answer-requires : goal.print_answer-requires
-print_answer-requires g c = known_of c.args.request c.in-Some.request c.in-Some.is c.requires
+print_answer-requires g c = known_of CanBeAnswered c.args.request c.in-Some.request c.in-Some.is c.requires
