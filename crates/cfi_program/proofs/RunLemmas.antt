@@ -147,3 +147,15 @@ run_ends p plain words input old mid new (Ok answered) status e keeps (printed, 
     let bound : printed.status ≤ 2 = status_bound p plain (asked_for p words) input printed owed in
     (printed.text, whole, is_run p plain words input printed.text status printed owed ([], append-nil printed.text) (λ low. (refl, is)) (λ high. omega arith))
 run_ends p plain words input old mid new (Err error) status e keeps (printed, prints, owed) = cc
+
+-- where the line or the flush after it failed
+pub run_fails : {E : Type 0} (p : Program) → ArePlain p → (words : Option (List (List ℕ))) (input : List ℕ) (old mid new : Option (List ℕ)) (result : Result ℕ E) → Keeps mid new →
+    ((printed : Line) × Prints printed old mid result × IsOwed p (asked_for p words) input printed) → (written : List ℕ) × Appends old new written × IsRun p words input written 2
+run_fails p plain words input old mid new (Ok answered) keeps (printed, prints, owed) =
+    let P : List ℕ → Type 0 = λ xs. Appends old new xs in
+    let whole : Appends old new printed.text = subst P (append-nil printed.text) (appends_then old mid new printed.text [] prints.0 (keeps_is mid new keeps)) in
+    (printed.text, whole, is_run p plain words input printed.text 2 printed owed ([], append-nil printed.text) (λ low. absurd (omega arith)) (λ high. refl))
+run_fails p plain words input old mid new (Err error) keeps (printed, ((front, more, begins), _), owed) =
+    let P : List ℕ → Type 0 = λ xs. Appends old new xs in
+    let whole : Appends old new front = subst P (append-nil front) (appends_then old mid new front [] more (keeps_is mid new keeps)) in
+    (front, whole, is_run p plain words input front 2 printed owed begins (λ low. absurd (omega arith)) (λ high. refl))

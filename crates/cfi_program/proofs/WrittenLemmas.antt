@@ -93,3 +93,13 @@ writes_refused old new (Err e) text h more = more
 -- a text of two parts, and then a third
 pub regrouped : {T E : Type 0} (old new : Option (List ℕ)) (r : Result T E) (a b c : List ℕ) → Writes old new r (a ++ (b ++ c)) → Writes old new r ((a ++ b) ++ c)
 regrouped old new r a b c h = rw append_assoc h
+
+-- a text of five parts with its line feed, and one of six
+pub regrouped_five : {T E : Type 0} (old new : Option (List ℕ)) (r : Result T E) (a b c d e n : List ℕ) → Writes old new r (a ++ (b ++ (c ++ (d ++ (e ++ n))))) → Writes old new r (((((a ++ b) ++ c) ++ d) ++ e) ++ n)
+regrouped_five old new r a b c d e n h =
+    rw (append_assoc (((a ++ b) ++ c) ++ d) e n, append_assoc ((a ++ b) ++ c) d (e ++ n), append_assoc (a ++ b) c (d ++ (e ++ n)), append_assoc a b (c ++ (d ++ (e ++ n)))) h
+
+pub regrouped_six : {T E : Type 0} (old new : Option (List ℕ)) (r : Result T E) (a b c d e f n : List ℕ) → Writes old new r (a ++ (b ++ (c ++ (d ++ (e ++ (f ++ n)))))) → Writes old new r ((((((a ++ b) ++ c) ++ d) ++ e) ++ f) ++ n)
+regrouped_six old new r a b c d e f n h =
+    rw (append_assoc ((((a ++ b) ++ c) ++ d) ++ e) f n)
+    (regrouped_five old new r a b c d e (f ++ n) h)

@@ -1,0 +1,4 @@
+pub mod CommandLine
+pub mod Verdicts
+pub mod Lines
+pub mod ProgramOutput
