@@ -1,5 +1,6 @@
 mod Computing
 pub mod InputLemmas
+pub mod DecodingLemmas
 pub mod RunLemmas
 mod Printed
 pub mod SectionLemmas

@@ -1,12 +1,12 @@
 //! The input: a section in hexadecimal, and after its first line its header where one is asked for.
-ghost use Rattle.std.specs.Prelude.{◌≡◌, ◌≢◌, ℕ, ◌⊎◌, ◌<◌, ◌≤◌, List, length, take, slice_index, IfOk, IfErr, IsErr, Some, Ok, OnErr, IfSome, vec_items};
+ghost use Rattle.std.specs.Prelude.{◌≡◌, ◌≢◌, ℕ, ◌⊎◌, ◌<◌, ◌≤◌, List, length, take, slice_index, IfOk, IfErr, IsErr, Some, Ok, OnErr, IfSome, IfNone, [], unwrap_or, vec_items};
 ghost use Rattle.std.specs.Io.KnownBytes.{Consumes, IsAtEnd};
-ghost use Rattle.hex.specs.declared.error.FromHexError.TheVariants.{OutOfMemory};
+ghost use Rattle.hex.specs.Hex.{hex_digit_value};
 ghost use Rattle.std.specs.List.{All, before_first, after_first};
 ghost use Rattle.cfi_read_core.specs.Readers.{map_ok};
-ghost use Rattle.cfi_program.specs.Input.{is_space, is_line_feed, decoded_bytes, bytes_of, IsDecoded};
+ghost use Rattle.cfi_program.specs.Input.{is_space, is_line_feed, decoded_bytes, bytes_of, IsDecoded, without_spaces, AreDigitValues, BeginsWithByte, BeginsWithNoByte, BeginsWithDigit, BeginsWithNoDigit};
 
-use hex::FromHexError;
+use hex::FromHex;
 use std::alloc::Global;
 use std::io::Read;
 
@@ -126,22 +126,96 @@ fn decode(alloc: Global, text: Vec<u8>) -> Result<Vec<u8>, InputError>
     ensures value { IfOk result (λ bytes. decoded_bytes text.items ≡ Ok bytes.items) }
     ensures refused { IfErr result (λ e. (e ≡ InputError.OutOfMemory) ⊎ ((e ≡ InputError.NotHexadecimal) × IsErr (decoded_bytes text.items))) }
 {
-    let mut digits = text;
-    digits.retain(|byte| !is_space_byte(*byte));
-    match hex::decode(alloc, digits.as_slice()) {
-        Ok(bytes) => Ok(bytes),
-        Err(e) => Err(refusal_of(e)),
+    let values = digit_values();
+    let Ok(mut bytes) = Vec::with_capacity(alloc, text.len() / 2) else {
+        return Err(InputError::OutOfMemory);
+    };
+    let mut rest = text.as_slice();
+    while let Some((byte, after)) = next_byte(&values, rest)? {
+        if bytes.push(byte).is_err() {
+            return Err(InputError::OutOfMemory);
+        }
+        rest = after;
     }
+    Ok(bytes)
 }
 
-fn refusal_of(error: FromHexError) -> InputError
-    ensures memory { error ≡ OutOfMemory → result ≡ InputError.OutOfMemory }
-    ensures text { error ≢ OutOfMemory → result ≡ InputError.NotHexadecimal }
+/// The values of the digits by their bytes, as `hex` reads them, and 255 for every other byte.
+fn digit_values() -> [u8; 256]
+    ensures { AreDigitValues result }
 {
-    match error {
-        FromHexError::OutOfMemory => InputError::OutOfMemory,
-        _ => InputError::NotHexadecimal,
+    let mut values = [255u8; 256];
+    for byte in 0..256usize {
+        if let Some(read) = <[u8; 1]>::from_hex([b'0', byte as u8]).ok() {
+            values[byte] = read[0];
+        }
     }
+    values
+}
+
+/// The byte that the next two digits write, and what stands after them; none where there are only spaces.
+#[inline]
+fn next_byte<'text>(
+    values: &[u8; 256],
+    text: &'text [u8],
+) -> Result<Option<(u8, &'text [u8])>, InputError>
+    requires { AreDigitValues values.now }
+    ensures found { IfOk result (λ found. IfSome found (λ p. BeginsWithByte p.0 p.1.now text.now × (length p.1.now < length text.now))) }
+    ensures none { IfOk result (λ found. IfNone found (without_spaces text.now ≡ [])) }
+    ensures refused { IfErr result (λ e. (e ≡ InputError.NotHexadecimal) × BeginsWithNoByte text.now) }
+{
+    // Most digits have their second one beside them.
+    if let [first, second, after @ ..] = text {
+        let high = values[*first as usize];
+        let low = values[*second as usize];
+        if high < 16 && low < 16 {
+            return Ok(Some((high * 16 + low, after)));
+        }
+    }
+    next_spaced_byte(values, text)
+}
+
+/// The same, with spaces before either digit.
+fn next_spaced_byte<'text>(
+    values: &[u8; 256],
+    text: &'text [u8],
+) -> Result<Option<(u8, &'text [u8])>, InputError>
+    requires { AreDigitValues values.now }
+    ensures found { IfOk result (λ found. IfSome found (λ p. BeginsWithByte p.0 p.1.now text.now × (length p.1.now < length text.now))) }
+    ensures none { IfOk result (λ found. IfNone found (without_spaces text.now ≡ [])) }
+    ensures refused { IfErr result (λ e. (e ≡ InputError.NotHexadecimal) × BeginsWithNoByte text.now) }
+{
+    let Some((high, after_high)) = next_digit(values, text)? else {
+        return Ok(None);
+    };
+    let Some((low, after_low)) = next_digit(values, after_high)? else {
+        return Err(InputError::NotHexadecimal);
+    };
+    Ok(Some((high * 16 + low, after_low)))
+}
+
+/// The value of the next digit, and what stands after it; none where there are only spaces.
+fn next_digit<'text>(
+    values: &[u8; 256],
+    text: &'text [u8],
+) -> Result<Option<(u8, &'text [u8])>, InputError>
+    requires { AreDigitValues values.now }
+    ensures found { IfOk result (λ found. IfSome found (λ p. BeginsWithDigit p.0 p.1.now text.now × ((p.0 < 16) × (length p.1.now < length text.now)))) }
+    ensures none { IfOk result (λ found. IfNone found (without_spaces text.now ≡ [])) }
+    ensures refused { IfErr result (λ e. (e ≡ InputError.NotHexadecimal) × BeginsWithNoDigit text.now) }
+{
+    let mut rest = text;
+    while let [first, after @ ..] = rest {
+        let value = values[*first as usize];
+        if value < 16 {
+            return Ok(Some((value, after)));
+        }
+        if !is_space_byte(*first) {
+            return Err(InputError::NotHexadecimal);
+        }
+        rest = after;
+    }
+    Ok(None)
 }
 
 /// A space, a tab, a carriage return or a line feed.

@@ -1,19 +1,24 @@
-use Rattle.std.proofs.Common.{◌≡◌, ap, ◌∙◌, sym, rules, not}
-use Rattle.std.proofs.lemmas.Fn.{filter_same}
-use Rattle.std.specs.Prelude.{filter}
-use Rattle.hex.specs.Hex.{decode_of}
-use Rattle.cfi_program.specs.Input.{is_space}
-use Rattle.cfi_program.proofs.InputLemmas.{refused_why}
+use Rattle.std.proofs.Common.{◌≡◌, [], ◌∷◌, ◌++◌, Err, inr, rules}
+use Rattle.cfi_program.specs.Input.{without_spaces}
+use Rattle.cfi_program.proofs.DecodingLemmas.{all_decoded, none_decoded, not_decoded, one_more}
 use Rattle.cfi_program.proofs.input.decode.Goals as goal
 
-pub returns-in-Ok-clause-value : goal.returns-in-Ok-clause-value
-returns-in-Ok-clause-value c =
-    let kept : c.retain.new.self.items ≡ filter (λ byte. not (is_space byte)) c.args.text.items =
-    filter_same _ _ _ (λ x b f' k. search rules) _ _ c.retain.ensures.filtered in
-    ap decode_of (sym kept ∙ sym c.as_slice.ensures.value) ∙ c.in-Ok.ensures.ok
+pub loop-bytes-init : goal.loop-bytes-init
+loop-bytes-init c = rw (c.in-Ok.ensures.items, c.as_slice-rest.ensures.value) (none_decoded c.args.text.items)
 
-pub returns-clause-refused : goal.returns-clause-refused
-returns-clause-refused c =
-    let kept : c.retain.new.self.items ≡ filter (λ byte. not (is_space byte)) c.args.text.items =
-    filter_same _ _ _ (λ x b f' k. search rules) _ _ c.retain.ensures.filtered in
-    refused_why _ _ _ c.refusal_of.ensures.memory c.refusal_of.ensures.text (rw (c.as_slice.ensures.value, kept) at c.in-Err.ensures.err)
+pub returns-in_err-byte-clause-refused : goal.returns-in_err-byte-clause-refused
+returns-in_err-byte-clause-refused c =
+    let gives : c.from_residual.result ≡ Err c.in_err-byte.field-0.0 = search rules in
+    let refused = c.in_err-byte.ensures.refused in
+    rw gives (inr (refused.0, not_decoded c.args.text.items c.loop-bytes.bytes.items c.loop-bytes.rest.now c.loop-bytes.invariant refused.1))
+
+pub loop-bytes-preserved : goal.loop-bytes-preserved
+loop-bytes-preserved c =
+    let found = rw c.in-Some.is at c.in_ok-byte.ensures.found in
+    let pushed : c.push.new.self.items ≡ c.loop-bytes.bytes.items ++ c.in-Some.byte ∷ [] = search rules in
+    rw pushed (one_more c.args.text.items c.loop-bytes.bytes.items c.loop-bytes.rest.now c.in-Some.after.now c.in-Some.byte c.loop-bytes.invariant found.0)
+
+pub returns-clause-value : goal.returns-clause-value
+returns-clause-value c =
+    let spaces : without_spaces c.loop-bytes.rest.now ≡ [] = search rules in
+    all_decoded c.args.text.items c.loop-bytes.bytes.items c.loop-bytes.rest.now c.loop-bytes.invariant spaces

@@ -1,0 +1,9 @@
+use Rattle.std.proofs.Common.{arith, rules}
+use Rattle.cfi_program.proofs.DecodingLemmas.{side_by_side}
+use Rattle.cfi_program.proofs.input.next_byte.Goals as goal
+
+pub returns-then-low-lt16-clause-found : goal.returns-then-low-lt16-clause-found
+returns-then-low-lt16-clause-found c =
+    let first = c.type_inv.text 0 in
+    let second = c.type_inv.text 1 in
+    (side_by_side c.args.values.now c.args.text.now c.requires c.in-len2-up.len_at_least (omega arith) (omega arith) (search rules) (search rules), search rules)
