@@ -25,6 +25,8 @@ mod instructions;
 #[cfg(test)]
 mod lists;
 #[cfg(test)]
+mod machine;
+#[cfg(test)]
 mod reads;
 #[cfg(test)]
 mod refused_growth;

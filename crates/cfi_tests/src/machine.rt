@@ -3,15 +3,15 @@
 ghost use Rattle.std.specs.Prelude.{◌≡◌};
 ghost use Rattle.std.proofs.Common.{lit≤};
 
-use super::storage::{StoreGrowing, UnwindContextStorage};
-use super::table::context::UnwindContext;
-use super::table::machine::{Parameters, current_row, end_cie, evaluate, reset};
-use super::table::row::UnwindTableRow;
-use super::table::rules::RegisterRule;
 use arrayvec::ArrayVec;
 use cfi_parts::instruction::CallFrameInstruction;
 use cfi_read_core::address::AddressSize;
 use cfi_read_core::{Error, ReaderOffset, Register, Result};
+use cfi_state::storage::{StoreGrowing, UnwindContextStorage};
+use cfi_state::table::context::UnwindContext;
+use cfi_state::table::machine::{Parameters, current_row, end_cie, evaluate, reset};
+use cfi_state::table::row::UnwindTableRow;
+use cfi_state::table::rules::RegisterRule;
 use std::test::Fail;
 
 /// A storage of one rule a row and one row.
