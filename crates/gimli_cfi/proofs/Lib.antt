@@ -11,6 +11,7 @@ pub mod PassingRows
 pub mod Searches
 pub mod TableFinds
 pub mod TableRows
+pub mod HeaderAnswers
 pub mod WorkedEntries
 pub mod WorkedTable
 pub mod WorkedRows

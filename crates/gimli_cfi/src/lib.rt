@@ -30,7 +30,7 @@ pub use entry::{
 };
 pub use hdr::{
     EhFrameHdr, EhHdrTable, EhHdrTableIter, ParsedEhFrameHdr, StartSource, TableStarts,
-    row_by_table, search_starts,
+    row_by_header, row_by_table, search_starts,
 };
 pub use instruction::{CallFrameInstruction, CallFrameInstructionIter, UnwindExpression};
 pub use pointer::{BaseAddresses, Pointer, SectionBaseAddresses};

@@ -1,0 +1,50 @@
+-- What a header gives for an address, by how far it was read.
+use Rattle.std.proofs.Common.{◌≡◌, ℕ, Bool, Option, Some, None, Result, Ok, Err, refl, sym, ap, subst}
+use Rattle.std.specs.Prelude.{ok_or}
+use Rattle.cfi_read_core.specs.declared.error.Error.{Error}
+use Rattle.cfi_read_core.specs.declared.error.Error.TheVariants.{UnsupportedPointerEncoding}
+use Rattle.cfi_parts.specs.declared.pointer.Pointer.{Pointer}
+use Rattle.cfi_state.specs.Row.{Row}
+use Rattle.cfi_unwind.specs.Sections.{Section}
+use Rattle.cfi_unwind.specs.Fdes.{Fde}
+use Rattle.cfi_unwind.specs.AddressRow.{IsRowOfFound}
+use Rattle.gimli_cfi.specs.Headers.{HeaderSection, Header, Table, header_of, start_of, value_size}
+use Rattle.gimli_cfi.specs.HeaderTables.{IsFoundByTable, SearchedBy, fde_by_row}
+use Rattle.gimli_cfi.specs.RowsByHeader.{FoundByHeader, FoundByTable, IsRowByHeader}
+
+module _ (rules stack : Option ℕ) (free : Bool) (section : Section) (a : ℕ) (header : HeaderSection) where
+  pub refused_by_header : (e : Error) → Err e ≡ header_of header → IsRowByHeader rules stack free section a header (Err e)
+  refused_by_header e is =
+      (Err e, subst (λ read. FoundByHeader section a header read (Err e)) is refl, record { kept = refl; run = refl; fixed = λ _. refl })
+
+  pub found_by_header : (h : Header) (t : Option Table) (found : Result Fde Error) (answer : Result (Row ℕ) Error) → Ok h ≡ header_of header
+      → h.table ≡ t → FoundByTable section a header h.eh_frame t found → IsRowOfFound rules stack free section a found answer → IsRowByHeader rules stack free section a header answer
+  found_by_header h t found answer is rows finds answers =
+      (found, subst (λ read. FoundByHeader section a header read found) is (subst (λ o. FoundByTable section a header h.eh_frame o found) (sym rows) finds), answers)
+
+  -- no format that can be searched
+  unsearchable : (size : Option ℕ) (start : ℕ → Result ℕ Error) (t : Table) (of_row : ℕ → Result Fde Error) (e : Error)
+      → ◌≡◌ {A = Result ℕ Error} (Err e) (ok_or size (UnsupportedPointerEncoding (record { 0 = t.encoding }))) → SearchedBy size start t a of_row (Err e)
+  unsearchable None start t of_row e h =
+      let same : e ≡ UnsupportedPointerEncoding (record { 0 = t.encoding }) = cc in
+      ap Err same
+  unsearchable (Some size) start t of_row e h = cc
+
+  pub refused_by_table : (h : Header) (t : Table) (e : Error) → Ok h ≡ header_of header → Some t ≡ h.table
+      → ◌≡◌ {A = Result ℕ Error} (Err e) (ok_or (value_size t.encoding) (UnsupportedPointerEncoding (record { 0 = t.encoding }))) → IsRowByHeader rules stack free section a header (Err e)
+  refused_by_table h t e is rows refused =
+      found_by_header h (Some t) (Err e) (Err e) is (sym rows)
+      (unsearchable (value_size t.encoding) (start_of header t) t (fde_by_row header t h.eh_frame section a) e refused)
+      (record { kept = refl; run = refl; fixed = λ _. refl })
+
+  pub answered_by_table : (source : HeaderSection) (h : Header) (t : Table) (start : ℕ → Result ℕ Error) (eh_frame : Pointer) (answer : Result (Row ℕ) Error)
+      → Ok h ≡ header_of header → Some t ≡ h.table → start ≡ start_of source t → source ≡ header → eh_frame ≡ h.eh_frame
+      → ((found : Result Fde Error) × IsFoundByTable start source t eh_frame section a found × IsRowOfFound rules stack free section a found answer)
+      → IsRowByHeader rules stack free section a header answer
+  answered_by_table source h t start eh_frame answer is rows starts same points found =
+      let Q : Result Fde Error → Type 0 = λ x. IsRowOfFound rules stack free section a x answer in
+      let so : (x : Result Fde Error) × IsFoundByTable (start_of header t) header t h.eh_frame section a x × Q x =
+      subst (λ s. (x : Result Fde Error) × IsFoundByTable (start_of s t) s t h.eh_frame section a x × Q x) same
+      (subst (λ p. (x : Result Fde Error) × IsFoundByTable (start_of source t) source t p section a x × Q x) points
+      (subst (λ s. (x : Result Fde Error) × IsFoundByTable s source t eh_frame section a x × Q x) starts found)) in
+      found_by_header h (Some t) so.0 answer is (sym rows) so.1 so.2

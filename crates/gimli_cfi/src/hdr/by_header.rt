@@ -1,0 +1,42 @@
+//! The unwind row of an address, by a header that isn't read yet.
+ghost use Rattle.cfi_read_core.specs.Addresses.{IsAddressSize};
+ghost use Rattle.cfi_state.specs.MappedStates.{row_lent};
+ghost use Rattle.gimli_cfi.specs.Headers.{header_section};
+ghost use Rattle.gimli_cfi.specs.HeaderViews.{section_view};
+ghost use Rattle.gimli_cfi.specs.RowsByHeader.{IsRowByHeader};
+
+use crate::hdr::header::EhFrameHdr;
+use crate::hdr::starts::TableStarts;
+use crate::hdr::unwind::row_by_table;
+use crate::table::row_by_scan;
+use cfi_parts::pointer::BaseAddresses;
+use cfi_read_core::{Reader, Result};
+use cfi_state::storage::UnwindContextStorage;
+use cfi_state::table::context::UnwindContext;
+use cfi_state::table::row::UnwindTableRow;
+use cfi_unwind::section::EhFrame;
+
+/// The unwind row of the address in the section, lent from the context, by the header's table.
+///
+/// Where the header has no rows it is what `row_by_scan` answers. Refused as `EhFrameHdr::parse`, then as
+/// `TableStarts::new` and `row_by_table`. The address size is 1, 2, 4 or 8, that of the header's pointers. Over a fixed
+/// storage it takes no memory (LSB Core, "The .eh_frame_hdr section").
+pub fn row_by_header<'ctx, R: Reader, S: UnwindContextStorage<R::Offset>>(
+    header: &EhFrameHdr<R>,
+    address_size: u8,
+    frame: &EhFrame<R>,
+    bases: &BaseAddresses,
+    ctx: &'ctx mut UnwindContext<R::Offset, S>,
+    address: u64,
+) -> Result<&'ctx UnwindTableRow<R::Offset, S::Rules>>
+    requires { IsAddressSize address_size }
+    ensures { IsRowByHeader S.Rules.limit S.Stack.limit S.Rules.copies_free (section_view R.position frame.now bases.now) address
+        (header_section (R.position header.now.0) address_size bases.now.eh_frame_hdr) (row_lent R.Offset.number result) }
+{
+    let header = header.parse(bases, address_size)?;
+    let Some(table) = header.table() else {
+        return row_by_scan(frame, bases, ctx, address);
+    };
+    let mut starts = TableStarts::new(&table, bases)?;
+    row_by_table(&table, &mut starts, frame, bases, ctx, address)
+}
