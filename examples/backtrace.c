@@ -1,11 +1,12 @@
 /* Unwinds its own stack by the rows of cfi_c, on x86-64 Linux, and prints its frames beside those of backtrace() of glibc.
  *
- * dl_iterate_phdr finds the program or library that a pc is in, and its .eh_frame_hdr, which tells where .eh_frame
- * begins. Registers have DWARF's numbers: 7 is rsp, 16 the return address. */
+ * dl_iterate_phdr finds the program or library that a pc is in, and its .eh_frame_hdr, whose table leads to the row. One
+ * context serves all frames. Registers have DWARF's numbers: 7 is rsp, 16 the return address. */
 #define _GNU_SOURCE
 #include <execinfo.h>
 #include <link.h>
 #include <stdio.h>
+#include <stdlib.h>
 #include <string.h>
 
 #include "cfi_c.h"
@@ -14,10 +15,11 @@ enum { SP = 7, PC = 16, REGISTERS = 17, FRAMES = 50 };
 
 typedef struct {
     uint64_t pc;
-    const uint8_t *eh_frame, *end;
+    const uint8_t *header, *eh_frame;
+    size_t header_len, eh_frame_len;
 } Module;
 
-/* The segment that the header's pointer leads into; its file part bounds the section. */
+/* The end of the file part of the segment that an address is in: it bounds the section. */
 static const uint8_t *end_of_segment(const struct dl_phdr_info *info, const uint8_t *at) {
     for (int i = 0; i < info->dlpi_phnum; i++) {
         const ElfW(Phdr) *segment = &info->dlpi_phdr[i];
@@ -30,38 +32,41 @@ static const uint8_t *end_of_segment(const struct dl_phdr_info *info, const uint
 
 static int find_module(struct dl_phdr_info *info, size_t size, void *data) {
     Module *module = data;
-    const uint8_t *header = NULL;
     int is_in = 0;
     (void)size;
+    module->header = NULL;
     for (int i = 0; i < info->dlpi_phnum; i++) {
         const ElfW(Phdr) *segment = &info->dlpi_phdr[i];
         uint64_t begin = info->dlpi_addr + segment->p_vaddr;
         if (segment->p_type == PT_LOAD && module->pc >= begin && module->pc < begin + segment->p_memsz)
             is_in = 1;
-        if (segment->p_type == PT_GNU_EH_FRAME)
-            header = (const uint8_t *)begin;
+        if (segment->p_type == PT_GNU_EH_FRAME) {
+            module->header = (const uint8_t *)begin;
+            module->header_len = segment->p_memsz;
+        }
     }
-    /* Linkers write the pointer as four bytes that count from themselves (encoding 0x1b). */
-    if (!is_in || !header || header[1] != 0x1b)
+    /* Linkers write the pointer to .eh_frame as four bytes that count from themselves (encoding 0x1b). */
+    if (!is_in || !module->header || module->header_len < 8 || module->header[1] != 0x1b)
         return 0;
     int32_t distance;
-    memcpy(&distance, header + 4, 4);
-    module->eh_frame = header + 4 + distance;
-    module->end = end_of_segment(info, module->eh_frame);
-    return module->end != NULL;
+    memcpy(&distance, module->header + 4, 4);
+    module->eh_frame = module->header + 4 + distance;
+    const uint8_t *end = end_of_segment(info, module->eh_frame);
+    module->eh_frame_len = end ? (size_t)(end - module->eh_frame) : 0;
+    return end != NULL;
 }
 
 /* Goes from a frame to its caller's; 0 at the outermost one, or where a rule is none that is known here. */
-static int step(uint64_t registers[REGISTERS], int is_first) {
+static int step(CfiContext *context, uint64_t registers[REGISTERS], int is_first) {
     uint64_t pc = registers[PC] - (is_first ? 0 : 1);
     Module module = {.pc = pc};
     if (!dl_iterate_phdr(find_module, &module))
         return 0;
-    CfiBases bases = {.eh_frame = (uint64_t)module.eh_frame, .address_size = 8};
+    CfiBases bases = {.section = (uint64_t)module.eh_frame, .header = (uint64_t)module.header, .address_size = 8};
     CfiRow row;
     CfiRule rules[REGISTERS];
-    size_t length = (size_t)(module.end - module.eh_frame);
-    int32_t status = cfi_row_by_scan(module.eh_frame, length, &bases, pc, &row, rules, REGISTERS);
+    int32_t status = cfi_row_by_table(context, module.eh_frame, module.eh_frame_len, module.header, module.header_len, &bases,
+                                      pc, &row, rules, REGISTERS);
     if (status != CFI_Ok || row.cfa_kind != 0 || row.cfa_register >= REGISTERS)
         return 0;
     uint64_t cfa = registers[row.cfa_register] + (uint64_t)row.cfa_offset;
@@ -91,8 +96,12 @@ __attribute__((noinline)) static int unwind(uint64_t *frames) {
           "=m"(registers[14]), "=m"(registers[15]), "=m"(registers[PC])
         :
         : "rax", "memory");
-    for (int is_first = 1; count < FRAMES && step(registers, is_first); is_first = 0)
+    CfiContext context = {0};
+    if (cfi_context_new(&context) != CFI_Ok)
+        return 0;
+    for (int is_first = 1; count < FRAMES && step(&context, registers, is_first); is_first = 0)
         frames[count++] = registers[PC];
+    cfi_context_free(&context);
     return count;
 }
 
@@ -102,10 +111,29 @@ typedef struct {
     int our_count, their_count;
 } Frames;
 
+static Frames *frames_of_sort;
+
+static int deep(int depth, Frames *frames);
+
+/* Called by the C library, so that its frames lie between. */
+static int compare(const void *left, const void *right) {
+    (void)left;
+    (void)right;
+    if (frames_of_sort->our_count == 0)
+        deep(0, frames_of_sort);
+    return 0;
+}
+
 __attribute__((noinline)) static int deep(int depth, Frames *frames) {
     if (depth == 0) {
         frames->our_count = unwind(frames->ours);
         frames->their_count = backtrace(frames->theirs, FRAMES);
+        return 1;
+    }
+    if (depth == 3) {
+        int two[2] = {1, 2};
+        frames_of_sort = frames;
+        qsort(two, 2, sizeof two[0], compare);
         return 1;
     }
     volatile int below = deep(depth - 1, frames);

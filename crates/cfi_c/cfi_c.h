@@ -1,8 +1,15 @@
-/* The unwind row of an address, from the bytes of .eh_frame: the library gimli_cfi for C.
+/* The unwind row of an address, from the bytes of .eh_frame or .debug_frame: the library gimli_cfi for C.
  *
- * All memory is the caller's, and is read or written only during a call; nothing is kept. Pointers are not null, also
- * where a length is 0, and what is written overlaps nothing else that is handed in. Any thread may call at any time, each
- * with memory of its own to write; not from a signal handler, since a call takes memory by malloc and frees it again. */
+ * A context is made once, by cfi_context_new, used for any number of addresses of any sections, and freed by
+ * cfi_context_free. Only the first takes memory, by malloc; the calls between the two take none.
+ *
+ * All other memory is the caller's, and is read or written only during a call; nothing of it is kept. Pointers are not
+ * null, also where a length is 0, and what is written overlaps nothing else that is handed in. What they point to is
+ * aligned as C aligns its type. A bool is 0 or 1.
+ *
+ * Calls with different contexts may run at the same time. A context stays on the thread that made it, and one call uses it
+ * at a time. None of the calls may be made from a signal handler while another one uses the same context, and
+ * cfi_context_new and cfi_context_free not from a signal handler at all. */
 #ifndef CFI_C_H
 #define CFI_C_H
 
@@ -14,7 +21,7 @@
 extern "C" {
 #endif
 
-/* Status 0 is a row; the others are the refusals of the library, by its names. */
+/* Status 0 is a row; the others are the refusals of the library, by its names, and 32 where there is no context. */
 #define CFI_REFUSALS(X) \
     X(1, UnexpectedEof) \
     X(2, BadUnsignedLeb128) \
@@ -53,28 +60,25 @@ typedef enum {
 #define CFI_STATUS(number, name) CFI_##name = number,
     CFI_REFUSALS(CFI_STATUS)
 #undef CFI_STATUS
+    CFI_NoContext = 32
 } CfiStatus;
 
-/* The name of a status, as in "UnexpectedEof". */
-static inline const char *cfi_status_name(int32_t status) {
-    switch (status) {
-    case 0:
-        return "Ok";
-#define CFI_NAME(number, name) \
-    case number:               \
-        return #name;
-        CFI_REFUSALS(CFI_NAME)
-#undef CFI_NAME
-    default:
-        return "unknown";
-    }
-}
-
-/* Where the section lies, and how its numbers are read. */
+/* A context, or none: all zero, as `CfiContext context = {0};` makes it. The caller keeps this struct, and neither writes
+ * its fields nor copies it while it is live; it may be moved, as long as the old place is no longer used. What it leads to
+ * is the library's. A context that isn't freed stays allocated. */
 typedef struct {
-    uint64_t eh_frame;        /* its address */
+    void *at;
+    bool live;
+} CfiContext;
+
+/* Where the sections lie, and how their numbers are read. */
+typedef struct {
+    uint64_t section;         /* the address of the section */
+    uint64_t header;          /* the address of .eh_frame_hdr; only the table reads it */
     uint64_t text, data_base; /* the bases of text and data; most sections need none */
     bool big_endian;
+    bool debug_frame;         /* the section is .debug_frame; the table's is .eh_frame, whatever stands here */
+    bool aarch64;             /* the opcodes are those of AArch64 */
     uint8_t address_size;     /* 1, 2, 4 or 8 */
 } CfiBases;
 
@@ -87,6 +91,7 @@ typedef struct {
     int64_t cfa_offset;
     uint64_t cfa_place, cfa_length; /* the expression's bytes in the section */
     uint64_t refused;               /* after a refusal the place, byte or number that it carries, else 0 */
+    int32_t status;                 /* 0, or the refusal; then all but status and refused is open */
 } CfiRow;
 
 typedef enum {
@@ -109,12 +114,35 @@ typedef struct {
     uint64_t place, length;
 } CfiRule;
 
+/* Makes a context, and frees one that was there. CFI_OutOfMemory where malloc fails: then the one that was there stays. */
+int32_t cfi_context_new(CfiContext *context);
+
+/* Frees the context; without one it does nothing. Then there is none. */
+void cfi_context_free(CfiContext *context);
+
 /* Writes the row of the address, found by going through the section, and the rules of the registers 0 .. rules_len - 1.
- * Returns 0, or the number of the refusal, with what it carries in row->refused; what the rest of row and the rules hold
- * then is open. CFI_UnsupportedAddressSize for a size that is none; CFI_OutOfMemory only where malloc fails. A return
- * address is looked up as the address less 1. */
-int32_t cfi_row_by_scan(const uint8_t *eh_frame, size_t eh_frame_len, const CfiBases *bases, uint64_t address,
-                        CfiRow *row, CfiRule *rules, size_t rules_len);
+ * Returns row->status: 0, or the number of the refusal, with what it carries in row->refused; the rules are then as they
+ * were. CFI_NoContext without a context, CFI_UnsupportedAddressSize for a size that is none, never CFI_OutOfMemory. A
+ * return address is looked up as the address less 1. */
+int32_t cfi_row_by_scan(CfiContext *context, const uint8_t *section, size_t section_len, const CfiBases *bases,
+                        uint64_t address, CfiRow *row, CfiRule *rules, size_t rules_len);
+
+/* The same of .eh_frame by the table of its header, .eh_frame_hdr; by going through the section where the header has no
+ * rows. Where the table lists the section's FDEs faithfully, the answer is that of cfi_row_by_scan. */
+int32_t cfi_row_by_table(CfiContext *context, const uint8_t *eh_frame, size_t eh_frame_len, const uint8_t *header,
+                         size_t header_len, const CfiBases *bases, uint64_t address, CfiRow *row, CfiRule *rules,
+                         size_t rules_len);
+
+/* The rows of many addresses, each as cfi_row_by_table answers it, or as cfi_row_by_scan where header_len is 0: rows[i],
+ * and the per_row rules from rules[i * per_row] on, are those of addresses[i]. Returns how many are answered: as many as
+ * there are addresses, rows, and rules for each row. Nothing behind them is written. */
+size_t cfi_rows(CfiContext *context, const uint8_t *section, size_t section_len, const uint8_t *header, size_t header_len,
+                const CfiBases *bases, const uint64_t *addresses, size_t addresses_len, CfiRow *rows, size_t rows_len,
+                CfiRule *rules, size_t rules_len, size_t per_row);
+
+/* Writes the name of a status, as in "UnexpectedEof", as far as there is room for it, without a zero at its end. Returns
+ * how long it is. "Unknown" for a number that is no status. */
+size_t cfi_status_name(int32_t status, uint8_t *name, size_t name_len);
 
 #ifdef __cplusplus
 }

@@ -1,1 +1,4 @@
+mod Counts
+mod Names
+mod PointerPairs
 mod Sections

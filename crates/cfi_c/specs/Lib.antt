@@ -1,2 +1,4 @@
 pub mod Refusals
+pub mod ContextRow
+pub mod Kept
 pub mod Answers

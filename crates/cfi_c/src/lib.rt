@@ -1,34 +1,40 @@
-//! The unwind row of an address for C programs. `cfi_c.h` says the same in C.
-//!
-//! No context crosses: each call makes one, of a fixed storage, and frees it at its end.
+//! Unwind rows of addresses for C programs. `cfi_c.h` says the same in C.
 #![tactic(auto)]
 
-ghost use Rattle.std.specs.Prelude.{◌≡◌, ◌↔◌, Some, IsTrue};
-ghost use Rattle.cfi_read_core.specs.ByteOrder.{is_big};
-ghost use Rattle.cfi_read_core.specs.Addresses.{IsAddressSize};
-ghost use Rattle.cfi_read_core.specs.Readers.{map_ok};
-ghost use Rattle.cfi_unwind.specs.AddressRow.{row_by_scan};
-ghost use Rattle.cfi_c.specs.Answers.{section_of, IsRowForC, IsAnswerForC};
+ghost use Rattle.std.specs.Prelude.{◌≡◌, ◌+◌, ◌<◌, ◌≤◌, ◌⊎◌, ℕ, length, pos, true, false, None, Some, slice_index_or};
+ghost use Rattle.cfi_read_core.specs.declared.error.Error.{Error};
+ghost use Rattle.cfi_c.specs.Refusals.{number, refusal_name, status_name};
+ghost use Rattle.std.specs.Option.{option_map};
+ghost use Rattle.cfi_c.specs.Answers.{IsAnswerForC, SameAround, IsCount, AreAnswered, header_in, is_live};
 
-mod answer;
+mod context;
+mod find;
+mod kept;
 mod refusal;
+mod unboxed;
+mod written;
 
-use answer::write_answer;
-use gimli_cfi::{
-    BaseAddresses, EhFrame, Error, RunTimeEndian, SectionBaseAddresses, StoreOnHeap, UnwindContext,
-    UnwindContextStorage, UnwindTableRow, row_by_scan,
-};
+use context::{CfiContext, Context};
+use find::find_row;
+use refusal::name_of;
 use std::alloc::Global;
+use std::mem;
+use written::write_answer;
 
 /// Where the sections lie, and how their numbers are read.
 #[repr(C)]
 pub struct CfiBases {
-    /// The address of `.eh_frame`.
-    pub eh_frame: u64,
+    /// The address of the section, and that of its header.
+    pub section: u64,
+    pub header: u64,
     /// The bases of text and data.
     pub text: u64,
     pub data_base: u64,
     pub big_endian: bool,
+    /// Whether the section is `.debug_frame`; a section with a header is `.eh_frame`.
+    pub debug_frame: bool,
+    /// Whether the opcodes are those of AArch64.
+    pub aarch64: bool,
     /// 1, 2, 4 or 8.
     pub address_size: u8,
 }
@@ -50,6 +56,8 @@ pub struct CfiRow {
     pub cfa_length: u64,
     /// The number that a refusal carries, else 0.
     pub refused: u64,
+    /// 0, or the number of the refusal.
+    pub status: i32,
 }
 
 /// The rule of one register.
@@ -66,92 +74,211 @@ pub struct CfiRule {
     pub length: u64,
 }
 
+/// Makes a context, and frees the one that was there. 31 where there is no memory for it: then nothing is written.
+#[unsafe(no_mangle)]
+pub extern "C" fn cfi_context_new(alloc: Global, context: &mut CfiContext) -> i32
+    ensures { ((result ≡ pos 0) × (context.new.live ≡ true)) ⊎ ((result ≡ pos 31) × (context.new.live ≡ context.old.live)) }
+{
+    let Ok(made) = Context::new(alloc) else {
+        return 31;
+    };
+    let Ok(held) = Box::new(alloc, made) else {
+        return 31;
+    };
+    *context = CfiContext::of(alloc, Some(held));
+    0
+}
+
+/// Frees the context, where there is one.
+#[unsafe(no_mangle)]
+pub extern "C" fn cfi_context_free(alloc: Global, context: &mut CfiContext)
+    ensures { context.new.live ≡ false }
+{
+    *context = CfiContext::of(alloc, None);
+}
+
 /// Writes the row of the address, by going through the section, and the rules of the registers from 0 up into as many
 /// as there are in `rules`.
 ///
-/// The status is 0, or the number of the refusal, with what it carries in `row.refused`: that of
-/// `UnsupportedAddressSize` where the size is none, that of `OutOfMemory` only where the context can't be made.
+/// The status, also in `row`, is 0, or the number of the refusal, with what it carries in `row.refused`: that of
+/// `UnsupportedAddressSize` where the size is none, 32 where there is no context. It takes no memory.
 #[unsafe(no_mangle)]
 pub extern "C" fn cfi_row_by_scan(
     alloc: Global,
-    eh_frame: &[u8],
+    context: &mut CfiContext,
+    section: &[u8],
     bases: &CfiBases,
     address: u64,
     row: &mut CfiRow,
     rules: &mut [CfiRule],
 ) -> i32
-    ensures { IsAnswerForC bases.now eh_frame.now address result row.new rules.new }
+    ensures answered { IsAnswerForC context.old.live bases.now section.now None address row.new rules.new 0 (length rules.new) }
+    ensures status { result ≡ row.new.status }
+    ensures kept { context.new.live ≡ context.old.live }
 {
-    if !is_sized(bases.address_size) {
-        row.refused = u64::from(bases.address_size);
-        return 5;
-    }
-    match UnwindContext::<usize, StoreOnHeap>::new(alloc) {
-        Ok(mut context) => row_in(&mut context, eh_frame, bases, address, row, rules),
-        Err(_) => {
-            row.refused = 0;
-            31
+    let mut held = mem::replace(context, CfiContext::of(alloc, None)).into_box();
+    let count = rules.len();
+    answer(
+        &mut held, section, None, bases, address, row, rules, 0, count,
+    );
+    *context = CfiContext::of(alloc, held);
+    row.status
+}
+
+/// The same for a section with a header, by its table; by going through the section where the header has no rows.
+#[unsafe(no_mangle)]
+pub extern "C" fn cfi_row_by_table(
+    alloc: Global,
+    context: &mut CfiContext,
+    section: &[u8],
+    header: &[u8],
+    bases: &CfiBases,
+    address: u64,
+    row: &mut CfiRow,
+    rules: &mut [CfiRule],
+) -> i32
+    ensures answered { IsAnswerForC context.old.live bases.now section.now (Some header.now) address row.new rules.new 0 (length rules.new) }
+    ensures status { result ≡ row.new.status }
+    ensures kept { context.new.live ≡ context.old.live }
+{
+    let mut held = mem::replace(context, CfiContext::of(alloc, None)).into_box();
+    let count = rules.len();
+    answer(
+        &mut held,
+        section,
+        Some(header),
+        bases,
+        address,
+        row,
+        rules,
+        0,
+        count,
+    );
+    *context = CfiContext::of(alloc, held);
+    row.status
+}
+
+/// The rows of many addresses, each as `cfi_row_by_table` answers it, or as `cfi_row_by_scan` does where the header is
+/// empty: `rows[i]`, and in `rules` the `per_row` from `i * per_row` on, are those of `addresses[i]`.
+///
+/// Returns how many are answered: as many as there are addresses, rows, and rules for each row. Nothing behind them is
+/// written. It takes no memory.
+#[unsafe(no_mangle)]
+pub extern "C" fn cfi_rows(
+    alloc: Global,
+    context: &mut CfiContext,
+    section: &[u8],
+    header: &[u8],
+    bases: &CfiBases,
+    addresses: &[u64],
+    rows: &mut [CfiRow],
+    rules: &mut [CfiRule],
+    per_row: usize,
+) -> usize
+    ensures count { IsCount (length addresses.now) (length rows.old) (length rules.old) per_row result }
+    ensures answered { AreAnswered context.old.live bases.now section.now (header_in header.now) addresses.now per_row result rows.old rows.new rules.old rules.new }
+    ensures kept { context.new.live ≡ context.old.live }
+{
+    let mut held = mem::replace(context, CfiContext::of(alloc, None)).into_box();
+    let header = header_in(header);
+    let count = answer_each(
+        &mut held, section, header, bases, addresses, rows, rules, per_row,
+    );
+    *context = CfiContext::of(alloc, held);
+    count
+}
+
+/// Writes the name of a status, as far as there is room for it, and returns how long it is: `Ok` for 0, `NoContext` for
+/// 32, `Unknown` for a number that is none.
+#[unsafe(no_mangle)]
+pub extern "C" fn cfi_status_name(status: i32, name: &mut [u8]) -> usize
+    ensures length { result ≡ length (status_name status) }
+    ensures written { (k : ℕ) → k < length name.new → k < length (status_name status) → slice_index_or name.new k 0 ≡ slice_index_or (status_name status) k 0 }
+    ensures rest { (k : ℕ) → length (status_name status) ≤ k → slice_index_or name.new k 0 ≡ slice_index_or name.old k 0 }
+    ensures refusals { (e : Error) → status_name (number e) ≡ refusal_name e }
+{
+    let text = name_of(status);
+    for k in 0..text.len() {
+        if k < name.len() {
+            name[k] = text[k];
         }
     }
+    text.len()
 }
 
-fn is_sized(size: u8) -> bool
-    ensures { IsTrue result ↔ IsAddressSize size }
+/// No bytes are no header.
+fn header_in(header: &[u8]) -> Option<&[u8]>
+    ensures { option_map (λ bytes. bytes.now) result ≡ header_in header.now }
 {
-    size == 1 || size == 2 || size == 4 || size == 8
+    if header.is_empty() {
+        return None;
+    }
+    Some(header)
 }
 
-fn row_in(
-    context: &mut UnwindContext<usize, StoreOnHeap>,
-    eh_frame: &[u8],
+/// Writes the answers to as many addresses as there is room for, and returns how many.
+fn answer_each(
+    held: &mut Option<Box<Context>>,
+    section: &[u8],
+    header: Option<&[u8]>,
+    bases: &CfiBases,
+    addresses: &[u64],
+    rows: &mut [CfiRow],
+    rules: &mut [CfiRule],
+    per_row: usize,
+) -> usize
+    ensures count { IsCount (length addresses.now) (length rows.old) (length rules.old) per_row result }
+    ensures answered { AreAnswered (is_live held.old) bases.now section.now (option_map (λ bytes. bytes.now) header.entry) addresses.now per_row result rows.old rows.new rules.old rules.new }
+    ensures kept { is_live held.new ≡ is_live held.old }
+{
+    let mut first = 0;
+    for i in 0..addresses.len() {
+        if i == rows.len() || rules.len() - first < per_row {
+            return i;
+        }
+        let mut row = rows[i];
+        answer(
+            held,
+            section,
+            header,
+            bases,
+            addresses[i],
+            &mut row,
+            rules,
+            first,
+            per_row,
+        );
+        rows[i] = row;
+        first += per_row;
+    }
+    addresses.len()
+}
+
+/// Writes the answer to one address, with the context that is held.
+fn answer(
+    held: &mut Option<Box<Context>>,
+    section: &[u8],
+    header: Option<&[u8]>,
     bases: &CfiBases,
     address: u64,
     row: &mut CfiRow,
     rules: &mut [CfiRule],
-) -> i32
-    requires { IsAddressSize bases.now.address_size }
-    ensures { IsRowForC (section_of bases.now eh_frame.now) address result row.new rules.new }
+    first: usize,
+    count: usize,
+)
+    requires { first + count ≤ length rules.old }
+    ensures answered { IsAnswerForC (is_live held.old) bases.now section.now (option_map (λ bytes. bytes.now) header.entry) address row.new rules.new first count }
+    ensures around { SameAround first count rules.old rules.new }
+    ensures kept { is_live held.new ≡ is_live held.old }
 {
-    write_answer(find_row(context, eh_frame, bases, address), row, rules)
-}
-
-fn find_row<'ctx>(
-    context: &'ctx mut UnwindContext<usize, StoreOnHeap>,
-    eh_frame: &[u8],
-    bases: &CfiBases,
-    address: u64,
-) -> Result<&'ctx UnwindTableRow<usize, <StoreOnHeap as UnwindContextStorage<usize>>::Rules>, Error>
-    requires { IsAddressSize bases.now.address_size }
-    ensures { map_ok (λ row. row.now) result
-        ≡ row_by_scan (Some 192) (Some 4) (section_of bases.now eh_frame.now) address }
-{
-    let mut frame = EhFrame::new(eh_frame, endian_of(bases));
-    frame.set_address_size(bases.address_size);
-    let known = bases_of(bases);
-    row_by_scan(&frame, &known, context, address)
-}
-
-fn endian_of(bases: &CfiBases) -> RunTimeEndian
-    ensures { is_big result ≡ bases.now.big_endian }
-{
-    if bases.big_endian {
-        RunTimeEndian::Big
-    } else {
-        RunTimeEndian::Little
-    }
-}
-
-fn bases_of(bases: &CfiBases) -> BaseAddresses
-    ensures { result.eh_frame
-        ≡ record { section = Some bases.now.eh_frame; text = Some bases.now.text; data_base = Some bases.now.data_base } }
-{
-    let known = SectionBaseAddresses {
-        section: Some(bases.eh_frame),
-        text: Some(bases.text),
-        data_base: Some(bases.data_base),
-    };
-    BaseAddresses {
-        eh_frame_hdr: SectionBaseAddresses::default(),
-        eh_frame: known,
+    match held {
+        Some(context) => {
+            let found = find_row(context.as_mut(), section, header, bases, address);
+            write_answer(found, row, rules, first, count);
+        }
+        None => {
+            row.refused = 0;
+            row.status = 32;
+        }
     }
 }

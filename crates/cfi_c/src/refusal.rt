@@ -1,6 +1,6 @@
 //! Refusals as numbers and names.
 ghost use Rattle.std.specs.Prelude.{◌≡◌};
-ghost use Rattle.cfi_c.specs.Refusals.{number, value};
+ghost use Rattle.cfi_c.specs.Refusals.{number, status_name, value};
 
 use gimli_cfi::Error;
 
@@ -79,5 +79,52 @@ pub fn value_of(error: Error) -> u64
         Error::TooManyRegisterRules => 0,
         Error::NoUnwindInfoForAddress => 0,
         Error::OutOfMemory => 0,
+    }
+}
+
+/// The name of a status.
+pub fn name_of(status: i32) -> &'static [u8]
+    ensures { result.now ≡ status_name status }
+{
+    if status < 0 {
+        return b"Unknown";
+    }
+    if status > 32 {
+        return b"Unknown";
+    }
+    match status {
+        0 => b"Ok",
+        1 => b"UnexpectedEof",
+        2 => b"BadUnsignedLeb128",
+        3 => b"BadSignedLeb128",
+        4 => b"UnknownReservedLength",
+        5 => b"UnsupportedAddressSize",
+        6 => b"UnsupportedOffset",
+        7 => b"UnsupportedRegister",
+        8 => b"AddressOverflow",
+        9 => b"UnknownVersion",
+        10 => b"UnsupportedSegmentSize",
+        11 => b"UnknownAugmentation",
+        12 => b"UnknownPointerEncoding",
+        13 => b"CannotParseOmitPointerEncoding",
+        14 => b"UnsupportedPointerEncoding",
+        15 => b"PcRelativePointerButSectionBaseIsUndefined",
+        16 => b"TextRelativePointerButTextBaseIsUndefined",
+        17 => b"DataRelativePointerButDataBaseIsUndefined",
+        18 => b"FuncRelativePointerInBadContext",
+        19 => b"UnsupportedIndirectPointer",
+        20 => b"NotCieId",
+        21 => b"NotCiePointer",
+        22 => b"NoEntryAtGivenOffset",
+        23 => b"OffsetOutOfBounds",
+        24 => b"UnknownCallFrameInstruction",
+        25 => b"CfiInstructionInInvalidContext",
+        26 => b"InvalidCfiSetLoc",
+        27 => b"StackFull",
+        28 => b"PopWithEmptyStack",
+        29 => b"TooManyRegisterRules",
+        30 => b"NoUnwindInfoForAddress",
+        31 => b"OutOfMemory",
+        _ => b"NoContext",
     }
 }

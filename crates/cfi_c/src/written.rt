@@ -1,29 +1,32 @@
 //! Rows, rules and refusals, written into the caller's memory.
-ghost use Rattle.std.specs.Prelude.{◌≡◌, pos};
+ghost use Rattle.std.specs.Prelude.{◌≡◌, ◌+◌, ◌≤◌, length, pos};
 ghost use Rattle.cfi_read_core.specs.Readers.{map_ok};
-ghost use Rattle.cfi_c.specs.Answers.{IsAnswered, IsRules, IsWritten, written_rule, rule_at};
+ghost use Rattle.cfi_c.specs.Answers.{IsAnswered, IsRules, IsWritten, SameAround, written_rule, rule_at};
 
 use crate::refusal::{number_of, value_of};
 use crate::{CfiRow, CfiRule};
 use gimli_cfi::{ArrayLike, CfaRule, Error, Register, RegisterRule, UnwindTableRow};
 
-/// Writes the answer, and returns its status.
+/// Writes the answer: the row, and from `first` on the rules of the registers below `count`.
 pub fn write_answer<A: ArrayLike<Item = (Register, RegisterRule<usize>)>>(
     answer: Result<&UnwindTableRow<usize, A>, Error>,
     row: &mut CfiRow,
     rules: &mut [CfiRule],
-) -> i32
-    ensures { IsAnswered (map_ok (λ row. row.now) answer.entry) result row.new rules.new }
+    first: usize,
+    count: usize,
+)
+    requires { first + count ≤ length rules.old }
+    ensures answered { IsAnswered (map_ok (λ row. row.now) answer.entry) row.new rules.new first count }
+    ensures around { SameAround first count rules.old rules.new }
 {
     match answer {
         Ok(found) => {
             *row = row_of(found);
-            write_rules(found, rules);
-            0
+            write_rules(found, rules, first, count);
         }
         Err(error) => {
             row.refused = value_of(error);
-            number_of(error)
+            row.status = number_of(error);
         }
     }
 }
@@ -31,7 +34,7 @@ pub fn write_answer<A: ArrayLike<Item = (Register, RegisterRule<usize>)>>(
 fn row_of<A: ArrayLike<Item = (Register, RegisterRule<usize>)>>(
     found: &UnwindTableRow<usize, A>,
 ) -> CfiRow
-    ensures { IsWritten found.now result }
+    ensures { IsWritten found.now result × (result.status ≡ pos 0) }
 {
     let start = found.start_address();
     let end = found.end_address();
@@ -47,6 +50,7 @@ fn row_of<A: ArrayLike<Item = (Register, RegisterRule<usize>)>>(
             cfa_place: 0,
             cfa_length: 0,
             refused: 0,
+            status: 0,
         },
         CfaRule::Expression(e) => CfiRow {
             start,
@@ -58,6 +62,7 @@ fn row_of<A: ArrayLike<Item = (Register, RegisterRule<usize>)>>(
             cfa_place: e.offset as u64,
             cfa_length: e.length as u64,
             refused: 0,
+            status: 0,
         },
     }
 }
@@ -65,11 +70,15 @@ fn row_of<A: ArrayLike<Item = (Register, RegisterRule<usize>)>>(
 fn write_rules<A: ArrayLike<Item = (Register, RegisterRule<usize>)>>(
     found: &UnwindTableRow<usize, A>,
     rules: &mut [CfiRule],
+    first: usize,
+    count: usize,
 )
-    ensures { IsRules found.now rules.new }
+    requires { first + count ≤ length rules.old }
+    ensures written { IsRules found.now rules.new first count }
+    ensures around { SameAround first count rules.old rules.new }
 {
-    for i in 0..rules.len() {
-        rules[i] = rule_of(found_rule(found, i));
+    for k in 0..count {
+        rules[first + k] = rule_of(found_rule(found, k));
     }
 }
 

@@ -1,0 +1,220 @@
+/* Answers the worked rows of worked_rows.py, on standard input, through the C library, and says which differ from the line
+ * that is due. Each is answered alone and among many, and the room behind what may be written is checked. Then what no
+ * line has: contexts, memory, names and what refusals carry. Linked with --wrap=malloc, --wrap=realloc, --wrap=free. */
+#include <inttypes.h>
+#include <stdio.h>
+#include <stdlib.h>
+#include <string.h>
+
+#include "cfi_c.h"
+
+enum { REGISTERS = 40, MANY = 3, GUARD = 0x5a };
+
+static int failures, calls_for_memory, memory_fails;
+
+void *__real_malloc(size_t size);
+void *__real_realloc(void *at, size_t size);
+void __real_free(void *at);
+
+void *__wrap_malloc(size_t size) {
+    calls_for_memory++;
+    return memory_fails ? NULL : __real_malloc(size);
+}
+
+void *__wrap_realloc(void *at, size_t size) {
+    calls_for_memory++;
+    return memory_fails ? NULL : __real_realloc(at, size);
+}
+
+void __wrap_free(void *at) {
+    calls_for_memory++;
+    __real_free(at);
+}
+
+static void expect(int holds, const char *what) {
+    if (!holds) {
+        failures++;
+        printf("c library: %s\n", what);
+    }
+}
+
+static size_t unhex(const char *text, uint8_t *bytes) {
+    size_t length = strcmp(text, "-") ? strlen(text) / 2 : 0;
+    for (size_t i = 0; i < length; i++)
+        sscanf(text + 2 * i, "%2hhx", &bytes[i]);
+    return length;
+}
+
+static int print_rule(char *out, const CfiRule *rule) {
+    switch (rule->kind) {
+    case CFI_UNDEFINED:
+        return sprintf(out, "undefined");
+    case CFI_SAME_VALUE:
+        return sprintf(out, "same");
+    case CFI_OFFSET:
+        return sprintf(out, "offset(%" PRId64 ")", rule->value);
+    case CFI_VAL_OFFSET:
+        return sprintf(out, "val_offset(%" PRId64 ")", rule->value);
+    case CFI_REGISTER:
+        return sprintf(out, "r%" PRId64, rule->value);
+    case CFI_EXPRESSION:
+        return sprintf(out, "expr@%" PRIu64 ":%" PRIu64, rule->place, rule->length);
+    case CFI_VAL_EXPRESSION:
+        return sprintf(out, "val_expr@%" PRIu64 ":%" PRIu64, rule->place, rule->length);
+    case CFI_ARCHITECTURAL:
+        return sprintf(out, "architectural");
+    default:
+        return sprintf(out, "constant(%" PRIu64 ")", rule->place);
+    }
+}
+
+/* The answer in the program's words. */
+static void print_answer(char *out, const CfiRow *row, const CfiRule *rules) {
+    if (row->status != CFI_Ok) {
+        uint8_t name[64] = {0};
+        cfi_status_name(row->status, name, sizeof name - 1);
+        sprintf(out, "refused %s", (char *)name);
+        return;
+    }
+    out += sprintf(out, "0x%" PRIx64 " 0x%" PRIx64 " cfa=", row->start, row->end);
+    if (row->cfa_kind == 0)
+        out += sprintf(out, "r%u%+" PRId64, row->cfa_register, row->cfa_offset);
+    else
+        out += sprintf(out, "expr@%" PRIu64 ":%" PRIu64, row->cfa_place, row->cfa_length);
+    out += sprintf(out, " args=%" PRIu64, row->args_size);
+    for (int i = 0; i < REGISTERS; i++) {
+        if (rules[i].kind != CFI_NO_RULE) {
+            out += sprintf(out, " r%d=", i);
+            out += print_rule(out, &rules[i]);
+        }
+    }
+}
+
+static int is_guarded(const void *at, size_t length) {
+    const uint8_t *bytes = at;
+    for (size_t i = 0; i < length; i++)
+        if (bytes[i] != GUARD)
+            return 0;
+    return 1;
+}
+
+typedef struct {
+    uint8_t section[4096], header[4096];
+    size_t section_len, header_len;
+    int has_header;
+    CfiBases bases;
+    uint64_t address;
+} Case;
+
+static int32_t answer_alone(CfiContext *context, const Case *c, CfiRow *row, CfiRule *rules) {
+    if (!c->has_header)
+        return cfi_row_by_scan(context, c->section, c->section_len, &c->bases, c->address, row, rules, REGISTERS);
+    return cfi_row_by_table(context, c->section, c->section_len, c->header, c->header_len, &c->bases, c->address, row, rules,
+                            REGISTERS);
+}
+
+/* The address among two others; one row and one register's rules are left over behind them. */
+static void check_many(CfiContext *context, const Case *c, const char *due) {
+    uint64_t addresses[MANY] = {c->address + 3, c->address, 0};
+    CfiRow rows[MANY + 1];
+    CfiRule rules[MANY * REGISTERS + 1];
+    char line[4096];
+    memset(rows, GUARD, sizeof rows);
+    memset(rules, GUARD, sizeof rules);
+    size_t count = cfi_rows(context, c->section, c->section_len, c->header, c->has_header ? c->header_len : 0, &c->bases,
+                            addresses, MANY, rows, MANY + 1, rules, MANY * REGISTERS + 1, REGISTERS);
+    print_answer(line, &rows[1], &rules[REGISTERS]);
+    expect(count == MANY && !strcmp(line, due), due);
+    expect(is_guarded(&rows[MANY], sizeof rows[0]) && is_guarded(&rules[MANY * REGISTERS], sizeof rules[0]),
+           "cfi_rows wrote behind its rows");
+    memset(rows, GUARD, sizeof rows);
+    count = cfi_rows(context, c->section, c->section_len, c->header, c->has_header ? c->header_len : 0, &c->bases, addresses,
+                     MANY, rows, MANY, rules, 2 * REGISTERS - 1, REGISTERS);
+    expect(count == 1 && is_guarded(&rows[1], sizeof rows[1]), "cfi_rows answers without room for the rules");
+}
+
+static void check_case(CfiContext *context, const Case *c, const char *due) {
+    CfiRow row;
+    CfiRule rules[REGISTERS + 1];
+    char line[4096];
+    memset(rules, GUARD, sizeof rules);
+    int32_t status = answer_alone(context, c, &row, rules);
+    print_answer(line, &row, rules);
+    expect(status == row.status && !strcmp(line, due), due);
+    expect(is_guarded(&rules[REGISTERS], sizeof rules[0]), "rules behind the array were written");
+    if (!c->has_header || c->header_len)
+        check_many(context, c, due);
+}
+
+static int read_case(char *line, Case *c) {
+    char kind[16], order[4], section[4096], header[4096], vendor[16];
+    unsigned size;
+    memset(c, 0, sizeof *c);
+    int n = sscanf(line, "%15s %3s %u %" SCNi64 " %" SCNi64 " %" SCNi64 " %" SCNi64 " %15s %" SCNi64 " %4095s %4095s", kind, order,
+                   &size, (int64_t *)&c->address, (int64_t *)&c->bases.section, (int64_t *)&c->bases.text,
+                   (int64_t *)&c->bases.data_base, vendor, (int64_t *)&c->bases.header, section, header);
+    c->bases.debug_frame = !strcmp(kind, "debug_frame");
+    c->bases.big_endian = !strcmp(order, "be");
+    c->bases.aarch64 = !strcmp(vendor, "aarch64");
+    c->bases.address_size = (uint8_t)size;
+    c->section_len = unhex(section, c->section);
+    c->has_header = strcmp(header, "none") != 0;
+    c->header_len = c->has_header ? unhex(header, c->header) : 0;
+    return n == 11;
+}
+
+static void check_contexts(void) {
+    Case c = {.bases = {.address_size = 3}};
+    CfiContext context = {0}, none = {0};
+    CfiRow row;
+    CfiRule rules[REGISTERS];
+    expect(answer_alone(&context, &c, &row, rules) == CFI_NoContext && row.status == CFI_NoContext, "no context");
+    cfi_context_free(&context);
+    expect(!memcmp(&context, &none, sizeof none), "a context that was never made is freed");
+    memory_fails = 1;
+    expect(cfi_context_new(&context) == CFI_OutOfMemory && !context.live, "out of memory");
+    memory_fails = 0;
+    expect(cfi_context_new(&context) == CFI_Ok && cfi_context_new(&context) == CFI_Ok && context.live, "made twice");
+    memory_fails = 1;
+    expect(cfi_context_new(&context) == CFI_OutOfMemory && context.live, "out of memory keeps the context");
+    memory_fails = 0;
+    expect(answer_alone(&context, &c, &row, rules) == CFI_UnsupportedAddressSize && row.refused == 3, "a size that is none");
+    cfi_context_free(&context);
+    cfi_context_free(&context);
+    expect(!memcmp(&context, &none, sizeof none), "freed twice");
+}
+
+static void check_names(void) {
+    uint8_t name[64];
+#define CHECK_NAME(number, text) \
+    expect(cfi_status_name(number, name, sizeof name) == strlen(#text) && !memcmp(name, #text, strlen(#text)), #text);
+    CFI_REFUSALS(CHECK_NAME)
+    CHECK_NAME(0, Ok)
+    CHECK_NAME(32, NoContext)
+    CHECK_NAME(33, Unknown)
+    CHECK_NAME(-1, Unknown)
+    memset(name, GUARD, sizeof name);
+    expect(cfi_status_name(CFI_StackFull, name, 5) == 9 && !memcmp(name, "Stack", 5) && name[5] == GUARD, "a short name");
+}
+
+int main(void) {
+    static char line[16384];
+    static Case c;
+    int cases = 0;
+    CfiContext context = {0};
+    check_contexts();
+    check_names();
+    expect(cfi_context_new(&context) == CFI_Ok, "a context");
+    while (fgets(line, sizeof line, stdin)) {
+        char *bar = strstr(line, " | ");
+        line[strcspn(line, "\n")] = 0;
+        expect(bar && read_case(line, &c), "a line can't be read");
+        int before = calls_for_memory;
+        check_case(&context, &c, bar + 3);
+        expect(calls_for_memory == before, "memory was asked for");
+        cases++;
+    }
+    cfi_context_free(&context);
+    printf("c library: %d worked rows, %d failures\n", cases, failures);
+    return failures != 0 || cases == 0;
+}

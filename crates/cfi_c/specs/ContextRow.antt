@@ -1,0 +1,56 @@
+-- The checker's description of `UnwindContext<usize, StoreOnHeap>`. It follows the type; another one is refused by `Kept`.
+use Rattle.cfi_read_core.specs.contracts.common.Register.{the_row as register}
+use Rattle.cfi_read_core.specs.contracts.common.RegisterDefault.TheImpl as register-default
+use Rattle.cfi_read_core.specs.contracts.common.StoreOnHeap.{the_row as store}
+use Rattle.cfi_read_core.specs.contracts.offset.UsizeReaderOffset.TheImpl as offset
+use Rattle.arrayvec.specs.contracts.array_vec.ArrayVec
+use Rattle.cfi_state.specs.contracts.storage.ArrayVecArrayLike.TheImpl as list
+use Rattle.cfi_state.specs.contracts.storage.ArrayVecCopyList.TheImpl as copies
+use Rattle.cfi_state.specs.contracts.storage.BoxArrayVecArrayLike.TheImpl as boxed-list
+use Rattle.cfi_state.specs.contracts.table.row.UnwindTableRowArrayVecTuple2RegisterRegisterRuleDefault.TheImpl as row-default
+use Rattle.cfi_state.specs.contracts.table.rules.RegisterRuleClone.TheImpl as rule-clone
+use Rattle.cfi_state.specs.contracts.table.rules.RegisterRuleDefault.TheImpl as rule-default
+use Rattle.gimli_cfi.specs.contracts.table.RegisterRule
+use Rattle.gimli_cfi.specs.contracts.table.UnwindContext
+use Rattle.gimli_cfi.specs.contracts.table.UnwindTableRow
+use Rattle.core.specs.contracts.clone.Clone+copy.TheImpl as copy
+use Rattle.std.specs.contracts.alloc.Global.{the_row as heap}
+use Rattle.std.specs.contracts.impls.GlobalAllocator.TheImpl as heap-allocator
+use Rattle.std.specs.contracts.prelude.Tuple2Clone.TheImpl as pair-clone
+use Rattle.std.specs.contracts.prelude.Tuple2Default.TheImpl as pair-default
+use Rattle.std.specs.contracts.prelude.UsizeClone.TheImpl as usize-clone
+use Rattle.std.specs.contracts.prelude.UsizeDebug.TheImpl as usize-debug
+use Rattle.std.specs.contracts.prelude.UsizeEq.TheImpl as usize-eq
+use Rattle.std.specs.contracts.prelude.UsizeOrd.TheImpl as usize-ord
+use Rattle.std.specs.contracts.prelude.UsizePartialEq.TheImpl as usize-partial-eq
+use Rattle.std.specs.contracts.prelude.UsizePartialOrd.TheImpl as usize-partial-ord
+use Rattle.std_alloc.specs.contracts.boxed.Box
+use denote.Builtin.{usize, unit}
+use denote.Param.{number}
+use denote.RattleType.{RattleType}
+use denote.Struct.Tuple.{Tuple}
+use mathlib.Core.List.{[], ◌∷◌}
+
+-- a register and its rule
+abbrev pair : RattleType
+pair = Tuple (register ∷ RegisterRule.the_row usize ∷ [])
+
+-- the rules of a row, and a row
+abbrev rules : RattleType
+rules = ArrayVec.the_row pair (number 192) unit
+
+abbrev pub context_row : RattleType
+context_row =
+    let empty_pair = pair-default.ghosts register (RegisterRule.the_row usize) register-default.ghosts pair-default.no_dict (rule-default.ghosts usize) pair-default.no_dict in
+    let rule_list = list.ghosts pair (number 192) empty_pair list.no_dict list.no_dict in
+    let row = UnwindTableRow.the_row usize rules offset.ghosts usize-partial-eq.ghosts usize-ord.ghosts usize-partial-ord.ghosts usize-debug.ghosts rule_list in
+    UnwindContext.the_row usize store rules (Box.the_row (ArrayVec.the_row row (number 4) unit) heap heap-allocator.ghosts)
+    offset.ghosts usize-partial-eq.ghosts usize-ord.ghosts usize-partial-ord.ghosts usize-debug.ghosts rule_list
+    (copies.ghosts pair (number 192)
+    (pair-clone.ghosts register (RegisterRule.the_row usize) (copy.ghosts register) pair-clone.no_dict
+    (rule-clone.ghosts usize usize-clone.ghosts rule-clone.no_dict rule-clone.no_dict) pair-clone.no_dict pair-clone.no_dict pair-clone.no_dict)
+    copies.no_dict empty_pair copies.no_dict)
+    (boxed-list.ghosts row (number 4)
+    (row-default.ghosts usize (number 192) offset.ghosts row-default.no_dict usize-clone.ghosts row-default.no_dict usize-eq.ghosts row-default.no_dict
+    usize-partial-eq.ghosts row-default.no_dict usize-ord.ghosts row-default.no_dict usize-partial-ord.ghosts row-default.no_dict usize-debug.ghosts row-default.no_dict)
+    boxed-list.no_dict boxed-list.no_dict)

@@ -1,0 +1,59 @@
+//! What `cfi_c.h` says, in Rust.
+
+#[repr(C)]
+pub struct Context {
+    pub at: *mut u8,
+    pub live: bool,
+}
+
+#[repr(C)]
+pub struct Bases {
+    pub section: u64,
+    pub header: u64,
+    pub text: u64,
+    pub data_base: u64,
+    pub big_endian: bool,
+    pub debug_frame: bool,
+    pub aarch64: bool,
+    pub address_size: u8,
+}
+
+#[repr(C)]
+#[derive(Clone, Copy, Default)]
+pub struct Row {
+    pub start: u64,
+    pub end: u64,
+    pub args_size: u64,
+    pub cfa_kind: u32,
+    pub cfa_register: u32,
+    pub cfa_offset: i64,
+    pub cfa_place: u64,
+    pub cfa_length: u64,
+    pub refused: u64,
+    pub status: i32,
+}
+
+#[repr(C)]
+#[derive(Clone, Copy, Default)]
+pub struct Rule {
+    pub kind: u64,
+    pub value: i64,
+    pub place: u64,
+    pub length: u64,
+}
+
+extern "C" {
+    pub fn cfi_context_new(context: *mut Context) -> i32;
+    pub fn cfi_context_free(context: *mut Context);
+    pub fn cfi_row_by_scan(
+        context: *mut Context,
+        section: *const u8,
+        section_len: usize,
+        bases: *const Bases,
+        address: u64,
+        row: *mut Row,
+        rules: *mut Rule,
+        rules_len: usize,
+    ) -> i32;
+    pub fn cfi_status_name(status: i32, name: *mut u8, name_len: usize) -> usize;
+}
