@@ -1,4 +1,5 @@
 mod Counts
+mod Faithful
 mod Names
 mod PointerPairs
 mod Sections

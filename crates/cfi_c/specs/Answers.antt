@@ -17,6 +17,7 @@ use Rattle.cfi_read_core.specs.declared.error.Error.{Error}
 use Rattle.cfi_read_core.specs.declared.error.Error.TheVariants.{UnsupportedAddressSize}
 use Rattle.cfi_read_core.specs.Addresses.{IsAddressSize}
 use Rattle.cfi_read_core.specs.Reading.{Source}
+use Rattle.cfi_parts.specs.declared.pointer.Pointer.TheVariants.{Direct}
 use Rattle.cfi_state.specs.declared.table.rules.CfaRule.{CfaRule}
 use Rattle.cfi_state.specs.declared.table.rules.CfaRule.TheVariants as cfa
 use Rattle.cfi_state.specs.declared.table.rules.RegisterRule.{RegisterRule}
@@ -27,6 +28,7 @@ use Rattle.cfi_unwind.specs.Fdes.{Fde}
 use Rattle.cfi_unwind.specs.Scan.{answer_by}
 use Rattle.cfi_unwind.specs.AddressRow.{row_by_scan, row_of_fde}
 use Rattle.gimli_cfi.specs.Headers as headers
+use Rattle.gimli_cfi.specs.HeaderTables.{IsFaithful}
 use Rattle.gimli_cfi.specs.RowsByHeader.{FoundByHeader}
 use Rattle.cfi_c.specs.declared.CfiBases.{CfiBases}
 use Rattle.cfi_c.specs.declared.CfiRow.{CfiRow}
@@ -142,6 +144,17 @@ abbrev pub IsSizedAnswer : CfiBases → List ℕ → Option (List ℕ) → ℕ �
 IsSizedAnswer bases bytes header a answer =
     ((IsAddressSize bases.address_size → ⊥) → answer ≡ Err (UnsupportedAddressSize bases.address_size))
     × (IsAddressSize bases.address_size → IsAnswerOf bases bytes header a answer)
+
+-- the header has a table, and it lists the FDEs of the section faithfully
+abbrev pub IsFaithfulHeader : CfiBases → List ℕ → List ℕ → Type 0
+IsFaithfulHeader bases bytes header =
+    (read : headers.Header) × (table : headers.Table) × (eh_frame : ℕ)
+    × (headers.header_of (header_of bases header) ≡ Ok read) × (read.table ≡ Some table) × (read.eh_frame ≡ Direct eh_frame)
+    × IsFaithful (header_of bases header) table eh_frame (eh_frame_of bases bytes)
+
+-- what going through .eh_frame answers
+abbrev pub IsScanned : CfiBases → List ℕ → ℕ → CfiRow → List CfiRule → ℕ → ℕ → Type 0
+IsScanned bases bytes a out rules first count = IsAnswered (row_by_scan (Some 192) (Some 4) (eh_frame_of bases bytes) a) out rules first count
 
 -- 32: there is no context
 abbrev pub IsAnswerForC : Bool → CfiBases → List ℕ → Option (List ℕ) → ℕ → CfiRow → List CfiRule → ℕ → ℕ → Type 0

@@ -3,9 +3,10 @@
 
 ghost use Rattle.std.specs.Prelude.{◌≡◌, ◌+◌, ◌<◌, ◌≤◌, ◌⊎◌, ℕ, length, pos, true, false, None, Some, slice_index_or};
 ghost use Rattle.cfi_read_core.specs.declared.error.Error.{Error};
+ghost use Rattle.cfi_read_core.specs.Addresses.{IsAddressSize};
 ghost use Rattle.cfi_c.specs.Refusals.{number, refusal_name, status_name};
 ghost use Rattle.std.specs.Option.{option_map};
-ghost use Rattle.cfi_c.specs.Answers.{IsAnswerForC, SameAround, IsCount, AreAnswered, header_in, is_live};
+ghost use Rattle.cfi_c.specs.Answers.{IsAnswerForC, IsFaithfulHeader, IsScanned, SameAround, IsCount, AreAnswered, header_in, is_live};
 
 mod context;
 mod find;
@@ -138,6 +139,8 @@ pub extern "C" fn cfi_row_by_table(
     rules: &mut [CfiRule],
 ) -> i32
     ensures answered { IsAnswerForC context.old.live bases.now section.now (Some header.now) address row.new rules.new 0 (length rules.new) }
+    ensures faithful { IsFaithfulHeader bases.now section.now header.now → IsAddressSize bases.now.address_size → context.old.live ≡ true →
+        IsScanned bases.now section.now address row.new rules.new 0 (length rules.new) }
     ensures status { result ≡ row.new.status }
     ensures kept { context.new.live ≡ context.old.live }
 {
