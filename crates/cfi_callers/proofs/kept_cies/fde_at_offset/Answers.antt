@@ -2,7 +2,7 @@ use Rattle.std.proofs.Common.{◌≡◌, rules}
 use Rattle.cfi_parts.specs.CallFrameSections.{IsOf}
 use Rattle.cfi_unwind.specs.KeptCie.{KeepsCie}
 use Rattle.cfi_unwind.proofs.Answered.{ok_answered_by, read_by}
-use Rattle.cfi_callers.proofs.fde_at_offset.Goals as goal
+use Rattle.cfi_callers.proofs.kept_cies.fde_at_offset.Goals as goal
 
 pub returns-clause-read : goal.returns-clause-read
 returns-clause-read g c =

@@ -2,7 +2,7 @@ use Rattle.std.proofs.Common.{◌≡◌, rules}
 use Rattle.cfi_parts.specs.CallFrameSections.{IsOf}
 use Rattle.cfi_unwind.specs.KeptCie.{KeepsCie}
 use Rattle.cfi_unwind.proofs.Answered.{chosen_by, ok_answered_by}
-use Rattle.cfi_callers.proofs.fde_with_kept_cies.Goals as goal
+use Rattle.cfi_callers.proofs.kept_cies.fde_with_kept_cies.Goals as goal
 
 pub returns-clause-found : goal.returns-clause-found
 returns-clause-found g c =

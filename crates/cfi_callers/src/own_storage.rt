@@ -1,0 +1,31 @@
+//! A storage of one's own.
+use arrayvec::ArrayVec;
+use gimli_cfi::{
+    BaseAddresses, EhFrame, EndianSlice, Error, LittleEndian, ReaderOffset, Register, RegisterRule,
+    UnwindContext, UnwindContextStorage, UnwindTableRow, row_by_scan,
+};
+use std::alloc::Global;
+
+/// Twenty rules and two rows, in the context itself.
+pub struct Small;
+
+impl<T: ReaderOffset> UnwindContextStorage<T> for Small {
+    type Rules = ArrayVec<(Register, RegisterRule<T>), 20>;
+
+    type Stack = ArrayVec<UnwindTableRow<T, Self::Rules>, 2>;
+
+    ghost use Rattle.std.proofs.Common.{lit≤};
+
+    ghost has_room = { lit≤ tt };
+}
+
+/// Where the row of an address ends, unwound in the small storage.
+pub fn end_in_small(
+    alloc: Global,
+    frame: &EhFrame<EndianSlice<'_, LittleEndian>>,
+    bases: &BaseAddresses,
+    address: u64,
+) -> Result<u64, Error> {
+    let mut ctx = UnwindContext::<usize, Small>::new_in(alloc)?;
+    Ok(row_by_scan(frame, bases, &mut ctx, address)?.end_address())
+}

@@ -1,0 +1,79 @@
+//! Each program of the guide on a small section, whose rows were worked out by hand.
+use crate::all_rows::{count_all_rows, count_rows, last_end};
+use crate::instructions::expression_bytes;
+use crate::one_row::{cfa_of, end_of_row, row_of_call, start_of_row};
+use crate::own_storage::end_in_small;
+use gimli_cfi::{BaseAddresses, EhFrame, EhFrameHdr, LittleEndian, Register, UnwindContext};
+use std::test::Fail;
+
+/// A CIE, an FDE of 16 addresses from 0x1000 with two rows, and the end; the section lies at 0x2000.
+const SECTION: [u8; 48] = [
+    0x14, 0, 0, 0, 0, 0, 0, 0, 1, 0x7a, 0x52, 0, 1, 0x78, 0x10, 1, 0x1b, 0x0c, 7, 8, 0x90, 1, 0, 0,
+    0x10, 0, 0, 0, 0x1c, 0, 0, 0, 0xe0, 0xef, 0xff, 0xff, 0x10, 0, 0, 0, 0, 0x41, 0x0e, 0x10, 0, 0,
+    0, 0,
+];
+
+/// The same with an expression of one byte for the CFA, in place of the move and the offset.
+const EXPRESSION: [u8; 48] = [
+    0x14, 0, 0, 0, 0, 0, 0, 0, 1, 0x7a, 0x52, 0, 1, 0x78, 0x10, 1, 0x1b, 0x0c, 7, 8, 0x90, 1, 0, 0,
+    0x10, 0, 0, 0, 0x1c, 0, 0, 0, 0xe0, 0xef, 0xff, 0xff, 0x10, 0, 0, 0, 0, 0x0f, 1, 0x30, 0, 0, 0,
+    0,
+];
+
+/// A header at 0x1f00 with one row.
+const HEADER: [u8; 20] = [
+    1, 0x1b, 3, 0x3b, 0xfc, 0, 0, 0, 1, 0, 0, 0, 0, 0xf1, 0xff, 0xff, 0x18, 1, 0, 0,
+];
+
+fn bases() -> BaseAddresses {
+    BaseAddresses::default()
+        .set_eh_frame(0x2000)
+        .set_eh_frame_hdr(0x1f00)
+}
+
+#[test]
+fn one_row(rt: HostRuntime) -> Result<(), Fail> {
+    let bases = bases();
+    let frame = EhFrame::new(&SECTION, LittleEndian);
+    let mut ctx = UnwindContext::<usize>::new(rt.alloc())?;
+    let cfa = cfa_of(rt.alloc(), &SECTION, 0x2000, 0x1008)?;
+    assert_eq!(rt; cfa, Some((Register(7), 16)));
+    let cfa = cfa_of(rt.alloc(), &EXPRESSION, 0x2000, 0x1008)?;
+    assert_eq!(rt; cfa, None);
+    assert_eq!(rt;
+        end_of_row(&frame, &HEADER, &bases, &mut ctx, 0x1000)?,
+        0x1001
+    );
+    let header = EhFrameHdr::new(&HEADER, LittleEndian).parse(&bases, 8)?;
+    let Some(table) = header.table() else {
+        return Err(Fail::from("the header has a table"));
+    };
+    assert_eq!(rt;
+        start_of_row(&table, &frame, &bases, &mut ctx, 0x1008)?,
+        0x1001
+    );
+    assert_eq!(rt;
+        row_of_call(&frame, &bases, &mut ctx, 0x1001)?.end_address(),
+        0x1001
+    );
+    assert_eq!(rt; end_in_small(rt.alloc(), &frame, &bases, 0x1001)?, 0x1010);
+    Ok(())
+}
+
+#[test]
+fn all_rows(rt: HostRuntime) -> Result<(), Fail> {
+    let bases = bases();
+    let frame = EhFrame::new(&SECTION, LittleEndian);
+    let mut ctx = UnwindContext::<usize>::new(rt.alloc())?;
+    assert_eq!(rt; count_rows(&frame, &bases, &mut ctx, 0x1008)?, 2);
+    assert_eq!(rt; count_all_rows(&frame, &bases, &mut ctx)?, 2);
+    assert_eq!(rt; last_end(&frame, &bases, &mut ctx)?, 0x1010);
+    Ok(())
+}
+
+#[test]
+fn expressions(rt: HostRuntime) -> Result<(), Fail> {
+    let frame = EhFrame::new(&EXPRESSION, LittleEndian);
+    assert_eq!(rt; expression_bytes(&frame, &bases(), 0x1008)?, 1);
+    Ok(())
+}
