@@ -8,27 +8,27 @@ use Rattle.cfi_read_core.specs.declared.error.Error.TheVariants.{BadUnsignedLeb1
 use Rattle.cfi_read_core.specs.Reading.{Read, Source, Position, Extent, Outcome, carry_on, ◌>>=◌, ◌>>◌, split, give, refuse, refuse_if, unexpected_eof, offset, rest}
 use Rattle.cfi_read_core.specs.Numbers.{continuation_count, is_bad_byte, leb128_bytes, leb128_sum, unsigned_leb128, offset_leb128}
 use Rattle.cfi_read_core.specs.Readers.{IsPartOf, extent_of}
-use Rattle.cfi_read_core.proofs.Onward.{onward_offset_leb128}
 use Rattle.cfi_parts.specs.declared.instruction.UnwindExpression.{UnwindExpression}
 use Rattle.cfi_parts.specs.CallFrameSections.{IsOf}
-use Rattle.cfi_parts.specs.Instructions.{expression, expression_bytes, IsReadIn}
+use Rattle.cfi_parts.specs.ExpressionPlaces.{LiesIn, place_in}
+use Rattle.cfi_parts.specs.Instructions.{expression_bytes}
 
 -- ---- a read that gives a value stays within the bytes
 
-record IsInside {A : Type 0} (read : Read A) : Type 0 where
-  kept : (source : Source) (place : ℕ) (x : A) → (read source place).value ≡ Ok x → place ≤ source.last → (read source place).place ≤ source.last
+pub record IsInside {A : Type 0} (read : Read A) : Type 0 where
+  pub kept : (source : Source) (place : ℕ) (x : A) → (read source place).value ≡ Ok x → place ≤ source.last → (read source place).place ≤ source.last
 
 inside_carried : {A B : Type 0} (next : A → Read B) → ((x : A) → IsInside (next x)) → (source : Source) (r : Result A Error) (place : ℕ) (y : B) →
     ((x : A) → r ≡ Ok x → place ≤ source.last) → (carry_on next source r place).value ≡ Ok y → (carry_on next source r place).place ≤ source.last
 inside_carried next inside source (Ok x) place y h e = (inside x).kept source place y e (h x refl)
 inside_carried next inside source (Err r) place y h e = absurd (cc)
 
-inside_bind : {A B : Type 0} (read : Read A) (next : A → Read B) → IsInside read → ((x : A) → IsInside (next x)) → IsInside (read >>= next)
+pub inside_bind : {A B : Type 0} (read : Read A) (next : A → Read B) → IsInside read → ((x : A) → IsInside (next x)) → IsInside (read >>= next)
 inside_bind read next first inside = record {
   kept = λ source place y e h. inside_carried next inside source (read source place).value (read source place).place y (λ x is. first.kept source place x is h) e;
 }
 
-inside_give : {A : Type 0} (x : A) → IsInside (give x)
+pub inside_give : {A : Type 0} (x : A) → IsInside (give x)
 inside_give x = record { kept = λ source place y e h. h }
 
 inside_refuse : {A : Type 0} (e : Error) → IsInside (refuse {A = A} e)
@@ -56,7 +56,7 @@ inside_leb128_bytes = record {
       (λ t. ltb-true _ _ t) room h e;
 }
 
-inside_unsigned_leb128 : IsInside unsigned_leb128
+pub inside_unsigned_leb128 : IsInside unsigned_leb128
 unfolding unsigned_leb128
 inside_unsigned_leb128 =
     inside_bind leb128_bytes (λ bs. refuse_if (is_bad_byte (λ tenth. nat_lt 1 tenth) (slice_get bs 9)) BadUnsignedLeb128 >> give (leb128_sum bs)) inside_leb128_bytes (λ bs.
@@ -64,16 +64,16 @@ inside_unsigned_leb128 =
     (inside_if (is_bad_byte (λ tenth. nat_lt 1 tenth) (slice_get bs 9)) (refuse BadUnsignedLeb128) (give (is_bad_byte (λ tenth. nat_lt 1 tenth) (slice_get bs 9))) (inside_refuse _) (inside_give _))
     (λ _. inside_give _))
 
-inside_offset_leb128 : IsInside offset_leb128
+pub inside_offset_leb128 : IsInside offset_leb128
 unfolding offset_leb128
 inside_offset_leb128 = inside_bind unsigned_leb128 offset inside_unsigned_leb128 inside_offset
 
 -- ---- where the bytes stand: at p, from which the length's bytes are there
 
-record Stands (first last : ℕ) (e : UnwindExpression ℕ) (p after : ℕ) : Type 0 where
-  offset_is : e.offset ≡ p - first
-  inside : e.length ≤ last - p
-  after_is : after ≡ p + e.length
+pub record Stands (first last : ℕ) (e : UnwindExpression ℕ) (p after : ℕ) : Type 0 where
+  pub offset_is : e.offset ≡ p - first
+  pub inside : e.length ≤ last - p
+  pub after_is : after ≡ p + e.length
 
 at_split : (first last n p : ℕ) (source : Source) (b : Bool) (e : UnwindExpression ℕ) (after : ℕ) → (b ≡ true → n ≤ last - p) →
     (let o : Outcome Extent = if b then record { value = Ok (record { first = p; last = p + n }); place = p + n } else record { value = Err (unexpected_eof p); place = p } in
@@ -89,10 +89,10 @@ at_split first last n p source true e after fits is =
     record { offset_is = sym offset; inside = omega arith; after_is = omega arith }
 at_split first last n p source false e after fits is = let value = ap (λ (o : Outcome (UnwindExpression ℕ)). o.value) is in absurd (cc)
 
-passed_at : (first : ℕ) → ℕ → Read (UnwindExpression ℕ)
+unfoldable pub passed_at : (first : ℕ) → ℕ → Read (UnwindExpression ℕ)
 passed_at first n = split n >>= λ extent. give (record { offset = extent.first - first; length = n })
 
-at_length : (first p : ℕ) (source : Source) (r : Result ℕ Error) (e : UnwindExpression ℕ) (after : ℕ) →
+pub at_length : (first p : ℕ) (source : Source) (r : Result ℕ Error) (e : UnwindExpression ℕ) (after : ℕ) →
     carry_on (passed_at first) source r p ≡ record { value = Ok e; place = after } → Stands first source.last e p after × ((n : ℕ) × (r ≡ Ok n))
 unfolding passed_at
 at_length first p source (Ok n) e after is =
@@ -109,41 +109,11 @@ bytes_at e source first h k =
     let there : nat_le e.length (source.last - (first + e.offset)) ≡ true = le-leb _ _ k in
     rw (skipped, there) refl
 
-stands : (section : Position) (e : UnwindExpression ℕ) (after : ℕ) → IsReadIn section e after → (p : ℕ) × (section.place ≤ p) × (p ≤ section.source.last) × Stands section.place section.source.last e p after
-unfolding expression passed_at
-stands section e after h =
-    let reader = h.reader in
-    let length = offset_leb128 reader.source reader.place in
-    let found = at_length h.context.section length.place reader.source length.value e after h.read in
-    let on = onward_offset_leb128.after reader.source reader.place in
-    let inside = inside_offset_leb128.kept reader.source reader.place found.1.0 found.1.1 h.ordered in
-    let f = found.0 in
-    let offset : e.offset ≡ length.place - section.place = f.offset_is ∙ ap (λ (x : ℕ). length.place - x) h.first in
-    let room = f.inside in
-    let ends = h.ends in
-    let begins = h.begins in
-    (length.place, omega arith, omega arith, record { offset_is = offset; inside = omega arith; after_is = f.after_is })
-
-bytes_are_there : (section : Position) (e : UnwindExpression ℕ) (after : ℕ) → IsReadIn section e after →
-    (expression_bytes e section.source section.place).value ≡ Ok (record { first = after - e.length; last = after })
-bytes_are_there section e after h =
-    let found = stands section e after h in
-    let p = found.0 in
-    let f = found.3 in
-    let begins = found.1 in
-    let within = found.2 in
-    let offset = f.offset_is in
-    let room = f.inside in
-    let behind = f.after_is in
-    let here : section.place + e.offset ≡ after - e.length = omega arith in
-    let end : section.place + e.offset + e.length ≡ after = omega arith in
-    ap (λ (o : Outcome Extent). o.value) (bytes_at e section.source section.place (omega arith) (omega arith))
-    ∙ (rw (end, here) refl)
-
--- the same of a reader that stands as the section
-pub bytes_are_read : {there section : Position} (e : UnwindExpression ℕ) (after : ℕ) → there ≡ section → IsReadIn section e after →
-    (expression_bytes e there.source there.place).value ≡ Ok (record { first = after - e.length; last = after })
-bytes_are_read {there = there} {section = section} e after same h = bytes_are_there there e after (subst (λ (s : Position). IsReadIn s e after) (sym same) h)
+-- a reader that stands as a section in which the bytes lie
+pub bytes_are_there : {there section : Position} (e : UnwindExpression ℕ) → there ≡ section → LiesIn section e → (expression_bytes e there.source there.place).value ≡ Ok (place_in section e)
+bytes_are_there {there = there} {section = section} e same lies =
+    ap (λ (s : Position). (expression_bytes e s.source s.place).value) same
+    ∙ ap (λ (o : Outcome Extent). o.value) (bytes_at e section.source section.place (omega (arith, lies.ends)) (omega (arith, lies.ends)))
 
 -- ---- what is split off lies in the section
 

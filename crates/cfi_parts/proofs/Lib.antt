@@ -1,5 +1,6 @@
 pub mod Behind
 pub mod Expressions
+pub mod ExpressionPlaces
 pub mod InstructionLemmas
 pub mod Walk
 mod Vectors

@@ -1,12 +1,11 @@
 -- Call frame instructions (DWARF 5 sections 6.4.2 and 7.24).
-use Rattle.std.specs.Prelude.{◌≡◌, ◌≢◌, ◌≤◌, ℕ, ◌-◌, ◌%◌, Option, Some, None, List, [], ◌∷◌, ◌++◌, Ok}
+use Rattle.std.specs.Prelude.{◌≢◌, ℕ, ◌-◌, ◌%◌, Option, Some, None, List, [], ◌∷◌, ◌++◌}
 use Rattle.std.specs.Int.{w8, w16, w32}
 use Rattle.cfi_read_core.specs.declared.common.Register.{Register as RegisterNumber}
 use Rattle.cfi_read_core.specs.declared.common.Vendor.{Vendor}
 use Rattle.cfi_read_core.specs.declared.common.Vendor.TheVariants as vendors
 use Rattle.cfi_read_core.specs.declared.error.Error.TheVariants.{UnknownCallFrameInstruction}
-use Rattle.cfi_read_core.specs.Reading.{Read, Source, Position, Extent, Readings, readings_over, ◌>>=◌, ◌>>◌, give, refuse, of_result, skip, split, chosen_from}
-use Rattle.cfi_read_core.specs.Readers.{IsPartOf}
+use Rattle.cfi_read_core.specs.Reading.{Read, Source, Extent, Readings, readings_over, ◌>>=◌, ◌>>◌, give, refuse, of_result, skip, split, chosen_from}
 use Rattle.cfi_read_core.specs.Numbers.{unsigned, unsigned_leb128, signed_leb128, offset_leb128, register_leb128}
 use Rattle.cfi_read_core.specs.Addresses.{address}
 use Rattle.cfi_parts.specs.declared.instruction.UnwindExpression.{UnwindExpression}
@@ -37,17 +36,6 @@ unfoldable pub expression_bytes : UnwindExpression ℕ → Read Extent
 expression_bytes e = do
   skip e.offset
   split e.length
-
--- A reader of a part of the section read the expression, and then stood at this place, after the expression's bytes.
-pub record IsReadIn (section : Position) (e : UnwindExpression ℕ) (after : ℕ) : Type 0 where
-  pub context : PointerContext
-  pub reader : Position
-  pub first : context.section ≡ section.place
-  pub part : IsPartOf reader section
-  pub begins : section.place ≤ reader.place
-  pub ordered : reader.place ≤ reader.source.last
-  pub ends : reader.source.last ≤ section.source.last
-  pub read : expression context reader.source reader.place ≡ record { value = Ok e; place = after }
 
 abbrev pub location_by : PointerContext → Option ℕ → Read ℕ
 location_by context None = address context.size

@@ -4,4 +4,5 @@ pub mod CallFrameSections
 pub mod Instructions
 pub mod MappedInstructions
 pub mod InstructionReaders
+pub mod ExpressionPlaces
 pub mod Iterators

@@ -4,7 +4,9 @@ ghost use Rattle.cfi_read_core.specs.Addresses.{IsAddressSize, is_sized};
 ghost use Rattle.cfi_read_core.specs.Readers.{IsPartOf, Reads, extent_of, remaining, map_ok};
 ghost use Rattle.cfi_parts.specs.Contexts.{instruction_context};
 ghost use Rattle.cfi_parts.specs.CallFrameSections.{IsOf};
-ghost use Rattle.cfi_parts.specs.Instructions.{IsReadIn, expression_bytes};
+ghost use Rattle.cfi_read_core.specs.Reading.{Position};
+ghost use Rattle.cfi_parts.specs.ExpressionPlaces.{HasExpressionIn, LiesIn, ReadsIn, place_in};
+ghost use Rattle.cfi_parts.specs.Instructions.{expression_bytes};
 ghost use Rattle.cfi_parts.specs.InstructionReaders.{Meets, instructions_left, items};
 ghost use Rattle.cfi_parts.specs.MappedInstructions.{map_expression, map_instruction};
 
@@ -30,7 +32,8 @@ impl<T: Copy> UnwindExpression<T> {
     /// The bytes of the expression, in the section in which it was read. Nothing is copied.
     ///
     /// Refused with `UnexpectedEof` of the section's first place where the offset goes past the section's end, and of
-    /// the expression's own place where the length does: never for an expression that was read in that section.
+    /// the expression's own place where the length does: never for the expression of an instruction or of a row of that
+    /// section, whose contracts say that it lies there.
     pub fn get<R: Reader<Offset = T>, Section: _UnwindSectionPrivate<R>>(
         &self,
         section: &Section,
@@ -38,8 +41,8 @@ impl<T: Copy> UnwindExpression<T> {
         ensures bytes { map_ok (λ e. extent_of (R.position e.0)) result
             ≡ (expression_bytes (map_expression T.number self.now) (Section.view section.now).position.source (Section.view section.now).position.place).value }
         ensures part { IfOk result (λ e. IsOf (R.position e.0) (Section.view section.now).position) }
-        ensures read_there { (after : ℕ) → IsReadIn (Section.view section.now).position (map_expression T.number self.now) after
-            → map_ok (λ e. extent_of (R.position e.0)) result ≡ Ok (record { first = after - T.number self.now.length; last = after }) }
+        ensures there { LiesIn (Section.view section.now).position (map_expression T.number self.now)
+            → map_ok (λ e. extent_of (R.position e.0)) result ≡ Ok (place_in (Section.view section.now).position (map_expression T.number self.now)) }
     {
         let mut input = *section.section();
         Ok(Expression(split_expression(self, &mut input)?))
@@ -216,7 +219,8 @@ impl<'a, R: Reader> CallFrameInstructionIter<'a, R> {
         }
     }
 
-    /// The next instruction, or none at the end. After a refusal or the end it is `None` from then on.
+    /// The next instruction, or none at the end. After a refusal or the end it is `None` from then on. Its expression
+    /// lies in the section, where `UnwindExpression::get` is not refused.
     ///
     /// Refused with `UnexpectedEof` where the bytes end in an instruction, `UnknownCallFrameInstruction` for an opcode
     /// that isn't known to the vendor, `BadUnsignedLeb128`, `BadSignedLeb128` or `UnsupportedRegister` for an operand,
@@ -227,6 +231,9 @@ impl<'a, R: Reader> CallFrameInstructionIter<'a, R> {
         ensures context { (instruction_reader R.position self.new).context ≡ (instruction_reader R.position self.old).context }
         ensures source { (instruction_reader R.position self.new).position.source ≡ (instruction_reader R.position self.old).position.source }
         ensures fewer { IfOk result (λ found. IfSome found (λ _. remaining (instruction_reader R.position self.new).position < remaining (instruction_reader R.position self.old).position)) }
+        ensures expressions { IfOk result (λ found. IfSome found (λ i.
+            (section : Position) → ReadsIn section (instruction_reader R.position self.old) → HasExpressionIn R.Offset.number section i)) }
+        ensures within { (section : Position) → ReadsIn section (instruction_reader R.position self.old) → ReadsIn section (instruction_reader R.position self.new) }
     {
         next_instruction(&self.parameters, &mut self.input)
     }
@@ -261,6 +268,9 @@ fn next_instruction<R: Reader>(
     ensures source { (R.position input.new).source ≡ (R.position input.old).source }
     ensures behind { (R.position parameters.now.pointers.section.now).place ≤ (R.position input.new).place }
     ensures fewer { IfOk result (λ found. IfSome found (λ _. remaining (R.position input.new) < remaining (R.position input.old))) }
+    ensures expressions { let c = instruction_context R.position parameters.now in
+        IfOk result (λ found. IfSome found (λ i.
+        (section : Position) → ReadsIn section (record { context = c; position = R.position input.old }) → HasExpressionIn R.Offset.number section i)) }
 {
     if input.is_empty() {
         return Ok(None);

@@ -1,4 +1,5 @@
 use Rattle.std.proofs.Common.{◌∙◌, sym, arith}
+use Rattle.cfi_parts.proofs.ExpressionPlaces.{read_in}
 use Rattle.cfi_parts.proofs.Walk.{one_read, further, fewer_left, refused, at_end, at_exhausted}
 use Rattle.cfi_parts.proofs.instruction.next_instruction.Goals as goal
 
@@ -26,3 +27,8 @@ pub returns-in-Err-clause-met : goal.returns-in-Err-clause-met
 returns-in-Err-clause-met g c =
     let some_left = sym c.is_empty.ensures ∙ c.if-is_empty.false in
     (refused _ _ _ _ some_left c.in-Err.ensures.0, at_exhausted _ (g.R.Reader.position c.parse_instruction.new.input) _ c.empty.ensures)
+
+pub returns-in-Ok-clause-expressions : goal.returns-in-Ok-clause-expressions
+returns-in-Ok-clause-expressions g c section reads =
+    let sound = g.met.R.Reader.sound c.args.input.now in
+    read_in g.R.Offset.ReaderOffset.number section _ _ _ _ reads c.requires.behind sound.ordered c.in-Ok.ensures.0

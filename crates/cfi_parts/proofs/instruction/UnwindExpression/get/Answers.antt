@@ -1,19 +1,19 @@
 use Rattle.std.proofs.Common.{◌∙◌, ap, sym}
 use Rattle.cfi_read_core.specs.Reading.{Extent, Outcome}
 use Rattle.cfi_parts.specs.MappedInstructions.{map_expression}
-use Rattle.cfi_parts.proofs.Expressions.{bytes_are_read, bytes_lie_in}
+use Rattle.cfi_parts.proofs.Expressions.{bytes_are_there, bytes_lie_in}
 use Rattle.cfi_parts.proofs.instruction.UnwindExpression.get.Goals as goal
 
-pub returns-in_err-split_expression-clause-read_there :
-    goal.returns-in_err-split_expression-clause-read_there
-returns-in_err-split_expression-clause-read_there g c after h =
-    let there = bytes_are_read (map_expression g.T.ReaderOffset.number c.args.self.now) after c.section.ensures h in
+pub returns-in_err-split_expression-clause-there :
+    goal.returns-in_err-split_expression-clause-there
+returns-in_err-split_expression-clause-there g c lies =
+    let there = bytes_are_there (map_expression g.T.ReaderOffset.number c.args.self.now) c.section.ensures lies in
     let read = ap (λ (o : Outcome Extent). o.value) c.in_err-split_expression.ensures.read.0 in
     absurd (cc (read, there))
 
-pub returns-clause-read_there : goal.returns-clause-read_there
-returns-clause-read_there g c after h =
-    let there = bytes_are_read (map_expression g.T.ReaderOffset.number c.args.self.now) after c.section.ensures h in
+pub returns-clause-there : goal.returns-clause-there
+returns-clause-there g c lies =
+    let there = bytes_are_there (map_expression g.T.ReaderOffset.number c.args.self.now) c.section.ensures lies in
     sym (ap (λ (o : Outcome Extent). o.value) c.in_ok-split_expression.ensures.read.0) ∙ there
 
 pub returns-clause-part : goal.returns-clause-part
