@@ -15,9 +15,10 @@ use Rattle.cfi_parts.specs.declared.instruction.CallFrameInstruction.{CallFrameI
 use Rattle.cfi_parts.specs.declared.instruction.CallFrameInstruction.TheVariants as instruction
 use Rattle.cfi_state.specs.Row.{Row}
 use Rattle.cfi_state.specs.MachineSettings.{Setting, next_location, is_move}
+use Rattle.cfi_state.specs.Machine.{State}
 use Rattle.cfi_state.specs.MachineRuns.{MayAllocate, AnswersFde}
 use Rattle.cfi_state.specs.Program.{Program, in_fde, refused_if, followed_by, location_of, refusal}
-use Rattle.cfi_state.specs.Rows.{or_refused, on_option, on_result, refusals, row_until, answers_of, answers, cie_refusal, run_answers, program_state, rows_of, row_contains, AreConsecutive, answer_at, fde_answer, run_fde_answer}
+use Rattle.cfi_state.specs.Rows.{or_refused, on_option, on_result, refusals, row_until, answers_of, answers, cie_refusal, run_answers, program_state, IsStateAfter, rows_of, row_contains, AreConsecutive, answer_at, fde_answer, run_fde_answer}
 use Rattle.cfi_state.proofs.Law.{location_push}
 use Rattle.cfi_state.proofs.IsStateAfter.{cie_law, cie_accepted, run_law}
 use Rattle.cfi_state.proofs.KeptAnswers.{answers-other, answers-move, answers-refused}
@@ -105,6 +106,18 @@ module _ {T : Type 0} where
   -- each address that the FDE contains lies in exactly one of its rows
   pub in_one_row : (s : Setting) (cie : List (CallFrameInstruction T)) (fde : Readings (CallFrameInstruction T)) (address : ℕ) → s.initial_address ≤ address → address < s.end_address → count_by (row_contains address) (rows_of (answers s (in_fde cie []) fde)) ≡ 1
   in_one_row s cie fde address low high = one_row address (rows_of (answers s (in_fde cie []) fde)) s.initial_address s.end_address (rows_consecutive s cie fde) low high
+
+  -- ---- the rows of a table that is made for an FDE
+
+  run_is : (s : Setting) (x : State T) (cie : List (CallFrameInstruction T)) (fde : Readings (CallFrameInstruction T)) → IsStateAfter s x (in_fde cie []) → run_answers s x fde ≡ answers s (in_fde cie []) fde
+  run_is s x cie fde after = ap (λ y. run_answers s y fde) after.1 ∙ run_law s fde.values fde.refusal (in_fde cie []) after.0
+
+  pub run_consecutive : (s : Setting) (x : State T) (cie : List (CallFrameInstruction T)) (fde : Readings (CallFrameInstruction T)) → IsStateAfter s x (in_fde cie []) → AreConsecutive s.initial_address (rows_of (run_answers s x fde)) s.end_address
+  run_consecutive s x cie fde after = subst (λ l. AreConsecutive s.initial_address (rows_of l) s.end_address) (sym (run_is s x cie fde after)) (rows_consecutive s cie fde)
+
+  pub run_in_one_row : (s : Setting) (x : State T) (cie : List (CallFrameInstruction T)) (fde : Readings (CallFrameInstruction T)) → IsStateAfter s x (in_fde cie []) → (address : ℕ) → s.initial_address ≤ address → address < s.end_address →
+      count_by (row_contains address) (rows_of (run_answers s x fde)) ≡ 1
+  run_in_one_row s x cie fde after address low high = ap (λ l. count_by (row_contains address) (rows_of l)) (run_is s x cie fde after) ∙ in_one_row s cie fde address low high
 
   -- ---- the answer for an address
 

@@ -17,6 +17,7 @@ pub mod MappedRuns
 pub mod RunAnswers
 pub mod KeptAnswers
 pub mod Laws
+pub mod RowExpressions
 pub mod FixedStorage
 pub mod MemoryExamples
 pub mod Entries

@@ -1,5 +1,6 @@
 -- The answers of a run are those of the machine's functions, but for one that is refused for lack of memory.
 use Rattle.std.proofs.Common.{◌≡◌, ℕ, Bool, true, false, cond, List, [], ◌∷◌, ◌++◌, Option, Some, None, Result, Ok, Err, refl, sym, ap, subst, ◌∙◌, inl, inr, ◌⊎◌}
+use Rattle.std.proofs.lemmas.Bool.{false≢true}
 use Rattle.cfi_read_core.specs.Reading.{Readings, with_first}
 use Rattle.cfi_read_core.specs.declared.error.Error.{Error}
 use Rattle.cfi_read_core.specs.declared.error.Error.TheVariants.{OutOfMemory, NoUnwindInfoForAddress}
@@ -10,7 +11,7 @@ use Rattle.cfi_state.specs.Machine.{State, fresh_state, step, end_of_cie}
 use Rattle.cfi_state.specs.Rows.{on_result, on_option, row_ended, run_answers, run_answers_of, run_all, run_cie, row_contains, answer_at, run_fde_answer}
 use Rattle.cfi_state.specs.Outcome.{IsRefusal}
 use Rattle.cfi_state.specs.TableStates.{TableState, before_last_row, run_answers_to_come, IsNext}
-use Rattle.cfi_state.specs.MachineRuns.{MayAllocate, NextAnswer, passes, ends_row, refuses, cannot_read, last_row, no_row, RunsInitialInstructions, cie_passes, cie_refuses, cie_cannot_read, cie_ends, cie_end_refused, FindsRow, contains_it, goes_on, is_refused, comes_to_end, AnswersFde, by_cie, by_rows}
+use Rattle.cfi_state.specs.MachineRuns.{MayAllocate, AreNever, NextAnswer, passes, ends_row, refuses, cannot_read, last_row, no_row, RunsInitialInstructions, cie_passes, cie_refuses, cie_cannot_read, cie_ends, cie_end_refused, FindsRow, contains_it, goes_on, is_refused, comes_to_end, AnswersFde, by_cie, by_rows}
 
 -- ---- what one step does to the answers of a run
 
@@ -28,6 +29,21 @@ module _ {T : Type 0} where
 
   pub run_answers-refused : (s : Setting) (x : State T) (i : CallFrameInstruction T) (xs : List (CallFrameInstruction T)) (unread : Option Error) (d : Error) → step s x i ≡ Err d → run_answers_of s x (i ∷ xs) unread ≡ Err d ∷ run_answers_of s x xs unread
   run_answers-refused s x i xs unread d e = ap (on_result (λ z. row_ended x i z ++ run_answers_of s z xs unread) (λ b. Err b ∷ run_answers_of s x xs unread)) e
+
+-- where no instruction runs out of memory the next answer is the first of those still to come
+module _ {T : Type 0} (allocates : MayAllocate T) (s : Setting) (never : AreNever allocates) where
+  due_refusal : (w : Bool) (due : Result (State T) Error) (e : Error) → w ≡ false → IsRefusal w due e → due ≡ Err e
+  due_refusal w due e free (inl is) = is
+  due_refusal w due e free (inr wanting) = absurd (false≢true (sym free ∙ wanting.0))
+
+  pub next_is_due : (p : TableState (State T) T) (answer : Result (Option (Row T)) Error) (q : TableState (State T) T) → NextAnswer allocates s p answer q → IsNext (run_answers_to_come s p) answer (run_answers_to_come s q)
+  next_is_due p answer q (passes x y i rest answer' q' still stepped next) =
+      subst (λ l. IsNext l answer' (run_answers_to_come s q')) (sym (run_answers-other s x y i rest.values rest.refusal stepped still)) (next_is_due (before_last_row y rest) answer' q' next)
+  next_is_due p answer q (ends_row x y i rest moves stepped) = run_answers-move s x y i rest.values rest.refusal stepped moves
+  next_is_due p answer q (refuses x i rest e refusal) = run_answers-refused s x i rest.values rest.refusal e (due_refusal (allocates.at x i) (step s x i) e (never.at x i) refusal)
+  next_is_due p answer q (cannot_read x e) = refl
+  next_is_due p answer q (last_row x) = refl
+  next_is_due p answer q (no_row x left) = (refl, refl)
 
 -- an answer that is found among those that come next is that of the answers still to come
 pub finds_is : {T P : Type 0} (Next : P → Result (Option (Row T)) Error → P → Type 0) (still : P → List (Result (Row T) Error)) (address : ℕ)

@@ -11,6 +11,7 @@ pub mod Program
 pub mod Rows
 pub mod MappedStates
 pub mod TableStates
+pub mod RowExpressions
 pub mod MachineRuns
 pub mod Kept
 pub mod Limit
