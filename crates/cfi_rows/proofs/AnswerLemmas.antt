@@ -1,5 +1,5 @@
 -- The answer to a request is the row that the section gives.
-use Rattle.std.proofs.Common.{◌∙◌, ◌≡◌, ℕ, List, Option, Some, None, Result, Ok, Err, refl, sym, ap, subst}
+use Rattle.std.proofs.Common.{◌∙◌, ◌≡◌, ℕ, List, Option, Some, None, Result, Ok, Err, refl, inl, sym, ap, subst}
 use Rattle.std.specs.Option.{IsSome}
 use Rattle.std.specs.Prelude.{ok_or}
 use Rattle.cfi_read_core.specs.declared.error.Error.{Error}
@@ -66,7 +66,7 @@ answered_by_header r base bytes shown headed room section header answer given wh
 
 pub refused_by_header : (room : Room) (section : Section) (a : ℕ) (header : HeaderSection) (e : Error) → Err e ≡ header_of header → IsRowByHeader room section a header (Err e)
 refused_by_header room section a header e is =
-    (Err e, subst (λ read. FoundByHeader section a header read (Err e)) is refl, record { kept = refl; run = refl; fixed = λ _. refl })
+    (Err e, subst (λ read. FoundByHeader section a header read (Err e)) is refl, record { kept = refl; run = refl; due = inl refl; fixed = λ _. refl })
 
 pub found_by_header : (room : Room) (section : Section) (a : ℕ) (header : HeaderSection) (h : Header) (t : Option Table) (found : Result Fde Error) (answer : Result (Row ℕ) Error) → Ok h ≡ header_of header
     → h.table ≡ t → FoundByRows section a header h.eh_frame t found → IsRowOfFound room.rule_limit room.stack_limit room.copies_free section a found answer → IsRowByHeader room section a header answer
@@ -86,7 +86,7 @@ pub refused_by_table : (room : Room) (section : Section) (a : ℕ) (header : Hea
 refused_by_table room section a header h t e is rows refused =
     found_by_header room section a header h (Some t) (Err e) (Err e) is (sym rows)
     (unsearchable (value_size t.encoding) (start_of header t) t a (fde_by_row header t h.eh_frame section a) e refused)
-    (record { kept = refl; run = refl; fixed = λ _. refl })
+    (record { kept = refl; run = refl; due = inl refl; fixed = λ _. refl })
 
 pub answered_by_table : (room : Room) (section : Section) (a : ℕ) (header source : HeaderSection) (h : Header) (t : Table) (start : ℕ → Result ℕ Error) (eh_frame : Pointer) (answer : Result (Row ℕ) Error)
     → Ok h ≡ header_of header → Some t ≡ h.table → start ≡ start_of source t → source ≡ header → eh_frame ≡ h.eh_frame

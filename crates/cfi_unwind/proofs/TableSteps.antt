@@ -28,7 +28,10 @@ use Rattle.cfi_state.proofs.RunSteps.{LeadsTo, leads-on, next-row, LeadsToCie, c
 use Rattle.cfi_state.proofs.KeptAnswers.{keeps_next, keeps_cie, answers_by_kept, answers_by_kept_is}
 use Rattle.cfi_state.proofs.IsStateAfter.{stands_fresh}
 use Rattle.cfi_state.proofs.FixedStorage.{fixed_never}
-use Rattle.cfi_unwind.specs.UnwindTables.{GivesNextAnswer, AnswersWithoutMachine, KeepsCieProgram, state_in_numbers, row_due, state_after, LendsNextRow}
+use Rattle.cfi_state.proofs.RunAnswers.{next_or_memory, next_is_due}
+use Rattle.cfi_state.proofs.RowExpressions.{next_holds}
+use Rattle.cfi_parts.specs.ExpressionPlaces.{LiesIn}
+use Rattle.cfi_unwind.specs.UnwindTables.{GivesNextAnswer, AnswersWithoutMachine, IsNextOrMemory, KeepsExpressionsIn, KeepsCieProgram, state_in_numbers, row_due, state_after, LendsNextRow}
 
 -- what an instruction leaves as it was
 module _ {T : Type 0} (s : Setting) (free : Bool) (location : ℕ) (i : CallFrameInstruction T) (old new : ContextState T) (answer : Result (Option ℕ) Error) (evaluated : Evaluates s free location i old new answer) where
@@ -204,6 +207,16 @@ fewer-answers allocates s p row answer q is (no_row x left) = absurd (let wrong 
 
 pub keeps-on : (s : Setting) (free : Bool) (p : TableState (State ℕ) ℕ) (answer : Result (Option (Row ℕ)) Error) (q : TableState (State ℕ) ℕ) → GivesNextAnswer s free p answer q → AnswersWithoutMachine s free p answer q
 keeps-on s free p answer q next = record { from = keeps_next (may_allocate s free) s p answer q next }
+
+pub comes-due : (s : Setting) (free : Bool) (p : TableState (State ℕ) ℕ) (answer : Result (Option (Row ℕ)) Error) (q : TableState (State ℕ) ℕ) → GivesNextAnswer s free p answer q → IsNextOrMemory s free p answer q
+comes-due s free p answer q next = record {
+  due = next_or_memory (may_allocate s free) s p answer q next;
+  fixed = λ is_fixed. next_is_due (may_allocate s free) s (fixed_never s free is_fixed.0 is_fixed.1 is_fixed.2) p answer q next;
+}
+
+pub keeps-expressions : (s : Setting) (free : Bool) (p : TableState (State ℕ) ℕ) (answer : Result (Option (Row ℕ)) Error) (q : TableState (State ℕ) ℕ) → GivesNextAnswer s free p answer q → KeepsExpressionsIn p answer q
+keeps-expressions s free p answer q next section each =
+    let held = next_holds (LiesIn section) (may_allocate s free) s p answer q next each in (held.1, held.0)
 
 pub keeps-program : (s : Setting) (free : Bool) (cie : Readings Instruction) (expected : Result (State ℕ) Error) → RunsInitialInstructions (may_allocate s free) s fresh_state cie expected → KeepsCieProgram s free cie expected
 keeps-program s free cie (Ok x) runs = keeps_cie (may_allocate s free) s fresh_state cie (Ok x) runs [] (stands_fresh s)

@@ -3,10 +3,12 @@
 --     row_of_fde .. fde      the answer of one FDE: the refusal of its CIE's initial instructions, else its first refusal or row with the address
 --     row_by_scan .. section a      that of the first FDE that covers the address, or the first refusal before it
 --     IsRowOfFde      the same of one FDE where it may run out of memory; RunsToRowOfFde by the machine
---     IsRowOfFound      both, and the equation over a fixed storage, of an FDE or refusal that was found
+--     IsRowOfFound      both, of an FDE or refusal that was found; that it is the function's answer or `OutOfMemory`; and over a
+--         fixed storage the function's answer
 --     IsRowByScan      that, of what going through the section finds
-use Rattle.std.specs.Prelude.{◌≡◌, ℕ, Bool, Option, Result, Ok, Err}
+use Rattle.std.specs.Prelude.{◌≡◌, ◌⊎◌, ℕ, Bool, Option, Result, Ok, Err}
 use Rattle.cfi_read_core.specs.declared.error.Error.{Error}
+use Rattle.cfi_read_core.specs.declared.error.Error.TheVariants.{OutOfMemory}
 use Rattle.cfi_state.specs.MachineSettings.{Setting}
 use Rattle.cfi_state.specs.Row.{Row}
 use Rattle.cfi_state.specs.Rows.{fde_answer}
@@ -51,6 +53,10 @@ RunsToRowOfFde rule_limit stack_limit copies_free section a fde row =
     let s = setting rule_limit stack_limit fde in
     AnswersFde (may_allocate s copies_free) s (cie_instructions section fde.cie) (fde_instructions section fde) a row
 
+-- what is due, or memory was refused
+abbrev pub IsDueOrOutOfMemory : Result (Row ℕ) Error → Result (Row ℕ) Error → Type 0
+IsDueOrOutOfMemory due row = (row ≡ due) ⊎ (row ≡ Err OutOfMemory)
+
 -- the answer of the FDE that was found, or the refusal in its place
 abbrev pub IsOfFound : {A : Type 0} → (Fde → Result A Error → Type 0) → Result Fde Error → Result A Error → Type 0
 IsOfFound of_fde (Ok fde) answer = of_fde fde answer
@@ -60,6 +66,7 @@ IsOfFound of_fde (Err e) answer = answer ≡ Err e
 pub record IsRowOfFound (rule_limit stack_limit : Option ℕ) (copies_free : Bool) (section : Section) (a : ℕ) (found : Result Fde Error) (row : Result (Row ℕ) Error) : Type 0 where
   pub kept : IsOfFound (IsRowOfFde rule_limit stack_limit copies_free section a) found row
   pub run : IsOfFound (RunsToRowOfFde rule_limit stack_limit copies_free section a) found row
+  pub due : IsDueOrOutOfMemory (answer_by (row_of_fde rule_limit stack_limit section a) found) row
   pub fixed : IsFixed rule_limit stack_limit copies_free → row ≡ answer_by (row_of_fde rule_limit stack_limit section a) found
 
 -- that of the FDE that is chosen by going through the section, each with the CIE to which it points

@@ -3,7 +3,7 @@ use Rattle.std.specs.Prelude.{ℕ, ◌+◌, ◌-◌, Option, Result, Err, nat_le
 use Rattle.cfi_read_core.specs.declared.common.Vendor.{Vendor}
 use Rattle.cfi_read_core.specs.declared.error.Error.{Error}
 use Rattle.cfi_read_core.specs.declared.error.Error.TheVariants.{UnsupportedOffset}
-use Rattle.cfi_read_core.specs.Reading.{Source, Read, unexpected_eof}
+use Rattle.cfi_read_core.specs.Reading.{Source, Position, Read, unexpected_eof}
 use Rattle.cfi_parts.specs.declared.pointer.BaseAddresses.{BaseAddresses}
 use Rattle.cfi_parts.specs.declared.pointer.SectionBaseAddresses.{SectionBaseAddresses}
 use Rattle.cfi_parts.specs.Pointers.{PointerContext}
@@ -22,6 +22,10 @@ pub record Section : Type 0 where
 -- where a place lies in the section
 abbrev pub offset_in : Section → ℕ → ℕ
 offset_in section place = place - section.first
+
+-- the section's bytes, from the place where it begins
+abbrev pub position_of : Section → Position
+position_of section = record { source = section.source; place = section.first }
 
 -- the section's properties, with the bases of the pointers in its entries
 abbrev pub section_of : SectionView → BaseAddresses → Section

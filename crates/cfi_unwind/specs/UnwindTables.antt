@@ -4,25 +4,31 @@
 --     GivesNextAnswer s copies_free p answer q      over a storage, a table in the state p answers next, and then is in the state q
 --     AnswersWithoutMachine, KeepsCieProgram      the same without a machine, and of the program of a CIE
 --     StartsRows      what making the table of an FDE answers
+--     IsNextOrMemory, KeepsExpressionsIn      what its answer is of those to come, and where the expressions in it lie
 --     LendsNextRow      what a call of `next_row` yields
-use Rattle.std.specs.Prelude.{◌≡◌, ℕ, Bool, true, false, List, [], Option, Some, None, is_some, IfSome, Result, Ok, Err, IfOk, MatchResult}
+use Rattle.std.specs.Prelude.{◌≡◌, ◌≤◌, ◌<◌, ◌⊎◌, ℕ, Bool, true, false, List, [], Option, Some, None, is_some, IfSome, Result, Ok, Err, IfOk, MatchResult}
 use Rattle.std.specs.Option.{option_map}
+use Rattle.std.specs.List.{count_by}
 use Rattle.std.specs.Borrow.{Bor}
-use Rattle.cfi_read_core.specs.Reading.{Readings}
+use Rattle.cfi_read_core.specs.Reading.{Position, Readings}
 use Rattle.cfi_read_core.specs.Readers.{map_ok}
 use Rattle.cfi_read_core.specs.declared.error.Error.{Error}
+use Rattle.cfi_read_core.specs.declared.error.Error.TheVariants.{OutOfMemory}
+use Rattle.cfi_parts.specs.ExpressionPlaces.{LiesIn}
 use Rattle.cfi_parts.specs.Instructions.{Instruction}
 use Rattle.cfi_state.specs.Row.{Row}
 use Rattle.cfi_state.specs.MachineSettings.{Setting}
 use Rattle.cfi_state.specs.Machine.{State, fresh_state}
 use Rattle.cfi_state.specs.Context.{ContextState, machine_state}
 use Rattle.cfi_state.specs.MappedStates.{map_state, map_row, lent_row}
-use Rattle.cfi_state.specs.TableStates.{TableState, before_last_row, after_last_row}
+use Rattle.cfi_state.specs.Limit.{IsFixed}
+use Rattle.cfi_state.specs.TableStates.{TableState, before_last_row, after_last_row, run_answers_to_come, rows_to_come, IsNext}
+use Rattle.cfi_state.specs.RowExpressions.{EachExpression, EachOfTable}
 use Rattle.cfi_state.specs.Program.{in_fde}
-use Rattle.cfi_state.specs.Rows.{IsStateAfter}
+use Rattle.cfi_state.specs.Rows.{IsStateAfter, AreConsecutive, row_contains}
 use Rattle.cfi_state.specs.MachineRuns.{current_row, NextAnswer, RunsInitialInstructions, may_allocate}
 use Rattle.cfi_state.specs.Kept.{AnswersForProgram, KeepsInitialInstructions}
-use Rattle.cfi_unwind.specs.Sections.{Section}
+use Rattle.cfi_unwind.specs.Sections.{Section, position_of}
 use Rattle.cfi_unwind.specs.Fdes.{Fde}
 use Rattle.cfi_unwind.specs.EntryInstructions.{cie_instructions, fde_instructions}
 
@@ -51,6 +57,17 @@ module _ {T : Type 0} (number : T → ℕ) where
   row_given context (Ok false) = Ok None
   row_given context (Err e) = Err e
 
+-- The answer is the first of those that were to come, or memory was refused, and an instruction is left out. Over a fixed storage
+-- it is the first.
+pub record IsNextOrMemory (s : Setting) (copies_free : Bool) (p : TableState (State ℕ) ℕ) (answer : Result (Option (Row ℕ)) Error) (q : TableState (State ℕ) ℕ) : Type 0 where
+  pub due : IsNext (run_answers_to_come s p) answer (run_answers_to_come s q) ⊎ (answer ≡ Err OutOfMemory)
+  pub fixed : IsFixed s.rule_limit s.stack_limit copies_free → IsNext (run_answers_to_come s p) answer (run_answers_to_come s q)
+
+-- Where the expressions that a table has lie in a section, those of the row that it answers do, and of what it then has.
+abbrev pub KeepsExpressionsIn : TableState (State ℕ) ℕ → Result (Option (Row ℕ)) Error → TableState (State ℕ) ℕ → Type 0
+KeepsExpressionsIn p answer q =
+    (section : Position) → EachOfTable (LiesIn section) p → EachOfTable (LiesIn section) q × IfOk answer (λ found. IfSome found (λ row. EachExpression (LiesIn section) row.parts))
+
 -- ---- without a machine
 
 -- From each program after which the table stands, the answer is the next one that the definition without a machine gives, and the table
@@ -72,6 +89,11 @@ pub record StartsRows {X : Type 0} (place : X → TableState (State ℕ) ℕ) (s
   pub kept : KeepsCieProgram s copies_free (cie_instructions section fde.cie) (map_ok (λ x. (place x).so_far) made)
   pub left : IfOk made (λ x. (place x).left ≡ fde_instructions section fde)
   pub has_not_ended : IfOk made (λ x. (place x).has_ended ≡ false)
+  -- the rows follow each other from the FDE's first address to its end, and each address of it lies in exactly one
+  pub consecutive : IfOk made (λ x. AreConsecutive s.initial_address (rows_to_come s (place x)) s.end_address)
+  pub each_once : IfOk made (λ x. (address : ℕ) → s.initial_address ≤ address → address < s.end_address → count_by (row_contains address) (rows_to_come s (place x)) ≡ 1)
+  -- the expressions of the two programs, and so of the rows, lie in the section
+  pub expressions : IfOk made (λ x. EachOfTable (LiesIn (position_of section)) (place x))
 
 -- ---- rows that are lent
 
@@ -80,5 +102,7 @@ pub record LendsNextRow {T : Type 0} (number : T → ℕ) (s : Setting) (copies_
     (new : TableState (State ℕ) ℕ) (context : ContextState T) (holds_row : Bool) : Type 0 where
   pub next : GivesNextAnswer s copies_free old (map_ok (option_map (lent_row number)) result) new
   pub kept : AnswersWithoutMachine s copies_free old (map_ok (option_map (lent_row number)) result) new
+  pub due : IsNextOrMemory s copies_free old (map_ok (option_map (lent_row number)) result) new
+  pub expressions : KeepsExpressionsIn old (map_ok (option_map (lent_row number)) result) new
   pub row : IfOk result (λ found. IfSome found (λ row. row.now ≡ context.row))
   pub held : MatchResult result (λ found. holds_row ≡ is_some found) (λ _. holds_row ≡ false)

@@ -5,6 +5,7 @@ ghost use Rattle.cfi_read_core.specs.declared.error.Error.{Error};
 ghost use Rattle.cfi_parts.specs.CallFrameSections.{IsOf};
 ghost use Rattle.cfi_unwind.specs.Sections.{section_of};
 ghost use Rattle.cfi_state.specs.MappedStates.{row_lent};
+ghost use Rattle.cfi_state.specs.RowExpressions.{HasExpressionsIn};
 ghost use Rattle.cfi_unwind.specs.declared.entry.cie.CieFields.{CieFields};
 ghost use Rattle.cfi_unwind.specs.AddressRow.{IsRowOfFound};
 ghost use Rattle.cfi_unwind.specs.Fdes.{Covers, Fde};
@@ -165,6 +166,7 @@ pub trait UnwindSection<R: Reader>: Copy + Debug + _UnwindSectionPrivate<R> {
             get_cie found last
             × IsRowOfFound S.Rules.limit S.Stack.limit S.Rules.copies_free (section_of (Self.view self.now) bases.now) address
             found (row_lent R.Offset.number result) }
+        ensures expressions { IfOk result (λ row. HasExpressionsIn R.Offset.number (Self.view self.now).position row.now.parts) }
     {
         unwind_info_for_address_by_ref(self, bases, ctx, address, &mut get_cie)
     }

@@ -19,7 +19,7 @@ ghost use Rattle.cfi_read_core.specs.Readers.{map_ok};
 ghost use Rattle.cfi_unwind.specs.AddressRow.{setting};
 ghost use Rattle.cfi_unwind.specs.Sections.{section_of};
 ghost use Rattle.cfi_unwind.specs.EntryFieldViews.{fde_view};
-ghost use Rattle.cfi_unwind.specs.UnwindTables.{GivesNextAnswer, AnswersWithoutMachine, KeepsCieProgram, StartsRows, state_in_numbers, row_due, row_given, state_after, LendsNextRow};
+ghost use Rattle.cfi_unwind.specs.UnwindTables.{GivesNextAnswer, AnswersWithoutMachine, IsNextOrMemory, KeepsExpressionsIn, KeepsCieProgram, StartsRows, state_in_numbers, row_due, row_given, state_after, LendsNextRow};
 
 use crate::entry::FrameDescriptionEntry;
 use crate::section::UnwindSection;
@@ -58,6 +58,8 @@ impl<'a, 'ctx, R: Reader, S: UnwindContextStorage<R::Offset>> UnwindTable<'a, 'c
     ///
     /// The context is emptied, so nothing of its past counts; then the CIE's initial instructions runs, whose final rules are kept for
     /// `DW_CFA_restore`, and the table stands before the FDE's first row. Of the FDE's instructions none is read yet.
+    ///
+    /// The rows follow each other from the FDE's first address to its end, so that each address of it lies in exactly one.
     ///
     /// The FDE and its CIE are of the section; the bases are those of the section's entries. A refusal is the first of the
     /// CIE's initial instructions: an instruction that can't be read, one that is refused, or `StackFull` where its final rules find no
@@ -120,6 +122,14 @@ impl<'a, 'ctx, R: Reader, S: UnwindContextStorage<R::Offset>> UnwindTable<'a, 'c
             (row_given R.Offset.number self.new.context.now result)
             (table_state R.position R.Offset.number self.new) }
         ensures kept { AnswersWithoutMachine (setting_of self.old.parameters S.Rules.limit S.Stack.limit) S.Rules.copies_free
+            (table_state R.position R.Offset.number self.old)
+            (row_given R.Offset.number self.new.context.now result)
+            (table_state R.position R.Offset.number self.new) }
+        ensures due { IsNextOrMemory (setting_of self.old.parameters S.Rules.limit S.Stack.limit) S.Rules.copies_free
+            (table_state R.position R.Offset.number self.old)
+            (row_given R.Offset.number self.new.context.now result)
+            (table_state R.position R.Offset.number self.new) }
+        ensures expressions { KeepsExpressionsIn
             (table_state R.position R.Offset.number self.old)
             (row_given R.Offset.number self.new.context.now result)
             (table_state R.position R.Offset.number self.new) }

@@ -4,8 +4,9 @@ ghost use Rattle.cfi_parts.specs.CallFrameSections.{IsOf};
 ghost use Rattle.cfi_state.specs.ContextEffects.{setting_of};
 ghost use Rattle.cfi_state.specs.Limit.{IsFixed};
 ghost use Rattle.cfi_state.specs.MappedStates.{row_lent};
+ghost use Rattle.cfi_state.specs.RowExpressions.{HasExpressionsIn};
 ghost use Rattle.cfi_unwind.specs.Sections.{section_of};
-ghost use Rattle.cfi_unwind.specs.AddressRow.{IsRowOfFde, RunsToRowOfFde, row_of_fde, setting};
+ghost use Rattle.cfi_unwind.specs.AddressRow.{IsDueOrOutOfMemory, IsRowOfFde, RunsToRowOfFde, row_of_fde, setting};
 ghost use Rattle.cfi_unwind.specs.EntryFieldViews.{fde_view};
 ghost use Rattle.cfi_unwind.specs.UnwindTables.{StartsRows};
 ghost use Rattle.cfi_unwind.specs.TableViews.{table_state};
@@ -34,7 +35,8 @@ impl<R: Reader> FrameDescriptionEntry<R> {
         }
     }
 
-    /// The FDE's rows, in order, made in the context, which is emptied first: `UnwindTable::new`.
+    /// The FDE's rows, in order, made in the context, which is emptied first: `UnwindTable::new`. They follow each other
+    /// from the FDE's first address to its end, so that each address of it lies in exactly one.
     ///
     /// The FDE and its CIE are of the section; the bases are those of the section's entries. Refused with the first
     /// refusal of the CIE's initial instructions. Of the FDE's instructions none is read yet. Over a fixed storage it takes no memory;
@@ -64,6 +66,7 @@ impl<R: Reader> FrameDescriptionEntry<R> {
     /// refusal of the CIE's initial instructions; else with the first refusal of the FDE's program before the row; else, where no row
     /// contains the address, with `NoUnwindInfoForAddress`, also for an address outside the FDE. Nothing after the
     /// row is checked. Over a fixed storage it takes no memory; over another one it may be refused with `OutOfMemory`.
+    /// The expressions of the row's rules lie in the section, where `UnwindExpression::get` is not refused.
     pub fn unwind_info_for_address<
         'ctx,
         Section: UnwindSection<R>,
@@ -81,6 +84,9 @@ impl<R: Reader> FrameDescriptionEntry<R> {
             (fde_view R.position R.Offset.number self.now) (row_lent R.Offset.number result) }
         ensures run { RunsToRowOfFde S.Rules.limit S.Stack.limit S.Rules.copies_free (section_of (Section.view section.now) bases.now) address
             (fde_view R.position R.Offset.number self.now) (row_lent R.Offset.number result) }
+        ensures due { IsDueOrOutOfMemory (row_of_fde S.Rules.limit S.Stack.limit (section_of (Section.view section.now) bases.now) address
+            (fde_view R.position R.Offset.number self.now)) (row_lent R.Offset.number result) }
+        ensures expressions { IfOk result (λ row. HasExpressionsIn R.Offset.number (Section.view section.now).position row.now.parts) }
         ensures fixed { IsFixed S.Rules.limit S.Stack.limit S.Rules.copies_free →
             row_lent R.Offset.number result
             ≡ row_of_fde S.Rules.limit S.Stack.limit (section_of (Section.view section.now) bases.now) address (fde_view R.position R.Offset.number self.now) }

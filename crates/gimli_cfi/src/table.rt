@@ -1,5 +1,7 @@
 //! Unwind contexts, rows and tables, and the row of an address.
+ghost use Rattle.std.specs.Prelude.{IfOk};
 ghost use Rattle.cfi_state.specs.MappedStates.{row_lent};
+ghost use Rattle.cfi_state.specs.RowExpressions.{HasExpressionsIn};
 ghost use Rattle.cfi_unwind.specs.Sections.{section_of};
 ghost use Rattle.cfi_unwind.specs.AddressRow.{IsRowByScan};
 
@@ -21,7 +23,8 @@ pub use cfi_unwind::table::UnwindTable;
 /// program before the row; `NoUnwindInfoForAddress` where no FDE contains the address. Nothing after the row is checked.
 ///
 /// The bases are those of the pointers in the section's entries. Over a fixed storage it takes no memory; over another
-/// one an instruction that needs more room may be refused with `OutOfMemory`.
+/// one an instruction that needs more room may be refused with `OutOfMemory`. The expressions of the row's rules lie in
+/// the section, where `UnwindExpression::get` is not refused.
 ///
 /// # Example
 ///
@@ -43,6 +46,7 @@ pub fn row_by_scan<'ctx, R: Reader, Section: UnwindSection<R>, S: UnwindContextS
 ) -> Result<&'ctx UnwindTableRow<R::Offset, S::Rules>>
     ensures row { IsRowByScan S.Rules.limit S.Stack.limit S.Rules.copies_free
         (section_of (Section.view section.now) bases.now) address (row_lent R.Offset.number result) }
+    ensures expressions { IfOk result (λ row. HasExpressionsIn R.Offset.number (Section.view section.now).position row.now.parts) }
 {
     let fde = scan_for_fde(section, bases, address)?;
     fde.unwind_info_for_address(section, bases, ctx, address)

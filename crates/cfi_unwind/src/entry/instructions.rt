@@ -1,6 +1,7 @@
 //! The instructions of entries (DWARF 5 section 6.4.2).
 ghost use Rattle.std.specs.Prelude.{◌≡◌};
 ghost use Rattle.cfi_parts.specs.CallFrameSections.{IsOf};
+ghost use Rattle.cfi_parts.specs.ExpressionPlaces.{ReadsIn};
 ghost use Rattle.cfi_parts.specs.Iterators.{instruction_reader};
 ghost use Rattle.cfi_parts.specs.InstructionReaders.{instructions_left};
 ghost use Rattle.cfi_unwind.specs.Sections.{section_of};
@@ -17,15 +18,16 @@ use cfi_read_core::Reader;
 impl<R: Reader> CommonInformationEntry<R> {
     /// The instructions with which the program of each of the CIE's FDEs begins. None is read yet.
     ///
-    /// The entry is of the section; the bases are those of the section's entries.
+    /// The entry is of the section; the bases are those of the section's entries. Expressions lie in the section.
     pub fn instructions<'a, Section: _UnwindSectionPrivate<R>>(
         &self,
         section: &'a Section,
         bases: &'a BaseAddresses,
     ) -> CallFrameInstructionIter<'a, R>
         requires { IsOf (R.position self.now.initial_instructions) (Section.view section.now).position }
-        ensures { instructions_left (instruction_reader R.position result)
+        ensures left { instructions_left (instruction_reader R.position result)
             ≡ cie_instructions (section_of (Section.view section.now) bases.now) (cie_view R.position R.Offset.number self.now) }
+        ensures within { ReadsIn (Section.view section.now).position (instruction_reader R.position result) }
     {
         let pointers = PointerEncodingParameters {
             bases: &bases.eh_frame,
@@ -40,15 +42,16 @@ impl<R: Reader> CommonInformationEntry<R> {
 impl<R: Reader> FrameDescriptionEntry<R> {
     /// The FDE's own instructions, which follow those of its CIE. None is read yet.
     ///
-    /// The entry is of the section; the bases are those of the section's entries.
+    /// The entry is of the section; the bases are those of the section's entries. Expressions lie in the section.
     pub fn instructions<'a, Section: _UnwindSectionPrivate<R>>(
         &self,
         section: &'a Section,
         bases: &'a BaseAddresses,
     ) -> CallFrameInstructionIter<'a, R>
         requires { IsOf (R.position self.now.instructions) (Section.view section.now).position }
-        ensures { instructions_left (instruction_reader R.position result)
+        ensures left { instructions_left (instruction_reader R.position result)
             ≡ fde_instructions (section_of (Section.view section.now) bases.now) (fde_view R.position R.Offset.number self.now) }
+        ensures within { ReadsIn (Section.view section.now).position (instruction_reader R.position result) }
     {
         let pointers = PointerEncodingParameters {
             bases: &bases.eh_frame,

@@ -5,6 +5,7 @@ ghost use Rattle.cfi_read_core.specs.Readers.{map_ok};
 ghost use Rattle.cfi_read_core.specs.declared.error.Error.{Error};
 ghost use Rattle.cfi_parts.specs.CallFrameSections.{IsOf};
 ghost use Rattle.cfi_state.specs.MappedStates.{row_lent};
+ghost use Rattle.cfi_state.specs.RowExpressions.{HasExpressionsIn};
 ghost use Rattle.cfi_unwind.specs.Sections.{section_of};
 ghost use Rattle.cfi_unwind.specs.declared.entry.cie.CieFields.{CieFields};
 ghost use Rattle.cfi_unwind.specs.AddressRow.{IsRowOfFound};
@@ -92,6 +93,7 @@ where
         get_cie.old found get_cie.new
         × IsRowOfFound S.Rules.limit S.Stack.limit S.Rules.copies_free (section_of (Section.view section.now) bases.now) address
         found (row_lent R.Offset.number result) }
+    ensures expressions { IfOk result (λ row. HasExpressionsIn R.Offset.number (Section.view section.now).position row.now.parts) }
 {
     let fde = fde_for_address_by_ref(section, bases, address, get_cie)?;
     fde.unwind_info_for_address(section, bases, ctx, address)

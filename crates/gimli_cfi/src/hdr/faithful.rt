@@ -1,6 +1,7 @@
 //! A table that was checked against its section.
 ghost use Rattle.std.specs.Prelude.{◌≡◌, ⊤, IfOk, IfErr};
 ghost use Rattle.cfi_state.specs.MappedStates.{row_lent};
+ghost use Rattle.cfi_state.specs.RowExpressions.{HasExpressionsIn};
 ghost use Rattle.cfi_unwind.specs.AddressRow.{IsRowByScan};
 ghost use Rattle.gimli_cfi.specs.FaithfulTables.{IsReason, ListsFaithfully};
 ghost use Rattle.gimli_cfi.specs.HeaderViews.{section_view, listing_view};
@@ -81,8 +82,9 @@ impl<'a, R: Reader> FaithfulTable<'a, R> {
         ctx: &'ctx mut UnwindContext<R::Offset, S>,
         address: u64,
     ) -> Result<&'ctx UnwindTableRow<R::Offset, S::Rules>, Error>
-        ensures { IsRowByScan S.Rules.limit S.Stack.limit S.Rules.copies_free (section_view R.position self.now.frame.now self.now.bases.now) address
+        ensures row { IsRowByScan S.Rules.limit S.Stack.limit S.Rules.copies_free (section_view R.position self.now.frame.now self.now.bases.now) address
             (row_lent R.Offset.number result) }
+        ensures expressions { IfOk result (λ row. HasExpressionsIn R.Offset.number (R.position self.now.frame.now.section) row.now.parts) }
     {
         let mut starts = TableStarts::new(&self.table, self.bases)?;
         row_by_table(

@@ -5,6 +5,7 @@ ghost use Rattle.cfi_read_core.specs.Readers.{map_ok};
 ghost use Rattle.cfi_parts.specs.declared.pointer.Pointer.TheVariants.{Direct};
 ghost use Rattle.cfi_parts.specs.CallFrameSections.{IsOf};
 ghost use Rattle.cfi_state.specs.MappedStates.{row_lent};
+ghost use Rattle.cfi_state.specs.RowExpressions.{HasExpressionsIn};
 ghost use Rattle.cfi_unwind.specs.declared.entry.cie.CieFields.{CieFields};
 ghost use Rattle.cfi_unwind.specs.GetCieCalls.{GetCieCall, IsAnswered};
 ghost use Rattle.cfi_unwind.specs.Fdes.{Covers, Fde};
@@ -62,6 +63,7 @@ pub fn row_by_table<'ctx, R: Reader, St: StartSource, S: UnwindContextStorage<R:
         (section_view R.position frame.now bases.now) address found
         × IsRowOfFound S.Rules.limit S.Stack.limit S.Rules.copies_free (section_view R.position frame.now bases.now) address
         found (row_lent R.Offset.number result) }
+    ensures expressions { IfOk result (λ row. HasExpressionsIn R.Offset.number (R.position frame.now.section) row.now.parts) }
     ensures faithful { (eh_frame : ℕ) → table.now.hdr.now.eh_frame_ptr ≡ Direct eh_frame →
         IsFaithful (header_section_view R.position table.now.hdr.now bases.now) (table_view R.position table.now) eh_frame (section_view R.position frame.now bases.now) →
         ((k : ℕ) → k < (table_view R.position table.now).count →
@@ -196,6 +198,7 @@ where
         get_cie.old found get_cie.new
         × IsRowOfFound S.Rules.limit S.Stack.limit S.Rules.copies_free (section_view R.position frame.now bases.now) address
         found (row_lent R.Offset.number result) }
+    ensures expressions { IfOk result (λ row. HasExpressionsIn R.Offset.number (R.position frame.now.section) row.now.parts) }
 {
     let fde = fde_for_address_by_ref(table, frame, bases, address, get_cie)?;
     fde.unwind_info_for_address(frame, bases, ctx, address)
@@ -263,6 +266,7 @@ impl<R: Reader> EhHdrTable<'_, R> {
             get_cie found last
             × IsRowOfFound S.Rules.limit S.Stack.limit S.Rules.copies_free (section_view R.position frame.now bases.now) address
             found (row_lent R.Offset.number result) }
+        ensures expressions { IfOk result (λ row. HasExpressionsIn R.Offset.number (R.position frame.now.section) row.now.parts) }
     {
         unwind_info_for_address_by_ref(self, frame, bases, ctx, address, &mut get_cie)
     }

@@ -1,6 +1,6 @@
 use Rattle.std.proofs.Common.{ap, ◌∙◌, Ok}
 use Rattle.std.proofs.lemmas.Result.{err_from_is_err_and}
-use Rattle.cfi_unwind.proofs.TableSteps.{table-ended, table-refuses, table-row, table-last, keeps-on}
+use Rattle.cfi_unwind.proofs.TableSteps.{table-ended, table-refuses, table-row, table-last, comes-due, keeps-expressions, keeps-on}
 use Rattle.cfi_unwind.proofs.table.UnwindTable.advance.Goals as goal
 
 pub returns-then-self-clause-next : goal.returns-then-self-clause-next
@@ -33,3 +33,27 @@ returns-in-Some-clause-kept g c = keeps-on _ _ _ _ _ (returns-in-Some-clause-nex
 
 pub returns-in-None-clause-kept : goal.returns-in-None-clause-kept
 returns-in-None-clause-kept g c = keeps-on _ _ _ _ _ (returns-in-None-clause-next g c)
+
+pub returns-then-self-clause-due : goal.returns-then-self-clause-due
+returns-then-self-clause-due g c = comes-due _ _ _ _ _ (returns-then-self-clause-next g c)
+
+pub returns-in_err-moved-clause-due : goal.returns-in_err-moved-clause-due
+returns-in_err-moved-clause-due g c = comes-due _ _ _ _ _ (returns-in_err-moved-clause-next g c)
+
+pub returns-in-Some-clause-due : goal.returns-in-Some-clause-due
+returns-in-Some-clause-due g c = comes-due _ _ _ _ _ (returns-in-Some-clause-next g c)
+
+pub returns-in-None-clause-due : goal.returns-in-None-clause-due
+returns-in-None-clause-due g c = comes-due _ _ _ _ _ (returns-in-None-clause-next g c)
+
+pub returns-then-self-clause-expressions : goal.returns-then-self-clause-expressions
+returns-then-self-clause-expressions g c = keeps-expressions _ _ _ _ _ (returns-then-self-clause-next g c)
+
+pub returns-in_err-moved-clause-expressions : goal.returns-in_err-moved-clause-expressions
+returns-in_err-moved-clause-expressions g c = keeps-expressions _ _ _ _ _ (returns-in_err-moved-clause-next g c)
+
+pub returns-in-Some-clause-expressions : goal.returns-in-Some-clause-expressions
+returns-in-Some-clause-expressions g c = keeps-expressions _ _ _ _ _ (returns-in-Some-clause-next g c)
+
+pub returns-in-None-clause-expressions : goal.returns-in-None-clause-expressions
+returns-in-None-clause-expressions g c = keeps-expressions _ _ _ _ _ (returns-in-None-clause-next g c)

@@ -9,10 +9,11 @@ use Rattle.cfi_unwind.proofs.table.UnwindTable.new.Goals as goal
 
 pub returns-clause-starts : goal.returns-clause-starts
 returns-clause-starts g c =
-    starts_rows (λ table. table_state g.R.Reader.position g.R.Offset.ReaderOffset.number table) c.with_instructions.result _ _ (c.parameters.ensures.setting _ _) _ _ _ _ c.instructions-initial.ensures
+    starts_rows (λ table. table_state g.R.Reader.position g.R.Offset.ReaderOffset.number table) c.with_instructions.result _ _ (c.parameters.ensures.setting _ _) _ _ _ _ c.instructions-initial.ensures.left
     c.with_instructions.ensures.cie c.with_instructions.ensures.kept
-    (if_ok c.with_instructions.result (λ table same. ap (λ i. instructions_left (instruction_reader g.R.Reader.position i)) same ∙ c.instructions-instructions.ensures) c.with_instructions.ensures.fde)
+    (if_ok c.with_instructions.result (λ table same. ap (λ i. instructions_left (instruction_reader g.R.Reader.position i)) same ∙ c.instructions-instructions.ensures.left) c.with_instructions.ensures.fde)
     c.with_instructions.ensures.has_ended
+    c.requires.cie.first c.requires.cie.last c.requires.own.first c.requires.own.last
 
 pub returns-clause-setting : goal.returns-clause-setting
 returns-clause-setting g c =

@@ -4,12 +4,12 @@ use Rattle.gimli_cfi.proofs.Certificates.{never_unsearchable, row_by_scan}
 use Rattle.gimli_cfi.proofs.TableRows.{reaches_all}
 use Rattle.gimli_cfi.proofs.hdr.faithful.FaithfulTable.row.Goals as goal
 
-pub returns-in_err-starts : goal.returns-in_err-starts
-returns-in_err-starts g c =
+pub returns-in_err-starts-clause-row : goal.returns-in_err-starts-clause-row
+returns-in_err-starts-clause-row g c =
     never_unsearchable (listing_view g.R.Reader.position c.args.self.now.table c.args.self.now.frame.now c.args.self.now.bases.now) _ c.args.self.now.faithful (sym c.in_err-starts.ensures.searchable)
 
-pub returns : goal.returns
-returns g c =
+pub returns-clause-row : goal.returns-clause-row
+returns-clause-row g c =
     let l = listing_view g.R.Reader.position c.args.self.now.table c.args.self.now.frame.now c.args.self.now.bases.now in
     let same_section_and_bases = c.in_ok-starts.ensures.same_section_and_bases in
     row_by_scan _ _ _ l c.args.self.now.faithful
