@@ -23,3 +23,4 @@ pub mod ActionEffects
 pub mod ContextEffects
 pub mod Equality
 pub mod EqualityLaws
+pub mod RegisterRuleIters

@@ -2,6 +2,7 @@
 ghost use Rattle.std.specs.Prelude.{◌≡◌, ◌<◌, ◌≤◌, ◌↔◌, false, IsTrue, IfOk, OnOk, IfErr, IsNone};
 ghost use Rattle.std.specs.Cmp.{partial_equiv_from_equiv};
 ghost use Rattle.cfi_read_core.specs.Readers.{map_ok};
+ghost use Rattle.cfi_state.specs.RegisterRuleIters.{rules_left};
 
 use super::rules::{CfaRule, RegisterRule, RegisterRuleIter, RegisterRuleMap};
 use crate::storage::{ArrayLike, CopyList};
@@ -100,9 +101,11 @@ impl<T: ReaderOffset, A: ArrayLike<Item = (Register, RegisterRule<T>)>> UnwindTa
     }
 
     /// The registers that have a rule, each once with its rule. The order is open.
+    //
+    // `RegisterRuleIter` is `Copy`, so that it can have no `Model`: `rules_left` names the list that it yields.
     pub fn registers(&self) -> RegisterRuleIter<'_, T>
-        ensures rules { rules_of result.rules.now ≡ self.now.parts.rules }
-        ensures distinct { IsDistinctRegisters result.rules.now }
+        ensures rules { rules_of (rules_left result) ≡ self.now.parts.rules }
+        ensures distinct { IsDistinctRegisters (rules_left result) }
     {
         self.registers.iter()
     }

@@ -7,6 +7,7 @@ ghost use Rattle.std.specs.Cmp.{partial_equiv_from_equiv};
 ghost use Rattle.std.specs.FinMap.{get};
 ghost use Rattle.cfi_state.specs.Limit.{IsWithinLimit};
 ghost use Rattle.cfi_state.specs.Refusal.{refusal_for};
+ghost use Rattle.cfi_state.specs.RegisterRuleIters.{rules_left};
 ghost use Rattle.cfi_state.specs.Rules.{rules_of, IsDistinctRegisters, IsRising, BelongsAt, AddsRules};
 ghost use Rattle.cfi_state.specs.Equality.{is_within, rule_eq, rules_eq};
 ghost use Rattle.cfi_state.specs.EqualityLaws.{rules_equiv};
@@ -135,8 +136,8 @@ impl<T: ReaderOffset, A: ArrayLike<Item = (Register, RegisterRule<T>)>> Register
     }
 
     pub(crate) fn iter(&self) -> RegisterRuleIter<'_, T>
-        ensures rules { rules_of result.rules.now ≡ self.now }
-        ensures distinct { IsDistinctRegisters result.rules.now }
+        ensures rules { rules_of (rules_left result) ≡ self.now }
+        ensures distinct { IsDistinctRegisters (rules_left result) }
     {
         RegisterRuleIter {
             rules: self.pairs(),
@@ -250,9 +251,9 @@ pub struct RegisterRuleIter<'iter, T: ReaderOffset> {
 impl<'iter, T: ReaderOffset> Iterator for RegisterRuleIter<'iter, T> {
     type Item = &'iter (Register, RegisterRule<T>);
 
-    ghost next_gives = { YieldsFirstRef (λ iterator. iterator.rules.now) };
+    ghost next_gives = { YieldsFirstRef rules_left };
 
-    ghost remaining = { item_count (λ iterator. iterator.rules.now) };
+    ghost remaining = { item_count rules_left };
 
     fn next(&mut self) -> Option<&'iter (Register, RegisterRule<T>)> {
         let (first, others) = self.rules.split_first()?;
