@@ -1,5 +1,7 @@
 //! What can be copied, shown and compared.
-use cfi_read_core::{EndianSlice, LittleEndian, StoreOnHeap};
+use cfi_read_core::{
+    BigEndian, EndianSlice, Endianity, LittleEndian, Register, RunTimeEndian, StoreOnHeap,
+};
 use gimli_cfi::entry::{
     Augmentation, CfiEntriesIter, CieOrFde, CommonInformationEntry, FrameDescriptionEntry,
     PartialFrameDescriptionEntry,
@@ -53,4 +55,19 @@ fn types_have_their_traits(_rt: HostRuntime) {
     has_default::<SectionBaseAddresses>();
     has_default::<Augmentation>();
     has_default::<CfaRule<usize>>();
+}
+
+#[test]
+fn values_that_stand_beside_their_body(rt: HostRuntime) {
+    assert_eq!(rt; Pointer::default(), Pointer::Direct(0));
+    assert_eq!(rt; RegisterRule::<usize>::default(), RegisterRule::Undefined);
+    let cfa: CfaRule<usize> = CfaRule::RegisterAndOffset {
+        register: Register(0),
+        offset: 0,
+    };
+    assert_eq!(rt; CfaRule::default(), cfa);
+    assert!(rt; !LittleEndian.is_big_endian());
+    assert!(rt; BigEndian.is_big_endian());
+    assert!(rt; !RunTimeEndian::Little.is_big_endian());
+    assert!(rt; RunTimeEndian::Big.is_big_endian());
 }
