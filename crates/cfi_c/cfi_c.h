@@ -7,9 +7,9 @@
  * null, also where a length is 0, and what is written overlaps nothing else that is handed in. What they point to is
  * aligned as C aligns its type. A bool is 0 or 1.
  *
- * Calls with different contexts may run at the same time. A context stays on the thread that made it, and one call uses it
- * at a time. None of the calls may be made from a signal handler while another one uses the same context, and
- * cfi_context_new and cfi_context_free not from a signal handler at all. */
+ * Calls with different contexts may run at the same time. A context stays on the thread that made it. No call is made from
+ * a signal handler, nor in the forked child of a process with threads. malloc and free are those of one allocator, and
+ * align as C asks. */
 #ifndef CFI_C_H
 #define CFI_C_H
 
@@ -121,9 +121,9 @@ int32_t cfi_context_new(CfiContext *context);
 void cfi_context_free(CfiContext *context);
 
 /* Writes the row of the address, found by going through the section, and the rules of the registers 0 .. rules_len - 1.
- * Returns row->status: 0, or the number of the refusal, with what it carries in row->refused; the rules are then as they
- * were. CFI_NoContext without a context, CFI_UnsupportedAddressSize for a size that is none, never CFI_OutOfMemory. A
- * return address is looked up as the address less 1. */
+ * Returns row->status: 0, or the number of the refusal, with what it carries in row->refused; what the rest of the row and
+ * the rules hold then is open. CFI_NoContext without a context, CFI_UnsupportedAddressSize for a size that is none, never
+ * CFI_OutOfMemory. A return address is looked up as the address less 1. */
 int32_t cfi_row_by_scan(CfiContext *context, const uint8_t *section, size_t section_len, const CfiBases *bases,
                         uint64_t address, CfiRow *row, CfiRule *rules, size_t rules_len);
 
