@@ -4,7 +4,7 @@ use Rattle.std.specs.FinMap as map
 use Rattle.cfi_read_core.specs.declared.common.Register.{Register}
 use Rattle.cfi_read_core.specs.Reading.{Readings}
 use Rattle.cfi_read_core.specs.declared.error.Error.{Error}
-use Rattle.cfi_read_core.specs.declared.error.Error.TheVariants.{CfiInstructionInInvalidContext, StackFull, PopWithEmptyStack, TooManyRegisterRules}
+use Rattle.cfi_read_core.specs.declared.error.Error.TheVariants.{AddressOverflow, InvalidCfiSetLoc, CfiInstructionInInvalidContext, StackFull, PopWithEmptyStack, TooManyRegisterRules}
 use Rattle.cfi_parts.specs.declared.instruction.CallFrameInstruction.{CallFrameInstruction}
 use Rattle.cfi_parts.specs.declared.instruction.CallFrameInstruction.TheVariants as instruction
 use Rattle.cfi_state.specs.declared.table.rules.CfaRule.{CfaRule}
@@ -173,3 +173,27 @@ toggle_in_cie : BothAnswer on_heap (34 ∷ []) (instruction.NegateRaState ∷ []
     Ok (4097, 4128, at_register 0 (pos 0), 0, 1, constant 1 ∷ []) ∷
     []))
 toggle_in_cie = (simp map_values, simp map_values)
+
+-- a toggle after the restore of a state that was set
+toggle_after_restore : BothAnswer on_heap (34 ∷ []) (instruction.NegateRaState ∷ []) (instruction.Restore (r 34) ∷ instruction.NegateRaState ∷ instruction.AdvanceLoc 1 ∷ instruction.NegateRaState ∷ []) (
+    Ok (Ok (4096, 4097, at_register 0 (pos 0), 0, 1, constant 0 ∷ []) ∷
+    Ok (4097, 4128, at_register 0 (pos 0), 0, 1, constant 1 ∷ []) ∷
+    []))
+toggle_after_restore = (simp map_values, simp map_values)
+
+-- a location may be set to itself, which ends an empty row, and not to a lower one
+set_to_itself : BothAnswer on_heap (16 ∷ []) (usual_cie) (instruction.SetLoc 4096 ∷ instruction.DefCfaOffset 16 ∷ instruction.SetLoc 4100 ∷ instruction.SetLoc 4099 ∷ []) (
+    Ok (Ok (4096, 4096, at_register 7 (pos 8), 0, 1, minus_8 ∷ []) ∷
+    Ok (4096, 4100, at_register 7 (pos 16), 0, 1, minus_8 ∷ []) ∷
+    Err (InvalidCfiSetLoc 4099) ∷
+    Ok (4100, 4128, at_register 7 (pos 16), 0, 1, minus_8 ∷ []) ∷
+    []))
+set_to_itself = (simp map_values, simp map_values)
+
+-- the sum of a location and a distance doesn't wrap
+past_the_last_address : BothAnswer (record on_heap { initial_address = 18446744073709551600; end_address = 18446744073709551615 }) (16 ∷ []) (usual_cie) (instruction.AdvanceLoc 8 ∷ instruction.AdvanceLoc 8 ∷ []) (
+    Ok (Ok (18446744073709551600, 18446744073709551608, at_register 7 (pos 8), 0, 1, minus_8 ∷ []) ∷
+    Err AddressOverflow ∷
+    Ok (18446744073709551608, 18446744073709551615, at_register 7 (pos 8), 0, 1, minus_8 ∷ []) ∷
+    []))
+past_the_last_address = (simp map_values, simp map_values)

@@ -39,3 +39,13 @@ restore_refused = passes _ (at_offset 32) _ _ _ _ refl refl (refuses _ _ _ _ (in
 
 row_with_offset : Answers (before_last_row (at_offset 32) (reads [])) (Ok (Some (record { start_address = 4096; end_address = 4128; parts = (at_offset 32).parts }))) (after_last_row (at_offset 32) (reads []))
 row_with_offset = last_row _
+
+-- a stack with a limit has its room, but a row's copy may take memory
+abbrev bounded : Setting
+bounded = record growing { stack_limit = Some 4 }
+
+abbrev before_the_end : State ℕ
+before_the_end = record (at_offset 8) { initial_rules = None }
+
+copy_refused : NextAnswer (may_allocate bounded false) bounded (before_last_row before_the_end (reads (instruction.RememberState ∷ []))) (Err OutOfMemory) (before_last_row before_the_end (reads []))
+copy_refused = refuses _ _ _ _ (inr (refl, refl, refl))
