@@ -55,6 +55,12 @@ value_expression : read_as (0x16 ∷ 0x32 ∷ 0x06 ∷ 0x02 ∷ 0x02 ∷ 0x01 �
 unfolding readings_up_to instruction expression unsigned leb128_bytes unsigned_leb128 offset_leb128 register_leb128
 value_expression = refl
 
+-- the offset counts from the section, which begins behind two bytes
+expression_of_a_section :
+    instructions (record plain { pointers = record no_bases { section = 2 } }) (record { first = 2; last = 5 }) (little (0 ∷ 0 ∷ 0x0f ∷ 0x01 ∷ 0x30 ∷ [])) ≡ all (DefCfaExpression (record { offset = 2; length = 1 }) ∷ [])
+unfolding readings_up_to instruction expression unsigned unsigned_leb128 offset_leb128 leb128_bytes
+expression_of_a_section = refl
+
 unknown_opcode_3f : read_as (0x3f ∷ []) ≡ record { values = []; refusal = Some (UnknownCallFrameInstruction (record { 0 = 0x3f })) }
 unfolding readings_up_to instruction unsigned
 unknown_opcode_3f = refl
@@ -76,6 +82,11 @@ based base size = record { bases = record { section = Some base; text = None; da
 behind_itself : pointer 0x1b (based 0x1f00 8) (little (0 ∷ 0 ∷ 0 ∷ 0 ∷ 0x10 ∷ 0 ∷ 0 ∷ 0 ∷ [])) 4 ≡ record { value = Ok (Direct 0x1f14); place = 8 }
 unfolding pointer base_of encoded_value unsigned signed
 behind_itself = refl
+
+-- the same of a section that begins behind two bytes
+behind_itself_in_a_section : pointer 0x1b (record (based 0x1f00 8) { section = 2 }) (little (0 ∷ 0 ∷ 0 ∷ 0 ∷ 0 ∷ 0 ∷ 0x10 ∷ 0 ∷ 0 ∷ 0 ∷ [])) 6 ≡ record { value = Ok (Direct 0x1f14); place = 10 }
+unfolding pointer base_of encoded_value unsigned signed
+behind_itself_in_a_section = refl
 
 indirect_and_before_itself : pointer 0x9b (based 0x1f00 8) (little (0 ∷ 0 ∷ 0 ∷ 0 ∷ 0xf0 ∷ 0xff ∷ 0xff ∷ 0xff ∷ [])) 4 ≡ record { value = Ok (Indirect 0x1ef4); place = 8 }
 unfolding pointer base_of encoded_value unsigned signed
