@@ -2,5 +2,6 @@ pub mod Words
 pub mod SectionOfWords
 pub mod Input
 pub mod Lines
+pub mod RowLines
 pub mod Written
 pub mod Runs

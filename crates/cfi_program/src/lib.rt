@@ -1,7 +1,8 @@
 //! What the programs of this repository share: the words that say of what kind a section is and where it lies, the
-//! input in hexadecimal, and the lines that say why there is no answer.
+//! input in hexadecimal, the lines of rows, and those that say why there is no answer.
 #![tactic(auto)]
 
 pub mod input;
 pub mod lines;
+pub mod row_line;
 pub mod words;

@@ -3,7 +3,7 @@ use Rattle.std.proofs.Common.{ℕ}
 use Rattle.std.specs.Fmt.{digits}
 use Rattle.cfi_program.specs.Words.{each_word}
 use Rattle.cfi_rows.specs.CommandLine.{request_of}
-use Rattle.cfi_rows.specs.Lines.{rules_text}
+use Rattle.cfi_program.specs.RowLines.{rules_text}
 
 -- to name it on an `unfolding` line is to open all these
 unfoldable pub computing : ℕ

@@ -1,5 +1,4 @@
 mod Computing
-pub mod OutputLineLemmas
 mod Printed
 pub mod RequestLemmas
 pub mod PlainLines

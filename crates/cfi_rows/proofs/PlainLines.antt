@@ -4,7 +4,7 @@ use Rattle.cfi_read_core.specs.declared.error.Error.{Error}
 use Rattle.cfi_state.specs.Row.{Row}
 use Rattle.cfi_program.specs.Lines.{Line}
 use Rattle.cfi_program.proofs.RunLemmas.{ArePlain, IsPlain}
-use Rattle.cfi_rows.specs.Lines.{answer_line}
+use Rattle.cfi_program.specs.RowLines.{answer_line}
 use Rattle.cfi_rows.specs.ProgramOutput.{answers}
 
 plain_answer : (answer : Result (Row ℕ) Error) → IsPlain (answer_line answer)

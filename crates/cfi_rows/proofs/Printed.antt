@@ -11,7 +11,7 @@ use Rattle.std.specs.FinMap as map
 use Rattle.cfi_state.specs.declared.table.rules.CfaRule.{CfaRule}
 use Rattle.cfi_state.specs.Row.{Row}
 use Rattle.cfi_rows.specs.CommandLine.{request_of}
-use Rattle.cfi_rows.specs.Lines.{row_head, rules_text}
+use Rattle.cfi_program.specs.RowLines.{row_head, rules_text}
 use Rattle.cfi_rows.proofs.Computing.{computing}
 
 -- ---- words

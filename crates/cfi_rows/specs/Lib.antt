@@ -1,3 +1,2 @@
 pub mod CommandLine
-pub mod Lines
 pub mod ProgramOutput

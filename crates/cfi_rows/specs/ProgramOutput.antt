@@ -16,7 +16,7 @@ use Rattle.cfi_rows.specs.CommandLine.{request_of}
 use Rattle.cfi_program.specs.Input.{Bytes}
 use Rattle.cfi_program.specs.Runs.{Program}
 use Rattle.cfi_program.specs.SectionOfWords.{header_section_of, section_of}
-use Rattle.cfi_rows.specs.Lines.{answer_line}
+use Rattle.cfi_program.specs.RowLines.{answer_line}
 
 -- ---- the room for an unwind
 

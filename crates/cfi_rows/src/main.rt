@@ -13,7 +13,6 @@ ghost use Rattle.cfi_program.specs.Words.{texts};
 ghost use Rattle.cfi_rows.specs.ProgramOutput.{answers};
 
 mod command_line;
-mod output_line;
 mod row_lookup;
 mod run;
 #[cfg(test)]

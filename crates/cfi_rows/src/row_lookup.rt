@@ -14,9 +14,9 @@ ghost use Rattle.cfi_program.specs.Runs.{IsLineFor};
 ghost use Rattle.cfi_program.specs.Written.{Prints};
 
 use crate::command_line::{Request, Storage};
-use crate::output_line::write_answer;
 use cfi_program::input::Sections;
 use cfi_program::lines::write_refusal;
+use cfi_program::row_line::write_answer;
 use cfi_program::words::Kind;
 use gimli_cfi::{
     BaseAddresses, DebugFrame, EhFrame, EhFrameHdr, Error, Reader, StoreGrowing, StoreOnHeap,

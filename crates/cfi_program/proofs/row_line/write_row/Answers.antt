@@ -1,7 +1,7 @@
 use Rattle.std.proofs.Common.{[], ◌∷◌, ◌++◌}
-use Rattle.cfi_rows.specs.Lines.{row_head, row_rules}
+use Rattle.cfi_program.specs.RowLines.{row_head, row_rules}
 use Rattle.cfi_program.proofs.WrittenLemmas.{given_first, given_then, beginning_then, writes_last, writes_refused, regrouped}
-use Rattle.cfi_rows.proofs.output_line.write_row.Goals as goal
+use Rattle.cfi_program.proofs.row_line.write_row.Goals as goal
 
 pub returns-in_err-write_head : goal.returns-in_err-write_head
 returns-in_err-write_head g c =

@@ -1,10 +1,11 @@
 //! The line of a row.
-ghost use Rattle.std.specs.Prelude.{◌≡◌, ◌++◌, [], ◌∷◌, Some, Err, IfSome};
+ghost use Rattle.std.specs.Prelude.{◌≡◌, ◌≤◌, ◌+◌, ◌++◌, ℕ, [], ◌∷◌, Some, None, Err, IfSome};
+ghost use Rattle.std.specs.FinMap as map;
 ghost use Rattle.cfi_read_core.specs.Readers.{map_ok};
 ghost use Rattle.cfi_program.specs.Written.{Writes, Prints};
-ghost use Rattle.cfi_rows.specs.Lines.{cfa_text, rule_text, row_text, row_head, row_rules, answer_line};
+ghost use Rattle.cfi_program.specs.RowLines.{cfa_text, rule_text, row_text, row_head, row_rules, answer_line};
 
-use cfi_program::lines::{Address, write_part, write_refusal, write_text};
+use crate::lines::{Address, write_part, write_refusal, write_text};
 use gimli_cfi::{
     ArrayLike, CfaRule, Error, Register, RegisterRule, UnwindExpression, UnwindTableRow,
 };
@@ -80,7 +81,7 @@ pub fn write_answer<W: Write, A: ArrayLike<Item = (Register, RegisterRule<usize>
 }
 
 /// Writes the line of a row. The registers stand by rising number.
-fn write_row<W: Write, A: ArrayLike<Item = (Register, RegisterRule<usize>)>>(
+pub fn write_row<W: Write, A: ArrayLike<Item = (Register, RegisterRule<usize>)>>(
     output: &mut W,
     row: &UnwindTableRow<usize, A>,
 ) -> io::Result<()>
@@ -108,17 +109,40 @@ fn write_head<W: Write, A: ArrayLike<Item = (Register, RegisterRule<usize>)>>(
     )
 }
 
+/// Writes the rules by rising number of the register.
 fn write_rules<W: Write, A: ArrayLike<Item = (Register, RegisterRule<usize>)>>(
     output: &mut W,
     row: &UnwindTableRow<usize, A>,
 ) -> io::Result<()>
     ensures { Writes (W.contents output.old) (W.contents output.new) result (row_rules row.now) }
 {
-    for number in 0..65536u32 {
+    let end = end_of_rules(row);
+    for number in 0..end {
         if let Some(rule) = row.register(Register(number as u16)) {
             let rule = Rule(rule);
             write_part(output, format_args!(" r{number}={rule}"))?;
         }
     }
     Ok(())
+}
+
+/// A number above that of each register with a rule.
+fn end_of_rules<A: ArrayLike<Item = (Register, RegisterRule<usize>)>>(
+    row: &UnwindTableRow<usize, A>,
+) -> u32
+    ensures within { result ≤ 65536 }
+    ensures above { (register : ℕ) → result ≤ register → map.get row.now.parts.rules register ≡ None }
+{
+    let mut end = 0u32;
+    for (register, _) in row.registers() {
+        end = end.max(number_behind(*register));
+    }
+    end
+}
+
+fn number_behind(register: Register) -> u32
+    ensures number { result ≡ register.0 + 1 }
+    ensures within { result ≤ 65536 }
+{
+    u32::from(register.0) + 1
 }

@@ -1,8 +1,8 @@
 use Rattle.std.proofs.Common.{◌-◌}
 use Rattle.std.specs.FinMap as map
-use Rattle.cfi_rows.specs.Lines.{rules_text, row_rules}
+use Rattle.cfi_program.specs.RowLines.{rules_text, row_rules}
 use Rattle.cfi_program.proofs.WrittenLemmas.{IsGiven}
-use Rattle.cfi_rows.proofs.output_line.write_rules.Given as goal
+use Rattle.cfi_program.proofs.row_line.write_rules.Given as goal
 
 abbrev pub invariant-loop-number : goal.invariant-loop-number
 invariant-loop-number g l =

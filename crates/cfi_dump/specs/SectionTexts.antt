@@ -1,0 +1,28 @@
+-- What is printed of a section.
+--     fde_rows section fde      the rows of an FDE, and the refusals among them, in order
+--     lines answers      a line for each
+use Rattle.std.specs.Prelude.{ℕ, Option, Some, None, List, [], ◌∷◌, ◌++◌, Result, Ok, Err}
+use Rattle.cfi_read_core.specs.declared.error.Error.{Error}
+use Rattle.cfi_state.specs.MachineSettings.{Setting}
+use Rattle.cfi_state.specs.Program.{in_fde}
+use Rattle.cfi_state.specs.Row.{Row}
+use Rattle.cfi_state.specs.Rows.{answers, cie_refusal, on_option}
+use Rattle.cfi_unwind.specs.AddressRow.{setting}
+use Rattle.cfi_unwind.specs.EntryInstructions.{cie_instructions, fde_instructions}
+use Rattle.cfi_unwind.specs.Fdes.{Fde}
+use Rattle.cfi_unwind.specs.Sections.{Section}
+use Rattle.cfi_program.specs.RowLines.{answer_line}
+
+-- in a storage of 192 rules and 4 rows
+abbrev pub setting_of_fde : Fde → Setting
+setting_of_fde fde = setting (Some 192) (Some 4) fde
+
+-- the refusal of the CIE's initial instructions; else the rows and refusals of the FDE's
+abbrev pub fde_rows : Section → Fde → List (Result (Row ℕ) Error)
+fde_rows section fde =
+    on_option (answers (setting_of_fde fde) (in_fde (cie_instructions section fde.cie).values []) (fde_instructions section fde)) (λ e. Err e ∷ [])
+    (cie_refusal (setting_of_fde fde) (cie_instructions section fde.cie))
+
+abbrev pub lines : List (Result (Row ℕ) Error) → List ℕ
+lines [] = []
+lines (answer ∷ answers) = (answer_line answer).text ++ lines answers
