@@ -7,7 +7,8 @@ use crate::unboxed::Unboxed;
 use std::alloc::Global;
 use std::marker::Model;
 
-/// The address of a context; it owns the context where it is live.
+/// The address of a context; it owns the context where it is live. Dropping it frees nothing, so `CfiContext` unseals a
+/// live one first.
 #[repr(C)]
 #[derive(Drop)]
 pub struct Kept {
