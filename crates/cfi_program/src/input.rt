@@ -160,7 +160,8 @@ fn next_byte<'text>(
     text: &'text [u8],
 ) -> Result<Option<(u8, &'text [u8])>, InputError>
     requires { AreDigitValues values.now }
-    ensures found { IfOk result (λ found. IfSome found (λ p. BeginsWithByte p.0 p.1.now text.now × (length p.1.now < length text.now))) }
+    ensures found { IfOk result (λ found. IfSome found (λ p. BeginsWithByte p.0 p.1.now text.now)) }
+    ensures fewer { IfOk result (λ found. IfSome found (λ p. length p.1.now < length text.now)) }
     ensures none { IfOk result (λ found. IfNone found (without_spaces text.now ≡ [])) }
     ensures refused { IfErr result (λ e. (e ≡ InputError.NotHexadecimal) × BeginsWithNoByte text.now) }
 {
@@ -181,7 +182,8 @@ fn next_spaced_byte<'text>(
     text: &'text [u8],
 ) -> Result<Option<(u8, &'text [u8])>, InputError>
     requires { AreDigitValues values.now }
-    ensures found { IfOk result (λ found. IfSome found (λ p. BeginsWithByte p.0 p.1.now text.now × (length p.1.now < length text.now))) }
+    ensures found { IfOk result (λ found. IfSome found (λ p. BeginsWithByte p.0 p.1.now text.now)) }
+    ensures fewer { IfOk result (λ found. IfSome found (λ p. length p.1.now < length text.now)) }
     ensures none { IfOk result (λ found. IfNone found (without_spaces text.now ≡ [])) }
     ensures refused { IfErr result (λ e. (e ≡ InputError.NotHexadecimal) × BeginsWithNoByte text.now) }
 {
@@ -200,7 +202,9 @@ fn next_digit<'text>(
     text: &'text [u8],
 ) -> Result<Option<(u8, &'text [u8])>, InputError>
     requires { AreDigitValues values.now }
-    ensures found { IfOk result (λ found. IfSome found (λ p. BeginsWithDigit p.0 p.1.now text.now × ((p.0 < 16) × (length p.1.now < length text.now)))) }
+    ensures found { IfOk result (λ found. IfSome found (λ p. BeginsWithDigit p.0 p.1.now text.now)) }
+    ensures digit { IfOk result (λ found. IfSome found (λ p. p.0 < 16)) }
+    ensures fewer { IfOk result (λ found. IfSome found (λ p. length p.1.now < length text.now)) }
     ensures none { IfOk result (λ found. IfNone found (without_spaces text.now ≡ [])) }
     ensures refused { IfErr result (λ e. (e ≡ InputError.NotHexadecimal) × BeginsWithNoDigit text.now) }
 {

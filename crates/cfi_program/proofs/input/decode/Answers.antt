@@ -16,7 +16,7 @@ pub loop-bytes-preserved : goal.loop-bytes-preserved
 loop-bytes-preserved c =
     let found = rw c.in-Some.is at c.in_ok-byte.ensures.found in
     let pushed : c.push.new.self.items ≡ c.loop-bytes.bytes.items ++ c.in-Some.byte ∷ [] = search rules in
-    rw pushed (one_more c.args.text.items c.loop-bytes.bytes.items c.loop-bytes.rest.now c.in-Some.after.now c.in-Some.byte c.loop-bytes.invariant found.0)
+    rw pushed (one_more c.args.text.items c.loop-bytes.bytes.items c.loop-bytes.rest.now c.in-Some.after.now c.in-Some.byte c.loop-bytes.invariant found)
 
 pub returns-clause-value : goal.returns-clause-value
 returns-clause-value c =

@@ -6,4 +6,4 @@ pub returns-then-low-lt16-clause-found : goal.returns-then-low-lt16-clause-found
 returns-then-low-lt16-clause-found c =
     let first = c.type_inv.text 0 in
     let second = c.type_inv.text 1 in
-    (side_by_side c.args.values.now c.args.text.now c.requires c.in-len2-up.len_at_least (omega arith) (omega arith) (search rules) (search rules), search rules)
+    side_by_side c.args.values.now c.args.text.now c.requires c.in-len2-up.len_at_least (omega arith) (omega arith) (search rules) (search rules)

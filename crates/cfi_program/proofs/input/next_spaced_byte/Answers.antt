@@ -12,10 +12,10 @@ pub returns-in_err-low-clause-refused : goal.returns-in_err-low-clause-refused
 returns-in_err-low-clause-refused c =
     let gives : c.from_residual-in_err-low.result ≡ Err c.in_err-low.field-0.0 = search rules in
     let digit = rw c.in-Some.is at c.in_ok-high.ensures.found in
-    rw gives (c.in_err-low.ensures.refused.0, refused_second c.in-Some.high c.args.text.now c.in-Some.after_high.now digit.0 c.in_err-low.ensures.refused.1)
+    rw gives (c.in_err-low.ensures.refused.0, refused_second c.in-Some.high c.args.text.now c.in-Some.after_high.now digit c.in_err-low.ensures.refused.1)
 
 pub returns-in_default-2-clause-refused : goal.returns-in_default-2-clause-refused
 returns-in_default-2-clause-refused c =
     let digit = rw c.in-Some.is at c.in_ok-high.ensures.found in
     let spaces : without_spaces c.in-Some.after_high.now ≡ [] = search rules in
-    (refl, refused_alone c.in-Some.high c.args.text.now c.in-Some.after_high.now digit.0 spaces)
+    (refl, refused_alone c.in-Some.high c.args.text.now c.in-Some.after_high.now digit spaces)
