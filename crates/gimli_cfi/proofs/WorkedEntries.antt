@@ -526,6 +526,29 @@ augmentation_too_long : shown (chosen_fde (narrow (eh_frame (codes "0f000000 000
 unfolding computing
 augmentation_too_long = refl
 
+-- ---- a section that begins behind other bytes, and fields that the version decides
+
+behind_other_bytes : shown (chosen_fde (record (debug_frame (codes "ffff 10000000 ffffffff 04000800 017810 0c0708 9001 1c000000 00000000 0010000000000000 2000000000000000 41 0e10 8602 43 0d06")) { first = 2 }) 0x1002) ≡ Ok (20 ∷ 0x1000 ∷ 0x1020 ∷ [])
+unfolding computing
+behind_other_bytes = refl
+
+abbrev return_register_of : Result Cie Error → Result ℕ Error
+return_register_of (Ok cie) = Ok cie.return_address_register.0
+return_register_of (Err e) = Err e
+
+-- a byte in version 1, a LEB128 number in version 3
+return_register_1 : return_register_of (cie_at (debug_frame (codes "09000000 ffffffff 01 00 017890")) 0) ≡ Ok 0x90
+unfolding computing
+return_register_1 = refl
+
+return_register_3 : return_register_of (cie_at (debug_frame (codes "0a000000 ffffffff 03 00 01789001")) 0) ≡ Ok 0x90
+unfolding computing
+return_register_3 = refl
+
+no_version_2 : return_register_of (cie_at (debug_frame (codes "09000000 ffffffff 02 00 017810")) 0) ≡ Err (UnknownVersion 2)
+unfolding computing
+no_version_2 = refl
+
 -- ---- steps of halving
 
 steps_of : map steps (1 ∷ 2 ∷ 3 ∷ 4 ∷ 5 ∷ 1000 ∷ (2 ^ 64 - 1) ∷ []) ≡ 0 ∷ 1 ∷ 2 ∷ 2 ∷ 3 ∷ 10 ∷ 64 ∷ []
