@@ -4,10 +4,9 @@ use Rattle.std.specs.Option.{option_map}
 use Rattle.std.specs.Result.{result_transpose}
 use Rattle.std.specs.Borrow.{Bor}
 use Rattle.std.specs.Io.KnownBytes.{Appends}
-use Rattle.cfi_read_core.specs.Reading.{Readings, with_first, no_values}
+use Rattle.cfi_read_core.specs.Reading.{Readings}
 use Rattle.cfi_read_core.specs.Readers.{map_ok}
 use Rattle.cfi_read_core.specs.declared.error.Error.{Error}
-use Rattle.cfi_parts.specs.declared.instruction.CallFrameInstruction.{CallFrameInstruction}
 use Rattle.cfi_parts.specs.Instructions.{Instruction}
 use Rattle.cfi_state.specs.Context.{ContextState}
 use Rattle.cfi_state.specs.Machine.{State}

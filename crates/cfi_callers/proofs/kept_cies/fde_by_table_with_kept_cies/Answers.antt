@@ -1,4 +1,4 @@
-use Rattle.std.proofs.Common.{◌≡◌, rules}
+use Rattle.std.proofs.Common.{rules}
 use Rattle.cfi_parts.specs.CallFrameSections.{IsOf, EhFrame as of_eh_frame}
 use Rattle.cfi_unwind.specs.KeptCie.{KeepsCie}
 use Rattle.cfi_unwind.proofs.Answered.{ok_answered_by}

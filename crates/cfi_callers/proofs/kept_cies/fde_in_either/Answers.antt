@@ -1,4 +1,4 @@
-use Rattle.std.proofs.Common.{◌≡◌, rules, inl, inr}
+use Rattle.std.proofs.Common.{rules, inl, inr}
 use Rattle.cfi_unwind.specs.KeptCie.{KeepsCie}
 use Rattle.cfi_unwind.proofs.Answered.{chosen_by}
 use Rattle.cfi_callers.proofs.kept_cies.fde_in_either.Goals as goal

@@ -1,4 +1,3 @@
-use Rattle.std.proofs.Common.{◌≡◌, rules}
 use Rattle.std.specs.Prelude.{IfSome}
 use Rattle.cfi_parts.specs.CallFrameSections.{IsOf}
 use Rattle.cfi_unwind.proofs.Answered.{answered_by}

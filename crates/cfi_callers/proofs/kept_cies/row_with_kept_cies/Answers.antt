@@ -1,4 +1,3 @@
-use Rattle.std.proofs.Common.{◌≡◌}
 use Rattle.cfi_unwind.specs.KeptCie.{KeepsCie}
 use Rattle.cfi_callers.proofs.FoundRow.{by_scan}
 use Rattle.cfi_unwind.proofs.Answered.{answered_by, chosen_by}

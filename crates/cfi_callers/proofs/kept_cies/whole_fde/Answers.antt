@@ -1,4 +1,4 @@
-use Rattle.std.proofs.Common.{◌≡◌, Ok}
+use Rattle.std.proofs.Common.{Ok}
 use Rattle.cfi_parts.specs.CallFrameSections.{IsOf}
 use Rattle.cfi_unwind.specs.KeptCie.{KeepsCie}
 use Rattle.cfi_unwind.specs.EntryViews.{partial_of}
