@@ -6,7 +6,7 @@ use Rattle.cfi_parts.specs.declared.pointer.Pointer.TheVariants.{Direct}
 use Rattle.cfi_unwind.specs.Fdes.{Fde}
 use Rattle.cfi_unwind.specs.Scan.{answer_by, chosen_fde}
 use Rattle.cfi_unwind.specs.AddressRow.{row_by_scan, row_of_fde}
-use Rattle.gimli_cfi.specs.Headers as headers
+use Rattle.gimli_cfi.specs.EhFrameHdr as headers
 use Rattle.gimli_cfi.specs.RowsByHeader.{FoundByHeader, FoundByTable}
 use Rattle.gimli_cfi.proofs.Agreement.{found_as_scan}
 use Rattle.cfi_c.specs.declared.CfiBases.{CfiBases}

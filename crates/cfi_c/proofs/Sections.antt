@@ -2,14 +2,14 @@
 use Rattle.std.proofs.Common.{◌≡◌, ◌∙◌, ℕ, true, List, Some, Result, Ok, Err, refl, sym, ap, subst}
 use Rattle.cfi_read_core.specs.declared.common.Vendor.{Vendor}
 use Rattle.cfi_read_core.specs.declared.error.Error.{Error}
-use Rattle.cfi_read_core.specs.Reading.{Position}
-use Rattle.cfi_read_core.specs.Readers.{all_of, map_ok}
+use Rattle.cfi_read_core.specs.ReadFunctions.{Position}
+use Rattle.cfi_read_core.specs.ReaderCalls.{all_of, map_ok}
 use Rattle.cfi_parts.specs.declared.pointer.SectionBaseAddresses.{SectionBaseAddresses}
 use Rattle.cfi_state.specs.Row.{Row}
 use Rattle.cfi_state.specs.MappedStates.{map_row}
 use Rattle.cfi_state.proofs.MappedEquality.{as_it_is, same_row}
 use Rattle.cfi_unwind.specs.Sections.{Section, SectionKind}
-use Rattle.gimli_cfi.specs.Headers.{HeaderSection, header_section}
+use Rattle.gimli_cfi.specs.EhFrameHdr.{HeaderSection, header_section}
 use Rattle.gimli_cfi.specs.RowsByHeader.{IsRowByHeader}
 use Rattle.cfi_c.specs.declared.CfiBases.{CfiBases}
 use Rattle.cfi_c.specs.Answers.{header_of, section_as, vendor_of, IsTableAnswer}

@@ -16,7 +16,7 @@ use Rattle.cfi_read_core.specs.declared.common.Vendor.TheVariants as vendor
 use Rattle.cfi_read_core.specs.declared.error.Error.{Error}
 use Rattle.cfi_read_core.specs.declared.error.Error.TheVariants.{UnsupportedAddressSize}
 use Rattle.cfi_read_core.specs.Addresses.{IsAddressSize}
-use Rattle.cfi_read_core.specs.Reading.{Source}
+use Rattle.cfi_read_core.specs.ReadFunctions.{Source}
 use Rattle.cfi_parts.specs.declared.pointer.Pointer.TheVariants.{Direct}
 use Rattle.cfi_state.specs.declared.table.rules.CfaRule.{CfaRule}
 use Rattle.cfi_state.specs.declared.table.rules.CfaRule.TheVariants as cfa
@@ -27,8 +27,8 @@ use Rattle.cfi_unwind.specs.Sections.{Section, SectionKind, DebugFrame, EhFrame}
 use Rattle.cfi_unwind.specs.Fdes.{Fde}
 use Rattle.cfi_unwind.specs.Scan.{answer_by}
 use Rattle.cfi_unwind.specs.AddressRow.{row_by_scan, row_of_fde}
-use Rattle.gimli_cfi.specs.Headers as headers
-use Rattle.gimli_cfi.specs.HeaderTables.{IsFaithful}
+use Rattle.gimli_cfi.specs.EhFrameHdr as headers
+use Rattle.gimli_cfi.specs.FaithfulTables.{IsFaithful}
 use Rattle.gimli_cfi.specs.RowsByHeader.{FoundByHeader}
 use Rattle.cfi_c.specs.declared.CfiBases.{CfiBases}
 use Rattle.cfi_c.specs.declared.CfiRow.{CfiRow}

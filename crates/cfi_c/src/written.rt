@@ -1,6 +1,6 @@
 //! Rows, rules and refusals, written into the caller's memory.
 ghost use Rattle.std.specs.Prelude.{◌≡◌, ◌+◌, ◌≤◌, length, pos};
-ghost use Rattle.cfi_read_core.specs.Readers.{map_ok};
+ghost use Rattle.cfi_read_core.specs.ReaderCalls.{map_ok};
 ghost use Rattle.cfi_c.specs.Answers.{IsAnswered, IsRules, IsWritten, SameAround, written_rule, rule_at};
 
 use crate::refusal::{number_of, value_of};

@@ -9,7 +9,7 @@ use cfi_state::storage::UnwindContextStorage;
 use cfi_state::table::context::UnwindContext;
 use cfi_state::table::rules::{CfaRule, RegisterRule};
 use cfi_unwind::entry::FrameDescriptionEntry;
-use cfi_unwind::section::UnwindSection;
+use cfi_unwind::unwind_section::UnwindSection;
 use gimli_cfi::table::row_by_scan;
 
 /// The expression by which the CFA of an address is found. `None` where it is a register and an offset.

@@ -4,7 +4,7 @@
 //! call that takes a `get_cie` is handed a closure that keeps the CIE that it read last, with its offset, and answers it
 //! where it is asked for again. The clauses `part` and `cie_part` of an FDE are what an unwind of it asks.
 ghost use Rattle.std.specs.Prelude.{◌≡◌, ◌⊎◌, IfOk, IfSome, Ok, Result};
-ghost use Rattle.cfi_read_core.specs.Readers.{map_ok};
+ghost use Rattle.cfi_read_core.specs.ReaderCalls.{map_ok};
 ghost use Rattle.cfi_read_core.specs.declared.error.Error.{Error as Refusal};
 ghost use Rattle.cfi_parts.specs.CallFrameSections.{IsOf};
 ghost use Rattle.cfi_state.specs.MappedStates.{row_lent};
@@ -15,7 +15,7 @@ ghost use Rattle.cfi_unwind.specs.Fdes.{Covers, Fde};
 ghost use Rattle.cfi_unwind.specs.Scan.{chosen_fde};
 ghost use Rattle.cfi_unwind.specs.AddressRow.{IsRowByScan, IsRowOfFound};
 ghost use Rattle.cfi_unwind.specs.KeptCie.{KeepsCie};
-ghost use Rattle.cfi_unwind.specs.EntryFieldViews.{cie_view, fde_view};
+ghost use Rattle.cfi_unwind.specs.CieAndFdeViews.{cie_view, fde_view};
 ghost use Rattle.gimli_cfi.specs.HeaderViews.{section_view};
 
 use gimli_cfi::{

@@ -3,7 +3,7 @@ use Rattle.std.proofs.Common.{◌≡◌, [], ◌∷◌, ◌++◌, Some, None, re
 use Rattle.cfi_read_core.specs.declared.common.Vendor.TheVariants as vendors
 use Rattle.cfi_read_core.specs.declared.endianity.RunTimeEndian.TheVariants.{Big}
 use Rattle.cfi_read_core.specs.declared.error.Error.TheVariants.{UnknownAugmentation}
-use Rattle.gimli_cfi.specs.declared.hdr.unfaithful_table.Unfaithful.TheVariants as reasons
+use Rattle.gimli_cfi.specs.declared.hdr.unfaithful.Unfaithful.TheVariants as reasons
 use Rattle.cfi_program.specs.declared.words.Kind.TheVariants.{EhFrame}
 use Rattle.cfi_check.specs.declared.table_check.Verdict.TheVariants as verdicts
 use Rattle.cfi_check.specs.CommandLine.{request_of}

@@ -1,10 +1,10 @@
 -- The verdict is that of the bytes, and each line is plain.
 use Rattle.std.proofs.Common.{◌≡◌, ◌∙◌, ℕ, List, Some, Ok, ap, subst, sym, arith}
 use Rattle.cfi_unwind.specs.Sections.{Section}
-use Rattle.gimli_cfi.specs.Headers.{Header, HeaderSection, header_of}
-use Rattle.gimli_cfi.specs.FaithfulTables.{Listing}
-use Rattle.gimli_cfi.specs.declared.hdr.unfaithful_table.Unfaithful.{Unfaithful}
-use Rattle.gimli_cfi.specs.declared.hdr.unfaithful_table.Unfaithful.TheVariants as reasons
+use Rattle.gimli_cfi.specs.EhFrameHdr.{Header, HeaderSection, header_of}
+use Rattle.gimli_cfi.specs.TableCheck.{Listing}
+use Rattle.gimli_cfi.specs.declared.hdr.unfaithful.Unfaithful.{Unfaithful}
+use Rattle.gimli_cfi.specs.declared.hdr.unfaithful.Unfaithful.TheVariants as reasons
 use Rattle.cfi_program.specs.Input.{Bytes}
 use Rattle.cfi_program.specs.Lines.{Line}
 use Rattle.cfi_program.specs.SectionOfWords.{header_section_of, section_of}

@@ -1,6 +1,6 @@
 //! The line of a verdict.
 ghost use Rattle.std.specs.Prelude.{◌++◌, [], ◌∷◌};
-ghost use Rattle.cfi_program.specs.Written.{Prints, Writes};
+ghost use Rattle.cfi_program.specs.WriterOutput.{Prints, Writes};
 ghost use Rattle.cfi_check.specs.Lines.{reason_text, refused_text, verdict_line};
 
 use crate::table_check::Verdict;

@@ -4,7 +4,7 @@ ghost use Rattle.std.specs.Io.KnownBytes.{Appends};
 ghost use Rattle.cfi_program.specs.Lines.{Line};
 ghost use Rattle.cfi_program.specs.Runs.{IsOwed, IsRun};
 ghost use Rattle.cfi_program.specs.Words.{texts};
-ghost use Rattle.cfi_program.specs.Written.{Prints};
+ghost use Rattle.cfi_program.specs.WriterOutput.{Prints};
 ghost use Rattle.cfi_check.specs.CommandLine.{CanBeChecked, request_of_words};
 ghost use Rattle.cfi_check.specs.ProgramOutput.{answers};
 

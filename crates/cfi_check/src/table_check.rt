@@ -1,7 +1,7 @@
 //! Whether the table of a header lists the FDEs of its section faithfully.
 ghost use Rattle.std.specs.Prelude.{◌≡◌};
 ghost use Rattle.cfi_read_core.specs.Addresses.{IsAddressSize};
-ghost use Rattle.gimli_cfi.specs.Headers.{header_section};
+ghost use Rattle.gimli_cfi.specs.EhFrameHdr.{header_section};
 ghost use Rattle.gimli_cfi.specs.HeaderViews.{section_view};
 ghost use Rattle.cfi_program.specs.Input.{bytes_of};
 ghost use Rattle.cfi_check.specs.CommandLine.{CanBeChecked};

@@ -4,20 +4,20 @@ use Rattle.std.specs.Option.{option_map}
 use Rattle.std.specs.Result.{result_transpose}
 use Rattle.std.specs.Borrow.{Bor}
 use Rattle.std.specs.Io.KnownBytes.{Appends}
-use Rattle.cfi_read_core.specs.Reading.{Readings}
-use Rattle.cfi_read_core.specs.Readers.{map_ok}
+use Rattle.cfi_read_core.specs.ReadFunctions.{Readings}
+use Rattle.cfi_read_core.specs.ReaderCalls.{map_ok}
 use Rattle.cfi_read_core.specs.declared.error.Error.{Error}
 use Rattle.cfi_parts.specs.Instructions.{Instruction}
-use Rattle.cfi_state.specs.Context.{ContextState}
+use Rattle.cfi_state.specs.UnwindContexts.{ContextState}
 use Rattle.cfi_state.specs.Machine.{State}
 use Rattle.cfi_state.specs.MachineRuns.{MayAllocate, AreNever, NextAnswer, passes, ends_row, refuses, cannot_read, last_row, no_row, may_allocate}
 use Rattle.cfi_state.specs.MachineSettings.{Setting}
 use Rattle.cfi_state.specs.MappedStates.{map_row}
-use Rattle.cfi_state.specs.Kept.{at_program}
+use Rattle.cfi_state.specs.KeptInstructions.{at_program}
 use Rattle.cfi_state.specs.Program.{Program, in_fde}
 use Rattle.cfi_state.specs.Row.{Row}
-use Rattle.cfi_state.specs.Rows.{answers, on_option, cie_refusal, IsStateAfter}
-use Rattle.cfi_state.specs.TableStates.{TableState, before_last_row, answers_to_come, IsNext}
+use Rattle.cfi_state.specs.FdeAnswers.{answers, on_option, cie_refusal, IsStateAfter}
+use Rattle.cfi_state.specs.UnwindTableStates.{TableState, before_last_row, answers_to_come, IsNext}
 use Rattle.cfi_state.proofs.FixedStorage.{fixed_never}
 use Rattle.cfi_state.proofs.IsStateAfter.{accepted_value, refused_error}
 use Rattle.cfi_state.proofs.KeptAnswers.{kept_next_is, kept_cie_is}
@@ -25,10 +25,10 @@ use Rattle.cfi_state.proofs.MappedEquality.{as_it_is, same_row}
 use Rattle.cfi_unwind.specs.EntryInstructions.{cie_instructions, fde_instructions}
 use Rattle.cfi_unwind.specs.Fdes.{Fde}
 use Rattle.cfi_unwind.specs.Sections.{Section}
-use Rattle.cfi_unwind.specs.UnwindTables.{AnswersWithoutMachine, KeepsCieProgram, LendsNextRow}
+use Rattle.cfi_unwind.specs.UnwindTableCalls.{AnswersWithoutMachine, KeepsCieProgram, LendsNextRow}
 use Rattle.cfi_program.specs.Lines.{refusal_line}
 use Rattle.cfi_program.specs.RowLines.{answer_line}
-use Rattle.cfi_program.specs.Written.{IsBeginning}
+use Rattle.cfi_program.specs.WriterOutput.{IsBeginning}
 use Rattle.cfi_program.proofs.WrittenLemmas.{IsGiven, given_first, given_then, given_all, beginning_then}
 use Rattle.cfi_dump.specs.SectionTexts.{setting_of_fde, fde_rows, lines}
 

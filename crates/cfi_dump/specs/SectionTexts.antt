@@ -6,7 +6,7 @@ use Rattle.cfi_read_core.specs.declared.error.Error.{Error}
 use Rattle.cfi_state.specs.MachineSettings.{Setting}
 use Rattle.cfi_state.specs.Program.{in_fde}
 use Rattle.cfi_state.specs.Row.{Row}
-use Rattle.cfi_state.specs.Rows.{answers, cie_refusal, on_option}
+use Rattle.cfi_state.specs.FdeAnswers.{answers, cie_refusal, on_option}
 use Rattle.cfi_unwind.specs.AddressRow.{setting}
 use Rattle.cfi_unwind.specs.EntryInstructions.{cie_instructions, fde_instructions}
 use Rattle.cfi_unwind.specs.Fdes.{Fde}

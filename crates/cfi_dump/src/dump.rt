@@ -1,9 +1,9 @@
 //! The entries of a section in order, and the rows of each FDE.
 ghost use Rattle.std.specs.Prelude.{◌≡◌, IfOk};
 ghost use Rattle.cfi_parts.specs.CallFrameSections.{IsOf};
-ghost use Rattle.cfi_unwind.specs.EntryFieldViews.{fde_view};
+ghost use Rattle.cfi_unwind.specs.CieAndFdeViews.{fde_view};
 ghost use Rattle.cfi_unwind.specs.Sections.{section_of};
-ghost use Rattle.cfi_program.specs.Written.{Writes};
+ghost use Rattle.cfi_program.specs.WriterOutput.{Writes};
 ghost use Rattle.cfi_dump.specs.SectionTexts.{fde_rows, lines};
 
 use crate::entry_line::{write_cie, write_fde, write_partial_fde};

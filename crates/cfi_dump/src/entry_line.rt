@@ -1,8 +1,8 @@
 //! The lines of entries.
 ghost use Rattle.std.specs.Prelude.{◌≡◌, ◌++◌, [], ◌∷◌, Some, IfSome};
 ghost use Rattle.std.specs.Option.{option_map};
-ghost use Rattle.cfi_unwind.specs.EntryFieldViews.{cie_view, fde_view};
-ghost use Rattle.cfi_program.specs.Written.{Writes};
+ghost use Rattle.cfi_unwind.specs.CieAndFdeViews.{cie_view, fde_view};
+ghost use Rattle.cfi_program.specs.WriterOutput.{Writes};
 ghost use Rattle.cfi_dump.specs.EntryLines.{target_text, addresses_text, lsda_encoding_text, personality_text, signal_text, b_key_text, lsda_text, cie_head, cie_factors, cie_augmentation, cie_line, fde_head, fde_addresses, fde_line, partial_fde_line};
 
 use cfi_program::lines::{Address, write_part};

@@ -8,7 +8,7 @@ use Rattle.cfi_read_core.specs.declared.common.Vendor.{Vendor}
 use Rattle.cfi_read_core.specs.declared.common.Vendor.TheVariants as vendors
 use Rattle.cfi_read_core.specs.declared.common.Register.{Register as RegisterNumber}
 use Rattle.cfi_read_core.specs.declared.error.Error.{Error}
-use Rattle.cfi_read_core.specs.Reading.{Read, Source, Position, Outcome, Extent, carry_on, ◌>>=◌, give, refuse, of_result, split, bytes, unexpected_eof, chosen_from, Readings, readings_with, readings_up_to}
+use Rattle.cfi_read_core.specs.ReadFunctions.{Read, Source, Position, Outcome, Extent, carry_on, ◌>>=◌, give, refuse, of_result, split, bytes, unexpected_eof, chosen_from, Readings, readings_with, readings_up_to}
 use Rattle.cfi_read_core.specs.Numbers.{unsigned, unsigned_leb128, signed_leb128, offset_leb128, register_leb128, register_of}
 use Rattle.cfi_read_core.proofs.Onward.{IsOnward, onward_unsigned, onward_offset_leb128, onward_register_leb128}
 use Rattle.cfi_parts.specs.declared.instruction.UnwindExpression.{UnwindExpression}

@@ -5,9 +5,9 @@ use Rattle.std.specs.List.{slice_get}
 use borrow.Author.Tests.{ltb-true, leb-true, le-leb}
 use Rattle.cfi_read_core.specs.declared.error.Error.{Error}
 use Rattle.cfi_read_core.specs.declared.error.Error.TheVariants.{BadUnsignedLeb128, UnsupportedOffset}
-use Rattle.cfi_read_core.specs.Reading.{Read, Source, Position, Extent, Outcome, carry_on, ◌>>=◌, ◌>>◌, split, give, refuse, refuse_if, unexpected_eof, offset, rest}
+use Rattle.cfi_read_core.specs.ReadFunctions.{Read, Source, Position, Extent, Outcome, carry_on, ◌>>=◌, ◌>>◌, split, give, refuse, refuse_if, unexpected_eof, offset, rest}
 use Rattle.cfi_read_core.specs.Numbers.{continuation_count, is_bad_byte, leb128_bytes, leb128_sum, unsigned_leb128, offset_leb128}
-use Rattle.cfi_read_core.specs.Readers.{IsPartOf, extent_of}
+use Rattle.cfi_read_core.specs.ReaderCalls.{IsPartOf, extent_of}
 use Rattle.cfi_parts.specs.declared.instruction.UnwindExpression.{UnwindExpression}
 use Rattle.cfi_parts.specs.CallFrameSections.{IsOf}
 use Rattle.cfi_parts.specs.ExpressionPlaces.{LiesIn, place_in}

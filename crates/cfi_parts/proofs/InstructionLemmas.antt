@@ -6,12 +6,12 @@ use Rattle.std.specs.Int.{w8, w16, w32, w64, cast_unsigned}
 use Rattle.cfi_read_core.specs.declared.common.Vendor.{Vendor}
 use Rattle.cfi_read_core.specs.declared.common.Vendor.TheVariants as vendors
 use Rattle.cfi_read_core.specs.declared.common.Register.{Register as RegisterNumber}
-use Rattle.cfi_read_core.specs.Reading.{Read, ◌>>=◌, give, of_result, refuse_if, here, split}
+use Rattle.cfi_read_core.specs.ReadFunctions.{Read, ◌>>=◌, give, of_result, refuse_if, here, split}
 use Rattle.cfi_read_core.specs.Numbers.{unsigned, signed, unsigned_leb128, signed_leb128, offset_leb128, register_leb128}
 use Rattle.cfi_read_core.specs.declared.error.Error.{Error}
 use Rattle.cfi_read_core.specs.declared.error.Error.TheVariants.{PcRelativePointerButSectionBaseIsUndefined, CannotParseOmitPointerEncoding}
 use Rattle.cfi_read_core.specs.Addresses.{wrap}
-use Rattle.cfi_read_core.specs.Encodings.{format_of, application_of, is_omitted}
+use Rattle.cfi_read_core.specs.PointerEncodings.{format_of, application_of, is_omitted}
 use Rattle.cfi_read_core.proofs.Onward.{IsOnward, onward_give, onward_refuse, onward_bind, onward_here, onward_split, onward_of_result, onward_refuse_if, onward_unsigned, onward_signed, onward_unsigned_leb128, onward_signed_leb128, onward_offset_leb128, onward_register_leb128, onward_address, onward_from}
 use Rattle.cfi_read_core.proofs.Repeating.{Advances, advances_bind, advances_unsigned}
 use Rattle.cfi_parts.specs.declared.pointer.Pointer.{Pointer}

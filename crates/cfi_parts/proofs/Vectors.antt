@@ -2,8 +2,8 @@
 use Rattle.std.proofs.Common.{◌≡◌, ℕ, List, [], ◌∷◌, length, false, Some, None, Ok, Err, negsuc, refl}
 use Rattle.cfi_read_core.specs.declared.error.Error.TheVariants.{UnknownCallFrameInstruction, PcRelativePointerButSectionBaseIsUndefined}
 use Rattle.cfi_read_core.specs.declared.common.Vendor.TheVariants as vendors
-use Rattle.cfi_read_core.specs.Reading.{Source, Readings, unexpected_eof}
-use Rattle.cfi_read_core.specs.Reading.{readings_up_to}
+use Rattle.cfi_read_core.specs.ReadFunctions.{Source, Readings, unexpected_eof}
+use Rattle.cfi_read_core.specs.ReadFunctions.{readings_up_to}
 use Rattle.cfi_read_core.specs.Numbers.{unsigned, signed, leb128_bytes, unsigned_leb128, signed_leb128, register_leb128, offset_leb128}
 use Rattle.cfi_parts.specs.declared.instruction.CallFrameInstruction.TheVariants.{AdvanceLoc, DefCfaSf, DefCfaOffsetSf, DefCfaExpression, Offset, OffsetExtendedSf, OffsetExtendedNegative, Register, ValExpression, Restore}
 use Rattle.cfi_parts.specs.declared.pointer.Pointer.TheVariants.{Direct, Indirect}

@@ -4,8 +4,8 @@ use Rattle.std.specs.Prelude.{nat_le, ◌==◌}
 use Rattle.std.proofs.lemmas.Bool.{eqb-true, eqb-false, eq-eqb}
 use borrow.Author.Tests.{le-leb, lt-leb}
 use Rattle.cfi_read_core.specs.declared.error.Error.{Error}
-use Rattle.cfi_read_core.specs.Reading.{Source, Position, Outcome, with_first, no_values, readings_with}
-use Rattle.cfi_read_core.specs.Readers.{remaining, end_position}
+use Rattle.cfi_read_core.specs.ReadFunctions.{Source, Position, Outcome, with_first, no_values, readings_with}
+use Rattle.cfi_read_core.specs.ReaderCalls.{remaining, end_position}
 use Rattle.cfi_read_core.proofs.Repeating.{readings_from, one_turn}
 use Rattle.cfi_parts.specs.Instructions.{Instruction, InstructionContext, instruction}
 use Rattle.cfi_parts.specs.InstructionReaders.{instructions_left}

@@ -9,10 +9,10 @@ use Rattle.cfi_read_core.specs.declared.common.Format.TheVariants.{Dwarf32, Dwar
 use Rattle.cfi_read_core.specs.declared.error.Error.{Error}
 use Rattle.cfi_read_core.specs.declared.error.Error.TheVariants.{OffsetOutOfBounds}
 use Rattle.std.specs.Coded.{Coded-set, coded_list, coded_ℕ, coded_bool, le_prop}
-use Rattle.cfi_read_core.specs.Reading.{Position}
-use Rattle.cfi_read_core.specs.Readers.{IsPartOf}
-use Rattle.cfi_parts.specs.declared.unwind_section.CieOffsetEncoding.{CieOffsetEncoding}
-use Rattle.cfi_parts.specs.declared.unwind_section.CieOffsetEncoding.TheVariants.{U32, U64}
+use Rattle.cfi_read_core.specs.ReadFunctions.{Position}
+use Rattle.cfi_read_core.specs.ReaderCalls.{IsPartOf}
+use Rattle.cfi_parts.specs.declared.section_properties.CieOffsetEncoding.{CieOffsetEncoding}
+use Rattle.cfi_parts.specs.declared.section_properties.CieOffsetEncoding.TheVariants.{U32, U64}
 
 pub data SectionKind : Type 0 where
   DebugFrame : SectionKind

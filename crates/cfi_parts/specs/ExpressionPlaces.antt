@@ -4,7 +4,7 @@
 --     expression_of i, HasExpressionIn number section i      the expression that an instruction holds lies in the section
 --     ReadsIn section reader      a reader of instructions in the section, or in a part of it
 use Rattle.std.specs.Prelude.{◌≡◌, ℕ, ◌+◌, ◌-◌, ◌≤◌, Option, Some, None, IfSome}
-use Rattle.cfi_read_core.specs.Reading.{Position, Extent}
+use Rattle.cfi_read_core.specs.ReadFunctions.{Position, Extent}
 use Rattle.cfi_parts.specs.declared.instruction.UnwindExpression.{UnwindExpression}
 use Rattle.cfi_parts.specs.declared.instruction.CallFrameInstruction.{CallFrameInstruction}
 use Rattle.cfi_parts.specs.declared.instruction.CallFrameInstruction.TheVariants as instruction

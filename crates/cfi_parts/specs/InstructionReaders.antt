@@ -1,8 +1,8 @@
 -- The instructions that are still to be read in order.
 use Rattle.std.specs.Prelude.{◌≡◌, List, [], ◌∷◌, ◌++◌, map, Option, Some, None, Result, Ok, Err}
 use Rattle.cfi_read_core.specs.declared.error.Error.{Error}
-use Rattle.cfi_read_core.specs.Reading.{Readings, Position, with_first, no_values}
-use Rattle.cfi_read_core.specs.Readers.{extent_of}
+use Rattle.cfi_read_core.specs.ReadFunctions.{Readings, Position, with_first, no_values}
+use Rattle.cfi_read_core.specs.ReaderCalls.{extent_of}
 use Rattle.cfi_parts.specs.Instructions.{Instruction, InstructionContext, instructions}
 
 -- A reader at an instruction, and what the instructions are read with.

@@ -5,7 +5,7 @@ use Rattle.cfi_read_core.specs.declared.common.Register.{Register as RegisterNum
 use Rattle.cfi_read_core.specs.declared.common.Vendor.{Vendor}
 use Rattle.cfi_read_core.specs.declared.common.Vendor.TheVariants as vendors
 use Rattle.cfi_read_core.specs.declared.error.Error.TheVariants.{UnknownCallFrameInstruction}
-use Rattle.cfi_read_core.specs.Reading.{Read, Source, Extent, Readings, readings_over, ◌>>=◌, ◌>>◌, give, refuse, of_result, skip, split, chosen_from}
+use Rattle.cfi_read_core.specs.ReadFunctions.{Read, Source, Extent, Readings, readings_over, ◌>>=◌, ◌>>◌, give, refuse, of_result, skip, split, chosen_from}
 use Rattle.cfi_read_core.specs.Numbers.{unsigned, unsigned_leb128, signed_leb128, offset_leb128, register_leb128}
 use Rattle.cfi_read_core.specs.Addresses.{address}
 use Rattle.cfi_parts.specs.declared.instruction.UnwindExpression.{UnwindExpression}

@@ -1,8 +1,8 @@
 pub mod Pointers
-pub mod Contexts
+pub mod ReadingParameters
 pub mod CallFrameSections
 pub mod Instructions
 pub mod MappedInstructions
 pub mod InstructionReaders
 pub mod ExpressionPlaces
-pub mod Iterators
+pub mod InstructionIterators

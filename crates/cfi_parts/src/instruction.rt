@@ -1,10 +1,10 @@
 //! Call frame instructions (DWARF 5 section 6.4.2).
 ghost use Rattle.std.specs.Prelude.{◌≡◌, ◌≤◌, ◌<◌, ◌-◌, ℕ, true, ⊤, IfOk, IfSome};
 ghost use Rattle.cfi_read_core.specs.Addresses.{IsAddressSize, is_sized};
-ghost use Rattle.cfi_read_core.specs.Readers.{IsPartOf, Reads, extent_of, remaining, map_ok};
-ghost use Rattle.cfi_parts.specs.Contexts.{instruction_context};
+ghost use Rattle.cfi_read_core.specs.ReaderCalls.{IsPartOf, Reads, extent_of, remaining, map_ok};
+ghost use Rattle.cfi_parts.specs.ReadingParameters.{instruction_context};
 ghost use Rattle.cfi_parts.specs.CallFrameSections.{IsOf};
-ghost use Rattle.cfi_read_core.specs.Reading.{Position};
+ghost use Rattle.cfi_read_core.specs.ReadFunctions.{Position};
 ghost use Rattle.cfi_parts.specs.ExpressionPlaces.{HasExpressionIn, LiesIn, ReadsIn, place_in};
 ghost use Rattle.cfi_parts.specs.Instructions.{expression_bytes};
 ghost use Rattle.cfi_parts.specs.InstructionReaders.{Meets, instructions_left, items};
@@ -13,7 +13,7 @@ ghost use Rattle.cfi_parts.specs.MappedInstructions.{map_expression, map_instruc
 mod parse;
 
 use crate::pointer::PointerEncodingParameters;
-use crate::unwind_section::_UnwindSectionPrivate;
+use crate::section_properties::_UnwindSectionPrivate;
 use cfi_read_core::dwarf_section::Expression;
 use cfi_read_core::{DwEhPe, Reader, Register, Result, Vendor};
 use parse::{InstructionParameters, parse_instruction};
@@ -190,7 +190,7 @@ impl<R: Reader> Clone for CallFrameInstructionIter<'_, R> {
 impl<R: Reader> Copy for CallFrameInstructionIter<'_, R> {}
 
 impl<'a, R: Reader> CallFrameInstructionIter<'a, R> {
-    ghost use Rattle.cfi_parts.specs.Iterators.{instruction_reader};
+    ghost use Rattle.cfi_parts.specs.InstructionIterators.{instruction_reader};
 
     /// The instructions in what is left of the input, which stands in the section of the pointers.
     ///
@@ -243,7 +243,7 @@ impl<R: Reader> Iterator for CallFrameInstructionIter<'_, R> {
     type Item = Result<CallFrameInstruction<R::Offset>>;
 
     ghost use Rattle.std.specs.Iterator.{YieldsFirstBy, item_count};
-    ghost use Rattle.cfi_parts.specs.Iterators.{instruction_reader};
+    ghost use Rattle.cfi_parts.specs.InstructionIterators.{instruction_reader};
 
     ghost next_gives = { YieldsFirstBy (map_ok (map_instruction R.Offset.number)) (λ it. items (instructions_left (instruction_reader R.position it))) };
 

@@ -3,4 +3,4 @@
 
 pub mod instruction;
 pub mod pointer;
-pub mod unwind_section;
+pub mod section_properties;

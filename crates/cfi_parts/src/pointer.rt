@@ -1,8 +1,8 @@
 //! Encoded pointers (LSB Core, "DWARF Exception Header Encoding").
 ghost use Rattle.std.specs.Prelude.{◌≡◌, ◌≤◌, ℕ};
 ghost use Rattle.cfi_read_core.specs.Addresses.{IsAddressSize};
-ghost use Rattle.cfi_read_core.specs.Readers.{Reads};
-ghost use Rattle.cfi_parts.specs.Contexts.{pointer_context};
+ghost use Rattle.cfi_read_core.specs.ReaderCalls.{Reads};
+ghost use Rattle.cfi_parts.specs.ReadingParameters.{pointer_context};
 ghost use Rattle.cfi_parts.specs.Pointers.{base_of, direct, encoding_byte, encoded_value, pointer_value, pointer};
 
 use cfi_read_core::constants::{

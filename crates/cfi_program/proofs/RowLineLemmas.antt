@@ -7,10 +7,10 @@ use Rattle.std.specs.Fmt.{decimal}
 use Rattle.std.specs.Ordering.{nat_cmp, eq_by_cmp}
 use Rattle.std.specs.Io.KnownBytes.{Appends}
 use Rattle.cfi_read_core.specs.declared.common.Register.{Register}
-use Rattle.cfi_state.specs.Rules.{numbered_pair, rules_of}
+use Rattle.cfi_state.specs.RulePairs.{numbered_pair, rules_of}
 use Rattle.cfi_state.specs.declared.table.rules.RegisterRule.{RegisterRule}
 use Rattle.cfi_program.specs.RowLines.{rule_text, ruled, rules_text}
-use Rattle.cfi_program.specs.Written.{IsBeginning}
+use Rattle.cfi_program.specs.WriterOutput.{IsBeginning}
 use Rattle.cfi_program.proofs.WrittenLemmas.{IsGiven, given_then, beginning_then}
 
 rules_more : (n r : ℕ) (rule_of : ℕ → Option (RegisterRule ℕ)) → r < n →

@@ -5,7 +5,7 @@ use Rattle.std.specs.Io.KnownBytes.{Appends, Keeps}
 use Rattle.cfi_program.specs.Input.{Bytes, bytes_by}
 use Rattle.cfi_program.specs.Lines.{Line, wrong_words, wrong_hexadecimal, wrong_input}
 use Rattle.cfi_program.specs.Runs.{Program, IsLineFor, IsOwed, IsRun, LineOfInput, LineOfRequest, LineOfWords, asked_for, out_of_memory}
-use Rattle.cfi_program.specs.Written.{IsBeginning, Prints}
+use Rattle.cfi_program.specs.WriterOutput.{IsBeginning, Prints}
 use Rattle.cfi_program.proofs.WrittenLemmas.{appends_then, keeps_is}
 
 -- What holds of the lines of a program: none begins with a w, as those do that say that words or input are wrong, and

@@ -2,12 +2,12 @@
 use Rattle.std.proofs.Common.{◌∙◌, ◌≡◌, ℕ, List, Some, sym, ap}
 use Rattle.cfi_read_core.specs.declared.common.Vendor.{Vendor}
 use Rattle.cfi_read_core.specs.ByteOrder.{is_big}
-use Rattle.cfi_read_core.specs.Reading.{Position}
-use Rattle.cfi_read_core.specs.Readers.{all_of}
+use Rattle.cfi_read_core.specs.ReadFunctions.{Position}
+use Rattle.cfi_read_core.specs.ReaderCalls.{all_of}
 use Rattle.cfi_parts.specs.declared.pointer.SectionBaseAddresses.{SectionBaseAddresses}
 use Rattle.cfi_unwind.specs.Sections as sections
 use Rattle.cfi_unwind.specs.Sections.{Section}
-use Rattle.gimli_cfi.specs.Headers.{header_section}
+use Rattle.gimli_cfi.specs.EhFrameHdr.{header_section}
 use Rattle.cfi_program.specs.declared.words.SectionWords.{SectionWords}
 use Rattle.cfi_program.specs.SectionOfWords.{header_section_of, kind_of_section, section_of}
 

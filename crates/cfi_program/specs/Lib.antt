@@ -3,5 +3,5 @@ pub mod SectionOfWords
 pub mod Input
 pub mod Lines
 pub mod RowLines
-pub mod Written
+pub mod WriterOutput
 pub mod Runs

@@ -1,10 +1,10 @@
 -- The section and the header that words and bytes mean.
 use Rattle.std.specs.Prelude.{ℕ, Some, List, length}
 use Rattle.cfi_read_core.specs.ByteOrder.{is_big}
-use Rattle.cfi_read_core.specs.Reading.{Source}
+use Rattle.cfi_read_core.specs.ReadFunctions.{Source}
 use Rattle.cfi_unwind.specs.Sections as sections
 use Rattle.cfi_unwind.specs.Sections.{Section}
-use Rattle.gimli_cfi.specs.Headers.{HeaderSection}
+use Rattle.gimli_cfi.specs.EhFrameHdr.{HeaderSection}
 use Rattle.cfi_program.specs.declared.words.Kind.{Kind}
 use Rattle.cfi_program.specs.declared.words.Kind.TheVariants.{DebugFrame, EhFrame}
 use Rattle.cfi_program.specs.declared.words.SectionWords.{SectionWords}

@@ -3,7 +3,7 @@ ghost use Rattle.std.specs.Prelude.{◌≡◌, ◌≢◌, ℕ, ◌⊎◌, ◌<�
 ghost use Rattle.std.specs.Io.KnownBytes.{Consumes, IsAtEnd};
 ghost use Rattle.hex.specs.Hex.{hex_digit_value};
 ghost use Rattle.std.specs.List.{All, before_first, after_first};
-ghost use Rattle.cfi_read_core.specs.Readers.{map_ok};
+ghost use Rattle.cfi_read_core.specs.ReaderCalls.{map_ok};
 ghost use Rattle.cfi_program.specs.Input.{is_space, is_line_feed, decoded_bytes, bytes_of, IsDecoded, without_spaces, AreDigitValues, BeginsWithByte, BeginsWithNoByte, BeginsWithDigit, BeginsWithNoDigit};
 
 use hex::FromHex;

@@ -1,7 +1,7 @@
 //! Writing lines, and the lines that say why there is no answer.
 ghost use Rattle.std.specs.Prelude.{◌≡◌, Some, IfSome};
 ghost use Rattle.cfi_program.specs.Lines.{address_text, name_of, refusal_line, wrong_words, wrong_hexadecimal, wrong_input};
-ghost use Rattle.cfi_program.specs.Written.{Writes, Prints};
+ghost use Rattle.cfi_program.specs.WriterOutput.{Writes, Prints};
 
 use arrayvec::ArrayString;
 use gimli_cfi::Error;

@@ -1,8 +1,8 @@
 //! The line of a row.
 ghost use Rattle.std.specs.Prelude.{◌≡◌, ◌≤◌, ◌+◌, ◌++◌, ℕ, [], ◌∷◌, Some, None, Err, IfSome};
 ghost use Rattle.std.specs.FinMap as map;
-ghost use Rattle.cfi_read_core.specs.Readers.{map_ok};
-ghost use Rattle.cfi_program.specs.Written.{Writes, Prints};
+ghost use Rattle.cfi_read_core.specs.ReaderCalls.{map_ok};
+ghost use Rattle.cfi_program.specs.WriterOutput.{Writes, Prints};
 ghost use Rattle.cfi_program.specs.RowLines.{cfa_text, rule_text, row_text, row_head, row_rules, answer_line};
 
 use crate::lines::{Address, write_part, write_refusal, write_text};

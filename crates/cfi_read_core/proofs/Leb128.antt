@@ -6,7 +6,7 @@ use Rattle.std.proofs.lemmas.Bool.{cases_lt}
 use Rattle.std.proofs.Math.Nat.{pow-le-pow_right, pow-suc, mul-le-mul_right}
 use Rattle.cfi_read_core.specs.declared.error.Error.{Error}
 use Rattle.cfi_read_core.specs.declared.error.Error.TheVariants.{BadUnsignedLeb128}
-use Rattle.cfi_read_core.specs.Reading.{Read, Source, Outcome, unexpected_eof, rest, carry_on, refuse_if, refuse, give, ◌>>◌}
+use Rattle.cfi_read_core.specs.ReadFunctions.{Read, Source, Outcome, unexpected_eof, rest, carry_on, refuse_if, refuse, give, ◌>>◌}
 use Rattle.std.specs.Int.{w8}
 use Rattle.cfi_read_core.specs.Numbers.{unsigned, number_of, leb128_sum, continuation_count, leb128_bytes, is_bad_byte, unsigned_leb128}
 use borrow.Author.Tests.{le-leb, lt-leb, lt-ltb, le-ltb}

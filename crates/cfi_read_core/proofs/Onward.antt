@@ -5,7 +5,7 @@ use Rattle.std.specs.List.{AllByRecursion, slice_get}
 use Rattle.std.specs.Int.{Width, byte_len, cast_signed}
 use Rattle.cfi_read_core.specs.declared.error.Error.{Error}
 use Rattle.cfi_read_core.specs.declared.error.Error.TheVariants.{BadUnsignedLeb128, BadSignedLeb128}
-use Rattle.cfi_read_core.specs.Reading.{Read, Source, Outcome, Extent, carry_on, ◌>>=◌, ◌>>◌, give, refuse, of_result, refuse_if, here, split, bytes, within, offset, rest, chosen_from}
+use Rattle.cfi_read_core.specs.ReadFunctions.{Read, Source, Outcome, Extent, carry_on, ◌>>=◌, ◌>>◌, give, refuse, of_result, refuse_if, here, split, bytes, within, offset, rest, chosen_from}
 use Rattle.cfi_read_core.specs.Numbers.{unsigned, signed, continuation_count, leb128_bytes, is_bad_byte, leb128_sum, signed_leb128_sum, unsigned_leb128, signed_leb128, offset_leb128, register_of, register_leb128, length_in, initial_length}
 use Rattle.cfi_read_core.specs.declared.common.Format.{Format}
 use Rattle.cfi_read_core.specs.declared.common.Format.TheVariants.{Dwarf32, Dwarf64}

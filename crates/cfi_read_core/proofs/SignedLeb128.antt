@@ -8,7 +8,7 @@ use Rattle.std.proofs.Math.Nat.{pow-suc, pow-le-pow_right, mul-le-mul_right}
 use borrow.Author.Tests.{le-leb, lt-leb}
 use Rattle.cfi_read_core.specs.declared.error.Error.{Error}
 use Rattle.cfi_read_core.specs.declared.error.Error.TheVariants.{BadSignedLeb128}
-use Rattle.cfi_read_core.specs.Reading.{Read, Source, Outcome, unexpected_eof, rest, carry_on, refuse_if, refuse, give, ◌>>◌}
+use Rattle.cfi_read_core.specs.ReadFunctions.{Read, Source, Outcome, unexpected_eof, rest, carry_on, refuse_if, refuse, give, ◌>>◌}
 use Rattle.cfi_read_core.specs.Numbers.{unsigned, leb128_sum, continuation_count, leb128_bytes, is_bad_byte, is_below_zero, number_by, signed_leb128_sum, signed_leb128}
 use Rattle.cfi_read_core.proofs.Leb128.{bad_byte_at, goes_on, same_test, byte_there, no_byte_there}
 

@@ -4,9 +4,9 @@ use Rattle.std.specs.Prelude.{ok_or, cond, nat_lt, nat_le, not, ◌==◌, if◌t
 use Rattle.std.specs.List.{prefix_len}
 use Rattle.std.specs.Int.{w8}
 use Rattle.cfi_read_core.specs.declared.error.Error.{Error}
-use Rattle.cfi_read_core.specs.Reading.{Source, Position, Outcome, Extent, rest, unexpected_eof, split}
+use Rattle.cfi_read_core.specs.ReadFunctions.{Source, Position, Outcome, Extent, rest, unexpected_eof, split}
 use Rattle.cfi_read_core.specs.Numbers.{unsigned, text}
-use Rattle.cfi_read_core.specs.Readers.{IsPartOf, bytes_left, extent_of, find_byte}
+use Rattle.cfi_read_core.specs.ReaderCalls.{IsPartOf, bytes_left, extent_of, find_byte}
 use Rattle.cfi_read_core.proofs.Leb128.{unsigned_room}
 use Rattle.std.proofs.lemmas.Bool.{ltb-true, leb-true}
 use Rattle.std.proofs.lemmas.List.{take-take, length-take}

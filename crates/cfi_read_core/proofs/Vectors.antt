@@ -3,7 +3,7 @@ use Rattle.std.proofs.Common.{◌≡◌, ℕ, List, [], ◌∷◌, length, false
 use Rattle.std.specs.Int.{w16}
 use Rattle.cfi_read_core.specs.declared.error.Error.TheVariants.{BadUnsignedLeb128, BadSignedLeb128, UnknownReservedLength, UnsupportedRegister, UnsupportedOffset}
 use Rattle.cfi_read_core.specs.declared.common.Format.TheVariants.{Dwarf32, Dwarf64}
-use Rattle.cfi_read_core.specs.Reading.{Read, Outcome, unexpected_eof}
+use Rattle.cfi_read_core.specs.ReadFunctions.{Read, Outcome, unexpected_eof}
 use Rattle.cfi_read_core.specs.Numbers.{unsigned, signed, leb128_bytes, unsigned_leb128, signed_leb128, register_leb128, offset_leb128, initial_length, text}
 
 -- a read at the first of little-endian bytes, with offsets of eight bytes, and of four

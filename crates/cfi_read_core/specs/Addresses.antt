@@ -5,7 +5,7 @@ use Rattle.std.proofs.Common.{inl, inr}
 use Rattle.std.proofs.lemmas.Bool.{eqb-true}
 use Rattle.cfi_read_core.specs.declared.error.Error.{Error}
 use Rattle.cfi_read_core.specs.declared.error.Error.TheVariants.{UnsupportedAddressSize, AddressOverflow}
-use Rattle.cfi_read_core.specs.Reading.{Read, ◌>>=◌, give, refuse}
+use Rattle.cfi_read_core.specs.ReadFunctions.{Read, ◌>>=◌, give, refuse}
 use Rattle.cfi_read_core.specs.Numbers.{unsigned}
 
 -- the sum that wraps at the size

@@ -1,8 +1,8 @@
-pub mod Reading
+pub mod ReadFunctions
 pub mod Numbers
 pub mod Addresses
-pub mod Encodings
+pub mod PointerEncodings
 pub mod ByteOrder
 pub mod Offsets
-pub mod Readers
+pub mod ReaderCalls
 pub mod Windows

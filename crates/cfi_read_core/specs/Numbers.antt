@@ -7,7 +7,7 @@ use Rattle.cfi_read_core.specs.declared.common.Format.TheVariants.{Dwarf32, Dwar
 use Rattle.cfi_read_core.specs.declared.common.Register.{Register}
 use Rattle.cfi_read_core.specs.declared.error.Error.{Error}
 use Rattle.cfi_read_core.specs.declared.error.Error.TheVariants.{BadUnsignedLeb128, BadSignedLeb128, UnknownReservedLength, UnsupportedRegister}
-use Rattle.cfi_read_core.specs.Reading.{Read, ◌>>=◌, ◌>>◌, give, refuse, of_result, refuse_if, unexpected_eof, bytes, rest, offset}
+use Rattle.cfi_read_core.specs.ReadFunctions.{Read, ◌>>=◌, ◌>>◌, give, refuse, of_result, refuse_if, unexpected_eof, bytes, rest, offset}
 
 -- ---- fixed widths
 

@@ -1,7 +1,7 @@
 //! Addresses of 1, 2, 4 or 8 bytes, and their sums.
 ghost use Rattle.std.specs.Prelude.{◌≡◌, ⊤, ℕ, true};
 ghost use Rattle.cfi_read_core.specs.Addresses.{IsAddressSize, is_sized, wrap, checked_sum};
-ghost use Rattle.cfi_read_core.specs.Readers.{map_ok};
+ghost use Rattle.cfi_read_core.specs.ReaderCalls.{map_ok};
 
 use crate::error::{Error, Result};
 use std::alloc::AllocError;

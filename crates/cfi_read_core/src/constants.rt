@@ -1,6 +1,6 @@
 //! The constants of DWARF 5 and of the LSB that the layer names.
 ghost use Rattle.std.specs.Prelude.{◌≡◌, ◌*◌};
-ghost use Rattle.cfi_read_core.specs.Encodings.{format_of, application_of, is_indirect, is_valid_encoding};
+ghost use Rattle.cfi_read_core.specs.PointerEncodings.{format_of, application_of, is_indirect, is_valid_encoding};
 
 /// The encoding of a pointer (LSB Core, "DWARF Exception Header Encoding").
 #[derive(Clone, Copy, Debug, PartialEq, Eq)]

@@ -2,8 +2,8 @@
 ghost use Rattle.std.specs.Prelude.{◌≡◌, refl};
 ghost use Rattle.std.specs.Ordering.{on};
 ghost use Rattle.std.specs.Cmp.{on_per, on_equiv};
-ghost use Rattle.cfi_read_core.specs.Readers.{same_reader, same_reader-per, same_reader-equiv};
-ghost use Rattle.cfi_read_core.specs.Readers.{bytes_left, map_ok};
+ghost use Rattle.cfi_read_core.specs.ReaderCalls.{same_reader, same_reader-per, same_reader-equiv};
+ghost use Rattle.cfi_read_core.specs.ReaderCalls.{bytes_left, map_ok};
 ghost use Rattle.cfi_read_core.specs.Windows.{narrow_position, narrow_over};
 
 use crate::endianity::Endianity;

@@ -1,10 +1,10 @@
 //! Readers: places in bytes from which numbers are read.
 ghost use Rattle.std.specs.Prelude.{◌≡◌, ℕ, ◌-◌, ◌≤◌, ◌==◌, IfOk};
 ghost use Rattle.std.specs.Int.{w8, w16, w32, w64};
-ghost use Rattle.cfi_read_core.specs.Reading.{Position, skip, split};
+ghost use Rattle.cfi_read_core.specs.ReadFunctions.{Position, skip, split};
 ghost use Rattle.cfi_read_core.specs.Numbers.{InitialLength, unsigned, signed, unsigned_leb128, signed_leb128, offset_leb128, register_leb128, initial_length, text};
 ghost use Rattle.cfi_read_core.specs.Addresses.{address, address_size};
-ghost use Rattle.cfi_read_core.specs.Readers.{IsSound, IsPartOf, Reads, bytes_left, end_position, extent_of, find_byte, remaining, map_ok, same_reader};
+ghost use Rattle.cfi_read_core.specs.ReaderCalls.{IsSound, IsPartOf, Reads, bytes_left, end_position, extent_of, find_byte, remaining, map_ok, same_reader};
 ghost use Rattle.std.specs.Prelude.{◌<◌};
 ghost use Rattle.cfi_read_core.specs.Numbers.{number_by};
 

@@ -32,9 +32,9 @@ impl<'input, const GREATEST: usize> Window<'input, GREATEST> {
     ghost use Rattle.std.specs.Prelude.{ℕ, Bool, ◌-◌, ◌==◌, ok_or, position, true};
     ghost use Rattle.std.specs.Int.{w8, w16, w32, w64};
     ghost use Rattle.std.specs.Prelude.{IfOk};
-    ghost use Rattle.cfi_read_core.specs.Reading.{skip, split};
+    ghost use Rattle.cfi_read_core.specs.ReadFunctions.{skip, split};
     ghost use Rattle.cfi_read_core.specs.Numbers.{unsigned};
-    ghost use Rattle.cfi_read_core.specs.Readers.{IsPartOf, Reads, extent_of};
+    ghost use Rattle.cfi_read_core.specs.ReaderCalls.{IsPartOf, Reads, extent_of};
     ghost use Rattle.cfi_read_core.specs.Windows.{position_of, ReadsIn, ReadsWindow, stretch};
 
     /// All of the slice.

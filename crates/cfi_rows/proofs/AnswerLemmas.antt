@@ -5,15 +5,15 @@ use Rattle.std.specs.Prelude.{ok_or}
 use Rattle.cfi_read_core.specs.declared.error.Error.{Error}
 use Rattle.cfi_read_core.specs.declared.error.Error.TheVariants.{UnsupportedPointerEncoding}
 use Rattle.cfi_parts.specs.declared.pointer.Pointer.{Pointer}
-use Rattle.cfi_read_core.specs.Readers.{map_ok}
+use Rattle.cfi_read_core.specs.ReaderCalls.{map_ok}
 use Rattle.cfi_state.specs.Row.{Row}
 use Rattle.cfi_state.specs.MappedStates.{map_row}
 use Rattle.cfi_state.proofs.MappedEquality.{as_it_is, same_row}
 use Rattle.cfi_unwind.specs.Sections.{Section}
 use Rattle.cfi_unwind.specs.Scan.{chosen_fde}
 use Rattle.cfi_unwind.specs.Fdes.{Fde}
-use Rattle.gimli_cfi.specs.Headers.{HeaderSection, Header, Table, header_of, start_of, value_size}
-use Rattle.gimli_cfi.specs.HeaderTables.{IsFoundByTable, SearchedBy, fde_by_row}
+use Rattle.gimli_cfi.specs.EhFrameHdr.{HeaderSection, Header, Table, header_of, start_of, value_size}
+use Rattle.gimli_cfi.specs.TableLookup.{IsFoundByTable, SearchedBy, fde_by_row}
 use Rattle.cfi_unwind.specs.AddressRow.{IsRowOfFound}
 use Rattle.cfi_program.specs.Lines.{Line}
 use Rattle.cfi_program.specs.Input.{Bytes}

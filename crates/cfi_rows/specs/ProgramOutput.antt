@@ -6,8 +6,8 @@ use Rattle.cfi_state.specs.Row.{Row}
 use Rattle.cfi_unwind.specs.Sections.{Section}
 use Rattle.cfi_unwind.specs.Fdes.{Fde}
 use Rattle.cfi_unwind.specs.Scan.{chosen_fde}
-use Rattle.gimli_cfi.specs.Headers.{HeaderSection, Header, Table, header_of, start_of}
-use Rattle.gimli_cfi.specs.HeaderTables.{IsFoundByTable}
+use Rattle.gimli_cfi.specs.EhFrameHdr.{HeaderSection, Header, Table, header_of, start_of}
+use Rattle.gimli_cfi.specs.TableLookup.{IsFoundByTable}
 use Rattle.cfi_unwind.specs.AddressRow.{IsRowOfFound}
 use Rattle.cfi_rows.specs.declared.command_line.Storage.{Storage}
 use Rattle.cfi_rows.specs.declared.command_line.Storage.TheVariants.{OnHeap, Growing}

@@ -1,17 +1,17 @@
 //! The row for the address that a request asks for.
 ghost use Rattle.std.specs.Prelude.{◌≡◌, Some};
 ghost use Rattle.cfi_read_core.specs.declared.error.Error.{Error as Refusal};
-ghost use Rattle.cfi_read_core.specs.Readers.{map_ok};
+ghost use Rattle.cfi_read_core.specs.ReaderCalls.{map_ok};
 ghost use Rattle.cfi_read_core.specs.Addresses.{IsAddressSize};
 ghost use Rattle.cfi_state.specs.MappedStates.{row_lent};
-ghost use Rattle.gimli_cfi.specs.Headers.{header_section};
+ghost use Rattle.gimli_cfi.specs.EhFrameHdr.{header_section};
 ghost use Rattle.gimli_cfi.specs.HeaderViews.{section_view};
 ghost use Rattle.cfi_rows.specs.ProgramOutput.{answers, room, rows_in, IsAnswer, IsRowByHeader};
 ghost use Rattle.cfi_rows.specs.CommandLine.{CanBeAnswered};
 ghost use Rattle.cfi_program.specs.Input.{bytes_of};
 ghost use Rattle.cfi_program.specs.Lines.{Line};
 ghost use Rattle.cfi_program.specs.Runs.{IsLineFor};
-ghost use Rattle.cfi_program.specs.Written.{Prints};
+ghost use Rattle.cfi_program.specs.WriterOutput.{Prints};
 
 use crate::command_line::{Request, Storage};
 use cfi_program::input::Sections;

@@ -6,7 +6,7 @@ ghost use Rattle.cfi_rows.specs.CommandLine.{CanBeAnswered, request_of_words};
 ghost use Rattle.cfi_program.specs.Lines.{Line};
 ghost use Rattle.cfi_program.specs.Runs.{IsRun, IsOwed};
 ghost use Rattle.cfi_program.specs.Words.{texts};
-ghost use Rattle.cfi_program.specs.Written.{Prints};
+ghost use Rattle.cfi_program.specs.WriterOutput.{Prints};
 
 use crate::command_line::{Request, asked_for};
 use crate::row_lookup::print_answer;

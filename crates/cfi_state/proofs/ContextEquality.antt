@@ -3,7 +3,7 @@ use Rattle.std.proofs.Common.{◌≡◌, Bool, true, false, not, ◌&&◌, List,
 use Rattle.std.specs.Option.{option_eq}
 use Rattle.std.specs.Cmp.Lexicographic.{pointwise}
 use Rattle.cfi_state.specs.Row.{Row}
-use Rattle.cfi_state.specs.Context.{ContextState}
+use Rattle.cfi_state.specs.UnwindContexts.{ContextState}
 use Rattle.cfi_state.specs.Equality.{row_eq, rules_eq, context_eq}
 use Rattle.cfi_state.proofs.Lists.{pointwise-reverse}
 

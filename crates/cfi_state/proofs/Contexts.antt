@@ -7,12 +7,12 @@ use Rattle.std.specs.FinMap.{len}
 use Rattle.std.specs.List.{slice_get}
 use Rattle.cfi_read_core.specs.declared.error.Error.{Error}
 use Rattle.cfi_read_core.specs.declared.error.Error.TheVariants.{StackFull, PopWithEmptyStack, OutOfMemory}
-use Rattle.cfi_state.specs.Limit.{HasRoomFor}
+use Rattle.cfi_state.specs.ListLimits.{HasRoomFor}
 use Rattle.cfi_state.specs.MachineSettings.{is_at_limit}
 use Rattle.cfi_state.specs.Machine.{Rules, copies_held}
-use Rattle.cfi_state.specs.Outcome.{Performs}
+use Rattle.cfi_state.specs.AllocatingOperations.{Performs}
 use Rattle.cfi_state.specs.Row.{Row, with_parts}
-use Rattle.cfi_state.specs.Context.{ContextState, initial_of, context_of, IsContext, IsSameBelow, IsKept, context_rows_held, context_remember, context_restore, context_restore_from, context_end_of_cie}
+use Rattle.cfi_state.specs.UnwindContexts.{ContextState, initial_of, context_of, IsContext, IsSameBelow, IsKept, context_rows_held, context_remember, context_restore, context_restore_from, context_end_of_cie}
 
 module _ {T : Type 0} where
   pub copies_held-many : (rules : Rules T) (count : ℕ) → len rules ≡ count → 2 ≤ count → 1 ≡ copies_held (Some rules)

@@ -10,7 +10,7 @@ use Rattle.std.specs.FinMap.{nat_cmp-IsAntisymmetric, get, keys}
 use Rattle.cfi_read_core.specs.declared.common.Register.{Register}
 use Rattle.cfi_state.specs.declared.table.rules.RegisterRule.{RegisterRule}
 use Rattle.cfi_state.specs.Machine.{Rules}
-use Rattle.cfi_state.specs.Rules.{numbered_pair, rules_of, IsDistinctRegisters}
+use Rattle.cfi_state.specs.RulePairs.{numbered_pair, rules_of, IsDistinctRegisters}
 use Rattle.cfi_state.specs.Equality.{is_within, rule_eq}
 use Rattle.cfi_state.proofs.Entries.{all-from_entries}
 use Rattle.cfi_state.proofs.Registers.{get-found}

@@ -3,7 +3,7 @@ use Rattle.std.proofs.Common.{rules, ap, ◌∙◌, ◌≡◌, ℕ, ℤ, ltb, Bo
 use Rattle.std.specs.Option.{IfSome}
 use Rattle.std.specs.Result.{IfErr}
 use Rattle.std.specs.FinMap.{insert, len, contains_key}
-use Rattle.cfi_read_core.specs.Readers.{map_ok}
+use Rattle.cfi_read_core.specs.ReaderCalls.{map_ok}
 use Rattle.cfi_read_core.specs.declared.common.Register.{Register}
 use Rattle.cfi_read_core.specs.declared.error.Error.{Error}
 use Rattle.cfi_read_core.specs.declared.error.Error.TheVariants.{TooManyRegisterRules}
@@ -12,16 +12,16 @@ use Rattle.cfi_state.specs.declared.table.rules.CfaRule.{CfaRule}
 use Rattle.cfi_state.specs.declared.table.rules.CfaRule.TheVariants as cfa
 use Rattle.cfi_state.specs.declared.table.rules.RegisterRule.{RegisterRule}
 use Rattle.cfi_state.specs.declared.table.machine.Parameters.{Parameters}
-use Rattle.cfi_state.specs.Outcome.{Performs}
+use Rattle.cfi_state.specs.AllocatingOperations.{Performs}
 use Rattle.cfi_state.specs.MachineSettings.{Setting, is_at_limit, advanced_location, fits_address}
 use Rattle.cfi_state.specs.Machine.{Rules, State, perform, step}
 use Rattle.cfi_state.specs.Machine as machine
-use Rattle.cfi_state.specs.Rules.{map_set_rule, AddsRule}
+use Rattle.cfi_state.specs.RulePairs.{map_set_rule, AddsRule}
 use Rattle.cfi_state.specs.Row.{row_with_rules}
-use Rattle.cfi_state.specs.Context.{ContextState, machine_state, with_row}
-use Rattle.cfi_state.specs.Memory.{adds_rule, may_allocate_for, may_allocate_at}
+use Rattle.cfi_state.specs.UnwindContexts.{ContextState, machine_state, with_row}
+use Rattle.cfi_state.specs.Allocation.{adds_rule, may_allocate_for, may_allocate_at}
 use Rattle.cfi_state.specs.ActionEffects.{target, with_register, with_offset, cfa_given, rule_given}
-use Rattle.cfi_state.specs.Outcome.{IsRefusal}
+use Rattle.cfi_state.specs.AllocatingOperations.{IsRefusal}
 use Rattle.cfi_state.specs.ContextEffects.{setting_of, Changes, rows_after, remembered_after}
 use Rattle.cfi_state.specs.Actions.{Action, sets_location, advances_location, defines_cfa, defines_cfa_register, defines_cfa_offset, gives_rule, action}
 

@@ -6,18 +6,18 @@ use Rattle.std.specs.Option.{option_or}
 use Rattle.std.specs.Result.{IsOk}
 use Rattle.std.proofs.lemmas.Bool.{false≢true}
 use Rattle.std.proofs.lemmas.List.{append-nil}
-use Rattle.cfi_read_core.specs.Reading.{Readings, with_first, no_values}
+use Rattle.cfi_read_core.specs.ReadFunctions.{Readings, with_first, no_values}
 use Rattle.cfi_read_core.specs.declared.error.Error.{Error}
 use Rattle.cfi_parts.specs.declared.instruction.CallFrameInstruction.{CallFrameInstruction}
 use Rattle.cfi_state.specs.Row.{Row}
 use Rattle.cfi_state.specs.MachineSettings.{Setting, is_move}
 use Rattle.cfi_state.specs.Machine.{State, fresh_state, step, end_of_cie}
 use Rattle.cfi_state.specs.Program.{Program, in_cie, in_fde, followed_by, location_of, refusal, refusal_at_end}
-use Rattle.cfi_state.specs.Rows.{or_refused, on_option, row_until, rows_ended, answers_of, answer_at, fde_answer, answers, first_refusal, cie_refusal, program_state, IsStateAfter}
-use Rattle.cfi_state.specs.Outcome.{IsRefusal}
-use Rattle.cfi_state.specs.TableStates.{TableState, before_last_row, after_last_row, answers_to_come, IsNext}
+use Rattle.cfi_state.specs.FdeAnswers.{or_refused, on_option, row_until, rows_ended, answers_of, answer_at, fde_answer, answers, first_refusal, cie_refusal, program_state, IsStateAfter}
+use Rattle.cfi_state.specs.AllocatingOperations.{IsRefusal}
+use Rattle.cfi_state.specs.UnwindTableStates.{TableState, before_last_row, after_last_row, answers_to_come, IsNext}
 use Rattle.cfi_state.specs.MachineRuns.{MayAllocate, AreNever, current_row, NextAnswer, passes, ends_row, refuses, cannot_read, last_row, no_row, RunsInitialInstructions, cie_passes, cie_refuses, cie_cannot_read, cie_ends, cie_end_refused, FindsRow, contains_it, goes_on, is_refused, comes_to_end, AnswersFde, by_cie, by_rows}
-use Rattle.cfi_state.specs.Kept.{at_program, AnswersForProgram, IsLeftOut, NextKeptAnswer, keeps, keeps_move, leaves_out, finds_unreadable, gives_last_row, gives_no_row, KeepsInitialInstructions, cie_keeps, cie_leaves_out, cie_finds_unreadable, cie_is_kept, cie_end_left_out, AnswersByKept, refused_by_cie, found_in_rows}
+use Rattle.cfi_state.specs.KeptInstructions.{at_program, AnswersForProgram, IsLeftOut, NextKeptAnswer, keeps, keeps_move, leaves_out, finds_unreadable, gives_last_row, gives_no_row, KeepsInitialInstructions, cie_keeps, cie_leaves_out, cie_finds_unreadable, cie_is_kept, cie_end_left_out, AnswersByKept, refused_by_cie, found_in_rows}
 use Rattle.cfi_state.proofs.Law.{step_law}
 use Rattle.cfi_state.proofs.CieEnd.{end_law}
 use Rattle.cfi_state.proofs.IsStateAfter.{accepted_value, refused_error, stands_next, stands_refused, stands_at_end, stands_fresh}

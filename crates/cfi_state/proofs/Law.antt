@@ -20,9 +20,9 @@ use Rattle.cfi_state.specs.MachineSettings.{Setting, ra_sign_state, is_at_limit,
 use Rattle.cfi_state.specs.Actions.{Action, sets_location, advances_location, defines_cfa, defines_cfa_register, defines_cfa_offset, defines_cfa_expression, gives_rule, restores_rule, toggles_sign_state, remembers_state, restores_state, sets_args_size, changes_nothing, action}
 use Rattle.cfi_state.specs.Machine.{Rules, Parts, State, fresh_state, copies_held, rows_held, with_cfa, with_rules, set_rule, set_or_remove_rule, set_cfa_register, set_cfa_offset, toggle, restore_state, perform, step}
 use Rattle.cfi_state.specs.RememberedStates.{survivors, open_indices, before_open}
-use Rattle.cfi_state.specs.Writers.{last_written, written_cfa, written_cfa_register, written_cfa_offset, written_args_size, written_register, written_rule, names, cfa_from, final_cfa, final_args_size, rule_before_toggles, final_toggles, constant_or_zero, final_rule, final_rules, final_parts}
+use Rattle.cfi_state.specs.LastWriters.{last_written, written_cfa, written_cfa_register, written_cfa_offset, written_args_size, written_register, written_rule, names, cfa_from, final_cfa, final_args_size, rule_before_toggles, final_toggles, constant_or_zero, final_rule, final_rules, final_parts}
 use Rattle.cfi_state.specs.Program.{Program, in_cie, in_fde, refused_if, instructions, followed_by, location_of, no_rule, initial_rule, rule_of, parts_of, open_count, extra_count, is_stack_full, is_expression, is_no_constant, has_no_room, refusal_of, refusal, IsAccepted, nothing, one_more, cie_ended}
-use Rattle.cfi_state.specs.Rows.{or_refused, initial_rules_of, remembered_of, program_state}
+use Rattle.cfi_state.specs.FdeAnswers.{or_refused, initial_rules_of, remembered_of, program_state}
 use Rattle.cfi_state.proofs.RememberedStateCounts.{closing, closings, opens, closings-append}
 use Rattle.cfi_state.proofs.RememberedStateEnds.{left, fronts, left-append, fronts-append, closings_before, length-fronts, restored, no_length}
 use Rattle.cfi_state.proofs.RememberedStatePlaces.{survivors-left, before_open-fronts, open_places-length}

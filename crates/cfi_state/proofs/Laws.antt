@@ -8,7 +8,7 @@ use Rattle.std.proofs.Common.{◌≡◌, ℕ, ◌+◌, ◌<◌, ◌≤◌, Bool,
 use Rattle.std.specs.List.{count_by}
 use Rattle.std.proofs.lemmas.List.Sums.{sum_by-cons}
 use Rattle.std.proofs.lemmas.Bool.{false≢true, and_from, cases_lt, lt-ltb, le-ltb, ltb-false, le-leb, lt-leb, cases_Bool}
-use Rattle.cfi_read_core.specs.Reading.{Readings}
+use Rattle.cfi_read_core.specs.ReadFunctions.{Readings}
 use Rattle.cfi_read_core.specs.declared.error.Error.{Error}
 use Rattle.cfi_read_core.specs.declared.error.Error.TheVariants.{OutOfMemory}
 use Rattle.cfi_parts.specs.declared.instruction.CallFrameInstruction.{CallFrameInstruction}
@@ -18,7 +18,7 @@ use Rattle.cfi_state.specs.MachineSettings.{Setting, next_location, is_move}
 use Rattle.cfi_state.specs.Machine.{State}
 use Rattle.cfi_state.specs.MachineRuns.{MayAllocate, AnswersFde}
 use Rattle.cfi_state.specs.Program.{Program, in_fde, refused_if, followed_by, location_of, refusal}
-use Rattle.cfi_state.specs.Rows.{or_refused, on_option, on_result, refusals, row_until, answers_of, answers, cie_refusal, run_answers, program_state, IsStateAfter, rows_of, row_contains, AreConsecutive, answer_at, fde_answer, run_fde_answer}
+use Rattle.cfi_state.specs.FdeAnswers.{or_refused, on_option, on_result, refusals, row_until, answers_of, answers, cie_refusal, run_answers, program_state, IsStateAfter, rows_of, row_contains, AreConsecutive, answer_at, fde_answer, run_fde_answer}
 use Rattle.cfi_state.proofs.Law.{location_push}
 use Rattle.cfi_state.proofs.IsStateAfter.{cie_law, cie_accepted, run_law}
 use Rattle.cfi_state.proofs.KeptAnswers.{answers-other, answers-move, answers-refused}

@@ -2,16 +2,16 @@
 use Rattle.std.proofs.Common.{◌≡◌, ℕ, Bool, not, ◌&&◌, ◌||◌, leb, Option, Some, None, Result, Ok, Err, is_some, refl, sym, ap, subst, ◌∙◌, inl, inr}
 use Rattle.std.specs.Option.{option_map}
 use Rattle.std.specs.Result.{IsOk}
-use Rattle.cfi_read_core.specs.Readers.{map_ok}
+use Rattle.cfi_read_core.specs.ReaderCalls.{map_ok}
 use Rattle.cfi_read_core.specs.declared.error.Error.{Error}
 use Rattle.cfi_parts.specs.declared.instruction.CallFrameInstruction.{CallFrameInstruction}
 use Rattle.cfi_state.specs.Actions.{Action, gives_rule, restores_rule, toggles_sign_state, action}
 use Rattle.cfi_parts.specs.MappedInstructions.{map_instruction}
 use Rattle.cfi_state.specs.MachineSettings.{Setting}
 use Rattle.cfi_state.specs.Machine.{Rules, State, step, end_of_cie}
-use Rattle.cfi_state.specs.Outcome.{IsRefusal}
+use Rattle.cfi_state.specs.AllocatingOperations.{IsRefusal}
 use Rattle.cfi_state.specs.MappedStates.{map_rule, map_rules, map_state}
-use Rattle.cfi_state.specs.Memory.{adds_rule, has_initial_rule, copies_row, may_allocate_for, may_allocate_at, may_allocate_at_end}
+use Rattle.cfi_state.specs.Allocation.{adds_rule, has_initial_rule, copies_row, may_allocate_for, may_allocate_at, may_allocate_at_end}
 use Rattle.cfi_state.proofs.MappedMaps.{len-map_values, contains-map_values}
 use Rattle.cfi_state.proofs.MappedSteps.{map_action, action-mapped, step-mapped, end_of_cie-mapped}
 

@@ -1,7 +1,7 @@
 -- Memory that is refused where a state is remembered, over a storage that grows: the instruction is left out, so that the
 -- next restore has nothing to bring back.
 use Rattle.std.proofs.Common.{ℕ, false, pos, negsuc, List, [], ◌∷◌, Option, Some, None, Result, Ok, Err, refl, inl, inr}
-use Rattle.cfi_read_core.specs.Reading.{Readings}
+use Rattle.cfi_read_core.specs.ReadFunctions.{Readings}
 use Rattle.cfi_read_core.specs.declared.error.Error.{Error}
 use Rattle.cfi_read_core.specs.declared.error.Error.TheVariants.{OutOfMemory, PopWithEmptyStack}
 use Rattle.cfi_parts.specs.declared.instruction.CallFrameInstruction.{CallFrameInstruction}
@@ -10,7 +10,7 @@ use Rattle.cfi_state.specs.declared.table.rules.CfaRule.TheVariants as cfa
 use Rattle.cfi_state.specs.Row.{Row}
 use Rattle.cfi_state.specs.MachineSettings.{Setting}
 use Rattle.cfi_state.specs.Machine.{State, no_rules}
-use Rattle.cfi_state.specs.TableStates.{TableState, before_last_row, after_last_row}
+use Rattle.cfi_state.specs.UnwindTableStates.{TableState, before_last_row, after_last_row}
 use Rattle.cfi_state.specs.MachineRuns.{NextAnswer, passes, refuses, last_row, may_allocate}
 
 -- no limits, and copies of rules allocate; the FDE covers 0x1000 up to 0x1020

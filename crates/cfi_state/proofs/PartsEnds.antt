@@ -14,7 +14,7 @@ use Rattle.cfi_state.specs.declared.table.rules.RegisterRule.TheVariants as rule
 use Rattle.cfi_state.specs.Actions.{action}
 use Rattle.cfi_state.specs.MachineSettings.{Setting, ra_sign_state, is_move, is_toggle}
 use Rattle.cfi_state.specs.Machine.{Rules, Parts}
-use Rattle.cfi_state.specs.Writers.{last_written, after_last, written_cfa, written_cfa_register, written_cfa_offset, written_args_size, written_register, written_rule, names, writes_rule, toggles, cfa_from, final_cfa, final_args_size, rule_before_toggles, final_toggles, rule_after_toggles, constant_or_zero, final_rule, registers_named, registers_with_rule, final_rules, final_parts}
+use Rattle.cfi_state.specs.LastWriters.{last_written, after_last, written_cfa, written_cfa_register, written_cfa_offset, written_args_size, written_register, written_rule, names, writes_rule, toggles, cfa_from, final_cfa, final_args_size, rule_before_toggles, final_toggles, rule_after_toggles, constant_or_zero, final_rule, registers_named, registers_with_rule, final_rules, final_parts}
 use Rattle.cfi_state.proofs.RuleMaps.{get-insert, get-remove}
 use Rattle.cfi_state.proofs.WriterEnds.{last_written_push, behind_last_push, count_step, flatten_step, distinct-any, entries_at, find-entries_at, len-entries_at}
 

@@ -21,12 +21,12 @@ use Rattle.cfi_read_core.specs.declared.error.Error.TheVariants.{TooManyRegister
 use Rattle.cfi_state.specs.declared.table.rules.RegisterRule.{RegisterRule}
 use Rattle.cfi_state.specs.declared.storage.Why.{Why}
 use Rattle.cfi_state.specs.declared.storage.Why.TheVariants.{Full, Memory}
-use Rattle.cfi_state.specs.Outcome.{Performs}
-use Rattle.cfi_state.specs.Refusal.{refusal_for}
-use Rattle.cfi_state.specs.Limit.{IsAtLimit, IsWithinLimit}
+use Rattle.cfi_state.specs.AllocatingOperations.{Performs}
+use Rattle.cfi_state.specs.StorageRefusals.{refusal_for}
+use Rattle.cfi_state.specs.ListLimits.{IsAtLimit, IsWithinLimit}
 use Rattle.cfi_state.specs.MachineSettings.{is_at_limit}
 use Rattle.cfi_state.specs.Machine.{Rules}
-use Rattle.cfi_state.specs.Rules.{numbered_pair, rules_of, map_set_rule, IsDistinctRegisters, IsRising, BelongsAt, AddsRule, AddsRules}
+use Rattle.cfi_state.specs.RulePairs.{numbered_pair, rules_of, map_set_rule, IsDistinctRegisters, IsRising, BelongsAt, AddsRule, AddsRules}
 use Rattle.cfi_state.proofs.Entries.{find_at, from_entries-set, from_entries-permuted, from_entries-without, remove-absent, len-from_entries}
 use Rattle.cfi_state.proofs.Rising.{distinct-from_rising, rising-inserted}
 

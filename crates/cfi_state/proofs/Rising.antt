@@ -13,7 +13,7 @@ use Rattle.std.specs.List.Sorted.{IsStrictlySortedBy}
 use Rattle.std.specs.Ordering.{nat_cmp}
 use Rattle.cfi_read_core.specs.declared.common.Register.{Register}
 use Rattle.cfi_state.specs.declared.table.rules.RegisterRule.{RegisterRule}
-use Rattle.cfi_state.specs.Rules.{numbered_pair, IsDistinctRegisters, IsRising, BelongsAt}
+use Rattle.cfi_state.specs.RulePairs.{numbered_pair, IsDistinctRegisters, IsRising, BelongsAt}
 
 -- ---- numbers that rise
 

@@ -6,7 +6,7 @@ use Rattle.std.specs.Option.{option_map}
 use Rattle.std.specs.Ordering.{nat_cmp, eq_by_cmp}
 use Rattle.std.specs.Cmp.{nat_cmp_total}
 use Rattle.std.specs.FinMap as map
-use Rattle.cfi_read_core.specs.Reading.{Readings}
+use Rattle.cfi_read_core.specs.ReadFunctions.{Readings}
 use Rattle.cfi_read_core.specs.declared.common.Register.{Register}
 use Rattle.cfi_read_core.specs.declared.error.Error.{Error}
 use Rattle.cfi_parts.specs.declared.instruction.UnwindExpression.{UnwindExpression}
@@ -22,7 +22,7 @@ use Rattle.cfi_state.specs.MachineSettings.{Setting, ra_sign_state, advanced_loc
 use Rattle.cfi_state.specs.Machine.{Rules, Parts, State, fresh_state, with_rules, set_rule, set_or_remove_rule, restore_rule, set_cfa_register, set_cfa_offset, toggle, restore_state, step, end_of_cie}
 use Rattle.cfi_state.specs.MappedStates.{map_rule, map_cfa, map_parts}
 use Rattle.cfi_state.specs.Row.{Row}
-use Rattle.cfi_state.specs.TableStates.{TableState, before_last_row}
+use Rattle.cfi_state.specs.UnwindTableStates.{TableState, before_last_row}
 use Rattle.cfi_state.specs.MachineRuns.{MayAllocate, NextAnswer, passes, ends_row, refuses, cannot_read, last_row, no_row, RunsInitialInstructions, cie_passes, cie_refuses, cie_cannot_read, cie_ends, cie_end_refused, FindsRow, contains_it, goes_on, is_refused, comes_to_end, AnswersFde, by_cie, by_rows}
 use Rattle.cfi_state.specs.RowExpressions.{cfa_expression, rule_expression, EachOfRules, EachExpression, EachOfState, EachOfTable}
 use Rattle.cfi_state.proofs.MappedMaps.{get-map_values}

@@ -1,16 +1,16 @@
 -- The answers of a run are those of the machine's functions, but for one that is refused for lack of memory.
 use Rattle.std.proofs.Common.{◌≡◌, ℕ, Bool, true, false, cond, List, [], ◌∷◌, ◌++◌, Option, Some, None, Result, Ok, Err, refl, sym, ap, subst, ◌∙◌, inl, inr, ◌⊎◌}
 use Rattle.std.proofs.lemmas.Bool.{false≢true}
-use Rattle.cfi_read_core.specs.Reading.{Readings, with_first}
+use Rattle.cfi_read_core.specs.ReadFunctions.{Readings, with_first}
 use Rattle.cfi_read_core.specs.declared.error.Error.{Error}
 use Rattle.cfi_read_core.specs.declared.error.Error.TheVariants.{OutOfMemory, NoUnwindInfoForAddress}
 use Rattle.cfi_parts.specs.declared.instruction.CallFrameInstruction.{CallFrameInstruction}
 use Rattle.cfi_state.specs.Row.{Row}
 use Rattle.cfi_state.specs.MachineSettings.{Setting, is_move}
 use Rattle.cfi_state.specs.Machine.{State, fresh_state, step, end_of_cie}
-use Rattle.cfi_state.specs.Rows.{on_result, on_option, row_ended, run_answers, run_answers_of, run_all, run_cie, row_contains, answer_at, run_fde_answer}
-use Rattle.cfi_state.specs.Outcome.{IsRefusal}
-use Rattle.cfi_state.specs.TableStates.{TableState, before_last_row, run_answers_to_come, IsNext}
+use Rattle.cfi_state.specs.FdeAnswers.{on_result, on_option, row_ended, run_answers, run_answers_of, run_all, run_cie, row_contains, answer_at, run_fde_answer}
+use Rattle.cfi_state.specs.AllocatingOperations.{IsRefusal}
+use Rattle.cfi_state.specs.UnwindTableStates.{TableState, before_last_row, run_answers_to_come, IsNext}
 use Rattle.cfi_state.specs.MachineRuns.{MayAllocate, AreNever, NextAnswer, passes, ends_row, refuses, cannot_read, last_row, no_row, RunsInitialInstructions, cie_passes, cie_refuses, cie_cannot_read, cie_ends, cie_end_refused, FindsRow, contains_it, goes_on, is_refused, comes_to_end, AnswersFde, by_cie, by_rows}
 
 -- ---- what one step does to the answers of a run

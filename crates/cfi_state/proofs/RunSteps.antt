@@ -3,14 +3,14 @@
 --     LeadsTo, leads-on, next-row      the rows of an FDE
 --     LeadsToCie, cie-leads-on, cie-refused, cie-unreadable, cie-ended, cie-end-refused      the program of a CIE
 use Rattle.std.proofs.Common.{◌≡◌, true, false, Option, Some, None, Result, Ok, Err, sym, subst}
-use Rattle.cfi_read_core.specs.Reading.{Readings, with_first, no_values}
+use Rattle.cfi_read_core.specs.ReadFunctions.{Readings, with_first, no_values}
 use Rattle.cfi_read_core.specs.declared.error.Error.{Error}
 use Rattle.cfi_parts.specs.declared.instruction.CallFrameInstruction.{CallFrameInstruction}
 use Rattle.cfi_state.specs.Row.{Row}
 use Rattle.cfi_state.specs.MachineSettings.{Setting, is_move}
 use Rattle.cfi_state.specs.Machine.{State, step, end_of_cie}
-use Rattle.cfi_state.specs.Outcome.{IsRefusal}
-use Rattle.cfi_state.specs.TableStates.{TableState, before_last_row}
+use Rattle.cfi_state.specs.AllocatingOperations.{IsRefusal}
+use Rattle.cfi_state.specs.UnwindTableStates.{TableState, before_last_row}
 use Rattle.cfi_state.specs.MachineRuns.{MayAllocate, current_row, NextAnswer, passes, ends_row, RunsInitialInstructions, cie_passes, cie_refuses, cie_cannot_read, cie_ends, cie_end_refused}
 
 module _ {T : Type 0} (allocates : MayAllocate T) (s : Setting) where

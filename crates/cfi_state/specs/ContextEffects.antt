@@ -9,10 +9,10 @@ use Rattle.cfi_state.specs.Actions.{Action, remembers_state, restores_state, act
 use Rattle.cfi_state.specs.declared.table.machine.Parameters.{Parameters}
 use Rattle.cfi_state.specs.MachineSettings.{Setting}
 use Rattle.cfi_state.specs.Machine.{step, end_of_cie}
-use Rattle.cfi_state.specs.Memory.{may_allocate_at, may_allocate_at_end}
-use Rattle.cfi_state.specs.Outcome.{IsRefusal}
+use Rattle.cfi_state.specs.Allocation.{may_allocate_at, may_allocate_at_end}
+use Rattle.cfi_state.specs.AllocatingOperations.{IsRefusal}
 use Rattle.cfi_state.specs.Row.{Row}
-use Rattle.cfi_state.specs.Context.{ContextState, machine_state, later_rows}
+use Rattle.cfi_state.specs.UnwindContexts.{ContextState, machine_state, later_rows}
 
 abbrev pub setting_of : Parameters → Option ℕ → Option ℕ → Setting
 setting_of parameters rule_limit stack_limit = record {

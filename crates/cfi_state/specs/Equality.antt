@@ -12,7 +12,7 @@ use Rattle.cfi_state.specs.declared.table.rules.RegisterRule.{RegisterRule}
 use Rattle.cfi_state.specs.declared.table.rules.RegisterRule.TheVariants as rule
 use Rattle.cfi_state.specs.Machine.{Rules, Parts}
 use Rattle.cfi_state.specs.Row.{Row}
-use Rattle.cfi_state.specs.Context.{ContextState}
+use Rattle.cfi_state.specs.UnwindContexts.{ContextState}
 
 -- every key of the first map has an equal value in the second
 abbrev pub is_within : {X : Type 0} → (X → X → Bool) → FinMap nat_cmp X → FinMap nat_cmp X → Bool

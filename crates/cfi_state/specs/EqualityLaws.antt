@@ -13,7 +13,7 @@ use Rattle.cfi_state.specs.declared.table.rules.CfaRule.TheVariants as cfa
 use Rattle.cfi_state.specs.declared.table.rules.RegisterRule.{RegisterRule}
 use Rattle.cfi_state.specs.declared.table.rules.RegisterRule.TheVariants as rule
 use Rattle.cfi_state.specs.Row.{Row}
-use Rattle.cfi_state.specs.Context.{ContextState}
+use Rattle.cfi_state.specs.UnwindContexts.{ContextState}
 use Rattle.cfi_state.specs.Equality.{is_within, map_eq, expression_eq, cfa_eq, rule_eq, rules_eq, row_eq, context_eq}
 
 -- ---- maps

@@ -5,17 +5,17 @@
 --     RunsInitialInstructions allocates s x reads result      a CIE's initial instructions, run from the state x
 --     FindsRow, AnswersFde      the answer for an address
 use Rattle.std.specs.Prelude.{◌≡◌, ℕ, Bool, true, false, Option, Some, None, Result, Ok, Err}
-use Rattle.cfi_read_core.specs.Reading.{Readings, with_first, no_values}
+use Rattle.cfi_read_core.specs.ReadFunctions.{Readings, with_first, no_values}
 use Rattle.cfi_read_core.specs.declared.error.Error.{Error}
 use Rattle.cfi_read_core.specs.declared.error.Error.TheVariants.{NoUnwindInfoForAddress}
 use Rattle.cfi_parts.specs.declared.instruction.CallFrameInstruction.{CallFrameInstruction}
 use Rattle.cfi_state.specs.Row.{Row}
 use Rattle.cfi_state.specs.MachineSettings.{Setting, is_move}
 use Rattle.cfi_state.specs.Machine.{State, fresh_state, step, end_of_cie}
-use Rattle.cfi_state.specs.Outcome.{IsRefusal}
-use Rattle.cfi_state.specs.Memory.{may_allocate_at, may_allocate_at_end}
-use Rattle.cfi_state.specs.Rows.{row_contains}
-use Rattle.cfi_state.specs.TableStates.{TableState, before_last_row, after_last_row}
+use Rattle.cfi_state.specs.AllocatingOperations.{IsRefusal}
+use Rattle.cfi_state.specs.Allocation.{may_allocate_at, may_allocate_at_end}
+use Rattle.cfi_state.specs.FdeAnswers.{row_contains}
+use Rattle.cfi_state.specs.UnwindTableStates.{TableState, before_last_row, after_last_row}
 
 -- where an instruction, and where the end of the CIE's initial instructions, may allocate
 pub record MayAllocate (T : Type 0) : Type 0 where

@@ -17,7 +17,7 @@ use Rattle.cfi_state.specs.declared.table.rules.RegisterRule.TheVariants as rule
 use Rattle.cfi_state.specs.Machine.{Parts}
 use Rattle.cfi_state.specs.MachineSettings.{Setting, ra_sign_state, is_at_limit, advanced_location, fits_address, next_location}
 use Rattle.cfi_state.specs.RememberedStates.{survivors, open_indices}
-use Rattle.cfi_state.specs.Writers.{final_cfa, final_rule, registers_with_rule, final_parts}
+use Rattle.cfi_state.specs.LastWriters.{final_cfa, final_rule, registers_with_rule, final_parts}
 
 -- the instructions of a CIE before its end, or all of them and those of an FDE
 pub data Program (T : Type 0) : Type 0 where

@@ -5,7 +5,7 @@
 use Rattle.std.specs.Prelude.{ℕ, Option, Some, None, IfSome}
 use Rattle.std.specs.FinMap.{get}
 use Rattle.std.specs.List.{AllByRecursion}
-use Rattle.cfi_read_core.specs.Reading.{Position}
+use Rattle.cfi_read_core.specs.ReadFunctions.{Position}
 use Rattle.cfi_parts.specs.declared.instruction.UnwindExpression.{UnwindExpression}
 use Rattle.cfi_parts.specs.MappedInstructions.{map_expression}
 use Rattle.cfi_parts.specs.ExpressionPlaces.{LiesIn, expression_of}
@@ -14,7 +14,7 @@ use Rattle.cfi_state.specs.declared.table.rules.CfaRule.TheVariants as cfa
 use Rattle.cfi_state.specs.declared.table.rules.RegisterRule.{RegisterRule}
 use Rattle.cfi_state.specs.declared.table.rules.RegisterRule.TheVariants as rule
 use Rattle.cfi_state.specs.Machine.{Rules, Parts, State}
-use Rattle.cfi_state.specs.TableStates.{TableState}
+use Rattle.cfi_state.specs.UnwindTableStates.{TableState}
 
 module _ {T : Type 0} where
   abbrev pub cfa_expression : CfaRule T → Option (UnwindExpression T)

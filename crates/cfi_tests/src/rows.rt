@@ -4,7 +4,7 @@ use crate::sections::THREE_ROWS;
 use cfi_parts::instruction::UnwindExpression;
 use cfi_read_core::dwarf_section::Expression;
 use cfi_read_core::{DebugFrameOffset, Error, LittleEndian, Reader, ReaderOffsetId, Register};
-use cfi_unwind::section::scan_for_fde;
+use cfi_unwind::unwind_section::scan_for_fde;
 use gimli_cfi::pointer::BaseAddresses;
 use gimli_cfi::section::{DebugFrame, UnwindSection};
 use gimli_cfi::storage::{ArrayLike, UnwindContextStorage};

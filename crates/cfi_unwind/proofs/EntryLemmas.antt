@@ -7,8 +7,8 @@ use Rattle.cfi_read_core.specs.declared.error.Error.{Error}
 use Rattle.std.specs.Int.{w32, w64}
 use Rattle.cfi_read_core.specs.declared.common.Format.{Format}
 use Rattle.cfi_read_core.specs.declared.common.Format.TheVariants.{Dwarf32, Dwarf64}
-use Rattle.cfi_read_core.specs.Readers.{map_ok}
-use Rattle.cfi_read_core.specs.Reading.{Read, Source, Extent, Readings, ◌>>=◌, give, refuse, offset, here, split, remainder, within, no_values, readings_with}
+use Rattle.cfi_read_core.specs.ReaderCalls.{map_ok}
+use Rattle.cfi_read_core.specs.ReadFunctions.{Read, Source, Extent, Readings, ◌>>=◌, give, refuse, offset, here, split, remainder, within, no_values, readings_with}
 use Rattle.cfi_read_core.specs.Numbers.{InitialLength, initial_length, length_in, unsigned}
 use Rattle.cfi_read_core.proofs.Given.{Gives, gives_give, gives_if, gives_bind, gives_bind_from, gives_within}
 use Rattle.cfi_read_core.proofs.Onward.{IsOnward, onward_give, onward_refuse, onward_if, onward_bind, onward_here, onward_within, onward_split, onward_unsigned, onward_offset, onward_initial_length}

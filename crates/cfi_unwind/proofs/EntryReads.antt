@@ -6,11 +6,11 @@ use Rattle.std.specs.List.{prefix_len}
 use Rattle.std.specs.Int.{Width, w8, w16, w32, w64}
 use Rattle.cfi_read_core.specs.declared.error.Error.{Error}
 use Rattle.cfi_read_core.specs.declared.error.Error.TheVariants.{UnsupportedSegmentSize}
-use Rattle.cfi_read_core.specs.Reading.{Read, Source, Position, Extent, Outcome, ◌>>=◌, ◌>>◌, carry_on, give, refuse, refuse_if, split, within, rest}
+use Rattle.cfi_read_core.specs.ReadFunctions.{Read, Source, Position, Extent, Outcome, ◌>>=◌, ◌>>◌, carry_on, give, refuse, refuse_if, split, within, rest}
 use Rattle.cfi_read_core.specs.Numbers.{unsigned, offset_leb128, register_leb128, text}
 use Rattle.cfi_read_core.specs.Addresses.{IsAddressSize, address, address_size, address_width, is_address_size, sized_by}
-use Rattle.cfi_read_core.specs.Readers.{IsSound, bytes_left}
-use Rattle.cfi_read_core.specs.Encodings.{is_valid_encoding}
+use Rattle.cfi_read_core.specs.ReaderCalls.{IsSound, bytes_left}
+use Rattle.cfi_read_core.specs.PointerEncodings.{is_valid_encoding}
 use Rattle.cfi_read_core.proofs.Given.{Gives, gives_bind, gives_give, gives_refuse}
 use Rattle.cfi_read_core.proofs.Onward.{IsOnward, onward_give, onward_refuse, onward_refuse_if, onward_if, onward_bind, onward_split, onward_within, onward_unsigned, onward_offset_leb128, onward_register_leb128, onward_address}
 use Rattle.cfi_read_core.proofs.Leb128.{byte_there, no_byte_there}
@@ -19,7 +19,8 @@ use Rattle.cfi_parts.specs.CallFrameSections.{has_sizes}
 use Rattle.cfi_parts.specs.Pointers.{PointerContext, encoding_byte, encoded_value, pointer_value, pointer}
 use Rattle.cfi_parts.proofs.InstructionLemmas.{onward_formatted, onward_pointer}
 use Rattle.cfi_unwind.specs.Sections.{Section, pointer_context}
-use Rattle.cfi_unwind.specs.Cies.{Augmentation, no_letters, letter, letters, letters_with_data, augmentation, sizes, return_register}
+use Rattle.cfi_unwind.specs.Augmentations.{Augmentation, no_letters, letter, letters, letters_with_data, augmentation}
+use Rattle.cfi_unwind.specs.Cies.{sizes, return_register}
 use Rattle.cfi_unwind.specs.Fdes.{addresses, data_if, lsda, lsda_by}
 use Rattle.std.proofs.lemmas.Bool.{cases_lt}
 

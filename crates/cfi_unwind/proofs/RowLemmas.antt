@@ -4,15 +4,15 @@ use Rattle.std.specs.Prelude.{IfOk}
 use Rattle.std.specs.Borrow.{Bor}
 use Rattle.cfi_read_core.specs.declared.error.Error.{Error}
 use Rattle.cfi_read_core.specs.declared.error.Error.TheVariants.{OutOfMemory}
-use Rattle.cfi_read_core.specs.Reading.{Position, Readings}
-use Rattle.cfi_read_core.specs.Readers.{map_ok}
+use Rattle.cfi_read_core.specs.ReadFunctions.{Position, Readings}
+use Rattle.cfi_read_core.specs.ReaderCalls.{map_ok}
 use Rattle.cfi_parts.specs.ExpressionPlaces.{LiesIn}
 use Rattle.cfi_parts.specs.Instructions.{Instruction}
 use Rattle.cfi_state.specs.MachineSettings.{Setting}
 use Rattle.cfi_state.specs.Row.{Row}
-use Rattle.cfi_state.specs.Rows.{fde_answer}
+use Rattle.cfi_state.specs.FdeAnswers.{fde_answer}
 use Rattle.cfi_state.specs.MachineRuns.{may_allocate, AnswersFde}
-use Rattle.cfi_state.specs.Kept.{AnswersByKept}
+use Rattle.cfi_state.specs.KeptInstructions.{AnswersByKept}
 use Rattle.cfi_state.specs.MappedStates.{map_row}
 use Rattle.cfi_state.specs.RowExpressions.{EachExpression, HasExpressionsIn}
 use Rattle.cfi_state.proofs.Laws.{fde_answer_kept_or_memory}

@@ -3,18 +3,18 @@ use Rattle.std.proofs.Common.{◌≡◌, ◌≤◌, ◌<◌, ℕ, Bool, cond, Li
 use Rattle.std.specs.Prelude.{IfOk, false}
 use Rattle.std.specs.List.{AllByRecursion, count_by}
 use Rattle.cfi_read_core.specs.declared.error.Error.{Error}
-use Rattle.cfi_read_core.specs.Reading.{Readings}
-use Rattle.cfi_read_core.specs.Readers.{map_ok}
+use Rattle.cfi_read_core.specs.ReadFunctions.{Readings}
+use Rattle.cfi_read_core.specs.ReaderCalls.{map_ok}
 use Rattle.cfi_parts.specs.Instructions.{Instruction}
 use Rattle.cfi_parts.specs.ExpressionPlaces.{LiesIn, HasExpressionIn}
 use Rattle.cfi_parts.proofs.ExpressionPlaces.{all_read_in}
 use Rattle.cfi_state.specs.MachineSettings.{Setting}
 use Rattle.cfi_state.specs.Machine.{State, fresh_state}
 use Rattle.cfi_state.specs.Row.{Row}
-use Rattle.cfi_state.specs.Rows.{AreConsecutive, row_contains, rows_of, run_answers}
+use Rattle.cfi_state.specs.FdeAnswers.{AreConsecutive, row_contains, rows_of, run_answers}
 use Rattle.cfi_state.specs.MappedStates.{row_lent}
 use Rattle.cfi_state.specs.RowExpressions.{EachOfTable, HasExpressionsIn}
-use Rattle.cfi_state.specs.TableStates.{TableState, rows_to_come}
+use Rattle.cfi_state.specs.UnwindTableStates.{TableState, rows_to_come}
 use Rattle.cfi_state.specs.MachineRuns.{may_allocate, RunsInitialInstructions}
 use Rattle.cfi_state.proofs.Laws.{run_consecutive, run_in_one_row}
 use Rattle.cfi_state.proofs.RowExpressions.{answer_holds, initial_holds}
@@ -25,7 +25,7 @@ use Rattle.cfi_unwind.specs.Sections.{Section, position_of}
 use Rattle.cfi_unwind.specs.Cies.{Cie}
 use Rattle.cfi_unwind.specs.Fdes.{Fde}
 use Rattle.cfi_unwind.specs.EntryInstructions.{cie_instructions, fde_instructions}
-use Rattle.cfi_unwind.specs.UnwindTables.{KeepsCieProgram, StartsRows}
+use Rattle.cfi_unwind.specs.UnwindTableCalls.{KeepsCieProgram, StartsRows}
 
 -- each instruction has its expression in the section
 abbrev AllIn : Section → Readings Instruction → Type 0

@@ -4,8 +4,8 @@ use Rattle.std.specs.Result.{IfOk}
 use Rattle.std.specs.Option.{option_map, IfSome}
 use Rattle.std.specs.Borrow.{Bor}
 use Rattle.std.proofs.lemmas.Bool.Decides.{nat_tests}
-use Rattle.cfi_read_core.specs.Reading.{Readings, with_first, no_values}
-use Rattle.cfi_read_core.specs.Readers.{map_ok}
+use Rattle.cfi_read_core.specs.ReadFunctions.{Readings, with_first, no_values}
+use Rattle.cfi_read_core.specs.ReaderCalls.{map_ok}
 use Rattle.cfi_read_core.specs.declared.error.Error.{Error}
 use Rattle.cfi_read_core.specs.declared.error.Error.TheVariants.{NoUnwindInfoForAddress}
 use Rattle.cfi_parts.specs.declared.instruction.CallFrameInstruction.{CallFrameInstruction}
@@ -15,13 +15,13 @@ use Rattle.cfi_parts.specs.MappedInstructions.{map_instruction}
 use Rattle.cfi_state.specs.Row.{Row, at_start, at_end}
 use Rattle.cfi_state.specs.MachineSettings.{Setting, is_move}
 use Rattle.cfi_state.specs.Machine.{State, fresh_state, step}
-use Rattle.cfi_state.specs.Context.{ContextState, machine_state, with_row, empty_context}
+use Rattle.cfi_state.specs.UnwindContexts.{ContextState, machine_state, with_row, empty_context}
 use Rattle.cfi_state.specs.ContextEffects.{Evaluates, EndsCie}
 use Rattle.cfi_state.specs.MappedStates.{map_parts, map_row}
-use Rattle.cfi_state.specs.TableStates.{TableState, before_last_row, after_last_row}
+use Rattle.cfi_state.specs.UnwindTableStates.{TableState, before_last_row, after_last_row}
 use Rattle.cfi_state.specs.MachineRuns.{MayAllocate, may_allocate, current_row, NextAnswer, passes, ends_row, refuses, cannot_read, last_row, no_row, RunsInitialInstructions, FindsRow, contains_it, goes_on, is_refused, comes_to_end, AnswersFde, by_cie, by_rows}
-use Rattle.cfi_state.specs.Rows.{row_contains, fde_answer}
-use Rattle.cfi_state.specs.Limit.{IsFixed}
+use Rattle.cfi_state.specs.FdeAnswers.{row_contains, fde_answer}
+use Rattle.cfi_state.specs.ListLimits.{IsFixed}
 use Rattle.cfi_state.proofs.MappedRuns.{step_ok-mapped, end_ok-mapped, step_refusal-mapped, end_refusal-mapped}
 use Rattle.cfi_state.proofs.MappedSteps.{is_move-mapped, fresh-mapped}
 use Rattle.cfi_state.proofs.RunSteps.{LeadsTo, leads-on, next-row, LeadsToCie, cie-leads-on, cie-refused, cie-unreadable, cie-ended, cie-end-refused}
@@ -31,7 +31,7 @@ use Rattle.cfi_state.proofs.FixedStorage.{fixed_never}
 use Rattle.cfi_state.proofs.RunAnswers.{next_or_memory, next_is_due}
 use Rattle.cfi_state.proofs.RowExpressions.{next_holds}
 use Rattle.cfi_parts.specs.ExpressionPlaces.{LiesIn}
-use Rattle.cfi_unwind.specs.UnwindTables.{GivesNextAnswer, AnswersWithoutMachine, IsNextOrMemory, KeepsExpressionsIn, KeepsCieProgram, state_in_numbers, row_due, state_after, LendsNextRow}
+use Rattle.cfi_unwind.specs.UnwindTableCalls.{GivesNextAnswer, AnswersWithoutMachine, IsNextOrMemory, KeepsExpressionsIn, KeepsCieProgram, state_in_numbers, row_due, state_after, LendsNextRow}
 
 -- what an instruction leaves as it was
 module _ {T : Type 0} (s : Setting) (free : Bool) (location : ℕ) (i : CallFrameInstruction T) (old new : ContextState T) (answer : Result (Option ℕ) Error) (evaluated : Evaluates s free location i old new answer) where

@@ -4,14 +4,14 @@ use Rattle.std.specs.Prelude.{◌==◌, if◌then◌else◌}
 use Rattle.std.proofs.lemmas.Bool.{eqb-false, eqb-true}
 use borrow.Author.Tests.{lt-leb}
 use Rattle.cfi_read_core.specs.declared.error.Error.{Error}
-use Rattle.cfi_read_core.specs.Reading.{Readings, Source, Position, Outcome, carry_on, no_values, readings_with, with_first}
-use Rattle.cfi_read_core.specs.Readers.{map_ok, end_position}
+use Rattle.cfi_read_core.specs.ReadFunctions.{Readings, Source, Position, Outcome, carry_on, no_values, readings_with, with_first}
+use Rattle.cfi_read_core.specs.ReaderCalls.{map_ok, end_position}
 use Rattle.cfi_read_core.proofs.Onward.{IsOnward, onward_bind, onward_give, onward_of_result}
 use Rattle.cfi_read_core.proofs.Repeating.{Advances, advances_bind}
 use Rattle.cfi_unwind.specs.Sections.{Section, zero_length_ends}
 use Rattle.cfi_unwind.specs.Prefixes.{Prefix, prefix}
 use Rattle.cfi_unwind.specs.Entries.{Entry, entry_of, entries_with, entries_from, entries_left}
-use Rattle.cfi_unwind.specs.Walks.{GoesThrough, entry_read, entry_of_prefix}
+use Rattle.cfi_unwind.specs.EntrySteps.{GoesThrough, entry_read, entry_of_prefix}
 use Rattle.cfi_unwind.proofs.EntryLemmas.{advances_prefix, one_entry, onward_prefix}
 
 onward_opened : (section : Section) (found : Option Prefix) → IsOnward (entry_of_prefix section found)

@@ -3,8 +3,8 @@ use Rattle.std.proofs.Common.{◌≡◌, ◌≤◌, ◌+◌, ◌-◌, ℕ, Bool,
 use Rattle.std.specs.Prelude.{nat_le, if◌then◌else◌}
 use borrow.Author.Tests.{leb-true}
 use Rattle.cfi_read_core.specs.declared.error.Error.{Error}
-use Rattle.cfi_read_core.specs.Reading.{Read, Source, Position, Extent, Outcome, split}
-use Rattle.cfi_read_core.specs.Readers.{IsPartOf, extent_of}
+use Rattle.cfi_read_core.specs.ReadFunctions.{Read, Source, Position, Extent, Outcome, split}
+use Rattle.cfi_read_core.specs.ReaderCalls.{IsPartOf, extent_of}
 use Rattle.cfi_read_core.proofs.Onward.{IsOnward}
 use Rattle.cfi_parts.specs.CallFrameSections.{IsOf}
 

@@ -11,10 +11,10 @@ use Rattle.cfi_read_core.specs.declared.error.Error.{Error}
 use Rattle.cfi_read_core.specs.declared.error.Error.TheVariants.{OutOfMemory}
 use Rattle.cfi_state.specs.MachineSettings.{Setting}
 use Rattle.cfi_state.specs.Row.{Row}
-use Rattle.cfi_state.specs.Rows.{fde_answer}
+use Rattle.cfi_state.specs.FdeAnswers.{fde_answer}
 use Rattle.cfi_state.specs.MachineRuns.{may_allocate, AnswersFde}
-use Rattle.cfi_state.specs.Kept.{AnswersByKept}
-use Rattle.cfi_state.specs.Limit.{IsFixed}
+use Rattle.cfi_state.specs.KeptInstructions.{AnswersByKept}
+use Rattle.cfi_state.specs.ListLimits.{IsFixed}
 use Rattle.cfi_unwind.specs.Sections.{Section}
 use Rattle.cfi_unwind.specs.Fdes.{Fde, end_of}
 use Rattle.cfi_unwind.specs.EntryInstructions.{cie_instructions, fde_instructions}

@@ -2,8 +2,8 @@
 use Rattle.std.specs.Prelude.{ℕ, zero, suc, ◌-◌, Bool, true, false, Option, Some, None, Result, Ok, Err, nat_le, ◌==◌, if◌then◌else◌}
 use Rattle.cfi_read_core.specs.declared.error.Error.{Error}
 use Rattle.cfi_read_core.specs.declared.error.Error.TheVariants.{NotCieId, NotCiePointer, NoEntryAtGivenOffset}
-use Rattle.cfi_read_core.specs.Readers.{map_ok}
-use Rattle.cfi_read_core.specs.Reading.{Readings, no_values, readings_with}
+use Rattle.cfi_read_core.specs.ReaderCalls.{map_ok}
+use Rattle.cfi_read_core.specs.ReadFunctions.{Readings, no_values, readings_with}
 use Rattle.cfi_unwind.specs.Sections.{Section, cie_id, cie_offset_of, zero_length_ends, at_offset}
 use Rattle.cfi_unwind.specs.Prefixes.{Prefix, prefix}
 use Rattle.cfi_unwind.specs.Cies.{Cie, cie_of}

@@ -1,6 +1,6 @@
 -- The instructions of entries (DWARF 5 section 6.4.2).
 use Rattle.std.specs.Prelude.{ℕ, Option, None}
-use Rattle.cfi_read_core.specs.Reading.{Readings}
+use Rattle.cfi_read_core.specs.ReadFunctions.{Readings}
 use Rattle.cfi_parts.specs.Instructions.{Instruction, InstructionContext, instructions}
 use Rattle.cfi_unwind.specs.Sections.{Section, pointer_context}
 use Rattle.cfi_unwind.specs.Cies.{Cie}

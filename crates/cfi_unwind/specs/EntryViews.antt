@@ -1,10 +1,10 @@
 -- Entries that a walk yields, as what they mean.
 use Rattle.std.specs.Prelude.{ℕ}
-use Rattle.cfi_read_core.specs.Reading.{Position}
+use Rattle.cfi_read_core.specs.ReadFunctions.{Position}
 use Rattle.cfi_unwind.specs.Cies.{Cie}
 use Rattle.cfi_unwind.specs.Fdes.{PartialFde}
 use Rattle.cfi_unwind.specs.Entries.{Entry, CieEntry, FdeEntry}
-use Rattle.cfi_unwind.specs.EntryFieldViews.{prefix_view}
+use Rattle.cfi_unwind.specs.CieAndFdeViews.{prefix_view}
 use Rattle.cfi_unwind.specs.declared.entry.prefix.EntryPrefix.{EntryPrefix}
 use Rattle.cfi_unwind.specs.declared.entry.entries.EntryFields.{EntryFields}
 use Rattle.cfi_unwind.specs.declared.entry.entries.EntryFields.TheVariants as code

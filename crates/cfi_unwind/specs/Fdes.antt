@@ -1,15 +1,16 @@
 -- Frame description entries (DWARF 5 section 6.4.1; LSB Core, "The Frame Description Entry Format").
 use Rattle.std.specs.Prelude.{ℕ, ◌≤◌, ◌<◌, Bool, true, false, ◌&&◌, Option, Some, None, Result, nat_le, nat_lt}
 use Rattle.cfi_read_core.specs.declared.error.Error.{Error}
-use Rattle.cfi_read_core.specs.Reading.{Read, Extent, ◌>>=◌, give, split, remainder, within}
+use Rattle.cfi_read_core.specs.ReadFunctions.{Read, Extent, ◌>>=◌, give, split, remainder, within}
 use Rattle.cfi_read_core.specs.Numbers.{offset_leb128}
 use Rattle.cfi_read_core.specs.Addresses.{address, wrap}
 use Rattle.cfi_parts.specs.declared.pointer.Pointer.{Pointer}
 use Rattle.cfi_parts.specs.Pointers.{pointer, pointer_value, encoded_value}
 use Rattle.cfi_unwind.specs.Sections.{Section, pointer_context}
 use Rattle.cfi_unwind.specs.Prefixes.{Prefix}
-use Rattle.cfi_unwind.specs.Cies.{Cie, Augmentation}
-pub use Rattle.cfi_unwind.specs.Cies.{address_encoding_of}
+use Rattle.cfi_unwind.specs.Augmentations.{Augmentation}
+use Rattle.cfi_unwind.specs.Cies.{Cie}
+pub use Rattle.cfi_unwind.specs.Augmentations.{address_encoding_of}
 
 -- An FDE as far as the offset of its CIE.
 pub record PartialFde : Type 0 where

@@ -1,11 +1,11 @@
 -- A CIE that is kept with its offset, to be answered again.
 use Rattle.std.specs.Prelude.{◌≡◌, ℕ, Option, Ok, IfSome}
-use Rattle.cfi_read_core.specs.Reading.{Position}
+use Rattle.cfi_read_core.specs.ReadFunctions.{Position}
 use Rattle.cfi_parts.specs.CallFrameSections.{SectionView, IsOf}
 use Rattle.cfi_parts.specs.declared.pointer.BaseAddresses.{BaseAddresses}
 use Rattle.cfi_unwind.specs.Sections.{section_of}
 use Rattle.cfi_unwind.specs.Entries.{cie_at}
-use Rattle.cfi_unwind.specs.EntryFieldViews.{cie_view}
+use Rattle.cfi_unwind.specs.CieAndFdeViews.{cie_view}
 use Rattle.cfi_unwind.specs.declared.entry.cie.CieFields.{CieFields}
 
 -- the CIE that is kept, if there is one, is the section's at its offset

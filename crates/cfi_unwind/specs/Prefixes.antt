@@ -1,7 +1,7 @@
 -- What each entry begins with: its length, which gives the format and the extent, and its id (DWARF 5 section 6.4.1).
 use Rattle.std.specs.Prelude.{ℕ, Option, Some, None, ◌==◌, if◌then◌else◌}
 use Rattle.cfi_read_core.specs.declared.common.Format.{Format}
-use Rattle.cfi_read_core.specs.Reading.{Read, Extent, ◌>>=◌, give, here, split, remainder, within}
+use Rattle.cfi_read_core.specs.ReadFunctions.{Read, Extent, ◌>>=◌, give, here, split, remainder, within}
 use Rattle.cfi_read_core.specs.Numbers.{InitialLength, unsigned, initial_length}
 use Rattle.cfi_unwind.specs.Sections.{Section, offset_in, id_width}
 

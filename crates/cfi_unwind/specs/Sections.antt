@@ -3,7 +3,7 @@ use Rattle.std.specs.Prelude.{ℕ, ◌+◌, ◌-◌, Option, Result, Err, nat_le
 use Rattle.cfi_read_core.specs.declared.common.Vendor.{Vendor}
 use Rattle.cfi_read_core.specs.declared.error.Error.{Error}
 use Rattle.cfi_read_core.specs.declared.error.Error.TheVariants.{UnsupportedOffset}
-use Rattle.cfi_read_core.specs.Reading.{Source, Position, Read, unexpected_eof}
+use Rattle.cfi_read_core.specs.ReadFunctions.{Source, Position, Read, unexpected_eof}
 use Rattle.cfi_parts.specs.declared.pointer.BaseAddresses.{BaseAddresses}
 use Rattle.cfi_parts.specs.declared.pointer.SectionBaseAddresses.{SectionBaseAddresses}
 use Rattle.cfi_parts.specs.Pointers.{PointerContext}

@@ -2,6 +2,6 @@
 //! Call frame sections, their entries, and the FDE for an address.
 
 pub mod entry;
-pub mod section;
-pub mod table;
-mod unwind;
+mod fde_rows;
+pub mod unwind_section;
+pub mod unwind_table;

@@ -11,9 +11,9 @@ use Rattle.cfi_state.specs.Row.{Row}
 use Rattle.cfi_unwind.specs.AddressRow.{IsRowOfFound, IsRowByScan}
 use Rattle.cfi_unwind.specs.Fdes.{Fde}
 use Rattle.cfi_unwind.specs.Scan.{chosen_fde}
-use Rattle.gimli_cfi.specs.FaithfulTables.{Listing, ListsFaithfully}
-use Rattle.gimli_cfi.specs.Headers.{start_of, value_size}
-use Rattle.gimli_cfi.specs.HeaderTables.{IsFoundByTable, ReachesAll}
+use Rattle.gimli_cfi.specs.TableCheck.{Listing, ListsFaithfully}
+use Rattle.gimli_cfi.specs.EhFrameHdr.{start_of, value_size}
+use Rattle.gimli_cfi.specs.TableLookup.{IsFoundByTable, ReachesAll}
 use Rattle.gimli_cfi.proofs.Agreement.{found_as_scan}
 use Rattle.gimli_cfi.proofs.TableRows.{by_scan}
 

@@ -2,7 +2,7 @@
 use Rattle.std.proofs.Common.{◌≡◌, ◌≤◌, ◌<◌, ◌+◌, ◌-◌, ℕ, Result, Ok, subst, arith, ⊎_elim}
 use Rattle.std.proofs.lemmas.Bool.{cases_lt}
 use Rattle.cfi_read_core.specs.declared.error.Error.{Error}
-use Rattle.gimli_cfi.specs.Boundary.{AreRising}
+use Rattle.gimli_cfi.specs.BoundaryRows.{AreRising}
 use Rattle.gimli_cfi.proofs.Rising.{ok_same}
 
 pub one_rises : (start : ℕ → Result ℕ Error) (s : ℕ) → start 0 ≡ Ok s → AreRising start 1

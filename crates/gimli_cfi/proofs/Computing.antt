@@ -2,20 +2,21 @@
 use Rattle.std.proofs.Common.{ℕ, ◌+◌, ◌-◌, ◌*◌, List, [], ◌∷◌, codes, Option, Some, None, length, false}
 use Rattle.std.specs.Prelude.{nat_lt, ◌==◌, if◌then◌else◌}
 use Rattle.cfi_read_core.specs.declared.common.Vendor.TheVariants as vendors
-use Rattle.cfi_read_core.specs.Reading.{Source, readings_up_to}
+use Rattle.cfi_read_core.specs.ReadFunctions.{Source, readings_up_to}
 use Rattle.cfi_read_core.specs.Numbers.{unsigned, signed, leb128_bytes, unsigned_leb128, signed_leb128, offset_leb128, register_leb128, initial_length, text}
 use Rattle.cfi_read_core.specs.Addresses.{address, address_size}
 use Rattle.cfi_parts.specs.Pointers.{encoding_byte, encoded_value, base_of, pointer}
 use Rattle.cfi_parts.specs.Instructions.{expression, instruction}
 use Rattle.cfi_unwind.specs.Sections.{SectionKind, DebugFrame, EhFrame, Section}
 use Rattle.cfi_unwind.specs.Prefixes.{prefix}
-use Rattle.cfi_unwind.specs.Cies.{letter, letters, letters_with_data, augmentation, cie_fields}
+use Rattle.cfi_unwind.specs.Augmentations.{letter, letters, letters_with_data, augmentation}
+use Rattle.cfi_unwind.specs.Cies.{cie_fields}
 use Rattle.cfi_unwind.specs.Fdes.{fde_fields}
 use Rattle.cfi_unwind.specs.Entries.{entry_of, entries_from, cie_at, partial_fde_at}
 use Rattle.cfi_unwind.specs.Scan.{first_covering}
-use Rattle.gimli_cfi.specs.Headers.{HeaderSection, Table, row_count, header_fields, row_by, start_field, target_field, start_of, target_of}
+use Rattle.gimli_cfi.specs.EhFrameHdr.{HeaderSection, Table, row_count, header_fields, row_by, start_field, target_field, start_of, target_of}
 use Rattle.gimli_cfi.specs.HeaderRows.{rows_from}
-use Rattle.gimli_cfi.specs.Steps.{least_exponent}
+use Rattle.gimli_cfi.specs.HalvingSteps.{least_exponent}
 
 -- to name it on an `unfolding` line is to open all these
 unfoldable pub computing : ℕ

@@ -12,10 +12,10 @@ use Rattle.cfi_unwind.specs.Fdes.{Fde, Covers, end_of}
 use Rattle.cfi_unwind.specs.Entries.{fde_at}
 use Rattle.cfi_unwind.specs.Scan.{fde_readings, IsAmong}
 use Rattle.cfi_unwind.proofs.EntryLemmas.{fde_at_its_offset}
-use Rattle.gimli_cfi.specs.Boundary.{AreRising}
-use Rattle.gimli_cfi.specs.FaithfulTables.{HasRow, IsListed, AreListed}
-use Rattle.gimli_cfi.specs.Headers.{HeaderSection, Table, value_size, start_of, target_of}
-use Rattle.gimli_cfi.specs.HeaderTables.{IsFaithful, IsRowOf, IsFdeOf}
+use Rattle.gimli_cfi.specs.BoundaryRows.{AreRising}
+use Rattle.gimli_cfi.specs.TableCheck.{HasRow, IsListed, AreListed}
+use Rattle.gimli_cfi.specs.EhFrameHdr.{HeaderSection, Table, value_size, start_of, target_of}
+use Rattle.gimli_cfi.specs.FaithfulTables.{IsFaithful, IsRowOf, IsFdeOf}
 use Rattle.gimli_cfi.proofs.Counting.{at_most_count, all_of_count}
 use Rattle.gimli_cfi.proofs.OffsetsRise.{Rise, fdes_rise}
 use Rattle.gimli_cfi.proofs.Rising.{value_of, ok_same}

@@ -8,8 +8,8 @@ use Rattle.cfi_state.specs.Row.{Row}
 use Rattle.cfi_unwind.specs.Sections.{Section}
 use Rattle.cfi_unwind.specs.Fdes.{Fde}
 use Rattle.cfi_unwind.specs.AddressRow.{IsRowOfFound}
-use Rattle.gimli_cfi.specs.Headers.{HeaderSection, Header, Table, header_of, start_of, value_size}
-use Rattle.gimli_cfi.specs.HeaderTables.{IsFoundByTable, SearchedBy, fde_by_row}
+use Rattle.gimli_cfi.specs.EhFrameHdr.{HeaderSection, Header, Table, header_of, start_of, value_size}
+use Rattle.gimli_cfi.specs.TableLookup.{IsFoundByTable, SearchedBy, fde_by_row}
 use Rattle.gimli_cfi.specs.RowsByHeader.{FoundByHeader, FoundByTable, IsRowByHeader}
 
 module _ (rules stack : Option ℕ) (free : Bool) (section : Section) (a : ℕ) (header : HeaderSection) where

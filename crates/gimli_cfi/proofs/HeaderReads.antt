@@ -1,14 +1,14 @@
 -- The reads of a header and of its rows never go back.
 use Rattle.std.proofs.Common.{ℕ, refl, arith}
 use Rattle.std.specs.Prelude.{◌||◌}
-use Rattle.cfi_read_core.specs.Reading.{Position, give, refuse_if}
-use Rattle.cfi_read_core.specs.Readers.{IsSound}
-use Rattle.cfi_read_core.specs.Encodings.{is_omitted}
+use Rattle.cfi_read_core.specs.ReadFunctions.{Position, give, refuse_if}
+use Rattle.cfi_read_core.specs.ReaderCalls.{IsSound}
+use Rattle.cfi_read_core.specs.PointerEncodings.{is_omitted}
 use Rattle.cfi_parts.specs.CallFrameSections.{IsOf}
 use Rattle.cfi_read_core.proofs.Onward.{IsOnward, onward_give, onward_refuse_if, onward_if, onward_bind}
 use Rattle.cfi_parts.specs.Pointers.{PointerContext, encoded_value, pointer}
 use Rattle.cfi_parts.proofs.InstructionLemmas.{onward_formatted, onward_pointer}
-use Rattle.gimli_cfi.specs.Headers.{has_base, row_by, row_count}
+use Rattle.gimli_cfi.specs.EhFrameHdr.{has_base, row_by, row_count}
 
 pub onward_row_count : (size count_encoding table_encoding : ℕ) → IsOnward (row_count size count_encoding table_encoding)
 unfolding row_count

@@ -12,10 +12,11 @@ use Rattle.cfi_read_core.specs.declared.error.Error.{Error}
 use Rattle.cfi_parts.specs.declared.pointer.Pointer.TheVariants.{Direct}
 use Rattle.cfi_unwind.specs.Sections.{Section}
 use Rattle.cfi_unwind.specs.Scan.{chosen_fde}
-use Rattle.gimli_cfi.specs.Boundary.{IsBoundaryRow, IsRefusalOfRow}
-use Rattle.gimli_cfi.specs.Headers.{HeaderSection, Table, start_of}
-use Rattle.gimli_cfi.specs.Steps.{steps, least_exponent}
-use Rattle.gimli_cfi.specs.HeaderTables.{IsFaithful, ReachesAll, fde_by_row}
+use Rattle.gimli_cfi.specs.BoundaryRows.{IsBoundaryRow, IsRefusalOfRow}
+use Rattle.gimli_cfi.specs.EhFrameHdr.{HeaderSection, Table, start_of}
+use Rattle.gimli_cfi.specs.HalvingSteps.{steps, least_exponent}
+use Rattle.gimli_cfi.specs.FaithfulTables.{IsFaithful}
+use Rattle.gimli_cfi.specs.TableLookup.{ReachesAll, fde_by_row}
 use Rattle.gimli_cfi.proofs.Agreement.{agrees, refuses_no_start}
 use Rattle.gimli_cfi.proofs.StepsLemmas.{steps_reach}
 

@@ -2,16 +2,16 @@
 use Rattle.std.proofs.Common.{◌≡◌, ◌≢◌, ◌≤◌, ◌+◌, ◌-◌, ℕ, suc, List, [], ◌∷◌, map, length, Some, None, Result, Ok, Err, refl, sym, subst, inl, inr, arith}
 use Rattle.std.specs.List.{AllByRecursion}
 use Rattle.cfi_read_core.specs.declared.error.Error.{Error}
-use Rattle.cfi_read_core.specs.Reading.{Readings, no_values, with_first}
+use Rattle.cfi_read_core.specs.ReadFunctions.{Readings, no_values, with_first}
 use Rattle.cfi_unwind.specs.Sections.{Section}
 use Rattle.cfi_unwind.specs.Cies.{Cie}
 use Rattle.cfi_unwind.specs.Fdes.{PartialFde, Fde}
 use Rattle.cfi_unwind.specs.Entries.{Entry, CieEntry, FdeEntry, entries}
 use Rattle.cfi_unwind.specs.Scan.{partial_fdes, read_fde, fde_readings, IsAmong}
-use Rattle.gimli_cfi.specs.declared.hdr.unfaithful_table.Unfaithful.{Unfaithful}
-use Rattle.gimli_cfi.specs.declared.hdr.unfaithful_table.Unfaithful.TheVariants as reasons
-use Rattle.gimli_cfi.specs.FaithfulTables.{HasRow, IsListed, AreListed, AreFewer, IsRefusedAt, IsReasonOfFde, IsReasonOfFdes}
-use Rattle.gimli_cfi.specs.Headers.{HeaderSection, Table}
+use Rattle.gimli_cfi.specs.declared.hdr.unfaithful.Unfaithful.{Unfaithful}
+use Rattle.gimli_cfi.specs.declared.hdr.unfaithful.Unfaithful.TheVariants as reasons
+use Rattle.gimli_cfi.specs.TableCheck.{HasRow, IsListed, AreListed, AreFewer, IsRefusedAt, IsReasonOfFde, IsReasonOfFdes}
+use Rattle.gimli_cfi.specs.EhFrameHdr.{HeaderSection, Table}
 use Rattle.gimli_cfi.proofs.Faithful.{at_most_rows}
 use Rattle.gimli_cfi.proofs.OffsetsRise.{Rise, fdes_rise}
 

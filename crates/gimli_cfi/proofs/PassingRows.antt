@@ -3,11 +3,11 @@ use Rattle.std.proofs.Common.{◌≡◌, ◌≤◌, ◌<◌, ◌-◌, ℕ, Optio
 use Rattle.std.specs.Prelude.{ok_or}
 use borrow.Author.Tests.{lt-leb, le-leb}
 use Rattle.cfi_read_core.specs.declared.error.Error.{Error}
-use Rattle.cfi_read_core.specs.Reading.{Position, Source}
+use Rattle.cfi_read_core.specs.ReadFunctions.{Position, Source}
 use Rattle.cfi_parts.specs.declared.pointer.Pointer.{Pointer}
-use Rattle.gimli_cfi.specs.Headers.{rows_passed, value_size}
+use Rattle.gimli_cfi.specs.EhFrameHdr.{rows_passed, value_size}
 use Rattle.gimli_cfi.specs.HeaderRows.{Walk, next_row}
-use Rattle.gimli_cfi.specs.Passing.{walk_by, walk_past_by, walk_past, MeetsBehind}
+use Rattle.gimli_cfi.specs.PassedRows.{walk_by, walk_past_by, walk_past, MeetsBehind}
 
 module _ (walk : Walk) (n : ℕ) where
   unsearchable_by : (size : Option ℕ) (x e : Error) → walk_past_by walk n None ≡ Err x → ok_or size x ≡ Err e → walk_past_by walk n size ≡ Err e

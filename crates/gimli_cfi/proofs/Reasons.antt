@@ -12,12 +12,12 @@ use Rattle.cfi_unwind.specs.Sections.{Section}
 use Rattle.cfi_unwind.specs.Fdes.{Fde, PartialFde}
 use Rattle.cfi_unwind.specs.Entries.{entries}
 use Rattle.cfi_unwind.specs.Scan.{partial_fdes, read_fde}
-use Rattle.gimli_cfi.specs.declared.hdr.unfaithful_table.Unfaithful.{Unfaithful}
-use Rattle.gimli_cfi.specs.declared.hdr.unfaithful_table.Unfaithful.TheVariants as reasons
-use Rattle.gimli_cfi.specs.Boundary.{IsBoundaryRow, IsRefusalOfRow, AreRising}
-use Rattle.gimli_cfi.specs.FaithfulTables.{Listing, ListsFaithfully, IsHeaderRefusal, IsRefusalOfHeader, IsRefusalIn, IsRefusedAt, IsRowRefusal, HasNoRow, Overlaps, IsReason, IsReasonOfStarts, IsReasonOfFde, IsReasonOfFdes}
-use Rattle.gimli_cfi.specs.Headers.{HeaderSection, Table, value_size, start_of, target_of}
-use Rattle.gimli_cfi.specs.HeaderTables.{IsFaithful, IsFdeOf}
+use Rattle.gimli_cfi.specs.declared.hdr.unfaithful.Unfaithful.{Unfaithful}
+use Rattle.gimli_cfi.specs.declared.hdr.unfaithful.Unfaithful.TheVariants as reasons
+use Rattle.gimli_cfi.specs.BoundaryRows.{IsBoundaryRow, IsRefusalOfRow, AreRising}
+use Rattle.gimli_cfi.specs.TableCheck.{Listing, ListsFaithfully, IsHeaderRefusal, IsRefusalOfHeader, IsRefusalIn, IsRefusedAt, IsRowRefusal, HasNoRow, Overlaps, IsReason, IsReasonOfStarts, IsReasonOfFde, IsReasonOfFdes}
+use Rattle.gimli_cfi.specs.EhFrameHdr.{HeaderSection, Table, value_size, start_of, target_of}
+use Rattle.gimli_cfi.specs.FaithfulTables.{IsFaithful, IsFdeOf}
 use Rattle.gimli_cfi.proofs.Faithful.{count_of}
 use Rattle.gimli_cfi.proofs.Rising.{boundary_below, above_boundary, ok_same}
 

@@ -3,11 +3,11 @@ use Rattle.std.proofs.Common.{◌≡◌, ◌<◌, ◌+◌, ◌*◌, ℕ, Option,
 use borrow.Author.Tests.{lt-leb}
 use Rattle.cfi_read_core.specs.declared.error.Error.{Error}
 use Rattle.cfi_read_core.specs.declared.error.Error.TheVariants.{UnsupportedOffset}
-use Rattle.cfi_read_core.specs.Reading.{Source, Position, Outcome, Read, carry_on, of_result}
-use Rattle.cfi_read_core.specs.Readers.{map_ok}
+use Rattle.cfi_read_core.specs.ReadFunctions.{Source, Position, Outcome, Read, carry_on, of_result}
+use Rattle.cfi_read_core.specs.ReaderCalls.{map_ok}
 use Rattle.cfi_parts.specs.declared.pointer.Pointer.{Pointer}
 use Rattle.cfi_parts.specs.Pointers.{direct}
-use Rattle.gimli_cfi.specs.Headers.{HeaderSection, Table, value_size, start_field, target_field, field_by, rows_passed, start_of, target_of}
+use Rattle.gimli_cfi.specs.EhFrameHdr.{HeaderSection, Table, value_size, start_field, target_field, field_by, rows_passed, start_of, target_of}
 
 -- the rows' own source
 abbrev rows_source : HeaderSection → Table → Source

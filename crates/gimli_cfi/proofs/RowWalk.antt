@@ -1,9 +1,9 @@
 -- Going through the rows of a table, a step at a time; it takes as many steps as there are rows.
 use Rattle.std.proofs.Common.{◌≡◌, ◌+◌, ℕ, zero, suc, [], ◌∷◌, length, Result, refl, sym, ap, ◌∙◌, arith}
 use Rattle.cfi_read_core.specs.declared.error.Error.{Error}
-use Rattle.cfi_read_core.specs.Reading.{Source, Position, Outcome}
+use Rattle.cfi_read_core.specs.ReadFunctions.{Source, Position, Outcome}
 use Rattle.cfi_parts.specs.declared.pointer.Pointer.{Pointer}
-use Rattle.gimli_cfi.specs.Headers.{HeaderSection, row}
+use Rattle.gimli_cfi.specs.EhFrameHdr.{HeaderSection, row}
 use Rattle.gimli_cfi.specs.HeaderRows.{Walk, rows_from, rows_left}
 
 pub as_many : (section : HeaderSection) (encoding n : ℕ) (source : Source) (place : ℕ) → length (rows_from section encoding n source place) ≡ n

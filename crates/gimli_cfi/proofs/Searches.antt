@@ -2,9 +2,9 @@
 use Rattle.std.proofs.Common.{◌≡◌, ℕ, Option, Some, None, Result, Ok, inr, ⊎_elim}
 use Rattle.std.specs.Prelude.{IsSome, ok_or}
 use Rattle.cfi_read_core.specs.declared.error.Error.{Error}
-use Rattle.gimli_cfi.specs.Boundary.{IsBoundaryRow, AreRising, IsLastUpTo}
-use Rattle.gimli_cfi.specs.Headers.{Table}
-use Rattle.gimli_cfi.specs.HeaderTables.{SearchedBy}
+use Rattle.gimli_cfi.specs.BoundaryRows.{IsBoundaryRow, AreRising, IsLastUpTo}
+use Rattle.gimli_cfi.specs.EhFrameHdr.{Table}
+use Rattle.gimli_cfi.specs.TableLookup.{SearchedBy}
 use Rattle.gimli_cfi.proofs.Rising.{last_up_to}
 
 -- by a boundary row, in a format that can be searched

@@ -8,8 +8,8 @@ use Rattle.cfi_unwind.specs.Cies.{Cie}
 use Rattle.cfi_unwind.specs.Fdes.{PartialFde, Fde, covers}
 use Rattle.cfi_unwind.specs.Entries.{cie_at, fde_with, fde_by, partial_fde_at}
 use Rattle.cfi_unwind.specs.GetCieCalls.{ReadsWith}
-use Rattle.gimli_cfi.specs.Headers.{HeaderSection, Table, value_size, target_of}
-use Rattle.gimli_cfi.specs.HeaderTables.{SearchedBy, IsFoundBySearch, IsFoundByTable, ReadsAt, fde_if_covers, fde_at_pointer, fde_by_target, fde_by_row}
+use Rattle.gimli_cfi.specs.EhFrameHdr.{HeaderSection, Table, value_size, target_of}
+use Rattle.gimli_cfi.specs.TableLookup.{SearchedBy, IsFoundBySearch, IsFoundByTable, ReadsAt, fde_if_covers, fde_at_pointer, fde_by_target, fde_by_row}
 
 -- ---- one FDE
 

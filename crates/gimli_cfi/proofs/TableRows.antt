@@ -1,16 +1,17 @@
 -- The row of an address, by what was found: going through the section, and by a faithful table.
 use Rattle.std.proofs.Common.{◌≡◌, ◌≤◌, ◌<◌, ◌-◌, ℕ, Bool, Option, Result, subst, arith}
 use Rattle.cfi_read_core.specs.declared.error.Error.{Error}
-use Rattle.cfi_read_core.specs.Readers.{IsSound}
-use Rattle.cfi_read_core.specs.Reading.{Position}
+use Rattle.cfi_read_core.specs.ReaderCalls.{IsSound}
+use Rattle.cfi_read_core.specs.ReadFunctions.{Position}
 use Rattle.cfi_parts.specs.declared.pointer.Pointer.{Pointer}
 use Rattle.cfi_parts.specs.declared.pointer.Pointer.TheVariants.{Direct}
 use Rattle.cfi_state.specs.Row.{Row}
 use Rattle.cfi_unwind.specs.Sections.{Section}
 use Rattle.cfi_unwind.specs.Fdes.{Fde}
 use Rattle.cfi_unwind.specs.Scan.{chosen_fde}
-use Rattle.gimli_cfi.specs.Headers.{HeaderSection, Table, start_of}
-use Rattle.gimli_cfi.specs.HeaderTables.{IsFaithful, IsFoundByTable, ReachesAll}
+use Rattle.gimli_cfi.specs.EhFrameHdr.{HeaderSection, Table, start_of}
+use Rattle.gimli_cfi.specs.FaithfulTables.{IsFaithful}
+use Rattle.gimli_cfi.specs.TableLookup.{IsFoundByTable, ReachesAll}
 use Rattle.cfi_unwind.specs.AddressRow.{IsRowOfFound, IsRowByScan}
 use Rattle.gimli_cfi.proofs.Agreement.{found_as_scan}
 

@@ -5,7 +5,7 @@ use Rattle.cfi_read_core.specs.declared.error.Error.{Error}
 use Rattle.cfi_read_core.specs.declared.error.Error.TheVariants.{BadUnsignedLeb128, UnsupportedRegister, UnknownReservedLength, UnsupportedOffset, UnknownVersion, UnknownAugmentation, UnknownPointerEncoding, CannotParseOmitPointerEncoding, UnsupportedPointerEncoding, PcRelativePointerButSectionBaseIsUndefined, FuncRelativePointerInBadContext, NotCieId, NotCiePointer, NoEntryAtGivenOffset, OffsetOutOfBounds, NoUnwindInfoForAddress}
 use Rattle.cfi_read_core.specs.declared.common.Format.{Format}
 use Rattle.cfi_read_core.specs.declared.common.Format.TheVariants.{Dwarf32, Dwarf64}
-use Rattle.cfi_read_core.specs.Reading.{Readings, unexpected_eof}
+use Rattle.cfi_read_core.specs.ReadFunctions.{Readings, unexpected_eof}
 use Rattle.cfi_parts.specs.declared.pointer.Pointer.{Pointer}
 use Rattle.cfi_parts.specs.declared.pointer.Pointer.TheVariants.{Direct, Indirect}
 use Rattle.cfi_parts.specs.declared.instruction.CallFrameInstruction.TheVariants.{AdvanceLoc, DefCfa, DefCfaRegister, DefCfaOffset, Offset}
@@ -16,10 +16,10 @@ use Rattle.cfi_unwind.specs.Fdes.{Fde, end_of}
 use Rattle.cfi_unwind.specs.Entries.{Entry, CieEntry, FdeEntry, entries, cie_at, partial_fde_at, fde_at}
 use Rattle.cfi_unwind.specs.EntryInstructions.{cie_instructions, fde_instructions}
 use Rattle.cfi_unwind.specs.Scan.{chosen_fde}
-use Rattle.gimli_cfi.specs.Headers.{HeaderSection, Header, Table, header_of, row, start_of, target_of, offset_of_pointer}
+use Rattle.gimli_cfi.specs.EhFrameHdr.{HeaderSection, Header, Table, header_of, row, start_of, target_of, offset_of_pointer}
 use Rattle.gimli_cfi.specs.HeaderRows.{rows_left, walk_of}
-use Rattle.gimli_cfi.specs.Steps.{steps}
-use Rattle.gimli_cfi.specs.HeaderTables.{fde_by_row}
+use Rattle.gimli_cfi.specs.HalvingSteps.{steps}
+use Rattle.gimli_cfi.specs.TableLookup.{fde_by_row}
 use Rattle.gimli_cfi.proofs.Computing.{computing, debug_frame, eh_frame, section_at, narrow, header_at, three, three_header, three_rows}
 
 -- ---- what is shown of entries

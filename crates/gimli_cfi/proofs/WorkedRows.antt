@@ -4,7 +4,7 @@ use Rattle.std.specs.FinMap.{from_entries}
 use Rattle.cfi_read_core.specs.declared.error.Error.{Error}
 use Rattle.cfi_read_core.specs.declared.error.Error.TheVariants.{AddressOverflow, BadUnsignedLeb128, CfiInstructionInInvalidContext, NoUnwindInfoForAddress, StackFull, UnknownCallFrameInstruction}
 use Rattle.cfi_read_core.specs.declared.common.Vendor.TheVariants as vendors
-use Rattle.cfi_read_core.specs.Reading.{unexpected_eof}
+use Rattle.cfi_read_core.specs.ReadFunctions.{unexpected_eof}
 use Rattle.cfi_state.specs.declared.table.rules.CfaRule.{CfaRule}
 use Rattle.cfi_state.specs.declared.table.rules.CfaRule.TheVariants.{RegisterAndOffset}
 use Rattle.cfi_state.specs.declared.table.rules.RegisterRule.{RegisterRule}

@@ -8,8 +8,9 @@ use Rattle.cfi_unwind.specs.Cies.{Cie}
 use Rattle.cfi_unwind.specs.Fdes.{Fde, Covers, end_of}
 use Rattle.cfi_unwind.specs.Entries.{entries}
 use Rattle.cfi_unwind.specs.Scan.{fde_readings, IsAmong}
-use Rattle.gimli_cfi.specs.Headers.{start_of}
-use Rattle.gimli_cfi.specs.HeaderTables.{IsFaithful, IsRowOf, IsFdeOf, ReachesAll}
+use Rattle.gimli_cfi.specs.EhFrameHdr.{start_of}
+use Rattle.gimli_cfi.specs.FaithfulTables.{IsFaithful, IsRowOf, IsFdeOf}
+use Rattle.gimli_cfi.specs.TableLookup.{ReachesAll}
 use Rattle.gimli_cfi.proofs.Computing.{computing, three, three_header, three_rows}
 
 -- ---- the FDEs

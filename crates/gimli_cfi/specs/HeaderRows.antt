@@ -1,9 +1,9 @@
 -- Going through the rows of a header table in order (LSB Core, "The .eh_frame_hdr section").
 use Rattle.std.specs.Prelude.{ℕ, zero, suc, ◌-◌, List, [], ◌∷◌, Option, Some, None, Result, Ok, Err, ◌≡◌, ◌+◌, ◌==◌, if◌then◌else◌}
 use Rattle.cfi_read_core.specs.declared.error.Error.{Error}
-use Rattle.cfi_read_core.specs.Reading.{Read, Source, Position, ◌>>=◌, give}
+use Rattle.cfi_read_core.specs.ReadFunctions.{Read, Source, Position, ◌>>=◌, give}
 use Rattle.cfi_parts.specs.declared.pointer.Pointer.{Pointer}
-use Rattle.gimli_cfi.specs.Headers.{HeaderSection, Table, row}
+use Rattle.gimli_cfi.specs.EhFrameHdr.{HeaderSection, Table, row}
 
 -- What the rows are read with, how many remain, and where the reader stands.
 pub record Walk : Type 0 where

@@ -1,18 +1,18 @@
 -- Headers, tables and their iterators as the code has them, as what they mean.
 use Rattle.std.specs.Prelude.{ℕ, Result}
 use Rattle.cfi_read_core.specs.declared.error.Error.{Error}
-use Rattle.cfi_read_core.specs.Reading.{Position}
-use Rattle.cfi_read_core.specs.Readers.{extent_of}
+use Rattle.cfi_read_core.specs.ReadFunctions.{Position}
+use Rattle.cfi_read_core.specs.ReaderCalls.{extent_of}
 use Rattle.cfi_parts.specs.declared.pointer.BaseAddresses.{BaseAddresses}
 use Rattle.cfi_parts.specs.CallFrameSections.{EhFrame as of_eh_frame}
-use Rattle.cfi_unwind.specs.declared.section.eh_frame.EhFrame.{EhFrame}
+use Rattle.cfi_unwind.specs.declared.unwind_section.eh_frame.EhFrame.{EhFrame}
 use Rattle.cfi_unwind.specs.Sections.{Section, section_of}
 use Rattle.gimli_cfi.specs.declared.hdr.header.ParsedEhFrameHdr.{ParsedEhFrameHdr}
 use Rattle.gimli_cfi.specs.declared.hdr.table.EhHdrTable.{EhHdrTable}
 use Rattle.gimli_cfi.specs.declared.hdr.iter.EhHdrTableIter.{EhHdrTableIter}
-use Rattle.gimli_cfi.specs.Headers.{HeaderSection, Header, Table, header_section, start_of, table_of}
+use Rattle.gimli_cfi.specs.EhFrameHdr.{HeaderSection, Header, Table, header_section, start_of, table_of}
 use Rattle.gimli_cfi.specs.HeaderRows.{Walk}
-use Rattle.gimli_cfi.specs.FaithfulTables.{Listing}
+use Rattle.gimli_cfi.specs.TableCheck.{Listing}
 
 -- In each type the reader's offset and byte order follow the reader; the braces have what the traits of the three say.
 

@@ -11,8 +11,8 @@ use Rattle.cfi_unwind.specs.Sections.{Section}
 use Rattle.cfi_unwind.specs.Fdes.{Fde}
 use Rattle.cfi_unwind.specs.Scan.{chosen_fde}
 use Rattle.cfi_unwind.specs.AddressRow.{IsRowOfFound}
-use Rattle.gimli_cfi.specs.Headers.{HeaderSection, Header, Table, header_of, start_of}
-use Rattle.gimli_cfi.specs.HeaderTables.{IsFoundByTable}
+use Rattle.gimli_cfi.specs.EhFrameHdr.{HeaderSection, Header, Table, header_of, start_of}
+use Rattle.gimli_cfi.specs.TableLookup.{IsFoundByTable}
 
 abbrev pub FoundByTable : Section → ℕ → HeaderSection → Pointer → Option Table → Result Fde Error → Type 0
 FoundByTable section a header eh_frame None found = found ≡ chosen_fde section a

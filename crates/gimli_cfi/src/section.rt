@@ -1,4 +1,4 @@
 //! The call frame sections.
 
-pub use cfi_parts::unwind_section::{_UnwindSectionPrivate, CieOffsetEncoding, UnwindOffset};
-pub use cfi_unwind::section::{DebugFrame, EhFrame, UnwindSection, scan_for_fde};
+pub use cfi_parts::section_properties::{_UnwindSectionPrivate, CieOffsetEncoding, UnwindOffset};
+pub use cfi_unwind::unwind_section::{DebugFrame, EhFrame, UnwindSection, scan_for_fde};

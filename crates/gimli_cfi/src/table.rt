@@ -11,8 +11,8 @@ use cfi_state::storage::UnwindContextStorage;
 pub use cfi_state::table::context::UnwindContext;
 pub use cfi_state::table::row::UnwindTableRow;
 pub use cfi_state::table::rules::{CfaRule, RA_SIGN_STATE, RegisterRule, RegisterRuleIter};
-use cfi_unwind::section::{UnwindSection, scan_for_fde};
-pub use cfi_unwind::table::UnwindTable;
+use cfi_unwind::unwind_section::{UnwindSection, scan_for_fde};
+pub use cfi_unwind::unwind_table::UnwindTable;
 
 /// The unwind row of the address in the section, lent from the context.
 ///

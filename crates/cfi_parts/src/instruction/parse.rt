@@ -1,9 +1,9 @@
 //! One call frame instruction (DWARF 5 sections 6.4.2 and 7.24).
 ghost use Rattle.std.specs.Prelude.{◌≡◌, ◌≤◌};
 ghost use Rattle.cfi_read_core.specs.Addresses.{IsAddressSize};
-ghost use Rattle.cfi_read_core.specs.Reading.{chosen_from};
-ghost use Rattle.cfi_read_core.specs.Readers.{Reads};
-ghost use Rattle.cfi_parts.specs.Contexts.{instruction_context, pointer_context};
+ghost use Rattle.cfi_read_core.specs.ReadFunctions.{chosen_from};
+ghost use Rattle.cfi_read_core.specs.ReaderCalls.{Reads};
+ghost use Rattle.cfi_parts.specs.ReadingParameters.{instruction_context, pointer_context};
 ghost use Rattle.cfi_parts.specs.Instructions.{IsRare, expression, extended_opcodes, instruction, location_by, unknown_opcode};
 ghost use Rattle.cfi_parts.specs.MappedInstructions.{map_expression, map_instruction};
 

@@ -2,9 +2,9 @@
 ghost use Rattle.std.specs.Prelude.{◌≡◌, ◌≢◌, ◌<◌, ◌≤◌, ◌∷◌, ◌++◌, [], Some, None, IfOk, OnOk, IfErr, OnErr, IsSomeAnd, false, length, reverse, slice_get, slice_set};
 ghost use Rattle.std.specs.Option.{option_eq};
 ghost use Rattle.std.specs.Cmp.{partial_equiv_from_equiv};
-ghost use Rattle.cfi_read_core.specs.Readers.{map_ok};
+ghost use Rattle.cfi_read_core.specs.ReaderCalls.{map_ok};
 ghost use Rattle.cfi_state.specs.Row.{with_parts};
-ghost use Rattle.cfi_state.specs.Context.{AddsRow, IsKept, IsSameBelow};
+ghost use Rattle.cfi_state.specs.UnwindContexts.{AddsRow, IsKept, IsSameBelow};
 
 use super::row::UnwindTableRow;
 use super::rules::{CfaRule, RegisterRule, RegisterRuleMap, refusal_of};
@@ -42,7 +42,7 @@ impl<T: ReaderOffset, S: UnwindContextStorage<T>> Debug for UnwindContext<T, S> 
 impl<T: ReaderOffset, S: UnwindContextStorage<T>> Model for UnwindContext<T, S> {
     ghost use Rattle.std.specs.FinMap as map;
     ghost use Rattle.std.specs.Coded.{codes};
-    ghost use Rattle.cfi_state.specs.Context.{ContextState, context_of, IsContext};
+    ghost use Rattle.cfi_state.specs.UnwindContexts.{ContextState, context_of, IsContext};
 
     ghost Value = { ContextState T };
 
@@ -54,7 +54,7 @@ impl<T: ReaderOffset, S: UnwindContextStorage<T>> Model for UnwindContext<T, S> 
 }
 
 impl<T: ReaderOffset> UnwindContext<T> {
-    ghost use Rattle.cfi_state.specs.Context.{empty_context};
+    ghost use Rattle.cfi_state.specs.UnwindContexts.{empty_context};
 
     /// A context with room for 192 rules a row and 4 rows. `OutOfMemory` where the room cannot be allocated.
     pub fn new(alloc: Global) -> Result<Self>
@@ -69,10 +69,10 @@ impl<T: ReaderOffset, S: UnwindContextStorage<T>> UnwindContext<T, S> {
     ghost use Rattle.std.specs.FinMap as map;
     ghost use Rattle.cfi_state.specs.MachineSettings.{is_at_limit};
     ghost use Rattle.cfi_state.specs.Machine.{copies_held};
-    ghost use Rattle.cfi_state.specs.Outcome.{Performs};
-    ghost use Rattle.cfi_state.specs.Rules.{map_set_rule, AddsRule, AddsRules};
+    ghost use Rattle.cfi_state.specs.AllocatingOperations.{Performs};
+    ghost use Rattle.cfi_state.specs.RulePairs.{map_set_rule, AddsRule, AddsRules};
     ghost use Rattle.cfi_state.specs.Row.{at_start, at_end, row_with_cfa, with_args_size, row_with_rules};
-    ghost use Rattle.cfi_state.specs.Context.{empty_context, with_row, context_rows_held, context_remember, context_restore, context_end_of_cie, initial_rule};
+    ghost use Rattle.cfi_state.specs.UnwindContexts.{empty_context, with_row, context_rows_held, context_remember, context_restore, context_end_of_cie, initial_rule};
 
     /// A context over the lists of `S`. `OutOfMemory` where their room cannot be allocated.
     pub fn new_in(alloc: Global) -> Result<Self>

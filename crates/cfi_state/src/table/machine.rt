@@ -7,7 +7,7 @@ ghost use Rattle.std.specs.Int.{w64, int_wrapping_mul};
 ghost use Rattle.cfi_state.specs.MachineSettings.{Setting, is_move};
 ghost use Rattle.cfi_parts.specs.declared.instruction.CallFrameInstruction.TheVariants as instruction;
 ghost use Rattle.cfi_state.specs.Row.{at_start, at_end};
-ghost use Rattle.cfi_state.specs.Context.{empty_context, machine_state, with_row};
+ghost use Rattle.cfi_state.specs.UnwindContexts.{empty_context, machine_state, with_row};
 ghost use Rattle.cfi_state.specs.declared.table.machine.Parameters.{Parameters};
 ghost use Rattle.cfi_state.specs.ContextEffects.{setting_of, Changes, Evaluates, EndsCie};
 ghost use Rattle.cfi_state.specs.Actions.{action};

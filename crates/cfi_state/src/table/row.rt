@@ -1,7 +1,7 @@
 //! A row of an unwind table.
 ghost use Rattle.std.specs.Prelude.{◌≡◌, ◌<◌, ◌≤◌, ◌↔◌, false, IsTrue, IfOk, OnOk, IfErr, IsNone};
 ghost use Rattle.std.specs.Cmp.{partial_equiv_from_equiv};
-ghost use Rattle.cfi_read_core.specs.Readers.{map_ok};
+ghost use Rattle.cfi_read_core.specs.ReaderCalls.{map_ok};
 ghost use Rattle.cfi_state.specs.RegisterRuleIters.{rules_left};
 
 use super::rules::{CfaRule, RegisterRule, RegisterRuleIter, RegisterRuleMap};
@@ -41,8 +41,8 @@ impl<T: ReaderOffset, A: ArrayLike<Item = (Register, RegisterRule<T>)>> Model
 
 impl<T: ReaderOffset, A: ArrayLike<Item = (Register, RegisterRule<T>)>> UnwindTableRow<T, A> {
     ghost use Rattle.std.specs.FinMap as map;
-    ghost use Rattle.cfi_state.specs.Outcome.{Performs};
-    ghost use Rattle.cfi_state.specs.Rules.{rules_of, map_set_rule, AddsRule, IsDistinctRegisters};
+    ghost use Rattle.cfi_state.specs.AllocatingOperations.{Performs};
+    ghost use Rattle.cfi_state.specs.RulePairs.{rules_of, map_set_rule, AddsRule, IsDistinctRegisters};
     ghost use Rattle.cfi_state.specs.Row.{empty_row, row_with_cfa, with_args_size, with_parts, row_with_rules, at_start, at_end};
 
     pub(crate) fn make(alloc: Global) -> Result<Self>

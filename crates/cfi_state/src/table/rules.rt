@@ -5,10 +5,10 @@ ghost use Rattle.cfi_state.specs.declared.table.rules.RegisterRule.TheVariants.{
 ghost use Rattle.std.specs.Iterator.{YieldsFirstRef, item_count};
 ghost use Rattle.std.specs.Cmp.{partial_equiv_from_equiv};
 ghost use Rattle.std.specs.FinMap.{get};
-ghost use Rattle.cfi_state.specs.Limit.{IsWithinLimit};
-ghost use Rattle.cfi_state.specs.Refusal.{refusal_for};
+ghost use Rattle.cfi_state.specs.ListLimits.{IsWithinLimit};
+ghost use Rattle.cfi_state.specs.StorageRefusals.{refusal_for};
 ghost use Rattle.cfi_state.specs.RegisterRuleIters.{rules_left};
-ghost use Rattle.cfi_state.specs.Rules.{rules_of, IsDistinctRegisters, IsRising, BelongsAt, AddsRules};
+ghost use Rattle.cfi_state.specs.RulePairs.{rules_of, IsDistinctRegisters, IsRising, BelongsAt, AddsRules};
 ghost use Rattle.cfi_state.specs.Equality.{is_within, rule_eq, rules_eq};
 ghost use Rattle.cfi_state.specs.EqualityLaws.{rules_equiv};
 
@@ -101,7 +101,7 @@ impl<T: ReaderOffset, A: ArrayLike<Item = (Register, RegisterRule<T>)>> Model
     ghost use Rattle.std.specs.FinMap as map;
     ghost use Rattle.std.specs.Coded.{codes};
     ghost use Rattle.cfi_state.specs.Machine.{Rules};
-    ghost use Rattle.cfi_state.specs.Rules.{rules_of, IsRising};
+    ghost use Rattle.cfi_state.specs.RulePairs.{rules_of, IsRising};
 
     ghost Value = { Rules T };
 
@@ -114,8 +114,8 @@ impl<T: ReaderOffset, A: ArrayLike<Item = (Register, RegisterRule<T>)>> Model
 
 impl<T: ReaderOffset, A: ArrayLike<Item = (Register, RegisterRule<T>)>> RegisterRuleMap<T, A> {
     ghost use Rattle.std.specs.FinMap as map;
-    ghost use Rattle.cfi_state.specs.Outcome.{Performs};
-    ghost use Rattle.cfi_state.specs.Rules.{rules_of, map_set_rule, IsDistinctRegisters, IsRising, AddsRule};
+    ghost use Rattle.cfi_state.specs.AllocatingOperations.{Performs};
+    ghost use Rattle.cfi_state.specs.RulePairs.{rules_of, map_set_rule, IsDistinctRegisters, IsRising, AddsRule};
 
     pub(crate) fn make(alloc: Global) -> Result<Self>
         ensures ok { IfOk result (λ rules. rules ≡ map.empty) }

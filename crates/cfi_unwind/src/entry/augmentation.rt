@@ -1,17 +1,17 @@
 //! Augmentation texts and the data that they announce (LSB Core, "Augmentation String Format").
 ghost use Rattle.std.specs.Prelude.{◌≡◌, ◌≤◌, None};
 ghost use Rattle.std.specs.Option.{option_map};
-ghost use Rattle.cfi_read_core.specs.Readers.{Reads, bytes_left};
+ghost use Rattle.cfi_read_core.specs.ReaderCalls.{Reads, bytes_left};
 ghost use Rattle.cfi_parts.specs.CallFrameSections.{IsOf};
 ghost use Rattle.cfi_unwind.specs.Sections.{pointer_context};
-ghost use Rattle.cfi_unwind.specs.Cies.{letters_with_data, augmentation, letter, letters};
-ghost use Rattle.cfi_unwind.specs.EntryFieldViews.{augmentation_view, section_in};
+ghost use Rattle.cfi_unwind.specs.Augmentations.{letters_with_data, augmentation, letter, letters};
+ghost use Rattle.cfi_unwind.specs.CieAndFdeViews.{augmentation_view, section_in};
 
 use crate::entry::in_section::InSection;
 use cfi_parts::pointer::{
     Pointer, PointerEncodingParameters, parse_encoded_pointer, parse_pointer_encoding,
 };
-use cfi_parts::unwind_section::_UnwindSectionPrivate;
+use cfi_parts::section_properties::_UnwindSectionPrivate;
 use cfi_read_core::address::AddressSize;
 use cfi_read_core::reader::read_offset;
 use cfi_read_core::{DwEhPe, Error, Reader, Result};
@@ -29,7 +29,7 @@ pub struct Augmentation {
 }
 
 /// Adds what one letter means, read from the augmentation data.
-#[tactic(auto, unfolding(crate::specs::Cies::letter))]
+#[tactic(auto, unfolding(crate::specs::Augmentations::letter))]
 fn read_letter<R: Reader, S: _UnwindSectionPrivate<R>>(
     at: &InSection<'_, S>,
     address_size: AddressSize,
@@ -81,7 +81,7 @@ fn read_letters<R: Reader, S: _UnwindSectionPrivate<R>>(
 }
 
 /// Reads the augmentation data, by the letters after the `z` that announces them. What the letters leave is dropped.
-#[tactic(auto, unfolding(crate::specs::Cies::letters_with_data))]
+#[tactic(auto, unfolding(crate::specs::Augmentations::letters_with_data))]
 fn read_letters_with_data<R: Reader, S: _UnwindSectionPrivate<R>>(
     at: &InSection<'_, S>,
     address_size: AddressSize,

@@ -2,16 +2,17 @@
 ghost use Rattle.std.specs.Prelude.{◌≡◌, IfOk, is_some};
 ghost use Rattle.std.specs.Option.{option_map};
 ghost use Rattle.cfi_read_core.specs.Addresses.{IsAddressSize};
-ghost use Rattle.cfi_read_core.specs.Readers.{Reads, map_ok};
+ghost use Rattle.cfi_read_core.specs.ReaderCalls.{Reads, map_ok};
 ghost use Rattle.cfi_parts.specs.CallFrameSections.{IsOf};
-ghost use Rattle.cfi_unwind.specs.Cies.{address_encoding_of, cie_of, has_b_key, is_trampoline, lsda_encoding_of, personality_of, return_register, sizes};
-ghost use Rattle.cfi_unwind.specs.EntryFieldViews.{augmentation_view, cie_view, prefix_view, section_in};
+ghost use Rattle.cfi_unwind.specs.Augmentations.{address_encoding_of, has_b_key, is_trampoline, lsda_encoding_of, personality_of};
+ghost use Rattle.cfi_unwind.specs.Cies.{cie_of, return_register, sizes};
+ghost use Rattle.cfi_unwind.specs.CieAndFdeViews.{augmentation_view, cie_view, prefix_view, section_in};
 
 use crate::entry::augmentation::{Augmentation, read_augmentation};
 use crate::entry::in_section::InSection;
 use crate::entry::prefix::EntryPrefix;
 use cfi_parts::pointer::Pointer;
-use cfi_parts::unwind_section::_UnwindSectionPrivate;
+use cfi_parts::section_properties::_UnwindSectionPrivate;
 use cfi_read_core::address::AddressSize;
 use cfi_read_core::reader::read_register;
 use cfi_read_core::{DwEhPe, Encoding, Error, Format, Reader, Register, Result};

@@ -2,13 +2,13 @@
 ghost use Rattle.std.specs.Prelude.{◌≡◌, ◌<◌, ⊤, IfOk, IfSome};
 ghost use Rattle.std.specs.Option.{option_map};
 ghost use Rattle.std.specs.Iterator.{YieldsFirstBy, item_count};
-ghost use Rattle.cfi_read_core.specs.Readers.{Reads, remaining, map_ok};
+ghost use Rattle.cfi_read_core.specs.ReaderCalls.{Reads, remaining, map_ok};
 ghost use Rattle.cfi_parts.specs.InstructionReaders.{Meets, items};
 ghost use Rattle.cfi_parts.specs.CallFrameSections.{IsOf};
 ghost use Rattle.cfi_unwind.specs.Sections.{section_of};
 ghost use Rattle.cfi_unwind.specs.Entries.{cie_at, entries_left, entry_of, partial_fde_at, partial_fde_of, prefix_at};
-ghost use Rattle.cfi_unwind.specs.Walks.{GoesThrough, GoesThrough_prop, entry_read};
-ghost use Rattle.cfi_unwind.specs.EntryFieldViews.{cie_view, prefix_view, section_in};
+ghost use Rattle.cfi_unwind.specs.EntrySteps.{GoesThrough, GoesThrough_prop, entry_read};
+ghost use Rattle.cfi_unwind.specs.CieAndFdeViews.{cie_view, prefix_view, section_in};
 ghost use Rattle.cfi_unwind.specs.EntryViews.{OfEither, entry_view, partial_of};
 
 use crate::entry::cie::{CommonInformationEntry, read_cie};
@@ -16,7 +16,7 @@ use crate::entry::in_section::InSection;
 use crate::entry::partial::{PartialFdeFields, PartialFrameDescriptionEntry};
 use crate::entry::prefix::{EntryPrefix, read_prefix};
 use cfi_parts::pointer::BaseAddresses;
-use cfi_parts::unwind_section::_UnwindSectionPrivate;
+use cfi_parts::section_properties::_UnwindSectionPrivate;
 use cfi_read_core::{Error, Reader, ReaderOffset, Result};
 use std::alloc::AllocError;
 
@@ -79,7 +79,7 @@ fn read_entry_after<'bases, R: Reader, S: _UnwindSectionPrivate<R> + Copy>(
 }
 
 /// Reads the entry at the place of the input, or none where its length is zero.
-#[tactic(auto, unfolding(crate::specs::Walks::entry_read))]
+#[tactic(auto, unfolding(crate::specs::EntrySteps::entry_read))]
 fn read_entry<'bases, R: Reader, S: _UnwindSectionPrivate<R> + Copy>(
     at: &InSection<'bases, S>,
     input: &mut R,

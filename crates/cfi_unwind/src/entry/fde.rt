@@ -1,11 +1,11 @@
 //! Frame description entries (DWARF 5 section 6.4.1; LSB Core, "The Frame Description Entry Format").
 ghost use Rattle.std.specs.Prelude.{◌≡◌, ◌≤◌, IfOk, Some};
 ghost use Rattle.std.specs.Option.{option_map};
-ghost use Rattle.cfi_read_core.specs.Readers.{Reads, map_ok};
+ghost use Rattle.cfi_read_core.specs.ReaderCalls.{Reads, map_ok};
 ghost use Rattle.cfi_parts.specs.CallFrameSections.{IsOf};
-ghost use Rattle.cfi_unwind.specs.Cies.{is_trampoline, personality_of};
+ghost use Rattle.cfi_unwind.specs.Augmentations.{is_trampoline, personality_of};
 ghost use Rattle.cfi_unwind.specs.Fdes.{addresses, covers, end_of, fde_after, lsda};
-ghost use Rattle.cfi_unwind.specs.EntryFieldViews.{augmentation_view, cie_view, fde_view, prefix_view, section_in};
+ghost use Rattle.cfi_unwind.specs.CieAndFdeViews.{augmentation_view, cie_view, fde_view, prefix_view, section_in};
 
 use crate::entry::augmentation::Augmentation;
 use crate::entry::cie::{CieFields, CommonInformationEntry};
@@ -14,7 +14,7 @@ use crate::entry::prefix::EntryPrefix;
 use cfi_parts::pointer::{
     Pointer, PointerEncodingParameters, parse_encoded_pointer, parse_encoded_value,
 };
-use cfi_parts::unwind_section::_UnwindSectionPrivate;
+use cfi_parts::section_properties::_UnwindSectionPrivate;
 use cfi_read_core::address::AddressSize;
 use cfi_read_core::reader::read_offset;
 use cfi_read_core::{DwEhPe, Reader, ReaderAddress, Result};

@@ -2,17 +2,17 @@
 ghost use Rattle.std.specs.Prelude.{◌≡◌};
 ghost use Rattle.cfi_parts.specs.CallFrameSections.{IsOf};
 ghost use Rattle.cfi_parts.specs.ExpressionPlaces.{ReadsIn};
-ghost use Rattle.cfi_parts.specs.Iterators.{instruction_reader};
+ghost use Rattle.cfi_parts.specs.InstructionIterators.{instruction_reader};
 ghost use Rattle.cfi_parts.specs.InstructionReaders.{instructions_left};
 ghost use Rattle.cfi_unwind.specs.Sections.{section_of};
 ghost use Rattle.cfi_unwind.specs.EntryInstructions.{cie_instructions, fde_instructions};
-ghost use Rattle.cfi_unwind.specs.EntryFieldViews.{cie_view, fde_view};
+ghost use Rattle.cfi_unwind.specs.CieAndFdeViews.{cie_view, fde_view};
 
 use crate::entry::cie::CommonInformationEntry;
 use crate::entry::fde::FrameDescriptionEntry;
 use cfi_parts::instruction::CallFrameInstructionIter;
 use cfi_parts::pointer::{BaseAddresses, PointerEncodingParameters};
-use cfi_parts::unwind_section::_UnwindSectionPrivate;
+use cfi_parts::section_properties::_UnwindSectionPrivate;
 use cfi_read_core::Reader;
 
 impl<R: Reader> CommonInformationEntry<R> {

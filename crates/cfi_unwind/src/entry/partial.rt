@@ -6,9 +6,9 @@ use crate::entry::cie::CommonInformationEntry;
 use crate::entry::fde::{FrameDescriptionEntry, read_fde};
 use crate::entry::in_section::InSection;
 use crate::entry::prefix::EntryPrefix;
-use crate::section::UnwindSection;
+use crate::unwind_section::UnwindSection;
 use cfi_parts::pointer::BaseAddresses;
-use cfi_parts::unwind_section::_UnwindSectionPrivate;
+use cfi_parts::section_properties::_UnwindSectionPrivate;
 use cfi_read_core::{Reader, Result};
 use std::alloc::AllocError;
 
@@ -56,10 +56,10 @@ impl<'bases, Section: _UnwindSectionPrivate<R> + Copy, R: Reader> PartialFrameDe
     R,
 > {
     ghost use Rattle.std.specs.Prelude.{IfOk};
-    ghost use Rattle.cfi_read_core.specs.Readers.{map_ok};
+    ghost use Rattle.cfi_read_core.specs.ReaderCalls.{map_ok};
     ghost use Rattle.cfi_unwind.specs.Sections.{section_of};
     ghost use Rattle.cfi_unwind.specs.Fdes.{fde_of};
-    ghost use Rattle.cfi_unwind.specs.EntryFieldViews.{cie_view, fde_view};
+    ghost use Rattle.cfi_unwind.specs.CieAndFdeViews.{cie_view, fde_view};
     ghost use Rattle.cfi_unwind.specs.EntryViews.{partial_of};
 
     /// Where the entry begins in its section.
@@ -100,10 +100,10 @@ impl<'bases, Section: UnwindSection<R>, R: Reader> PartialFrameDescriptionEntry<
     R,
 > {
     ghost use Rattle.std.specs.Prelude.{IfOk, Ok};
-    ghost use Rattle.cfi_read_core.specs.Readers.{map_ok};
+    ghost use Rattle.cfi_read_core.specs.ReaderCalls.{map_ok};
     ghost use Rattle.cfi_unwind.specs.Sections.{section_of};
     ghost use Rattle.cfi_unwind.specs.GetCieCalls.{GetCieCall, IsAnswered, ReadsWith};
-    ghost use Rattle.cfi_unwind.specs.EntryFieldViews.{cie_view, fde_view};
+    ghost use Rattle.cfi_unwind.specs.CieAndFdeViews.{cie_view, fde_view};
     ghost use Rattle.cfi_unwind.specs.EntryViews.{partial_of};
 
     /// Where the entry's CIE begins in its section.

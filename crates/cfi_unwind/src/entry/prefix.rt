@@ -2,13 +2,13 @@
 ghost use Rattle.std.specs.Prelude.{◌≡◌, IfOk, IfSome, ◌≤◌};
 ghost use Rattle.std.specs.Option.{option_map};
 ghost use Rattle.cfi_read_core.specs.Numbers.{unsigned};
-ghost use Rattle.cfi_read_core.specs.Readers.{Reads, map_ok};
+ghost use Rattle.cfi_read_core.specs.ReaderCalls.{Reads, map_ok};
 ghost use Rattle.cfi_parts.specs.CallFrameSections.{IsOf, width_of};
 ghost use Rattle.cfi_unwind.specs.Prefixes.{fields_after_length, prefix};
-ghost use Rattle.cfi_unwind.specs.EntryFieldViews.{prefix_view, section_in};
+ghost use Rattle.cfi_unwind.specs.CieAndFdeViews.{prefix_view, section_in};
 
 use crate::entry::in_section::InSection;
-use cfi_parts::unwind_section::{_UnwindSectionPrivate, CieOffsetEncoding};
+use cfi_parts::section_properties::{_UnwindSectionPrivate, CieOffsetEncoding};
 use cfi_read_core::{Format, Reader, ReaderOffset, Result};
 
 /// What an entry begins with, and what is left of it after its id.

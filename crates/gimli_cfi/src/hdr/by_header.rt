@@ -1,20 +1,20 @@
 //! The unwind row of an address, by a header that isn't read yet.
 ghost use Rattle.cfi_read_core.specs.Addresses.{IsAddressSize};
 ghost use Rattle.cfi_state.specs.MappedStates.{row_lent};
-ghost use Rattle.gimli_cfi.specs.Headers.{header_section};
+ghost use Rattle.gimli_cfi.specs.EhFrameHdr.{header_section};
 ghost use Rattle.gimli_cfi.specs.HeaderViews.{section_view};
 ghost use Rattle.gimli_cfi.specs.RowsByHeader.{IsRowByHeader};
 
 use crate::hdr::header::EhFrameHdr;
 use crate::hdr::starts::TableStarts;
-use crate::hdr::unwind::row_by_table;
+use crate::hdr::unwind_info::row_by_table;
 use crate::table::row_by_scan;
 use cfi_parts::pointer::BaseAddresses;
 use cfi_read_core::{Reader, Result};
 use cfi_state::storage::UnwindContextStorage;
 use cfi_state::table::context::UnwindContext;
 use cfi_state::table::row::UnwindTableRow;
-use cfi_unwind::section::EhFrame;
+use cfi_unwind::unwind_section::EhFrame;
 
 /// The unwind row of the address in the section, lent from the context, by the header's table.
 ///

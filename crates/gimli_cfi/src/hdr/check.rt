@@ -1,23 +1,23 @@
 //! Whether the table of a header lists the FDEs of its section faithfully.
 ghost use Rattle.std.specs.Prelude.{◌≡◌, ◌≢◌, ◌+◌, ◌≤◌, ℕ, IfOk, IfErr, Ok, Some, true, false};
-ghost use Rattle.cfi_read_core.specs.Readers.{map_ok};
+ghost use Rattle.cfi_read_core.specs.ReaderCalls.{map_ok};
 ghost use Rattle.cfi_parts.specs.declared.pointer.Pointer.TheVariants.{Direct};
 ghost use Rattle.cfi_unwind.specs.EntryViews.{partial_of};
 ghost use Rattle.cfi_unwind.specs.Scan.{read_fde};
-ghost use Rattle.cfi_unwind.specs.EntryFieldViews.{fde_view};
-ghost use Rattle.gimli_cfi.specs.Boundary.{AreRising};
-ghost use Rattle.gimli_cfi.specs.FaithfulTables.{AreListed, HasRow, IsReason, IsReasonOfFde, IsReasonOfFdes, IsReasonOfStarts, IsRefusalIn, IsRefusalOfHeader, ListsFaithfully, most_starts, starts_for_fde, starts_for_fdes};
-ghost use Rattle.gimli_cfi.specs.Headers.{target_of, value_size};
+ghost use Rattle.cfi_unwind.specs.CieAndFdeViews.{fde_view};
+ghost use Rattle.gimli_cfi.specs.BoundaryRows.{AreRising};
+ghost use Rattle.gimli_cfi.specs.TableCheck.{AreListed, HasRow, IsReason, IsReasonOfFde, IsReasonOfFdes, IsReasonOfStarts, IsRefusalIn, IsRefusalOfHeader, ListsFaithfully, most_starts, starts_for_fde, starts_for_fdes};
+ghost use Rattle.gimli_cfi.specs.EhFrameHdr.{target_of, value_size};
 ghost use Rattle.gimli_cfi.specs.HeaderViews.{section_view, listing_view, header_section_view, starts_view, table_view};
 
-use crate::hdr::fields::{searchable_size, target_of_row};
+use crate::hdr::row_fields::{searchable_size, target_of_row};
 use crate::hdr::search::{StartSource, search_starts};
 use crate::hdr::table::EhHdrTable;
-use crate::hdr::unfaithful_table::Unfaithful;
+use crate::hdr::unfaithful::Unfaithful;
 use cfi_parts::pointer::{BaseAddresses, Pointer};
 use cfi_read_core::{EhFrameOffset, Error, Reader, ReaderOffset};
 use cfi_unwind::entry::{CieOrFde, FrameDescriptionEntry, PartialFrameDescriptionEntry};
-use cfi_unwind::section::{EhFrame, UnwindSection};
+use cfi_unwind::unwind_section::{EhFrame, UnwindSection};
 
 /// Whether the table lists the FDEs of the section faithfully, by a source that answers the starts of its rows, as
 /// `TableStarts` does.

@@ -2,11 +2,11 @@
 ghost use Rattle.std.specs.Prelude.{◌≡◌, ⊤, IfOk, IfSome};
 ghost use Rattle.std.specs.Option.{option_map};
 ghost use Rattle.cfi_read_core.specs.Addresses.{IsAddressSize};
-ghost use Rattle.cfi_read_core.specs.Readers.{Reads, all_of, map_ok};
+ghost use Rattle.cfi_read_core.specs.ReaderCalls.{Reads, all_of, map_ok};
 ghost use Rattle.cfi_read_core.specs.Windows.{slice_position};
 ghost use Rattle.cfi_read_core.specs.declared.common.SectionId.TheVariants.{EhFrameHdr as eh_frame_hdr_id};
 ghost use Rattle.cfi_parts.specs.CallFrameSections.{IsOf, IsOf_prop};
-ghost use Rattle.gimli_cfi.specs.Headers.{header_of, header_section, row_count};
+ghost use Rattle.gimli_cfi.specs.EhFrameHdr.{header_of, header_section, row_count};
 
 use crate::hdr::table::EhHdrTable;
 use cfi_parts::pointer::{
@@ -70,7 +70,7 @@ impl<R: Reader> EhFrameHdr<R> {
     /// rows; as any pointer of the section for the pointer to `.eh_frame`; and, where neither the count nor the rows are
     /// omitted, with `UnsupportedPointerEncoding` for a count that is relative or indirect, then as the value of any
     /// pointer for the count. `UnexpectedEof` is answered where the bytes of a part end. It takes no memory.
-    #[tactic(auto, unfolding(crate::specs::Headers::header_fields))]
+    #[tactic(auto, unfolding(crate::specs::EhFrameHdr::header_fields))]
     pub fn parse(&self, bases: &BaseAddresses, address_size: u8) -> Result<ParsedEhFrameHdr<R>>
         requires { IsAddressSize address_size }
         ensures read { map_ok (header_view R.position) result ≡ header_of (header_section (R.position self.now.0) address_size bases.now.eh_frame_hdr) }
@@ -105,7 +105,7 @@ impl<R: Reader> EhFrameHdr<R> {
 }
 
 /// How many rows the table has: none where the count or the rows are omitted.
-#[tactic(auto, unfolding(crate::specs::Headers::row_count))]
+#[tactic(auto, unfolding(crate::specs::EhFrameHdr::row_count))]
 fn read_row_count<R: Reader>(
     count_encoding: DwEhPe,
     table_encoding: DwEhPe,

@@ -4,10 +4,10 @@ ghost use Rattle.std.specs.Option.{option_transpose};
 ghost use Rattle.std.specs.Iterator.{UpTo, YieldsFirst, at_most};
 ghost use Rattle.std.specs.Iterator.SizeHint.{IsWithinCount};
 ghost use Rattle.cfi_read_core.specs.Addresses.{IsAddressSize};
-ghost use Rattle.cfi_read_core.specs.Readers.{Reads};
-ghost use Rattle.cfi_parts.specs.Contexts.{pointer_context};
+ghost use Rattle.cfi_read_core.specs.ReaderCalls.{Reads};
+ghost use Rattle.cfi_parts.specs.ReadingParameters.{pointer_context};
 ghost use Rattle.cfi_parts.specs.CallFrameSections.{IsOf, IsOf_prop};
-ghost use Rattle.gimli_cfi.specs.Headers.{row_by};
+ghost use Rattle.gimli_cfi.specs.EhFrameHdr.{row_by};
 ghost use Rattle.gimli_cfi.specs.HeaderRows.{Meets, next_row, rows_left, walk_after, walk_of};
 
 use crate::hdr::header::ParsedEhFrameHdr;
@@ -99,7 +99,7 @@ impl<R: Reader> Iterator for EhHdrTableIter<'_, '_, R> {
 }
 
 /// Reads a row: its start and its target.
-#[tactic(auto, unfolding(crate::specs::Headers::row_by))]
+#[tactic(auto, unfolding(crate::specs::EhFrameHdr::row_by))]
 fn read_row<R: Reader>(
     encoding: DwEhPe,
     parameters: &PointerEncodingParameters<'_, R>,

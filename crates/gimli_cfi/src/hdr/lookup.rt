@@ -1,12 +1,12 @@
 //! Looking up an address in the rows of a table.
 ghost use Rattle.std.specs.Prelude.{◌≡◌, ℕ, ◌+◌, ◌≤◌, IsSome, None};
-ghost use Rattle.cfi_read_core.specs.Readers.{map_ok};
-ghost use Rattle.gimli_cfi.specs.Boundary.{AreRising, IsLastUpTo};
-ghost use Rattle.gimli_cfi.specs.Headers.{offset_of_pointer, target_of, value_size};
-ghost use Rattle.gimli_cfi.specs.Steps.{steps};
-ghost use Rattle.gimli_cfi.specs.HeaderTables.{IsFoundBySearch};
+ghost use Rattle.cfi_read_core.specs.ReaderCalls.{map_ok};
+ghost use Rattle.gimli_cfi.specs.BoundaryRows.{AreRising, IsLastUpTo};
+ghost use Rattle.gimli_cfi.specs.EhFrameHdr.{offset_of_pointer, target_of, value_size};
+ghost use Rattle.gimli_cfi.specs.HalvingSteps.{steps};
+ghost use Rattle.gimli_cfi.specs.TableLookup.{IsFoundBySearch};
 
-use crate::hdr::fields::{searchable_size, target_of_row};
+use crate::hdr::row_fields::{searchable_size, target_of_row};
 use crate::hdr::search::{StartSource, search_starts};
 use crate::hdr::starts::TableStarts;
 use crate::hdr::table::EhHdrTable;

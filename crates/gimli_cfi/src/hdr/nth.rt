@@ -1,10 +1,10 @@
 //! Passing rows of a table at once.
 ghost use Rattle.std.specs.Prelude.{◌≡◌, Err};
 ghost use Rattle.cfi_read_core.specs.declared.error.Error.{Error as Refusal};
-ghost use Rattle.gimli_cfi.specs.Passing.{MeetsBehind, walk_past};
+ghost use Rattle.gimli_cfi.specs.PassedRows.{MeetsBehind, walk_past};
 
-use crate::hdr::fields::{pass_rows, searchable_size};
 use crate::hdr::iter::EhHdrTableIter;
+use crate::hdr::row_fields::{pass_rows, searchable_size};
 use cfi_parts::pointer::Pointer;
 use cfi_read_core::{Reader, Result};
 

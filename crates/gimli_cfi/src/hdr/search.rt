@@ -2,8 +2,8 @@
 
 ghost use Rattle.std.specs.Prelude.{◌≡◌, ℕ, ◌+◌, ◌≤◌, ◌<◌, IfOk, IfErr, Result};
 ghost use Rattle.cfi_read_core.specs.declared.error.Error.{Error};
-ghost use Rattle.gimli_cfi.specs.Boundary.{IsBoundaryRow, IsRefusalOfRow};
-ghost use Rattle.gimli_cfi.specs.Steps.{steps};
+ghost use Rattle.gimli_cfi.specs.BoundaryRows.{IsBoundaryRow, IsRefusalOfRow};
+ghost use Rattle.gimli_cfi.specs.HalvingSteps.{steps};
 
 use cfi_read_core::error::Result;
 

@@ -1,12 +1,12 @@
 //! The starts in the rows of a table.
 ghost use Rattle.std.specs.Prelude.{◌≡◌, IfOk, Some, ok_or};
-ghost use Rattle.cfi_read_core.specs.Readers.{map_ok};
+ghost use Rattle.cfi_read_core.specs.ReaderCalls.{map_ok};
 ghost use Rattle.cfi_read_core.specs.declared.error.Error.TheVariants.{UnsupportedPointerEncoding};
-ghost use Rattle.gimli_cfi.specs.Headers.{value_size};
+ghost use Rattle.gimli_cfi.specs.EhFrameHdr.{value_size};
 
 use crate::call_count::CallCount;
-use crate::hdr::fields::{searchable_size, start_of_row};
 use crate::hdr::header::ParsedEhFrameHdr;
+use crate::hdr::row_fields::{searchable_size, start_of_row};
 use crate::hdr::search::StartSource;
 use crate::hdr::table::EhHdrTable;
 use cfi_parts::pointer::BaseAddresses;

@@ -1,6 +1,6 @@
 use Rattle.std.proofs.Common.{◌∙◌, Some, refl, sym, ap}
 use Rattle.cfi_read_core.specs.ByteOrder.{is_big}
-use Rattle.cfi_read_core.specs.Readers.{all_of}
+use Rattle.cfi_read_core.specs.ReaderCalls.{all_of}
 use Rattle.cfi_read_core.specs.Windows.{slice_position}
 use Rattle.cfi_unwind.specs.Sections.{DebugFrame, EhFrame}
 use Rattle.cfi_unwind.specs.AddressRow.{row_by_scan}

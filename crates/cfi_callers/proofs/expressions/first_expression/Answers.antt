@@ -1,6 +1,6 @@
 use Rattle.std.proofs.Common.{◌≡◌, Result, Ok, Err, Some, ap, subst, ◌∙◌}
 use Rattle.cfi_read_core.specs.declared.error.Error.{Error}
-use Rattle.cfi_read_core.specs.Readers.{map_ok}
+use Rattle.cfi_read_core.specs.ReaderCalls.{map_ok}
 use Rattle.cfi_parts.proofs.ExpressionPlaces.{found_in}
 use Rattle.cfi_callers.proofs.expressions.first_expression.Goals as goal
 

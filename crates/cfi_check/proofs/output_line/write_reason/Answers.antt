@@ -1,6 +1,6 @@
 use Rattle.std.proofs.Common.{[], ◌∷◌, ◌++◌, codes, subst, sym}
 use Rattle.cfi_program.specs.Lines.{address_text}
-use Rattle.cfi_program.specs.Written.{Writes}
+use Rattle.cfi_program.specs.WriterOutput.{Writes}
 use Rattle.cfi_program.proofs.WrittenLemmas.{regrouped_five, regrouped_six}
 use Rattle.cfi_check.specs.Lines.{reason_text}
 use Rattle.cfi_check.proofs.output_line.write_reason.Goals as goal

@@ -1,7 +1,7 @@
 use Rattle.std.proofs.lemmas.Option.{IfSome_then}
 use Rattle.std.proofs.Common.{inl, refl}
 use Rattle.cfi_program.specs.Input.{bytes_of}
-use Rattle.cfi_program.specs.Written.{Prints}
+use Rattle.cfi_program.specs.WriterOutput.{Prints}
 use Rattle.cfi_program.proofs.RunLemmas.{owes_answer}
 use Rattle.cfi_check.specs.Lines.{verdict_line}
 use Rattle.cfi_check.specs.ProgramOutput.{answers}

@@ -1,5 +1,5 @@
 use Rattle.std.proofs.Common.{ap, sym, refl, ◌∙◌}
-use Rattle.gimli_cfi.specs.Headers.{header_section}
+use Rattle.gimli_cfi.specs.EhFrameHdr.{header_section}
 use Rattle.gimli_cfi.specs.HeaderViews.{header_section_view, header_view, listing_view}
 use Rattle.cfi_check.proofs.VerdictLemmas.{is_checked}
 use Rattle.cfi_check.proofs.table_check.check_by_header.Goals as goal

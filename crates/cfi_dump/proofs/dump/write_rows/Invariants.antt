@@ -1,8 +1,8 @@
 use Rattle.std.proofs.Common.{◌≡◌, Some}
 use Rattle.cfi_state.specs.ContextEffects.{setting_of}
-use Rattle.cfi_unwind.specs.EntryFieldViews.{fde_view}
+use Rattle.cfi_unwind.specs.CieAndFdeViews.{fde_view}
 use Rattle.cfi_unwind.specs.Sections.{section_of}
-use Rattle.cfi_unwind.specs.TableViews.{table_state}
+use Rattle.cfi_unwind.specs.UnwindTableViews.{table_state}
 use Rattle.cfi_dump.specs.SectionTexts.{setting_of_fde, fde_rows, lines}
 use Rattle.cfi_dump.proofs.RowsWritten.{StandsAt, answers_left}
 use Rattle.cfi_dump.proofs.dump.write_rows.Given as goal

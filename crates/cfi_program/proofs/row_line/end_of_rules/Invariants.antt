@@ -1,6 +1,6 @@
 use Rattle.std.proofs.Common.{◌≡◌, ℕ, ◌≤◌, None}
 use Rattle.std.specs.FinMap as map
-use Rattle.cfi_state.specs.Rules.{rules_of}
+use Rattle.cfi_state.specs.RulePairs.{rules_of}
 use Rattle.cfi_program.proofs.row_line.end_of_rules.Given as goal
 
 -- a register from `end` on has a rule only where it has one among those that are left

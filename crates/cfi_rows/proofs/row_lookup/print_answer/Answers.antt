@@ -1,5 +1,5 @@
 use Rattle.cfi_program.specs.Input.{bytes_of}
-use Rattle.cfi_program.specs.Written.{Prints}
+use Rattle.cfi_program.specs.WriterOutput.{Prints}
 use Rattle.cfi_rows.proofs.AnswerLemmas.{in_storage}
 use Rattle.cfi_rows.proofs.row_lookup.print_answer.Goals as goal
 

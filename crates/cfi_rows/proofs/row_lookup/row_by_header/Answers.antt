@@ -1,6 +1,6 @@
 use Rattle.std.proofs.Common.{◌≡◌, Err, None, ap, sym, refl, ◌∙◌, rules}
 use Rattle.cfi_unwind.specs.Scan.{chosen_fde}
-use Rattle.gimli_cfi.specs.Headers.{header_section}
+use Rattle.gimli_cfi.specs.EhFrameHdr.{header_section}
 use Rattle.gimli_cfi.specs.HeaderViews.{section_view, header_view, header_section_view, starts_view, table_view}
 use Rattle.cfi_rows.proofs.AnswerLemmas.{answered_by_table, found_by_header, refused_by_header, refused_by_table}
 use Rattle.cfi_rows.proofs.row_lookup.row_by_header.Goals as goal

@@ -3,7 +3,7 @@ use Rattle.cfi_program.specs.Lines.{wrong_hexadecimal}
 use Rattle.cfi_rows.specs.CommandLine.{CanBeAnswered}
 use Rattle.cfi_rows.specs.ProgramOutput.{answers}
 use Rattle.cfi_program.specs.Input.{bytes_of}
-use Rattle.cfi_program.specs.Written.{Prints}
+use Rattle.cfi_program.specs.WriterOutput.{Prints}
 use Rattle.cfi_program.proofs.RunLemmas.{known_of, owes_answer, owes_hexadecimal}
 use Rattle.cfi_rows.proofs.run.print_line.Goals as goal
 

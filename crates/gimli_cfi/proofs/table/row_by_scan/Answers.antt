@@ -1,5 +1,5 @@
 use Rattle.std.proofs.Common.{◌≡◌, Err, ap, inl, rules}
-use Rattle.cfi_read_core.specs.Readers.{map_ok}
+use Rattle.cfi_read_core.specs.ReaderCalls.{map_ok}
 use Rattle.gimli_cfi.proofs.TableRows.{by_scan}
 use Rattle.gimli_cfi.proofs.table.row_by_scan.Goals as goal
 

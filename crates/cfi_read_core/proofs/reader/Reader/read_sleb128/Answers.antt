@@ -6,7 +6,7 @@ use Rattle.std.proofs.Math.Nat.{pow-suc}
 use Rattle.cfi_read_core.specs.declared.error.Error.{Error}
 use Rattle.cfi_read_core.specs.declared.error.Error.TheVariants.{BadSignedLeb128}
 use Rattle.cfi_read_core.specs.Numbers.{number_by}
-use Rattle.cfi_read_core.specs.Reading.{Source, Outcome, rest}
+use Rattle.cfi_read_core.specs.ReadFunctions.{Source, Outcome, rest}
 use Rattle.cfi_read_core.proofs.Leb128.{byte_there, no_byte_there}
 use Rattle.cfi_read_core.proofs.SignedLeb128.{left_gives, whole_number, turn_ended, turn_last, turn_further, tenth_refused, tenth_accepted, bad_tenth, signed_bits, room}
 use Rattle.cfi_read_core.proofs.reader.Reader.read_sleb128.Goals as goal

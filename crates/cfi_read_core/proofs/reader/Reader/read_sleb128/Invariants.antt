@@ -1,6 +1,6 @@
 use Rattle.std.proofs.Common.{◌≡◌, ◌<◌, ◌≤◌, ◌-◌, ◌^◌}
 use Rattle.cfi_read_core.specs.Numbers.{signed_leb128}
-use Rattle.cfi_read_core.specs.Readers.{bytes_left}
+use Rattle.cfi_read_core.specs.ReaderCalls.{bytes_left}
 use Rattle.cfi_read_core.proofs.SignedLeb128.{left_gives}
 use Rattle.cfi_read_core.proofs.reader.Reader.read_sleb128.Given as goal
 

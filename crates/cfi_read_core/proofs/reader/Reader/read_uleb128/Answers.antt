@@ -2,7 +2,7 @@ use Rattle.std.proofs.Common.{◌≡◌, ◌≤◌, ◌<◌, ◌+◌, ◌-◌, �
 use Rattle.std.proofs.lemmas.Result.{err_from_is_err_and}
 use Rattle.cfi_read_core.specs.declared.error.Error.{Error}
 use Rattle.cfi_read_core.specs.declared.error.Error.TheVariants.{BadUnsignedLeb128}
-use Rattle.cfi_read_core.specs.Reading.{Source, Outcome, rest}
+use Rattle.cfi_read_core.specs.ReadFunctions.{Source, Outcome, rest}
 use Rattle.cfi_read_core.proofs.Leb128.{left_gives, whole_number, byte_there, no_byte_there, turn_ended, turn_too_large, turn_last, turn_further, room, weight_grows, bounded}
 use Rattle.cfi_read_core.proofs.reader.Reader.read_uleb128.Goals as goal
 

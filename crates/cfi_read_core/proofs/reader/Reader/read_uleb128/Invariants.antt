@@ -1,6 +1,6 @@
 use Rattle.std.proofs.Common.{◌≡◌, ◌<◌, ◌≤◌, ◌-◌, ◌^◌}
 use Rattle.cfi_read_core.specs.Numbers.{unsigned_leb128}
-use Rattle.cfi_read_core.specs.Readers.{bytes_left}
+use Rattle.cfi_read_core.specs.ReaderCalls.{bytes_left}
 use Rattle.cfi_read_core.proofs.Leb128.{left_gives}
 use Rattle.cfi_read_core.proofs.reader.Reader.read_uleb128.Given as goal
 

@@ -1,5 +1,5 @@
 use Rattle.std.proofs.Common.{arith, ap}
-use Rattle.cfi_read_core.specs.Reading.{Position}
+use Rattle.cfi_read_core.specs.ReadFunctions.{Position}
 use Rattle.cfi_unwind.proofs.EntryReads.{onward_encoding_byte}
 use Rattle.cfi_unwind.proofs.Within.{not_before}
 use Rattle.cfi_unwind.proofs.entry.augmentation.read_letter.Goals as goal

@@ -2,9 +2,9 @@ use Rattle.std.proofs.Common.{◌≡◌, ◌∙◌, Err, List, ap, arith, rules,
 use Rattle.std.specs.Prelude.{None}
 use Rattle.cfi_unwind.proofs.EntryReads.{byte_taken, none_taken, fewer_left, letters_end, letters_on, letters_refused, onward_letter}
 use Rattle.cfi_unwind.proofs.Within.{not_before}
-use Rattle.cfi_unwind.specs.Cies.{letters}
+use Rattle.cfi_unwind.specs.Augmentations.{letters}
 use Rattle.cfi_unwind.specs.Sections.{pointer_context}
-use Rattle.cfi_unwind.specs.EntryFieldViews.{augmentation_view, section_in}
+use Rattle.cfi_unwind.specs.CieAndFdeViews.{augmentation_view, section_in}
 use Rattle.cfi_unwind.proofs.entry.augmentation.read_letters.Goals as goal
 
 pub returns-in_err-read_letter : goal.returns-in_err-read_letter

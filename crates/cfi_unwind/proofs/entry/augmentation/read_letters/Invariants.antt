@@ -1,8 +1,8 @@
 use Rattle.std.proofs.Common.{◌≡◌, ◌≤◌, None}
-use Rattle.cfi_read_core.specs.Readers.{bytes_left, remaining}
+use Rattle.cfi_read_core.specs.ReaderCalls.{bytes_left, remaining}
 use Rattle.cfi_unwind.specs.Sections.{pointer_context}
-use Rattle.cfi_unwind.specs.Cies.{letters}
-use Rattle.cfi_unwind.specs.EntryFieldViews.{augmentation_view, section_in}
+use Rattle.cfi_unwind.specs.Augmentations.{letters}
+use Rattle.cfi_unwind.specs.CieAndFdeViews.{augmentation_view, section_in}
 use Rattle.cfi_unwind.proofs.entry.augmentation.read_letters.Given as goal
 
 -- what the letters that are left give from here is what all give from the start

@@ -1,5 +1,5 @@
 use Rattle.std.proofs.Common.{ap, ℕ}
-use Rattle.cfi_read_core.specs.Reading.{Outcome}
+use Rattle.cfi_read_core.specs.ReadFunctions.{Outcome}
 use Rattle.cfi_unwind.proofs.EntryReads.{address_size_gives}
 use Rattle.cfi_unwind.proofs.entry.cie.read_sizes.Goals as goal
 

@@ -1,8 +1,8 @@
 use Rattle.std.proofs.Common.{◌≡◌, ◌≤◌}
-use Rattle.cfi_read_core.specs.Readers.{remaining}
+use Rattle.cfi_read_core.specs.ReaderCalls.{remaining}
 use Rattle.cfi_unwind.specs.Entries.{entries_left}
-use Rattle.cfi_unwind.specs.EntryFieldViews.{section_in}
-use Rattle.cfi_unwind.specs.Walks.{GoesThrough}
+use Rattle.cfi_unwind.specs.CieAndFdeViews.{section_in}
+use Rattle.cfi_unwind.specs.EntrySteps.{GoesThrough}
 use Rattle.cfi_unwind.proofs.entry.entries.next_entry.Given as goal
 
 -- no entry was passed

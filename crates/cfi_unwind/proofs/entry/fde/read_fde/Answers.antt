@@ -1,7 +1,7 @@
 use Rattle.std.specs.Option.{option_map}
 use Rattle.cfi_unwind.proofs.EntryReads.{onward_addresses, onward_lsda}
 use Rattle.cfi_unwind.proofs.Within.{behind_of}
-use Rattle.cfi_unwind.specs.EntryFieldViews.{section_in, augmentation_view}
+use Rattle.cfi_unwind.specs.CieAndFdeViews.{section_in, augmentation_view}
 use Rattle.cfi_unwind.proofs.entry.fde.read_fde.Goals as goal
 
 pub read_lsda-requires : goal.read_lsda-requires

@@ -1,5 +1,5 @@
 use Rattle.std.proofs.Common.{ap, arith}
-use Rattle.cfi_read_core.specs.Reading.{Position}
+use Rattle.cfi_read_core.specs.ReadFunctions.{Position}
 use Rattle.cfi_read_core.proofs.Onward.{onward_offset_leb128}
 use Rattle.cfi_unwind.proofs.Within.{behind_of, split_of}
 use Rattle.cfi_unwind.proofs.entry.fde.read_lsda.Goals as goal

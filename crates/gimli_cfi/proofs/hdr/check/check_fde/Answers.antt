@@ -1,7 +1,7 @@
 use Rattle.std.proofs.Common.{◌≡◌, ◌≢◌, Ok, ap, sym, ◌∙◌}
-use Rattle.cfi_unwind.specs.EntryFieldViews.{fde_view}
-use Rattle.gimli_cfi.specs.Boundary.{AreRising, IsBoundaryRow}
-use Rattle.gimli_cfi.specs.Headers.{start_of}
+use Rattle.cfi_unwind.specs.CieAndFdeViews.{fde_view}
+use Rattle.gimli_cfi.specs.BoundaryRows.{AreRising, IsBoundaryRow}
+use Rattle.gimli_cfi.specs.EhFrameHdr.{start_of}
 use Rattle.gimli_cfi.specs.HeaderViews.{header_section_view, table_view}
 use Rattle.gimli_cfi.proofs.Reasons.{never_refused, no_row_by_start, no_row_by_target}
 use Rattle.gimli_cfi.proofs.hdr.check.check_fde.Goals as goal

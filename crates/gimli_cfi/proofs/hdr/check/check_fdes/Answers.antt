@@ -1,11 +1,11 @@
 use Rattle.std.proofs.Common.{◌≡◌, ◌≤◌, ◌-◌, ◌*◌, Ok, Err, sym, subst, refl, ◌∙◌, rules}
-use Rattle.gimli_cfi.specs.Boundary.{AreRising}
+use Rattle.gimli_cfi.specs.BoundaryRows.{AreRising}
 use Rattle.cfi_unwind.specs.Entries.{entries, entries_left}
 use Rattle.cfi_unwind.specs.EntryViews.{partial_of}
 use Rattle.cfi_unwind.specs.Scan.{read_fde}
-use Rattle.cfi_unwind.specs.EntryFieldViews.{fde_view}
-use Rattle.cfi_read_core.specs.Reading.{Position}
-use Rattle.gimli_cfi.specs.FaithfulTables.{starts_for_fde}
+use Rattle.cfi_unwind.specs.CieAndFdeViews.{fde_view}
+use Rattle.cfi_read_core.specs.ReadFunctions.{Position}
+use Rattle.gimli_cfi.specs.TableCheck.{starts_for_fde}
 use Rattle.gimli_cfi.specs.HeaderViews.{section_view, header_section_view, table_view}
 use Rattle.gimli_cfi.proofs.Passed.{Passed, is_among, passed_fde, passed_none, reason_of_fde, row_left}
 use Rattle.gimli_cfi.proofs.StartCounts.{at_most, none_yet, one_more, with_last}

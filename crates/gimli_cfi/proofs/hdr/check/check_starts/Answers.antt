@@ -1,8 +1,8 @@
 use Rattle.std.proofs.Common.{◌≡◌, ◌-◌, ℕ, Ok, Err, ap, sym, subst, ◌∙◌, arith, rules}
-use Rattle.gimli_cfi.specs.Boundary.{AreRising}
+use Rattle.gimli_cfi.specs.BoundaryRows.{AreRising}
 use Rattle.gimli_cfi.proofs.Climbing.{next_rises, one_rises}
 use Rattle.gimli_cfi.proofs.Reasons.{reason_in_start}
-use Rattle.gimli_cfi.specs.FaithfulTables.{IsRefusalIn}
+use Rattle.gimli_cfi.specs.TableCheck.{IsRefusalIn}
 use Rattle.gimli_cfi.proofs.hdr.check.check_starts.Goals as goal
 
 pub returns-in_err-before-clause-reason : goal.returns-in_err-before-clause-reason

@@ -1,5 +1,5 @@
 use Rattle.std.proofs.Common.{◌≡◌, ◌≤◌, ◌+◌, ◌-◌, ℕ, Ok}
-use Rattle.gimli_cfi.specs.Boundary.{AreRising}
+use Rattle.gimli_cfi.specs.BoundaryRows.{AreRising}
 use Rattle.gimli_cfi.proofs.hdr.check.check_starts.Given as goal
 
 -- the starts of the rows before this one rise

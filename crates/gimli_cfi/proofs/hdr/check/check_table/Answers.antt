@@ -1,9 +1,9 @@
 use Rattle.std.proofs.Common.{◌≡◌, Err, sym, ◌∙◌, rules}
 use Rattle.cfi_parts.specs.declared.pointer.Pointer.TheVariants.{Direct}
 use Rattle.cfi_unwind.proofs.ScanSteps.{if_ok}
-use Rattle.gimli_cfi.specs.Boundary.{AreRising}
-use Rattle.gimli_cfi.specs.FaithfulTables.{IsReasonOfStarts}
-use Rattle.gimli_cfi.specs.Headers.{start_of, value_size}
+use Rattle.gimli_cfi.specs.BoundaryRows.{AreRising}
+use Rattle.gimli_cfi.specs.TableCheck.{IsReasonOfStarts}
+use Rattle.gimli_cfi.specs.EhFrameHdr.{start_of, value_size}
 use Rattle.gimli_cfi.specs.HeaderViews.{listing_view}
 use Rattle.gimli_cfi.proofs.Faithful.{faithful}
 use Rattle.gimli_cfi.proofs.Reasons.{not_faithful, reason_of_starts, reason_of_fdes, direct_at, some_of, if_err}

@@ -1,7 +1,7 @@
 use Rattle.std.proofs.Common.{◌≡◌, false, sym, ap, subst, ◌∙◌}
 use Rattle.std.proofs.lemmas.Result.{err_from_is_err_and}
 use Rattle.std.specs.FinMap.{len}
-use Rattle.cfi_state.specs.Rules.{AddsRules}
+use Rattle.cfi_state.specs.RulePairs.{AddsRules}
 use Rattle.cfi_state.proofs.Registers.{len-rules_of}
 use Rattle.cfi_state.proofs.Contexts.{has_no_room, no_room, room-for_few, room-left, saves-full, saves, saves-refused, context-saved}
 use Rattle.cfi_state.proofs.table.context.UnwindContext.save_initial_rules.Goals.{else-pairs-ge2-via-then-pairs-ge2+else-is_full, else-pairs-ge2-via-else-pairs-ge2}

@@ -1,5 +1,5 @@
 use Rattle.std.proofs.Common.{ap}
-use Rattle.cfi_unwind.specs.Walks.{GoesThrough_prop}
+use Rattle.cfi_unwind.specs.EntrySteps.{GoesThrough_prop}
 use Rattle.cfi_unwind.proofs.entry.entries.CfiEntriesIterClone.clone.Goals as goal
 
 pub returns : goal.returns

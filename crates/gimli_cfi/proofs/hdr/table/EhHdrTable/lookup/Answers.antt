@@ -1,4 +1,4 @@
-use Rattle.gimli_cfi.specs.Headers.{value_size, target_of}
+use Rattle.gimli_cfi.specs.EhFrameHdr.{value_size, target_of}
 use Rattle.gimli_cfi.specs.HeaderViews.{header_section_view, starts_view, table_view}
 use Rattle.gimli_cfi.proofs.Searches.{rising_row}
 use Rattle.gimli_cfi.proofs.hdr.table.EhHdrTable.lookup.Goals as goal

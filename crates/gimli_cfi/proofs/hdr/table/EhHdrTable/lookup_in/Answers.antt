@@ -1,5 +1,5 @@
 use Rattle.std.proofs.Common.{◌∙◌, sym}
-use Rattle.gimli_cfi.specs.Headers.{value_size}
+use Rattle.gimli_cfi.specs.EhFrameHdr.{value_size}
 use Rattle.gimli_cfi.proofs.Searches.{by_row}
 use Rattle.gimli_cfi.proofs.hdr.table.EhHdrTable.lookup_in.Goals as goal
 

@@ -1,0 +1,99 @@
+//! A table that was checked against its section.
+ghost use Rattle.std.specs.Prelude.{◌≡◌, ⊤, IfOk, IfErr};
+ghost use Rattle.cfi_state.specs.MappedStates.{row_lent};
+ghost use Rattle.cfi_state.specs.RowExpressions.{HasExpressionsIn};
+ghost use Rattle.cfi_unwind.specs.AddressRow.{IsRowByScan};
+ghost use Rattle.gimli_cfi.specs.TableCheck.{IsReason, ListsFaithfully};
+ghost use Rattle.gimli_cfi.specs.HeaderViews.{section_view, listing_view};
+
+use crate::hdr::check::check_table;
+use crate::hdr::starts::TableStarts;
+use crate::hdr::table::EhHdrTable;
+use crate::hdr::unfaithful::Unfaithful;
+use crate::hdr::unwind_info::row_by_table;
+use cfi_parts::pointer::BaseAddresses;
+use cfi_read_core::{Error, Reader};
+use cfi_state::storage::UnwindContextStorage;
+use cfi_state::table::context::UnwindContext;
+use cfi_state::table::row::UnwindTableRow;
+use cfi_unwind::unwind_section::EhFrame;
+use std::alloc::AllocError;
+
+/// A header's table that lists the FDEs of its section faithfully, with the section and the bases of both.
+///
+/// Only `new` makes one, by `check_table`. So a row by it is what going through the section answers, whatever the
+/// address: the table of a loaded module is checked once and kept.
+#[derive(Debug)]
+pub struct FaithfulTable<'a, R: Reader> {
+    table: EhHdrTable<'a, R>,
+    frame: &'a EhFrame<R>,
+    bases: &'a BaseAddresses,
+    ghost faithful: { ∥ ListsFaithfully (listing_view R.position table frame.now bases.now) ∥₁ },
+}
+
+impl<R: Reader> Clone for FaithfulTable<'_, R> {
+    ghost is_clone = { λ x y. y ≡ x };
+
+    ghost is_infallible = { λ _. ⊤ };
+
+    fn clone(&self) -> Result<Self, AllocError> {
+        Ok(*self)
+    }
+}
+
+impl<R: Reader> Copy for FaithfulTable<'_, R> {}
+
+impl<'a, R: Reader> FaithfulTable<'a, R> {
+    /// Checks the table against the section, as `check_table` with the starts of the table's own rows.
+    ///
+    /// Where the table doesn't list the FDEs of the section faithfully, the answer is a reason why it doesn't. The bases of
+    /// the header are those in `BaseAddresses::eh_frame_hdr`, those of the section's entries in
+    /// `BaseAddresses::eh_frame`. It takes no memory (LSB Core, "The .eh_frame_hdr section").
+    pub fn new(
+        table: &EhHdrTable<'a, R>,
+        frame: &'a EhFrame<R>,
+        bases: &'a BaseAddresses,
+    ) -> Result<Self, Unfaithful>
+        ensures kept { IfOk result (λ checked. (checked.table ≡ table.now) × ((checked.frame.now ≡ frame.now) × (checked.bases.now ≡ bases.now))) }
+        ensures faithful { IfOk result (λ checked. ListsFaithfully (listing_view R.position table.now frame.now bases.now)) }
+        ensures reason { IfErr result (IsReason (listing_view R.position table.now frame.now bases.now)) }
+        ensures unfaithful { IfErr result (λ reason. ListsFaithfully (listing_view R.position table.now frame.now bases.now) → ⊥) }
+    {
+        let mut starts = match TableStarts::new(table, bases) {
+            Ok(starts) => starts,
+            Err(refusal) => return Err(Unfaithful::Header(refusal)),
+        };
+        check_table(table, &mut starts, frame, bases)?;
+        let table = *table;
+        Ok(FaithfulTable {
+            table,
+            frame,
+            bases,
+        })
+    }
+
+    /// The unwind row of the address in the section, lent from the context: what `row_by_scan` answers, row or refusal,
+    /// by a search in the table.
+    ///
+    /// It reads as many starts as halving the rows takes. Over a fixed storage it takes no memory; over another one it
+    /// may be refused with `OutOfMemory` (LSB Core, "The .eh_frame_hdr section").
+    pub fn row<'ctx, S: UnwindContextStorage<R::Offset>>(
+        &self,
+        ctx: &'ctx mut UnwindContext<R::Offset, S>,
+        address: u64,
+    ) -> Result<&'ctx UnwindTableRow<R::Offset, S::Rules>, Error>
+        ensures row { IsRowByScan S.Rules.limit S.Stack.limit S.Rules.copies_free (section_view R.position self.now.frame.now self.now.bases.now) address
+            (row_lent R.Offset.number result) }
+        ensures expressions { IfOk result (λ row. HasExpressionsIn R.Offset.number (R.position self.now.frame.now.section) row.now.parts) }
+    {
+        let mut starts = TableStarts::new(&self.table, self.bases)?;
+        row_by_table(
+            &self.table,
+            &mut starts,
+            self.frame,
+            self.bases,
+            ctx,
+            address,
+        )
+    }
+}
