@@ -34,6 +34,7 @@ impl<T: Copy> UnwindExpression<T> {
     /// Refused with `UnexpectedEof` of the section's first place where the offset goes past the section's end, and of
     /// the expression's own place where the length does: never for the expression of an instruction or of a row of that
     /// section, whose contracts say that it lies there.
+    #[inline(always)]
     pub fn get<R: Reader<Offset = T>, Section: _UnwindSectionPrivate<R>>(
         &self,
         section: &Section,
@@ -51,6 +52,7 @@ impl<T: Copy> UnwindExpression<T> {
 
 /// Passes the bytes before an expression, and splits off its own.
 #[tactic(auto, unfolding(crate::specs::Instructions::expression_bytes))]
+#[inline(always)]
 fn split_expression<R: Reader>(expression: &UnwindExpression<R::Offset>, input: &mut R) -> Result<R>
     ensures read { Reads (λ r. extent_of (R.position r)) (expression_bytes (map_expression R.Offset.number expression.now)) (R.position input.old) result (R.position input.new) }
     ensures part { IfOk result (λ r. IsPartOf (R.position r) (R.position input.old)) }
@@ -179,6 +181,7 @@ impl<R: Reader> Clone for CallFrameInstructionIter<'_, R> {
 
     ghost is_infallible = { λ _. ⊤ };
 
+    #[inline(always)]
     fn clone(&self) -> std::result::Result<Self, AllocError> {
         Ok(CallFrameInstructionIter {
             input: self.input,
@@ -196,6 +199,7 @@ impl<'a, R: Reader> CallFrameInstructionIter<'a, R> {
     ///
     /// The size of an address is 1, 2, 4 or 8. The address of `DW_CFA_set_loc` is a pointer of the encoding, or a plain
     /// address where there is none.
+    #[inline(always)]
     pub fn new(
         input: R,
         address_encoding: Option<DwEhPe>,
@@ -226,6 +230,7 @@ impl<'a, R: Reader> CallFrameInstructionIter<'a, R> {
     /// that isn't known to the vendor, `BadUnsignedLeb128`, `BadSignedLeb128` or `UnsupportedRegister` for an operand,
     /// `UnsupportedOffset` for the length of an expression that does not fit the offset type, and for the address of
     /// `DW_CFA_set_loc` wherever `parse_encoded_pointer` or `Pointer::direct` refuses it.
+    #[inline(always)]
     pub fn next(&mut self) -> Result<Option<CallFrameInstruction<R::Offset>>>
         ensures met { Meets (map_instruction R.Offset.number) result (instructions_left (instruction_reader R.position self.old)) (instructions_left (instruction_reader R.position self.new)) }
         ensures context { (instruction_reader R.position self.new).context ≡ (instruction_reader R.position self.old).context }
@@ -249,12 +254,14 @@ impl<R: Reader> Iterator for CallFrameInstructionIter<'_, R> {
 
     ghost remaining = { item_count (λ it. items (instructions_left (instruction_reader R.position it))) };
 
+    #[inline(always)]
     fn next(&mut self) -> Option<Result<CallFrameInstruction<R::Offset>>> {
         CallFrameInstructionIter::next(self).transpose()
     }
 }
 
 /// The next instruction of the input, which a refusal empties.
+#[inline(always)]
 fn next_instruction<R: Reader>(
     parameters: &InstructionParameters<'_, R>,
     input: &mut R,

@@ -26,6 +26,7 @@ impl Default for Pointer {
 
     ghost is_default = { λ p. p ≡ Direct 0 };
 
+    #[inline(always)]
     fn default() -> Pointer {
         Pointer::Direct(0)
     }
@@ -34,6 +35,7 @@ impl Default for Pointer {
 impl Pointer {
     /// The value of a direct pointer. An indirect one is refused with `UnsupportedIndirectPointer`, since the
     /// memory at which it points isn't at hand.
+    #[inline(always)]
     pub fn direct(self) -> Result<u64>
         ensures { result ≡ direct self }
     {
@@ -44,6 +46,7 @@ impl Pointer {
     }
 
     /// The value of a direct pointer, or the address at which that of an indirect one is found.
+    #[inline(always)]
     pub fn pointer(self) -> u64
         ensures { result ≡ pointer_value self }
     {
@@ -78,6 +81,7 @@ pub struct BaseAddresses {
 
 impl BaseAddresses {
     /// Sets the address of `.eh_frame_hdr`, from which the header's data-relative pointers are counted too.
+    #[inline(always)]
     pub fn set_eh_frame_hdr(self, addr: u64) -> BaseAddresses
         ensures { result ≡ record self { eh_frame_hdr = record self.eh_frame_hdr { section = Some addr; data_base = Some addr } } }
     {
@@ -88,6 +92,7 @@ impl BaseAddresses {
     }
 
     /// Sets the address of `.eh_frame`.
+    #[inline(always)]
     pub fn set_eh_frame(self, addr: u64) -> BaseAddresses
         ensures { result ≡ record self { eh_frame = record self.eh_frame { section = Some addr } } }
     {
@@ -97,6 +102,7 @@ impl BaseAddresses {
     }
 
     /// Sets the address of the code, for the header and the entries.
+    #[inline(always)]
     pub fn set_text(self, addr: u64) -> BaseAddresses
         ensures { result ≡ record self {
           eh_frame_hdr = record self.eh_frame_hdr { text = Some addr };
@@ -110,6 +116,7 @@ impl BaseAddresses {
     }
 
     /// Sets the address to which the data-relative pointers of entries count, usually that of `.got`.
+    #[inline(always)]
     pub fn set_got(self, addr: u64) -> BaseAddresses
         ensures { result ≡ record self { eh_frame = record self.eh_frame { data_base = Some addr } } }
     {
@@ -134,6 +141,7 @@ pub struct PointerEncodingParameters<'a, R> {
 
 /// Reads a byte that is a pointer encoding. Another one is refused with `UnknownPointerEncoding`, and counts as read.
 #[tactic(auto, unfolding(crate::specs::Pointers::encoding_byte))]
+#[inline(always)]
 pub fn parse_pointer_encoding<R: Reader>(input: &mut R) -> Result<DwEhPe>
     ensures { Reads (λ e. e.0) encoding_byte (R.position input.old) result (R.position input.new) }
 {
@@ -149,6 +157,7 @@ pub fn parse_pointer_encoding<R: Reader>(input: &mut R) -> Result<DwEhPe>
 /// 64 bits. A format that isn't known is refused with `UnknownPointerEncoding`, and an address of a size other than
 /// 1, 2, 4 and 8 with `UnsupportedAddressSize`, before any byte is read.
 #[tactic(auto, unfolding(crate::specs::Pointers::encoded_value))]
+#[inline(always)]
 pub fn parse_encoded_value<R: Reader>(
     encoding: DwEhPe,
     address_size: u8,
@@ -172,6 +181,7 @@ pub fn parse_encoded_value<R: Reader>(
 
 /// What is added to a value at the place of the input.
 #[tactic(auto, unfolding(crate::specs::Pointers::base_of))]
+#[inline(always)]
 fn pointer_base<R: Reader>(
     encoding: DwEhPe,
     parameters: &PointerEncodingParameters<'_, R>,
@@ -211,6 +221,7 @@ fn pointer_base<R: Reader>(
 /// base that the encoding names is missing, with `UnsupportedPointerEncoding` for an aligned value, and with
 /// `UnknownPointerEncoding` for an application that isn't known; then as `parse_encoded_value`.
 #[tactic(auto, unfolding(crate::specs::Pointers::pointer))]
+#[inline(always)]
 pub fn parse_encoded_pointer<R: Reader>(
     encoding: DwEhPe,
     parameters: &PointerEncodingParameters<'_, R>,

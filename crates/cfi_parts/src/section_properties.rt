@@ -34,6 +34,7 @@ pub trait UnwindOffset<T>: Copy + Debug + Eq + From<T> {
 impl<T: Copy + Debug + Eq> UnwindOffset<T> for DebugFrameOffset<T> {
     ghost offset = { λ it. it.0 };
 
+    #[inline(always)]
     fn into(self) -> T {
         self.0
     }
@@ -44,6 +45,7 @@ impl<T: Copy + Debug + Eq> UnwindOffset<T> for DebugFrameOffset<T> {
 impl<T: Copy + Debug + Eq> UnwindOffset<T> for EhFrameOffset<T> {
     ghost offset = { λ it. it.0 };
 
+    #[inline(always)]
     fn into(self) -> T {
         self.0
     }

@@ -18,6 +18,7 @@ impl Clone for AddressSize {
 
     ghost is_infallible = { λ _. ⊤ };
 
+    #[inline(always)]
     fn clone(&self) -> std::result::Result<Self, AllocError> {
         Ok(*self)
     }
@@ -27,6 +28,7 @@ impl Copy for AddressSize {}
 
 impl AddressSize {
     /// A size that is known to be 1, 2, 4 or 8.
+    #[inline(always)]
     pub fn new(bytes: u8) -> Self
         requires { IsAddressSize bytes }
         ensures { result.bytes ≡ bytes }
@@ -35,6 +37,7 @@ impl AddressSize {
     }
 
     /// How many bytes an address takes.
+    #[inline(always)]
     pub fn bytes(self) -> u8
         ensures { result ≡ self.bytes }
     {
@@ -61,6 +64,7 @@ pub trait ReaderAddress: Copy {
 impl ReaderAddress for u64 {
     ghost number = { λ n. n };
 
+    #[inline(always)]
     fn add_sized(self, length: u64, size: u8) -> Result<u64> {
         let Some(sum) = self.checked_add(length) else {
             return Err(Error::AddressOverflow);
@@ -78,6 +82,7 @@ impl ReaderAddress for u64 {
         }
     }
 
+    #[inline(always)]
     fn wrapping_add_sized(self, length: u64, size: u8) -> u64 {
         let sum = self.wrapping_add(length);
         match size {

@@ -3,6 +3,7 @@ ghost use Rattle.std.specs.Prelude.{◌≡◌, ◌+◌, ◌≤◌, length, slice
 ghost use Rattle.std.specs.Int.{w16, w32, w64};
 ghost use Rattle.cfi_read_core.specs.Numbers.{number_of};
 
+#[inline(always)]
 pub fn u16_at(bytes: &[u8], at: usize, big_endian: bool) -> u16
     requires { at + 2 ≤ length bytes.now }
     ensures { result ≡ number_of w16 big_endian (slice_range bytes.now at (at + 2)) }
@@ -15,6 +16,7 @@ pub fn u16_at(bytes: &[u8], at: usize, big_endian: bool) -> u16
     }
 }
 
+#[inline(always)]
 pub fn u32_at(bytes: &[u8], at: usize, big_endian: bool) -> u32
     requires { at + 4 ≤ length bytes.now }
     ensures { result ≡ number_of w32 big_endian (slice_range bytes.now at (at + 4)) }
@@ -27,6 +29,7 @@ pub fn u32_at(bytes: &[u8], at: usize, big_endian: bool) -> u32
     }
 }
 
+#[inline(always)]
 pub fn u64_at(bytes: &[u8], at: usize, big_endian: bool) -> u64
     requires { at + 8 ≤ length bytes.now }
     ensures { result ≡ number_of w64 big_endian (slice_range bytes.now at (at + 8)) }

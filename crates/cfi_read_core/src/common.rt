@@ -30,6 +30,7 @@ pub struct Register(pub u16);
 
 impl Register {
     /// The register of a number. Numbers above 65535 are refused with `UnsupportedRegister`.
+    #[inline(always)]
     pub fn from_u64(number: u64) -> Result<Register>
         ensures { result ≡ register_of number }
     {
@@ -72,6 +73,7 @@ pub struct EhFrameOffset<T>(pub T);
 impl<T> From<T> for DebugFrameOffset<T> {
     ghost from_gives = { λ x y. y.0 ≡ x };
 
+    #[inline(always)]
     fn from(offset: T) -> Self {
         DebugFrameOffset(offset)
     }
@@ -80,6 +82,7 @@ impl<T> From<T> for DebugFrameOffset<T> {
 impl<T> From<T> for EhFrameOffset<T> {
     ghost from_gives = { λ x y. y.0 ≡ x };
 
+    #[inline(always)]
     fn from(offset: T) -> Self {
         EhFrameOffset(offset)
     }

@@ -104,6 +104,7 @@ pub const DW_CFA_GNU_negative_offset_extended: DwCfa = DwCfa(0x2f);
 
 impl DwEhPe {
     /// The format alone, the low four bits.
+    #[inline(always)]
     pub fn format(self) -> DwEhPe
         ensures { result.0 ≡ format_of self.0 }
     {
@@ -111,6 +112,7 @@ impl DwEhPe {
     }
 
     /// The application alone, bits 4 to 6.
+    #[inline(always)]
     pub fn application(self) -> DwEhPe
         ensures { result.0 ≡ 16 * application_of self.0 }
     {
@@ -118,6 +120,7 @@ impl DwEhPe {
     }
 
     /// Whether bit 7 is set: the value is the address at which the pointer is stored.
+    #[inline(always)]
     pub fn is_indirect(self) -> bool
         ensures { result ≡ is_indirect self.0 }
     {
@@ -125,6 +128,7 @@ impl DwEhPe {
     }
 
     /// Whether the encoding is omit, or its format and its application are known.
+    #[inline(always)]
     pub fn is_valid_encoding(self) -> bool
         ensures { result ≡ is_valid_encoding self.0 }
     {

@@ -20,6 +20,7 @@ pub struct EndianSlice<'input, E> {
 
 impl<'input, E: Endianity> EndianSlice<'input, E> {
     /// A reader over all of the slice.
+    #[inline(always)]
     pub fn new(slice: &'input [u8], endian: E) -> Self
         ensures { slice_position E.big_endian result ≡ all_of slice.now (E.big_endian endian) 18446744073709551615 }
     {
@@ -30,6 +31,7 @@ impl<'input, E: Endianity> EndianSlice<'input, E> {
     }
 
     /// The bytes that are left.
+    #[inline(always)]
     pub fn slice(&self) -> &'input [u8]
         ensures { result.now ≡ bytes_left (slice_position E.big_endian self.now) }
     {
@@ -42,6 +44,7 @@ impl<E: Endianity> PartialEq for EndianSlice<'_, E> {
 
     ghost laws = { on_per (slice_position E.big_endian) same_reader-per };
 
+    #[inline(always)]
     fn eq(&self, other: &Self) -> bool {
         self.slice() == other.slice() && self.endian.is_big_endian() == other.endian.is_big_endian()
     }
@@ -58,18 +61,22 @@ impl<'input, E: Endianity> Reader for EndianSlice<'input, E> {
 
     ghost position = { slice_position E.big_endian };
 
+    #[inline(always)]
     fn endian(&self) -> E {
         self.endian
     }
 
+    #[inline(always)]
     fn len(&self) -> usize {
         self.window.len()
     }
 
+    #[inline(always)]
     fn place(&self) -> usize {
         self.window.place()
     }
 
+    #[inline(always)]
     fn find(&self, byte: u8) -> Result<usize> {
         match self.window.find(byte) {
             Some(before) => Ok(before),
@@ -77,10 +84,12 @@ impl<'input, E: Endianity> Reader for EndianSlice<'input, E> {
         }
     }
 
+    #[inline(always)]
     fn skip(&mut self, len: usize) -> Result<()> {
         self.window.skip(len)
     }
 
+    #[inline(always)]
     fn split(&mut self, len: usize) -> Result<Self> {
         let window = self.window.split(len)?;
         Ok(EndianSlice {
@@ -89,20 +98,24 @@ impl<'input, E: Endianity> Reader for EndianSlice<'input, E> {
         })
     }
 
+    #[inline(always)]
     fn read_u8(&mut self) -> Result<u8> {
         self.window.read_u8()
     }
 
+    #[inline(always)]
     fn read_u16(&mut self) -> Result<u16> {
         let big_endian = self.endian.is_big_endian();
         self.window.read_u16(big_endian)
     }
 
+    #[inline(always)]
     fn read_u32(&mut self) -> Result<u32> {
         let big_endian = self.endian.is_big_endian();
         self.window.read_u32(big_endian)
     }
 
+    #[inline(always)]
     fn read_u64(&mut self) -> Result<u64> {
         let big_endian = self.endian.is_big_endian();
         self.window.read_u64(big_endian)

@@ -34,6 +34,7 @@ pub enum RunTimeEndian {
 impl Endianity for LittleEndian {
     ghost big_endian = { λ _. false };
 
+    #[inline(always)]
     fn is_big_endian(self) -> bool {
         false
     }
@@ -42,6 +43,7 @@ impl Endianity for LittleEndian {
 impl Endianity for BigEndian {
     ghost big_endian = { λ _. true };
 
+    #[inline(always)]
     fn is_big_endian(self) -> bool {
         true
     }
@@ -50,6 +52,7 @@ impl Endianity for BigEndian {
 impl Endianity for RunTimeEndian {
     ghost big_endian = { is_big };
 
+    #[inline(always)]
     fn is_big_endian(self) -> bool {
         match self {
             RunTimeEndian::Little => false,

@@ -22,6 +22,7 @@ pub struct NarrowSlice<'input, E> {
 
 impl<'input, E: Endianity> NarrowSlice<'input, E> {
     /// A reader over all of the slice, if its places are offsets of four bytes.
+    #[inline(always)]
     pub fn new(slice: &'input [u8], endian: E) -> Result<Self>
         ensures made { map_ok (narrow_position E.big_endian) result
             ≡ narrow_over slice.now (E.big_endian endian) }
@@ -36,6 +37,7 @@ impl<'input, E: Endianity> NarrowSlice<'input, E> {
     }
 
     /// The bytes that are left.
+    #[inline(always)]
     pub fn slice(&self) -> &'input [u8]
         ensures { result.now ≡ bytes_left (narrow_position E.big_endian self.now) }
     {
@@ -48,6 +50,7 @@ impl<E: Endianity> PartialEq for NarrowSlice<'_, E> {
 
     ghost laws = { on_per (narrow_position E.big_endian) same_reader-per };
 
+    #[inline(always)]
     fn eq(&self, other: &Self) -> bool {
         self.slice() == other.slice() && self.endian.is_big_endian() == other.endian.is_big_endian()
     }
@@ -64,18 +67,22 @@ impl<'input, E: Endianity> Reader for NarrowSlice<'input, E> {
 
     ghost position = { narrow_position E.big_endian };
 
+    #[inline(always)]
     fn endian(&self) -> E {
         self.endian
     }
 
+    #[inline(always)]
     fn len(&self) -> u32 {
         self.window.len() as u32
     }
 
+    #[inline(always)]
     fn place(&self) -> u32 {
         self.window.place() as u32
     }
 
+    #[inline(always)]
     fn find(&self, byte: u8) -> Result<u32> {
         match self.window.find(byte) {
             Some(before) => Ok(before as u32),
@@ -83,10 +90,12 @@ impl<'input, E: Endianity> Reader for NarrowSlice<'input, E> {
         }
     }
 
+    #[inline(always)]
     fn skip(&mut self, len: u32) -> Result<()> {
         self.window.skip(len as usize)
     }
 
+    #[inline(always)]
     fn split(&mut self, len: u32) -> Result<Self> {
         let window = self.window.split(len as usize)?;
         Ok(NarrowSlice {
@@ -95,20 +104,24 @@ impl<'input, E: Endianity> Reader for NarrowSlice<'input, E> {
         })
     }
 
+    #[inline(always)]
     fn read_u8(&mut self) -> Result<u8> {
         self.window.read_u8()
     }
 
+    #[inline(always)]
     fn read_u16(&mut self) -> Result<u16> {
         let big_endian = self.endian.is_big_endian();
         self.window.read_u16(big_endian)
     }
 
+    #[inline(always)]
     fn read_u32(&mut self) -> Result<u32> {
         let big_endian = self.endian.is_big_endian();
         self.window.read_u32(big_endian)
     }
 
+    #[inline(always)]
     fn read_u64(&mut self) -> Result<u64> {
         let big_endian = self.endian.is_big_endian();
         self.window.read_u64(big_endian)

@@ -40,14 +40,17 @@ impl ReaderOffset for usize {
 
     const GREATEST: u64 = 18446744073709551615;
 
+    #[inline(always)]
     fn from_u64(value: u64) -> Result<usize> {
         Ok(value as usize)
     }
 
+    #[inline(always)]
     fn into_u64(self) -> u64 {
         self as u64
     }
 
+    #[inline(always)]
     fn checked_sub(self, other: usize) -> Option<usize> {
         self.checked_sub(other)
     }
@@ -62,6 +65,7 @@ impl ReaderOffset for u32 {
 
     const GREATEST: u64 = 4294967295;
 
+    #[inline(always)]
     fn from_u64(value: u64) -> Result<u32> {
         if value <= 4294967295 {
             Ok(value as u32)
@@ -70,10 +74,12 @@ impl ReaderOffset for u32 {
         }
     }
 
+    #[inline(always)]
     fn into_u64(self) -> u64 {
         self as u64
     }
 
+    #[inline(always)]
     fn checked_sub(self, other: u32) -> Option<u32> {
         self.checked_sub(other)
     }

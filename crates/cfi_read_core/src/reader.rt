@@ -71,6 +71,7 @@ pub trait Reader: Copy + Debug + Eq {
         ensures { Reads (λ x. x) (unsigned w64) (position self.old) result (position self.new) };
 
     /// Whether nothing is left.
+    #[inline(always)]
     fn is_empty(&self) -> bool
         ensures { result ≡ (remaining (position self.now) == 0) }
     {
@@ -78,6 +79,7 @@ pub trait Reader: Copy + Debug + Eq {
     }
 
     /// Passes all that is left.
+    #[inline(always)]
     fn empty(&mut self)
         ensures { position self.new ≡ end_position (position self.old) }
     {
@@ -85,6 +87,7 @@ pub trait Reader: Copy + Debug + Eq {
     }
 
     /// How far the place is past that of another reader of the same bytes.
+    #[inline(always)]
     fn offset_from(&self, base: &Self) -> Self::Offset
         requires { (position base.now).place ≤ (position self.now).place }
         ensures { Self.Offset.number result ≡ (position self.now).place - (position base.now).place }
@@ -97,6 +100,7 @@ pub trait Reader: Copy + Debug + Eq {
 
     /// Two bytes as a number in two's complement.
     #[tactic(auto, unfolding(crate::specs::Numbers::signed))]
+    #[inline(always)]
     fn read_i16(&mut self) -> Result<i16>
         ensures { Reads (λ x. x) (signed w16) (position self.old) result (position self.new) }
     {
@@ -105,6 +109,7 @@ pub trait Reader: Copy + Debug + Eq {
 
     /// Four bytes as a number in two's complement.
     #[tactic(auto, unfolding(crate::specs::Numbers::signed))]
+    #[inline(always)]
     fn read_i32(&mut self) -> Result<i32>
         ensures { Reads (λ x. x) (signed w32) (position self.old) result (position self.new) }
     {
@@ -113,6 +118,7 @@ pub trait Reader: Copy + Debug + Eq {
 
     /// Eight bytes as a number in two's complement.
     #[tactic(auto, unfolding(crate::specs::Numbers::signed))]
+    #[inline(always)]
     fn read_i64(&mut self) -> Result<i64>
         ensures { Reads (λ x. x) (signed w64) (position self.old) result (position self.new) }
     {
@@ -121,6 +127,7 @@ pub trait Reader: Copy + Debug + Eq {
 
     /// An unsigned LEB128 number of at most ten bytes (DWARF 5 section 7.6). Padding is accepted; a tenth byte
     /// that doesn't fit 64 bits is refused with `BadUnsignedLeb128`, and counts as read.
+    #[inline(always)]
     fn read_uleb128(&mut self) -> Result<u64>
         ensures { Reads (λ x. x) unsigned_leb128 (position self.old) result (position self.new) }
     {
@@ -147,6 +154,7 @@ pub trait Reader: Copy + Debug + Eq {
 
     /// A signed LEB128 number of at most ten bytes (DWARF 5 section 7.6). Padding is accepted; a tenth byte that
     /// doesn't repeat the sign is refused with `BadSignedLeb128`, and counts as read.
+    #[inline(always)]
     fn read_sleb128(&mut self) -> Result<i64>
         ensures { Reads (λ x. x) signed_leb128 (position self.old) result (position self.new) }
     {
@@ -169,6 +177,7 @@ pub trait Reader: Copy + Debug + Eq {
 
     /// The length of a unit, and its format (DWARF 5 section 7.4).
     #[tactic(auto, unfolding(crate::specs::Numbers::initial_length))]
+    #[inline(always)]
     fn read_initial_length(&mut self) -> Result<(Self::Offset, Format)>
         ensures { Reads (λ p. record { length = Self.Offset.number p.0; format = p.1 }) initial_length (position self.old) result (position self.new) }
     {
@@ -185,6 +194,7 @@ pub trait Reader: Copy + Debug + Eq {
 
     /// An address of 1, 2, 4 or 8 bytes. Other sizes are refused with `UnsupportedAddressSize`.
     #[tactic(auto, unfolding(crate::specs::Addresses::address))]
+    #[inline(always)]
     fn read_address(&mut self, size: u8) -> Result<u64>
         ensures { Reads (λ x. x) (address size) (position self.old) result (position self.new) }
     {
@@ -199,6 +209,7 @@ pub trait Reader: Copy + Debug + Eq {
 
     /// A byte that is an address size: 1, 2, 4 or 8. Others are refused with `UnsupportedAddressSize`, and count as read.
     #[tactic(auto, unfolding(crate::specs::Addresses::address_size))]
+    #[inline(always)]
     fn read_address_size(&mut self) -> Result<u8>
         ensures { Reads (λ x. x) address_size (position self.old) result (position self.new) }
     {
@@ -211,6 +222,7 @@ pub trait Reader: Copy + Debug + Eq {
 
     /// The bytes before the next zero, which is passed.
     #[tactic(auto, unfolding(crate::specs::Numbers::text))]
+    #[inline(always)]
     fn read_null_terminated_slice(&mut self) -> Result<Self>
         ensures read { Reads (λ r. bytes_left (position r)) text (position self.old) result (position self.new) }
         ensures part { IfOk result (λ r. IsPartOf (position r) (position self.old)) }
@@ -235,6 +247,7 @@ pub trait Reader: Copy + Debug + Eq {
 /// A LEB128 number that has to be an offset. One that does not fit the offset type is refused with
 /// `UnsupportedOffset`, and counts as read.
 #[tactic(auto, unfolding(crate::specs::Numbers::offset_leb128))]
+#[inline(always)]
 pub fn read_offset<R: Reader>(input: &mut R) -> Result<R::Offset>
     ensures { Reads R.Offset.number offset_leb128 (R.position input.old) result (R.position input.new) }
 {
@@ -244,6 +257,7 @@ pub fn read_offset<R: Reader>(input: &mut R) -> Result<R::Offset>
 /// A LEB128 number that has to be a register's. One above 65535 is refused with `UnsupportedRegister`, and counts as
 /// read.
 #[tactic(auto, unfolding(crate::specs::Numbers::register_leb128))]
+#[inline(always)]
 pub fn read_register<R: Reader>(input: &mut R) -> Result<Register>
     ensures { Reads (λ x. x) register_leb128 (R.position input.old) result (R.position input.new) }
 {
@@ -251,6 +265,7 @@ pub fn read_register<R: Reader>(input: &mut R) -> Result<Register>
 }
 
 /// The number of these bits below the weight, less the weight where the sign is set.
+#[inline(always)]
 fn with_sign(is_negative: bool, value: u64, weight: u64) -> i64
     requires below { value < weight }
     requires room { weight ≤ 9223372036854775808 }

@@ -21,6 +21,7 @@ impl<const GREATEST: usize> Clone for Window<'_, GREATEST> {
 
     ghost is_infallible = { λ _. ⊤ };
 
+    #[inline(always)]
     fn clone(&self) -> std::result::Result<Self, AllocError> {
         Ok(*self)
     }
@@ -38,6 +39,7 @@ impl<'input, const GREATEST: usize> Window<'input, GREATEST> {
     ghost use Rattle.cfi_read_core.specs.Windows.{position_of, ReadsIn, ReadsWindow, stretch};
 
     /// All of the slice.
+    #[inline(always)]
     pub fn new(whole: &'input [u8]) -> Self
         requires { length whole.now ≤ GREATEST }
         ensures whole { result.whole.now ≡ whole.now }
@@ -51,12 +53,14 @@ impl<'input, const GREATEST: usize> Window<'input, GREATEST> {
         }
     }
 
+    #[inline(always)]
     pub fn place(&self) -> usize
         ensures { result ≡ self.now.first }
     {
         self.first
     }
 
+    #[inline(always)]
     pub fn len(&self) -> usize
         ensures { result ≡ self.now.last - self.now.first }
     {
@@ -64,6 +68,7 @@ impl<'input, const GREATEST: usize> Window<'input, GREATEST> {
     }
 
     /// The bytes of the stretch.
+    #[inline(always)]
     pub fn slice(&self) -> &'input [u8]
         ensures { result.now ≡ stretch self.now }
     {
@@ -71,12 +76,14 @@ impl<'input, const GREATEST: usize> Window<'input, GREATEST> {
     }
 
     /// How many bytes stand before the first one of this value.
+    #[inline(always)]
     pub fn find(&self, byte: u8) -> Option<usize>
         ensures { result ≡ position (λ x. x == byte) (stretch self.now) }
     {
         self.slice().iter().position(|x| *x == byte)
     }
 
+    #[inline(always)]
     pub fn skip(&mut self, len: usize) -> Result<()>
         ensures { ReadsWindow (skip len) self.old result self.new }
     {
@@ -87,6 +94,7 @@ impl<'input, const GREATEST: usize> Window<'input, GREATEST> {
         Ok(())
     }
 
+    #[inline(always)]
     pub fn split(&mut self, len: usize) -> Result<Self>
         ensures read { (big : Bool) → Reads (λ w. extent_of (position_of w big)) (split len) (position_of self.old big) result (position_of self.new big) }
         ensures part { (big : Bool) → IfOk result (λ w. IsPartOf (position_of w big) (position_of self.old big)) }
@@ -104,6 +112,7 @@ impl<'input, const GREATEST: usize> Window<'input, GREATEST> {
     }
 
     #[tactic(auto, unfolding(crate::specs::Numbers::unsigned))]
+    #[inline(always)]
     pub fn read_u8(&mut self) -> Result<u8>
         ensures { ReadsWindow (unsigned w8) self.old result self.new }
     {
@@ -116,6 +125,7 @@ impl<'input, const GREATEST: usize> Window<'input, GREATEST> {
     }
 
     #[tactic(auto, unfolding(crate::specs::Numbers::unsigned))]
+    #[inline(always)]
     pub fn read_u16(&mut self, big_endian: bool) -> Result<u16>
         ensures { ReadsIn big_endian (unsigned w16) self.old result self.new }
     {
@@ -128,6 +138,7 @@ impl<'input, const GREATEST: usize> Window<'input, GREATEST> {
     }
 
     #[tactic(auto, unfolding(crate::specs::Numbers::unsigned))]
+    #[inline(always)]
     pub fn read_u32(&mut self, big_endian: bool) -> Result<u32>
         ensures { ReadsIn big_endian (unsigned w32) self.old result self.new }
     {
@@ -140,6 +151,7 @@ impl<'input, const GREATEST: usize> Window<'input, GREATEST> {
     }
 
     #[tactic(auto, unfolding(crate::specs::Numbers::unsigned))]
+    #[inline(always)]
     pub fn read_u64(&mut self, big_endian: bool) -> Result<u64>
         ensures { ReadsIn big_endian (unsigned w64) self.old result self.new }
     {

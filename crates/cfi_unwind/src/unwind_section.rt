@@ -46,6 +46,7 @@ pub trait UnwindSection<R: Reader>: Copy + Debug + _UnwindSectionPrivate<R> {
     type Offset: UnwindOffset<R::Offset>;
 
     /// All entries of the section, from its beginning. None is read yet.
+    #[inline(always)]
     fn entries<'bases>(&self, bases: &'bases BaseAddresses) -> CfiEntriesIter<'bases, Self, R>
         ensures section { result.section ≡ self.now }
         ensures bases { result.bases.now ≡ bases.now }
@@ -59,6 +60,7 @@ pub trait UnwindSection<R: Reader>: Copy + Debug + _UnwindSectionPrivate<R> {
     /// Refused with `UnexpectedEof` of the section's first place where the offset lies after the section's end, with
     /// `NoEntryAtGivenOffset` at a length of zero, with `NotCieId` where the id there is no CIE's, and as the bytes of
     /// the CIE show.
+    #[inline(always)]
     fn cie_from_offset(
         &self,
         bases: &BaseAddresses,
@@ -79,6 +81,7 @@ pub trait UnwindSection<R: Reader>: Copy + Debug + _UnwindSectionPrivate<R> {
     /// Refused as `cie_from_offset`, but with `NotCiePointer` where the id there is a CIE's; then with
     /// `UnsupportedOffset` where the id does not fit the offset type, and with `OffsetOutOfBounds` where the CIE would lie before the
     /// section.
+    #[inline(always)]
     fn partial_fde_from_offset<'bases>(
         &self,
         bases: &'bases BaseAddresses,
@@ -199,6 +202,7 @@ pub fn scan_for_fde<R: Reader, S: UnwindSection<R>>(
 /// The CIE at an offset of the section: the kept one where it was read there, else it is read, and kept.
 ///
 /// FDEs in a row mostly point to one CIE, which is then read once.
+#[inline(always)]
 fn cie_kept_or_read<R: Reader, S: UnwindSection<R>>(
     kept: &mut Option<(u64, CommonInformationEntry<R>)>,
     section: &S,

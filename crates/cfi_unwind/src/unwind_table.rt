@@ -116,6 +116,7 @@ impl<'a, 'ctx, R: Reader, S: UnwindContextStorage<R::Offset>> UnwindTable<'a, 'c
     }
 
     // Goes on to the next row, and answers whether there is one.
+    #[inline(always)]
     fn advance(&mut self) -> Result<bool>
         ensures next { GivesNextAnswer (setting_of self.old.parameters S.Rules.limit S.Stack.limit) S.Rules.copies_free
             (table_state R.position R.Offset.number self.old)
@@ -196,6 +197,7 @@ impl<'a, 'ctx, R: Reader, S: UnwindContextStorage<R::Offset>> UnwindTable<'a, 'c
 
     /// The row that the last call of `next_row` returned, lent from the context for as long as that is. `None` where that call
     /// answered `None` or a refusal, and where there was no such call.
+    #[inline(always)]
     pub fn into_current_row(self) -> Option<&'ctx UnwindTableRow<R::Offset, S::Rules>>
         ensures some { IfSome result (λ row. (row.now ≡ self.entry.context.now.row) × IsTrue self.entry.holds_row) }
         ensures none { IfNone result (self.entry.holds_row ≡ false) }
@@ -215,6 +217,7 @@ impl<'a, 'ctx, R: Reader, S: UnwindContextStorage<R::Offset>> UnwindTable<'a, 'c
 
 // Runs the instructions up to the first that moves, is refused or can't be read, or to the end. It answers the address
 // of the move.
+#[inline(always)]
 fn run_to_move<'a, R: Reader, S: UnwindContextStorage<R::Offset>>(
     context: &mut UnwindContext<R::Offset, S>,
     parameters: &Parameters,
@@ -237,6 +240,7 @@ fn run_to_move<'a, R: Reader, S: UnwindContextStorage<R::Offset>>(
 }
 
 // Runs the CIE's initial instructions, whose moves end no rows, in an empty context.
+#[inline(always)]
 fn run_initial<R: Reader, S: UnwindContextStorage<R::Offset>>(
     context: &mut UnwindContext<R::Offset, S>,
     parameters: &Parameters,

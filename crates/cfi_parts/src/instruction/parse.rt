@@ -35,6 +35,7 @@ pub struct InstructionParameters<'a, R> {
 
 /// Passes an expression, and answers where it stands in the section.
 #[tactic(auto, unfolding(crate::specs::Instructions::expression))]
+#[inline(always)]
 fn parse_expression<R: Reader>(
     pointers: &PointerEncodingParameters<'_, R>,
     input: &mut R,
@@ -49,6 +50,7 @@ fn parse_expression<R: Reader>(
 }
 
 /// Reads the address of `DW_CFA_set_loc`.
+#[inline(always)]
 fn parse_location<R: Reader>(
     parameters: &InstructionParameters<'_, R>,
     input: &mut R,
@@ -66,6 +68,7 @@ fn parse_location<R: Reader>(
 
 /// Reads an instruction: its opcode and its operands.
 #[tactic(auto, unfolding(crate::specs::Instructions::instruction))]
+#[inline(always)]
 pub fn parse_instruction<R: Reader>(
     parameters: &InstructionParameters<'_, R>,
     input: &mut R,
@@ -94,6 +97,7 @@ pub fn parse_instruction<R: Reader>(
 
 /// Reads the operands of an opcode whose two high bits are 0. The opcodes that compilers write most are read here, and the
 /// others apart, since a function clears the room for what each of its arms reads.
+#[inline(always)]
 fn parse_extended<R: Reader>(
     opcode: DwCfa,
     parameters: &InstructionParameters<'_, R>,

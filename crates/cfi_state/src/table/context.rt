@@ -104,6 +104,7 @@ impl<T: ReaderOffset, S: UnwindContextStorage<T>> UnwindContext<T, S> {
     }
 
     // Makes the context what it was when it was new. It takes no memory.
+    #[inline(always)]
     pub(crate) fn reset(&mut self)
         ensures { self.new ≡ empty_context }
     {
@@ -112,36 +113,42 @@ impl<T: ReaderOffset, S: UnwindContextStorage<T>> UnwindContext<T, S> {
         self.has_ended_cie = false;
     }
 
+    #[inline(always)]
     pub(crate) fn row(&self) -> &UnwindTableRow<T, S::Rules>
         ensures { result.now ≡ self.now.row }
     {
         &self.row
     }
 
+    #[inline(always)]
     pub(crate) fn set_start_address(&mut self, address: u64)
         ensures { self.new ≡ with_row self.old (at_start self.old.row address) }
     {
         self.row.set_start_address(address);
     }
 
+    #[inline(always)]
     pub(crate) fn set_end_address(&mut self, address: u64)
         ensures { self.new ≡ with_row self.old (at_end self.old.row address) }
     {
         self.row.set_end_address(address);
     }
 
+    #[inline(always)]
     pub(crate) fn set_cfa(&mut self, cfa: CfaRule<T>)
         ensures { self.new ≡ with_row self.old (row_with_cfa self.old.row cfa) }
     {
         self.row.set_cfa(cfa);
     }
 
+    #[inline(always)]
     pub(crate) fn set_saved_args_size(&mut self, size: u64)
         ensures { self.new ≡ with_row self.old (with_args_size self.old.row size) }
     {
         self.row.set_saved_args_size(size);
     }
 
+    #[inline(always)]
     pub(crate) fn set_rule(&mut self, register: Register, rule: RegisterRule<T>) -> Result<()>
         ensures { Performs (AddsRule S.Rules.limit self.old.row.parts.rules register.0)
             (map_ok (λ rules. with_row self.old (row_with_rules self.old.row rules))
@@ -151,6 +158,7 @@ impl<T: ReaderOffset, S: UnwindContextStorage<T>> UnwindContext<T, S> {
         self.row.set_rule(register, rule)
     }
 
+    #[inline(always)]
     pub(crate) fn clear_rule(&mut self, register: Register)
         ensures { self.new ≡ with_row self.old (row_with_rules self.old.row (map.remove self.old.row.parts.rules register.0)) }
     {
@@ -158,6 +166,7 @@ impl<T: ReaderOffset, S: UnwindContextStorage<T>> UnwindContext<T, S> {
     }
 
     // How many rows of the stack the initial rules count as.
+    #[inline(always)]
     fn copies_held(&self) -> usize
         ensures { result ≡ copies_held self.now.initial_rules }
     {
@@ -168,6 +177,7 @@ impl<T: ReaderOffset, S: UnwindContextStorage<T>> UnwindContext<T, S> {
     }
 
     // Whether the stack has no room for another row.
+    #[inline(always)]
     fn is_full(&self) -> bool
         ensures { result ≡ is_at_limit S.Stack.limit (context_rows_held self.now) }
     {
@@ -217,6 +227,7 @@ impl<T: ReaderOffset, S: UnwindContextStorage<T>> UnwindContext<T, S> {
     }
 
     // The rule that the register had when the CIE's initial instructions ended.
+    #[inline(always)]
     pub(crate) fn initial_rule(&self, register: Register) -> Result<Option<RegisterRule<T>>>
         ensures { result ≡ initial_rule self.now register.0 }
     {
@@ -236,6 +247,7 @@ impl<T: ReaderOffset, S: UnwindContextStorage<T>> PartialEq for UnwindContext<T,
 
     ghost laws = { partial_equiv_from_equiv (context_equiv T.Eq.laws) };
 
+    #[inline(always)]
     fn eq(&self, other: &Self) -> bool {
         if self.row != other.row {
             return false;
@@ -257,6 +269,7 @@ impl<T: ReaderOffset, S: UnwindContextStorage<T>> UnwindContext<T, S> {
     ghost use Rattle.cfi_state.specs.Equality.{rules_eq};
 
     // The remembered rows, the last one last.
+    #[inline(always)]
     fn remembered(&self) -> &[UnwindTableRow<T, S::Rules>]
         ensures { reverse result.now ≡ self.now.remembered }
     {
@@ -264,6 +277,7 @@ impl<T: ReaderOffset, S: UnwindContextStorage<T>> UnwindContext<T, S> {
     }
 
     // Whether both or neither have ended a CIE, with equal rules.
+    #[inline(always)]
     fn has_initial_rules_of(&self, other: &Self) -> bool
         ensures { result ≡ option_eq (rules_eq T.eq) self.now.initial_rules other.now.initial_rules }
     {

@@ -38,6 +38,7 @@ pub struct Parameters {
 
 impl Parameters {
     // The product wraps.
+    #[inline(always)]
     fn factored(&self, operand: i64) -> i64
         ensures { result ≡ int_wrapping_mul w64 operand self.now.data_alignment_factor }
     {
@@ -46,6 +47,7 @@ impl Parameters {
 }
 
 /// Empties the context for the next unwind: no rule, no remembered row, and no CIE that has ended. It takes no memory.
+#[inline(always)]
 pub fn reset<T: ReaderOffset, S: UnwindContextStorage<T>>(context: &mut UnwindContext<T, S>)
     ensures { context.new ≡ empty_context }
 {
@@ -53,6 +55,7 @@ pub fn reset<T: ReaderOffset, S: UnwindContextStorage<T>>(context: &mut UnwindCo
 }
 
 /// The current row, lent from the context.
+#[inline(always)]
 pub fn current_row<T: ReaderOffset, S: UnwindContextStorage<T>>(
     context: &UnwindContext<T, S>,
 ) -> &UnwindTableRow<T, S::Rules>
@@ -62,6 +65,7 @@ pub fn current_row<T: ReaderOffset, S: UnwindContextStorage<T>>(
 }
 
 /// Writes the current row's start address.
+#[inline(always)]
 pub fn set_start_address<T: ReaderOffset, S: UnwindContextStorage<T>>(
     context: &mut UnwindContext<T, S>,
     address: u64,
@@ -72,6 +76,7 @@ pub fn set_start_address<T: ReaderOffset, S: UnwindContextStorage<T>>(
 }
 
 /// Writes the current row's end address.
+#[inline(always)]
 pub fn set_end_address<T: ReaderOffset, S: UnwindContextStorage<T>>(
     context: &mut UnwindContext<T, S>,
     address: u64,
@@ -88,6 +93,7 @@ pub fn set_end_address<T: ReaderOffset, S: UnwindContextStorage<T>>(
 /// expression, of a rule to restore in a CIE, and of a sign state that is no constant, `TooManyRegisterRules`, `StackFull`
 /// and `PopWithEmptyStack`. `OutOfMemory` comes only where a list without a limit grows, or where a row is remembered
 /// whose copy takes memory.
+#[inline(always)]
 pub fn evaluate<T: ReaderOffset, S: UnwindContextStorage<T>>(
     context: &mut UnwindContext<T, S>,
     parameters: &Parameters,
@@ -107,6 +113,7 @@ pub fn evaluate<T: ReaderOffset, S: UnwindContextStorage<T>>(
 }
 
 // Runs an instruction that is no move.
+#[inline(always)]
 fn change<T: ReaderOffset, S: UnwindContextStorage<T>>(
     context: &mut UnwindContext<T, S>,
     parameters: &Parameters,
@@ -127,6 +134,7 @@ fn change<T: ReaderOffset, S: UnwindContextStorage<T>>(
 }
 
 // Runs an instruction that neither moves nor gives the CFA or a register a rule.
+#[inline(always)]
 fn change_state<T: ReaderOffset, S: UnwindContextStorage<T>>(
     context: &mut UnwindContext<T, S>,
     instruction: CallFrameInstruction<T>,
@@ -151,6 +159,7 @@ fn change_state<T: ReaderOffset, S: UnwindContextStorage<T>>(
 /// Keeps the rules with which the CIE's initial instructions ended, for `DW_CFA_restore` in the FDE's. `StackFull` where two rules or more
 /// would take one row too many; `OutOfMemory` only where there is a rule, in a list that memory alone bounds. A refusal
 /// leaves the context as it is.
+#[inline(always)]
 pub fn end_cie<T: ReaderOffset, S: UnwindContextStorage<T>>(
     context: &mut UnwindContext<T, S>,
 ) -> Result<()>
@@ -162,6 +171,7 @@ pub fn end_cie<T: ReaderOffset, S: UnwindContextStorage<T>>(
 }
 
 // Where a move goes (DWARF 5 section 6.4.2.1), `None` where the instruction is no move.
+#[inline(always)]
 fn target<T: ReaderOffset>(
     parameters: &Parameters,
     location: u64,
@@ -186,6 +196,7 @@ fn target<T: ReaderOffset>(
 }
 
 // The rule of the CFA that the instruction gives (DWARF 5 section 6.4.2.2), `None` where it gives none.
+#[inline(always)]
 fn cfa_given<T: ReaderOffset>(
     parameters: &Parameters,
     old: CfaRule<T>,
@@ -218,6 +229,7 @@ fn cfa_given<T: ReaderOffset>(
 }
 
 // The offset stays; an expression has none.
+#[inline(always)]
 fn with_register<T: ReaderOffset>(old: CfaRule<T>, register: Register) -> Result<Option<CfaRule<T>>>
     ensures { result ≡ groups.with_register old register }
 {
@@ -230,6 +242,7 @@ fn with_register<T: ReaderOffset>(old: CfaRule<T>, register: Register) -> Result
 }
 
 // The register stays; an expression has none.
+#[inline(always)]
 fn with_offset<T: ReaderOffset>(old: CfaRule<T>, offset: i64) -> Result<Option<CfaRule<T>>>
     ensures { result ≡ groups.with_offset old offset }
 {
@@ -242,6 +255,7 @@ fn with_offset<T: ReaderOffset>(old: CfaRule<T>, offset: i64) -> Result<Option<C
 }
 
 // The register that the instruction gives a rule, and the rule (DWARF 5 section 6.4.2.3).
+#[inline(always)]
 fn rule_given<T: ReaderOffset>(
     parameters: &Parameters,
     instruction: CallFrameInstruction<T>,

@@ -59,6 +59,7 @@ impl<T: ReaderOffset, A: ArrayLike<Item = (Register, RegisterRule<T>)>> UnwindTa
     }
 
     /// The first address for which the row holds.
+    #[inline(always)]
     pub fn start_address(&self) -> u64
         ensures { result ≡ self.now.start_address }
     {
@@ -66,6 +67,7 @@ impl<T: ReaderOffset, A: ArrayLike<Item = (Register, RegisterRule<T>)>> UnwindTa
     }
 
     /// The first address after those for which the row holds.
+    #[inline(always)]
     pub fn end_address(&self) -> u64
         ensures { result ≡ self.now.end_address }
     {
@@ -73,6 +75,7 @@ impl<T: ReaderOffset, A: ArrayLike<Item = (Register, RegisterRule<T>)>> UnwindTa
     }
 
     /// Whether the row holds for the address: from the start address up to, and without, the end address.
+    #[inline(always)]
     pub fn contains(&self, address: u64) -> bool
         ensures { IsTrue result ↔ ((self.now.start_address ≤ address) × (address < self.now.end_address)) }
     {
@@ -80,6 +83,7 @@ impl<T: ReaderOffset, A: ArrayLike<Item = (Register, RegisterRule<T>)>> UnwindTa
     }
 
     /// How many bytes of arguments have been pushed (`DW_CFA_GNU_args_size`).
+    #[inline(always)]
     pub fn saved_args_size(&self) -> u64
         ensures { result ≡ self.now.parts.args_size }
     {
@@ -87,6 +91,7 @@ impl<T: ReaderOffset, A: ArrayLike<Item = (Register, RegisterRule<T>)>> UnwindTa
     }
 
     /// How the canonical frame address is found.
+    #[inline(always)]
     pub fn cfa(&self) -> &CfaRule<T>
         ensures { result.now ≡ self.now.parts.cfa }
     {
@@ -94,6 +99,7 @@ impl<T: ReaderOffset, A: ArrayLike<Item = (Register, RegisterRule<T>)>> UnwindTa
     }
 
     /// The rule of the register, `None` where it has none.
+    #[inline(always)]
     pub fn register(&self, register: Register) -> Option<RegisterRule<T>>
         ensures { result ≡ map.get self.now.parts.rules register.0 }
     {
@@ -103,6 +109,7 @@ impl<T: ReaderOffset, A: ArrayLike<Item = (Register, RegisterRule<T>)>> UnwindTa
     /// The registers that have a rule, each once with its rule. The order is open.
     //
     // `RegisterRuleIter` is `Copy`, so that it can have no `Model`: `rules_left` names the list that it yields.
+    #[inline(always)]
     pub fn registers(&self) -> RegisterRuleIter<'_, T>
         ensures rules { rules_of (rules_left result) ≡ self.now.parts.rules }
         ensures distinct { IsDistinctRegisters (rules_left result) }
@@ -111,6 +118,7 @@ impl<T: ReaderOffset, A: ArrayLike<Item = (Register, RegisterRule<T>)>> UnwindTa
     }
 
     // Makes the row what it was before the first instruction. It takes no memory.
+    #[inline(always)]
     pub(crate) fn reset(&mut self)
         ensures { self.new ≡ empty_row }
     {
@@ -121,12 +129,14 @@ impl<T: ReaderOffset, A: ArrayLike<Item = (Register, RegisterRule<T>)>> UnwindTa
         self.registers.clear();
     }
 
+    #[inline(always)]
     pub(crate) fn set_start_address(&mut self, address: u64)
         ensures { self.new ≡ at_start self.old address }
     {
         self.start_address = address;
     }
 
+    #[inline(always)]
     pub(crate) fn set_end_address(&mut self, address: u64)
         ensures { self.new ≡ at_end self.old address }
     {
@@ -142,18 +152,21 @@ impl<T: ReaderOffset, A: ArrayLike<Item = (Register, RegisterRule<T>)>> UnwindTa
         self.registers.take_from(&mut other.registers);
     }
 
+    #[inline(always)]
     pub(crate) fn set_cfa(&mut self, cfa: CfaRule<T>)
         ensures { self.new ≡ row_with_cfa self.old cfa }
     {
         self.cfa = cfa;
     }
 
+    #[inline(always)]
     pub(crate) fn set_saved_args_size(&mut self, size: u64)
         ensures { self.new ≡ with_args_size self.old size }
     {
         self.saved_args_size = size;
     }
 
+    #[inline(always)]
     pub(crate) fn set_rule(&mut self, register: Register, rule: RegisterRule<T>) -> Result<()>
         ensures { Performs (AddsRule A.limit self.old.parts.rules register.0)
             (map_ok (row_with_rules self.old) (map_set_rule A.limit self.old.parts.rules register.0 rule))
@@ -162,12 +175,14 @@ impl<T: ReaderOffset, A: ArrayLike<Item = (Register, RegisterRule<T>)>> UnwindTa
         self.registers.set(register, rule)
     }
 
+    #[inline(always)]
     pub(crate) fn clear_rule(&mut self, register: Register)
         ensures { self.new ≡ row_with_rules self.old (map.remove self.old.parts.rules register.0) }
     {
         self.registers.remove(register);
     }
 
+    #[inline(always)]
     pub(crate) fn rules(&self) -> &RegisterRuleMap<T, A>
         ensures { result.now ≡ self.now.parts.rules }
     {
@@ -185,6 +200,7 @@ impl<T: ReaderOffset, A: ArrayLike<Item = (Register, RegisterRule<T>)>> PartialE
 
     ghost laws = { partial_equiv_from_equiv (row_equiv T.Eq.laws) };
 
+    #[inline(always)]
     fn eq(&self, other: &Self) -> bool {
         self.start_address == other.start_address
             && self.end_address == other.end_address
@@ -240,6 +256,7 @@ impl<T: ReaderOffset, const N: usize> Default
 
     ghost is_default = { λ row. row ≡ empty_row };
 
+    #[inline(always)]
     fn default() -> Self {
         UnwindTableRow {
             start_address: 0,

@@ -41,6 +41,7 @@ pub enum CfaRule<T> {
 impl<T> Default for CfaRule<T> {
     ghost is_default = { λ rule. rule ≡ RegisterAndOffset (record { 0 = 0 }) (pos 0) };
 
+    #[inline(always)]
     fn default() -> Self {
         CfaRule::RegisterAndOffset {
             register: Register(0),
@@ -75,6 +76,7 @@ pub enum RegisterRule<T> {
 impl<T> Default for RegisterRule<T> {
     ghost is_default = { λ rule. rule ≡ Undefined };
 
+    #[inline(always)]
     fn default() -> Self {
         RegisterRule::Undefined
     }
@@ -127,6 +129,7 @@ impl<T: ReaderOffset, A: ArrayLike<Item = (Register, RegisterRule<T>)>> Register
     }
 
     /// The registers with their rules, each once, the lowest register first.
+    #[inline(always)]
     pub(crate) fn pairs(&self) -> &[(Register, RegisterRule<T>)]
         ensures rules { rules_of result.now ≡ self.now }
         ensures distinct { IsDistinctRegisters result.now }
@@ -135,6 +138,7 @@ impl<T: ReaderOffset, A: ArrayLike<Item = (Register, RegisterRule<T>)>> Register
         self.pairs.as_slice()
     }
 
+    #[inline(always)]
     pub(crate) fn iter(&self) -> RegisterRuleIter<'_, T>
         ensures rules { rules_of (rules_left result) ≡ self.now }
         ensures distinct { IsDistinctRegisters (rules_left result) }
@@ -144,12 +148,14 @@ impl<T: ReaderOffset, A: ArrayLike<Item = (Register, RegisterRule<T>)>> Register
         }
     }
 
+    #[inline(always)]
     pub(crate) fn get(&self, register: Register) -> Option<RegisterRule<T>>
         ensures { result ≡ map.get self.now register.0 }
     {
         rule_of(self.pairs(), register)
     }
 
+    #[inline(always)]
     pub(crate) fn set(&mut self, register: Register, rule: RegisterRule<T>) -> Result<()>
         ensures { Performs (AddsRule A.limit self.old register.0) (map_set_rule A.limit self.old register.0 rule) self.old self.new result }
     {
@@ -166,6 +172,7 @@ impl<T: ReaderOffset, A: ArrayLike<Item = (Register, RegisterRule<T>)>> Register
         Err(refusal_of(refused, Error::TooManyRegisterRules))
     }
 
+    #[inline(always)]
     pub(crate) fn remove(&mut self, register: Register)
         ensures { self.new ≡ map.remove self.old register.0 }
     {
@@ -174,6 +181,7 @@ impl<T: ReaderOffset, A: ArrayLike<Item = (Register, RegisterRule<T>)>> Register
         }
     }
 
+    #[inline(always)]
     pub(crate) fn clear(&mut self)
         ensures { self.new ≡ map.empty }
     {
@@ -255,6 +263,7 @@ impl<'iter, T: ReaderOffset> Iterator for RegisterRuleIter<'iter, T> {
 
     ghost remaining = { item_count rules_left };
 
+    #[inline(always)]
     fn next(&mut self) -> Option<&'iter (Register, RegisterRule<T>)> {
         let (first, others) = self.rules.split_first()?;
         self.rules = others;
@@ -268,6 +277,7 @@ impl<T: ReaderOffset, A: ArrayLike<Item = (Register, RegisterRule<T>)>> PartialE
 
     ghost laws = { partial_equiv_from_equiv (rules_equiv T.Eq.laws) };
 
+    #[inline(always)]
     fn eq(&self, other: &Self) -> bool {
         is_same_rules(self.pairs(), other.pairs())
     }
@@ -279,6 +289,7 @@ impl<T: ReaderOffset, A: ArrayLike<Item = (Register, RegisterRule<T>)>> Eq
 }
 
 // Whether two lists stand for equal maps.
+#[inline(always)]
 pub(crate) fn is_same_rules<T: ReaderOffset>(
     a: &[(Register, RegisterRule<T>)],
     b: &[(Register, RegisterRule<T>)],
@@ -291,6 +302,7 @@ pub(crate) fn is_same_rules<T: ReaderOffset>(
 }
 
 // Whether each register of `pairs` has an equal rule in `others`.
+#[inline(always)]
 fn has_same_rules<T: ReaderOffset>(
     pairs: &[(Register, RegisterRule<T>)],
     others: &[(Register, RegisterRule<T>)],
@@ -311,6 +323,7 @@ fn has_same_rules<T: ReaderOffset>(
 }
 
 // The rule of the register in a list of pairs.
+#[inline(always)]
 pub(crate) fn rule_of<T: ReaderOffset>(
     pairs: &[(Register, RegisterRule<T>)],
     register: Register,
@@ -325,6 +338,7 @@ pub(crate) fn rule_of<T: ReaderOffset>(
 }
 
 // Where the register stands in a list of pairs, by halving, and else where it belongs.
+#[inline(always)]
 fn index_of<T: ReaderOffset>(
     pairs: &[(Register, RegisterRule<T>)],
     register: Register,
@@ -352,6 +366,7 @@ fn index_of<T: ReaderOffset>(
 }
 
 /// The refusal that stands for an item that a list didn't take.
+#[inline(always)]
 pub(crate) fn refusal_of<T: Drop>(refused: Refused<T>, full: Error) -> Error
     ensures { result ≡ refusal_for refused.why full }
 {
@@ -367,6 +382,7 @@ impl<T: ReaderOffset, const N: usize> Default
 
     ghost is_default = { λ rules. rules ≡ map.empty };
 
+    #[inline(always)]
     fn default() -> Self {
         RegisterRuleMap {
             pairs: ArrayVec::new(),

@@ -30,6 +30,7 @@ pub struct Augmentation {
 
 /// Adds what one letter means, read from the augmentation data.
 #[tactic(auto, unfolding(crate::specs::Augmentations::letter))]
+#[inline(always)]
 fn read_letter<R: Reader, S: _UnwindSectionPrivate<R>>(
     at: &InSection<'_, S>,
     address_size: AddressSize,
@@ -63,6 +64,7 @@ fn read_letter<R: Reader, S: _UnwindSectionPrivate<R>>(
 }
 
 /// Adds what the letters of a text mean, read from the augmentation data.
+#[inline(always)]
 fn read_letters<R: Reader, S: _UnwindSectionPrivate<R>>(
     at: &InSection<'_, S>,
     address_size: AddressSize,
@@ -82,6 +84,7 @@ fn read_letters<R: Reader, S: _UnwindSectionPrivate<R>>(
 
 /// Reads the augmentation data, by the letters after the `z` that announces them. What the letters leave is dropped.
 #[tactic(auto, unfolding(crate::specs::Augmentations::letters_with_data))]
+#[inline(always)]
 fn read_letters_with_data<R: Reader, S: _UnwindSectionPrivate<R>>(
     at: &InSection<'_, S>,
     address_size: AddressSize,
@@ -100,6 +103,7 @@ fn read_letters_with_data<R: Reader, S: _UnwindSectionPrivate<R>>(
 }
 
 /// Reads what an augmentation string means, and the data that it announces. An empty text is no augmentation.
+#[inline(always)]
 pub(crate) fn read_augmentation<R: Reader, S: _UnwindSectionPrivate<R>>(
     at: &InSection<'_, S>,
     address_size: AddressSize,

@@ -37,6 +37,7 @@ pub struct CieFields<R, O> {
 pub type CommonInformationEntry<R> = CieFields<R, <R as Reader>::Offset>;
 
 /// The size of an address: that which the entry gives, else the section's. A segment selector isn't supported.
+#[inline(always)]
 fn read_sizes<R: Reader, S: _UnwindSectionPrivate<R>>(
     at: &InSection<'_, S>,
     version: u8,
@@ -56,6 +57,7 @@ fn read_sizes<R: Reader, S: _UnwindSectionPrivate<R>>(
 }
 
 /// The register that holds the return address.
+#[inline(always)]
 fn read_return_register<R: Reader>(version: u8, input: &mut R) -> Result<Register>
     ensures { Reads (λ x. x) (return_register version) (R.position input.old) result (R.position input.new) }
 {
@@ -68,6 +70,7 @@ fn read_return_register<R: Reader>(version: u8, input: &mut R) -> Result<Registe
 
 /// Reads the CIE after its prefix.
 #[tactic(auto, unfolding(crate::specs::Cies::cie_fields))]
+#[inline(always)]
 pub(crate) fn read_cie<R: Reader, S: _UnwindSectionPrivate<R>>(
     at: &InSection<'_, S>,
     found: &EntryPrefix<R, R::Offset>,
@@ -103,6 +106,7 @@ pub(crate) fn read_cie<R: Reader, S: _UnwindSectionPrivate<R>>(
 
 impl<R: Reader> CommonInformationEntry<R> {
     /// Where the entry begins in its section.
+    #[inline(always)]
     pub fn offset(&self) -> R::Offset
         ensures { R.Offset.number result ≡ (cie_view R.position R.Offset.number self.now).offset }
     {
@@ -110,6 +114,7 @@ impl<R: Reader> CommonInformationEntry<R> {
     }
 
     /// The format, the version and the size of an address.
+    #[inline(always)]
     pub fn encoding(&self) -> Encoding
         ensures format { result.format ≡ (cie_view R.position R.Offset.number self.now).format }
         ensures version { result.version ≡ (cie_view R.position R.Offset.number self.now).version }
@@ -123,6 +128,7 @@ impl<R: Reader> CommonInformationEntry<R> {
     }
 
     /// How many bytes an address takes: 1, 2, 4 or 8.
+    #[inline(always)]
     pub fn address_size(&self) -> u8
         ensures value { result ≡ (cie_view R.position R.Offset.number self.now).address_size }
         ensures sized { IsAddressSize result }
@@ -131,6 +137,7 @@ impl<R: Reader> CommonInformationEntry<R> {
     }
 
     /// The value of the entry's length field.
+    #[inline(always)]
     pub fn entry_len(&self) -> R::Offset
         ensures { R.Offset.number result ≡ (cie_view R.position R.Offset.number self.now).length }
     {
@@ -138,6 +145,7 @@ impl<R: Reader> CommonInformationEntry<R> {
     }
 
     /// The version: 1, 3 or 4.
+    #[inline(always)]
     pub fn version(&self) -> u8
         ensures { result ≡ (cie_view R.position R.Offset.number self.now).version }
     {
@@ -145,6 +153,7 @@ impl<R: Reader> CommonInformationEntry<R> {
     }
 
     /// What the augmentation means; none where its text is empty.
+    #[inline(always)]
     pub fn augmentation(&self) -> Option<&Augmentation>
         ensures { option_map (λ a. augmentation_view a.now) result ≡ (cie_view R.position R.Offset.number self.now).augmentation }
     {
@@ -152,6 +161,7 @@ impl<R: Reader> CommonInformationEntry<R> {
     }
 
     /// Whether the FDEs have a pointer to language-specific data.
+    #[inline(always)]
     pub fn has_lsda(&self) -> bool
         ensures { result ≡ is_some (lsda_encoding_of (cie_view R.position R.Offset.number self.now).augmentation) }
     {
@@ -159,6 +169,7 @@ impl<R: Reader> CommonInformationEntry<R> {
     }
 
     /// How the FDEs' pointers to language-specific data are encoded.
+    #[inline(always)]
     pub fn lsda_encoding(&self) -> Option<DwEhPe>
         ensures { option_map (λ e. e.0) result ≡ lsda_encoding_of (cie_view R.position R.Offset.number self.now).augmentation }
     {
@@ -169,6 +180,7 @@ impl<R: Reader> CommonInformationEntry<R> {
     }
 
     /// The pointer to the personality routine, and how it is encoded.
+    #[inline(always)]
     pub fn personality_with_encoding(&self) -> Option<(DwEhPe, Pointer)>
         ensures { option_map (λ p. (p.0.0, p.1)) result ≡ personality_of (cie_view R.position R.Offset.number self.now).augmentation }
     {
@@ -179,6 +191,7 @@ impl<R: Reader> CommonInformationEntry<R> {
     }
 
     /// The pointer to the personality routine.
+    #[inline(always)]
     pub fn personality(&self) -> Option<Pointer>
         ensures { result ≡ option_map (λ p. p.1) (personality_of (cie_view R.position R.Offset.number self.now).augmentation) }
     {
@@ -189,6 +202,7 @@ impl<R: Reader> CommonInformationEntry<R> {
     }
 
     /// How the FDEs' addresses are encoded; none where they are plain.
+    #[inline(always)]
     pub fn fde_address_encoding(&self) -> Option<DwEhPe>
         ensures { option_map (λ e. e.0) result ≡ address_encoding_of (cie_view R.position R.Offset.number self.now).augmentation }
     {
@@ -199,6 +213,7 @@ impl<R: Reader> CommonInformationEntry<R> {
     }
 
     /// Whether the FDEs are signal trampolines.
+    #[inline(always)]
     pub fn is_signal_trampoline(&self) -> bool
         ensures { result ≡ is_trampoline (cie_view R.position R.Offset.number self.now).augmentation }
     {
@@ -209,6 +224,7 @@ impl<R: Reader> CommonInformationEntry<R> {
     }
 
     /// Whether the return address is signed with the B key ("DWARF for the Arm 64-bit Architecture").
+    #[inline(always)]
     pub fn uses_b_key(&self) -> bool
         ensures { result ≡ has_b_key (cie_view R.position R.Offset.number self.now).augmentation }
     {
@@ -219,6 +235,7 @@ impl<R: Reader> CommonInformationEntry<R> {
     }
 
     /// The code alignment factor, by which the deltas of advances are multiplied.
+    #[inline(always)]
     pub fn code_alignment_factor(&self) -> u64
         ensures { result ≡ (cie_view R.position R.Offset.number self.now).code_alignment_factor }
     {
@@ -226,6 +243,7 @@ impl<R: Reader> CommonInformationEntry<R> {
     }
 
     /// The data alignment factor, by which the offsets of rules are multiplied.
+    #[inline(always)]
     pub fn data_alignment_factor(&self) -> i64
         ensures { result ≡ (cie_view R.position R.Offset.number self.now).data_alignment_factor }
     {
@@ -233,6 +251,7 @@ impl<R: Reader> CommonInformationEntry<R> {
     }
 
     /// The register that holds the return address.
+    #[inline(always)]
     pub fn return_address_register(&self) -> Register
         ensures { result ≡ (cie_view R.position R.Offset.number self.now).return_address_register }
     {

@@ -36,6 +36,7 @@ pub type CieOrFde<'bases, Section, R> = EntryFields<
 >;
 
 /// The FDE after its prefix, as far as the offset of its CIE.
+#[inline(always)]
 fn read_partial_fde<'bases, R: Reader, S: _UnwindSectionPrivate<R> + Copy>(
     at: &InSection<'bases, S>,
     found: EntryPrefix<R, R::Offset>,
@@ -60,6 +61,7 @@ fn read_partial_fde<'bases, R: Reader, S: _UnwindSectionPrivate<R> + Copy>(
 
 /// What the entry after its prefix is.
 #[tactic(auto, unfolding(crate::specs::Entries::entry_of))]
+#[inline(always)]
 fn read_entry_after<'bases, R: Reader, S: _UnwindSectionPrivate<R> + Copy>(
     at: &InSection<'bases, S>,
     found: EntryPrefix<R, R::Offset>,
@@ -80,6 +82,7 @@ fn read_entry_after<'bases, R: Reader, S: _UnwindSectionPrivate<R> + Copy>(
 
 /// Reads the entry at the place of the input, or none where its length is zero.
 #[tactic(auto, unfolding(crate::specs::EntrySteps::entry_read))]
+#[inline(always)]
 fn read_entry<'bases, R: Reader, S: _UnwindSectionPrivate<R> + Copy>(
     at: &InSection<'bases, S>,
     input: &mut R,
@@ -98,6 +101,7 @@ fn read_entry<'bases, R: Reader, S: _UnwindSectionPrivate<R> + Copy>(
 }
 
 /// The next entry from the place of the input on. An entry of length zero is passed over, or ends the section.
+#[inline(always)]
 fn next_entry<'bases, R: Reader, S: _UnwindSectionPrivate<R> + Copy>(
     at: &InSection<'bases, S>,
     input: &mut R,
@@ -132,6 +136,7 @@ fn next_entry<'bases, R: Reader, S: _UnwindSectionPrivate<R> + Copy>(
 
 /// The prefix of the entry at an offset of the section. Refused with `UnexpectedEof` where the offset lies after
 /// the section's end, and with `NoEntryAtGivenOffset` where the length there is zero.
+#[inline(always)]
 fn prefix_at<R: Reader, S: _UnwindSectionPrivate<R>>(
     at: &InSection<'_, S>,
     offset: R::Offset,
@@ -149,6 +154,7 @@ fn prefix_at<R: Reader, S: _UnwindSectionPrivate<R>>(
 
 /// The CIE at an offset of the section. Refused with `NotCieId` where the id there is no CIE's.
 #[tactic(auto, unfolding(crate::specs::Entries::cie_at))]
+#[inline(always)]
 pub(crate) fn cie_at<R: Reader, S: _UnwindSectionPrivate<R>>(
     at: &InSection<'_, S>,
     offset: R::Offset,
@@ -167,6 +173,7 @@ pub(crate) fn cie_at<R: Reader, S: _UnwindSectionPrivate<R>>(
 /// The FDE at an offset of the section, as far as the offset of its CIE. Refused with `NotCiePointer` where the id
 /// there is a CIE's.
 #[tactic(auto, unfolding(crate::specs::Entries::partial_fde_at))]
+#[inline(always)]
 pub(crate) fn partial_fde_at<'bases, R: Reader, S: _UnwindSectionPrivate<R> + Copy>(
     at: &InSection<'bases, S>,
     offset: R::Offset,
@@ -197,6 +204,7 @@ impl<Section: _UnwindSectionPrivate<R> + Copy, R: Reader> Clone for CfiEntriesIt
 
     ghost is_infallible = { λ _. ⊤ };
 
+    #[inline(always)]
     fn clone(&self) -> std::result::Result<Self, AllocError> {
         Ok(CfiEntriesIter {
             section: self.section,
@@ -214,6 +222,7 @@ impl<'bases, Section: _UnwindSectionPrivate<R> + Copy, R: Reader> CfiEntriesIter
     R,
 > {
     /// All entries of the section.
+    #[inline(always)]
     pub(crate) fn new(section: &Section, bases: &'bases BaseAddresses) -> Self
         ensures section { result.section ≡ section.now }
         ensures bases { result.bases.now ≡ bases.now }
@@ -231,6 +240,7 @@ impl<'bases, Section: _UnwindSectionPrivate<R> + Copy, R: Reader> CfiEntriesIter
     /// Refused as the bytes of the entry show, and with `UnsupportedOffset` or `OffsetOutOfBounds` where an FDE's
     /// CIE has no offset in the section. After a refusal or the end it is `None` from then on. Each entry takes a byte at
     /// least.
+    #[inline(always)]
     pub fn next(&mut self) -> Result<Option<CieOrFde<'bases, Section, R>>>
         ensures met { Meets (entry_view (cie_view R.position R.Offset.number) (λ p. partial_of R.position R.Offset.number p.found p.cie_offset)) result
             (entries_left (section_of (Section.view self.old.section) self.old.bases.now) (R.position self.old.input).place)
@@ -267,6 +277,7 @@ impl<'bases, Section: _UnwindSectionPrivate<R> + Copy, R: Reader> Iterator
 
     ghost remaining = { item_count (λ it. items (entries_left (section_of (Section.view it.section) it.bases.now) (R.position it.input).place)) };
 
+    #[inline(always)]
     fn next(&mut self) -> Option<Result<CieOrFde<'bases, Section, R>>> {
         CfiEntriesIter::next(self).transpose()
     }

@@ -35,6 +35,7 @@ pub struct FdeFields<R, O> {
 pub type FrameDescriptionEntry<R> = FdeFields<R, <R as Reader>::Offset>;
 
 /// The initial address, and how many addresses there are. Indirection of the address is ignored.
+#[inline(always)]
 fn read_addresses<R: Reader, S: _UnwindSectionPrivate<R>>(
     at: &InSection<'_, S>,
     address_size: AddressSize,
@@ -60,6 +61,7 @@ fn read_addresses<R: Reader, S: _UnwindSectionPrivate<R>>(
 }
 
 /// The pointer to the language-specific data, from the augmentation data. What else the data has is dropped.
+#[inline(always)]
 fn read_lsda<R: Reader, S: _UnwindSectionPrivate<R>>(
     at: &InSection<'_, S>,
     address_size: AddressSize,
@@ -92,6 +94,7 @@ fn read_lsda<R: Reader, S: _UnwindSectionPrivate<R>>(
 
 /// Reads the FDE of a CIE after its prefix.
 #[tactic(auto, unfolding(crate::specs::Fdes::fde_fields))]
+#[inline(always)]
 pub(crate) fn read_fde<R: Reader, S: _UnwindSectionPrivate<R>>(
     at: &InSection<'_, S>,
     found: &EntryPrefix<R, R::Offset>,
@@ -130,6 +133,7 @@ pub(crate) fn read_fde<R: Reader, S: _UnwindSectionPrivate<R>>(
 
 impl<R: Reader> FrameDescriptionEntry<R> {
     /// Where the entry begins in its section.
+    #[inline(always)]
     pub fn offset(&self) -> R::Offset
         ensures { R.Offset.number result ≡ (fde_view R.position R.Offset.number self.now).offset }
     {
@@ -137,6 +141,7 @@ impl<R: Reader> FrameDescriptionEntry<R> {
     }
 
     /// The entry's CIE.
+    #[inline(always)]
     pub fn cie(&self) -> &CommonInformationEntry<R>
         ensures { result.now ≡ self.now.cie }
     {
@@ -144,6 +149,7 @@ impl<R: Reader> FrameDescriptionEntry<R> {
     }
 
     /// The value of the entry's length field.
+    #[inline(always)]
     pub fn entry_len(&self) -> R::Offset
         ensures { R.Offset.number result ≡ (fde_view R.position R.Offset.number self.now).length }
     {
@@ -151,6 +157,7 @@ impl<R: Reader> FrameDescriptionEntry<R> {
     }
 
     /// The first address of the entry.
+    #[inline(always)]
     pub fn initial_address(&self) -> u64
         ensures { result ≡ (fde_view R.position R.Offset.number self.now).initial }
     {
@@ -158,6 +165,7 @@ impl<R: Reader> FrameDescriptionEntry<R> {
     }
 
     /// How many addresses the entry is said to have.
+    #[inline(always)]
     pub fn len(&self) -> u64
         ensures { result ≡ (fde_view R.position R.Offset.number self.now).range }
     {
@@ -165,6 +173,7 @@ impl<R: Reader> FrameDescriptionEntry<R> {
     }
 
     /// The pointer to the language-specific data. A pointer of value 0 is still `Some`.
+    #[inline(always)]
     pub fn lsda(&self) -> Option<Pointer>
         ensures { result ≡ (fde_view R.position R.Offset.number self.now).lsda }
     {
@@ -172,6 +181,7 @@ impl<R: Reader> FrameDescriptionEntry<R> {
     }
 
     /// Whether the entry is a signal trampoline, as its CIE says.
+    #[inline(always)]
     pub fn is_signal_trampoline(&self) -> bool
         ensures { result ≡ is_trampoline (fde_view R.position R.Offset.number self.now).cie.augmentation }
     {
@@ -179,6 +189,7 @@ impl<R: Reader> FrameDescriptionEntry<R> {
     }
 
     /// The pointer to the personality routine, as the CIE gives it.
+    #[inline(always)]
     pub fn personality(&self) -> Option<Pointer>
         ensures { result ≡ option_map (λ p. p.1) (personality_of (fde_view R.position R.Offset.number self.now).cie.augmentation) }
     {
@@ -186,6 +197,7 @@ impl<R: Reader> FrameDescriptionEntry<R> {
     }
 
     /// The first address after the entry's. The end wraps at the size of an address, which is that of the CIE.
+    #[inline(always)]
     pub fn end_address(&self) -> u64
         ensures { result ≡ end_of (fde_view R.position R.Offset.number self.now) }
     {
@@ -194,6 +206,7 @@ impl<R: Reader> FrameDescriptionEntry<R> {
     }
 
     /// Whether the address lies in the entry. Nothing lies in one whose end wraps to its initial address or below it.
+    #[inline(always)]
     pub fn contains(&self, address: u64) -> bool
         ensures { result ≡ covers (fde_view R.position R.Offset.number self.now) address }
     {

@@ -19,6 +19,7 @@ impl<R: Reader> CommonInformationEntry<R> {
     /// The instructions with which the program of each of the CIE's FDEs begins. None is read yet.
     ///
     /// The entry is of the section; the bases are those of the section's entries. Expressions lie in the section.
+    #[inline(always)]
     pub fn instructions<'a, Section: _UnwindSectionPrivate<R>>(
         &self,
         section: &'a Section,
@@ -43,6 +44,7 @@ impl<R: Reader> FrameDescriptionEntry<R> {
     /// The FDE's own instructions, which follow those of its CIE. None is read yet.
     ///
     /// The entry is of the section; the bases are those of the section's entries. Expressions lie in the section.
+    #[inline(always)]
     pub fn instructions<'a, Section: _UnwindSectionPrivate<R>>(
         &self,
         section: &'a Section,

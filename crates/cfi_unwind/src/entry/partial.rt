@@ -28,6 +28,7 @@ impl<S: _UnwindSectionPrivate<R> + Copy, R: Reader, O: Copy> Clone
 
     ghost is_infallible = { λ _. ⊤ };
 
+    #[inline(always)]
     fn clone(&self) -> std::result::Result<Self, AllocError> {
         Ok(PartialFdeFields {
             section: self.section,
@@ -63,6 +64,7 @@ impl<'bases, Section: _UnwindSectionPrivate<R> + Copy, R: Reader> PartialFrameDe
     ghost use Rattle.cfi_unwind.specs.EntryViews.{partial_of};
 
     /// Where the entry begins in its section.
+    #[inline(always)]
     pub fn offset(&self) -> R::Offset
         ensures { result ≡ self.now.found.offset }
     {
@@ -70,6 +72,7 @@ impl<'bases, Section: _UnwindSectionPrivate<R> + Copy, R: Reader> PartialFrameDe
     }
 
     /// The value of the entry's length field.
+    #[inline(always)]
     pub fn entry_len(&self) -> R::Offset
         ensures { result ≡ self.now.found.length }
     {
@@ -77,6 +80,7 @@ impl<'bases, Section: _UnwindSectionPrivate<R> + Copy, R: Reader> PartialFrameDe
     }
 
     /// The whole entry, with its CIE.
+    #[inline(always)]
     pub(crate) fn with_cie(
         &self,
         cie: &CommonInformationEntry<R>,
@@ -107,6 +111,7 @@ impl<'bases, Section: UnwindSection<R>, R: Reader> PartialFrameDescriptionEntry<
     ghost use Rattle.cfi_unwind.specs.EntryViews.{partial_of};
 
     /// Where the entry's CIE begins in its section.
+    #[inline(always)]
     pub fn cie_offset(&self) -> Section::Offset
         ensures { Section.Offset.offset result ≡ self.now.cie_offset }
     {
@@ -116,6 +121,7 @@ impl<'bases, Section: UnwindSection<R>, R: Reader> PartialFrameDescriptionEntry<
     /// The whole entry, with the CIE that is answered for its offset, which is asked once.
     ///
     /// Refused with the refusal of `get_cie`, and as the bytes of the entry show.
+    #[inline(always)]
     pub fn parse<F>(&self, mut get_cie: F) -> Result<FrameDescriptionEntry<R>>
     where
         F: FnMut(&Section, &BaseAddresses, Section::Offset) -> Result<CommonInformationEntry<R>>,
@@ -131,6 +137,7 @@ impl<'bases, Section: UnwindSection<R>, R: Reader> PartialFrameDescriptionEntry<
     }
 
     // `parse` with `get_cie` lent: the contract names the state in which the one call leaves it.
+    #[inline(always)]
     pub(crate) fn parse_by_ref<F>(&self, get_cie: &mut F) -> Result<FrameDescriptionEntry<R>>
     where
         F: FnMut(&Section, &BaseAddresses, Section::Offset) -> Result<CommonInformationEntry<R>>,

@@ -22,6 +22,7 @@ pub struct EntryPrefix<R, O> {
     pub(crate) rest: R,
 }
 
+#[inline(always)]
 fn read_id<R: Reader>(encoding: CieOffsetEncoding, input: &mut R) -> Result<u64>
     ensures { Reads (λ x. x) (unsigned (width_of encoding)) (R.position input.old) result (R.position input.new) }
 {
@@ -32,6 +33,7 @@ fn read_id<R: Reader>(encoding: CieOffsetEncoding, input: &mut R) -> Result<u64>
 }
 
 /// Reads the id at the beginning of an entry's extent.
+#[inline(always)]
 fn read_identified<R: Reader, S: _UnwindSectionPrivate<R>>(
     at: &InSection<'_, S>,
     offset: R::Offset,
@@ -60,6 +62,7 @@ fn read_identified<R: Reader, S: _UnwindSectionPrivate<R>>(
 /// Reads the prefix at the place of the input, or none where the length is zero. The input then stands after the
 /// entry.
 #[tactic(auto, unfolding(crate::specs::Prefixes::prefix))]
+#[inline(always)]
 pub(crate) fn read_prefix<R: Reader, S: _UnwindSectionPrivate<R>>(
     at: &InSection<'_, S>,
     input: &mut R,

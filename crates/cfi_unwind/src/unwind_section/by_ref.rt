@@ -23,6 +23,7 @@ use cfi_state::table::context::UnwindContext;
 use cfi_state::table::row::UnwindTableRow;
 
 /// `UnwindSection::fde_from_offset` with `get_cie` lent.
+#[inline(always)]
 pub fn fde_from_offset_by_ref<R: Reader, S: UnwindSection<R>, F>(
     section: &S,
     bases: &BaseAddresses,

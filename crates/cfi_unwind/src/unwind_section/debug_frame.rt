@@ -33,6 +33,7 @@ pub struct DebugFrame<R> {
 
 impl<'input, E: Endianity> DebugFrame<EndianSlice<'input, E>> {
     /// The section of these bytes in this byte order. It holds no copy of them.
+    #[inline(always)]
     pub fn new(section: &'input [u8], endian: E) -> Self
         ensures section { slice_position E.big_endian result.section ≡ all_of section.now (E.big_endian endian) 18446744073709551615 }
         ensures size { result.address_size.bytes ≡ 8 }
@@ -44,6 +45,7 @@ impl<'input, E: Endianity> DebugFrame<EndianSlice<'input, E>> {
 
 impl<R> DebugFrame<R> {
     /// Sets how many bytes an address takes where a CIE gives no size: 1, 2, 4 or 8.
+    #[inline(always)]
     pub fn set_address_size(&mut self, size: u8)
         requires { IsAddressSize size }
         ensures size { self.new.address_size.bytes ≡ size }
@@ -54,6 +56,7 @@ impl<R> DebugFrame<R> {
     }
 
     /// Sets whose vendor opcodes are read.
+    #[inline(always)]
     pub fn set_vendor(&mut self, vendor: Vendor)
         ensures vendor { self.new.vendor ≡ vendor }
         ensures section { self.new.section ≡ self.old.section }
@@ -66,6 +69,7 @@ impl<R> DebugFrame<R> {
 impl<R> From<R> for DebugFrame<R> {
     ghost from_gives = { λ r s. (s.section ≡ r) × ((s.address_size.bytes ≡ 8) × (s.vendor ≡ no_vendor)) };
 
+    #[inline(always)]
     fn from(section: R) -> Self {
         DebugFrame {
             section,
@@ -80,10 +84,12 @@ impl<R> Section<R> for DebugFrame<R> {
 
     ghost ID = { section_id debug_frame };
 
+    #[inline(always)]
     fn id() -> SectionId {
         SectionId::DebugFrame
     }
 
+    #[inline(always)]
     fn reader(&self) -> &R {
         &self.section
     }
@@ -96,14 +102,17 @@ impl<R: Reader> _UnwindSectionPrivate<R> for DebugFrame<R> {
 
     ghost KIND = { debug_frame };
 
+    #[inline(always)]
     fn section(&self) -> &R {
         &self.section
     }
 
+    #[inline(always)]
     fn has_zero_terminator() -> bool {
         false
     }
 
+    #[inline(always)]
     fn is_cie(format: Format, id: u64) -> bool {
         match format {
             Format::Dwarf32 => id == 0xffff_ffff,
@@ -111,6 +120,7 @@ impl<R: Reader> _UnwindSectionPrivate<R> for DebugFrame<R> {
         }
     }
 
+    #[inline(always)]
     fn cie_offset_encoding(format: Format) -> CieOffsetEncoding {
         match format {
             Format::Dwarf32 => CieOffsetEncoding::U32,
@@ -118,18 +128,22 @@ impl<R: Reader> _UnwindSectionPrivate<R> for DebugFrame<R> {
         }
     }
 
+    #[inline(always)]
     fn resolve_cie_offset(&self, _base: R::Offset, offset: R::Offset) -> Option<R::Offset> {
         Some(offset)
     }
 
+    #[inline(always)]
     fn has_address_and_segment_sizes(version: u8) -> bool {
         version == 4
     }
 
+    #[inline(always)]
     fn address_size(&self) -> u8 {
         self.address_size.bytes()
     }
 
+    #[inline(always)]
     fn vendor(&self) -> Vendor {
         self.vendor
     }

@@ -42,6 +42,7 @@ pub struct EhFrame<R> {
 
 impl<'input, E: Endianity> EhFrame<EndianSlice<'input, E>> {
     /// The section of these bytes in this byte order. It holds no copy of them.
+    #[inline(always)]
     pub fn new(section: &'input [u8], endian: E) -> Self
         ensures section { slice_position E.big_endian result.section ≡ all_of section.now (E.big_endian endian) 18446744073709551615 }
         ensures size { result.address_size.bytes ≡ 8 }
@@ -53,6 +54,7 @@ impl<'input, E: Endianity> EhFrame<EndianSlice<'input, E>> {
 
 impl<R> EhFrame<R> {
     /// Sets how many bytes an address takes: 1, 2, 4 or 8.
+    #[inline(always)]
     pub fn set_address_size(&mut self, size: u8)
         requires { IsAddressSize size }
         ensures size { self.new.address_size.bytes ≡ size }
@@ -63,6 +65,7 @@ impl<R> EhFrame<R> {
     }
 
     /// Sets whose vendor opcodes are read.
+    #[inline(always)]
     pub fn set_vendor(&mut self, vendor: Vendor)
         ensures vendor { self.new.vendor ≡ vendor }
         ensures section { self.new.section ≡ self.old.section }
@@ -75,6 +78,7 @@ impl<R> EhFrame<R> {
 impl<R> From<R> for EhFrame<R> {
     ghost from_gives = { λ r s. (s.section ≡ r) × ((s.address_size.bytes ≡ 8) × (s.vendor ≡ no_vendor)) };
 
+    #[inline(always)]
     fn from(section: R) -> Self {
         EhFrame {
             section,
@@ -89,10 +93,12 @@ impl<R> Section<R> for EhFrame<R> {
 
     ghost ID = { section_id eh_frame };
 
+    #[inline(always)]
     fn id() -> SectionId {
         SectionId::EhFrame
     }
 
+    #[inline(always)]
     fn reader(&self) -> &R {
         &self.section
     }
@@ -105,34 +111,42 @@ impl<R: Reader> _UnwindSectionPrivate<R> for EhFrame<R> {
 
     ghost KIND = { eh_frame };
 
+    #[inline(always)]
     fn section(&self) -> &R {
         &self.section
     }
 
+    #[inline(always)]
     fn has_zero_terminator() -> bool {
         true
     }
 
+    #[inline(always)]
     fn is_cie(_format: Format, id: u64) -> bool {
         id == 0
     }
 
+    #[inline(always)]
     fn cie_offset_encoding(_format: Format) -> CieOffsetEncoding {
         CieOffsetEncoding::U32
     }
 
+    #[inline(always)]
     fn resolve_cie_offset(&self, base: R::Offset, offset: R::Offset) -> Option<R::Offset> {
         base.checked_sub(offset)
     }
 
+    #[inline(always)]
     fn has_address_and_segment_sizes(_version: u8) -> bool {
         false
     }
 
+    #[inline(always)]
     fn address_size(&self) -> u8 {
         self.address_size.bytes()
     }
 
+    #[inline(always)]
     fn vendor(&self) -> Vendor {
         self.vendor
     }

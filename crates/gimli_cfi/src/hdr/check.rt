@@ -51,6 +51,7 @@ pub fn check_table<R: Reader, St: StartSource>(
 }
 
 /// What the header gives, or the reason.
+#[inline(always)]
 fn in_header(value: cfi_read_core::Result<u64>) -> Result<u64, Unfaithful>
     ensures given { IfOk result (λ number. value ≡ Ok number) }
     ensures refused { IfErr result (IsRefusalOfHeader value) }
@@ -62,6 +63,7 @@ fn in_header(value: cfi_read_core::Result<u64>) -> Result<u64, Unfaithful>
 }
 
 /// The start of a row, or the reason.
+#[inline(always)]
 fn start_at<St: StartSource>(starts: &mut St, row: u64) -> Result<u64, Unfaithful>
     ensures given { IfOk result (λ start. St.answer starts.old row ≡ Ok start) }
     ensures refused { IfErr result (IsRefusalIn (St.answer starts.old row) row) }
@@ -75,6 +77,7 @@ fn start_at<St: StartSource>(starts: &mut St, row: u64) -> Result<u64, Unfaithfu
 }
 
 /// The target of a row, or the reason.
+#[inline(always)]
 fn target_at<R: Reader>(
     table: &EhHdrTable<'_, R>,
     bases: &BaseAddresses,
@@ -92,6 +95,7 @@ fn target_at<R: Reader>(
 }
 
 /// Whether each row has a start, above that of the row before it.
+#[inline(always)]
 fn check_starts<St: StartSource>(starts: &mut St, count: u64) -> Result<(), Unfaithful>
     requires { 1 ≤ count }
     ensures rising { IfOk result (λ done. AreRising (St.answer starts.old) count) }
@@ -113,6 +117,7 @@ fn check_starts<St: StartSource>(starts: &mut St, count: u64) -> Result<(), Unfa
 }
 
 /// Whether each FDE has a row of its own, and each row an FDE.
+#[inline(always)]
 fn check_fdes<R: Reader, St: StartSource>(
     table: &EhHdrTable<'_, R>,
     starts: &mut St,
@@ -160,6 +165,7 @@ fn check_fdes<R: Reader, St: StartSource>(
 }
 
 /// The FDE with the CIE to which it points.
+#[inline(always)]
 fn read_whole<R: Reader>(
     partial: &PartialFrameDescriptionEntry<'_, EhFrame<R>, R>,
 ) -> cfi_read_core::Result<FrameDescriptionEntry<R>>
@@ -174,6 +180,7 @@ fn read_whole<R: Reader>(
 }
 
 /// Whether the FDE has a row, and doesn't contain the start of the row after it.
+#[inline(always)]
 fn check_fde<R: Reader, St: StartSource>(
     table: &EhHdrTable<'_, R>,
     starts: &mut St,
@@ -217,6 +224,7 @@ fn check_fde<R: Reader, St: StartSource>(
 }
 
 /// Whether the pointer is direct, to this offset above the base.
+#[inline(always)]
 fn is_at(target: Pointer, base: u64, offset: u64) -> bool
     ensures yes { result ≡ true → target ≡ Direct (base + offset) }
     ensures no { result ≡ false → target ≢ Direct (base + offset) }

@@ -36,6 +36,7 @@ impl<R: Reader> Clone for FaithfulTable<'_, R> {
 
     ghost is_infallible = { λ _. ⊤ };
 
+    #[inline(always)]
     fn clone(&self) -> Result<Self, AllocError> {
         Ok(*self)
     }
@@ -49,6 +50,7 @@ impl<'a, R: Reader> FaithfulTable<'a, R> {
     /// Where the table doesn't list the FDEs of the section faithfully, the answer is a reason why it doesn't. The bases of
     /// the header are those in `BaseAddresses::eh_frame_hdr`, those of the section's entries in
     /// `BaseAddresses::eh_frame`. It takes no memory (LSB Core, "The .eh_frame_hdr section").
+    #[inline(always)]
     pub fn new(
         table: &EhHdrTable<'a, R>,
         frame: &'a EhFrame<R>,

@@ -26,6 +26,7 @@ pub struct EhFrameHdr<R>(R);
 
 impl<'input, E: Endianity> EhFrameHdr<EndianSlice<'input, E>> {
     /// The section of these bytes in this byte order. It holds no copy of them.
+    #[inline(always)]
     pub fn new(section: &'input [u8], endian: E) -> Self
         ensures { slice_position E.big_endian result.0 ≡ all_of section.now (E.big_endian endian) 18446744073709551615 }
     {
@@ -36,6 +37,7 @@ impl<'input, E: Endianity> EhFrameHdr<EndianSlice<'input, E>> {
 impl<R> From<R> for EhFrameHdr<R> {
     ghost from_gives = { λ r s. s.0 ≡ r };
 
+    #[inline(always)]
     fn from(section: R) -> Self {
         EhFrameHdr(section)
     }
@@ -46,10 +48,12 @@ impl<R> Section<R> for EhFrameHdr<R> {
 
     ghost ID = { eh_frame_hdr_id };
 
+    #[inline(always)]
     fn id() -> SectionId {
         SectionId::EhFrameHdr
     }
 
+    #[inline(always)]
     fn reader(&self) -> &R {
         &self.0
     }
@@ -106,6 +110,7 @@ impl<R: Reader> EhFrameHdr<R> {
 
 /// How many rows the table has: none where the count or the rows are omitted.
 #[tactic(auto, unfolding(crate::specs::EhFrameHdr::row_count))]
+#[inline(always)]
 fn read_row_count<R: Reader>(
     count_encoding: DwEhPe,
     table_encoding: DwEhPe,
@@ -140,6 +145,7 @@ impl<R: Reader> Clone for ParsedEhFrameHdr<R> {
 
     ghost is_infallible = { λ _. ⊤ };
 
+    #[inline(always)]
     fn clone(&self) -> std::result::Result<Self, AllocError> {
         Ok(*self)
     }
@@ -151,6 +157,7 @@ impl<R: Reader> ParsedEhFrameHdr<R> {
     ghost use Rattle.gimli_cfi.specs.HeaderViews.{header_view, table_view};
 
     /// Where `.eh_frame` is.
+    #[inline(always)]
     pub fn eh_frame_ptr(&self) -> Pointer
         ensures { result ≡ (header_view R.position self.now).eh_frame }
     {
@@ -158,6 +165,7 @@ impl<R: Reader> ParsedEhFrameHdr<R> {
     }
 
     /// The table, `None` where it has no rows: the count is 0 or omitted, or the rows are omitted.
+    #[inline(always)]
     pub fn table(&self) -> Option<EhHdrTable<'_, R>>
         ensures rows { option_map (table_view R.position) result ≡ (header_view R.position self.now).table }
         ensures header { IfSome result (λ table. table.hdr.now ≡ self.now) }

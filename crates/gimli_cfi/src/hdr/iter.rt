@@ -32,6 +32,7 @@ impl<'a, 'bases, R: Reader> EhHdrTableIter<'a, 'bases, R> {
     ghost use Rattle.gimli_cfi.specs.HeaderViews.{rows_view, header_section_view, walk_view};
 
     /// All rows of the header's table.
+    #[inline(always)]
     pub(crate) fn new(hdr: &'a ParsedEhFrameHdr<R>, bases: &'bases BaseAddresses) -> Self
         ensures all { walk_view R.position result ≡ walk_of (header_section_view R.position hdr.now bases.now) (rows_view R.position hdr.now) }
     {
@@ -48,6 +49,7 @@ impl<'a, 'bases, R: Reader> EhHdrTableIter<'a, 'bases, R> {
     /// A row is refused as any pointer of the section, for its start and then for its target. It counts as a row: one
     /// fewer remains, and the next is read from where the refused read stood. It takes no memory.
     #[tactic(auto, unfolding(crate::specs::HeaderRows::next_row))]
+    #[inline(always)]
     pub fn next(&mut self) -> Result<Option<(Pointer, Pointer)>>
         ensures read { Reads (λ found. found) (next_row (walk_view R.position self.old)) (R.position self.old.table) result (R.position self.new.table) }
         ensures met { Meets result (walk_view R.position self.old) (walk_view R.position self.new) }
@@ -83,11 +85,13 @@ impl<R: Reader> Iterator for EhHdrTableIter<'_, '_, R> {
 
     ghost remaining = { λ it. at_most it.remain };
 
+    #[inline(always)]
     fn next(&mut self) -> Option<Result<(Pointer, Pointer)>> {
         EhHdrTableIter::next(self).transpose()
     }
 
     /// The count of the rows that remain, for both bounds: refused rows count too.
+    #[inline(always)]
     fn size_hint(&self) -> (usize, Option<usize>)
         ensures lower { IsWithinCount result.0 (at_most self.now.remain) }
         ensures upper { IfSome result.1 (UpTo (at_most self.now.remain)) }
@@ -100,6 +104,7 @@ impl<R: Reader> Iterator for EhHdrTableIter<'_, '_, R> {
 
 /// Reads a row: its start and its target.
 #[tactic(auto, unfolding(crate::specs::EhFrameHdr::row_by))]
+#[inline(always)]
 fn read_row<R: Reader>(
     encoding: DwEhPe,
     parameters: &PointerEncodingParameters<'_, R>,

@@ -29,6 +29,7 @@ impl<R: Reader> EhHdrTable<'_, R> {
     /// rows takes, at most 64, and takes no memory (LSB Core, "The .eh_frame_hdr section").
     ///
     /// The bases are those in `BaseAddresses::eh_frame_hdr`.
+    #[inline(always)]
     pub fn lookup(&self, address: u64, bases: &BaseAddresses) -> Result<Pointer>
         ensures found { IsFoundBySearch (starts_view R.position self.now.hdr.now bases.now) (table_view R.position self.now) address
             (target_of (header_section_view R.position self.now.hdr.now bases.now) (table_view R.position self.now)) result }
@@ -45,6 +46,7 @@ impl<R: Reader> EhHdrTable<'_, R> {
     ///
     /// A refusal of the source that passes on is that of a row below the count. The source is asked at most as often as
     /// halving the rows takes; where the format is refused it isn't asked.
+    #[inline(always)]
     pub fn lookup_in<St: StartSource>(
         &self,
         starts: &mut St,
@@ -67,6 +69,7 @@ impl<R: Reader> EhHdrTable<'_, R> {
     /// Refused with `UnsupportedIndirectPointer` where one of the two is indirect, with `OffsetOutOfBounds` of the
     /// pointer where it is below the other, and with `UnsupportedOffset` where the difference does not fit the offset type of the reader.
     /// It takes no memory.
+    #[inline(always)]
     pub fn pointer_to_offset(&self, ptr: Pointer) -> Result<EhFrameOffset<R::Offset>>
         ensures { map_ok (λ offset. R.Offset.number offset.0) result
             ≡ offset_of_pointer (R.position self.now.hdr.now.section).source.greatest self.now.hdr.now.eh_frame_ptr ptr }

@@ -18,6 +18,7 @@ impl<R: Reader> EhHdrTableIter<'_, '_, R> {
     /// `udata4`, `sdata4`, `udata8` or `sdata8`, whatever remains; with `UnsupportedOffset` where the size of `n` rows is
     /// no `u64` or no offset of the reader; and with `UnexpectedEof` where so many bytes aren't left. These leave the
     /// iterator as it was. Then as `next`. It takes no memory.
+    #[inline(always)]
     pub fn nth(&mut self, n: usize) -> Result<Option<(Pointer, Pointer)>>
         ensures met { MeetsBehind (walk_past (walk_view R.position self.old) n) (walk_view R.position self.old) result (walk_view R.position self.new) }
         ensures unchanged { (e : Refusal) → walk_past (walk_view R.position self.old) n ≡ Err e → self.new ≡ self.old }

@@ -20,6 +20,7 @@ use cfi_read_core::{DwEhPe, Error, Reader, ReaderOffset, ReaderOffsetId, Result}
 
 /// How many bytes a value takes in a format that can be searched. Others are refused with
 /// `UnsupportedPointerEncoding`.
+#[inline(always)]
 pub(crate) fn searchable_size(encoding: DwEhPe) -> Result<u64>
     ensures { result ≡ ok_or (value_size encoding.0) (UnsupportedPointerEncoding encoding) }
 {
@@ -35,6 +36,7 @@ pub(crate) fn searchable_size(encoding: DwEhPe) -> Result<u64>
 }
 
 /// Passes so many rows of two values of this size at once.
+#[inline(always)]
 pub(crate) fn pass_rows<R: Reader>(input: &mut R, size: u64, count: u64) -> Result<()>
     requires { size ≤ 8 }
     ensures { Reads (λ x. x) (rows_passed size count) (R.position input.old) result (R.position input.new) }
@@ -48,6 +50,7 @@ pub(crate) fn pass_rows<R: Reader>(input: &mut R, size: u64, count: u64) -> Resu
 }
 
 /// Passes a value of this size. A number that does not fit the offset type is more than is left.
+#[inline(always)]
 fn pass_value<R: Reader>(input: &mut R, size: u64) -> Result<()>
     ensures { Reads (λ x. x) (skip size) (R.position input.old) result (R.position input.new) }
 {
@@ -58,6 +61,7 @@ fn pass_value<R: Reader>(input: &mut R, size: u64) -> Result<()>
 }
 
 /// What the pointers in the rows are read with.
+#[inline(always)]
 fn row_parameters<'a, R: Reader>(
     hdr: &'a ParsedEhFrameHdr<R>,
     bases: &'a BaseAddresses,
@@ -76,6 +80,7 @@ fn row_parameters<'a, R: Reader>(
 
 /// Reads the start of a row from the place of the first one.
 #[tactic(auto, unfolding(crate::specs::EhFrameHdr::start_field))]
+#[inline(always)]
 fn read_start_field<R: Reader>(
     hdr: &ParsedEhFrameHdr<R>,
     bases: &BaseAddresses,
@@ -93,6 +98,7 @@ fn read_start_field<R: Reader>(
 
 /// Reads the target of a row from the place of the first one.
 #[tactic(auto, unfolding(crate::specs::EhFrameHdr::target_field))]
+#[inline(always)]
 fn read_target_field<R: Reader>(
     hdr: &ParsedEhFrameHdr<R>,
     bases: &BaseAddresses,
@@ -110,6 +116,7 @@ fn read_target_field<R: Reader>(
 }
 
 /// The start of a row, which has to be direct.
+#[inline(always)]
 pub(crate) fn start_of_row<R: Reader>(
     hdr: &ParsedEhFrameHdr<R>,
     bases: &BaseAddresses,
@@ -124,6 +131,7 @@ pub(crate) fn start_of_row<R: Reader>(
 }
 
 /// The target of a row.
+#[inline(always)]
 pub(crate) fn target_of_row<R: Reader>(
     hdr: &ParsedEhFrameHdr<R>,
     bases: &BaseAddresses,

@@ -32,6 +32,7 @@ pub trait StartSource {
 ///
 /// Refused as the source, for an index below the count. The source is asked at most `b` times, `b` being the least
 /// number with `count <= 2^b`. It takes no memory.
+#[inline(always)]
 pub fn search_starts<S: StartSource>(source: &mut S, count: u64, address: u64) -> Result<u64>
     requires { 1 ≤ count }
     ensures found { IfOk result (IsBoundaryRow (S.answer source.old) count address) }

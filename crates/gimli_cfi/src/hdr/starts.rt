@@ -32,6 +32,7 @@ impl<'a, 'bases, R: Reader> TableStarts<'a, 'bases, R> {
     /// Another format is refused with `UnsupportedPointerEncoding` of the table's encoding.
     ///
     /// The bases are those in `BaseAddresses::eh_frame_hdr`. No start is read yet. It takes no memory.
+    #[inline(always)]
     pub fn new(table: &EhHdrTable<'a, R>, bases: &'bases BaseAddresses) -> Result<Self>
         ensures searchable { map_ok (λ starts. starts.size) result ≡ ok_or (value_size table.now.hdr.now.table_enc.0) (UnsupportedPointerEncoding table.now.hdr.now.table_enc) }
         ensures same_section_and_bases { IfOk result (λ starts. (starts.hdr.now ≡ table.now.hdr.now) × (starts.bases.now ≡ bases.now)) }
@@ -54,6 +55,7 @@ impl<R: Reader> StartSource for TableStarts<'_, '_, R> {
 
     ghost calls = { λ s. s.calls.calls };
 
+    #[inline(always)]
     fn start(&mut self, index: u64) -> Result<u64> {
         self.calls = self.calls.next();
         start_of_row(self.hdr, self.bases, self.size, index)

@@ -23,6 +23,7 @@ impl<R: Reader> Clone for EhHdrTable<'_, R> {
 
     ghost is_infallible = { λ _. ⊤ };
 
+    #[inline(always)]
     fn clone(&self) -> std::result::Result<Self, AllocError> {
         Ok(*self)
     }
@@ -34,6 +35,7 @@ impl<'a, R: Reader> EhHdrTable<'a, R> {
     ghost use Rattle.gimli_cfi.specs.HeaderViews.{header_section_view, table_view, walk_view};
 
     /// The table of a header that has rows.
+    #[inline(always)]
     pub(crate) fn new(hdr: &'a ParsedEhFrameHdr<R>) -> Self
         requires { 1 ≤ hdr.now.fde_count }
         ensures { result.hdr.now ≡ hdr.now }
@@ -44,6 +46,7 @@ impl<'a, R: Reader> EhHdrTable<'a, R> {
     /// The rows in order, as many as the count. None is read yet.
     ///
     /// The bases are those in `BaseAddresses::eh_frame_hdr`; the address size is that which the header was read with.
+    #[inline(always)]
     pub fn iter<'bases>(&self, bases: &'bases BaseAddresses) -> EhHdrTableIter<'a, 'bases, R>
         ensures all { walk_view R.position result ≡ walk_of (header_section_view R.position self.now.hdr.now bases.now) (table_view R.position self.now) }
         ensures many { length (rows_left (walk_view R.position result)) ≡ (table_view R.position self.now).count }

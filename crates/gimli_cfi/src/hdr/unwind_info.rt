@@ -80,6 +80,7 @@ pub fn row_by_table<'ctx, R: Reader, St: StartSource, S: UnwindContextStorage<R:
 }
 
 /// The FDE that the table names for the address, with the CIE to which it points.
+#[inline(always)]
 fn table_fde<R: Reader, St: StartSource>(
     table: &EhHdrTable<'_, R>,
     starts: &mut St,
@@ -113,6 +114,7 @@ fn table_fde<R: Reader, St: StartSource>(
 
 /// The FDE that a target names, where it contains the address; `get_cie` is lent, so that the contract names the state
 /// in which it is left.
+#[inline(always)]
 fn fde_at_target<R: Reader, F>(
     table: &EhHdrTable<'_, R>,
     target: Pointer,
