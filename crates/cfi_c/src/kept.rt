@@ -18,7 +18,7 @@ pub struct Kept {
 }
 
 impl Model for Kept {
-    ghost also_owns = { λ kept. owned kept.live kept.at };
+    ghost also_owns = { λ kept. owned kept.live kept.alloc kept.at };
 }
 
 impl Kept {

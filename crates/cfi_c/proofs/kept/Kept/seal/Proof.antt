@@ -21,7 +21,6 @@ use denote.Struct.Owning.{shape}
 use denote.Triple.Walked.{says, Goes-dropped, Stays, stay_dropped, walk_of, ends_at}
 use Rattle.std.proofs.raw_atomic.Walks.{proved_at}
 use Rattle.std_alloc.specs.Box.Ownership.{box_owns}
-use Rattle.libc.specs.Heap.{chunk}
 use Rattle.cfi_c.specs.ContextRow.{context_row}
 use Rattle.cfi_c.specs.contracts.unboxed.Unboxed as unboxed
 use Rattle.cfi_c.specs.contracts.kept.Kept as kept
@@ -39,7 +38,7 @@ seal_spec 𝓤 𝓛 𝓜 𝓡 wired =
     qed 𝓛 ((‵ ftrue ⊛ ‵ (owns (types_at En.signature.params y.0.0) y.0.3 y.0.4)) ∷ raw (emp 𝓤) ∷ []) ∵
     split ! $ drop ! $ fsplit ! $ fsplit ! $ pair_out (shape (unboxed.the_type context_row heap.row heap.g)) ! entered.at a y.0.4.0 (λ h ws fits. move ! (1 ∷ []) $
     -- [the context and the right to free it; the handle; nothing; nothing]
-    in_a_block ! entered.at (λ p. box_owns chunk context_row p entered.value) (fst∗ 𝓤 (never 𝓤) (sem 𝓛 (chunk (bare (lone context_row.mir)) null_ptr))) (λ b o place.
+    in_a_block ! entered.at (λ p. box_owns (heap.g.dealloc_token a) context_row p entered.value) (fst∗ 𝓤 (never 𝓤) (sem 𝓛 (heap.g.dealloc_token a (bare (lone context_row.mir)) null_ptr))) (λ b o place.
     let word : y.0.4.0 ≡ pair (vptr b o) h ∷ [] = ws ∙ λ i. pair (ptr_val (place i)) h ∷ [] in
     regoal ! (λ (us : List Val). prop (WpFn 𝓤 𝓛.H 𝓣.C 𝓣.Λ code.function us (W.post y))) (λ i. word i ++ []) refl $
     enter ! _ _ _ _ _ $ alloc_all ! (λ l. pass_all ! refl (pair_typed b o h fits, tt) $
@@ -48,7 +47,7 @@ seal_spec 𝓤 𝓛 𝓜 𝓡 wired =
     sets ! (of_opd ! (get ! refl)) refl (tt, tt) $
     sets ! (agg ! (and_then ! (get ! refl) (and_then ! (get ! refl) (no_more !)))) refl (pair_typed b o h fits) $
     returns ! (look_at ! 0 refl) $ free_all ! refl $
-    fpack ! context_row.Denot (λ x. box_owns chunk context_row (block_ptr b o) x) entered.value $
+    fpack ! context_row.Denot (λ x. box_owns (heap.g.dealloc_token a) context_row (block_ptr b o) x) entered.value $
     move ! (1 ∷ []) $ pair_in (shape kept.the_type) ! (block_ptr b o) a h $ fjoin ! $ move ! (1 ∷ 2 ∷ []) $ drop ! $ drop ! $
     suffices ! _ (ends_at 𝓛 En stays c y (pair (vptr b o) h) (record { at = block_ptr b o; alloc = a; live = true }) (tt, tt) (tt, tt)) $ says ! refl $
     nothing ! $ nothing ! $ fjoin ! $ join ! $ nothing ! $ join ! $ done !))))
