@@ -1,9 +1,7 @@
 //! Public calls that no other test takes, each once on its happy path.
 use crate::entries::bytes_of;
-use crate::searches::HEADER;
 use cfi_read_core::constants::{DW_EH_PE_absptr, DW_EH_PE_pcrel, DW_EH_PE_sdata4};
 use cfi_read_core::{DebugFrameOffset, DwEhPe, EhFrameOffset, LittleEndian, Vendor};
-use gimli_cfi::hdr::{EhFrameHdr, TableStarts};
 use gimli_cfi::instruction::CallFrameInstruction;
 use gimli_cfi::pointer::{BaseAddresses, Pointer, SectionBaseAddresses};
 use gimli_cfi::section::{DebugFrame, EhFrame, UnwindSection};
@@ -79,22 +77,5 @@ fn the_letters_of_a_cie(rt: HostRuntime) -> Result<(), Fail> {
         Some((DW_EH_PE_absptr, personality))
     );
     assert_eq!(rt; cie.personality(), Some(personality));
-    Ok(())
-}
-
-#[test]
-fn a_search_with_the_starts_of_the_table(rt: HostRuntime) -> Result<(), Fail> {
-    let bases = BaseAddresses::default().set_eh_frame_hdr(0x1f00);
-    let parsed = EhFrameHdr::new(&HEADER, LittleEndian).parse(&bases, 8)?;
-    let Some(table) = parsed.table() else {
-        assert!(rt; false);
-        return Ok(());
-    };
-    let mut starts = TableStarts::new(&table, &bases)?;
-    assert_eq!(rt;
-        table.lookup_in(&mut starts, 0x1018, &bases),
-        Ok(Pointer::Direct(0x202c))
-    );
-    assert_eq!(rt; parsed.eh_frame_ptr(), Pointer::Direct(0x2000));
     Ok(())
 }

@@ -3,10 +3,6 @@
 #![tactic(auto)]
 
 #[cfg(test)]
-mod asked;
-#[cfg(test)]
-mod counted;
-#[cfg(test)]
 mod cuts;
 #[cfg(test)]
 mod derives;
@@ -15,11 +11,7 @@ mod entries;
 #[cfg(test)]
 mod errors;
 #[cfg(test)]
-mod faithful;
-#[cfg(test)]
 mod happy_paths;
-#[cfg(test)]
-mod headers;
 #[cfg(test)]
 mod instructions;
 #[cfg(test)]
@@ -36,7 +28,5 @@ mod register_order;
 mod reuse;
 #[cfg(test)]
 mod rows;
-#[cfg(test)]
-mod searches;
 #[cfg(test)]
 mod sections;

@@ -397,3 +397,20 @@ fn searches_by_halving(rt: HostRuntime) {
     assert_eq!(rt; search_starts(&mut source, u64::MAX, 12345), Ok(12345));
     assert!(rt; source.made <= 64);
 }
+
+#[test]
+fn a_search_with_the_starts_of_the_table(rt: HostRuntime) -> Result<(), Fail> {
+    let bases = BaseAddresses::default().set_eh_frame_hdr(0x1f00);
+    let parsed = EhFrameHdr::new(&HEADER, LittleEndian).parse(&bases, 8)?;
+    let Some(table) = parsed.table() else {
+        assert!(rt; false);
+        return Ok(());
+    };
+    let mut starts = TableStarts::new(&table, &bases)?;
+    assert_eq!(rt;
+        table.lookup_in(&mut starts, 0x1018, &bases),
+        Ok(Pointer::Direct(0x202c))
+    );
+    assert_eq!(rt; parsed.eh_frame_ptr(), Pointer::Direct(0x2000));
+    Ok(())
+}
