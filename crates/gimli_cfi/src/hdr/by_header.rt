@@ -1,6 +1,8 @@
 //! The unwind row of an address, by a header that isn't read yet.
+ghost use Rattle.std.specs.Prelude.{IfOk};
 ghost use Rattle.cfi_read_core.specs.Addresses.{IsAddressSize};
 ghost use Rattle.cfi_state.specs.MappedStates.{row_lent};
+ghost use Rattle.cfi_state.specs.RowExpressions.{HasExpressionsIn};
 ghost use Rattle.gimli_cfi.specs.EhFrameHdr.{header_section};
 ghost use Rattle.gimli_cfi.specs.HeaderViews.{section_view};
 ghost use Rattle.gimli_cfi.specs.RowsByHeader.{IsRowByHeader};
@@ -30,8 +32,9 @@ pub fn row_by_header<'ctx, R: Reader, S: UnwindContextStorage<R::Offset>>(
     address: u64,
 ) -> Result<&'ctx UnwindTableRow<R::Offset, S::Rules>>
     requires { IsAddressSize address_size }
-    ensures { IsRowByHeader S.Rules.limit S.Stack.limit S.Rules.copies_free (section_view R.position frame.now bases.now) address
+    ensures row { IsRowByHeader S.Rules.limit S.Stack.limit S.Rules.copies_free (section_view R.position frame.now bases.now) address
         (header_section (R.position header.now.0) address_size bases.now.eh_frame_hdr) (row_lent R.Offset.number result) }
+    ensures expressions { IfOk result (λ row. HasExpressionsIn R.Offset.number (R.position frame.now.section) row.now.parts) }
 {
     let header = header.parse(bases, address_size)?;
     let Some(table) = header.table() else {

@@ -14,4 +14,4 @@ returns c =
     let headed = c.new-header.ensures ∙ ap (λ e. all_of c.args.header.now e 18446744073709551615) c.endian_of-2.ensures in
     let section = same_section EhFrame b bytes _ _ _ _ stands (ap (λ s. s.bytes) c.set_vendor.ensures.size ∙ c.set_address_size.ensures.size) (c.set_vendor.ensures.vendor ∙ c.vendor_of.ensures) c.bases_of-known.ensures.section in
     let header = same_header b c.args.header.now _ _ headed c.bases_of-known.ensures.header in
-    table_answer _ _ _ _ c.args.address _ _ section header (same_rows (λ row. row.now) c.row_by_header.result) c.row_by_header.ensures
+    table_answer _ _ _ _ c.args.address _ _ section header (same_rows (λ row. row.now) c.row_by_header.result) c.row_by_header.ensures.row

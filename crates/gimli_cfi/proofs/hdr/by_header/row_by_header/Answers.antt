@@ -5,26 +5,26 @@ use Rattle.gimli_cfi.specs.HeaderViews.{section_view, header_view, header_sectio
 use Rattle.gimli_cfi.proofs.HeaderAnswers.{answered_by_table, found_by_header, refused_by_header, refused_by_table}
 use Rattle.gimli_cfi.proofs.hdr.by_header.row_by_header.Goals as goal
 
-pub returns-in_err-header : goal.returns-in_err-header
-returns-in_err-header g c =
+pub returns-in_err-header-clause-row : goal.returns-in_err-header-clause-row
+returns-in_err-header-clause-row g c =
     let gives : c.from_residual.result ≡ Err c.in_err-header.field-0.0 = search rules in
     rw gives (refused_by_header _ _ _ _ _ _ _ c.in_err-header.ensures.read)
 
-pub returns-in_default : goal.returns-in_default
-returns-in_default g c =
+pub returns-in_default-clause-row : goal.returns-in_default-clause-row
+returns-in_default-clause-row g c =
     let section = section_view g.R.Reader.position c.args.frame.now c.args.bases.now in
     found_by_header _ _ _ _ _ _ (header_view g.R.Reader.position c.in_ok-header.header) None (chosen_fde section c.args.address) _
     c.in_ok-header.ensures.read (sym c.in_default.ensures.rows) refl
     (c.row_by_scan.ensures.row)
 
-pub returns-in_err-starts : goal.returns-in_err-starts
-returns-in_err-starts g c =
+pub returns-in_err-starts-clause-row : goal.returns-in_err-starts-clause-row
+returns-in_err-starts-clause-row g c =
     let gives : c.from_residual-in_err-starts.result ≡ Err c.in_err-starts.field-0.0 = search rules in
     rw gives (refused_by_table _ _ _ _ _ _ (header_view g.R.Reader.position c.in_ok-header.header) (table_view g.R.Reader.position c.in-Some.table) _
     c.in_ok-header.ensures.read c.in-Some.ensures.rows c.in_err-starts.ensures.searchable)
 
-pub returns : goal.returns
-returns g c =
+pub returns-clause-row : goal.returns-clause-row
+returns-clause-row g c =
     let same_section_and_bases = c.in_ok-starts.ensures.same_section_and_bases in
     answered_by_table _ _ _ _ _ _ (header_section_view g.R.Reader.position c.in-Some.table.hdr.now c.args.bases.now)
     (header_view g.R.Reader.position c.in_ok-header.header) (table_view g.R.Reader.position c.in-Some.table)
