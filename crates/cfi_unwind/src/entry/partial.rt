@@ -9,7 +9,7 @@ use crate::entry::prefix::EntryPrefix;
 use crate::unwind_section::UnwindSection;
 use cfi_parts::pointer::BaseAddresses;
 use cfi_parts::section_properties::_UnwindSectionPrivate;
-use cfi_read_core::{Reader, Result};
+use cfi_read_core::{Format, Reader, Result};
 use std::alloc::AllocError;
 
 /// A frame description entry as far as the offset of its CIE, over its section, its reader and the reader's offsets.
@@ -77,6 +77,14 @@ impl<'bases, Section: _UnwindSectionPrivate<R> + Copy, R: Reader> PartialFrameDe
         ensures { result ≡ self.now.found.length }
     {
         self.found.length
+    }
+
+    /// Whether the entry's length field takes four bytes, or twelve with the mark before them.
+    #[inline(always)]
+    pub fn format(&self) -> Format
+        ensures { result ≡ self.now.found.format }
+    {
+        self.found.format
     }
 
     /// The whole entry, with its CIE.
