@@ -40,7 +40,7 @@ plain_reason : (reason : Unfaithful) → IsPlain (verdict_line (verdicts.Unfaith
 plain_reason (reasons.Header e) = record { beginning = λ h. absurd (omega arith); low = omega arith }
 plain_reason (reasons.Row k e) = record { beginning = λ h. absurd (omega arith); low = omega arith }
 plain_reason (reasons.Order k before start) = record { beginning = λ h. absurd (omega arith); low = omega arith }
-plain_reason (reasons.Entry e) = record { beginning = λ h. absurd (omega arith); low = omega arith }
+plain_reason (reasons.Entry o e) = record { beginning = λ h. absurd (omega arith); low = omega arith }
 plain_reason (reasons.Fde o e) = record { beginning = λ h. absurd (omega arith); low = omega arith }
 plain_reason (reasons.NoRow o a) = record { beginning = λ h. absurd (omega arith); low = omega arith }
 plain_reason (reasons.Overlap o end next) = record { beginning = λ h. absurd (omega arith); low = omega arith }

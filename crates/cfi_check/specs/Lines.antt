@@ -15,7 +15,10 @@ refused_text place e = place ++ codes ": refused " ++ name_of e
 abbrev pub row_text : ℕ → List ℕ
 row_text k = codes "row " ++ decimal k
 
--- by its offset in the section
+-- by their offset in the section
+abbrev pub entry_text : ℕ → List ℕ
+entry_text offset = codes "entry " ++ address_text offset
+
 abbrev pub fde_text : ℕ → List ℕ
 fde_text offset = codes "FDE " ++ address_text offset
 
@@ -23,7 +26,7 @@ abbrev pub reason_text : Unfaithful → List ℕ
 reason_text (reasons.Header e) = refused_text (codes "header") e
 reason_text (reasons.Row k e) = refused_text (row_text k) e
 reason_text (reasons.Order k before start) = row_text k ++ codes ": starts at " ++ address_text start ++ codes ", the row before it at " ++ address_text before
-reason_text (reasons.Entry e) = refused_text (codes "entries") e
+reason_text (reasons.Entry offset e) = refused_text (entry_text offset) e
 reason_text (reasons.Fde offset e) = refused_text (fde_text offset) e
 reason_text (reasons.NoRow offset address) = fde_text offset ++ codes ": no row starts at " ++ address_text address ++ codes " and leads to it"
 reason_text (reasons.Overlap offset end next) = fde_text offset ++ codes ": ends at " ++ address_text end ++ codes ", the next row starts at " ++ address_text next

@@ -34,7 +34,7 @@ pub fn write_verdict<W: Write>(output: &mut W, verdict: Verdict) -> io::Result<u
     }
 }
 
-/// Writes the line of a reason: where the fault is, by row or by the offset of an FDE, and what it is.
+/// Writes the line of a reason: where the fault is, by row or by the offset of an entry, and what it is.
 fn write_reason<W: Write>(output: &mut W, reason: Unfaithful) -> io::Result<()>
     ensures { Writes (W.contents output.old) (W.contents output.new) result (reason_text reason ++ 10 ∷ []) }
 {
@@ -55,9 +55,10 @@ fn write_reason<W: Write>(output: &mut W, reason: Unfaithful) -> io::Result<()>
                 format_args!("row {row}: starts at {start}, the row before it at {before}\n"),
             )
         }
-        Unfaithful::Entry(refusal) => {
+        Unfaithful::Entry { offset, refusal } => {
+            let offset = Address(offset);
             let name = name(refusal);
-            write_part(output, format_args!("entries: refused {name}\n"))
+            write_part(output, format_args!("entry {offset}: refused {name}\n"))
         }
         Unfaithful::Fde { offset, refusal } => {
             let offset = Address(offset);

@@ -48,7 +48,9 @@ indirect rows | CIE FDE1 | 01 1b 03 bb fc000000 01000000 ROW1 | row 0: refused U
 indirect pointer to the section | CIE FDE1 | 01 9b 03 3b fc000000 01000000 ROW1 | header: refused UnsupportedIndirectPointer
 rows of no fixed length | CIE FDE1 | 01 1b 03 31 fc000000 01000000 ROW1 | header: refused UnsupportedPointerEncoding
 CIE that is an FDE | CIE FDE1 10000000 18000000 dcefffff 10000000 00 410e10 | HEADER 02000000 ROW1 ROW2 | FDE 0x2c: refused NotCieId
-entry that is cut | CIE FDE1 10000000 | HEADER 01000000 ROW1 | entries: refused UnexpectedEof
+entry that is cut | CIE FDE1 10000000 | HEADER 01000000 ROW1 | entry 0x2c: refused UnexpectedEof
+first entry of an unknown version | 0c000000 00000000 02 00 01 78 10 000000 FDE1 | HEADER 01000000 ROW1 | entry 0x0: refused UnknownVersion
+FDE with its CIE before the section, after a CIE of the 64-bit format | ffffffff 1000000000000000 00000000 01 00 01 78 10 00000000000000 10000000 40000000 00000000 00000000 00000000 | HEADER 01000000 ROW1 | entry 0x1c: refused OffsetOutOfBounds
 no rows | CIE FDE1 | HEADER 00000000 | header: has no table
 omitted rows | CIE FDE1 | 01 1b 03 ff fc000000 | header: has no table
 version 2 | CIE FDE1 | 02 1b 03 3b fc000000 01000000 ROW1 | header: refused UnknownVersion

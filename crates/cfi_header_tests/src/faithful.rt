@@ -203,7 +203,10 @@ fn refused_parts(rt: HostRuntime) {
     );
     assert_eq!(rt;
         reason(&HEADER, &SECTION[..80]),
-        Ok(Some(Unfaithful::Entry(ended(68))))
+        Ok(Some(Unfaithful::Entry {
+            offset: 64,
+            refusal: ended(68),
+        }))
     );
 }
 

@@ -21,5 +21,6 @@ pub mod Faithful
 pub mod Reasons
 pub mod Climbing
 pub mod StartCounts
+pub mod EntryEnds
 pub mod Passed
 pub mod Certificates

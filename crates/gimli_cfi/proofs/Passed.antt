@@ -119,7 +119,7 @@ pub reason_of_fde : (header : HeaderSection) (table : Table) (eh_frame : ℕ) (s
 reason_of_fde header table eh_frame section fde (reasons.Header e) among why = absurd why
 reason_of_fde header table eh_frame section fde (reasons.Row k e) among why = why
 reason_of_fde header table eh_frame section fde (reasons.Order k s t) among why = absurd why
-reason_of_fde header table eh_frame section fde (reasons.Entry e) among why = absurd why
+reason_of_fde header table eh_frame section fde (reasons.Entry o e) among why = absurd why
 reason_of_fde header table eh_frame section fde (reasons.Fde o e) among why = absurd why
 reason_of_fde header table eh_frame section fde (reasons.NoRow o a) among why = (fde, among, why.0, why.1, why.2)
 reason_of_fde header table eh_frame section fde (reasons.Overlap o end next) among why = (fde, among, why.0, why.1)

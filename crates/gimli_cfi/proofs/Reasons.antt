@@ -61,7 +61,7 @@ no_reason l eh_frame is (reasons.Row k e) at why = no_row_refusal l.header l.tab
 no_reason l eh_frame is (reasons.Order k s t) at why =
     let above : s < t = is.starts_increase why.before k s t (omega (arith, why.follows)) why.inside why.start_before why.start_of_row in
     absurd (omega (arith, above, why.not_above))
-no_reason l eh_frame is (reasons.Entry e) at why = let ended = is.entries_end in let refused : (entries l.section).refusal ≡ Some e = why in absurd (cc)
+no_reason l eh_frame is (reasons.Entry o e) at why = let ended = is.entries_end in let refused : (entries l.section).refusal ≡ Some e = why.1 in absurd (cc)
 no_reason l eh_frame is (reasons.Fde o e) at why = none_refused l.section (partial_fdes (entries l.section).values) o e is.fdes_read why
 no_reason l eh_frame is (reasons.NoRow o a) at why = let row = is.all_fdes why.0 why.1 in why.4 eh_frame at row.0 row.1 row.2
 no_reason l eh_frame is (reasons.Overlap o end next) at why = no_overlap l.header l.table eh_frame l.section is why.0 end next why.1 why.3
@@ -139,7 +139,7 @@ pub reason_of_starts : (l : Listing) (reason : Unfaithful) → IsReasonOfStarts 
 reason_of_starts l (reasons.Header e) why = absurd why
 reason_of_starts l (reasons.Row k e) why = (why.0, inl why.1)
 reason_of_starts l (reasons.Order k s t) why = why
-reason_of_starts l (reasons.Entry e) why = absurd why
+reason_of_starts l (reasons.Entry o e) why = absurd why
 reason_of_starts l (reasons.Fde o e) why = absurd why
 reason_of_starts l (reasons.NoRow o a) why = absurd why
 reason_of_starts l (reasons.Overlap o end next) why = absurd why
@@ -149,7 +149,7 @@ pub reason_of_fdes : (l : Listing) (eh_frame : ℕ) (reason : Unfaithful) → l.
 reason_of_fdes l eh_frame (reasons.Header e) at why = absurd why
 reason_of_fdes l eh_frame (reasons.Row k e) at why = why
 reason_of_fdes l eh_frame (reasons.Order k s t) at why = absurd why
-reason_of_fdes l eh_frame (reasons.Entry e) at why = why
+reason_of_fdes l eh_frame (reasons.Entry o e) at why = why
 reason_of_fdes l eh_frame (reasons.Fde o e) at why = why
 reason_of_fdes l eh_frame (reasons.NoRow o a) at why = (
   why.0,

@@ -20,6 +20,7 @@ use Rattle.gimli_cfi.specs.EhFrameHdr.{HeaderSection, Header, Table, header_of, 
 use Rattle.gimli_cfi.specs.HeaderRows.{rows_left, walk_of}
 use Rattle.gimli_cfi.specs.HalvingSteps.{steps}
 use Rattle.gimli_cfi.specs.TableLookup.{fde_by_row}
+use Rattle.gimli_cfi.specs.TableCheck.{IsEntryRefusal}
 use Rattle.gimli_cfi.proofs.Computing.{computing, debug_frame, eh_frame, section_at, narrow, header_at, three, three_header, three_rows}
 
 -- ---- what is shown of entries
@@ -548,6 +549,20 @@ return_register_3 = refl
 no_version_2 : return_register_of (cie_at (debug_frame (codes "09000000 ffffffff 02 00 017810")) 0) ≡ Err (UnknownVersion 2)
 unfolding computing
 no_version_2 = refl
+
+-- ---- a refused entry begins where the one before it ends
+
+refused_behind_two : IsEntryRefusal (section_at EhFrame (Some 0x2000) (codes "14000000 00000000 01 7a5200 01 78 10 01 1b 0c0708 9001 0000 10000000 1c000000 e0efffff 10000000 00 000000 10000000")) 44 (unexpected_eof 48)
+unfolding computing
+refused_behind_two = (refl, refl)
+
+refused_at_once : IsEntryRefusal (eh_frame (codes "09000000 00000000 02 00 017810")) 0 (UnknownVersion 2)
+unfolding computing
+refused_at_once = (refl, refl)
+
+refused_behind_a_wide_cie : IsEntryRefusal (eh_frame (codes "ffffffff 0900000000000000 00000000 01 00 017810 04000000 30000000")) 21 (OffsetOutOfBounds 0x30)
+unfolding computing
+refused_behind_a_wide_cie = (refl, refl)
 
 -- ---- steps of halving
 

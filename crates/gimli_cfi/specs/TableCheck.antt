@@ -1,6 +1,8 @@
 -- What a check of a table against its section finds.
-use Rattle.std.specs.Prelude.{◌≡◌, ◌⊎◌, ◌≤◌, ◌<◌, ◌+◌, ◌*◌, ℕ, List, [], ◌∷◌, length, Some, None, Result, Ok, Err, IsOkAnd, ok_or}
-use Rattle.std.specs.List.{AllByRecursion}
+use Rattle.std.specs.Prelude.{◌≡◌, ◌⊎◌, ◌≤◌, ◌<◌, ◌+◌, ◌*◌, ℕ, List, [], ◌∷◌, length, Option, Some, None, Result, Ok, Err, IsOkAnd, ok_or}
+use Rattle.std.specs.List.{AllByRecursion, last_or}
+use Rattle.cfi_read_core.specs.declared.common.Format.{Format}
+use Rattle.cfi_read_core.specs.declared.common.Format.TheVariants.{Dwarf32, Dwarf64}
 use Rattle.cfi_read_core.specs.declared.error.Error.{Error}
 use Rattle.cfi_read_core.specs.declared.error.Error.TheVariants.{UnsupportedPointerEncoding}
 use Rattle.cfi_parts.specs.declared.pointer.Pointer.{Pointer}
@@ -8,7 +10,7 @@ use Rattle.cfi_parts.specs.declared.pointer.Pointer.TheVariants.{Direct}
 use Rattle.cfi_parts.specs.Pointers.{direct}
 use Rattle.cfi_unwind.specs.Sections.{Section}
 use Rattle.cfi_unwind.specs.Fdes.{Fde, PartialFde, end_of}
-use Rattle.cfi_unwind.specs.Entries.{entries}
+use Rattle.cfi_unwind.specs.Entries.{Entry, CieEntry, FdeEntry, entries}
 use Rattle.cfi_unwind.specs.Scan.{fde_readings, partial_fdes, read_fde}
 use Rattle.gimli_cfi.specs.declared.hdr.unfaithful.Unfaithful.{Unfaithful}
 use Rattle.gimli_cfi.specs.declared.hdr.unfaithful.Unfaithful.TheVariants as reasons
@@ -91,7 +93,7 @@ abbrev pub IsReasonOfStarts : (ℕ → Result ℕ Error) → ℕ → Unfaithful 
 IsReasonOfStarts start count (reasons.Header e) = ⊥
 IsReasonOfStarts start count (reasons.Row k e) = (k < count) × (start k ≡ Err e)
 IsReasonOfStarts start count (reasons.Order k s t) = IsNotAbove start count k s t
-IsReasonOfStarts start count (reasons.Entry e) = ⊥
+IsReasonOfStarts start count (reasons.Entry o e) = ⊥
 IsReasonOfStarts start count (reasons.Fde o e) = ⊥
 IsReasonOfStarts start count (reasons.NoRow o a) = ⊥
 IsReasonOfStarts start count (reasons.Overlap o end next) = ⊥
@@ -113,11 +115,30 @@ abbrev pub IsReasonOfFde : HeaderSection → Table → ℕ → Fde → Unfaithfu
 IsReasonOfFde header table eh_frame fde (reasons.Header e) = ⊥
 IsReasonOfFde header table eh_frame fde (reasons.Row k e) = IsRowRefusal header table k e
 IsReasonOfFde header table eh_frame fde (reasons.Order k s t) = ⊥
-IsReasonOfFde header table eh_frame fde (reasons.Entry e) = ⊥
+IsReasonOfFde header table eh_frame fde (reasons.Entry o e) = ⊥
 IsReasonOfFde header table eh_frame fde (reasons.Fde o e) = ⊥
 IsReasonOfFde header table eh_frame fde (reasons.NoRow o a) = (fde.offset ≡ o) × (fde.initial ≡ a) × HasNoRow header table eh_frame fde
 IsReasonOfFde header table eh_frame fde (reasons.Overlap o end next) = (fde.offset ≡ o) × Overlaps header table fde end next
 IsReasonOfFde header table eh_frame fde (reasons.Count rows fdes) = ⊥
+
+-- the bytes of a length field: the length, or a mark and the length (DWARF 5 section 7.4)
+abbrev pub length_size : Format → ℕ
+length_size Dwarf32 = 4
+length_size Dwarf64 = 4 + 8
+
+-- where an entry ends: after its length field and as many bytes as this says
+abbrev pub end_of_entry : Entry → ℕ
+end_of_entry (CieEntry cie) = cie.offset + length_size cie.format + cie.length
+end_of_entry (FdeEntry fde) = fde.found.offset + length_size fde.found.format + fde.found.length
+
+-- at the beginning of the section where there is none
+abbrev pub end_of_last : Option Entry → ℕ
+end_of_last None = 0
+end_of_last (Some entry) = end_of_entry entry
+
+-- the entry at this offset, where the last one that is read ends, is refused
+abbrev pub IsEntryRefusal : Section → ℕ → Error → Type 0
+IsEntryRefusal section o e = (o ≡ end_of_last (last_or None (entries section).values)) × ((entries section).refusal ≡ Some e)
 
 -- the FDE at this offset is refused, or its CIE
 abbrev pub IsRefusedAt : Section → List PartialFde → ℕ → Error → Type 0
@@ -133,7 +154,7 @@ abbrev pub IsReasonOfFdes : HeaderSection → Table → ℕ → Section → Unfa
 IsReasonOfFdes header table eh_frame section (reasons.Header e) = ⊥
 IsReasonOfFdes header table eh_frame section (reasons.Row k e) = IsRowRefusal header table k e
 IsReasonOfFdes header table eh_frame section (reasons.Order k s t) = ⊥
-IsReasonOfFdes header table eh_frame section (reasons.Entry e) = (entries section).refusal ≡ Some e
+IsReasonOfFdes header table eh_frame section (reasons.Entry o e) = IsEntryRefusal section o e
 IsReasonOfFdes header table eh_frame section (reasons.Fde o e) = IsRefusedAt section (partial_fdes (entries section).values) o e
 IsReasonOfFdes header table eh_frame section (reasons.NoRow o a) = (fde : Fde) × IsFdeOf section fde × (fde.offset ≡ o) × (fde.initial ≡ a) × HasNoRow header table eh_frame fde
 IsReasonOfFdes header table eh_frame section (reasons.Overlap o end next) = (fde : Fde) × IsFdeOf section fde × (fde.offset ≡ o) × Overlaps header table fde end next
@@ -144,7 +165,7 @@ abbrev pub IsReason : Listing → Unfaithful → Type 0
 IsReason l (reasons.Header e) = IsHeaderRefusal l.table l.eh_frame e
 IsReason l (reasons.Row k e) = IsRowRefusal l.header l.table k e
 IsReason l (reasons.Order k s t) = IsNotAbove (start_of l.header l.table) l.table.count k s t
-IsReason l (reasons.Entry e) = (entries l.section).refusal ≡ Some e
+IsReason l (reasons.Entry o e) = IsEntryRefusal l.section o e
 IsReason l (reasons.Fde o e) = IsRefusedAt l.section (partial_fdes (entries l.section).values) o e
 IsReason l (reasons.NoRow o a) =
     (fde : Fde) × IsFdeOf l.section fde × (fde.offset ≡ o) × (fde.initial ≡ a) × ((eh_frame : ℕ) → l.eh_frame ≡ Direct eh_frame → HasNoRow l.header l.table eh_frame fde)

@@ -26,8 +26,13 @@ pub enum Unfaithful {
         /// Its own start.
         start: u64,
     },
-    /// Going through the entries of the section is refused: of an entry itself, or of a CIE on the way.
-    Entry(Error),
+    /// An entry can't be read, as going through the section reads it: a CIE whole, an FDE as far as its CIE's offset.
+    Entry {
+        /// The offset of the entry, where the one before it ends.
+        offset: u64,
+        /// Why it is refused.
+        refusal: Error,
+    },
     /// An FDE is refused, or the CIE to which it points.
     Fde {
         /// The offset of the FDE.

@@ -1,12 +1,13 @@
-use Rattle.std.proofs.Common.{◌≡◌, ◌≤◌, ◌-◌, ◌*◌, Ok, Err, sym, subst, refl, ◌∙◌, rules}
+use Rattle.std.proofs.Common.{◌≡◌, ◌≤◌, ◌-◌, ◌*◌, ℕ, Ok, Err, sym, subst, refl, ◌∙◌, rules}
 use Rattle.gimli_cfi.specs.BoundaryRows.{AreRising}
-use Rattle.cfi_unwind.specs.Entries.{entries, entries_left}
+use Rattle.cfi_unwind.specs.Entries.{FdeEntry, entries, entries_left}
 use Rattle.cfi_unwind.specs.EntryViews.{partial_of}
 use Rattle.cfi_unwind.specs.Scan.{read_fde}
 use Rattle.cfi_unwind.specs.CieAndFdeViews.{fde_view}
 use Rattle.cfi_read_core.specs.ReadFunctions.{Position}
-use Rattle.gimli_cfi.specs.TableCheck.{starts_for_fde}
+use Rattle.gimli_cfi.specs.TableCheck.{end_of_entry, starts_for_fde}
 use Rattle.gimli_cfi.specs.HeaderViews.{section_view, header_section_view, table_view}
+use Rattle.gimli_cfi.proofs.EntryEnds.{StandsAt, stands_after, stands_first}
 use Rattle.gimli_cfi.proofs.Passed.{Passed, is_among, passed_fde, passed_none, reason_of_fde, row_left}
 use Rattle.gimli_cfi.proofs.StartCounts.{at_most, none_yet, one_more, with_last}
 use Rattle.gimli_cfi.proofs.hdr.check.check_fdes.Goals as goal
@@ -22,6 +23,7 @@ loop-entry-init g c =
       passed =
           subst (λ (s : Position). Passed header table c.args.eh_frame section table.count (entries section) (entries_left section s.place)) (sym c.entries-entries.ensures.all)
           (passed_none header table c.args.eh_frame section);
+      stands = subst (λ (s : Position). StandsAt section 0 (entries_left section s.place)) (sym c.entries-entries.ensures.all) (stands_first section);
       answers = refl;
       calls = none_yet (g.St.StartSource.calls c.args.starts.now) ((table.count - table.count) * starts_for_fde table.count);
     }
@@ -96,11 +98,13 @@ loop-entry-preserved-in-Fde g c =
     let met = rw (c.next.ensures.section, c.next.ensures.bases, c.loop-entry.invariant.same_section, c.loop-entry.invariant.same_bases, c.in-Ok-Some.field-0-is, c.in-Fde.is) at c.in-Ok-Some.ensures.met in
     let same_section_and_bases = rw (c.in-Ok-Some.field-0-is, c.in-Fde.is) at c.in-Ok-Some.ensures.same_section_and_bases in
     let read : Ok fde ≡ read_fde section partial = rw (same_section_and_bases.0 ∙ c.loop-entry.invariant.same_section, same_section_and_bases.1 ∙ c.loop-entry.invariant.same_bases) at c.in-Ok.ensures in
+    let ended : c.end_of_entry-end.result ≡ end_of_entry (FdeEntry partial) = rw c.in-Fde.is at c.end_of_entry-end.ensures in
     let some : 1 ≤ c.loop-entry.left = row_left header table c.args.eh_frame section {others = others} partial c.loop-entry.invariant.passed met fde (sym read) c.in_ok-check_fde.ensures.row in
     record {
       same_section = c.next.ensures.section ∙ c.loop-entry.invariant.same_section;
       same_bases = c.next.ensures.bases ∙ c.loop-entry.invariant.same_bases;
       passed = passed_fde header table c.args.eh_frame section {others = others} partial c.loop-entry.invariant.passed met fde (sym read) c.in_ok-check_fde.ensures.row;
+      stands = subst (λ (n : ℕ). StandsAt section n others) (sym ended) (stands_after section {others = others} (FdeEntry partial) c.loop-entry.invariant.stands met);
       answers = c.in_ok-check_fde.ensures.same ∙ c.loop-entry.invariant.answers;
       calls = one_more (g.St.StartSource.calls c.args.starts.now) _ _ table.count c.loop-entry.left (starts_for_fde table.count) some c.loop-entry.invariant.passed.fewer c.loop-entry.invariant.calls c.in_ok-check_fde.ensures.calls;
     }

@@ -3,10 +3,12 @@ use Rattle.cfi_unwind.specs.Entries.{entries, entries_left}
 use Rattle.cfi_parts.specs.InstructionReaders.{items}
 use Rattle.gimli_cfi.specs.TableCheck.{starts_for_fde}
 use Rattle.gimli_cfi.specs.HeaderViews.{section_view, header_section_view, table_view}
+use Rattle.gimli_cfi.proofs.EntryEnds.{StandsAt}
 use Rattle.gimli_cfi.proofs.Passed.{Passed}
 use Rattle.gimli_cfi.proofs.hdr.check.check_fdes.Given as goal
 
--- the FDEs that have passed have rows, and what holds of the entries that are left makes what holds of all
+-- the FDEs that have passed have rows, what holds of the entries that are left makes what holds of all, and the last one
+-- that has passed ends where the next one begins
 abbrev pub invariant-loop-entry : goal.invariant-loop-entry
 invariant-loop-entry g l =
     let position = g.R.Reader.position in
@@ -17,6 +19,7 @@ invariant-loop-entry g l =
       same_section : l.entries.section ≡ l.frame;
       same_bases : l.entries.bases.now ≡ l.bases;
       passed : Passed (header_section_view position l.table.hdr.now l.bases) table l.eh_frame section l.left (entries section) (entries_left section (position l.entries.input).place);
+      stands : StandsAt section l.end (entries_left section (position l.entries.input).place);
       answers : source.answer l.starts ≡ source.answer l.fn.starts;
       calls : source.calls l.starts ≤ source.calls l.fn.starts + (table.count - l.left) * starts_for_fde table.count;
     }
