@@ -14,12 +14,18 @@ pub struct Refusal {
     pub carries: u64,
 }
 
-impl fmt::Display for Refusal {
-    fn fmt(&self, f: &mut fmt::Formatter<'_>) -> fmt::Result {
+impl Refusal {
+    /// As in "NoUnwindInfoForAddress".
+    pub fn name(&self) -> String {
         let mut name = [0; 64];
         let length = unsafe { raw::cfi_status_name(self.status, name.as_mut_ptr(), name.len()) };
-        let name = &name[..length.min(name.len())];
-        write!(f, "{} ({})", String::from_utf8_lossy(name), self.carries)
+        String::from_utf8_lossy(&name[..length.min(name.len())]).into_owned()
+    }
+}
+
+impl fmt::Display for Refusal {
+    fn fmt(&self, f: &mut fmt::Formatter<'_>) -> fmt::Result {
+        write!(f, "{} ({})", self.name(), self.carries)
     }
 }
 
@@ -38,15 +44,20 @@ pub enum Cfa {
 pub enum Rule {
     Undefined,
     SameValue,
+    /// Saved at the CFA plus this.
     Offset(i64),
+    /// Is the CFA plus this.
     ValOffset(i64),
     Register(i64),
+    /// Saved where the expression says: place and length in the section.
     Expression(u64, u64),
+    /// Is what the expression says.
     ValExpression(u64, u64),
     Architectural,
     Constant(u64),
 }
 
+/// A row, which holds from `start` up to, and without, `end`, with the rules of the first registers by their numbers.
 #[derive(Clone, Copy, Debug, PartialEq, Eq)]
 pub struct Row<const REGISTERS: usize> {
     pub start: u64,
@@ -56,12 +67,74 @@ pub struct Row<const REGISTERS: usize> {
     pub rules: [Option<Rule>; REGISTERS],
 }
 
+impl<const REGISTERS: usize> fmt::Display for Row<REGISTERS> {
+    /// The line of the program cfi_rows.
+    fn fmt(&self, f: &mut fmt::Formatter<'_>) -> fmt::Result {
+        write!(f, "{:#x} {:#x} cfa={} args={}", self.start, self.end, self.cfa, self.args_size)?;
+        for (register, rule) in self.rules.iter().enumerate() {
+            if let Some(rule) = rule {
+                write!(f, " r{register}={rule}")?;
+            }
+        }
+        Ok(())
+    }
+}
+
+impl fmt::Display for Cfa {
+    fn fmt(&self, f: &mut fmt::Formatter<'_>) -> fmt::Result {
+        match self {
+            Cfa::RegisterAndOffset { register, offset } => write!(f, "r{register}{offset:+}"),
+            Cfa::Expression(place, length) => write!(f, "expr@{place}:{length}"),
+        }
+    }
+}
+
+impl fmt::Display for Rule {
+    fn fmt(&self, f: &mut fmt::Formatter<'_>) -> fmt::Result {
+        match self {
+            Rule::Undefined => write!(f, "undefined"),
+            Rule::SameValue => write!(f, "same"),
+            Rule::Offset(offset) => write!(f, "offset({offset})"),
+            Rule::ValOffset(offset) => write!(f, "val_offset({offset})"),
+            Rule::Register(register) => write!(f, "r{register}"),
+            Rule::Expression(place, length) => write!(f, "expr@{place}:{length}"),
+            Rule::ValExpression(place, length) => write!(f, "val_expr@{place}:{length}"),
+            Rule::Architectural => write!(f, "architectural"),
+            Rule::Constant(value) => write!(f, "constant({value})"),
+        }
+    }
+}
+
 /// A section in memory, little-endian and with addresses of 8 bytes.
 #[derive(Clone, Copy)]
 pub enum Section<'a> {
     DebugFrame(&'a [u8]),
     /// With the address where it lies.
     EhFrame(&'a [u8], u64),
+    /// The same, and `.eh_frame_hdr` with its address: rows are found by its table. An empty header is none.
+    EhFrameByTable { eh_frame: (&'a [u8], u64), header: (&'a [u8], u64) },
+}
+
+impl<'a> Section<'a> {
+    /// The bytes of section and header, of which a section without one has none, and what the calls ask besides.
+    fn parts(self) -> (&'a [u8], &'a [u8], raw::Bases) {
+        let ((bytes, at), (header, header_at)) = match self {
+            Section::DebugFrame(bytes) => ((bytes, 0), (&[][..], 0)),
+            Section::EhFrame(bytes, at) => ((bytes, at), (&[][..], 0)),
+            Section::EhFrameByTable { eh_frame, header } => (eh_frame, header),
+        };
+        let bases = raw::Bases {
+            section: at,
+            header: header_at,
+            text: 0,
+            data_base: 0,
+            big_endian: false,
+            debug_frame: matches!(self, Section::DebugFrame(_)),
+            aarch64: false,
+            address_size: 8,
+        };
+        (bytes, header, bases)
+    }
 }
 
 /// What an unwind needs beside the bytes; made once, and used for any number of addresses.
@@ -76,38 +149,52 @@ impl Context {
         }
     }
 
-    /// The row of the address, with the rules of the first registers.
+    /// The row of the address, with the rules of the first registers. It takes no memory.
     pub fn row<const REGISTERS: usize>(&mut self, section: Section<'_>, address: u64) -> Result<Row<REGISTERS>, Refusal> {
-        let (bytes, at, debug_frame) = match section {
-            Section::DebugFrame(bytes) => (bytes, 0, true),
-            Section::EhFrame(bytes, at) => (bytes, at, false),
-        };
-        let bases = raw::Bases {
-            section: at,
-            header: 0,
-            text: 0,
-            data_base: 0,
-            big_endian: false,
-            debug_frame,
-            aarch64: false,
-            address_size: 8,
-        };
+        let (bytes, header, bases) = section.parts();
+        let (from, length) = (bytes.as_ptr(), bytes.len());
         let mut row = raw::Row::default();
         let mut rules = [raw::Rule::default(); REGISTERS];
-        let status = unsafe {
-            let (from, length) = (bytes.as_ptr(), bytes.len());
-            raw::cfi_row_by_scan(&mut self.0, from, length, &bases, address, &mut row, rules.as_mut_ptr(), REGISTERS)
-        };
-        if status != 0 {
-            return Err(Refusal { status, carries: row.refused });
+        let to = rules.as_mut_ptr();
+        unsafe {
+            if header.is_empty() {
+                raw::cfi_row_by_scan(&mut self.0, from, length, &bases, address, &mut row, to, REGISTERS);
+            } else {
+                let (header, size) = (header.as_ptr(), header.len());
+                raw::cfi_row_by_table(&mut self.0, from, length, header, size, &bases, address, &mut row, to, REGISTERS);
+            }
         }
-        Ok(Row {
-            start: row.start,
-            end: row.end,
-            args_size: row.args_size,
-            cfa: cfa_of(&row),
-            rules: rules.map(rule_of),
-        })
+        answer_of(row, rules)
+    }
+
+    /// The rows of many addresses, each as `row` answers it, in one call.
+    pub fn rows<const REGISTERS: usize>(
+        &mut self,
+        section: Section<'_>,
+        addresses: &[u64],
+    ) -> Vec<Result<Row<REGISTERS>, Refusal>> {
+        let (bytes, header, bases) = section.parts();
+        let mut rows = vec![raw::Row::default(); addresses.len()];
+        let mut rules = vec![[raw::Rule::default(); REGISTERS]; addresses.len()];
+        let answered = unsafe {
+            raw::cfi_rows(
+                &mut self.0,
+                bytes.as_ptr(),
+                bytes.len(),
+                header.as_ptr(),
+                header.len(),
+                &bases,
+                addresses.as_ptr(),
+                addresses.len(),
+                rows.as_mut_ptr(),
+                rows.len(),
+                rules.as_mut_ptr().cast(),
+                rules.len() * REGISTERS,
+                REGISTERS,
+            )
+        };
+        assert_eq!(answered, addresses.len());
+        rows.into_iter().zip(rules).map(|(row, rules)| answer_of(row, rules)).collect()
     }
 }
 
@@ -115,6 +202,22 @@ impl Drop for Context {
     fn drop(&mut self) {
         unsafe { raw::cfi_context_free(&mut self.0) }
     }
+}
+
+fn answer_of<const REGISTERS: usize>(
+    row: raw::Row,
+    rules: [raw::Rule; REGISTERS],
+) -> Result<Row<REGISTERS>, Refusal> {
+    if row.status != 0 {
+        return Err(Refusal { status: row.status, carries: row.refused });
+    }
+    Ok(Row {
+        start: row.start,
+        end: row.end,
+        args_size: row.args_size,
+        cfa: cfa_of(&row),
+        rules: rules.map(rule_of),
+    })
 }
 
 fn cfa_of(row: &raw::Row) -> Cfa {

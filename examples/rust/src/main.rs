@@ -1,26 +1,34 @@
-//! The three rows of README's example, by the C library.
-use cfi::{Cfa, Context, Refusal, Rule, Section};
+//! The rows of README's example in the words of the program cfi_rows: of `.debug_frame`, and of the same function in
+//! `.eh_frame` by the table of its header. Each address is answered alone and among all.
+use cfi::{Context, Refusal, Section};
 
-const SECTION: &str = "10000000ffffffff04000800017810 0c07089001\
-    1c000000000000000010000000000000200000000000000041 0e108602 430d06";
+const ADDRESSES: [u64; 4] = [0x1000, 0x1002, 0x1004, 0x1020];
 
-fn bytes(text: &str) -> Vec<u8> {
-    let digits: Vec<u8> = text.bytes().filter_map(|digit| char::from(digit).to_digit(16)).map(|digit| digit as u8).collect();
+fn bytes(hexadecimal: &str) -> Vec<u8> {
+    let digits: Vec<u8> = hexadecimal.chars().filter_map(|digit| digit.to_digit(16)).map(|digit| digit as u8).collect();
     digits.chunks(2).map(|pair| pair[0] * 16 + pair[1]).collect()
 }
 
-fn main() -> Result<(), Refusal> {
-    let section = bytes(SECTION);
-    let mut context = Context::new()?;
-    for address in [0x1000, 0x1002, 0x1004] {
-        let row = context.row::<17>(Section::DebugFrame(&section), address)?;
-        println!("{:#x} {:#x} {:?} {:?}", row.start, row.end, row.cfa, row.rules[6]);
+fn print_rows(context: &mut Context, section: Section<'_>) {
+    let among_all = context.rows::<17>(section, &ADDRESSES);
+    for (address, among_all) in ADDRESSES.into_iter().zip(among_all) {
+        let alone = context.row::<17>(section, address);
+        assert_eq!(alone, among_all);
+        match alone {
+            Ok(row) => println!("{row}"),
+            Err(refusal) => println!("refused {}", refusal.name()),
+        }
     }
-    let row = context.row::<17>(Section::DebugFrame(&section), 0x1002)?;
-    assert_eq!(row.cfa, Cfa::RegisterAndOffset { register: 7, offset: 16 });
-    assert_eq!((row.rules[6], row.rules[16]), (Some(Rule::Offset(-16)), Some(Rule::Offset(-8))));
-    let refusal = context.row::<17>(Section::DebugFrame(&section), 0x1020).unwrap_err();
-    println!("0x1020 {refusal}");
-    assert_eq!(refusal.to_string(), "NoUnwindInfoForAddress (0)");
+}
+
+fn main() -> Result<(), Refusal> {
+    let mut context = Context::new()?;
+    let debug_frame = bytes(include_str!("../debug_frame.hex"));
+    print_rows(&mut context, Section::DebugFrame(&debug_frame));
+
+    // .eh_frame in the first line, at 0x2000, and .eh_frame_hdr in the second, at 0x1f00
+    let lines: Vec<Vec<u8>> = include_str!("../eh_frame.hex").lines().map(bytes).collect();
+    let (eh_frame, header) = ((&lines[0][..], 0x2000), (&lines[1][..], 0x1f00));
+    print_rows(&mut context, Section::EhFrameByTable { eh_frame, header });
     Ok(())
 }

@@ -55,5 +55,32 @@ extern "C" {
         rules: *mut Rule,
         rules_len: usize,
     ) -> i32;
+    pub fn cfi_row_by_table(
+        context: *mut Context,
+        eh_frame: *const u8,
+        eh_frame_len: usize,
+        header: *const u8,
+        header_len: usize,
+        bases: *const Bases,
+        address: u64,
+        row: *mut Row,
+        rules: *mut Rule,
+        rules_len: usize,
+    ) -> i32;
+    pub fn cfi_rows(
+        context: *mut Context,
+        section: *const u8,
+        section_len: usize,
+        header: *const u8,
+        header_len: usize,
+        bases: *const Bases,
+        addresses: *const u64,
+        addresses_len: usize,
+        rows: *mut Row,
+        rows_len: usize,
+        rules: *mut Rule,
+        rules_len: usize,
+        per_row: usize,
+    ) -> usize;
     pub fn cfi_status_name(status: i32, name: *mut u8, name_len: usize) -> usize;
 }
