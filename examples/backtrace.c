@@ -1,5 +1,7 @@
 /* Unwinds its own stack by the rows of cfi_c, on x86-64 Linux, and prints its frames beside those of backtrace() of glibc.
  *
+ * It runs there alone: the library is built for no other machine yet.
+ *
  * dl_iterate_phdr finds the program or library that a pc is in, and its .eh_frame_hdr, whose table leads to the row. One
  * context serves all frames. Registers have DWARF's numbers: 7 is rsp, 16 the return address. */
 #define _GNU_SOURCE
