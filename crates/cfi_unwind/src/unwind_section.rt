@@ -61,7 +61,7 @@ pub trait UnwindSection<R: Reader>: Copy + Debug + _UnwindSectionPrivate<R> {
     /// `NoEntryAtGivenOffset` at a length of zero, with `NotCieId` where the id there is no CIE's, and as the bytes of
     /// the CIE show.
     #[inline(always)]
-    fn cie_from_offset(
+    final fn cie_from_offset(
         &self,
         bases: &BaseAddresses,
         offset: Self::Offset,
@@ -82,7 +82,7 @@ pub trait UnwindSection<R: Reader>: Copy + Debug + _UnwindSectionPrivate<R> {
     /// `UnsupportedOffset` where the id does not fit the offset type, and with `OffsetOutOfBounds` where the CIE would lie before the
     /// section.
     #[inline(always)]
-    fn partial_fde_from_offset<'bases>(
+    final fn partial_fde_from_offset<'bases>(
         &self,
         bases: &'bases BaseAddresses,
         offset: Self::Offset,

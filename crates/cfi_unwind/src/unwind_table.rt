@@ -175,6 +175,7 @@ impl<'a, 'ctx, R: Reader, S: UnwindContextStorage<R::Offset>> UnwindTable<'a, 'c
     // The row is lent out of the context, so the clause speaks of the table once the loan has ended (`Rests`). The lines
     // after `the_row` name the types of the row's storage and what is known of them, as the checker wants them; what is
     // promised begins at `LendsNextRow`.
+    #[inline(always)]
     pub fn next_row(&mut self) -> Result<Option<&UnwindTableRow<R::Offset, S::Rules>>>
         ensures* after_borrow { sem 𝓛 (Rests
             (the_row (record { mir = named 1; lft = [] }) (record { mir = named 2; lft = [] })

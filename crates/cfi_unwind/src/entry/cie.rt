@@ -71,7 +71,7 @@ fn read_return_register<R: Reader>(version: u8, input: &mut R) -> Result<Registe
 /// Reads the CIE after its prefix.
 #[tactic(auto, unfolding(crate::specs::Cies::cie_fields))]
 #[inline(always)]
-pub(crate) fn read_cie<R: Reader, S: _UnwindSectionPrivate<R>>(
+pub(crate) fn read_cie<R: Reader, S: _UnwindSectionPrivate<R> + Copy>(
     at: &InSection<'_, S>,
     found: &EntryPrefix<R, R::Offset>,
 ) -> Result<CommonInformationEntry<R>>
@@ -89,7 +89,12 @@ pub(crate) fn read_cie<R: Reader, S: _UnwindSectionPrivate<R>>(
     let code_alignment_factor = input.read_uleb128()?;
     let data_alignment_factor = input.read_sleb128()?;
     let return_address_register = read_return_register(version, &mut input)?;
-    let augmentation = read_augmentation(at, address_size, text, &mut input)?;
+    // A copy is handed on, so that the caller's own need not stand in memory, where most entries are FDEs.
+    let lent = InSection {
+        section: at.section,
+        bases: at.bases,
+    };
+    let augmentation = read_augmentation(&lent, address_size, text, &mut input)?;
     Ok(CieFields {
         offset: found.offset,
         length: found.length,

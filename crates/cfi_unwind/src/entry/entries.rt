@@ -155,7 +155,7 @@ fn prefix_at<R: Reader, S: _UnwindSectionPrivate<R>>(
 /// The CIE at an offset of the section. Refused with `NotCieId` where the id there is no CIE's.
 #[tactic(auto, unfolding(crate::specs::Entries::cie_at))]
 #[inline(always)]
-pub(crate) fn cie_at<R: Reader, S: _UnwindSectionPrivate<R>>(
+pub(crate) fn cie_at<R: Reader, S: _UnwindSectionPrivate<R> + Copy>(
     at: &InSection<'_, S>,
     offset: R::Offset,
 ) -> Result<CommonInformationEntry<R>>
