@@ -1,9 +1,8 @@
-/* Unwinds its own stack by the rows of cfi_c, on x86-64 Linux, and prints its frames beside those of backtrace() of glibc.
- *
- * It runs there alone: the library is built for no other machine yet.
+/* Unwinds its own stack by the rows of cfi_c, and prints its frames beside those of backtrace() of glibc: on x86-64 Linux,
+ * and on AArch64 Linux, where it is tried under qemu alone (examples/aarch64).
  *
  * dl_iterate_phdr finds the program or library that a pc is in, and its .eh_frame_hdr, whose table leads to the row. One
- * context serves all frames. Registers have DWARF's numbers: 7 is rsp, 16 the return address. */
+ * context serves all frames. Registers have DWARF's numbers. */
 #define _GNU_SOURCE
 #include <execinfo.h>
 #include <link.h>
@@ -13,7 +12,56 @@
 
 #include "cfi_c.h"
 
-enum { SP = 7, PC = 16, REGISTERS = 17, FRAMES = 50 };
+enum { FRAMES = 50 };
+
+/* What differs by machine: DWARF's numbers of the registers, the registers of the running function, and where a caller
+ * goes on. */
+#if defined(__x86_64__)
+
+/* 16 stands for the return address; no rule leaves none. */
+enum { IS_AARCH64 = 0, SP = 7, PC = 16, ZERO_WITHOUT_RULE = PC, REGISTERS = 17 };
+
+__attribute__((always_inline)) static inline void read_registers(uint64_t registers[REGISTERS]) {
+    __asm__ volatile(
+        "mov %%rbx, %0\n mov %%rbp, %1\n mov %%rsp, %2\n mov %%r12, %3\n"
+        "mov %%r13, %4\n mov %%r14, %5\n mov %%r15, %6\n lea 0(%%rip), %%rax\n mov %%rax, %7"
+        : "=m"(registers[3]), "=m"(registers[6]), "=m"(registers[SP]), "=m"(registers[12]), "=m"(registers[13]),
+          "=m"(registers[14]), "=m"(registers[15]), "=m"(registers[PC])
+        :
+        : "rax", "memory");
+}
+
+static uint64_t return_address(const uint64_t caller[REGISTERS]) {
+    return caller[PC];
+}
+
+#elif defined(__aarch64__)
+
+/* 0 to 30 are x0 to x30, of which x30 has the return address, also without a rule. 34 says whether that is signed. */
+enum { IS_AARCH64 = 1, LINK = 30, SP = 31, PC = 32, IS_SIGNED = 34, ZERO_WITHOUT_RULE = IS_SIGNED, REGISTERS = 35 };
+
+/* Calls keep x19 to x30 and sp; the others are of no use to a caller's frame. */
+__attribute__((always_inline)) static inline void read_registers(uint64_t registers[REGISTERS]) {
+    __asm__ volatile(
+        "stp x19, x20, [%0, 8 * 19]\n stp x21, x22, [%0, 8 * 21]\n stp x23, x24, [%0, 8 * 23]\n"
+        "stp x25, x26, [%0, 8 * 25]\n stp x27, x28, [%0, 8 * 27]\n stp x29, x30, [%0, 8 * 29]\n"
+        "mov x9, sp\n adr x10, .\n stp x9, x10, [%0, 8 * 31]"
+        :
+        : "r"(registers)
+        : "x9", "x10", "memory");
+}
+
+/* hint 7 is xpaclri, which takes the signature out of x30; to processors without signatures it is nothing. */
+static uint64_t return_address(const uint64_t caller[REGISTERS]) {
+    uint64_t address = caller[LINK];
+    if (caller[IS_SIGNED])
+        __asm__("mov x30, %0\n hint 7\n mov %0, x30" : "+r"(address) : : "x30");
+    return address;
+}
+
+#else
+#error "The registers of x86-64 and AArch64 alone are known here."
+#endif
 
 typedef struct {
     uint64_t pc;
@@ -64,7 +112,10 @@ static int step(CfiContext *context, uint64_t registers[REGISTERS], int is_first
     Module module = {.pc = pc};
     if (!dl_iterate_phdr(find_module, &module))
         return 0;
-    CfiBases bases = {.section = (uint64_t)module.eh_frame, .header = (uint64_t)module.header, .address_size = 8};
+    CfiBases bases = {.section = (uint64_t)module.eh_frame,
+                      .header = (uint64_t)module.header,
+                      .aarch64 = IS_AARCH64,
+                      .address_size = 8};
     CfiRow row;
     CfiRule rules[REGISTERS];
     int32_t status = cfi_row_by_table(context, module.eh_frame, module.eh_frame_len, module.header, module.header_len, &bases,
@@ -75,15 +126,18 @@ static int step(CfiContext *context, uint64_t registers[REGISTERS], int is_first
     uint64_t caller[REGISTERS];
     memcpy(caller, registers, sizeof caller);
     caller[SP] = cfa;
-    caller[PC] = 0;
+    caller[ZERO_WITHOUT_RULE] = 0;
     for (int i = 0; i < REGISTERS; i++) {
         if (rules[i].kind == CFI_OFFSET)
             memcpy(&caller[i], (const void *)(cfa + (uint64_t)rules[i].value), 8);
+        else if (rules[i].kind == CFI_CONSTANT)
+            caller[i] = rules[i].place;
         else if (rules[i].kind == CFI_UNDEFINED)
             caller[i] = 0;
         else if (rules[i].kind != CFI_NO_RULE && rules[i].kind != CFI_SAME_VALUE)
             return 0;
     }
+    caller[PC] = return_address(caller);
     memcpy(registers, caller, sizeof caller);
     return registers[PC] != 0;
 }
@@ -91,13 +145,7 @@ static int step(CfiContext *context, uint64_t registers[REGISTERS], int is_first
 __attribute__((noinline)) static int unwind(uint64_t *frames) {
     uint64_t registers[REGISTERS] = {0};
     int count = 0;
-    __asm__ volatile(
-        "mov %%rbx, %0\n mov %%rbp, %1\n mov %%rsp, %2\n mov %%r12, %3\n"
-        "mov %%r13, %4\n mov %%r14, %5\n mov %%r15, %6\n lea 0(%%rip), %%rax\n mov %%rax, %7"
-        : "=m"(registers[3]), "=m"(registers[6]), "=m"(registers[SP]), "=m"(registers[12]), "=m"(registers[13]),
-          "=m"(registers[14]), "=m"(registers[15]), "=m"(registers[PC])
-        :
-        : "rax", "memory");
+    read_registers(registers);
     CfiContext context = {0};
     if (cfi_context_new(&context) != CFI_Ok)
         return 0;
