@@ -1,6 +1,7 @@
 /* The unwind row of an address, from the bytes of .eh_frame or .debug_frame: the library gimli_cfi for C.
  *
- * The library is built for x86-64 Linux; the sections may be those of any machine.
+ * The library is built for x86-64 Linux by rt, for AArch64 Linux by examples/aarch64, which has only been tried under qemu.
+ * The sections may be those of any machine.
  *
  * A context is made once, by cfi_context_new, used for any number of addresses of any sections, and freed by
  * cfi_context_free. Only the first takes memory, by malloc; the calls between the two take none.
