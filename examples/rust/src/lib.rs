@@ -105,7 +105,7 @@ impl fmt::Display for Rule {
     }
 }
 
-/// A section in memory, little-endian and with addresses of 8 bytes.
+/// A section of a program of this machine in memory, little-endian and with addresses of 8 bytes.
 #[derive(Clone, Copy)]
 pub enum Section<'a> {
     DebugFrame(&'a [u8]),
@@ -130,7 +130,7 @@ impl<'a> Section<'a> {
             data_base: 0,
             big_endian: false,
             debug_frame: matches!(self, Section::DebugFrame(_)),
-            aarch64: false,
+            aarch64: cfg!(target_arch = "aarch64"),
             address_size: 8,
         };
         (bytes, header, bases)
