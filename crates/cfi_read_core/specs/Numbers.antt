@@ -97,6 +97,11 @@ pub record InitialLength : Type 0 where
   pub length : ℕ
   pub format : Format
 
+-- the bytes of an initial length: the length, or a mark and the length
+abbrev pub initial_length_size : Format → ℕ
+initial_length_size Dwarf32 = 4
+initial_length_size Dwarf64 = 4 + 8
+
 abbrev pub length_in : Format → ℕ → Read InitialLength
 length_in format n = offset n >>= λ length. give (record { length = length; format = format })
 

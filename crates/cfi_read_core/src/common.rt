@@ -1,6 +1,6 @@
 //! The plain types that every layer names.
 ghost use Rattle.std.specs.Prelude.{◌≡◌, ◌≤◌, Ok, Err, nat_le, if◌then◌else◌};
-ghost use Rattle.cfi_read_core.specs.Numbers.{register_of};
+ghost use Rattle.cfi_read_core.specs.Numbers.{initial_length_size, register_of};
 
 use crate::error::{Error, Result};
 
@@ -11,6 +11,20 @@ pub enum Format {
     Dwarf32,
     /// 64-bit DWARF: eight bytes.
     Dwarf64,
+}
+
+impl Format {
+    /// How many bytes an initial length takes: 4, or 12 in 64-bit DWARF (DWARF 5 section 7.4).
+    #[inline(always)]
+    pub fn initial_length_size(self) -> u8
+        ensures { result ≡ initial_length_size self }
+    {
+        match self {
+            Format::Dwarf32 => 4,
+            // A mark stands before the length.
+            Format::Dwarf64 => 4 + 8,
+        }
+    }
 }
 
 /// The parameters of an entry's encoding.
