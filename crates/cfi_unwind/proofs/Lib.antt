@@ -1,5 +1,6 @@
 pub mod EntryLemmas
 pub mod EntryReads
+pub mod EntryEnds
 pub mod ScanLemmas
 pub mod ScanSteps
 pub mod WalkLemmas

@@ -1,7 +1,8 @@
 -- The entries of a section in order, and the entry at an offset.
-use Rattle.std.specs.Prelude.{ℕ, zero, suc, ◌-◌, Bool, true, false, Option, Some, None, Result, Ok, Err, nat_le, ◌==◌, if◌then◌else◌}
+use Rattle.std.specs.Prelude.{ℕ, zero, suc, ◌+◌, ◌-◌, Bool, true, false, Option, Some, None, Result, Ok, Err, nat_le, ◌==◌, if◌then◌else◌}
 use Rattle.cfi_read_core.specs.declared.error.Error.{Error}
 use Rattle.cfi_read_core.specs.declared.error.Error.TheVariants.{NotCieId, NotCiePointer, NoEntryAtGivenOffset}
+use Rattle.cfi_read_core.specs.Numbers.{initial_length_size}
 use Rattle.cfi_read_core.specs.ReaderCalls.{map_ok}
 use Rattle.cfi_read_core.specs.ReadFunctions.{Readings, no_values, readings_with}
 use Rattle.cfi_unwind.specs.Sections.{Section, cie_id, cie_offset_of, zero_length_ends, at_offset}
@@ -25,6 +26,11 @@ entry_of section found =
     if is_cie section found
     then map_ok CieEntry (cie_of section found)
     else map_ok FdeEntry (partial_fde_of section found)
+
+-- where an entry ends: after its initial length and as many bytes as that says
+abbrev pub end_of_entry : Entry → ℕ
+end_of_entry (CieEntry cie) = cie.offset + initial_length_size cie.format + cie.length
+end_of_entry (FdeEntry fde) = fde.found.offset + initial_length_size fde.found.format + fde.found.length
 
 -- ---- the list of entries
 

@@ -1,8 +1,6 @@
 -- What a check of a table against its section finds.
 use Rattle.std.specs.Prelude.{◌≡◌, ◌⊎◌, ◌≤◌, ◌<◌, ◌+◌, ◌*◌, ℕ, List, [], ◌∷◌, length, Option, Some, None, Result, Ok, Err, IsOkAnd, ok_or}
 use Rattle.std.specs.List.{AllByRecursion, last_or}
-use Rattle.cfi_read_core.specs.declared.common.Format.{Format}
-use Rattle.cfi_read_core.specs.declared.common.Format.TheVariants.{Dwarf32, Dwarf64}
 use Rattle.cfi_read_core.specs.declared.error.Error.{Error}
 use Rattle.cfi_read_core.specs.declared.error.Error.TheVariants.{UnsupportedPointerEncoding}
 use Rattle.cfi_parts.specs.declared.pointer.Pointer.{Pointer}
@@ -10,7 +8,7 @@ use Rattle.cfi_parts.specs.declared.pointer.Pointer.TheVariants.{Direct}
 use Rattle.cfi_parts.specs.Pointers.{direct}
 use Rattle.cfi_unwind.specs.Sections.{Section}
 use Rattle.cfi_unwind.specs.Fdes.{Fde, PartialFde, end_of}
-use Rattle.cfi_unwind.specs.Entries.{Entry, CieEntry, FdeEntry, entries}
+use Rattle.cfi_unwind.specs.Entries.{Entry, end_of_entry, entries}
 use Rattle.cfi_unwind.specs.Scan.{fde_readings, partial_fdes, read_fde}
 use Rattle.gimli_cfi.specs.declared.hdr.unfaithful.Unfaithful.{Unfaithful}
 use Rattle.gimli_cfi.specs.declared.hdr.unfaithful.Unfaithful.TheVariants as reasons
@@ -121,17 +119,7 @@ IsReasonOfFde header table eh_frame fde (reasons.NoRow o a) = (fde.offset ≡ o)
 IsReasonOfFde header table eh_frame fde (reasons.Overlap o end next) = (fde.offset ≡ o) × Overlaps header table fde end next
 IsReasonOfFde header table eh_frame fde (reasons.Count rows fdes) = ⊥
 
--- the bytes of a length field: the length, or a mark and the length (DWARF 5 section 7.4)
-abbrev pub length_size : Format → ℕ
-length_size Dwarf32 = 4
-length_size Dwarf64 = 4 + 8
-
--- where an entry ends: after its length field and as many bytes as this says
-abbrev pub end_of_entry : Entry → ℕ
-end_of_entry (CieEntry cie) = cie.offset + length_size cie.format + cie.length
-end_of_entry (FdeEntry fde) = fde.found.offset + length_size fde.found.format + fde.found.length
-
--- at the beginning of the section where there is none
+-- where the last entry ends; at the beginning of the section where there is none
 abbrev pub end_of_last : Option Entry → ℕ
 end_of_last None = 0
 end_of_last (Some entry) = end_of_entry entry

@@ -2,11 +2,12 @@
 ghost use Rattle.std.specs.Prelude.{◌≡◌, ◌≢◌, ◌+◌, ◌≤◌, ℕ, IfOk, IfErr, Ok, Some, true, false};
 ghost use Rattle.cfi_read_core.specs.ReaderCalls.{map_ok};
 ghost use Rattle.cfi_parts.specs.declared.pointer.Pointer.TheVariants.{Direct};
+ghost use Rattle.cfi_unwind.specs.Entries.{end_of_entry};
 ghost use Rattle.cfi_unwind.specs.EntryViews.{entry_view, partial_of};
 ghost use Rattle.cfi_unwind.specs.Scan.{read_fde};
 ghost use Rattle.cfi_unwind.specs.CieAndFdeViews.{cie_view, fde_view};
 ghost use Rattle.gimli_cfi.specs.BoundaryRows.{AreRising};
-ghost use Rattle.gimli_cfi.specs.TableCheck.{AreListed, HasRow, IsReason, IsReasonOfFde, IsReasonOfFdes, IsReasonOfStarts, IsRefusalIn, IsRefusalOfHeader, ListsFaithfully, end_of_entry, length_size, most_starts, starts_for_fde, starts_for_fdes};
+ghost use Rattle.gimli_cfi.specs.TableCheck.{AreListed, HasRow, IsReason, IsReasonOfFde, IsReasonOfFdes, IsReasonOfStarts, IsRefusalIn, IsRefusalOfHeader, ListsFaithfully, most_starts, starts_for_fde, starts_for_fdes};
 ghost use Rattle.gimli_cfi.specs.EhFrameHdr.{target_of, value_size};
 ghost use Rattle.gimli_cfi.specs.HeaderViews.{section_view, listing_view, header_section_view, starts_view, table_view};
 
@@ -15,7 +16,7 @@ use crate::hdr::search::{StartSource, search_starts};
 use crate::hdr::table::EhHdrTable;
 use crate::hdr::unfaithful::Unfaithful;
 use cfi_parts::pointer::{BaseAddresses, Pointer};
-use cfi_read_core::{EhFrameOffset, Error, Format, Reader, ReaderOffset};
+use cfi_read_core::{EhFrameOffset, Error, Reader, ReaderOffset};
 use cfi_unwind::entry::{CieOrFde, FrameDescriptionEntry, PartialFrameDescriptionEntry};
 use cfi_unwind::unwind_section::{EhFrame, UnwindSection};
 
@@ -182,25 +183,13 @@ fn end_of_entry<R: Reader>(entry: &CieOrFde<'_, EhFrame<R>, R>) -> u64
     let _greatest = R::Offset::GREATEST;
     match entry {
         CieOrFde::Cie(cie) => {
-            let size = length_size(cie.encoding().format);
+            let size = u64::from(cie.encoding().format.initial_length_size());
             cie.offset().into_u64() + size + cie.entry_len().into_u64()
         }
         CieOrFde::Fde(partial) => {
-            let size = length_size(partial.format());
+            let size = u64::from(partial.format().initial_length_size());
             partial.offset().into_u64() + size + partial.entry_len().into_u64()
         }
-    }
-}
-
-/// How many bytes a length field takes.
-#[inline(always)]
-fn length_size(format: Format) -> u64
-    ensures { result ≡ length_size format }
-{
-    match format {
-        Format::Dwarf32 => 4,
-        // A mark stands before the length.
-        Format::Dwarf64 => 4 + 8,
     }
 }
 
