@@ -165,8 +165,8 @@ fn next_byte<'text>(
     ensures none { IfOk result (λ found. IfNone found (without_spaces text.now ≡ [])) }
     ensures refused { IfErr result (λ e. (e ≡ InputError.NotHexadecimal) × BeginsWithNoByte text.now) }
 {
-    // Most digits have their second one beside them.
-    if let [first, second, after @ ..] = text {
+    // Most digits have their second one beside them, and one space before them or none.
+    if let [first, second, after @ ..] = after_space(text) {
         let high = values[*first as usize];
         let low = values[*second as usize];
         if high < 16 && low < 16 {
@@ -174,6 +174,18 @@ fn next_byte<'text>(
         }
     }
     next_spaced_byte(values, text)
+}
+
+/// The text after the space with which it begins, if it does.
+#[inline]
+fn after_space(text: &[u8]) -> &[u8]
+    ensures same { without_spaces result.now ≡ without_spaces text.now }
+    ensures fewer { length result.now ≤ length text.now }
+{
+    match text {
+        [b' ', rest @ ..] => rest,
+        _ => text,
+    }
 }
 
 /// The same, with spaces before either digit.
