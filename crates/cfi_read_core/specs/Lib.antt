@@ -6,3 +6,4 @@ pub mod ByteOrder
 pub mod Offsets
 pub mod ReaderCalls
 pub mod Windows
+pub mod RefusalNames
