@@ -15,47 +15,57 @@ use std::fmt::Debug;
 
 type Slice<'a> = EndianSlice<'a, LittleEndian>;
 
-fn has_default<T: Default>() {}
+// A struct is refused where a field's type isn't as its bounds ask, so these say which types have which traits.
+struct HasDefault<T: Default>(Option<T>);
 
-fn is_shown<T: Debug>() {}
+struct IsShown<T: Debug>(Option<T>);
 
-fn is_compared<T: Debug + Eq>() {}
+struct IsCompared<T: Debug + Eq>(Option<T>);
 
-fn is_copied<T: Copy + Debug>() {}
+struct IsCopied<T: Copy + Debug>(Option<T>);
 
-fn is_a_value<T: Copy + Debug + Eq>() {}
+struct IsValue<T: Copy + Debug + Eq>(Option<T>);
 
-#[test]
-fn types_have_their_traits(_rt: HostRuntime) {
-    is_a_value::<Pointer>();
-    is_a_value::<BaseAddresses>();
-    is_a_value::<SectionBaseAddresses>();
-    is_a_value::<CieOffsetEncoding>();
-    is_a_value::<DebugFrame<Slice>>();
-    is_a_value::<EhFrame<Slice>>();
-    is_a_value::<Augmentation>();
-    is_a_value::<CommonInformationEntry<Slice>>();
-    is_a_value::<FrameDescriptionEntry<Slice>>();
-    is_a_value::<PartialFrameDescriptionEntry<DebugFrame<Slice>, Slice>>();
-    is_a_value::<CieOrFde<EhFrame<Slice>, Slice>>();
-    is_a_value::<UnwindExpression<usize>>();
-    is_a_value::<CallFrameInstruction<u32>>();
-    is_a_value::<CfaRule<usize>>();
-    is_a_value::<RegisterRule<u32>>();
-    is_copied::<CfiEntriesIter<DebugFrame<Slice>, Slice>>();
-    is_copied::<CallFrameInstructionIter<Slice>>();
-    is_copied::<RegisterRuleIter<usize>>();
-    is_copied::<CapacityFull>();
-    is_copied::<Why>();
-    is_compared::<UnwindContext<usize, StoreOnHeap>>();
-    is_compared::<UnwindContext<u32, StoreGrowing>>();
-    is_shown::<UnwindTable<Slice, StoreOnHeap>>();
-    has_default::<Pointer>();
-    has_default::<BaseAddresses>();
-    has_default::<SectionBaseAddresses>();
-    has_default::<Augmentation>();
-    has_default::<CfaRule<usize>>();
-}
+struct Values<'a>(
+    IsValue<Pointer>,
+    IsValue<BaseAddresses>,
+    IsValue<SectionBaseAddresses>,
+    IsValue<CieOffsetEncoding>,
+    IsValue<DebugFrame<Slice<'a>>>,
+    IsValue<EhFrame<Slice<'a>>>,
+    IsValue<Augmentation>,
+    IsValue<CommonInformationEntry<Slice<'a>>>,
+    IsValue<FrameDescriptionEntry<Slice<'a>>>,
+    IsValue<PartialFrameDescriptionEntry<'a, DebugFrame<Slice<'a>>, Slice<'a>>>,
+    IsValue<CieOrFde<'a, EhFrame<Slice<'a>>, Slice<'a>>>,
+    IsValue<UnwindExpression<usize>>,
+    IsValue<CallFrameInstruction<u32>>,
+    IsValue<CfaRule<usize>>,
+    IsValue<RegisterRule<u32>>,
+);
+
+struct Copied<'a>(
+    IsCopied<CfiEntriesIter<'a, DebugFrame<Slice<'a>>, Slice<'a>>>,
+    IsCopied<CallFrameInstructionIter<'a, Slice<'a>>>,
+    IsCopied<RegisterRuleIter<'a, usize>>,
+    IsCopied<CapacityFull>,
+    IsCopied<Why>,
+);
+
+struct Compared(
+    IsCompared<UnwindContext<usize, StoreOnHeap>>,
+    IsCompared<UnwindContext<u32, StoreGrowing>>,
+);
+
+struct Shown<'a>(IsShown<UnwindTable<'a, 'a, Slice<'a>, StoreOnHeap>>);
+
+struct Defaults(
+    HasDefault<Pointer>,
+    HasDefault<BaseAddresses>,
+    HasDefault<SectionBaseAddresses>,
+    HasDefault<Augmentation>,
+    HasDefault<CfaRule<usize>>,
+);
 
 #[test]
 fn values_that_stand_beside_their_body(rt: HostRuntime) {
