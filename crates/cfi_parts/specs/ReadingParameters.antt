@@ -11,7 +11,7 @@ abbrev pub pointer_context : {R : Type 0} → (R → Position) → PointerEncodi
 pointer_context position p = record {
   bases = p.bases.now;
   function = p.func_base;
-  size = p.address_size;
+  size = p.address_size.bytes;
   section = (position p.section.now).place;
 }
 

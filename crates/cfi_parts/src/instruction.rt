@@ -1,6 +1,5 @@
 //! Call frame instructions (DWARF 5 section 6.4.2).
-ghost use Rattle.std.specs.Prelude.{◌≡◌, ◌≤◌, ◌<◌, ◌-◌, ℕ, true, ⊤, IfOk, IfSome};
-ghost use Rattle.cfi_read_core.specs.Addresses.{IsAddressSize, is_sized};
+ghost use Rattle.std.specs.Prelude.{◌≡◌, ◌≤◌, ◌<◌, ◌-◌, ℕ, ⊤, IfOk, IfSome};
 ghost use Rattle.cfi_read_core.specs.ReaderCalls.{IsPartOf, Reads, extent_of, remaining, map_ok};
 ghost use Rattle.cfi_parts.specs.ReadingParameters.{instruction_context};
 ghost use Rattle.cfi_parts.specs.CallFrameSections.{IsOf};
@@ -172,7 +171,6 @@ pub enum CallFrameInstruction<T> {
 pub struct CallFrameInstructionIter<'a, R: Reader> {
     input: R,
     parameters: InstructionParameters<'a, R>,
-    ghost sized: { is_sized parameters.pointers.address_size ≡ true },
     ghost behind: { (R.position parameters.pointers.section.now).place ≤ (R.position input).place },
 }
 
@@ -197,8 +195,7 @@ impl<'a, R: Reader> CallFrameInstructionIter<'a, R> {
 
     /// The instructions in what is left of the input, which stands in the section of the pointers.
     ///
-    /// The size of an address is 1, 2, 4 or 8. The address of `DW_CFA_set_loc` is a pointer of the encoding, or a plain
-    /// address where there is none.
+    /// The address of `DW_CFA_set_loc` is a pointer of the encoding, or a plain address where there is none.
     #[inline(always)]
     pub fn new(
         input: R,
@@ -206,8 +203,7 @@ impl<'a, R: Reader> CallFrameInstructionIter<'a, R> {
         pointers: PointerEncodingParameters<'a, R>,
         vendor: Vendor,
     ) -> Self
-        requires sized { IsAddressSize pointers.address_size }
-        requires behind { (R.position pointers.section.now).place ≤ (R.position input).place }
+        requires { (R.position pointers.section.now).place ≤ (R.position input).place }
         ensures { instruction_reader R.position result ≡ record {
           context = instruction_context R.position (record { address_encoding = address_encoding; pointers = pointers.entry; vendor = vendor });
           position = R.position input;
@@ -266,8 +262,7 @@ fn next_instruction<R: Reader>(
     parameters: &InstructionParameters<'_, R>,
     input: &mut R,
 ) -> Result<Option<CallFrameInstruction<R::Offset>>>
-    requires sized { IsAddressSize parameters.now.pointers.address_size }
-    requires behind { (R.position parameters.now.pointers.section.now).place ≤ (R.position input.old).place }
+    requires { (R.position parameters.now.pointers.section.now).place ≤ (R.position input.old).place }
     ensures met { let c = instruction_context R.position parameters.now in
         Meets (map_instruction R.Offset.number) result
         (instructions_left (record { context = c; position = R.position input.old }))

@@ -1,10 +1,10 @@
 //! Encoded pointers (LSB Core, "DWARF Exception Header Encoding").
 ghost use Rattle.std.specs.Prelude.{◌≡◌, ◌≤◌, ℕ};
-ghost use Rattle.cfi_read_core.specs.Addresses.{IsAddressSize};
 ghost use Rattle.cfi_read_core.specs.ReaderCalls.{Reads};
 ghost use Rattle.cfi_parts.specs.ReadingParameters.{pointer_context};
 ghost use Rattle.cfi_parts.specs.Pointers.{base_of, direct, encoding_byte, encoded_value, pointer_value, pointer};
 
+use cfi_read_core::address::AddressSize;
 use cfi_read_core::constants::{
     DW_EH_PE_absptr, DW_EH_PE_aligned, DW_EH_PE_datarel, DW_EH_PE_funcrel, DW_EH_PE_omit,
     DW_EH_PE_pcrel, DW_EH_PE_sdata2, DW_EH_PE_sdata4, DW_EH_PE_sdata8, DW_EH_PE_sleb128,
@@ -133,8 +133,8 @@ pub struct PointerEncodingParameters<'a, R> {
     pub bases: &'a SectionBaseAddresses,
     /// The first address of the function, to which `DW_EH_PE_funcrel` counts.
     pub func_base: Option<u64>,
-    /// How many bytes an address takes: 1, 2, 4 or 8.
-    pub address_size: u8,
+    /// How many bytes an address takes.
+    pub address_size: AddressSize,
     /// The section, from whose first place `DW_EH_PE_pcrel` counts.
     pub section: &'a R,
 }
@@ -187,8 +187,7 @@ fn pointer_base<R: Reader>(
     parameters: &PointerEncodingParameters<'_, R>,
     input: &R,
 ) -> Result<u64>
-    requires sized { IsAddressSize parameters.now.address_size }
-    requires behind { (R.position parameters.now.section.now).place ≤ (R.position input.now).place }
+    requires { (R.position parameters.now.section.now).place ≤ (R.position input.now).place }
     ensures { Reads (λ x. x) (base_of encoding.0 (pointer_context R.position parameters.now)) (R.position input.now) result (R.position input.now) }
 {
     let bases = parameters.bases;
@@ -199,7 +198,7 @@ fn pointer_base<R: Reader>(
                 .section
                 .ok_or(Error::PcRelativePointerButSectionBaseIsUndefined)?;
             let place = input.offset_from(parameters.section).into_u64();
-            Ok(base.wrapping_add_sized(place, parameters.address_size))
+            Ok(base.wrapping_add_sized(place, parameters.address_size.bytes()))
         }
         DW_EH_PE_textrel => bases
             .text
@@ -227,16 +226,16 @@ pub fn parse_encoded_pointer<R: Reader>(
     parameters: &PointerEncodingParameters<'_, R>,
     input: &mut R,
 ) -> Result<Pointer>
-    requires sized { IsAddressSize parameters.now.address_size }
-    requires behind { (R.position parameters.now.section.now).place ≤ (R.position input.old).place }
+    requires { (R.position parameters.now.section.now).place ≤ (R.position input.old).place }
     ensures { Reads (λ p. p) (pointer encoding.0 (pointer_context R.position parameters.now)) (R.position input.old) result (R.position input.new) }
 {
     if encoding == DW_EH_PE_omit {
         return Err(Error::CannotParseOmitPointerEncoding);
     }
     let base = pointer_base(encoding, parameters, input)?;
-    let value = parse_encoded_value(encoding, parameters.address_size, input)?;
-    let address = base.wrapping_add_sized(value, parameters.address_size);
+    let size = parameters.address_size.bytes();
+    let value = parse_encoded_value(encoding, size, input)?;
+    let address = base.wrapping_add_sized(value, size);
     if encoding.is_indirect() {
         Ok(Pointer::Indirect(address))
     } else {

@@ -1,6 +1,5 @@
 //! One call frame instruction (DWARF 5 sections 6.4.2 and 7.24).
 ghost use Rattle.std.specs.Prelude.{◌≡◌, ◌≤◌};
-ghost use Rattle.cfi_read_core.specs.Addresses.{IsAddressSize};
 ghost use Rattle.cfi_read_core.specs.ReadFunctions.{chosen_from};
 ghost use Rattle.cfi_read_core.specs.ReaderCalls.{Reads};
 ghost use Rattle.cfi_parts.specs.ReadingParameters.{instruction_context, pointer_context};
@@ -55,14 +54,13 @@ fn parse_location<R: Reader>(
     parameters: &InstructionParameters<'_, R>,
     input: &mut R,
 ) -> Result<u64>
-    requires sized { IsAddressSize parameters.now.pointers.address_size }
-    requires behind { (R.position parameters.now.pointers.section.now).place ≤ (R.position input.old).place }
+    requires { (R.position parameters.now.pointers.section.now).place ≤ (R.position input.old).place }
     ensures { let c = instruction_context R.position parameters.now in
         Reads (λ x. x) (location_by c.pointers c.address_encoding) (R.position input.old) result (R.position input.new) }
 {
     match parameters.address_encoding {
         Some(encoding) => parse_encoded_pointer(encoding, &parameters.pointers, input)?.direct(),
-        None => input.read_address(parameters.pointers.address_size),
+        None => input.read_address(parameters.pointers.address_size.bytes()),
     }
 }
 
@@ -73,8 +71,7 @@ pub fn parse_instruction<R: Reader>(
     parameters: &InstructionParameters<'_, R>,
     input: &mut R,
 ) -> Result<CallFrameInstruction<R::Offset>>
-    requires sized { IsAddressSize parameters.now.pointers.address_size }
-    requires behind { (R.position parameters.now.pointers.section.now).place ≤ (R.position input.old).place }
+    requires { (R.position parameters.now.pointers.section.now).place ≤ (R.position input.old).place }
     ensures { Reads (map_instruction R.Offset.number) (instruction (instruction_context R.position parameters.now)) (R.position input.old) result (R.position input.new) }
 {
     let opcode = input.read_u8()?;
@@ -103,8 +100,7 @@ fn parse_extended<R: Reader>(
     parameters: &InstructionParameters<'_, R>,
     input: &mut R,
 ) -> Result<CallFrameInstruction<R::Offset>>
-    requires sized { IsAddressSize parameters.now.pointers.address_size }
-    requires behind { (R.position parameters.now.pointers.section.now).place ≤ (R.position input.old).place }
+    requires { (R.position parameters.now.pointers.section.now).place ≤ (R.position input.old).place }
     ensures { Reads (map_instruction R.Offset.number)
         (chosen_from opcode.0 (extended_opcodes (instruction_context R.position parameters.now)) (unknown_opcode opcode.0))
         (R.position input.old) result (R.position input.new) }
@@ -145,7 +141,6 @@ fn parse_rare<R: Reader>(
     parameters: &InstructionParameters<'_, R>,
     input: &mut R,
 ) -> Result<CallFrameInstruction<R::Offset>>
-    requires sized { IsAddressSize parameters.now.pointers.address_size }
     requires rare { IsRare opcode.0 }
     requires behind { (R.position parameters.now.pointers.section.now).place ≤ (R.position input.old).place }
     ensures { Reads (map_instruction R.Offset.number)

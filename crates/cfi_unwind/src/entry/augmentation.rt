@@ -51,7 +51,7 @@ fn read_letter<R: Reader, S: _UnwindSectionPrivate<R>>(
             let parameters = PointerEncodingParameters {
                 bases: &at.bases.eh_frame,
                 func_base: None,
-                address_size: address_size.bytes(),
+                address_size,
                 section: at.section.section(),
             };
             let personality = parse_encoded_pointer(encoding, &parameters, input)?;

@@ -53,7 +53,7 @@ fn read_addresses<R: Reader, S: _UnwindSectionPrivate<R>>(
     let parameters = PointerEncodingParameters {
         bases: &at.bases.eh_frame,
         func_base: None,
-        address_size: size,
+        address_size,
         section: at.section.section(),
     };
     let initial_address = parse_encoded_pointer(encoding, &parameters, input)?.pointer();
@@ -86,7 +86,7 @@ fn read_lsda<R: Reader, S: _UnwindSectionPrivate<R>>(
     let parameters = PointerEncodingParameters {
         bases: &at.bases.eh_frame,
         func_base: Some(initial_address),
-        address_size: address_size.bytes(),
+        address_size,
         section: at.section.section(),
     };
     Ok(Some(parse_encoded_pointer(encoding, &parameters, &mut data)?))

@@ -33,7 +33,7 @@ impl<R: Reader> CommonInformationEntry<R> {
         let pointers = PointerEncodingParameters {
             bases: &bases.eh_frame,
             func_base: None,
-            address_size: self.address_size.bytes(),
+            address_size: self.address_size,
             section: section.section(),
         };
         CallFrameInstructionIter::new(self.initial_instructions, None, pointers, section.vendor())
@@ -58,7 +58,7 @@ impl<R: Reader> FrameDescriptionEntry<R> {
         let pointers = PointerEncodingParameters {
             bases: &bases.eh_frame,
             func_base: None,
-            address_size: self.cie.address_size.bytes(),
+            address_size: self.cie.address_size,
             section: section.section(),
         };
         let encoding = match self.cie.augmentation {

@@ -89,16 +89,17 @@ impl<R: Reader> EhFrameHdr<R> {
         let pointer_encoding = parse_pointer_encoding(&mut reader)?;
         let count_encoding = parse_pointer_encoding(&mut reader)?;
         let table_encoding = parse_pointer_encoding(&mut reader)?;
+        let size = AddressSize::new(address_size);
         let parameters = PointerEncodingParameters {
             bases: &bases.eh_frame_hdr,
             func_base: None,
-            address_size,
+            address_size: size,
             section: &self.0,
         };
         let eh_frame_ptr = parse_encoded_pointer(pointer_encoding, &parameters, &mut reader)?;
         let fde_count = read_row_count(count_encoding, table_encoding, address_size, &mut reader)?;
         Ok(ParsedEhFrameHdr {
-            address_size: AddressSize::new(address_size),
+            address_size: size,
             section: self.0,
             eh_frame_ptr,
             fde_count,

@@ -3,7 +3,6 @@ ghost use Rattle.std.specs.Prelude.{◌≡◌, ◌≤◌, IfSome, Some};
 ghost use Rattle.std.specs.Option.{option_transpose};
 ghost use Rattle.std.specs.Iterator.{UpTo, YieldsFirst, at_most};
 ghost use Rattle.std.specs.Iterator.SizeHint.{IsWithinCount};
-ghost use Rattle.cfi_read_core.specs.Addresses.{IsAddressSize};
 ghost use Rattle.cfi_read_core.specs.ReaderCalls.{Reads};
 ghost use Rattle.cfi_parts.specs.ReadingParameters.{pointer_context};
 ghost use Rattle.cfi_parts.specs.CallFrameSections.{IsOf, IsOf_prop};
@@ -63,7 +62,7 @@ impl<'a, 'bases, R: Reader> EhHdrTableIter<'a, 'bases, R> {
         let parameters = PointerEncodingParameters {
             bases: &self.bases.eh_frame_hdr,
             func_base: None,
-            address_size: self.hdr.address_size.bytes(),
+            address_size: self.hdr.address_size,
             section: &self.hdr.section,
         };
         let mut table = self.table;
@@ -110,8 +109,7 @@ fn read_row<R: Reader>(
     parameters: &PointerEncodingParameters<'_, R>,
     input: &mut R,
 ) -> Result<(Pointer, Pointer)>
-    requires sized { IsAddressSize parameters.now.address_size }
-    requires behind { (R.position parameters.now.section.now).place ≤ (R.position input.old).place }
+    requires { (R.position parameters.now.section.now).place ≤ (R.position input.old).place }
     ensures { Reads (λ found. found) (row_by (pointer_context R.position parameters.now) encoding.0) (R.position input.old) result (R.position input.new) }
 {
     let start = parse_encoded_pointer(encoding, parameters, input)?;

@@ -1,6 +1,5 @@
 //! The start and the target of a row, each read at its own place.
 ghost use Rattle.std.specs.Prelude.{◌≡◌, ◌≤◌, Some, ok_or};
-ghost use Rattle.cfi_read_core.specs.Addresses.{IsAddressSize};
 ghost use Rattle.cfi_read_core.specs.ReaderCalls.{Reads};
 ghost use Rattle.cfi_read_core.specs.ReadFunctions.{skip};
 ghost use Rattle.cfi_read_core.specs.declared.error.Error.TheVariants.{UnsupportedPointerEncoding};
@@ -67,13 +66,12 @@ fn row_parameters<'a, R: Reader>(
     bases: &'a BaseAddresses,
 ) -> PointerEncodingParameters<'a, R>
     ensures context { pointer_context R.position result ≡ header_context (header_section_view R.position hdr.now bases.now) }
-    ensures sized { IsAddressSize result.address_size }
     ensures section { result.section.now ≡ hdr.now.section }
 {
     PointerEncodingParameters {
         bases: &bases.eh_frame_hdr,
         func_base: None,
-        address_size: hdr.address_size.bytes(),
+        address_size: hdr.address_size,
         section: &hdr.section,
     }
 }

@@ -16,7 +16,7 @@ returns-in-Ok-clause-met g c =
 pub returns-in-Ok-clause-behind : goal.returns-in-Ok-clause-behind
 returns-in-Ok-clause-behind g c =
     let on = further _ _ _ c.in-Ok.ensures.1 _ c.in-Ok.ensures.0 in
-    omega (arith, c.requires.behind)
+    omega (arith, c.requires)
 
 pub returns-in-Ok-clause-fewer : goal.returns-in-Ok-clause-fewer
 returns-in-Ok-clause-fewer g c =
@@ -31,4 +31,4 @@ returns-in-Err-clause-met g c =
 pub returns-in-Ok-clause-expressions : goal.returns-in-Ok-clause-expressions
 returns-in-Ok-clause-expressions g c section reads =
     let sound = g.met.R.Reader.sound c.args.input.now in
-    read_in g.R.Offset.ReaderOffset.number section _ _ _ _ reads c.requires.behind sound.ordered c.in-Ok.ensures.0
+    read_in g.R.Offset.ReaderOffset.number section _ _ _ _ reads c.requires sound.ordered c.in-Ok.ensures.0

@@ -4,8 +4,8 @@ use Rattle.cfi_unwind.proofs.EntryReads.{onward_encoding_byte}
 use Rattle.cfi_unwind.proofs.Within.{not_before}
 use Rattle.cfi_unwind.proofs.entry.augmentation.read_letter.Goals as goal
 
-pub parse_encoded_pointer-requires-clause-behind : goal.parse_encoded_pointer-requires-clause-behind
-parse_encoded_pointer-requires-clause-behind g c =
+pub parse_encoded_pointer-requires : goal.parse_encoded_pointer-requires
+parse_encoded_pointer-requires g c =
     let begins = ap (λ (s : Position). s.place) c.section.ensures in
     let behind = not_before onward_encoding_byte c.parse_pointer_encoding-in-80.ensures in
     omega (arith, c.requires)

@@ -4,8 +4,8 @@ use Rattle.cfi_read_core.proofs.Onward.{onward_offset_leb128}
 use Rattle.cfi_unwind.proofs.Within.{behind_of, split_of}
 use Rattle.cfi_unwind.proofs.entry.fde.read_lsda.Goals as goal
 
-pub parse_encoded_pointer-requires-clause-behind : goal.parse_encoded_pointer-requires-clause-behind
-parse_encoded_pointer-requires-clause-behind g c =
+pub parse_encoded_pointer-requires : goal.parse_encoded_pointer-requires
+parse_encoded_pointer-requires g c =
     let sound = g.met.R.Reader.sound c.read_offset.new.input in
     let whole = behind_of onward_offset_leb128 c.read_offset.ensures c.requires in
     let begins = ap (λ (s : Position). s.place) c.section.ensures in

@@ -5,9 +5,9 @@ use Rattle.cfi_unwind.proofs.Within.{behind_of}
 use Rattle.gimli_cfi.proofs.HeaderReads.{onward_row_count, whole_of}
 use Rattle.gimli_cfi.proofs.hdr.header.EhFrameHdr.parse.Goals as goal
 
-pub parse_encoded_pointer-requires-clause-behind :
-    goal.parse_encoded_pointer-requires-clause-behind
-parse_encoded_pointer-requires-clause-behind g c =
+pub parse_encoded_pointer-requires :
+    goal.parse_encoded_pointer-requires
+parse_encoded_pointer-requires g c =
     let sound = g.met.R.Reader.sound c.args.self.now.0 in
     let version = behind_of (onward_unsigned _) c.read_u8.ensures (whole_of sound) in
     let first = behind_of onward_encoding_byte c.parse_pointer_encoding.ensures version in
