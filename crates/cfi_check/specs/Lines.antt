@@ -2,9 +2,10 @@
 use Rattle.std.specs.Prelude.{ℕ, List, ◌++◌, codes}
 use Rattle.std.specs.Fmt.{decimal}
 use Rattle.cfi_read_core.specs.declared.error.Error.{Error}
+use Rattle.cfi_read_core.specs.RefusalNames.{name_of}
 use Rattle.gimli_cfi.specs.declared.hdr.unfaithful.Unfaithful.{Unfaithful}
 use Rattle.gimli_cfi.specs.declared.hdr.unfaithful.Unfaithful.TheVariants as reasons
-use Rattle.cfi_program.specs.Lines.{Line, address_text, line, name_of}
+use Rattle.cfi_program.specs.Lines.{Line, address_text, line}
 use Rattle.cfi_check.specs.declared.table_check.Verdict.{Verdict}
 use Rattle.cfi_check.specs.declared.table_check.Verdict.TheVariants as verdicts
 

@@ -4,7 +4,7 @@ ghost use Rattle.cfi_program.specs.WriterOutput.{Prints, Writes};
 ghost use Rattle.cfi_check.specs.Lines.{reason_text, refused_text, verdict_line};
 
 use crate::table_check::Verdict;
-use cfi_program::lines::{Address, name, write_part, write_text};
+use cfi_program::lines::{Address, write_part, write_text};
 use gimli_cfi::hdr::Unfaithful;
 use std::io;
 use std::io::Write;
@@ -27,7 +27,7 @@ pub fn write_verdict<W: Write>(output: &mut W, verdict: Verdict) -> io::Result<u
             Ok(1)
         }
         Verdict::Refused(refusal) => {
-            let name = name(refusal);
+            let name = refusal.name();
             write_part(output, format_args!("header: refused {name}\n"))?;
             Ok(1)
         }
@@ -40,11 +40,11 @@ fn write_reason<W: Write>(output: &mut W, reason: Unfaithful) -> io::Result<()>
 {
     match reason {
         Unfaithful::Header(refusal) => {
-            let name = name(refusal);
+            let name = refusal.name();
             write_part(output, format_args!("header: refused {name}\n"))
         }
         Unfaithful::Row { row, refusal } => {
-            let name = name(refusal);
+            let name = refusal.name();
             write_part(output, format_args!("row {row}: refused {name}\n"))
         }
         Unfaithful::Order { row, before, start } => {
@@ -57,12 +57,12 @@ fn write_reason<W: Write>(output: &mut W, reason: Unfaithful) -> io::Result<()>
         }
         Unfaithful::Entry { offset, refusal } => {
             let offset = Address(offset);
-            let name = name(refusal);
+            let name = refusal.name();
             write_part(output, format_args!("entry {offset}: refused {name}\n"))
         }
         Unfaithful::Fde { offset, refusal } => {
             let offset = Address(offset);
-            let name = name(refusal);
+            let name = refusal.name();
             write_part(output, format_args!("FDE {offset}: refused {name}\n"))
         }
         Unfaithful::NoRow { offset, address } => {

@@ -1,6 +1,6 @@
 //! Writing lines, and the lines that say why there is no answer.
 ghost use Rattle.std.specs.Prelude.{◌≡◌, Some, IfSome};
-ghost use Rattle.cfi_program.specs.Lines.{address_text, name_of, refusal_line, wrong_words, wrong_hexadecimal, wrong_input};
+ghost use Rattle.cfi_program.specs.Lines.{address_text, refusal_line, wrong_words, wrong_hexadecimal, wrong_input};
 ghost use Rattle.cfi_program.specs.WriterOutput.{Writes, Prints};
 
 use arrayvec::ArrayString;
@@ -55,48 +55,6 @@ impl Display for Address {
     }
 }
 
-/// The name of a refusal, without its values.
-pub fn name(error: Error) -> &'static str
-    ensures { result.now ≡ name_of error }
-{
-    match error {
-        Error::UnexpectedEof(_) => "UnexpectedEof",
-        Error::BadUnsignedLeb128 => "BadUnsignedLeb128",
-        Error::BadSignedLeb128 => "BadSignedLeb128",
-        Error::UnknownReservedLength(_) => "UnknownReservedLength",
-        Error::UnsupportedAddressSize(_) => "UnsupportedAddressSize",
-        Error::UnsupportedOffset => "UnsupportedOffset",
-        Error::UnsupportedRegister(_) => "UnsupportedRegister",
-        Error::AddressOverflow => "AddressOverflow",
-        Error::UnknownVersion(_) => "UnknownVersion",
-        Error::UnsupportedSegmentSize(_) => "UnsupportedSegmentSize",
-        Error::UnknownAugmentation => "UnknownAugmentation",
-        Error::UnknownPointerEncoding(_) => "UnknownPointerEncoding",
-        Error::CannotParseOmitPointerEncoding => "CannotParseOmitPointerEncoding",
-        Error::UnsupportedPointerEncoding(_) => "UnsupportedPointerEncoding",
-        Error::PcRelativePointerButSectionBaseIsUndefined =>
-            "PcRelativePointerButSectionBaseIsUndefined",
-        Error::TextRelativePointerButTextBaseIsUndefined =>
-            "TextRelativePointerButTextBaseIsUndefined",
-        Error::DataRelativePointerButDataBaseIsUndefined =>
-            "DataRelativePointerButDataBaseIsUndefined",
-        Error::FuncRelativePointerInBadContext => "FuncRelativePointerInBadContext",
-        Error::UnsupportedIndirectPointer => "UnsupportedIndirectPointer",
-        Error::NotCieId(_) => "NotCieId",
-        Error::NotCiePointer(_) => "NotCiePointer",
-        Error::NoEntryAtGivenOffset(_) => "NoEntryAtGivenOffset",
-        Error::OffsetOutOfBounds(_) => "OffsetOutOfBounds",
-        Error::UnknownCallFrameInstruction(_) => "UnknownCallFrameInstruction",
-        Error::CfiInstructionInInvalidContext => "CfiInstructionInInvalidContext",
-        Error::InvalidCfiSetLoc(_) => "InvalidCfiSetLoc",
-        Error::StackFull => "StackFull",
-        Error::PopWithEmptyStack => "PopWithEmptyStack",
-        Error::TooManyRegisterRules => "TooManyRegisterRules",
-        Error::NoUnwindInfoForAddress => "NoUnwindInfoForAddress",
-        Error::OutOfMemory => "OutOfMemory",
-    }
-}
-
 /// Prints that the words are wrong, with status 2.
 pub fn write_wrong_words<W: Write>(output: &mut W) -> io::Result<u8>
     ensures { Prints wrong_words (W.contents output.old) (W.contents output.new) result }
@@ -125,7 +83,7 @@ pub fn write_wrong_input<W: Write>(output: &mut W) -> io::Result<u8>
 pub fn write_refusal<W: Write>(output: &mut W, error: Error) -> io::Result<u8>
     ensures { Prints (refusal_line error) (W.contents output.old) (W.contents output.new) result }
 {
-    let name = name(error);
+    let name = error.name();
     write_part(output, format_args!("refused {name}\n"))?;
     Ok(1)
 }

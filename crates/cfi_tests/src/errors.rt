@@ -125,3 +125,11 @@ fn sentences(rt: HostRuntime) -> Result<(), Fail> {
     }
     Ok(())
 }
+
+#[test]
+fn names(rt: HostRuntime) -> Result<(), Fail> {
+    let error = Error::UnexpectedEof(ReaderOffsetId(0x12));
+    assert_eq!(rt; error.name(), "UnexpectedEof");
+    assert_eq!(rt; Error::OutOfMemory.name(), "OutOfMemory");
+    Ok(())
+}
