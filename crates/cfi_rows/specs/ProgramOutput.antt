@@ -1,13 +1,11 @@
 -- Which line is right for words and input.
-use Rattle.std.specs.Prelude.{◌≡◌, ℕ, Bool, true, false, Option, Some, None, Result, Ok, Err}
+use Rattle.std.specs.Prelude.{◌≡◌, ℕ, Bool, true, false, Option, Some, None, Result}
 use Rattle.cfi_read_core.specs.declared.error.Error.{Error}
-use Rattle.cfi_parts.specs.declared.pointer.Pointer.{Pointer}
 use Rattle.cfi_state.specs.Row.{Row}
-use Rattle.cfi_unwind.specs.Sections.{Section}
 use Rattle.cfi_unwind.specs.Fdes.{Fde}
 use Rattle.cfi_unwind.specs.Scan.{chosen_fde}
-use Rattle.gimli_cfi.specs.EhFrameHdr.{HeaderSection, Header, Table, header_of, start_of}
-use Rattle.gimli_cfi.specs.TableLookup.{IsFoundByTable}
+use Rattle.gimli_cfi.specs.EhFrameHdr.{header_of}
+use Rattle.gimli_cfi.specs.RowsByHeader.{FoundByHeader}
 use Rattle.cfi_unwind.specs.AddressRow.{IsRowOfFound}
 use Rattle.cfi_rows.specs.declared.command_line.Storage.{Storage}
 use Rattle.cfi_rows.specs.declared.command_line.Storage.TheVariants.{OnHeap, Growing}
@@ -34,22 +32,7 @@ room_of Growing = room None None false
 
 -- ---- the answer
 
--- the FDE for the address, or the refusal in its place: without rows by going through the section
-abbrev pub FoundByRows : Section → ℕ → HeaderSection → Pointer → Option Table → Result Fde Error → Type 0
-FoundByRows section a header eh_frame None found = found ≡ chosen_fde section a
-FoundByRows section a header eh_frame (Some table) found = IsFoundByTable (start_of header table) header table eh_frame section a found
-
-abbrev pub FoundByHeader : Section → ℕ → HeaderSection → Result Header Error → Result Fde Error → Type 0
-FoundByHeader section a header (Err e) found = found ≡ Err e
-FoundByHeader section a header (Ok read) found = FoundByRows section a header read.eh_frame read.table found
-
--- what a section with this header answers
-abbrev pub IsRowByHeader : Room → Section → ℕ → HeaderSection → Result (Row ℕ) Error → Type 0
-IsRowByHeader room section a header answer =
-    (found : Result Fde Error) × FoundByHeader section a header (header_of header) found
-    × IsRowOfFound room.rule_limit room.stack_limit room.copies_free section a found answer
-
--- the base is that of the header, where there is one
+-- the FDE for the address, or the refusal in its place; the base is that of the header, where there is one
 abbrev pub FoundByBase : Request → Bytes → Option ℕ → Result Fde Error → Type 0
 FoundByBase r bytes None found = found ≡ chosen_fde (section_of r.words bytes.section) r.address
 FoundByBase r bytes (Some base) found =

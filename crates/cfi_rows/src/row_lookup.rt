@@ -2,11 +2,7 @@
 ghost use Rattle.std.specs.Prelude.{◌≡◌, Some};
 ghost use Rattle.cfi_read_core.specs.declared.error.Error.{Error as Refusal};
 ghost use Rattle.cfi_read_core.specs.ReaderCalls.{map_ok};
-ghost use Rattle.cfi_read_core.specs.Addresses.{IsAddressSize};
-ghost use Rattle.cfi_state.specs.MappedStates.{row_lent};
-ghost use Rattle.gimli_cfi.specs.EhFrameHdr.{header_section};
-ghost use Rattle.gimli_cfi.specs.HeaderViews.{section_view};
-ghost use Rattle.cfi_rows.specs.ProgramOutput.{answers, room, rows_in, IsAnswer, IsRowByHeader};
+ghost use Rattle.cfi_rows.specs.ProgramOutput.{answers, room, rows_in, IsAnswer};
 ghost use Rattle.cfi_rows.specs.CommandLine.{CanBeAnswered};
 ghost use Rattle.cfi_program.specs.Input.{bytes_of};
 ghost use Rattle.cfi_program.specs.Lines.{Line};
@@ -19,8 +15,8 @@ use cfi_program::lines::write_refusal;
 use cfi_program::row_line::write_answer;
 use cfi_program::words::Kind;
 use gimli_cfi::{
-    BaseAddresses, DebugFrame, EhFrame, EhFrameHdr, Error, Reader, StoreGrowing, StoreOnHeap,
-    TableStarts, UnwindContext, UnwindContextStorage, UnwindTableRow, row_by_scan, row_by_table,
+    DebugFrame, EhFrame, EhFrameHdr, Error, StoreGrowing, StoreOnHeap, UnwindContext,
+    UnwindContextStorage, UnwindTableRow, row_by_header, row_by_scan,
 };
 use std::alloc::Global;
 use std::io;
@@ -92,25 +88,4 @@ fn find_row<'ctx, S: UnwindContextStorage<usize>>(
             row_by_header(&header, size, &frame, &bases, context, request.address)
         }
     }
-}
-
-/// The row for the address by the header's table, or by going through the section where the header has no table.
-fn row_by_header<'ctx, R: Reader, S: UnwindContextStorage<R::Offset>>(
-    header: &EhFrameHdr<R>,
-    address_size: u8,
-    frame: &EhFrame<R>,
-    bases: &BaseAddresses,
-    context: &'ctx mut UnwindContext<R::Offset, S>,
-    address: u64,
-) -> Result<&'ctx UnwindTableRow<R::Offset, S::Rules>, Error>
-    requires { IsAddressSize address_size }
-    ensures { IsRowByHeader (room S.Rules.limit S.Stack.limit S.Rules.copies_free) (section_view R.position frame.now bases.now) address
-        (header_section (R.position header.now.0) address_size bases.now.eh_frame_hdr) (row_lent R.Offset.number result) }
-{
-    let header = header.parse(bases, address_size)?;
-    let Some(table) = header.table() else {
-        return row_by_scan(frame, bases, context, address);
-    };
-    let mut starts = TableStarts::new(&table, bases)?;
-    row_by_table(&table, &mut starts, frame, bases, context, address)
 }

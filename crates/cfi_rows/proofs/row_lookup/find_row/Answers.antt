@@ -32,4 +32,4 @@ returns-in-Some g c =
     (same_section c.args.request.now.words _ _ _ _ _ _ (ap kind_of_section c.in-EhFrame.is) stands sizes c.set_vendor-in-EhFrame.ensures.vendor c.bases-bases.ensures.section)
     c.as_slice.ensures.value
     (same_header_section c.args.request.now.words c.in-Some.field-0 _ _ _ c.new-header.ensures c.bases-bases.ensures.header c.in-Some.is)
-    (rw (← same_rows (λ row. row.now) c.row_by_header.result) c.row_by_header.ensures)
+    (rw (← same_rows (λ row. row.now) c.row_by_header.result) c.row_by_header.ensures.row)
