@@ -3,9 +3,10 @@ use Rattle.std.proofs.Common.{◌≡◌, List, ℕ, [], ◌∷◌, Option, Some,
 use Rattle.std.specs.Option.{IsSome}
 use Rattle.cfi_program.specs.declared.words.SectionWords.{SectionWords}
 use Rattle.cfi_program.specs.Words.{AreRead, first_words, section_word, section_words}
-use Rattle.cfi_program.proofs.SectionWordsLemmas.{and_then, anything, each_read, first_read, word_read}
+use Rattle.cfi_program.proofs.RunLemmas.{known_of}
+use Rattle.cfi_program.proofs.SectionWordsLemmas.{and_then, each_read, first_read, word_read}
 use Rattle.cfi_check.specs.declared.command_line.Request.{Request}
-use Rattle.cfi_check.specs.CommandLine.{CanBeChecked, asked_by, request_of, request_of_words, with_header}
+use Rattle.cfi_check.specs.CommandLine.{CanBeChecked, asked_by, request_of, with_header}
 
 headed : (s : SectionWords) (o : Option ℕ) → s.header ≡ o → AreRead s → IfSome (with_header s o) CanBeChecked
 headed s None e h = tt
@@ -25,5 +26,5 @@ request_checked [] = tt
 request_checked (a ∷ []) = tt
 request_checked (a ∷ b ∷ []) = tt
 
-pub can_be_checked : (asked_for : Option Request) (words : Option (List (List ℕ))) → asked_for ≡ request_of_words words → IfSome asked_for CanBeChecked
-can_be_checked asked_for words e = rw e (and_then (λ _. Unit {0}) CanBeChecked words request_of (anything words) (λ list _. request_checked list))
+pub can_be_checked : (r : Request) → ((words : List (List ℕ)) × (request_of words ≡ Some r)) → CanBeChecked r
+can_be_checked r (words, e) = known_of CanBeChecked (request_of words) r e (request_checked words)

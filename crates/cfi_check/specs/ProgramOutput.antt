@@ -1,6 +1,6 @@
 -- Which line is right for words and input.
 use Rattle.std.specs.Prelude.{◌≡◌}
-use Rattle.cfi_program.specs.Input.{Bytes}
+use Rattle.cfi_program.specs.Input.{Bytes, bytes_by}
 use Rattle.cfi_program.specs.Runs.{Program}
 use Rattle.cfi_program.specs.SectionOfWords.{header_section_of, section_of}
 use Rattle.cfi_check.specs.declared.command_line.Request.{Request}
@@ -18,6 +18,6 @@ abbrev pub answers : Program
 answers = record {
   Request = Request;
   request_of = request_of;
-  header_of = λ r. r.words.header;
+  meaning = λ r input. bytes_by r.words.header input;
   IsLine = λ r bytes printed. (verdict : Verdict) × IsVerdictOf r bytes verdict × (printed ≡ verdict_line verdict);
 }

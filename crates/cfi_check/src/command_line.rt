@@ -1,7 +1,7 @@
 //! The words of the command line.
-ghost use Rattle.std.specs.Prelude.{◌≡◌, option_map};
+ghost use Rattle.std.specs.Prelude.{◌≡◌};
 ghost use Rattle.cfi_program.specs.Words.{texts};
-ghost use Rattle.cfi_check.specs.CommandLine.{request_of, request_of_words, with_header};
+ghost use Rattle.cfi_check.specs.CommandLine.{request_of, with_header};
 
 use cfi_program::words::{SectionWords, first, with_options};
 
@@ -31,11 +31,4 @@ fn asked_by(words: SectionWords) -> Option<Request>
 {
     let header = words.header?;
     Some(Request { words, header })
-}
-
-/// What the words ask for. `None` stands for words that cannot be read, and for wrong ones.
-pub fn asked_for(words: Option<&[&str]>) -> Option<Request>
-    ensures { result ≡ request_of_words (option_map (λ list. texts list.now) words.entry) }
-{
-    parse(words?)
 }

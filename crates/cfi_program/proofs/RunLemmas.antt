@@ -1,30 +1,25 @@
 -- What a run prints.
-use Rattle.std.proofs.Common.{◌≡◌, ◌⊎◌, inl, inr, ◌≤◌, ◌<◌, ℕ, List, [], ◌++◌, get_or, Option, Some, None, Result, Ok, Err, refl, sym, ◌∙◌, ap, subst, arith, append-nil, IfSome}
+use Rattle.std.proofs.Common.{◌≡◌, ◌==◌, true, false, ◌⊎◌, inl, inr, ◌≤◌, ◌<◌, ℕ, List, [], ◌++◌, get_or, Option, Some, None, Result, Ok, Err, refl, sym, ◌∙◌, ap, subst, arith, append-nil, IfSome}
 use Rattle.std.specs.Option.{IsSome}
 use Rattle.std.specs.Io.KnownBytes.{Appends, Keeps}
-use Rattle.cfi_program.specs.Input.{Bytes, bytes_by}
+use Rattle.cfi_program.specs.Input.{Bytes}
 use Rattle.cfi_program.specs.Lines.{Line, wrong_words, wrong_hexadecimal, wrong_input}
-use Rattle.cfi_program.specs.Runs.{Program, IsLineFor, IsOwed, IsRun, LineOfInput, LineOfRequest, LineOfWords, asked_for, out_of_memory}
+use Rattle.cfi_program.specs.Runs.{Program, IsPlain, IsLineFor, IsOwed, IsRun, LineOfInput, LineOfRequest, LineOfWords, asked_for, out_of_memory}
 use Rattle.cfi_program.specs.WriterOutput.{IsBeginning, Prints}
 use Rattle.cfi_program.proofs.WrittenLemmas.{appends_then, keeps_is}
 
--- What holds of the lines of a program: none begins with a w, as those do that say that words or input are wrong, and
--- the status of each is 0 or 1.
-pub record IsPlain (printed : Line) : Type 0 where
-  pub beginning : get_or printed.text 0 0 ≡ 119 → ⊥
-  pub low : printed.status ≤ 1
-
+-- what holds of the lines of a program
 abbrev pub ArePlain : Program → Type 0
 ArePlain p = (r : p.Request) (bytes : Bytes) (printed : Line) → p.IsLine r bytes printed → IsPlain printed
 
 -- ---- the line that is owed
 
-owed_hexadecimal : (p : Program) (r : p.Request) (input : List ℕ) → bytes_by (p.header_of r) input ≡ None → LineOfRequest p (Some r) input wrong_hexadecimal
+owed_hexadecimal : (p : Program) (r : p.Request) (input : List ℕ) → p.meaning r input ≡ None → LineOfRequest p (Some r) input wrong_hexadecimal
 owed_hexadecimal p r input e =
     let P : Option Bytes → Type 0 = λ bytes. LineOfInput p r bytes wrong_hexadecimal in
     subst P (sym e) refl
 
-owed_answer : (p : Program) (r : p.Request) (input : List ℕ) (bytes : Bytes) (printed : Line) → bytes_by (p.header_of r) input ≡ Some bytes →
+owed_answer : (p : Program) (r : p.Request) (input : List ℕ) (bytes : Bytes) (printed : Line) → p.meaning r input ≡ Some bytes →
     p.IsLine r bytes printed → LineOfRequest p (Some r) input printed
 owed_answer p r input bytes printed e is =
     let P : Option Bytes → Type 0 = λ read. LineOfInput p r read printed in
@@ -33,18 +28,18 @@ owed_answer p r input bytes printed e is =
 pub known_of : {A : Type 0} (P : A → Type 0) (o : Option A) (r : A) → o ≡ Some r → IfSome o P → P r
 known_of P o r e h = subst (λ request. IfSome request P) e h
 
-pub owes_hexadecimal : (p : Program) (o : Option p.Request) (r : p.Request) (input : List ℕ) → o ≡ Some r → bytes_by (p.header_of r) input ≡ None → IsOwed p o input wrong_hexadecimal
+pub owes_hexadecimal : (p : Program) (o : Option p.Request) (r : p.Request) (input : List ℕ) → o ≡ Some r → p.meaning r input ≡ None → IsOwed p o input wrong_hexadecimal
 owes_hexadecimal p o r input e wrong =
     let P : Option p.Request → Type 0 = λ request. IsOwed p request input wrong_hexadecimal in
     subst P (sym e) (inl (owed_hexadecimal p r input wrong))
 
-owes_line : (p : Program) (r : p.Request) (input : List ℕ) (bytes : Bytes) (printed : Line) → bytes_by (p.header_of r) input ≡ Some bytes →
+owes_line : (p : Program) (r : p.Request) (input : List ℕ) (bytes : Bytes) (printed : Line) → p.meaning r input ≡ Some bytes →
     IsLineFor p r bytes printed → IsOwed p (Some r) input printed
 owes_line p r input bytes printed d (inl is) = inl (owed_answer p r input bytes printed d is)
 owes_line p r input bytes printed d (inr memory) = inr (refl, inl memory)
 
 pub owes_answer : (Q : Line → Type 0) (p : Program) (o : Option p.Request) (r : p.Request) (input : List ℕ) (bytes : Bytes) → o ≡ Some r →
-    bytes_by (p.header_of r) input ≡ Some bytes → ((printed : Line) × Q printed × IsLineFor p r bytes printed) → (printed : Line) × Q printed × IsOwed p o input printed
+    p.meaning r input ≡ Some bytes → ((printed : Line) × Q printed × IsLineFor p r bytes printed) → (printed : Line) × Q printed × IsOwed p o input printed
 owes_answer Q p o r input bytes e d (printed, shows, which) =
     let P : Option p.Request → Type 0 = λ request. IsOwed p request input printed in
     (printed, shows, subst P (sym e) (owes_line p r input bytes printed d which))
@@ -71,13 +66,15 @@ no_refusal printed first memory =
 owed_right : (p : Program) → ArePlain p → (r : p.Request) (bytes : Option Bytes) (printed : Line) → LineOfInput p r bytes printed → get_or printed.text 0 0 ≡ 119 →
     (printed ≡ wrong_hexadecimal) × LineOfInput p r bytes wrong_hexadecimal
 owed_right p plain r None printed h e = (h, refl)
-owed_right p plain r (Some bytes) printed is e = absurd ((plain r bytes printed is).beginning e)
+owed_right p plain r (Some bytes) printed is e =
+    let clash : true ≡ false = subst (λ code. (code == 119) ≡ false) e (plain r bytes printed is).beginning in
+    cc
 
 words_wrong : (p : Program) → ArePlain p → (request : Option p.Request) (input : List ℕ) (printed : Line) → IsOwed p request input printed →
     get_or printed.text 0 0 ≡ 119 → get_or printed.text 6 0 ≡ 119 → LineOfRequest p request input wrong_words
 words_wrong p plain None input printed owed first seventh = refl
 words_wrong p plain (Some r) input printed (inl line) first seventh =
-    let e : ◌≡◌ {A = ℕ} 104 119 = first_of printed wrong_hexadecimal 6 119 seventh (owed_right p plain r (bytes_by (p.header_of r) input) printed line first).0 in
+    let e : ◌≡◌ {A = ℕ} 104 119 = first_of printed wrong_hexadecimal 6 119 seventh (owed_right p plain r (p.meaning r input) printed line first).0 in
     absurd (omega arith)
 words_wrong p plain (Some r) input printed (inr (some, inl memory)) first seventh = absurd (no_refusal printed first memory)
 words_wrong p plain (Some r) input printed (inr (some, inr unread)) first seventh =
@@ -90,7 +87,7 @@ hexadecimal_wrong p plain None input printed (inl line) first seventh =
     let e : ◌≡◌ {A = ℕ} 119 104 = first_of printed wrong_words 6 104 seventh line in
     absurd (omega arith)
 hexadecimal_wrong p plain None input printed (inr (none, line)) first seventh = cc
-hexadecimal_wrong p plain (Some r) input printed (inl line) first seventh = (owed_right p plain r (bytes_by (p.header_of r) input) printed line first).1
+hexadecimal_wrong p plain (Some r) input printed (inl line) first seventh = (owed_right p plain r (p.meaning r input) printed line first).1
 hexadecimal_wrong p plain (Some r) input printed (inr (some, inl memory)) first seventh = absurd (no_refusal printed first memory)
 hexadecimal_wrong p plain (Some r) input printed (inr (some, inr unread)) first seventh =
     let e : ◌≡◌ {A = ℕ} 105 104 = first_of printed wrong_input 6 104 seventh unread in
@@ -133,7 +130,7 @@ input_bound p plain r (Some bytes) printed is = one_below printed.status (plain 
 
 status_bound : (p : Program) → ArePlain p → (request : Option p.Request) (input : List ℕ) (printed : Line) → IsOwed p request input printed → printed.status ≤ 2
 status_bound p plain None input printed (inl e) = bound_by printed wrong_words (omega arith) e
-status_bound p plain (Some r) input printed (inl line) = input_bound p plain r (bytes_by (p.header_of r) input) printed line
+status_bound p plain (Some r) input printed (inl line) = input_bound p plain r (p.meaning r input) printed line
 status_bound p plain request input printed (inr (some, inl e)) = bound_by printed out_of_memory (omega arith) e
 status_bound p plain request input printed (inr (some, inr e)) = bound_by printed wrong_input (omega arith) e
 

@@ -1,17 +1,26 @@
 -- Which line is right for the words and the input of a program, and what a run writes.
-use Rattle.std.specs.Prelude.{◌≡◌, ◌⊎◌, ℕ, ◌≤◌, ◌<◌, Option, Some, None, List, IsSome}
+use Rattle.std.specs.Prelude.{◌≡◌, ◌⊎◌, ℕ, ◌≤◌, ◌<◌, ◌==◌, false, get_or, Option, Some, None, List, IsSome}
 use Rattle.std.specs.Option.{option_and_then}
 use Rattle.cfi_read_core.specs.declared.error.Error.TheVariants.{OutOfMemory}
-use Rattle.cfi_program.specs.Input.{Bytes, bytes_by}
+use Rattle.cfi_program.specs.Input.{Bytes}
 use Rattle.cfi_program.specs.Lines.{Line, refusal_line, wrong_words, wrong_hexadecimal, wrong_input}
 
--- A program: what its words ask for, or none where they are wrong; where the header of its input lies, where one is
--- asked for; and the lines that are right for the bytes of the input.
+-- A program: what its words ask for, or none where they are wrong; what its input means, or none where it is no
+-- hexadecimal; and the lines that are right for what it means.
 pub record Program : Type 1 where
   pub Request : Type 0
   pub request_of : List (List ℕ) → Option Request
-  pub header_of : Request → Option ℕ
+  pub meaning : Request → List ℕ → Option Bytes
   pub IsLine : Request → Bytes → Line → Type 0
+
+-- the program of a type of requests
+abbrev pub program : {R : Type 0} → (List (List ℕ) → Option R) → (R → List ℕ → Option Bytes) → (R → Bytes → Line → Type 0) → Program
+program {R} request_of meaning is_line = record { Request = R; request_of = request_of; meaning = meaning; IsLine = is_line }
+
+-- No line of an answer begins with a w, as those do that say that words or input are wrong, and its status is 0 or 1.
+pub record IsPlain (printed : Line) : Type 0 where
+  pub beginning : (get_or printed.text 0 0 == 119) ≡ false
+  pub low : printed.status ≤ 1
 
 -- ---- the line
 
@@ -21,7 +30,7 @@ LineOfInput p r (Some bytes) printed = p.IsLine r bytes printed
 
 abbrev pub LineOfRequest : (p : Program) → Option p.Request → List ℕ → Line → Type 0
 LineOfRequest p None input printed = printed ≡ wrong_words
-LineOfRequest p (Some r) input printed = LineOfInput p r (bytes_by (p.header_of r) input) printed
+LineOfRequest p (Some r) input printed = LineOfInput p r (p.meaning r input) printed
 
 -- what is asked for by the words after the program's name, or none where they are wrong or can't be had
 abbrev pub asked_for : (p : Program) → Option (List (List ℕ)) → Option p.Request

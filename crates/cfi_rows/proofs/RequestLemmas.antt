@@ -1,13 +1,14 @@
 -- What is asked for can be answered.
-use Rattle.std.proofs.Common.{◌≡◌, List, ℕ, [], ◌∷◌, Option, IfSome, codes}
+use Rattle.std.proofs.Common.{◌≡◌, List, ℕ, [], ◌∷◌, Some, IfSome, codes}
 use Rattle.std.specs.Str.{bytes_eq}
 use Rattle.cfi_program.specs.Words as sections
 use Rattle.cfi_program.specs.Words.{AreRead, number, section_word}
+use Rattle.cfi_program.proofs.RunLemmas.{known_of}
 use Rattle.cfi_program.proofs.SectionWordsLemmas.{and_then, anything, chosen, each_read, first_read, kept, word_read}
 use Rattle.cfi_rows.specs.declared.command_line.Storage.{Storage}
 use Rattle.cfi_rows.specs.declared.command_line.Storage.TheVariants.{OnHeap, Growing}
 use Rattle.cfi_rows.specs.declared.command_line.Request.{Request}
-use Rattle.cfi_rows.specs.CommandLine.{CanBeAnswered, request_of_words, first_words, option_word, option_words, request_of, set_storage}
+use Rattle.cfi_rows.specs.CommandLine.{CanBeAnswered, first_words, option_word, option_words, request_of, set_storage}
 
 first_known : (kind order size address : List ℕ) → IfSome (first_words kind order size address) CanBeAnswered
 first_known kind order size address =
@@ -32,5 +33,5 @@ request_known (a ∷ []) = tt
 request_known (a ∷ b ∷ []) = tt
 request_known (a ∷ b ∷ c ∷ []) = tt
 
-pub can_be_answered : (asked_for : Option Request) (words : Option (List (List ℕ))) → asked_for ≡ request_of_words words → IfSome asked_for CanBeAnswered
-can_be_answered asked_for words e = rw e (and_then (λ _. Unit {0}) CanBeAnswered words request_of (anything words) (λ list _. request_known list))
+pub can_be_answered : (r : Request) → ((words : List (List ℕ)) × (request_of words ≡ Some r)) → CanBeAnswered r
+can_be_answered r (words, e) = known_of CanBeAnswered (request_of words) r e (request_known words)

@@ -11,7 +11,7 @@ use Rattle.cfi_rows.specs.declared.command_line.Storage.{Storage}
 use Rattle.cfi_rows.specs.declared.command_line.Storage.TheVariants.{OnHeap, Growing}
 use Rattle.cfi_rows.specs.declared.command_line.Request.{Request}
 use Rattle.cfi_rows.specs.CommandLine.{request_of}
-use Rattle.cfi_program.specs.Input.{Bytes}
+use Rattle.cfi_program.specs.Input.{Bytes, bytes_by}
 use Rattle.cfi_program.specs.Runs.{Program}
 use Rattle.cfi_program.specs.SectionOfWords.{header_section_of, section_of}
 use Rattle.cfi_program.specs.RowLines.{answer_line}
@@ -52,7 +52,7 @@ abbrev pub rows_in : (Request → Room) → Program
 rows_in room_for = record {
   Request = Request;
   request_of = request_of;
-  header_of = λ r. r.words.header;
+  meaning = λ r input. bytes_by r.words.header input;
   IsLine = λ r bytes printed. (answer : Result (Row ℕ) Error) × IsAnswer (room_for r) r bytes answer × (printed ≡ answer_line answer);
 }
 

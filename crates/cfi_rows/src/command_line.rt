@@ -1,7 +1,7 @@
 //! The words of the command line.
-ghost use Rattle.std.specs.Prelude.{◌≡◌, option_map};
+ghost use Rattle.std.specs.Prelude.{◌≡◌};
 ghost use Rattle.cfi_program.specs.Words.{texts};
-ghost use Rattle.cfi_rows.specs.CommandLine.{request_of, request_of_words, option_word, option_words, first_words, set_storage};
+ghost use Rattle.cfi_rows.specs.CommandLine.{request_of, option_word, option_words, first_words, set_storage};
 
 use cfi_program::words;
 use cfi_program::words::{SectionWords, number_in};
@@ -79,11 +79,4 @@ fn with_storage(request: Request) -> Option<Request>
         }),
         Storage::Growing => None,
     }
-}
-
-/// What the words ask for. `None` stands for words that cannot be read, and for wrong ones.
-pub fn asked_for(words: Option<&[&str]>) -> Option<Request>
-    ensures { result ≡ request_of_words (option_map (λ list. texts list.now) words.entry) }
-{
-    parse(words?)
 }

@@ -26,15 +26,11 @@ use std::process::ExitCode;
 
 fn main(rt: HostRuntime) -> ExitCode {
     let alloc = rt.alloc();
-    let mut input = rt.stdin();
-    let mut output = rt.stdout();
-    let Ok(words) = words_after_name(&rt) else {
-        return run_for(alloc, None, &mut input, &mut output);
-    };
-    match texts_of(alloc, words.as_slice()) {
-        Ok(texts) => run_for(alloc, Some(texts.as_slice()), &mut input, &mut output),
-        Err(_) => run_for(alloc, None, &mut input, &mut output),
-    }
+    let words = words_after_name(&rt).ok();
+    let texts = words
+        .as_ref()
+        .and_then(|words| texts_of(alloc, words.as_slice()).ok());
+    run_for(alloc, texts.as_deref(), &mut rt.stdin(), &mut rt.stdout())
 }
 
 /// Runs the program, and ends with its status.

@@ -1,23 +1,46 @@
 //! The whole program, over any reader and writer.
-ghost use Rattle.std.specs.Prelude.{◌≡◌, ◌⊎◌, ◌≤◌, ℕ, List, IfSome, IsNone, None, option_map};
+ghost use Rattle.std.specs.Prelude.{◌≡◌, ℕ, List, IfSome, IsNone, option_map};
 ghost use Rattle.std.specs.Io.KnownBytes.{Appends};
 ghost use Rattle.cfi_rows.specs.ProgramOutput.{answers};
-ghost use Rattle.cfi_rows.specs.CommandLine.{CanBeAnswered, request_of_words};
-ghost use Rattle.cfi_program.specs.Lines.{Line};
-ghost use Rattle.cfi_program.specs.Runs.{IsRun, IsOwed};
+ghost use Rattle.cfi_rows.specs.CommandLine.{request_of, request_of_words};
+ghost use Rattle.cfi_rows.specs.PlainLines.{plain};
+ghost use Rattle.cfi_program.specs.Runs.{IsRun};
 ghost use Rattle.cfi_program.specs.Words.{texts};
-ghost use Rattle.cfi_program.specs.WriterOutput.{Prints};
 
-use crate::command_line::{Request, asked_for};
+use crate::command_line::{Request, parse};
 use crate::row_lookup::print_answer;
-use cfi_program::input::{InputError, read_sections};
-use cfi_program::lines::{
-    write_refusal, write_wrong_hexadecimal, write_wrong_input, write_wrong_words,
-};
-use gimli_cfi::Error;
+use cfi_program::input::{InputError, Sections, read_sections};
+use cfi_program::run::{ProgramRequest, run_program};
 use std::alloc::Global;
 use std::io;
 use std::io::{Read, Write};
+
+impl ProgramRequest for Request {
+    ghost request_of = { request_of };
+
+    ghost meaning = { answers.meaning };
+
+    ghost is_line = { answers.IsLine };
+
+    fn parse(words: &[&str]) -> Option<Request> {
+        parse(words)
+    }
+
+    fn read<R: Read>(&self, alloc: Global, input: &mut R) -> Result<Sections, InputError> {
+        read_sections(alloc, self.words.header, input)
+    }
+
+    fn print<W: Write>(
+        &self,
+        alloc: Global,
+        sections: &Sections,
+        output: &mut W,
+    ) -> io::Result<u8> {
+        print_answer(alloc, self, sections, output)
+    }
+
+    ghost plain = { plain };
+}
 
 /// Runs the program and answers its status. `words` are those after the program's name, `None` where they are not
 /// to be had.
@@ -38,33 +61,5 @@ pub fn run<R: Read, W: Write>(
         × IsRun answers (option_map (λ list. texts list.now) words.entry) bytes written result) }
     ensures unread { IsNone (request_of_words (option_map (λ list. texts list.now) words.entry)) → input.new ≡ input.old }
 {
-    let printed = print_line(alloc, asked_for(words), input, output);
-    let flushed = output.flush();
-    match (printed, flushed) {
-        (Ok(status), Ok(())) => status,
-        _ => 2,
-    }
-}
-
-fn print_line<R: Read, W: Write>(
-    alloc: Global,
-    request: Option<Request>,
-    input: &mut R,
-    output: &mut W,
-) -> io::Result<u8>
-    requires { IfSome request CanBeAnswered }
-    ensures printed { IfSome (R.remaining input.old) (λ bytes. (printed : Line)
-        × Prints printed (W.contents output.old) (W.contents output.new) result
-        × IsOwed answers request bytes printed) }
-    ensures unread { IsNone request → input.new ≡ input.old }
-{
-    let Some(request) = request else {
-        return write_wrong_words(output);
-    };
-    match read_sections(alloc, request.words.header, input) {
-        Ok(sections) => print_answer(alloc, &request, &sections, output),
-        Err(InputError::Unreadable) => write_wrong_input(output),
-        Err(InputError::NotHexadecimal) => write_wrong_hexadecimal(output),
-        Err(InputError::OutOfMemory) => write_refusal(output, Error::OutOfMemory),
-    }
+    run_program::<Request, R, W>(alloc, words, input, output)
 }
