@@ -4,7 +4,8 @@
 ghost use Rattle.std.specs.Prelude.{◌≡◌, ◌+◌, ◌<◌, ◌≤◌, ◌⊎◌, ℕ, length, pos, true, false, None, Some, slice_index_or};
 ghost use Rattle.cfi_read_core.specs.declared.error.Error.{Error};
 ghost use Rattle.cfi_read_core.specs.Addresses.{IsAddressSize};
-ghost use Rattle.cfi_c.specs.Refusals.{number, refusal_name, status_name};
+ghost use Rattle.cfi_read_core.specs.RefusalNames.{name_of};
+ghost use Rattle.cfi_c.specs.Refusals.{number, status_name};
 ghost use Rattle.std.specs.Option.{option_map};
 ghost use Rattle.cfi_c.specs.Answers.{IsAnswerForC, IsFaithfulHeader, IsScanned, SameAround, IsCount, AreAnswered, header_in, is_live};
 
@@ -198,7 +199,7 @@ pub extern "C" fn cfi_status_name(status: i32, name: &mut [u8]) -> usize
     ensures length { result ≡ length (status_name status) }
     ensures written { (k : ℕ) → k < length name.new → k < length (status_name status) → slice_index_or name.new k 0 ≡ slice_index_or (status_name status) k 0 }
     ensures rest { (k : ℕ) → length (status_name status) ≤ k → slice_index_or name.new k 0 ≡ slice_index_or name.old k 0 }
-    ensures refusals { (e : Error) → status_name (number e) ≡ refusal_name e }
+    ensures refusals { (e : Error) → status_name (number e) ≡ name_of e }
 {
     let text = name_of(status);
     for k in 0..text.len() {

@@ -2,7 +2,7 @@
 ghost use Rattle.std.specs.Prelude.{◌≡◌};
 ghost use Rattle.cfi_c.specs.Refusals.{number, status_name, value};
 
-use gimli_cfi::Error;
+use gimli_cfi::{DwCfa, DwEhPe, Error, ReaderOffsetId};
 
 /// The number of a refusal.
 pub fn number_of(error: Error) -> i32
@@ -62,69 +62,60 @@ pub fn value_of(error: Error) -> u64
         Error::OffsetOutOfBounds(n) => n,
         Error::UnknownCallFrameInstruction(n) => u64::from(n.0),
         Error::InvalidCfiSetLoc(n) => n,
-        Error::BadUnsignedLeb128 => 0,
-        Error::BadSignedLeb128 => 0,
-        Error::UnsupportedOffset => 0,
-        Error::AddressOverflow => 0,
-        Error::UnknownAugmentation => 0,
-        Error::CannotParseOmitPointerEncoding => 0,
-        Error::PcRelativePointerButSectionBaseIsUndefined => 0,
-        Error::TextRelativePointerButTextBaseIsUndefined => 0,
-        Error::DataRelativePointerButDataBaseIsUndefined => 0,
-        Error::FuncRelativePointerInBadContext => 0,
-        Error::UnsupportedIndirectPointer => 0,
-        Error::CfiInstructionInInvalidContext => 0,
-        Error::StackFull => 0,
-        Error::PopWithEmptyStack => 0,
-        Error::TooManyRegisterRules => 0,
-        Error::NoUnwindInfoForAddress => 0,
-        Error::OutOfMemory => 0,
+        _ => 0,
     }
 }
+
+/// The refusals in the order of their numbers, from 1 on. A name does not show what is carried, so it is 0 here.
+const REFUSALS: [Error; 31] = [
+    Error::UnexpectedEof(ReaderOffsetId(0)),
+    Error::BadUnsignedLeb128,
+    Error::BadSignedLeb128,
+    Error::UnknownReservedLength(0),
+    Error::UnsupportedAddressSize(0),
+    Error::UnsupportedOffset,
+    Error::UnsupportedRegister(0),
+    Error::AddressOverflow,
+    Error::UnknownVersion(0),
+    Error::UnsupportedSegmentSize(0),
+    Error::UnknownAugmentation,
+    Error::UnknownPointerEncoding(DwEhPe(0)),
+    Error::CannotParseOmitPointerEncoding,
+    Error::UnsupportedPointerEncoding(DwEhPe(0)),
+    Error::PcRelativePointerButSectionBaseIsUndefined,
+    Error::TextRelativePointerButTextBaseIsUndefined,
+    Error::DataRelativePointerButDataBaseIsUndefined,
+    Error::FuncRelativePointerInBadContext,
+    Error::UnsupportedIndirectPointer,
+    Error::NotCieId(0),
+    Error::NotCiePointer(0),
+    Error::NoEntryAtGivenOffset(0),
+    Error::OffsetOutOfBounds(0),
+    Error::UnknownCallFrameInstruction(DwCfa(0)),
+    Error::CfiInstructionInInvalidContext,
+    Error::InvalidCfiSetLoc(0),
+    Error::StackFull,
+    Error::PopWithEmptyStack,
+    Error::TooManyRegisterRules,
+    Error::NoUnwindInfoForAddress,
+    Error::OutOfMemory,
+];
 
 /// The name of a status.
 pub fn name_of(status: i32) -> &'static [u8]
     ensures { result.now ≡ status_name status }
 {
-    if status < 0 {
+    let Ok(number) = usize::try_from(status) else {
+        return b"Unknown";
+    };
+    if number == 0 {
+        return b"Ok";
+    }
+    if number == 32 {
+        return b"NoContext";
+    }
+    if number > 32 {
         return b"Unknown";
     }
-    if status > 32 {
-        return b"Unknown";
-    }
-    match status {
-        0 => b"Ok",
-        1 => b"UnexpectedEof",
-        2 => b"BadUnsignedLeb128",
-        3 => b"BadSignedLeb128",
-        4 => b"UnknownReservedLength",
-        5 => b"UnsupportedAddressSize",
-        6 => b"UnsupportedOffset",
-        7 => b"UnsupportedRegister",
-        8 => b"AddressOverflow",
-        9 => b"UnknownVersion",
-        10 => b"UnsupportedSegmentSize",
-        11 => b"UnknownAugmentation",
-        12 => b"UnknownPointerEncoding",
-        13 => b"CannotParseOmitPointerEncoding",
-        14 => b"UnsupportedPointerEncoding",
-        15 => b"PcRelativePointerButSectionBaseIsUndefined",
-        16 => b"TextRelativePointerButTextBaseIsUndefined",
-        17 => b"DataRelativePointerButDataBaseIsUndefined",
-        18 => b"FuncRelativePointerInBadContext",
-        19 => b"UnsupportedIndirectPointer",
-        20 => b"NotCieId",
-        21 => b"NotCiePointer",
-        22 => b"NoEntryAtGivenOffset",
-        23 => b"OffsetOutOfBounds",
-        24 => b"UnknownCallFrameInstruction",
-        25 => b"CfiInstructionInInvalidContext",
-        26 => b"InvalidCfiSetLoc",
-        27 => b"StackFull",
-        28 => b"PopWithEmptyStack",
-        29 => b"TooManyRegisterRules",
-        30 => b"NoUnwindInfoForAddress",
-        31 => b"OutOfMemory",
-        _ => b"NoContext",
-    }
+    REFUSALS[number - 1].name().as_bytes()
 }

@@ -1,8 +1,14 @@
-use Rattle.std.proofs.Common.{rules, sym, pos, ◌<ℤ◌}
-use Rattle.cfi_c.proofs.Names.{unnamed_above}
+use Rattle.std.proofs.Common.{rules, ◌≡◌, ◌∙◌, pos, sym, ap}
+use Rattle.cfi_c.specs.Refusals.{status_name}
+use Rattle.cfi_c.proofs.Names.{named, unnamed}
 use Rattle.cfi_c.proofs.refusal.name_of.Goals as goal
 
-pub returns-then-status-gt32 : goal.returns-then-status-gt32
-returns-then-status-gt32 c =
-    let above : pos 32 <ℤ c.args.status = search rules in
-    sym (unnamed_above c.args.status above)
+pub returns-then-number-gt32 : goal.returns-then-number-gt32
+returns-then-number-gt32 c =
+    let is : c.args.status ≡ pos c.in-Ok.number = search rules in
+    unnamed c.in-Ok.number c.if-number-gt32.true ∙ ap status_name (sym is)
+
+pub returns : goal.returns
+returns c =
+    let is : c.args.status ≡ pos c.in-Ok.number = search rules in
+    c.as_bytes.ensures.value ∙ c.name.ensures ∙ named _ c.in-Ok.number c.if-number-eq0.false c.if-number-eq32.false c.if-number-gt32.false ∙ ap status_name (sym is)
