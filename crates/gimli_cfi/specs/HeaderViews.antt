@@ -4,13 +4,14 @@ use Rattle.cfi_read_core.specs.declared.error.Error.{Error}
 use Rattle.cfi_read_core.specs.ReadFunctions.{Position}
 use Rattle.cfi_read_core.specs.ReaderCalls.{extent_of}
 use Rattle.cfi_parts.specs.declared.pointer.BaseAddresses.{BaseAddresses}
+use Rattle.cfi_parts.specs.declared.pointer.Pointer.{Pointer}
 use Rattle.cfi_parts.specs.CallFrameSections.{EhFrame as of_eh_frame}
 use Rattle.cfi_unwind.specs.declared.unwind_section.eh_frame.EhFrame.{EhFrame}
 use Rattle.cfi_unwind.specs.Sections.{Section, section_of}
 use Rattle.gimli_cfi.specs.declared.hdr.header.ParsedEhFrameHdr.{ParsedEhFrameHdr}
 use Rattle.gimli_cfi.specs.declared.hdr.table.EhHdrTable.{EhHdrTable}
 use Rattle.gimli_cfi.specs.declared.hdr.iter.EhHdrTableIter.{EhHdrTableIter}
-use Rattle.gimli_cfi.specs.EhFrameHdr.{HeaderSection, Header, Table, header_section, start_of, table_of}
+use Rattle.gimli_cfi.specs.EhFrameHdr.{HeaderSection, Header, Table, header_section, start_of, table_of, target_of}
 use Rattle.gimli_cfi.specs.HeaderRows.{Walk}
 use Rattle.gimli_cfi.specs.TableCheck.{Listing}
 
@@ -40,6 +41,11 @@ table_view position t = rows_view position t.hdr.now
 abbrev pub starts_view : {R O E : Type 0} {a : _} {b : _} {c : _} {d : _} {e : _} {f : _} {g : _} {h : _} {i : _} {j : _} {k : _} →
     (R → Position) → ParsedEhFrameHdr R O E a b c d e f g h i j k → BaseAddresses → ℕ → Result ℕ Error
 starts_view position p bases = start_of (header_section_view position p bases) (rows_view position p)
+
+-- and the target
+abbrev pub targets_view : {R O E : Type 0} {a : _} {b : _} {c : _} {d : _} {e : _} {f : _} {g : _} {h : _} {i : _} {j : _} {k : _} →
+    (R → Position) → ParsedEhFrameHdr R O E a b c d e f g h i j k → BaseAddresses → ℕ → Result Pointer Error
+targets_view position p bases = target_of (header_section_view position p bases) (rows_view position p)
 
 -- the section of the entries, as the code has it
 abbrev pub section_view : {R : Type 0} → (R → Position) → EhFrame R → BaseAddresses → Section

@@ -17,10 +17,11 @@ pub use cfi_unwind::unwind_table::UnwindTable;
 /// The unwind row of the address in the section, lent from the context.
 ///
 /// It is the row of the first FDE, in the order of the entries, that contains the address: each part of it is as its
-/// last writer left it, among the instructions up to the row's end that are left once remembered and restored
-/// stretches are struck out (DWARF 5 section 6.4.2.4). Nothing that the context held before counts. Else it is the
-/// first refusal on the way: of an entry before the FDE, of the FDE or its CIE, of the CIE's initial instructions, or of the FDE's
-/// program before the row; `NoUnwindInfoForAddress` where no FDE contains the address. Nothing after the row is checked.
+/// last writer left it, among the instructions up to the row's end that are left once remembered and restored stretches
+/// are struck out (DWARF 5 section 6.4.2.4). Nothing that the context held before counts. Else it is the first refusal
+/// on the way: of an entry before the FDE, of the FDE or its CIE, of the CIE's initial instructions, or of the FDE's
+/// program before the row; `NoUnwindInfoForAddress` where no FDE contains the address. Nothing after the row is
+/// checked.
 ///
 /// The bases are those of the pointers in the section's entries. Over a fixed storage it takes no memory; over another
 /// one an instruction that needs more room may be refused with `OutOfMemory`. The expressions of the row's rules lie in
@@ -46,7 +47,8 @@ pub fn row_by_scan<'ctx, R: Reader, Section: UnwindSection<R>, S: UnwindContextS
 ) -> Result<&'ctx UnwindTableRow<R::Offset, S::Rules>>
     ensures row { IsRowByScan S.Rules.limit S.Stack.limit S.Rules.copies_free
         (section_of (Section.view section.now) bases.now) address (row_lent R.Offset.number result) }
-    ensures expressions { IfOk result (λ row. HasExpressionsIn R.Offset.number (Section.view section.now).position row.now.parts) }
+    ensures expressions { IfOk result (λ row.
+        HasExpressionsIn R.Offset.number (Section.view section.now).position row.now.parts) }
 {
     let fde = scan_for_fde(section, bases, address)?;
     fde.unwind_info_for_address(section, bases, ctx, address)

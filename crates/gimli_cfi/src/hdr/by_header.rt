@@ -32,9 +32,12 @@ pub fn row_by_header<'ctx, R: Reader, S: UnwindContextStorage<R::Offset>>(
     address: u64,
 ) -> Result<&'ctx UnwindTableRow<R::Offset, S::Rules>>
     requires { IsAddressSize address_size }
-    ensures row { IsRowByHeader S.Rules.limit S.Stack.limit S.Rules.copies_free (section_view R.position frame.now bases.now) address
-        (header_section (R.position header.now.0) address_size bases.now.eh_frame_hdr) (row_lent R.Offset.number result) }
-    ensures expressions { IfOk result (λ row. HasExpressionsIn R.Offset.number (R.position frame.now.section) row.now.parts) }
+    ensures row { IsRowByHeader S.Rules.limit S.Stack.limit S.Rules.copies_free
+        (section_view R.position frame.now bases.now) address
+        (header_section (R.position header.now.0) address_size bases.now.eh_frame_hdr)
+        (row_lent R.Offset.number result) }
+    ensures expressions { IfOk result (λ row.
+        HasExpressionsIn R.Offset.number (R.position frame.now.section) row.now.parts) }
 {
     let header = header.parse(bases, address_size)?;
     let Some(table) = header.table() else {

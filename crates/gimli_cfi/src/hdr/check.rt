@@ -7,9 +7,12 @@ ghost use Rattle.cfi_unwind.specs.EntryViews.{entry_view, partial_of};
 ghost use Rattle.cfi_unwind.specs.Scan.{read_fde};
 ghost use Rattle.cfi_unwind.specs.CieAndFdeViews.{cie_view, fde_view};
 ghost use Rattle.gimli_cfi.specs.BoundaryRows.{AreRising};
-ghost use Rattle.gimli_cfi.specs.TableCheck.{AreListed, HasRow, IsReason, IsReasonOfFde, IsReasonOfFdes, IsReasonOfStarts, IsRefusalIn, IsRefusalOfHeader, ListsFaithfully, most_starts, starts_for_fde, starts_for_fdes};
-ghost use Rattle.gimli_cfi.specs.EhFrameHdr.{target_of, value_size};
-ghost use Rattle.gimli_cfi.specs.HeaderViews.{section_view, listing_view, header_section_view, starts_view, table_view};
+ghost use Rattle.gimli_cfi.specs.TableCheck.{AreListed, HasRow, IsRefusalIn, IsRefusalOfHeader, ListsFaithfully};
+ghost use Rattle.gimli_cfi.specs.TableCheck.{IsReason, IsReasonOfFde, IsReasonOfFdes, IsReasonOfStarts};
+ghost use Rattle.gimli_cfi.specs.TableCheck.{most_starts, starts_for_fde, starts_for_fdes};
+ghost use Rattle.gimli_cfi.specs.EhFrameHdr.{value_size};
+ghost use Rattle.gimli_cfi.specs.HeaderViews.{header_section_view, listing_view, section_view};
+ghost use Rattle.gimli_cfi.specs.HeaderViews.{starts_view, table_view, targets_view};
 
 use crate::hdr::row_fields::{searchable_size, target_of_row};
 use crate::hdr::search::{StartSource, search_starts};
@@ -41,7 +44,8 @@ pub fn check_table<R: Reader, St: StartSource>(
     requires { St.answer starts.old ≡ starts_view R.position table.now.hdr.now bases.now }
     ensures faithful { IfOk result (λ done. ListsFaithfully (listing_view R.position table.now frame.now bases.now)) }
     ensures reason { IfErr result (IsReason (listing_view R.position table.now frame.now bases.now)) }
-    ensures unfaithful { IfErr result (λ reason. ListsFaithfully (listing_view R.position table.now frame.now bases.now) → ⊥) }
+    ensures unfaithful { IfErr result (λ reason.
+        ListsFaithfully (listing_view R.position table.now frame.now bases.now) → ⊥) }
     ensures calls { St.calls starts.new ≤ St.calls starts.old + most_starts (table_view R.position table.now).count }
     ensures same { St.answer starts.new ≡ St.answer starts.old }
 {
@@ -86,8 +90,8 @@ fn target_at<R: Reader>(
     row: u64,
 ) -> Result<Pointer, Unfaithful>
     requires { value_size table.now.hdr.now.table_enc.0 ≡ Some size }
-    ensures given { IfOk result (λ target. target_of (header_section_view R.position table.now.hdr.now bases.now) (table_view R.position table.now) row ≡ Ok target) }
-    ensures refused { IfErr result (IsRefusalIn (target_of (header_section_view R.position table.now.hdr.now bases.now) (table_view R.position table.now) row) row) }
+    ensures given { IfOk result (λ target. targets_view R.position table.now.hdr.now bases.now row ≡ Ok target) }
+    ensures refused { IfErr result (IsRefusalIn (targets_view R.position table.now.hdr.now bases.now row) row) }
 {
     match target_of_row(table.hdr, bases, size, row) {
         Ok(target) => Ok(target),
@@ -130,9 +134,12 @@ fn check_fdes<R: Reader, St: StartSource>(
     requires answers { St.answer starts.old ≡ starts_view R.position table.now.hdr.now bases.now }
     requires size { value_size table.now.hdr.now.table_enc.0 ≡ Some size }
     requires rising { AreRising (St.answer starts.old) (table_view R.position table.now).count }
-    ensures listed { IfOk result (λ done. AreListed (header_section_view R.position table.now.hdr.now bases.now) (table_view R.position table.now) eh_frame (section_view R.position frame.now bases.now)) }
-    ensures reason { IfErr result (IsReasonOfFdes (header_section_view R.position table.now.hdr.now bases.now) (table_view R.position table.now) eh_frame (section_view R.position frame.now bases.now)) }
-    ensures calls { St.calls starts.new ≤ St.calls starts.old + starts_for_fdes (table_view R.position table.now).count }
+    ensures listed { let l = listing_view R.position table.now frame.now bases.now in
+        IfOk result (λ done. AreListed l.header l.table eh_frame l.section) }
+    ensures reason { let l = listing_view R.position table.now frame.now bases.now in
+        IfErr result (IsReasonOfFdes l.header l.table eh_frame l.section) }
+    ensures calls { let count = (table_view R.position table.now).count in
+        St.calls starts.new ≤ St.calls starts.old + starts_for_fdes count }
     ensures same { St.answer starts.new ≡ St.answer starts.old }
 {
     let rows = table.hdr.fde_count;
@@ -199,7 +206,8 @@ fn read_whole<R: Reader>(
     partial: &PartialFrameDescriptionEntry<'_, EhFrame<R>, R>,
 ) -> cfi_read_core::Result<FrameDescriptionEntry<R>>
     ensures { map_ok (fde_view R.position R.Offset.number) result
-        ≡ read_fde (section_view R.position partial.now.section partial.now.bases.now) (partial_of R.position R.Offset.number partial.now.found partial.now.cie_offset) }
+        ≡ read_fde (section_view R.position partial.now.section partial.now.bases.now)
+        (partial_of R.position R.Offset.number partial.now.found partial.now.cie_offset) }
 {
     let reader = partial.offset();
     partial.parse(|from: &EhFrame<R>, bases: &BaseAddresses, offset: EhFrameOffset<R::Offset>| {
@@ -221,8 +229,12 @@ fn check_fde<R: Reader, St: StartSource>(
     requires answers { St.answer starts.old ≡ starts_view R.position table.now.hdr.now bases.now }
     requires size { value_size table.now.hdr.now.table_enc.0 ≡ Some size }
     requires rising { AreRising (St.answer starts.old) (table_view R.position table.now).count }
-    ensures row { IfOk result (λ done. HasRow (header_section_view R.position table.now.hdr.now bases.now) (table_view R.position table.now) eh_frame (fde_view R.position R.Offset.number fde.now)) }
-    ensures reason { IfErr result (IsReasonOfFde (header_section_view R.position table.now.hdr.now bases.now) (table_view R.position table.now) eh_frame (fde_view R.position R.Offset.number fde.now)) }
+    ensures row { let header = header_section_view R.position table.now.hdr.now bases.now in
+        IfOk result (λ done. HasRow header (table_view R.position table.now) eh_frame
+        (fde_view R.position R.Offset.number fde.now)) }
+    ensures reason { let header = header_section_view R.position table.now.hdr.now bases.now in
+        IfErr result (IsReasonOfFde header (table_view R.position table.now) eh_frame
+        (fde_view R.position R.Offset.number fde.now)) }
     ensures calls { St.calls starts.new ≤ St.calls starts.old + starts_for_fde (table_view R.position table.now).count }
     ensures same { St.answer starts.new ≡ St.answer starts.old }
 {

@@ -47,8 +47,9 @@ impl<R: Reader> Copy for FaithfulTable<'_, R> {}
 impl<'a, R: Reader> FaithfulTable<'a, R> {
     /// Checks the table against the section, as `check_table` with the starts of the table's own rows.
     ///
-    /// Where the table doesn't list the FDEs of the section faithfully, the answer is a reason why it doesn't. The bases of
-    /// the header are those in `BaseAddresses::eh_frame_hdr`, those of the section's entries in
+    /// Where the table doesn't list the FDEs of the section faithfully, the answer is a reason why it doesn't.
+    ///
+    /// The bases of the header are those in `BaseAddresses::eh_frame_hdr`, those of the section's entries in
     /// `BaseAddresses::eh_frame`. It takes no memory (LSB Core, "The .eh_frame_hdr section").
     #[inline(always)]
     pub fn new(
@@ -56,10 +57,13 @@ impl<'a, R: Reader> FaithfulTable<'a, R> {
         frame: &'a EhFrame<R>,
         bases: &'a BaseAddresses,
     ) -> Result<Self, Unfaithful>
-        ensures kept { IfOk result (λ checked. (checked.table ≡ table.now) × ((checked.frame.now ≡ frame.now) × (checked.bases.now ≡ bases.now))) }
-        ensures faithful { IfOk result (λ checked. ListsFaithfully (listing_view R.position table.now frame.now bases.now)) }
+        ensures kept { IfOk result (λ checked.
+            (checked.table ≡ table.now) × ((checked.frame.now ≡ frame.now) × (checked.bases.now ≡ bases.now))) }
+        ensures faithful { IfOk result (λ checked.
+            ListsFaithfully (listing_view R.position table.now frame.now bases.now)) }
         ensures reason { IfErr result (IsReason (listing_view R.position table.now frame.now bases.now)) }
-        ensures unfaithful { IfErr result (λ reason. ListsFaithfully (listing_view R.position table.now frame.now bases.now) → ⊥) }
+        ensures unfaithful { IfErr result (λ reason.
+            ListsFaithfully (listing_view R.position table.now frame.now bases.now) → ⊥) }
     {
         let mut starts = match TableStarts::new(table, bases) {
             Ok(starts) => starts,
@@ -84,9 +88,10 @@ impl<'a, R: Reader> FaithfulTable<'a, R> {
         ctx: &'ctx mut UnwindContext<R::Offset, S>,
         address: u64,
     ) -> Result<&'ctx UnwindTableRow<R::Offset, S::Rules>, Error>
-        ensures row { IsRowByScan S.Rules.limit S.Stack.limit S.Rules.copies_free (section_view R.position self.now.frame.now self.now.bases.now) address
-            (row_lent R.Offset.number result) }
-        ensures expressions { IfOk result (λ row. HasExpressionsIn R.Offset.number (R.position self.now.frame.now.section) row.now.parts) }
+        ensures row { IsRowByScan S.Rules.limit S.Stack.limit S.Rules.copies_free
+            (section_view R.position self.now.frame.now self.now.bases.now) address (row_lent R.Offset.number result) }
+        ensures expressions { IfOk result (λ row.
+            HasExpressionsIn R.Offset.number (R.position self.now.frame.now.section) row.now.parts) }
     {
         let mut starts = TableStarts::new(&self.table, self.bases)?;
         row_by_table(

@@ -71,13 +71,14 @@ impl<R: Reader> EhFrameHdr<R> {
     ///
     /// Refused, in the order of the bytes, with `UnknownVersion` for a version other than 1; with
     /// `UnknownPointerEncoding` for an encoding that isn't known, of the pointer to `.eh_frame`, of the count or of the
-    /// rows; as any pointer of the section for the pointer to `.eh_frame`; and, where neither the count nor the rows are
-    /// omitted, with `UnsupportedPointerEncoding` for a count that is relative or indirect, then as the value of any
-    /// pointer for the count. `UnexpectedEof` is answered where the bytes of a part end. It takes no memory.
+    /// rows; as any pointer of the section for the pointer to `.eh_frame`; and, where neither the count nor the rows
+    /// are omitted, with `UnsupportedPointerEncoding` for a count that is relative or indirect, then as the value of
+    /// any pointer for the count. `UnexpectedEof` is answered where the bytes of a part end. It takes no memory.
     #[tactic(auto, unfolding(crate::specs::EhFrameHdr::header_fields))]
     pub fn parse(&self, bases: &BaseAddresses, address_size: u8) -> Result<ParsedEhFrameHdr<R>>
         requires { IsAddressSize address_size }
-        ensures read { map_ok (header_view R.position) result ≡ header_of (header_section (R.position self.now.0) address_size bases.now.eh_frame_hdr) }
+        ensures read { map_ok (header_view R.position) result
+            ≡ header_of (header_section (R.position self.now.0) address_size bases.now.eh_frame_hdr) }
         ensures section { IfOk result (λ header. header.section ≡ self.now.0) }
         ensures size { IfOk result (λ header. header.address_size.bytes ≡ address_size) }
     {
@@ -118,7 +119,8 @@ fn read_row_count<R: Reader>(
     address_size: u8,
     input: &mut R,
 ) -> Result<u64>
-    ensures { Reads (λ x. x) (row_count address_size count_encoding.0 table_encoding.0) (R.position input.old) result (R.position input.new) }
+    ensures { Reads (λ x. x) (row_count address_size count_encoding.0 table_encoding.0)
+        (R.position input.old) result (R.position input.new) }
 {
     if count_encoding == DW_EH_PE_omit || table_encoding == DW_EH_PE_omit {
         return Ok(0);

@@ -33,7 +33,8 @@ impl<'a, 'bases, R: Reader> EhHdrTableIter<'a, 'bases, R> {
     /// All rows of the header's table.
     #[inline(always)]
     pub(crate) fn new(hdr: &'a ParsedEhFrameHdr<R>, bases: &'bases BaseAddresses) -> Self
-        ensures all { walk_view R.position result ≡ walk_of (header_section_view R.position hdr.now bases.now) (rows_view R.position hdr.now) }
+        ensures all { walk_view R.position result
+            ≡ walk_of (header_section_view R.position hdr.now bases.now) (rows_view R.position hdr.now) }
     {
         EhHdrTableIter {
             hdr,
@@ -50,10 +51,13 @@ impl<'a, 'bases, R: Reader> EhHdrTableIter<'a, 'bases, R> {
     #[tactic(auto, unfolding(crate::specs::HeaderRows::next_row))]
     #[inline(always)]
     pub fn next(&mut self) -> Result<Option<(Pointer, Pointer)>>
-        ensures read { Reads (λ found. found) (next_row (walk_view R.position self.old)) (R.position self.old.table) result (R.position self.new.table) }
+        ensures read { Reads (λ found. found) (next_row (walk_view R.position self.old))
+            (R.position self.old.table) result (R.position self.new.table) }
         ensures met { Meets result (walk_view R.position self.old) (walk_view R.position self.new) }
-        ensures after { walk_view R.position self.new ≡ walk_after (walk_view R.position self.old) (R.position self.new.table) }
-        ensures same_section_and_bases { (self.new.hdr.now ≡ self.old.hdr.now) × (self.new.bases.now ≡ self.old.bases.now) }
+        ensures after { walk_view R.position self.new
+            ≡ walk_after (walk_view R.position self.old) (R.position self.new.table) }
+        ensures same_section_and_bases { (self.new.hdr.now ≡ self.old.hdr.now)
+            × (self.new.bases.now ≡ self.old.bases.now) }
     {
         if self.remain == 0 {
             return Ok(None);
@@ -78,7 +82,8 @@ impl<R: Reader> Iterator for EhHdrTableIter<'_, '_, R> {
     ghost use Rattle.gimli_cfi.specs.HeaderViews.{walk_view};
 
     ghost next_gives = { λ s r t. YieldsFirst (λ it. rows_left (walk_view R.position it)) s r t
-        × Reads (λ found. found) (next_row (walk_view R.position s)) (R.position s.table) (option_transpose r) (R.position t.table)
+        × Reads (λ found. found) (next_row (walk_view R.position s))
+        (R.position s.table) (option_transpose r) (R.position t.table)
         × (walk_view R.position t ≡ walk_after (walk_view R.position s) (R.position t.table))
         × ((t.hdr.now ≡ s.hdr.now) × (t.bases.now ≡ s.bases.now)) };
 
@@ -110,7 +115,8 @@ fn read_row<R: Reader>(
     input: &mut R,
 ) -> Result<(Pointer, Pointer)>
     requires { (R.position parameters.now.section.now).place ≤ (R.position input.old).place }
-    ensures { Reads (λ found. found) (row_by (pointer_context R.position parameters.now) encoding.0) (R.position input.old) result (R.position input.new) }
+    ensures { Reads (λ found. found) (row_by (pointer_context R.position parameters.now) encoding.0)
+        (R.position input.old) result (R.position input.new) }
 {
     let start = parse_encoded_pointer(encoding, parameters, input)?;
     let target = parse_encoded_pointer(encoding, parameters, input)?;

@@ -4,8 +4,8 @@ ghost use Rattle.cfi_read_core.specs.ReaderCalls.{Reads};
 ghost use Rattle.cfi_read_core.specs.ReadFunctions.{skip};
 ghost use Rattle.cfi_read_core.specs.declared.error.Error.TheVariants.{UnsupportedPointerEncoding};
 ghost use Rattle.cfi_parts.specs.ReadingParameters.{pointer_context};
-ghost use Rattle.gimli_cfi.specs.EhFrameHdr.{header_context, rows_passed, start_field, start_of, target_field, target_of, value_size};
-ghost use Rattle.gimli_cfi.specs.HeaderViews.{rows_view, header_section_view};
+ghost use Rattle.gimli_cfi.specs.EhFrameHdr.{header_context, rows_passed, start_field, target_field, value_size};
+ghost use Rattle.gimli_cfi.specs.HeaderViews.{rows_view, header_section_view, starts_view, targets_view};
 
 use crate::hdr::header::ParsedEhFrameHdr;
 use cfi_parts::pointer::{
@@ -65,7 +65,8 @@ fn row_parameters<'a, R: Reader>(
     hdr: &'a ParsedEhFrameHdr<R>,
     bases: &'a BaseAddresses,
 ) -> PointerEncodingParameters<'a, R>
-    ensures context { pointer_context R.position result ≡ header_context (header_section_view R.position hdr.now bases.now) }
+    ensures context { pointer_context R.position result
+        ≡ header_context (header_section_view R.position hdr.now bases.now) }
     ensures section { result.section.now ≡ hdr.now.section }
 {
     PointerEncodingParameters {
@@ -88,7 +89,9 @@ fn read_start_field<R: Reader>(
 ) -> Result<Pointer>
     requires small { size ≤ 8 }
     requires behind { (R.position hdr.now.section).place ≤ (R.position input.old).place }
-    ensures { Reads (λ p. p) (start_field (header_section_view R.position hdr.now bases.now) (rows_view R.position hdr.now) size index) (R.position input.old) result (R.position input.new) }
+    ensures { let header = header_section_view R.position hdr.now bases.now in
+        Reads (λ p. p) (start_field header (rows_view R.position hdr.now) size index)
+        (R.position input.old) result (R.position input.new) }
 {
     pass_rows(input, size, index)?;
     parse_encoded_pointer(hdr.table_enc, &row_parameters(hdr, bases), input)
@@ -106,7 +109,9 @@ fn read_target_field<R: Reader>(
 ) -> Result<Pointer>
     requires small { size ≤ 8 }
     requires behind { (R.position hdr.now.section).place ≤ (R.position input.old).place }
-    ensures { Reads (λ p. p) (target_field (header_section_view R.position hdr.now bases.now) (rows_view R.position hdr.now) size index) (R.position input.old) result (R.position input.new) }
+    ensures { let header = header_section_view R.position hdr.now bases.now in
+        Reads (λ p. p) (target_field header (rows_view R.position hdr.now) size index)
+        (R.position input.old) result (R.position input.new) }
 {
     pass_rows(input, size, index)?;
     pass_value(input, size)?;
@@ -122,7 +127,7 @@ pub(crate) fn start_of_row<R: Reader>(
     index: u64,
 ) -> Result<u64>
     requires { value_size hdr.now.table_enc.0 ≡ Some size }
-    ensures { result ≡ start_of (header_section_view R.position hdr.now bases.now) (rows_view R.position hdr.now) index }
+    ensures { result ≡ starts_view R.position hdr.now bases.now index }
 {
     let mut rows = hdr.table;
     read_start_field(hdr, bases, size, index, &mut rows)?.direct()
@@ -137,7 +142,7 @@ pub(crate) fn target_of_row<R: Reader>(
     index: u64,
 ) -> Result<Pointer>
     requires { value_size hdr.now.table_enc.0 ≡ Some size }
-    ensures { result ≡ target_of (header_section_view R.position hdr.now bases.now) (rows_view R.position hdr.now) index }
+    ensures { result ≡ targets_view R.position hdr.now bases.now index }
 {
     let mut rows = hdr.table;
     read_target_field(hdr, bases, size, index, &mut rows)

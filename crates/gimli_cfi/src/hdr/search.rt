@@ -25,7 +25,8 @@ pub trait StartSource {
         ensures counted { calls self.new ≡ calls self.old + 1 };
 }
 
-/// The index of a boundary row for the address, found by halving the first `count` rows, of which there is one at least.
+/// The index of a boundary row for the address, found by halving the first `count` rows, of which there is one at
+/// least.
 ///
 /// A boundary row is the first one or starts at or below the address; and it is the last one, or starts at the address,
 /// or the next one starts above it. It is one by the answers of the source, whatever their order.

@@ -14,10 +14,10 @@ use cfi_read_core::{Reader, Result};
 
 /// The starts in the rows of a header's table. A call reads that of one row at the row's own place, and no other row.
 ///
-/// A start is refused with `UnsupportedOffset` where the row's distance from the first one does not fit a `u64` or the offset type of
-/// the reader, with `UnexpectedEof` of the first row's place where the table ends before the row, as a pointer of the
-/// section, and with `UnsupportedIndirectPointer` where it is indirect. It takes no memory (LSB Core, "The .eh_frame_hdr
-/// section").
+/// A start is refused with `UnsupportedOffset` where the row's distance from the first one does not fit a `u64` or the
+/// offset type of the reader, with `UnexpectedEof` of the first row's place where the table ends before the row, as a
+/// pointer of the section, and with `UnsupportedIndirectPointer` where it is indirect. It takes no memory (LSB Core,
+/// "The .eh_frame_hdr section").
 #[derive(Drop)]
 pub struct TableStarts<'a, 'bases, R: Reader> {
     hdr: &'a ParsedEhFrameHdr<R>,
@@ -28,14 +28,17 @@ pub struct TableStarts<'a, 'bases, R: Reader> {
 }
 
 impl<'a, 'bases, R: Reader> TableStarts<'a, 'bases, R> {
-    /// The starts of a table whose format can be searched: `udata2`, `sdata2`, `udata4`, `sdata4`, `udata8` or `sdata8`.
-    /// Another format is refused with `UnsupportedPointerEncoding` of the table's encoding.
+    /// The starts of a table whose format can be searched: `udata2`, `sdata2`, `udata4`, `sdata4`, `udata8` or
+    /// `sdata8`. Another format is refused with `UnsupportedPointerEncoding` of the table's encoding.
     ///
     /// The bases are those in `BaseAddresses::eh_frame_hdr`. No start is read yet. It takes no memory.
     #[inline(always)]
     pub fn new(table: &EhHdrTable<'a, R>, bases: &'bases BaseAddresses) -> Result<Self>
-        ensures searchable { map_ok (λ starts. starts.size) result ≡ ok_or (value_size table.now.hdr.now.table_enc.0) (UnsupportedPointerEncoding table.now.hdr.now.table_enc) }
-        ensures same_section_and_bases { IfOk result (λ starts. (starts.hdr.now ≡ table.now.hdr.now) × (starts.bases.now ≡ bases.now)) }
+        ensures searchable { let encoding = table.now.hdr.now.table_enc in
+            map_ok (λ starts. starts.size) result
+            ≡ ok_or (value_size encoding.0) (UnsupportedPointerEncoding encoding) }
+        ensures same_section_and_bases { IfOk result (λ starts.
+            (starts.hdr.now ≡ table.now.hdr.now) × (starts.bases.now ≡ bases.now)) }
         ensures fresh { IfOk result (λ starts. starts.calls.calls ≡ 0) }
     {
         let size = searchable_size(table.hdr.table_enc)?;

@@ -48,7 +48,8 @@ impl<'a, R: Reader> EhHdrTable<'a, R> {
     /// The bases are those in `BaseAddresses::eh_frame_hdr`; the address size is that which the header was read with.
     #[inline(always)]
     pub fn iter<'bases>(&self, bases: &'bases BaseAddresses) -> EhHdrTableIter<'a, 'bases, R>
-        ensures all { walk_view R.position result ≡ walk_of (header_section_view R.position self.now.hdr.now bases.now) (table_view R.position self.now) }
+        ensures all { walk_view R.position result
+            ≡ walk_of (header_section_view R.position self.now.hdr.now bases.now) (table_view R.position self.now) }
         ensures many { length (rows_left (walk_view R.position result)) ≡ (table_view R.position self.now).count }
     {
         EhHdrTableIter::new(self.hdr, bases)

@@ -15,7 +15,7 @@ ghost use Rattle.gimli_cfi.specs.EhFrameHdr.{offset_of_pointer, start_of, value_
 ghost use Rattle.gimli_cfi.specs.HalvingSteps.{steps};
 ghost use Rattle.gimli_cfi.specs.FaithfulTables.{IsFaithful};
 ghost use Rattle.gimli_cfi.specs.TableLookup.{FindsByTable, IsFoundByTable, ReadsAt};
-ghost use Rattle.gimli_cfi.specs.HeaderViews.{section_view, header_section_view, table_view};
+ghost use Rattle.gimli_cfi.specs.HeaderViews.{listing_view, section_view, table_view};
 
 use crate::hdr::search::StartSource;
 use crate::hdr::table::EhHdrTable;
@@ -59,20 +59,21 @@ pub fn row_by_table<'ctx, R: Reader, St: StartSource, S: UnwindContextStorage<R:
     ctx: &'ctx mut UnwindContext<R::Offset, S>,
     address: u64,
 ) -> Result<&'ctx UnwindTableRow<R::Offset, S::Rules>>
-    ensures found { (found : Result Fde Refusal)
-        × IsFoundByTable (St.answer starts.old) (header_section_view R.position table.now.hdr.now bases.now) (table_view R.position table.now) table.now.hdr.now.eh_frame_ptr
-        (section_view R.position frame.now bases.now) address found
-        × IsRowOfFound S.Rules.limit S.Stack.limit S.Rules.copies_free (section_view R.position frame.now bases.now) address
+    ensures found { let l = listing_view R.position table.now frame.now bases.now in
+        (found : Result Fde Refusal)
+        × IsFoundByTable (St.answer starts.old) l.header l.table l.eh_frame l.section address found
+        × IsRowOfFound S.Rules.limit S.Stack.limit S.Rules.copies_free l.section address
         found (row_lent R.Offset.number result) }
-    ensures expressions { IfOk result (λ row. HasExpressionsIn R.Offset.number (R.position frame.now.section) row.now.parts) }
-    ensures faithful { (eh_frame : ℕ) → table.now.hdr.now.eh_frame_ptr ≡ Direct eh_frame →
-        IsFaithful (header_section_view R.position table.now.hdr.now bases.now) (table_view R.position table.now) eh_frame (section_view R.position frame.now bases.now) →
-        ((k : ℕ) → k < (table_view R.position table.now).count →
-        St.answer starts.old k ≡ start_of (header_section_view R.position table.now.hdr.now bases.now) (table_view R.position table.now) k) →
-        IsRowByScan S.Rules.limit S.Stack.limit S.Rules.copies_free (section_view R.position frame.now bases.now) address
+    ensures expressions { IfOk result (λ row.
+        HasExpressionsIn R.Offset.number (R.position frame.now.section) row.now.parts) }
+    ensures faithful { let l = listing_view R.position table.now frame.now bases.now in
+        (eh_frame : ℕ) → l.eh_frame ≡ Direct eh_frame → IsFaithful l.header l.table eh_frame l.section →
+        ((k : ℕ) → k < l.table.count → St.answer starts.old k ≡ start_of l.header l.table k) →
+        IsRowByScan S.Rules.limit S.Stack.limit S.Rules.copies_free l.section address
         (row_lent R.Offset.number result) }
     ensures calls { St.calls starts.new ≤ St.calls starts.old + steps (table_view R.position table.now).count }
-    ensures not_asked { value_size (table_view R.position table.now).encoding ≡ None → St.calls starts.new ≡ St.calls starts.old }
+    ensures not_asked { value_size (table_view R.position table.now).encoding ≡ None →
+        St.calls starts.new ≡ St.calls starts.old }
     ensures same { St.answer starts.new ≡ St.answer starts.old }
 {
     let fde = table_fde(table, starts, frame, bases, address)?;
@@ -88,12 +89,15 @@ fn table_fde<R: Reader, St: StartSource>(
     bases: &BaseAddresses,
     address: u64,
 ) -> Result<FrameDescriptionEntry<R>>
-    ensures found { IsFoundByTable (St.answer starts.old) (header_section_view R.position table.now.hdr.now bases.now) (table_view R.position table.now) table.now.hdr.now.eh_frame_ptr
-        (section_view R.position frame.now bases.now) address (map_ok (fde_view R.position R.Offset.number) result) }
+    ensures found { let l = listing_view R.position table.now frame.now bases.now in
+        IsFoundByTable (St.answer starts.old) l.header l.table l.eh_frame l.section address
+        (map_ok (fde_view R.position R.Offset.number) result) }
     ensures part { IfOk result (λ fde. IsOf (R.position fde.instructions) (R.position frame.now.section)) }
-    ensures cie_part { IfOk result (λ fde. IsOf (R.position fde.cie.initial_instructions) (R.position frame.now.section)) }
+    ensures cie_part { IfOk result (λ fde.
+        IsOf (R.position fde.cie.initial_instructions) (R.position frame.now.section)) }
     ensures calls { St.calls starts.new ≤ St.calls starts.old + steps (table_view R.position table.now).count }
-    ensures not_asked { value_size (table_view R.position table.now).encoding ≡ None → St.calls starts.new ≡ St.calls starts.old }
+    ensures not_asked { value_size (table_view R.position table.now).encoding ≡ None →
+        St.calls starts.new ≡ St.calls starts.old }
     ensures same { St.answer starts.new ≡ St.answer starts.old }
 {
     let target = table.lookup_in(starts, address, bases)?;
@@ -163,10 +167,9 @@ where
         EhFrameOffset<R::Offset>,
     ) -> Result<CommonInformationEntry<R>>,
     requires { F.IsAlwaysCallable get_cie.old }
-    ensures found { FindsByTable
+    ensures found { let l = listing_view R.position table.now frame.now bases.now in FindsByTable
         (GetCieCall F.FnMut (λ o. R.Offset.number o.0) (cie_view R.position R.Offset.number) frame.now bases.now)
-        (header_section_view R.position table.now.hdr.now bases.now) (table_view R.position table.now) table.now.hdr.now.eh_frame_ptr
-        (section_view R.position frame.now bases.now) address
+        l.header l.table l.eh_frame l.section address
         get_cie.old (map_ok (fde_view R.position R.Offset.number) result) get_cie.new }
     ensures cie { IfOk result (λ fde. IsAnswered F.FnMut frame.now bases.now get_cie.old fde.cie) }
     ensures part { IfOk result (λ fde. IsOf (R.position fde.instructions) (R.position frame.now.section)) }
@@ -193,15 +196,16 @@ where
         EhFrameOffset<R::Offset>,
     ) -> Result<CommonInformationEntry<R>>,
     requires callable { F.IsAlwaysCallable get_cie.old }
-    requires of_section { (cie : CieFields R R.Offset) → IsAnswered F.FnMut frame.now bases.now get_cie.old cie → IsOf (R.position cie.initial_instructions) (R.position frame.now.section) }
-    ensures row { (found : Result Fde Refusal) × FindsByTable
+    requires of_section { (cie : CieFields R R.Offset) → IsAnswered F.FnMut frame.now bases.now get_cie.old cie →
+        IsOf (R.position cie.initial_instructions) (R.position frame.now.section) }
+    ensures row { let l = listing_view R.position table.now frame.now bases.now in
+        (found : Result Fde Refusal) × FindsByTable
         (GetCieCall F.FnMut (λ o. R.Offset.number o.0) (cie_view R.position R.Offset.number) frame.now bases.now)
-        (header_section_view R.position table.now.hdr.now bases.now) (table_view R.position table.now) table.now.hdr.now.eh_frame_ptr
-        (section_view R.position frame.now bases.now) address
-        get_cie.old found get_cie.new
-        × IsRowOfFound S.Rules.limit S.Stack.limit S.Rules.copies_free (section_view R.position frame.now bases.now) address
+        l.header l.table l.eh_frame l.section address get_cie.old found get_cie.new
+        × IsRowOfFound S.Rules.limit S.Stack.limit S.Rules.copies_free l.section address
         found (row_lent R.Offset.number result) }
-    ensures expressions { IfOk result (λ row. HasExpressionsIn R.Offset.number (R.position frame.now.section) row.now.parts) }
+    ensures expressions { IfOk result (λ row.
+        HasExpressionsIn R.Offset.number (R.position frame.now.section) row.now.parts) }
 {
     let fde = fde_for_address_by_ref(table, frame, bases, address, get_cie)?;
     fde.unwind_info_for_address(frame, bases, ctx, address)
@@ -211,8 +215,8 @@ impl<R: Reader> EhHdrTable<'_, R> {
     /// The FDE that the table names for the address, with the CIE that is answered for the offset to which it points.
     ///
     /// It contains the address. Refused as `lookup`, then as `pointer_to_offset` for the target and as
-    /// `fde_from_offset` for the FDE there, and with `NoUnwindInfoForAddress` where that FDE doesn't contain the address.
-    /// The bases of the header are those in `BaseAddresses::eh_frame_hdr`, those of the section's entries in
+    /// `fde_from_offset` for the FDE there, and with `NoUnwindInfoForAddress` where that FDE doesn't contain the
+    /// address. The bases of the header are those in `BaseAddresses::eh_frame_hdr`, those of the section's entries in
     /// `BaseAddresses::eh_frame`. It takes no memory (LSB Core, "The .eh_frame_hdr section").
     pub fn fde_for_address<F>(
         &self,
@@ -228,10 +232,9 @@ impl<R: Reader> EhHdrTable<'_, R> {
             EhFrameOffset<R::Offset>,
         ) -> Result<CommonInformationEntry<R>>,
         requires { F.IsAlwaysCallable get_cie }
-        ensures found { (last : F) × FindsByTable
+        ensures found { let l = listing_view R.position self.now frame.now bases.now in (last : F) × FindsByTable
             (GetCieCall F.FnMut (λ o. R.Offset.number o.0) (cie_view R.position R.Offset.number) frame.now bases.now)
-            (header_section_view R.position self.now.hdr.now bases.now) (table_view R.position self.now) self.now.hdr.now.eh_frame_ptr
-            (section_view R.position frame.now bases.now) address
+            l.header l.table l.eh_frame l.section address
             get_cie (map_ok (fde_view R.position R.Offset.number) result) last }
         ensures cie { IfOk result (λ fde. IsAnswered F.FnMut frame.now bases.now get_cie fde.cie) }
         ensures part { IfOk result (λ fde. IsOf (R.position fde.instructions) (R.position frame.now.section)) }
@@ -261,15 +264,16 @@ impl<R: Reader> EhHdrTable<'_, R> {
             EhFrameOffset<R::Offset>,
         ) -> Result<CommonInformationEntry<R>>,
         requires callable { F.IsAlwaysCallable get_cie }
-        requires of_section { (cie : CieFields R R.Offset) → IsAnswered F.FnMut frame.now bases.now get_cie cie → IsOf (R.position cie.initial_instructions) (R.position frame.now.section) }
-        ensures row { (found : Result Fde Refusal) × (last : F) × FindsByTable
+        requires of_section { (cie : CieFields R R.Offset) → IsAnswered F.FnMut frame.now bases.now get_cie cie →
+            IsOf (R.position cie.initial_instructions) (R.position frame.now.section) }
+        ensures row { let l = listing_view R.position self.now frame.now bases.now in
+            (found : Result Fde Refusal) × (last : F) × FindsByTable
             (GetCieCall F.FnMut (λ o. R.Offset.number o.0) (cie_view R.position R.Offset.number) frame.now bases.now)
-            (header_section_view R.position self.now.hdr.now bases.now) (table_view R.position self.now) self.now.hdr.now.eh_frame_ptr
-            (section_view R.position frame.now bases.now) address
-            get_cie found last
-            × IsRowOfFound S.Rules.limit S.Stack.limit S.Rules.copies_free (section_view R.position frame.now bases.now) address
+            l.header l.table l.eh_frame l.section address get_cie found last
+            × IsRowOfFound S.Rules.limit S.Stack.limit S.Rules.copies_free l.section address
             found (row_lent R.Offset.number result) }
-        ensures expressions { IfOk result (λ row. HasExpressionsIn R.Offset.number (R.position frame.now.section) row.now.parts) }
+        ensures expressions { IfOk result (λ row.
+            HasExpressionsIn R.Offset.number (R.position frame.now.section) row.now.parts) }
     {
         unwind_info_for_address_by_ref(self, frame, bases, ctx, address, &mut get_cie)
     }
