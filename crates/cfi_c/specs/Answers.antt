@@ -10,7 +10,9 @@
 --     IsAnswerForC live bases bytes header a out rules first count      what is answered to C, with a context or none
 --     AreAnswered live .. n ..      the first n of many addresses; IsCount says which n
 use Rattle.std.specs.Prelude.{◌≡◌, ◌⊎◌, ℕ, ◌+◌, ◌<◌, ◌≤◌, ◌*◌, ℤ, pos, Bool, true, false, List, [], ◌∷◌, length, nat_le, Option, Some, None, Result, Ok, Err, slice_index_or, if◌then◌else◌}
+use Rattle.std.specs.Borrow.{Bor}
 use Rattle.std.specs.FinMap as map
+use Rattle.std.specs.Option.{option_map}
 use Rattle.cfi_read_core.specs.declared.common.Vendor.{Vendor}
 use Rattle.cfi_read_core.specs.declared.common.Vendor.TheVariants as vendor
 use Rattle.cfi_read_core.specs.declared.error.Error.{Error}
@@ -73,6 +75,10 @@ header_of bases bytes = record {
   address_size = bases.address_size;
   bases = record { section = Some bases.header; text = Some bases.text; data_base = Some bases.header };
 }
+
+-- the bytes of a header that is lent
+abbrev pub lent : {A : Type 0} → Option (Bor A) → Option A
+lent header = option_map (λ bytes. bytes.now) header
 
 -- no bytes are no header
 abbrev pub header_in : List ℕ → Option (List ℕ)

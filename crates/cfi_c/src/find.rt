@@ -1,11 +1,11 @@
 //! The row of an address in what C hands in.
 ghost use Rattle.std.specs.Prelude.{◌≡◌, ◌↔◌, Some, IsTrue};
-ghost use Rattle.std.specs.Option.{option_map};
 ghost use Rattle.cfi_read_core.specs.ByteOrder.{is_big};
 ghost use Rattle.cfi_read_core.specs.Addresses.{IsAddressSize};
 ghost use Rattle.cfi_read_core.specs.ReaderCalls.{map_ok};
 ghost use Rattle.cfi_unwind.specs.AddressRow.{row_by_scan};
-ghost use Rattle.cfi_c.specs.Answers.{section_of, eh_frame_of, header_of, vendor_of, IsSizedAnswer, IsTableAnswer};
+ghost use Rattle.cfi_c.specs.Answers.{IsSizedAnswer, IsTableAnswer};
+ghost use Rattle.cfi_c.specs.Answers.{section_of, eh_frame_of, header_of, vendor_of, lent};
 
 use crate::CfiBases;
 use crate::context::Context;
@@ -24,7 +24,7 @@ pub fn find_row<'ctx>(
     bases: &CfiBases,
     address: u64,
 ) -> Result<&'ctx FoundRow, Error>
-    ensures { IsSizedAnswer bases.now section.now (option_map (λ bytes. bytes.now) header.entry) address (map_ok (λ row. row.now) result) }
+    ensures { IsSizedAnswer bases.now section.now (lent header.entry) address (map_ok (λ row. row.now) result) }
 {
     if !is_sized(bases.address_size) {
         return Err(Error::UnsupportedAddressSize(bases.address_size));
@@ -48,7 +48,8 @@ fn by_scan<'ctx>(
     address: u64,
 ) -> Result<&'ctx FoundRow, Error>
     requires { IsAddressSize bases.now.address_size }
-    ensures { map_ok (λ row. row.now) result ≡ row_by_scan (Some 192) (Some 4) (section_of bases.now section.now) address }
+    ensures { map_ok (λ row. row.now) result
+        ≡ row_by_scan (Some 192) (Some 4) (section_of bases.now section.now) address }
 {
     let known = bases_of(bases);
     if bases.debug_frame {
@@ -71,7 +72,8 @@ fn by_table<'ctx>(
     address: u64,
 ) -> Result<&'ctx FoundRow, Error>
     requires { IsAddressSize bases.now.address_size }
-    ensures { IsTableAnswer (eh_frame_of bases.now section.now) (header_of bases.now header.now) address (map_ok (λ row. row.now) result) }
+    ensures { IsTableAnswer (eh_frame_of bases.now section.now) (header_of bases.now header.now) address
+        (map_ok (λ row. row.now) result) }
 {
     let known = bases_of(bases);
     let mut frame = EhFrame::new(section, endian_of(bases));
@@ -109,10 +111,16 @@ fn vendor_of(bases: &CfiBases) -> Vendor
 }
 
 fn bases_of(bases: &CfiBases) -> BaseAddresses
-    ensures section { result.eh_frame
-        ≡ record { section = Some bases.now.section; text = Some bases.now.text; data_base = Some bases.now.data_base } }
-    ensures header { result.eh_frame_hdr
-        ≡ record { section = Some bases.now.header; text = Some bases.now.text; data_base = Some bases.now.header } }
+    ensures section { result.eh_frame ≡ record {
+      section = Some bases.now.section;
+      text = Some bases.now.text;
+      data_base = Some bases.now.data_base;
+    } }
+    ensures header { result.eh_frame_hdr ≡ record {
+      section = Some bases.now.header;
+      text = Some bases.now.text;
+      data_base = Some bases.now.header;
+    } }
 {
     BaseAddresses {
         eh_frame_hdr: SectionBaseAddresses {

@@ -7,7 +7,8 @@ ghost use Rattle.cfi_read_core.specs.Addresses.{IsAddressSize};
 ghost use Rattle.cfi_read_core.specs.RefusalNames.{name_of};
 ghost use Rattle.cfi_c.specs.Refusals.{number, status_name};
 ghost use Rattle.std.specs.Option.{option_map};
-ghost use Rattle.cfi_c.specs.Answers.{IsAnswerForC, IsFaithfulHeader, IsScanned, SameAround, IsCount, AreAnswered, header_in, is_live};
+ghost use Rattle.cfi_c.specs.Answers.{IsAnswerForC, IsFaithfulHeader, IsScanned, SameAround};
+ghost use Rattle.cfi_c.specs.Answers.{IsCount, AreAnswered, header_in, is_live, lent};
 
 mod context;
 mod find;
@@ -79,7 +80,8 @@ pub struct CfiRule {
 /// Makes a context, and frees the one that was there. 31 where there is no memory for it: then nothing is written.
 #[unsafe(no_mangle)]
 pub extern "C" fn cfi_context_new(alloc: Global, context: &mut CfiContext) -> i32
-    ensures { ((result ≡ pos 0) × (context.new.live ≡ true)) ⊎ ((result ≡ pos 31) × (context.new.live ≡ context.old.live)) }
+    ensures { ((result ≡ pos 0) × (context.new.live ≡ true))
+        ⊎ ((result ≡ pos 31) × (context.new.live ≡ context.old.live)) }
 {
     let Ok(made) = Context::new(alloc) else {
         return 31;
@@ -114,7 +116,8 @@ pub extern "C" fn cfi_row_by_scan(
     row: &mut CfiRow,
     rules: &mut [CfiRule],
 ) -> i32
-    ensures answered { IsAnswerForC context.old.live bases.now section.now None address row.new rules.new 0 (length rules.new) }
+    ensures answered { IsAnswerForC context.old.live bases.now section.now None address
+        row.new rules.new 0 (length rules.new) }
     ensures status { result ≡ row.new.status }
     ensures kept { context.new.live ≡ context.old.live }
 {
@@ -139,8 +142,10 @@ pub extern "C" fn cfi_row_by_table(
     row: &mut CfiRow,
     rules: &mut [CfiRule],
 ) -> i32
-    ensures answered { IsAnswerForC context.old.live bases.now section.now (Some header.now) address row.new rules.new 0 (length rules.new) }
-    ensures faithful { IsFaithfulHeader bases.now section.now header.now → IsAddressSize bases.now.address_size → context.old.live ≡ true →
+    ensures answered { IsAnswerForC context.old.live bases.now section.now (Some header.now) address
+        row.new rules.new 0 (length rules.new) }
+    ensures faithful { IsFaithfulHeader bases.now section.now header.now →
+        IsAddressSize bases.now.address_size → context.old.live ≡ true →
         IsScanned bases.now section.now address row.new rules.new 0 (length rules.new) }
     ensures status { result ≡ row.new.status }
     ensures kept { context.new.live ≡ context.old.live }
@@ -180,7 +185,8 @@ pub extern "C" fn cfi_rows(
     per_row: usize,
 ) -> usize
     ensures count { IsCount (length addresses.now) (length rows.old) (length rules.old) per_row result }
-    ensures answered { AreAnswered context.old.live bases.now section.now (header_in header.now) addresses.now per_row result rows.old rows.new rules.old rules.new }
+    ensures answered { AreAnswered context.old.live bases.now section.now (header_in header.now) addresses.now
+        per_row result rows.old rows.new rules.old rules.new }
     ensures kept { context.new.live ≡ context.old.live }
 {
     let mut held = mem::replace(context, CfiContext::of(alloc, None)).into_box();
@@ -197,8 +203,10 @@ pub extern "C" fn cfi_rows(
 #[unsafe(no_mangle)]
 pub extern "C" fn cfi_status_name(status: i32, name: &mut [u8]) -> usize
     ensures length { result ≡ length (status_name status) }
-    ensures written { (k : ℕ) → k < length name.new → k < length (status_name status) → slice_index_or name.new k 0 ≡ slice_index_or (status_name status) k 0 }
-    ensures rest { (k : ℕ) → length (status_name status) ≤ k → slice_index_or name.new k 0 ≡ slice_index_or name.old k 0 }
+    ensures written { (k : ℕ) → k < length name.new → k < length (status_name status) →
+        slice_index_or name.new k 0 ≡ slice_index_or (status_name status) k 0 }
+    ensures rest { (k : ℕ) → length (status_name status) ≤ k →
+        slice_index_or name.new k 0 ≡ slice_index_or name.old k 0 }
     ensures refusals { (e : Error) → status_name (number e) ≡ name_of e }
 {
     let text = name_of(status);
@@ -212,7 +220,7 @@ pub extern "C" fn cfi_status_name(status: i32, name: &mut [u8]) -> usize
 
 /// No bytes are no header.
 fn header_in(header: &[u8]) -> Option<&[u8]>
-    ensures { option_map (λ bytes. bytes.now) result ≡ header_in header.now }
+    ensures { lent result ≡ header_in header.now }
 {
     if header.is_empty() {
         return None;
@@ -232,7 +240,8 @@ fn answer_each(
     per_row: usize,
 ) -> usize
     ensures count { IsCount (length addresses.now) (length rows.old) (length rules.old) per_row result }
-    ensures answered { AreAnswered (is_live held.old) bases.now section.now (option_map (λ bytes. bytes.now) header.entry) addresses.now per_row result rows.old rows.new rules.old rules.new }
+    ensures answered { AreAnswered (is_live held.old) bases.now section.now (lent header.entry) addresses.now
+        per_row result rows.old rows.new rules.old rules.new }
     ensures kept { is_live held.new ≡ is_live held.old }
 {
     let mut first = 0;
@@ -271,7 +280,8 @@ fn answer(
     count: usize,
 )
     requires { first + count ≤ length rules.old }
-    ensures answered { IsAnswerForC (is_live held.old) bases.now section.now (option_map (λ bytes. bytes.now) header.entry) address row.new rules.new first count }
+    ensures answered { IsAnswerForC (is_live held.old) bases.now section.now (lent header.entry) address
+        row.new rules.new first count }
     ensures around { SameAround first count rules.old rules.new }
     ensures kept { is_live held.new ≡ is_live held.old }
 {
