@@ -9,6 +9,7 @@ use Rattle.cfi_state.specs.Row.{Row}
 use Rattle.cfi_state.specs.MappedStates.{map_row}
 use Rattle.cfi_state.proofs.MappedEquality.{as_it_is, same_row}
 use Rattle.cfi_unwind.specs.Sections.{Section, SectionKind}
+use Rattle.cfi_unwind.proofs.Laws.{row_is_due_where_fixed}
 use Rattle.gimli_cfi.specs.EhFrameHdr.{HeaderSection, header_section}
 use Rattle.gimli_cfi.specs.RowsByHeader.{IsRowByHeader}
 use Rattle.cfi_c.specs.declared.CfiBases.{CfiBases}
@@ -39,4 +40,4 @@ pub table_answer : (section section' : Section) (header header' : HeaderSection)
 table_answer section section' header header' a lent answer sections headers answers is =
     let so : IsRowByHeader (Some 192) (Some 4) true section' a header' lent =
     subst (λ s. IsRowByHeader (Some 192) (Some 4) true s a header' lent) sections (subst (λ h. IsRowByHeader (Some 192) (Some 4) true section a h lent) headers is) in
-    (so.0, so.1, sym answers ∙ so.2.fixed (refl, refl, refl))
+    (so.0, so.1, sym answers ∙ row_is_due_where_fixed (Some 192) (Some 4) true section' a (refl, refl, refl) so.0 lent so.2)

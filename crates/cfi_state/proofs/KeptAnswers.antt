@@ -13,7 +13,7 @@ use Rattle.cfi_state.specs.Row.{Row}
 use Rattle.cfi_state.specs.MachineSettings.{Setting, is_move}
 use Rattle.cfi_state.specs.Machine.{State, fresh_state, step, end_of_cie}
 use Rattle.cfi_state.specs.Program.{Program, in_cie, in_fde, followed_by, location_of, refusal, refusal_at_end}
-use Rattle.cfi_state.specs.FdeAnswers.{or_refused, on_option, row_until, rows_ended, answers_of, answer_at, fde_answer, answers, first_refusal, cie_refusal, program_state, IsStateAfter}
+use Rattle.cfi_state.specs.FdeAnswers.{or_refused, on_option, row_until, rows_ended, answers_of, first_refusal, cie_refusal, program_state, IsStateAfter}
 use Rattle.cfi_state.specs.AllocatingOperations.{IsRefusal}
 use Rattle.cfi_state.specs.UnwindTableStates.{TableState, before_last_row, after_last_row, answers_to_come, IsNext}
 use Rattle.cfi_state.specs.MachineRuns.{MayAllocate, AreNever, current_row, NextAnswer, passes, ends_row, refuses, cannot_read, last_row, no_row, RunsInitialInstructions, cie_passes, cie_refuses, cie_cannot_read, cie_ends, cie_end_refused, FindsRow, contains_it, goes_on, is_refused, comes_to_end, AnswersFde, by_cie, by_rows}
@@ -21,7 +21,6 @@ use Rattle.cfi_state.specs.KeptInstructions.{at_program, AnswersForProgram, IsLe
 use Rattle.cfi_state.proofs.Law.{step_law}
 use Rattle.cfi_state.proofs.CieEnd.{end_law}
 use Rattle.cfi_state.proofs.IsStateAfter.{accepted_value, refused_error, stands_next, stands_refused, stands_at_end, stands_fresh}
-use Rattle.cfi_state.proofs.RunAnswers.{finds_is}
 
 module _ {T : Type 0} where
   -- ---- the next answer
@@ -166,15 +165,3 @@ module _ {T : Type 0} (allocates : MayAllocate T) (s : Setting) (never : AreNeve
 
   pub kept_cie_is : (reads : Readings (CallFrameInstruction T)) (result : Result (List (CallFrameInstruction T)) Error) → KeepsInitialInstructions allocates s [] reads result → or_refused (cie_refusal s reads) reads.values ≡ result
   kept_cie_is reads = kept_behind [] reads
-
-  accepted_cie : (cie fde : Readings (CallFrameInstruction T)) (address : ℕ) (all : List (CallFrameInstruction T)) (o : Option Error) → or_refused o cie.values ≡ Ok all →
-      on_option (answer_at address (answers s (in_fde cie.values []) fde)) (λ e. Err e) o ≡ answer_at address (answers s (in_fde all []) fde)
-  accepted_cie cie fde address all None is = ap (λ l. answer_at address (answers s (in_fde l []) fde)) (sym (accepted_value None cie.values all is).1)
-  accepted_cie cie fde address all (Some e) is = absurd (let wrong : ◌≡◌ {A = Result (List (CallFrameInstruction T)) Error} (Err e) (Ok all) = is in cc)
-
-  pub answers_by_kept_is : (cie fde : Readings (CallFrameInstruction T)) (address : ℕ) (result : Result (Row T) Error) → AnswersByKept allocates s cie fde address result → fde_answer s cie fde address ≡ result
-  answers_by_kept_is cie fde address result (refused_by_cie e keeps_all) =
-      ap (on_option (answer_at address (answers s (in_fde cie.values []) fde)) (λ d. Err d)) (refused_error (cie_refusal s cie) cie.values e (kept_cie_is cie (Err e) keeps_all))
-  answers_by_kept_is cie fde address result (found_in_rows all result' keeps_all finds) =
-      accepted_cie cie fde address all (cie_refusal s cie) (kept_cie_is cie (Ok all) keeps_all)
-      ∙ finds_is (NextKeptAnswer allocates s) (answers_to_come s) address (kept_next_is allocates s never) (before_last_row (in_fde all []) fde) result' finds

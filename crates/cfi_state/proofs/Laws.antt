@@ -3,44 +3,36 @@
 --     in_one_row      each address that the FDE contains lies in exactly one of its rows
 --     answer_contains      a row that is the answer for an address contains the address
 --     fde_answer_law      the machine's answer is the one that the kept instructions give without a machine
---     fde_answer_kept_or_memory      over any storage the answer is that one, or `OutOfMemory`
+--     run_is_due      over any storage that answer is due, or `OutOfMemory` where an instruction that may allocate is reached on the way
+--     by_kept, by_run      what is so answered is what the instructions give that are kept where memory is refused, and the machine's run
+--     is_due, is_due_where_never      it is the function's answer or `OutOfMemory`; where nothing allocates it is the function's
+--     contains_it      a row that is so answered contains the address
 use Rattle.std.proofs.Common.{◌≡◌, ℕ, ◌+◌, ◌<◌, ◌≤◌, Bool, true, false, cond, ◌&&◌, List, [], ◌∷◌, ◌++◌, ltb, leb, Option, Some, None, Result, Ok, Err, refl, sym, ap, subst, ◌∙◌, arith, zero-add, inl, inr, ◌⊎◌}
+use Rattle.std.specs.Bool.{IsTrue}
+use Rattle.std.specs.Result.{IfOk}
 use Rattle.std.specs.List.{count_by}
 use Rattle.std.proofs.lemmas.List.Sums.{sum_by-cons}
-use Rattle.std.proofs.lemmas.Bool.{false≢true, and_from, cases_lt, lt-ltb, le-ltb, ltb-false, le-leb, lt-leb, cases_Bool}
+use Rattle.std.proofs.lemmas.Bool.{false≢true, and_from, and_parts, leb-true, ltb-true, cases_lt, lt-ltb, le-ltb, le-leb, lt-leb, cases_Bool}
 use Rattle.cfi_read_core.specs.ReadFunctions.{Readings}
 use Rattle.cfi_read_core.specs.declared.error.Error.{Error}
 use Rattle.cfi_read_core.specs.declared.error.Error.TheVariants.{OutOfMemory}
 use Rattle.cfi_parts.specs.declared.instruction.CallFrameInstruction.{CallFrameInstruction}
-use Rattle.cfi_parts.specs.declared.instruction.CallFrameInstruction.TheVariants as instruction
 use Rattle.cfi_state.specs.Row.{Row}
-use Rattle.cfi_state.specs.MachineSettings.{Setting, next_location, is_move}
+use Rattle.cfi_state.specs.MachineSettings.{Setting, is_move}
 use Rattle.cfi_state.specs.Machine.{State}
-use Rattle.cfi_state.specs.MachineRuns.{MayAllocate, AnswersFde}
-use Rattle.cfi_state.specs.Program.{Program, in_fde, refused_if, followed_by, location_of, refusal}
+use Rattle.cfi_state.specs.MachineRuns.{MayAllocate, AreNever, AnswersFde}
+use Rattle.cfi_state.specs.KeptInstructions.{AnswersByKept}
+use Rattle.cfi_state.specs.MemoryOnTheWay.{AnswersOrRunsOut}
+use Rattle.cfi_state.specs.Program.{Program, in_fde, followed_by, location_of, refusal}
 use Rattle.cfi_state.specs.FdeAnswers.{or_refused, on_option, on_result, refusals, row_until, answers_of, answers, cie_refusal, run_answers, program_state, IsStateAfter, rows_of, row_contains, AreConsecutive, answer_at, fde_answer, run_fde_answer}
 use Rattle.cfi_state.proofs.Law.{location_push}
 use Rattle.cfi_state.proofs.IsStateAfter.{cie_law, cie_accepted, run_law}
-use Rattle.cfi_state.proofs.KeptAnswers.{answers-other, answers-move, answers-refused}
-use Rattle.cfi_state.proofs.RunAnswers.{fde_answer_or_memory}
-
-not_refused : (b : Bool) (e : Error) → refused_if b e ≡ None → b ≡ false
-not_refused true e h = absurd (let wrong : Some e ≡ None = h in cc)
-not_refused false e h = refl
+use Rattle.cfi_state.proofs.KeptAnswers.{answers-other, answers-move, answers-refused, answers_by_kept}
+use Rattle.cfi_state.proofs.MemoryOnTheWay.{moves_on, still_there, kept_is_due, due_is_kept, never_out}
+use Rattle.cfi_state.proofs.KeptRuns.{run_of_kept}
 
 module _ {T : Type 0} where
   -- ---- consecutive rows
-
-  -- an accepted instruction does not move back
-  moves_on : (s : Setting) (p : Program T) (i : CallFrameInstruction T) → refusal s p i ≡ None → location_of s p ≤ next_location s (location_of s p) i
-  moves_on s p (instruction.SetLoc address) e = ltb-false address (location_of s p) (not_refused _ _ e)
-  moves_on s p (instruction.AdvanceLoc delta) e = omega arith
-  moves_on s p _ e = omega arith
-
-  still_there : (s : Setting) (location : ℕ) (i : CallFrameInstruction T) → is_move i ≡ false → next_location s location i ≡ location
-  still_there s location (instruction.SetLoc address) e = absurd (false≢true (sym e))
-  still_there s location (instruction.AdvanceLoc delta) e = absurd (false≢true (sym e))
-  still_there s location _ e = refl
 
   consecutive_more : (row : Row T) (rows : List (Row T)) (to : ℕ) → row.start_address ≤ row.end_address → AreConsecutive row.end_address rows to → AreConsecutive row.start_address (row ∷ rows) to
   consecutive_more row [] to h rest = absurd rest
@@ -142,8 +134,52 @@ module _ {T : Type 0} where
   pub fde_answer_law : (s : Setting) (cie fde : Readings (CallFrameInstruction T)) (address : ℕ) → run_fde_answer s cie fde address ≡ fde_answer s cie fde address
   fde_answer_law s cie fde address = ap (on_result (λ x. answer_at address (run_answers s x fde)) (λ e. Err e)) (cie_law s cie) ∙ fde_answer_step s cie fde address (cie_refusal s cie) refl
 
--- over any storage the answer is the function's answer, or `OutOfMemory`
-pub fde_answer_kept_or_memory : {T : Type 0} (allocates : MayAllocate T) (s : Setting) (cie fde : Readings (CallFrameInstruction T)) (address : ℕ) (result : Result (Row T) Error) → AnswersFde allocates s cie fde address result → (fde_answer s cie fde address ≡ result) ⊎ (result ≡ Err OutOfMemory)
-fde_answer_kept_or_memory allocates s cie fde address result answers_it =
-    subst (λ r. (r ≡ result) ⊎ (result ≡ Err OutOfMemory)) (fde_answer_law s cie fde address)
-    (fde_answer_or_memory allocates s cie fde address result answers_it)
+-- ---- over any storage
+
+without_place : {A : Type 0} {is memory : Type 0} → is ⊎ (A × memory) → is ⊎ memory
+without_place (inl is) = inl is
+without_place (inr out) = inr out.1
+
+at_no_place : {b : Bool} {is memory : Type 0} → b ≡ false → is ⊎ (IsTrue b × memory) → is
+at_no_place never (inl is) = is
+at_no_place never (inr out) = absurd (false≢true (sym never ∙ out.0))
+
+module _ {T : Type 0} where
+  ok_is_due : (row : Row T) (due : Result (Row T) Error) (place : Type 0) → (Ok row ≡ due) ⊎ (place × (◌≡◌ {A = Result (Row T) Error} (Ok row) (Err OutOfMemory))) → due ≡ Ok row
+  ok_is_due row due place (inl is) = sym is
+  ok_is_due row due place (inr out) = absurd (let wrong : ◌≡◌ {A = Result (Row T) Error} (Ok row) (Err OutOfMemory) = out.1 in cc)
+
+  fde_answer_contains : (s : Setting) (cie fde : Readings (CallFrameInstruction T)) (address : ℕ) (row : Row T) (o : Option Error)
+      → on_option (answer_at address (answers s (in_fde cie.values []) fde)) (λ e. Err e) o ≡ Ok row → row_contains address row ≡ true
+  fde_answer_contains s cie fde address row None is = answer_contains address (answers s (in_fde cie.values []) fde) row is
+  fde_answer_contains s cie fde address row (Some d) is = absurd (let wrong : ◌≡◌ {A = Result (Row T) Error} (Err d) (Ok row) = is in cc)
+
+  inside_of : (address : ℕ) (row : Row T) → row_contains address row ≡ true → (row.start_address ≤ address) × (address < row.end_address)
+  inside_of address row is = let parts = and_parts _ _ is in (leb-true row.start_address address parts.0, ltb-true address row.end_address parts.1)
+
+module _ {T : Type 0} (allocates : MayAllocate T) (s : Setting) (cie fde : Readings (CallFrameInstruction T)) (address : ℕ) where
+  -- What the machine answers is the function's answer, or `OutOfMemory` where an instruction that may allocate is reached on the way.
+  pub run_is_due : (result : Result (Row T) Error) → AnswersFde allocates s cie fde address result → AnswersOrRunsOut allocates s cie fde address result
+  run_is_due result runs = kept_is_due allocates s address cie fde result (answers_by_kept allocates s cie fde address result runs)
+
+  module _ (result : Result (Row T) Error) (answered : AnswersOrRunsOut allocates s cie fde address result) where
+    -- It is what the kept instructions give, where an instruction is left out whose memory is refused.
+    pub by_kept : AnswersByKept allocates s cie fde address result
+    by_kept = due_is_kept allocates s address cie fde result answered
+
+    -- It is what a run of the machine gives, where an instruction may be refused for lack of memory.
+    pub by_run : AnswersFde allocates s cie fde address result
+    by_run = run_of_kept allocates s cie fde address result by_kept
+
+    -- It is the function's answer, or `OutOfMemory`.
+    pub is_due : (result ≡ fde_answer s cie fde address) ⊎ (result ≡ Err OutOfMemory)
+    is_due = without_place answered
+
+    -- It is the function's answer where nothing allocates, as over a fixed storage.
+    pub is_due_where_never : AreNever allocates → result ≡ fde_answer s cie fde address
+    is_due_where_never never = at_no_place (never_out allocates s never address cie fde) answered
+
+  -- A row that is so answered contains the address.
+  pub contains_it : (result : Result (Row T) Error) → AnswersOrRunsOut allocates s cie fde address result → IfOk result (λ row. (row.start_address ≤ address) × (address < row.end_address))
+  contains_it (Ok row) answered = inside_of address row (fde_answer_contains s cie fde address row (cie_refusal s cie) (ok_is_due row _ _ answered))
+  contains_it (Err e) answered = tt

@@ -16,6 +16,8 @@ pub mod RunSteps
 pub mod MappedRuns
 pub mod RunAnswers
 pub mod KeptAnswers
+pub mod KeptRuns
+pub mod MemoryOnTheWay
 pub mod Laws
 pub mod RowExpressions
 pub mod FixedStorage

@@ -1,6 +1,6 @@
 -- Memory that is refused where a state is remembered, over a storage that grows: the instruction is left out, so that the
--- next restore has nothing to bring back.
-use Rattle.std.proofs.Common.{ℕ, false, pos, negsuc, List, [], ◌∷◌, Option, Some, None, Result, Ok, Err, refl, inl, inr}
+-- next restore has nothing to bring back. And where an answer may run out of memory.
+use Rattle.std.proofs.Common.{◌≡◌, ℕ, Bool, true, false, pos, negsuc, List, [], ◌∷◌, Option, Some, None, Result, Ok, Err, refl, inl, inr}
 use Rattle.cfi_read_core.specs.ReadFunctions.{Readings}
 use Rattle.cfi_read_core.specs.declared.error.Error.{Error}
 use Rattle.cfi_read_core.specs.declared.error.Error.TheVariants.{OutOfMemory, PopWithEmptyStack}
@@ -11,6 +11,8 @@ use Rattle.cfi_state.specs.Row.{Row}
 use Rattle.cfi_state.specs.MachineSettings.{Setting}
 use Rattle.cfi_state.specs.Machine.{State, no_rules}
 use Rattle.cfi_state.specs.UnwindTableStates.{TableState, before_last_row, after_last_row}
+use Rattle.cfi_state.proofs.RuleMaps.{map_values}
+use Rattle.cfi_state.specs.MemoryOnTheWay.{may_allocate_on_the_way}
 use Rattle.cfi_state.specs.MachineRuns.{NextAnswer, passes, refuses, last_row, may_allocate}
 
 -- no limits, and copies of rules allocate; the FDE covers 0x1000 up to 0x1020
@@ -49,3 +51,35 @@ before_the_end = record (at_offset 8) { initial_rules = None }
 
 copy_refused : NextAnswer (may_allocate bounded false) bounded (before_last_row before_the_end (reads (instruction.RememberState ∷ []))) (Err OutOfMemory) (before_last_row before_the_end (reads []))
 copy_refused = refuses _ _ _ _ (inr (refl, refl, refl))
+
+-- ---- where the answer for an address may run out of memory
+
+abbrev may_run_out : Setting → Bool → List (CallFrameInstruction ℕ) → List (CallFrameInstruction ℕ) → ℕ → Bool
+may_run_out s free cie fde address = may_allocate_on_the_way (may_allocate s free) s (reads cie) (reads fde) address
+
+-- the row up to 0x1001 is complete before the state is remembered
+before_the_row : may_run_out growing false [] (instruction.AdvanceLoc 1 ∷ instruction.RememberState ∷ []) 4097 ≡ true
+before_the_row = simp map_values
+
+after_the_row : may_run_out growing false [] (instruction.AdvanceLoc 1 ∷ instruction.RememberState ∷ []) 4096 ≡ false
+after_the_row = simp map_values
+
+-- below the FDE no row contains the address
+no_row : may_run_out growing false [] (instruction.AdvanceLoc 1 ∷ instruction.RememberState ∷ []) 4095 ≡ true
+no_row = simp map_values
+
+after_a_refusal : may_run_out growing false [] (instruction.RestoreState ∷ instruction.RememberState ∷ []) 4096 ≡ false
+after_a_refusal = simp map_values
+
+after_the_refusal_of_the_cie : may_run_out growing false (instruction.RestoreState ∷ []) (instruction.RememberState ∷ []) 4096 ≡ false
+after_the_refusal_of_the_cie = refl
+
+in_the_cie : may_run_out growing false (instruction.RememberState ∷ []) [] 4096 ≡ true
+in_the_cie = refl
+
+-- a rule more, in a list without a limit
+rule_added : may_run_out growing false (instruction.Undefined (record { 0 = 3 }) ∷ []) [] 4096 ≡ true
+rule_added = simp map_values
+
+over_a_fixed_storage : may_run_out (record growing { rule_limit = Some 192; stack_limit = Some 4 }) true (instruction.Undefined (record { 0 = 3 }) ∷ instruction.RememberState ∷ []) (instruction.RememberState ∷ []) 4096 ≡ false
+over_a_fixed_storage = simp map_values

@@ -10,6 +10,7 @@ pub mod LastWriters
 pub mod Program
 pub mod FdeAnswers
 pub mod MappedStates
+pub mod MemoryOnTheWay
 pub mod UnwindTableStates
 pub mod RowExpressions
 pub mod MachineRuns

@@ -6,6 +6,7 @@ pub mod ScanSteps
 pub mod WalkLemmas
 pub mod Within
 pub mod TableSteps
+pub mod Laws
 pub mod RowLemmas
 pub mod StartLemmas
 pub mod Answered

@@ -1,9 +1,8 @@
 -- The answers of programs that are the same.
-use Rattle.std.proofs.Common.{◌≡◌, ◌⊎◌, inl, inr, ℕ, Bool, Result, Ok, Err, ap, sym, subst, ◌∙◌}
+use Rattle.std.proofs.Common.{◌≡◌, ℕ, ◌≤◌, ◌<◌, Bool, Result, Ok, Err, ap, subst, ◌∙◌}
 use Rattle.std.specs.Prelude.{IfOk}
 use Rattle.std.specs.Borrow.{Bor}
 use Rattle.cfi_read_core.specs.declared.error.Error.{Error}
-use Rattle.cfi_read_core.specs.declared.error.Error.TheVariants.{OutOfMemory}
 use Rattle.cfi_read_core.specs.ReadFunctions.{Position, Readings}
 use Rattle.cfi_read_core.specs.ReaderCalls.{map_ok}
 use Rattle.cfi_parts.specs.ExpressionPlaces.{LiesIn}
@@ -12,12 +11,9 @@ use Rattle.cfi_state.specs.MachineSettings.{Setting}
 use Rattle.cfi_state.specs.Row.{Row}
 use Rattle.cfi_state.specs.FdeAnswers.{fde_answer}
 use Rattle.cfi_state.specs.MachineRuns.{may_allocate, AnswersFde}
-use Rattle.cfi_state.specs.KeptInstructions.{AnswersByKept}
 use Rattle.cfi_state.specs.MappedStates.{map_row}
 use Rattle.cfi_state.specs.RowExpressions.{EachExpression, HasExpressionsIn}
-use Rattle.cfi_state.proofs.Laws.{fde_answer_kept_or_memory}
 use Rattle.cfi_state.proofs.RowExpressions.{of_parts}
-use Rattle.cfi_unwind.specs.AddressRow.{IsDueOrOutOfMemory}
 
 module _ (s t : Setting) (setting : s ≡ t) (cie cie' : Readings Instruction) (cies : cie ≡ cie') (fde fde' : Readings Instruction) (fdes : fde ≡ fde') where
   pub same_answer : (address : ℕ) → fde_answer s cie fde address ≡ fde_answer t cie' fde' address
@@ -33,17 +29,11 @@ module _ (s t : Setting) (setting : s ≡ t) (cie cie' : Readings Instruction) (
         (subst (λ x. AnswersFde (may_allocate t free) t x fde address row) cies
         (subst (λ x. AnswersFde (may_allocate x free) x cie fde address row) setting runs))
 
-    pub same_row : AnswersByKept (may_allocate s free) s cie fde address row → AnswersByKept (may_allocate t free) t cie' fde' address row
-    same_row answers =
-        subst (λ x. AnswersByKept (may_allocate t free) t cie' x address row) fdes
-        (subst (λ x. AnswersByKept (may_allocate t free) t x fde address row) cies
-        (subst (λ x. AnswersByKept (may_allocate x free) x cie fde address row) setting answers))
-
--- the answer of a run is the function's, or memory was refused
-pub due_or_memory : (s : Setting) (free : Bool) (cie fde : Readings Instruction) (address : ℕ) (row : Result (Row ℕ) Error) → AnswersFde (may_allocate s free) s cie fde address row → IsDueOrOutOfMemory (fde_answer s cie fde address) row
-due_or_memory s free cie fde address row runs =
-    let turned : (fde_answer s cie fde address ≡ row) ⊎ (row ≡ Err OutOfMemory) → IsDueOrOutOfMemory (fde_answer s cie fde address) row = elim [ inl is ↦ inl (sym is) | inr is ↦ inr is ] in
-    turned (fde_answer_kept_or_memory (may_allocate s free) s cie fde address row runs)
+-- the addresses of a row that is lent
+pub lent_contains : {T : Type 0} (number : T → ℕ) (address : ℕ) (result : Result (Bor (Row T)) Error) →
+    IfOk (map_ok (λ (row : Bor (Row T)). map_row number row.now) result) (λ row. (row.start_address ≤ address) × (address < row.end_address)) → IfOk result (λ row. (row.now.start_address ≤ address) × (address < row.now.end_address))
+lent_contains number address (Ok row) inside = inside
+lent_contains number address (Err e) inside = tt
 
 -- the expressions of a row that is lent, in the reader's offsets
 pub lent_expressions : {T : Type 0} (number : T → ℕ) (section : Position) (result : Result (Bor (Row T)) Error) →

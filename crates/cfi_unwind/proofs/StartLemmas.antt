@@ -18,7 +18,8 @@ use Rattle.cfi_state.specs.UnwindTableStates.{TableState, rows_to_come}
 use Rattle.cfi_state.specs.MachineRuns.{may_allocate, RunsInitialInstructions}
 use Rattle.cfi_state.proofs.Laws.{run_consecutive, run_in_one_row}
 use Rattle.cfi_state.proofs.RowExpressions.{answer_holds, initial_holds}
-use Rattle.cfi_unwind.specs.AddressRow.{RunsToRowOfFde, setting}
+use Rattle.cfi_unwind.specs.AddressRow.{IsRowOfFde, setting}
+use Rattle.cfi_unwind.proofs.Laws.{row_by_run}
 use Rattle.cfi_unwind.proofs.RowLemmas.{lent_expressions}
 use Rattle.std.specs.Borrow.{Bor}
 use Rattle.cfi_unwind.specs.Sections.{Section, position_of}
@@ -65,13 +66,14 @@ module _ {X : Type 0} (place : X → TableState (State ℕ) ℕ) (s : Setting) (
 
 -- the expressions of a row that is lent, in the reader's offsets
 pub row_inside : {T : Type 0} (number : T → ℕ) (rule_limit stack_limit : Option ℕ) (free : Bool) (section : Section) (a : ℕ) (fde : Fde) (result : Result (Bor (Row T)) Error) →
-    RunsToRowOfFde rule_limit stack_limit free section a fde (row_lent number result) →
+    IsRowOfFde rule_limit stack_limit free section a fde (row_lent number result) →
     section.first ≤ fde.cie.initial_instructions.first → fde.cie.initial_instructions.last ≤ section.source.last →
     section.first ≤ fde.instructions.first → fde.instructions.last ≤ section.source.last → IfOk result (λ row. HasExpressionsIn number (position_of section) row.now.parts)
-row_inside number rule_limit stack_limit free section a fde result runs begins ends own_begins own_ends =
+row_inside number rule_limit stack_limit free section a fde result is begins ends own_begins own_ends =
     let s = setting rule_limit stack_limit fde in
     lent_expressions number (position_of section) result
-    (answer_holds (LiesIn (position_of section)) (may_allocate s free) s (cie_instructions section fde.cie) (fde_instructions section fde) a (row_lent number result) runs
+    (answer_holds (LiesIn (position_of section)) (may_allocate s free) s (cie_instructions section fde.cie) (fde_instructions section fde) a (row_lent number result)
+    (row_by_run rule_limit stack_limit free section a (Ok fde) (row_lent number result) is)
     (cie_inside section fde.cie begins ends) (fde_inside section fde own_begins own_ends))
 
 -- made under a setting, over the programs of the two

@@ -25,7 +25,8 @@ use Rattle.cfi_state.specs.ListLimits.{IsFixed}
 use Rattle.cfi_state.proofs.MappedRuns.{step_ok-mapped, end_ok-mapped, step_refusal-mapped, end_refusal-mapped}
 use Rattle.cfi_state.proofs.MappedSteps.{is_move-mapped, fresh-mapped}
 use Rattle.cfi_state.proofs.RunSteps.{LeadsTo, leads-on, next-row, LeadsToCie, cie-leads-on, cie-refused, cie-unreadable, cie-ended, cie-end-refused}
-use Rattle.cfi_state.proofs.KeptAnswers.{keeps_next, keeps_cie, answers_by_kept, answers_by_kept_is}
+use Rattle.cfi_state.proofs.KeptAnswers.{keeps_next, keeps_cie}
+use Rattle.cfi_state.proofs.Laws.{run_is_due, is_due_where_never}
 use Rattle.cfi_state.proofs.IsStateAfter.{stands_fresh}
 use Rattle.cfi_state.proofs.FixedStorage.{fixed_never}
 use Rattle.cfi_state.proofs.RunAnswers.{next_or_memory, next_is_due}
@@ -240,7 +241,7 @@ module _ (s : Setting) (free : Bool) (cie fde : Readings Instruction) (address :
   -- over a fixed storage the answer is that of the form without a machine
   pub answer-fixed : (result : Result (Row ℕ) Error) → AnswersFde (may_allocate s free) s cie fde address result → IsFixed s.rule_limit s.stack_limit free → result ≡ fde_answer s cie fde address
   answer-fixed result answers is_fixed =
-      sym (answers_by_kept_is (may_allocate s free) s (fixed_never s free is_fixed.0 is_fixed.1 is_fixed.2) cie fde address result (answers_by_kept (may_allocate s free) s cie fde address result answers))
+      is_due_where_never (may_allocate s free) s cie fde address result (run_is_due (may_allocate s free) s cie fde address result answers) (fixed_never s free is_fixed.0 is_fixed.1 is_fixed.2)
 
   module _ {T : Type 0} (number : T → ℕ) (p : TableState (State ℕ) ℕ) (leads : LeadsToAnswer p) (t : Setting) (same : t ≡ s) (given : Result (Option (Bor (Row T))) Error) (q : TableState (State ℕ) ℕ) (context : ContextState T) (holds_row : Bool)
       (lent : LendsNextRow number t free p given q context holds_row) where

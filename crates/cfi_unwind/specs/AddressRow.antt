@@ -2,19 +2,15 @@
 --     setting rule_limit stack_limit fde      what stays fixed while the programs of an FDE and its CIE run
 --     row_of_fde .. fde      the answer of one FDE: the refusal of its CIE's initial instructions, else its first refusal or row with the address
 --     row_by_scan .. section a      that of the first FDE that covers the address, or the first refusal before it
---     IsRowOfFde      the same of one FDE where it may run out of memory; RunsToRowOfFde by the machine
---     IsRowOfFound      both, of an FDE or refusal that was found; that it is the function's answer or `OutOfMemory`; and over a
---         fixed storage the function's answer
---     IsRowByScan      that, of what going through the section finds
-use Rattle.std.specs.Prelude.{◌≡◌, ◌⊎◌, ℕ, Bool, Option, Result, Ok, Err}
+--     IsRowOfFde, IsRowOfFound, IsRowByScan      over any storage: the answer of an FDE, of the FDE or refusal that was found, and of
+--         the section, or `OutOfMemory` where an instruction that may allocate is reached on the way to it
+use Rattle.std.specs.Prelude.{ℕ, Bool, false, Option, Result, Ok, Err}
 use Rattle.cfi_read_core.specs.declared.error.Error.{Error}
-use Rattle.cfi_read_core.specs.declared.error.Error.TheVariants.{OutOfMemory}
 use Rattle.cfi_state.specs.MachineSettings.{Setting}
 use Rattle.cfi_state.specs.Row.{Row}
 use Rattle.cfi_state.specs.FdeAnswers.{fde_answer}
-use Rattle.cfi_state.specs.MachineRuns.{may_allocate, AnswersFde}
-use Rattle.cfi_state.specs.KeptInstructions.{AnswersByKept}
-use Rattle.cfi_state.specs.ListLimits.{IsFixed}
+use Rattle.cfi_state.specs.MachineRuns.{may_allocate}
+use Rattle.cfi_state.specs.MemoryOnTheWay.{may_allocate_on_the_way, IsDueOrOutOfMemory}
 use Rattle.cfi_unwind.specs.Sections.{Section}
 use Rattle.cfi_unwind.specs.Fdes.{Fde, end_of}
 use Rattle.cfi_unwind.specs.EntryInstructions.{cie_instructions, fde_instructions}
@@ -41,34 +37,29 @@ row_by_scan rule_limit stack_limit section a = scan_answer (row_of_fde rule_limi
 
 -- ---- over any storage; `copies_free` is whether it copies the rules of a row without taking memory
 
--- an instruction that may allocate may be refused for lack of it, and is then left out
+-- On the way to the answer for the address an instruction of the FDE or its CIE is reached that may allocate: all before it are
+-- accepted, and no row with the address has ended. Over a fixed storage there is none.
+abbrev pub allocates_in_fde : Option ℕ → Option ℕ → Bool → Section → ℕ → Fde → Bool
+allocates_in_fde rule_limit stack_limit copies_free section a fde =
+    let s = setting rule_limit stack_limit fde in
+    may_allocate_on_the_way (may_allocate s copies_free) s (cie_instructions section fde.cie) (fde_instructions section fde) a
+
+-- nothing allocates where a refusal was found
+abbrev pub allocates_in_found : Option ℕ → Option ℕ → Bool → Section → ℕ → Result Fde Error → Bool
+allocates_in_found rule_limit stack_limit copies_free section a (Ok fde) = allocates_in_fde rule_limit stack_limit copies_free section a fde
+allocates_in_found rule_limit stack_limit copies_free section a (Err e) = false
+
+-- the row for an address of this FDE
 abbrev pub IsRowOfFde : Option ℕ → Option ℕ → Bool → Section → ℕ → Fde → Result (Row ℕ) Error → Type 0
 IsRowOfFde rule_limit stack_limit copies_free section a fde row =
-    let s = setting rule_limit stack_limit fde in
-    AnswersByKept (may_allocate s copies_free) s (cie_instructions section fde.cie) (fde_instructions section fde) a row
+    IsDueOrOutOfMemory (row_of_fde rule_limit stack_limit section a fde) (allocates_in_fde rule_limit stack_limit copies_free section a fde) row
 
--- the same by a run of the machine
-abbrev pub RunsToRowOfFde : Option ℕ → Option ℕ → Bool → Section → ℕ → Fde → Result (Row ℕ) Error → Type 0
-RunsToRowOfFde rule_limit stack_limit copies_free section a fde row =
-    let s = setting rule_limit stack_limit fde in
-    AnswersFde (may_allocate s copies_free) s (cie_instructions section fde.cie) (fde_instructions section fde) a row
+-- the row for an address where this FDE or refusal was found
+abbrev pub IsRowOfFound : Option ℕ → Option ℕ → Bool → Section → ℕ → Result Fde Error → Result (Row ℕ) Error → Type 0
+IsRowOfFound rule_limit stack_limit copies_free section a found row =
+    IsDueOrOutOfMemory (answer_by (row_of_fde rule_limit stack_limit section a) found) (allocates_in_found rule_limit stack_limit copies_free section a found) row
 
--- what is due, or memory was refused
-abbrev pub IsDueOrOutOfMemory : Result (Row ℕ) Error → Result (Row ℕ) Error → Type 0
-IsDueOrOutOfMemory due row = (row ≡ due) ⊎ (row ≡ Err OutOfMemory)
-
--- the answer of the FDE that was found, or the refusal in its place
-abbrev pub IsOfFound : {A : Type 0} → (Fde → Result A Error → Type 0) → Result Fde Error → Result A Error → Type 0
-IsOfFound of_fde (Ok fde) answer = of_fde fde answer
-IsOfFound of_fde (Err e) answer = answer ≡ Err e
-
--- The row for an address where this FDE or refusal was found.
-pub record IsRowOfFound (rule_limit stack_limit : Option ℕ) (copies_free : Bool) (section : Section) (a : ℕ) (found : Result Fde Error) (row : Result (Row ℕ) Error) : Type 0 where
-  pub kept : IsOfFound (IsRowOfFde rule_limit stack_limit copies_free section a) found row
-  pub run : IsOfFound (RunsToRowOfFde rule_limit stack_limit copies_free section a) found row
-  pub due : IsDueOrOutOfMemory (answer_by (row_of_fde rule_limit stack_limit section a) found) row
-  pub fixed : IsFixed rule_limit stack_limit copies_free → row ≡ answer_by (row_of_fde rule_limit stack_limit section a) found
-
--- that of the FDE that is chosen by going through the section, each with the CIE to which it points
+-- the row for an address by going through the section, each FDE with the CIE to which it points
 abbrev pub IsRowByScan : Option ℕ → Option ℕ → Bool → Section → ℕ → Result (Row ℕ) Error → Type 0
-IsRowByScan rule_limit stack_limit copies_free section a row = IsRowOfFound rule_limit stack_limit copies_free section a (chosen_fde section a) row
+IsRowByScan rule_limit stack_limit copies_free section a row =
+    IsDueOrOutOfMemory (row_by_scan rule_limit stack_limit section a) (allocates_in_found rule_limit stack_limit copies_free section a (chosen_fde section a)) row

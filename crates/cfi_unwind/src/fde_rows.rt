@@ -1,12 +1,11 @@
 //! The rows of an FDE, and the row that it gives for an address (DWARF 5 section 6.4.1).
-ghost use Rattle.std.specs.Prelude.{◌≡◌, ℕ, Option, IfOk, false};
+ghost use Rattle.std.specs.Prelude.{◌≡◌, ◌≤◌, ◌<◌, ℕ, Option, IfOk, false};
 ghost use Rattle.cfi_parts.specs.CallFrameSections.{IsOf};
 ghost use Rattle.cfi_state.specs.ContextEffects.{setting_of};
-ghost use Rattle.cfi_state.specs.ListLimits.{IsFixed};
 ghost use Rattle.cfi_state.specs.MappedStates.{row_lent};
 ghost use Rattle.cfi_state.specs.RowExpressions.{HasExpressionsIn};
 ghost use Rattle.cfi_unwind.specs.Sections.{section_of};
-ghost use Rattle.cfi_unwind.specs.AddressRow.{IsDueOrOutOfMemory, IsRowOfFde, RunsToRowOfFde, row_of_fde, setting};
+ghost use Rattle.cfi_unwind.specs.AddressRow.{IsRowOfFde, setting};
 ghost use Rattle.cfi_unwind.specs.CieAndFdeViews.{fde_view};
 ghost use Rattle.cfi_unwind.specs.UnwindTableCalls.{StartsRows};
 ghost use Rattle.cfi_unwind.specs.UnwindTableViews.{table_state};
@@ -82,14 +81,8 @@ impl<R: Reader> FrameDescriptionEntry<R> {
         requires cie { IsOf (R.position self.now.cie.initial_instructions) (Section.view section.now).position }
         ensures row { IsRowOfFde S.Rules.limit S.Stack.limit S.Rules.copies_free (section_of (Section.view section.now) bases.now) address
             (fde_view R.position R.Offset.number self.now) (row_lent R.Offset.number result) }
-        ensures run { RunsToRowOfFde S.Rules.limit S.Stack.limit S.Rules.copies_free (section_of (Section.view section.now) bases.now) address
-            (fde_view R.position R.Offset.number self.now) (row_lent R.Offset.number result) }
-        ensures due { IsDueOrOutOfMemory (row_of_fde S.Rules.limit S.Stack.limit (section_of (Section.view section.now) bases.now) address
-            (fde_view R.position R.Offset.number self.now)) (row_lent R.Offset.number result) }
+        ensures contains { IfOk result (λ row. (row.now.start_address ≤ address) × (address < row.now.end_address)) }
         ensures expressions { IfOk result (λ row. HasExpressionsIn R.Offset.number (Section.view section.now).position row.now.parts) }
-        ensures fixed { IsFixed S.Rules.limit S.Stack.limit S.Rules.copies_free →
-            row_lent R.Offset.number result
-            ≡ row_of_fde S.Rules.limit S.Stack.limit (section_of (Section.view section.now) bases.now) address (fde_view R.position R.Offset.number self.now) }
     {
         let initial = self.cie.instructions(section, bases);
         let instructions = self.instructions(section, bases);

@@ -1,5 +1,5 @@
 //! Call frame sections.
-ghost use Rattle.std.specs.Prelude.{◌≡◌, IfOk, Result};
+ghost use Rattle.std.specs.Prelude.{◌≡◌, ◌≤◌, ◌<◌, IfOk, Result};
 ghost use Rattle.cfi_read_core.specs.ReaderCalls.{map_ok};
 ghost use Rattle.cfi_read_core.specs.declared.error.Error.{Error};
 ghost use Rattle.cfi_parts.specs.CallFrameSections.{IsOf};
@@ -169,6 +169,7 @@ pub trait UnwindSection<R: Reader>: Copy + Debug + _UnwindSectionPrivate<R> {
             get_cie found last
             × IsRowOfFound S.Rules.limit S.Stack.limit S.Rules.copies_free (section_of (Self.view self.now) bases.now) address
             found (row_lent R.Offset.number result) }
+        ensures contains { IfOk result (λ row. (row.now.start_address ≤ address) × (address < row.now.end_address)) }
         ensures expressions { IfOk result (λ row. HasExpressionsIn R.Offset.number (Self.view self.now).position row.now.parts) }
     {
         unwind_info_for_address_by_ref(self, bases, ctx, address, &mut get_cie)

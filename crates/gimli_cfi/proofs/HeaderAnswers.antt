@@ -15,7 +15,7 @@ use Rattle.gimli_cfi.specs.RowsByHeader.{FoundByHeader, FoundByTable, IsRowByHea
 module _ (rules stack : Option ℕ) (free : Bool) (section : Section) (a : ℕ) (header : HeaderSection) where
   pub refused_by_header : (e : Error) → Err e ≡ header_of header → IsRowByHeader rules stack free section a header (Err e)
   refused_by_header e is =
-      (Err e, subst (λ read. FoundByHeader section a header read (Err e)) is refl, record { kept = refl; run = refl; due = inl refl; fixed = λ _. refl })
+      (Err e, subst (λ read. FoundByHeader section a header read (Err e)) is refl, inl refl)
 
   pub found_by_header : (h : Header) (t : Option Table) (found : Result Fde Error) (answer : Result (Row ℕ) Error) → Ok h ≡ header_of header
       → h.table ≡ t → FoundByTable section a header h.eh_frame t found → IsRowOfFound rules stack free section a found answer → IsRowByHeader rules stack free section a header answer
@@ -35,7 +35,7 @@ module _ (rules stack : Option ℕ) (free : Bool) (section : Section) (a : ℕ) 
   refused_by_table h t e is rows refused =
       found_by_header h (Some t) (Err e) (Err e) is (sym rows)
       (unsearchable (value_size t.encoding) (start_of header t) t (fde_by_row header t h.eh_frame section a) e refused)
-      (record { kept = refl; run = refl; due = inl refl; fixed = λ _. refl })
+      (inl refl)
 
   pub answered_by_table : (source : HeaderSection) (h : Header) (t : Table) (start : ℕ → Result ℕ Error) (eh_frame : Pointer) (answer : Result (Row ℕ) Error)
       → Ok h ≡ header_of header → Some t ≡ h.table → start ≡ start_of source t → source ≡ header → eh_frame ≡ h.eh_frame

@@ -1,5 +1,5 @@
 //! Unwind contexts, rows and tables, and the row of an address.
-ghost use Rattle.std.specs.Prelude.{IfOk};
+ghost use Rattle.std.specs.Prelude.{◌≤◌, ◌<◌, IfOk};
 ghost use Rattle.cfi_state.specs.MappedStates.{row_lent};
 ghost use Rattle.cfi_state.specs.RowExpressions.{HasExpressionsIn};
 ghost use Rattle.cfi_unwind.specs.Sections.{section_of};
@@ -47,6 +47,7 @@ pub fn row_by_scan<'ctx, R: Reader, Section: UnwindSection<R>, S: UnwindContextS
 ) -> Result<&'ctx UnwindTableRow<R::Offset, S::Rules>>
     ensures row { IsRowByScan S.Rules.limit S.Stack.limit S.Rules.copies_free
         (section_of (Section.view section.now) bases.now) address (row_lent R.Offset.number result) }
+    ensures contains { IfOk result (λ row. (row.now.start_address ≤ address) × (address < row.now.end_address)) }
     ensures expressions { IfOk result (λ row.
         HasExpressionsIn R.Offset.number (Section.view section.now).position row.now.parts) }
 {

@@ -1,6 +1,6 @@
 //! The calls of a section that take a `get_cie`, with it lent: their contracts name the state in which it is left, so
 //! that it is asked for those CIEs and for no more.
-ghost use Rattle.std.specs.Prelude.{◌≡◌, IfOk, Result};
+ghost use Rattle.std.specs.Prelude.{◌≡◌, ◌≤◌, ◌<◌, IfOk, Result};
 ghost use Rattle.cfi_read_core.specs.ReaderCalls.{map_ok};
 ghost use Rattle.cfi_read_core.specs.declared.error.Error.{Error};
 ghost use Rattle.cfi_parts.specs.CallFrameSections.{IsOf};
@@ -94,6 +94,7 @@ where
         get_cie.old found get_cie.new
         × IsRowOfFound S.Rules.limit S.Stack.limit S.Rules.copies_free (section_of (Section.view section.now) bases.now) address
         found (row_lent R.Offset.number result) }
+    ensures contains { IfOk result (λ row. (row.now.start_address ≤ address) × (address < row.now.end_address)) }
     ensures expressions { IfOk result (λ row. HasExpressionsIn R.Offset.number (Section.view section.now).position row.now.parts) }
 {
     let fde = fde_for_address_by_ref(section, bases, address, get_cie)?;

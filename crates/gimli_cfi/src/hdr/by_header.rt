@@ -1,5 +1,5 @@
 //! The unwind row of an address, by a header that isn't read yet.
-ghost use Rattle.std.specs.Prelude.{IfOk};
+ghost use Rattle.std.specs.Prelude.{◌≤◌, ◌<◌, IfOk};
 ghost use Rattle.cfi_read_core.specs.Addresses.{IsAddressSize};
 ghost use Rattle.cfi_state.specs.MappedStates.{row_lent};
 ghost use Rattle.cfi_state.specs.RowExpressions.{HasExpressionsIn};
@@ -36,6 +36,7 @@ pub fn row_by_header<'ctx, R: Reader, S: UnwindContextStorage<R::Offset>>(
         (section_view R.position frame.now bases.now) address
         (header_section (R.position header.now.0) address_size bases.now.eh_frame_hdr)
         (row_lent R.Offset.number result) }
+    ensures contains { IfOk result (λ row. (row.now.start_address ≤ address) × (address < row.now.end_address)) }
     ensures expressions { IfOk result (λ row.
         HasExpressionsIn R.Offset.number (R.position frame.now.section) row.now.parts) }
 {

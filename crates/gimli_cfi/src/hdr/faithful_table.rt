@@ -1,5 +1,5 @@
 //! A table that was checked against its section.
-ghost use Rattle.std.specs.Prelude.{◌≡◌, ⊤, IfOk, IfErr};
+ghost use Rattle.std.specs.Prelude.{◌≡◌, ◌≤◌, ◌<◌, ⊤, IfOk, IfErr};
 ghost use Rattle.cfi_state.specs.MappedStates.{row_lent};
 ghost use Rattle.cfi_state.specs.RowExpressions.{HasExpressionsIn};
 ghost use Rattle.cfi_unwind.specs.AddressRow.{IsRowByScan};
@@ -90,6 +90,7 @@ impl<'a, R: Reader> FaithfulTable<'a, R> {
     ) -> Result<&'ctx UnwindTableRow<R::Offset, S::Rules>, Error>
         ensures row { IsRowByScan S.Rules.limit S.Stack.limit S.Rules.copies_free
             (section_view R.position self.now.frame.now self.now.bases.now) address (row_lent R.Offset.number result) }
+        ensures contains { IfOk result (λ row. (row.now.start_address ≤ address) × (address < row.now.end_address)) }
         ensures expressions { IfOk result (λ row.
             HasExpressionsIn R.Offset.number (R.position self.now.frame.now.section) row.now.parts) }
     {

@@ -64,6 +64,7 @@ pub fn row_by_table<'ctx, R: Reader, St: StartSource, S: UnwindContextStorage<R:
         × IsFoundByTable (St.answer starts.old) l.header l.table l.eh_frame l.section address found
         × IsRowOfFound S.Rules.limit S.Stack.limit S.Rules.copies_free l.section address
         found (row_lent R.Offset.number result) }
+    ensures contains { IfOk result (λ row. (row.now.start_address ≤ address) × (address < row.now.end_address)) }
     ensures expressions { IfOk result (λ row.
         HasExpressionsIn R.Offset.number (R.position frame.now.section) row.now.parts) }
     ensures faithful { let l = listing_view R.position table.now frame.now bases.now in
@@ -204,6 +205,7 @@ where
         l.header l.table l.eh_frame l.section address get_cie.old found get_cie.new
         × IsRowOfFound S.Rules.limit S.Stack.limit S.Rules.copies_free l.section address
         found (row_lent R.Offset.number result) }
+    ensures contains { IfOk result (λ row. (row.now.start_address ≤ address) × (address < row.now.end_address)) }
     ensures expressions { IfOk result (λ row.
         HasExpressionsIn R.Offset.number (R.position frame.now.section) row.now.parts) }
 {
@@ -272,6 +274,7 @@ impl<R: Reader> EhHdrTable<'_, R> {
             l.header l.table l.eh_frame l.section address get_cie found last
             × IsRowOfFound S.Rules.limit S.Stack.limit S.Rules.copies_free l.section address
             found (row_lent R.Offset.number result) }
+        ensures contains { IfOk result (λ row. (row.now.start_address ≤ address) × (address < row.now.end_address)) }
         ensures expressions { IfOk result (λ row.
             HasExpressionsIn R.Offset.number (R.position frame.now.section) row.now.parts) }
     {

@@ -6,10 +6,8 @@ use Rattle.gimli_cfi.proofs.table.row_by_scan.Goals as goal
 pub returns-in_err-fde-clause-row : goal.returns-in_err-fde-clause-row
 returns-in_err-fde-clause-row g c =
     let gives : c.from_residual.result ≡ Err c.in_err-fde.field-0.0 = search rules in
-    let refused = ap (map_ok _) gives in
-    by_scan _ _ _ _ _ _ _ c.in_err-fde.ensures.scan (record { kept = refused; run = refused; due = inl refused; fixed = λ _. refused })
+    by_scan _ _ _ _ _ _ _ c.in_err-fde.ensures.scan (inl (ap (map_ok _) gives))
 
 pub returns-clause-row : goal.returns-clause-row
 returns-clause-row g c =
-    by_scan _ _ _ _ _ _ _ c.in_ok-fde.ensures.scan
-    (record { kept = c.unwind_info_for_address.ensures.row; run = c.unwind_info_for_address.ensures.run; due = c.unwind_info_for_address.ensures.due; fixed = c.unwind_info_for_address.ensures.fixed })
+    by_scan _ _ _ _ _ _ _ c.in_ok-fde.ensures.scan c.unwind_info_for_address.ensures.row

@@ -4,4 +4,4 @@ use Rattle.cfi_unwind.proofs.unwind_section.by_ref.unwind_info_for_address_by_re
 pub returns-in_err-fde : goal.returns-in_err-fde
 returns-in_err-fde g c =
     let gives : c.from_residual.result ≡ Err c.in_err-fde.field-0.0 = search rules in
-    rw gives (record { row = (Err c.in_err-fde.field-0.0, c.in_err-fde.ensures.scan, record { kept = refl; run = refl; due = inl refl; fixed = λ is_fixed. refl }); expressions = tt })
+    rw gives (record { row = (Err c.in_err-fde.field-0.0, c.in_err-fde.ensures.scan, inl refl); contains = tt; expressions = tt })

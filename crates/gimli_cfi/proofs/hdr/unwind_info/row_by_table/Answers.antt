@@ -12,7 +12,7 @@ returns-in_err-fde-clause-faithful g c = λ eh_frame at faithful same.
     as_by_scan _ _ _ (section_view g.R.Reader.position c.args.frame.now c.args.bases.now) c.args.address _
     (header_section_view g.R.Reader.position c.args.table.now.hdr.now c.args.bases.now) (table_view g.R.Reader.position c.args.table.now) c.args.table.now.hdr.now.eh_frame_ptr eh_frame
     (g.St.StartSource.answer c.args.starts.now) _ at faithful reaches same c.in_err-fde.ensures.found
-    (let refused = ap (map_ok _) gives in record { kept = refused; run = refused; due = inl refused; fixed = λ _. refused })
+    (inl (ap (map_ok _) gives))
 
 pub returns-clause-faithful : goal.returns-clause-faithful
 returns-clause-faithful g c = λ eh_frame at faithful same.
@@ -21,4 +21,4 @@ returns-clause-faithful g c = λ eh_frame at faithful same.
     as_by_scan _ _ _ (section_view g.R.Reader.position c.args.frame.now c.args.bases.now) c.args.address _
     (header_section_view g.R.Reader.position c.args.table.now.hdr.now c.args.bases.now) (table_view g.R.Reader.position c.args.table.now) c.args.table.now.hdr.now.eh_frame_ptr eh_frame
     (g.St.StartSource.answer c.args.starts.now) _ at faithful reaches same c.in_ok-fde.ensures.found
-    (record { kept = c.unwind_info_for_address.ensures.row; run = c.unwind_info_for_address.ensures.run; due = c.unwind_info_for_address.ensures.due; fixed = c.unwind_info_for_address.ensures.fixed })
+    c.unwind_info_for_address.ensures.row
