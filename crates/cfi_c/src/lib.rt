@@ -6,7 +6,6 @@ ghost use Rattle.cfi_read_core.specs.declared.error.Error.{Error};
 ghost use Rattle.cfi_read_core.specs.Addresses.{IsAddressSize};
 ghost use Rattle.cfi_read_core.specs.RefusalNames.{name_of};
 ghost use Rattle.cfi_c.specs.Refusals.{number, status_name};
-ghost use Rattle.std.specs.Option.{option_map};
 ghost use Rattle.cfi_c.specs.Answers.{IsAnswerForC, IsFaithfulHeader, IsScanned, SameAround};
 ghost use Rattle.cfi_c.specs.Answers.{IsCount, AreAnswered, header_in, is_live, lent};
 
