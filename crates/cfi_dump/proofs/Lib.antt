@@ -1,1 +1,2 @@
 pub mod RowsWritten
+pub mod SectionWritten

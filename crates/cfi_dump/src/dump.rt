@@ -1,10 +1,13 @@
 //! The entries of a section in order, and the rows of each FDE.
 ghost use Rattle.std.specs.Prelude.{◌≡◌, IfOk};
+ghost use Rattle.cfi_read_core.specs.ReaderCalls.{map_ok};
 ghost use Rattle.cfi_parts.specs.CallFrameSections.{IsOf};
 ghost use Rattle.cfi_unwind.specs.CieAndFdeViews.{fde_view};
+ghost use Rattle.cfi_unwind.specs.EntryViews.{partial_of};
+ghost use Rattle.cfi_unwind.specs.Scan.{read_fde};
 ghost use Rattle.cfi_unwind.specs.Sections.{section_of};
 ghost use Rattle.cfi_program.specs.WriterOutput.{Writes};
-ghost use Rattle.cfi_dump.specs.SectionTexts.{fde_rows, lines};
+ghost use Rattle.cfi_dump.specs.SectionTexts.{fde_rows, fde_text, lines, section_text};
 
 use crate::entry_line::{write_cie, write_fde, write_partial_fde};
 use cfi_program::lines::write_refusal;
@@ -26,20 +29,15 @@ pub fn write_section<R: Reader<Offset = usize>, S: UnwindSection<R>, W: Write>(
     section: &S,
     bases: &BaseAddresses,
     context: &mut UnwindContext<usize>,
-) -> io::Result<()> {
+) -> io::Result<()>
+    ensures { Writes (W.contents output.old) (W.contents output.new) result (section_text (section_of (S.view section.now) bases.now)) }
+{
     for entry in section.entries(bases) {
         match entry {
             Ok(CieOrFde::Cie(cie)) => write_cie(output, &cie)?,
-            Ok(CieOrFde::Fde(partial)) => match whole(section, &partial) {
-                Ok(fde) => {
-                    write_fde(output, &fde)?;
-                    write_rows(output, section, bases, context, &fde)?;
-                }
-                Err(error) => {
-                    write_partial_fde(output, partial.offset(), partial.entry_len())?;
-                    write_refusal(output, error)?;
-                }
-            },
+            Ok(CieOrFde::Fde(partial)) => {
+                write_fde_and_rows(output, section, bases, context, &partial)?;
+            }
             Err(error) => {
                 write_refusal(output, error)?;
             }
@@ -48,16 +46,43 @@ pub fn write_section<R: Reader<Offset = usize>, S: UnwindSection<R>, W: Write>(
     Ok(())
 }
 
+/// Writes the line of the FDE and the lines of its rows; or, where it can't be read whole, what is known of it and why.
+fn write_fde_and_rows<R: Reader<Offset = usize>, S: UnwindSection<R>, W: Write>(
+    output: &mut W,
+    section: &S,
+    bases: &BaseAddresses,
+    context: &mut UnwindContext<usize>,
+    partial: &PartialFrameDescriptionEntry<'_, S, R>,
+) -> io::Result<()>
+    requires section { partial.now.section ≡ section.now }
+    requires bases { partial.now.bases.now ≡ bases.now }
+    ensures { let from = section_of (S.view section.now) bases.now in
+        let found = partial_of R.position (λ n. n) partial.now.found partial.now.cie_offset in
+        Writes (W.contents output.old) (W.contents output.new) result (fde_text from found (read_fde from found)) }
+{
+    match whole(partial) {
+        Ok(fde) => {
+            write_fde(output, &fde)?;
+            write_rows(output, section, bases, context, &fde)
+        }
+        Err(error) => {
+            write_partial_fde(output, partial.offset(), partial.entry_len())?;
+            write_refusal(output, error)?;
+            Ok(())
+        }
+    }
+}
+
 /// The whole FDE, with the CIE that stands in the section.
 fn whole<R: Reader, S: UnwindSection<R>>(
-    section: &S,
     partial: &PartialFrameDescriptionEntry<'_, S, R>,
 ) -> Result<FrameDescriptionEntry<R>>
-    requires { partial.now.section ≡ section.now }
-    ensures part { IfOk result (λ fde. IsOf (R.position fde.instructions) (S.view section.now).position) }
-    ensures cie_part { IfOk result (λ fde. IsOf (R.position fde.cie.initial_instructions) (S.view section.now).position) }
+    ensures read { map_ok (fde_view R.position R.Offset.number) result
+        ≡ read_fde (section_of (S.view partial.now.section) partial.now.bases.now) (partial_of R.position R.Offset.number partial.now.found partial.now.cie_offset) }
+    ensures part { IfOk result (λ fde. IsOf (R.position fde.instructions) (S.view partial.now.section).position) }
+    ensures cie_part { IfOk result (λ fde. IsOf (R.position fde.cie.initial_instructions) (S.view partial.now.section).position) }
 {
-    let reader = *section.section();
+    let reader = partial.offset();
     partial.parse(|from: &S, bases: &BaseAddresses, offset: S::Offset| {
         let _reader = reader;
         from.cie_from_offset(bases, offset)
