@@ -1,2 +1,3 @@
 pub mod RowsWritten
 pub mod SectionWritten
+pub mod CommandLineLemmas
