@@ -1,3 +1,4 @@
 pub mod RowsWritten
 pub mod SectionWritten
 pub mod CommandLineLemmas
+pub mod RunLemmas

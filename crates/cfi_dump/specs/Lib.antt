@@ -1,3 +1,4 @@
 pub mod EntryLines
 pub mod SectionTexts
 pub mod CommandLine
+pub mod ProgramOutput

@@ -4,6 +4,12 @@
 //! in hexadecimal. `run` says what is printed.
 #![tactic(auto)]
 
+ghost use Rattle.std.specs.Prelude.{ℕ, List, IfSome, option_map};
+ghost use Rattle.std.specs.Io.KnownBytes.{Appends};
+ghost use Rattle.std.specs.Process.{exit_status};
+ghost use Rattle.cfi_program.specs.Words.{texts};
+ghost use Rattle.cfi_dump.specs.ProgramOutput.{IsRun};
+
 mod dump;
 mod entry_line;
 mod run;
@@ -13,7 +19,8 @@ mod words;
 
 use cfi_program::words::{texts_of, words_after_name};
 use run::run;
-use std::io::BufWriter;
+use std::alloc::Global;
+use std::io::{BufWriter, Read, Write};
 use std::process::ExitCode;
 
 fn main(rt: HostRuntime) -> ExitCode {
@@ -23,10 +30,24 @@ fn main(rt: HostRuntime) -> ExitCode {
         return ExitCode::from(2);
     };
     let Ok(words) = words_after_name(&rt) else {
-        return ExitCode::from(run(alloc, None, &mut input, &mut output));
+        return run_for(alloc, None, &mut input, &mut output);
     };
     match texts_of(alloc, words.as_slice()) {
-        Ok(texts) => ExitCode::from(run(alloc, Some(texts.as_slice()), &mut input, &mut output)),
-        Err(_) => ExitCode::from(run(alloc, None, &mut input, &mut output)),
+        Ok(texts) => run_for(alloc, Some(texts.as_slice()), &mut input, &mut output),
+        Err(_) => run_for(alloc, None, &mut input, &mut output),
     }
+}
+
+/// Runs the program, and ends with its status.
+fn run_for<R: Read, W: Write>(
+    alloc: Global,
+    words: Option<&[&str]>,
+    input: &mut R,
+    output: &mut W,
+) -> ExitCode
+    ensures { IfSome (R.remaining input.old) (λ bytes. (written : List ℕ)
+        × Appends (W.contents output.old) (W.contents output.new) written
+        × IsRun (option_map (λ list. texts list.now) words.entry) bytes written (exit_status result)) }
+{
+    ExitCode::from(run(alloc, words, input, output))
 }
