@@ -8,7 +8,7 @@ use crate::sums::{Done, FAILED, REFUSED, row_sum, rules_sum};
 use gimli_cfi::{
     BaseAddresses, CieOrFde, EhFrame, EhFrameHdr, EhHdrTable, Endianity, FrameDescriptionEntry,
     PartialFrameDescriptionEntry, Reader, Result, StoreOnHeap, TableStarts, UnwindContext,
-    UnwindSection, row_by_scan, row_by_table,
+    UnwindContextStorage, UnwindSection, UnwindTableRow, row_by_scan, row_by_table,
 };
 use std::alloc::Global;
 
@@ -26,9 +26,9 @@ pub fn of_section<E: Endianity>(
     let done = match measure {
         0 => entries(&frame, &bases),
         1 => fdes(&frame, &bases),
-        2 => walk(alloc, &frame, &bases),
+        2 => walk(alloc, &frame, &bases, row_sum::<StoreOnHeap>),
         3 => scans(alloc, &frame, &bases, addresses),
-        7 => walk_rules(alloc, &frame, &bases),
+        7 => walk(alloc, &frame, &bases, rules_sum::<StoreOnHeap>),
         _ => return FAILED,
     };
     match done {
@@ -119,16 +119,20 @@ fn fdes<R: Reader, S: UnwindSection<R>>(section: &S, bases: &BaseAddresses) -> R
     Ok(done)
 }
 
-/// The rows of an FDE, by their addresses and CFA.
-fn walk_fde<'x, R: Reader<Offset = usize>, S: UnwindSection<R>>(
+/// The rows of an FDE, each by its sum.
+fn walk_fde<'x, R: Reader<Offset = usize>, S: UnwindSection<R>, F>(
     section: &'x S,
     bases: &'x BaseAddresses,
     fde: &FrameDescriptionEntry<R>,
     context: &mut UnwindContext<usize>,
+    sum_of: &F,
     done: &mut Done,
 )
+where
+    F: Fn(&UnwindTableRow<usize, <StoreOnHeap as UnwindContextStorage<usize>>::Rules>) -> u64,
     requires own { IsOf (R.position fde.now.instructions) (S.view section.now).position }
     requires cie { IsOf (R.position fde.now.cie.initial_instructions) (S.view section.now).position }
+    requires callable { (row : _) → F.Fn.pre sum_of.now row }
 {
     let Ok(mut table) = fde.rows(section, bases, context) else {
         return;
@@ -136,17 +140,22 @@ fn walk_fde<'x, R: Reader<Offset = usize>, S: UnwindSection<R>>(
     for _ in 0..u64::MAX {
         match table.next_row() {
             Ok(None) => break,
-            Ok(Some(row)) => done.take(row_sum::<StoreOnHeap>(row)),
+            Ok(Some(row)) => done.take(sum_of(row)),
             Err(_) => done.take(REFUSED),
         }
     }
 }
 
-fn walk<R: Reader<Offset = usize>, S: UnwindSection<R>>(
+fn walk<R: Reader<Offset = usize>, S: UnwindSection<R>, F>(
     alloc: Global,
     section: &S,
     bases: &BaseAddresses,
-) -> Result<Done> {
+    sum_of: F,
+) -> Result<Done>
+where
+    F: Fn(&UnwindTableRow<usize, <StoreOnHeap as UnwindContextStorage<usize>>::Rules>) -> u64,
+    requires { (row : _) → F.Fn.pre sum_of row }
+{
     let mut context = UnwindContext::<usize>::new(alloc)?;
     let mut done = Done::none();
     let mut entries = section.entries(bases);
@@ -156,51 +165,7 @@ fn walk<R: Reader<Offset = usize>, S: UnwindSection<R>>(
             Some(CieOrFde::Cie(_)) => {}
             Some(CieOrFde::Fde(partial)) => {
                 let fde = whole(section, &partial)?;
-                walk_fde(section, bases, &fde, &mut context, &mut done);
-            }
-        }
-    }
-    Ok(done)
-}
-
-/// The rows of an FDE, with every rule.
-fn walk_rules_of_fde<'x, R: Reader<Offset = usize>, S: UnwindSection<R>>(
-    section: &'x S,
-    bases: &'x BaseAddresses,
-    fde: &FrameDescriptionEntry<R>,
-    context: &mut UnwindContext<usize>,
-    done: &mut Done,
-)
-    requires own { IsOf (R.position fde.now.instructions) (S.view section.now).position }
-    requires cie { IsOf (R.position fde.now.cie.initial_instructions) (S.view section.now).position }
-{
-    let Ok(mut table) = fde.rows(section, bases, context) else {
-        return;
-    };
-    for _ in 0..u64::MAX {
-        match table.next_row() {
-            Ok(None) => break,
-            Ok(Some(row)) => done.take(rules_sum::<StoreOnHeap>(row)),
-            Err(_) => done.take(REFUSED),
-        }
-    }
-}
-
-fn walk_rules<R: Reader<Offset = usize>, S: UnwindSection<R>>(
-    alloc: Global,
-    section: &S,
-    bases: &BaseAddresses,
-) -> Result<Done> {
-    let mut context = UnwindContext::<usize>::new(alloc)?;
-    let mut done = Done::none();
-    let mut entries = section.entries(bases);
-    for _ in 0..u64::MAX {
-        match entries.next()? {
-            None => break,
-            Some(CieOrFde::Cie(_)) => {}
-            Some(CieOrFde::Fde(partial)) => {
-                let fde = whole(section, &partial)?;
-                walk_rules_of_fde(section, bases, &fde, &mut context, &mut done);
+                walk_fde(section, bases, &fde, &mut context, &sum_of, &mut done);
             }
         }
     }
