@@ -1,11 +1,12 @@
 //! Sections that end too early, or whose numbers are the greatest, over offsets of eight bytes and of four.
 use crate::entries::bytes_of;
 use crate::sections::THREE_ROWS;
-use cfi_read_core::{EndianSlice, Error, LittleEndian, NarrowSlice, Reader, ReaderOffsetId};
+use cfi_read_core::{Error, LittleEndian, NarrowSlice, Reader, ReaderOffsetId};
 use gimli_cfi::pointer::BaseAddresses;
-use gimli_cfi::section::{DebugFrame, EhFrame};
+use gimli_cfi::section::{DebugFrame, EhFrame, UnwindSection};
 use gimli_cfi::storage::UnwindContextStorage;
 use gimli_cfi::table::{UnwindContext, row_by_scan};
+use std::alloc::Global;
 use std::test::Fail;
 
 /// The addresses of the row for 0x1002.
@@ -13,29 +14,41 @@ type Answer = Result<(u64, u64), Error>;
 
 const ENDS_AT_THE_FIRST_PLACE: Answer = Err(Error::UnexpectedEof(ReaderOffsetId(0)));
 
-fn in_debug_frame<R: Reader, S: UnwindContextStorage<R::Offset>>(
-    context: &mut UnwindContext<R::Offset, S>,
-    reader: R,
+fn row_in<R: Reader, S: UnwindSection<R>, C: UnwindContextStorage<R::Offset>>(
+    context: &mut UnwindContext<R::Offset, C>,
+    section: &S,
 ) -> Answer {
-    let section = DebugFrame::from(reader);
-    let row = row_by_scan(&section, &BaseAddresses::default(), context, 0x1002)?;
+    let row = row_by_scan(section, &BaseAddresses::default(), context, 0x1002)?;
     Ok((row.start_address(), row.end_address()))
 }
 
-fn in_eh_frame<R: Reader, S: UnwindContextStorage<R::Offset>>(
-    context: &mut UnwindContext<R::Offset, S>,
-    reader: R,
-) -> Answer {
-    let section = EhFrame::from(reader);
-    let row = row_by_scan(&section, &BaseAddresses::default(), context, 0x1002)?;
-    Ok((row.start_address(), row.end_address()))
+/// In `.debug_frame`, over offsets of eight bytes and of four.
+fn in_debug_frame(alloc: Global, bytes: &[u8]) -> Result<(Answer, Answer), Fail> {
+    let mut context: UnwindContext<usize> = UnwindContext::new(alloc)?;
+    let mut narrow_context: UnwindContext<u32> = UnwindContext::new(alloc)?;
+    let section = DebugFrame::new(bytes, LittleEndian);
+    let narrow = DebugFrame::from(NarrowSlice::new(bytes, LittleEndian)?);
+    Ok((
+        row_in(&mut context, &section),
+        row_in(&mut narrow_context, &narrow),
+    ))
+}
+
+/// The same in `.eh_frame`.
+fn in_eh_frame(alloc: Global, bytes: &[u8]) -> Result<(Answer, Answer), Fail> {
+    let mut context: UnwindContext<usize> = UnwindContext::new(alloc)?;
+    let mut narrow_context: UnwindContext<u32> = UnwindContext::new(alloc)?;
+    let section = EhFrame::new(bytes, LittleEndian);
+    let narrow = EhFrame::from(NarrowSlice::new(bytes, LittleEndian)?);
+    Ok((
+        row_in(&mut context, &section),
+        row_in(&mut narrow_context, &narrow),
+    ))
 }
 
 /// A section that is cut within an entry ends where the entry's rest would begin.
 #[test]
 fn three_rows_cut(rt: HostRuntime) -> Result<(), Fail> {
-    let mut context: UnwindContext<usize> = UnwindContext::new(rt.alloc())?;
-    let mut narrow_context: UnwindContext<u32> = UnwindContext::new(rt.alloc())?;
     for count in 0..=52usize {
         let answer = match count {
             0 | 20 => Err(Error::NoUnwindInfoForAddress),
@@ -49,14 +62,8 @@ fn three_rows_cut(rt: HostRuntime) -> Result<(), Fail> {
             assert!(rt; false);
             return Ok(());
         };
-        let wide = EndianSlice::new(bytes, LittleEndian);
-        assert_eq!(rt; in_debug_frame(&mut context, wide), answer, "{count} bytes");
-        let narrow = NarrowSlice::new(bytes, LittleEndian)?;
-        assert_eq!(rt;
-            in_debug_frame(&mut narrow_context, narrow),
-            answer,
-            "{count} bytes, narrow"
-        );
+        let found = in_debug_frame(rt.alloc(), bytes)?;
+        assert_eq!(rt; found, (answer, answer), "{count} bytes");
     }
     Ok(())
 }
@@ -83,18 +90,10 @@ fn entries_that_refuse(rt: HostRuntime) -> Result<(), Fail> {
         ("ffffffff ffffffffffffffff", ended(12), narrow),
         ("ffffffff 0000000001000000", ended(12), narrow),
     ];
-    let mut context: UnwindContext<usize> = UnwindContext::new(rt.alloc())?;
-    let mut narrow_context: UnwindContext<u32> = UnwindContext::new(rt.alloc())?;
     for (text, by_wide, by_narrow) in sections {
         let bytes = bytes_of(rt.alloc(), text)?;
-        let reader = EndianSlice::new(bytes.as_slice(), LittleEndian);
-        assert_eq!(rt; in_debug_frame(&mut context, reader), by_wide, "{text}");
-        let reader = NarrowSlice::new(bytes.as_slice(), LittleEndian)?;
-        assert_eq!(rt;
-            in_debug_frame(&mut narrow_context, reader),
-            by_narrow,
-            "{text}, narrow"
-        );
+        let found = in_debug_frame(rt.alloc(), bytes.as_slice())?;
+        assert_eq!(rt; found, (by_wide, by_narrow), "{text}");
     }
     Ok(())
 }
@@ -102,17 +101,10 @@ fn entries_that_refuse(rt: HostRuntime) -> Result<(), Fail> {
 /// Augmentation data of 2^32 bytes.
 #[test]
 fn augmentation_data_past_the_entry(rt: HostRuntime) -> Result<(), Fail> {
-    let mut context: UnwindContext<usize> = UnwindContext::new(rt.alloc())?;
-    let mut narrow_context: UnwindContext<u32> = UnwindContext::new(rt.alloc())?;
     let text = "0f000000 00000000 01 7a00 017810 8080808010";
     let bytes = bytes_of(rt.alloc(), text)?;
-    let reader = EndianSlice::new(bytes.as_slice(), LittleEndian);
     let ended = Err(Error::UnexpectedEof(ReaderOffsetId(19)));
-    assert_eq!(rt; in_eh_frame(&mut context, reader), ended);
-    let reader = NarrowSlice::new(bytes.as_slice(), LittleEndian)?;
-    assert_eq!(rt;
-        in_eh_frame(&mut narrow_context, reader),
-        Err(Error::UnsupportedOffset)
-    );
+    let found = in_eh_frame(rt.alloc(), bytes.as_slice())?;
+    assert_eq!(rt; found, (ended, Err(Error::UnsupportedOffset)));
     Ok(())
 }
