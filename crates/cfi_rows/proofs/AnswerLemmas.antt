@@ -8,7 +8,6 @@ use Rattle.cfi_state.specs.MappedStates.{map_row}
 use Rattle.cfi_state.proofs.MappedEquality.{as_it_is, same_row}
 use Rattle.cfi_unwind.specs.Sections.{Section}
 use Rattle.cfi_unwind.specs.Scan.{chosen_fde}
-use Rattle.cfi_unwind.specs.Fdes.{Fde}
 use Rattle.gimli_cfi.specs.EhFrameHdr.{HeaderSection}
 use Rattle.gimli_cfi.specs.RowsByHeader.{IsRowByHeader}
 use Rattle.cfi_unwind.specs.AddressRow.{IsRowOfFound}

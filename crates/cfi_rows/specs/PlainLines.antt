@@ -1,5 +1,5 @@
 -- No line of an answer begins as those that say that words or input are wrong.
-use Rattle.std.specs.Prelude.{◌≡◌, ℕ, Ok, Err, Result, refl}
+use Rattle.std.specs.Prelude.{ℕ, Ok, Err, Result, refl}
 use Rattle.std.proofs.Common.{lit≤, subst, sym}
 use Rattle.cfi_read_core.specs.declared.error.Error.{Error}
 use Rattle.cfi_state.specs.Row.{Row}
