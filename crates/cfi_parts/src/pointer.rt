@@ -1,5 +1,6 @@
 //! Encoded pointers (LSB Core, "DWARF Exception Header Encoding").
 ghost use Rattle.std.specs.Prelude.{◌≡◌, ◌≤◌, ℕ};
+ghost use Rattle.cfi_read_core.specs.Numbers.{unsigned_leb128};
 ghost use Rattle.cfi_read_core.specs.ReaderCalls.{Reads};
 ghost use Rattle.cfi_parts.specs.ReadingParameters.{pointer_context};
 ghost use Rattle.cfi_parts.specs.Pointers.{base_of, direct, encoding_byte, encoded_value, pointer_value, pointer};
@@ -167,7 +168,7 @@ pub fn parse_encoded_value<R: Reader>(
 {
     match encoding.format() {
         DW_EH_PE_absptr => input.read_address(address_size),
-        DW_EH_PE_uleb128 => input.read_uleb128(),
+        DW_EH_PE_uleb128 => read_uleb128_apart(input),
         DW_EH_PE_udata2 => Ok(u64::from(input.read_u16()?)),
         DW_EH_PE_udata4 => Ok(u64::from(input.read_u32()?)),
         DW_EH_PE_udata8 => input.read_u64(),
@@ -177,6 +178,14 @@ pub fn parse_encoded_value<R: Reader>(
         DW_EH_PE_sdata8 => Ok(input.read_i64()?.cast_unsigned()),
         _ => Err(Error::UnknownPointerEncoding(encoding)),
     }
+}
+
+// Hardly a pointer is a LEB128 number, so that none is read in place.
+#[inline(never)]
+fn read_uleb128_apart<R: Reader>(input: &mut R) -> Result<u64>
+    ensures { Reads (λ x. x) unsigned_leb128 (R.position input.old) result (R.position input.new) }
+{
+    input.read_uleb128()
 }
 
 /// What is added to a value at the place of the input.

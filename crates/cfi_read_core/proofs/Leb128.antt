@@ -6,9 +6,10 @@ use Rattle.std.proofs.lemmas.Bool.{cases_lt}
 use Rattle.std.proofs.Math.Nat.{pow-le-pow_right, pow-suc, mul-le-mul_right}
 use Rattle.cfi_read_core.specs.declared.error.Error.{Error}
 use Rattle.cfi_read_core.specs.declared.error.Error.TheVariants.{BadUnsignedLeb128}
-use Rattle.cfi_read_core.specs.ReadFunctions.{Read, Source, Outcome, unexpected_eof, rest, carry_on, refuse_if, refuse, give, ◌>>◌}
+use Rattle.cfi_read_core.specs.ReadFunctions.{Read, Source, Position, Outcome, unexpected_eof, rest, carry_on, refuse_if, refuse, give, ◌>>◌}
 use Rattle.std.specs.Int.{w8}
 use Rattle.cfi_read_core.specs.Numbers.{unsigned, number_of, leb128_sum, continuation_count, leb128_bytes, is_bad_byte, unsigned_leb128}
+use Rattle.cfi_read_core.specs.ReaderCalls.{Reads, one_back}
 use borrow.Author.Tests.{le-leb, lt-leb, lt-ltb, le-ltb}
 
 abbrev pub goes_on : ℕ → Bool
@@ -235,6 +236,26 @@ module _ (source : Source) (inside : source.last ≤ length source.whole) (place
       sym (goes_further (9 - (i + 1)) w v b place (rest source (place + 1)) more)
       ∙ (ap (λ (m : ℕ). left_gives m w v (b ∷ rest source (place + 1)) place) (sym left)
       ∙ (ap (λ (l : List ℕ). left_gives (9 - i) w v l place) (sym there.0) ∙ number))
+
+-- the first byte was read, and goes on
+pub after_first : (source : Source) → source.last ≤ length source.whole → (place b : ℕ) → unsigned w8 source (place - 1) ≡ record { value = Ok b; place = place } → 128 ≤ b →
+    left_gives 8 128 (b % 128) (rest source place) place ≡ unsigned_leb128 source (place - 1)
+after_first source inside place b read more =
+    let is = ap (λ (o : Outcome ℕ). o.value) read in
+    let next : place ≡ place - 1 + 1 = sym (ap (λ (o : Outcome ℕ). o.place) read) ∙ (byte_there source (place - 1) b inside is).1 in
+    let number : b % 128 ≡ 0 + 1 * (b % 128) = omega arith in
+    ap (λ (v : ℕ). left_gives 8 128 v (rest source place) place) number
+    ∙ ap (λ (p : ℕ). left_gives 8 128 (0 + 1 * (b % 128)) (rest source p) p) next
+    ∙ turn_further source inside (place - 1) 0 1 0 _ (sym (whole_number source (place - 1))) b is more (omega arith)
+
+-- one back from where a byte was read to is where it was read
+pub one_back_from : (old new : Position) (b : ℕ) → old.source.last ≤ length old.source.whole → Reads (λ x. x) (unsigned w8) old (Ok b) new → one_back new ≡ old
+one_back_from old new b inside read =
+    let there = byte_there old.source old.place b inside (ap (λ (o : Outcome ℕ). o.value) read.0) in
+    let next : new.place ≡ old.place + 1 = sym (ap (λ (o : Outcome ℕ). o.place) read.0) ∙ there.1 in
+    let back : new.place - 1 ≡ old.place = omega arith in
+    ap (λ (s : Source). let p : Position = record { source = s; place = new.place - 1 } in p) read.1
+    ∙ ap (λ (n : ℕ). let p : Position = record { source = old.source; place = n } in p) back
 
 -- ---- sums that fit
 

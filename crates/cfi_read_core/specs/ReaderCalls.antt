@@ -1,12 +1,11 @@
 -- What a reader of the code is, and what its calls answer.
-use Rattle.std.specs.Prelude.{◌≡◌, ◌≤◌, ◌-◌, ℕ, Bool, List, length, Result, Ok, Err, ok_or, position, ◌==◌, nat_eq, nat_lt, if◌then◌else◌}
+use Rattle.std.specs.Prelude.{◌≡◌, ◌≤◌, ◌-◌, ℕ, Bool, List, length, Result, Ok, Err, ok_or, position, ◌==◌, nat_eq}
 use mathlib.Core.Bool.{beq}
 use Rattle.std.specs.Ordering.{on, eq_of_both}
 use Rattle.std.specs.Cmp.{IsEquivalence, IsPartialEquivalence, on_equiv, and_equiv, nat_eq_equiv, bool_eq_equiv, partial_equiv_from_equiv}
 use Rattle.std.specs.Cmp.Lexicographic.{pointwise, lists_equiv}
 use Rattle.cfi_read_core.specs.declared.error.Error.{Error}
-use Rattle.cfi_read_core.specs.declared.error.Error.TheVariants.{UnsupportedOffset}
-use Rattle.cfi_read_core.specs.ReadFunctions.{Source, Position, Extent, Outcome, Read, rest, unexpected_eof}
+use Rattle.cfi_read_core.specs.ReadFunctions.{Position, Extent, Read, rest, unexpected_eof}
 
 -- A reader's places are in order and within the whole, and every place is an offset.
 pub record IsSound (s : Position) : Type 0 where
@@ -31,6 +30,10 @@ extent_of s = record { first = s.place; last = s.source.last }
 -- the reader when all was passed: the place is the old end
 abbrev pub end_position : Position → Position
 end_position s = record { source = s.source; place = s.source.last }
+
+-- the reader before it read the last byte
+abbrev pub one_back : Position → Position
+one_back s = record { source = s.source; place = s.place - 1 }
 
 -- ---- readers over bytes
 

@@ -1,5 +1,5 @@
 -- A stretch of a slice as a reader.
-use Rattle.std.specs.Prelude.{◌≡◌, ℕ, Bool, List, length, slice_range, nat_lt, if◌then◌else◌, Result, Ok, Err}
+use Rattle.std.specs.Prelude.{ℕ, Bool, List, length, slice_range, nat_lt, if◌then◌else◌, Result, Ok, Err}
 use Rattle.cfi_read_core.specs.ReadFunctions.{Read, Position}
 use Rattle.cfi_read_core.specs.ReaderCalls.{Reads, all_of}
 use Rattle.cfi_read_core.specs.declared.error.Error.{Error}

@@ -1,10 +1,10 @@
 //! Readers: places in bytes from which numbers are read.
-ghost use Rattle.std.specs.Prelude.{◌≡◌, ℕ, ◌-◌, ◌≤◌, ◌==◌, IfOk};
+ghost use Rattle.std.specs.Prelude.{◌≡◌, ℕ, ◌-◌, ◌≤◌, ◌==◌, IfOk, Ok};
 ghost use Rattle.std.specs.Int.{w8, w16, w32, w64};
 ghost use Rattle.cfi_read_core.specs.ReadFunctions.{Position, skip, split};
 ghost use Rattle.cfi_read_core.specs.Numbers.{InitialLength, unsigned, signed, unsigned_leb128, signed_leb128, offset_leb128, register_leb128, initial_length, text};
 ghost use Rattle.cfi_read_core.specs.Addresses.{address, address_size};
-ghost use Rattle.cfi_read_core.specs.ReaderCalls.{IsSound, IsPartOf, Reads, bytes_left, end_position, extent_of, find_byte, remaining, map_ok, same_reader};
+ghost use Rattle.cfi_read_core.specs.ReaderCalls.{IsSound, IsPartOf, Reads, bytes_left, end_position, extent_of, find_byte, one_back, remaining, map_ok, same_reader};
 ghost use Rattle.std.specs.Prelude.{◌<◌};
 ghost use Rattle.cfi_read_core.specs.Numbers.{number_by};
 
@@ -128,7 +128,7 @@ pub trait Reader: Copy + Debug + Eq {
     /// An unsigned LEB128 number of at most ten bytes (DWARF 5 section 7.6). Padding is accepted; a tenth byte
     /// that doesn't fit 64 bits is refused with `BadUnsignedLeb128`, and counts as read.
     #[inline(always)]
-    fn read_uleb128(&mut self) -> Result<u64>
+    final fn read_uleb128(&mut self) -> Result<u64>
         ensures { Reads (λ x. x) unsigned_leb128 (position self.old) result (position self.new) }
     {
         // most numbers take one byte
@@ -136,26 +136,14 @@ pub trait Reader: Copy + Debug + Eq {
         if first < 128 {
             return Ok(u64::from(first));
         }
-        let mut value = u64::from(first % 128);
-        let mut weight = 128u64;
-        for index in 1..10u32 {
-            let byte = self.read_u8()?;
-            if index == 9 && byte > 1 {
-                return Err(Error::BadUnsignedLeb128);
-            }
-            value += u64::from(byte % 128) * weight;
-            if byte < 128 {
-                return Ok(value);
-            }
-            weight *= 128;
-        }
-        unreachable!()
+        rest_of_uleb128(self, first)
     }
 
     /// A signed LEB128 number of at most ten bytes (DWARF 5 section 7.6). Padding is accepted; a tenth byte that
     /// doesn't repeat the sign is refused with `BadSignedLeb128`, and counts as read.
-    #[inline(always)]
-    fn read_sleb128(&mut self) -> Result<i64>
+    // Few numbers are signed, so that none is read in place.
+    #[inline(never)]
+    final fn read_sleb128(&mut self) -> Result<i64>
         ensures { Reads (λ x. x) signed_leb128 (position self.old) result (position self.new) }
     {
         let mut value = 0u64;
@@ -257,11 +245,36 @@ pub fn read_offset<R: Reader>(input: &mut R) -> Result<R::Offset>
 /// A LEB128 number that has to be a register's. One above 65535 is refused with `UnsupportedRegister`, and counts as
 /// read.
 #[tactic(auto, unfolding(crate::specs::Numbers::register_leb128))]
-#[inline(always)]
+// Most registers stand in their opcodes, so that none is read in place.
+#[inline(never)]
 pub fn read_register<R: Reader>(input: &mut R) -> Result<Register>
     ensures { Reads (λ x. x) register_leb128 (R.position input.old) result (R.position input.new) }
 {
     Register::from_u64(input.read_uleb128()?)
+}
+
+// An unsigned LEB128 number of two bytes or more, whose first byte was read last. It stands apart, so that callers hold
+// the path of one byte alone.
+#[inline(never)]
+fn rest_of_uleb128<R: Reader>(input: &mut R, first: u8) -> Result<u64>
+    requires goes_on { 128 ≤ first }
+    requires first { Reads (λ x. x) (unsigned w8) (one_back (R.position input.old)) (Ok first) (R.position input.old) }
+    ensures { Reads (λ x. x) unsigned_leb128 (one_back (R.position input.old)) result (R.position input.new) }
+{
+    let mut value = u64::from(first % 128);
+    let mut weight = 128u64;
+    for index in 1..10u32 {
+        let byte = input.read_u8()?;
+        if index == 9 && byte > 1 {
+            return Err(Error::BadUnsignedLeb128);
+        }
+        value += u64::from(byte % 128) * weight;
+        if byte < 128 {
+            return Ok(value);
+        }
+        weight *= 128;
+    }
+    unreachable!()
 }
 
 /// The number of these bits below the weight, less the weight where the sign is set.

@@ -1,8 +1,6 @@
-use Rattle.std.proofs.Common.{◌≡◌, ◌+◌, ℕ, Ok, List, sym, ap, subst, ◌∙◌}
-use Rattle.std.specs.Int.{w8}
-use Rattle.cfi_read_core.specs.ReadFunctions.{Source, Outcome, Extent}
-use Rattle.cfi_read_core.specs.Numbers.{unsigned}
-use Rattle.cfi_read_core.specs.ReaderCalls.{bytes_left, extent_of}
+use Rattle.std.proofs.Common.{◌+◌, ℕ, Ok, List, sym, ap, ◌∙◌}
+use Rattle.cfi_read_core.specs.ReadFunctions.{Outcome, Extent}
+use Rattle.cfi_read_core.specs.ReaderCalls.{bytes_left}
 use Rattle.cfi_read_core.proofs.Texts.{text_there, split_gives, front_bytes, zero_read, zero_there}
 use Rattle.cfi_read_core.proofs.reader.Reader.read_null_terminated_slice.Goals as goal
 

@@ -1,4 +1,4 @@
-use Rattle.std.proofs.Common.{◌≡◌, ◌≤◌, ◌<◌, ◌+◌, ◌-◌, ◌%◌, ◌*◌, ◌^◌, ℕ, suc, ℤ, true, false, Ok, Err, refl, sym, ap, ◌∙◌, arith, Result, ◌⊎◌, ⊎_elim, inl, inr, not, ◌==◌}
+use Rattle.std.proofs.Common.{◌≡◌, ◌+◌, ◌-◌, ◌%◌, ◌*◌, ◌^◌, ℕ, suc, ℤ, Ok, Err, refl, sym, ap, ◌∙◌, arith, Result, ◌⊎◌, ⊎_elim, inl, inr, not, ◌==◌}
 use Rattle.std.specs.Prelude.{nat_le}
 use Rattle.std.specs.Int.{w64, cast_signed, cast_unsigned}
 use Rattle.std.proofs.lemmas.Result.{err_from_is_err_and}

@@ -1,9 +1,11 @@
-use Rattle.std.proofs.Common.{◌≡◌, ◌≤◌, ◌<◌, ◌+◌, ◌-◌, ◌%◌, ◌*◌, ℕ, Ok, Err, refl, sym, ap, ◌∙◌, arith, ⊎_elim, Result}
+use Rattle.std.proofs.Common.{◌≡◌, ◌+◌, ◌*◌, ℕ, Ok, Err, sym, ap, ◌∙◌, arith, Result, subst}
+use Rattle.std.specs.Int.{w8}
 use Rattle.std.proofs.lemmas.Result.{err_from_is_err_and}
 use Rattle.cfi_read_core.specs.declared.error.Error.{Error}
-use Rattle.cfi_read_core.specs.declared.error.Error.TheVariants.{BadUnsignedLeb128}
-use Rattle.cfi_read_core.specs.ReadFunctions.{Source, Outcome, rest}
-use Rattle.cfi_read_core.proofs.Leb128.{left_gives, whole_number, byte_there, no_byte_there, turn_ended, turn_too_large, turn_last, turn_further, room, weight_grows, bounded}
+use Rattle.cfi_read_core.specs.Numbers.{unsigned, unsigned_leb128}
+use Rattle.cfi_read_core.specs.ReadFunctions.{Outcome}
+use Rattle.cfi_read_core.specs.ReaderCalls.{Reads}
+use Rattle.cfi_read_core.proofs.Leb128.{whole_number, byte_there, no_byte_there, one_back_from, turn_ended, turn_last}
 use Rattle.cfi_read_core.proofs.reader.Reader.read_uleb128.Goals as goal
 
 abbrev value : Outcome ℕ → Result ℕ Error
@@ -38,106 +40,18 @@ returns-then-first-lt128 g c =
     let number : 0 + 1 * c.in_ok-first.first ≡ c.from.result = let from = c.from.ensures in omega arith in
     (ends ∙ ap (λ (x : ℕ). read x (before.place + 1)) number ∙ ap (read c.from.result) next, c.in_ok-first.ensures.1)
 
-pub loop-index-init : goal.loop-index-init
-loop-index-init g c =
+pub rest_of_uleb128-requires-clause-first : goal.rest_of_uleb128-requires-clause-first
+rest_of_uleb128-requires-clause-first g c =
     let old = g.Self.Reader.position c.args.self.now in
     let new = g.Self.Reader.position c.read_u8.new.self in
     let sound = g.met.Self.Reader.sound c.args.self.now in
-    let is = ap value c.in_ok-first.ensures.0 in
-    let next : new.place ≡ old.place + 1 = sym (ap place c.in_ok-first.ensures.0) ∙ (byte_there old.source old.place c.in_ok-first.first sound.within is).1 in
-    let further = turn_further old.source sound.within old.place 0 1 0 _ (sym (whole_number _ _)) c.in_ok-first.first is c.if-first-lt128.false (omega arith) in
-    let low : c.from-value.result ≡ c.in_ok-first.first % 128 = c.from-value.ensures in
-    let sum : c.from-value.result ≡ 0 + 1 * (c.in_ok-first.first % 128) = omega arith in
-    record {
-      number =
-          ap (λ (s : Source). left_gives 8 128 c.from-value.result (rest s new.place) new.place) c.in_ok-first.ensures.1
-          ∙ ap (λ (p : ℕ). left_gives 8 128 c.from-value.result (rest old.source p) p) next
-          ∙ ap (λ (v : ℕ). left_gives 8 128 v (rest old.source (old.place + 1)) (old.place + 1)) sum
-          ∙ further;
-      same = c.in_ok-first.ensures.1;
-      weighs = refl;
-      bound = omega arith;
-      few = omega arith;
-    }
+    let back = one_back_from old new c.in_ok-first.first sound.within c.in_ok-first.ensures in
+    subst (λ p. Reads (λ x. x) (unsigned w8) p (Ok c.in_ok-first.first) new) (sym back) c.in_ok-first.ensures
 
-pub returns-in_err-byte : goal.returns-in_err-byte
-returns-in_err-byte g c =
-    let p = err_from_is_err_and c.from_residual-in_err-byte.result c.from_residual-in_err-byte.ensures.1 in
-    let before = g.Self.Reader.position c.loop-index.self in
-    let sound = g.met.Self.Reader.sound c.loop-index.self in
-    let is = ap value c.in_err-byte.ensures.0 in
-    let ends = turn_ended before.source sound.within before.place c.loop-index.index c.loop-index.weight c.loop-index.value _ c.loop-index.invariant.number c.in_err-byte.field-0.0 is in
-    let stays = sym (no_byte_there before.source before.place c.in_err-byte.field-0.0 is).2 ∙ ap place c.in_err-byte.ensures.0 in
-    rw (p.1, p.2) (ends ∙ ap (refused c.in_err-byte.field-0.0) stays, c.in_err-byte.ensures.1 ∙ c.loop-index.invariant.same)
-
-pub returns-then-byte-gt1 : goal.returns-then-byte-gt1
-returns-then-byte-gt1 g c =
-    let before = g.Self.Reader.position c.loop-index.self in
-    let sound = g.met.Self.Reader.sound c.loop-index.self in
-    let is = ap value c.in_ok-byte.ensures.0 in
-    let ends = turn_too_large before.source sound.within before.place c.loop-index.index c.loop-index.weight c.loop-index.value _ c.loop-index.invariant.number c.in_ok-byte.byte is c.if-index-eq9.true c.if-byte-gt1.true in
-    let next = sym (byte_there before.source before.place c.in_ok-byte.byte sound.within is).1 ∙ ap place c.in_ok-byte.ensures.0 in
-    (ends ∙ ap (refused BadUnsignedLeb128) next, c.in_ok-byte.ensures.1 ∙ c.loop-index.invariant.same)
-
-pub overflow_mul-value : goal.overflow_mul-value
-overflow_mul-value g c =
-    let low : c.from-in-loop-index.result ≡ c.in_ok-byte.byte % 128 = c.from-in-loop-index.ensures in
-    let tenth : c.loop-index.index ≡ 9 → c.in_ok-byte.byte ≤ 1 = λ e. ⊎_elim (λ both. both.1) (λ other. absurd (other e)) c.else-index-eq9.either in
-    let fits = room c.loop-index.index c.loop-index.weight c.loop-index.value c.in_ok-byte.byte c.loop-index.invariant.few c.loop-index.invariant.weighs c.loop-index.invariant.bound (omega arith) tenth in
-    rw low (omega (arith, fits))
-
-pub overflow_add-value : goal.overflow_add-value
-overflow_add-value g c =
-    let low : c.from-in-loop-index.result ≡ c.in_ok-byte.byte % 128 = c.from-in-loop-index.ensures in
-    let tenth : c.loop-index.index ≡ 9 → c.in_ok-byte.byte ≤ 1 = λ e. ⊎_elim (λ both. both.1) (λ other. absurd (other e)) c.else-index-eq9.either in
-    let fits = room c.loop-index.index c.loop-index.weight c.loop-index.value c.in_ok-byte.byte c.loop-index.invariant.few c.loop-index.invariant.weighs c.loop-index.invariant.bound (omega arith) tenth in
-    rw low (omega (arith, fits))
-
-pub returns-then-byte-lt128 : goal.returns-then-byte-lt128
-returns-then-byte-lt128 g c =
-    let before = g.Self.Reader.position c.loop-index.self in
-    let sound = g.met.Self.Reader.sound c.loop-index.self in
-    let is = ap value c.in_ok-byte.ensures.0 in
-    let tenth : c.loop-index.index ≡ 9 → c.in_ok-byte.byte ≤ 1 = λ e. ⊎_elim (λ both. both.1) (λ other. absurd (other e)) c.else-index-eq9.either in
-    let ends = turn_last before.source sound.within before.place c.loop-index.index c.loop-index.weight c.loop-index.value _ c.loop-index.invariant.number c.in_ok-byte.byte is c.if-byte-lt128.true c.loop-index.invariant.few tenth in
-    let next = sym (byte_there before.source before.place c.in_ok-byte.byte sound.within is).1 ∙ ap place c.in_ok-byte.ensures.0 in
-    let small = c.if-byte-lt128.true in
-    let low : c.in_ok-byte.byte ≡ c.from-in-loop-index.result = let from = c.from-in-loop-index.ensures in omega arith in
-    let product : c.loop-index.weight * c.in_ok-byte.byte ≡ c.in_ok-byte.byte * c.loop-index.weight = omega arith in
-    let sum = product ∙ ap (λ (b : ℕ). b * c.loop-index.weight) low in
-    (ends ∙ ap (λ (x : ℕ). read (c.loop-index.value + x) (before.place + 1)) sum ∙ ap (read (c.loop-index.value + c.from-in-loop-index.result * c.loop-index.weight)) next, c.in_ok-byte.ensures.1 ∙ c.loop-index.invariant.same)
-
-pub overflow_mul-weight : goal.overflow_mul-weight
-overflow_mul-weight g c =
-    let tenth : c.loop-index.index ≡ 9 → c.in_ok-byte.byte ≤ 1 = λ e. ⊎_elim (λ both. both.1) (λ other. absurd (other e)) c.else-index-eq9.either in
-    let before : c.loop-index.index < 9 = omega (arith, tenth, c.loop-index.invariant.few, c.if-byte-lt128.false) in
-    let grows = weight_grows c.loop-index.index c.loop-index.weight before c.loop-index.invariant.weighs in
-    omega (arith, grows.1)
-
-pub loop-index-preserved : goal.loop-index-preserved
-loop-index-preserved g c =
-    let old = g.Self.Reader.position c.loop-index.self in
-    let new = g.Self.Reader.position c.read_u8-in-loop-index.new.self in
-    let sound = g.met.Self.Reader.sound c.loop-index.self in
-    let is = ap value c.in_ok-byte.ensures.0 in
-    let tenth : c.loop-index.index ≡ 9 → c.in_ok-byte.byte ≤ 1 = λ e. ⊎_elim (λ both. both.1) (λ other. absurd (other e)) c.else-index-eq9.either in
-    let before : c.loop-index.index < 9 = omega (arith, tenth, c.loop-index.invariant.few, c.if-byte-lt128.false) in
-    let grows = weight_grows c.loop-index.index c.loop-index.weight before c.loop-index.invariant.weighs in
-    let next : new.place ≡ old.place + 1 = sym (ap place c.in_ok-byte.ensures.0) ∙ (byte_there old.source old.place c.in_ok-byte.byte sound.within is).1 in
-    let further = turn_further old.source sound.within old.place c.loop-index.index c.loop-index.weight c.loop-index.value _ c.loop-index.invariant.number c.in_ok-byte.byte is c.if-byte-lt128.false before in
-    let low : c.from-in-loop-index.result ≡ c.in_ok-byte.byte % 128 = c.from-in-loop-index.ensures in
-    let product : c.in_ok-byte.byte % 128 * c.loop-index.weight ≡ c.loop-index.weight * (c.in_ok-byte.byte % 128) = omega arith in
-    let sum = ap (λ (b : ℕ). c.loop-index.value + b * c.loop-index.weight) low ∙ ap (λ (x : ℕ). c.loop-index.value + x) product in
-    let m = 9 - (c.loop-index.index + 1) in
-    let w = c.loop-index.weight * 128 in
-    record {
-      number =
-          ap (λ (s : Source). left_gives m w (c.loop-index.value + c.from-in-loop-index.result * c.loop-index.weight) (rest s new.place) new.place) c.in_ok-byte.ensures.1
-          ∙ ap (λ (p : ℕ). left_gives m w (c.loop-index.value + c.from-in-loop-index.result * c.loop-index.weight) (rest old.source p) p) next
-          ∙ ap (λ (v : ℕ). left_gives m w v (rest old.source (old.place + 1)) (old.place + 1)) sum
-          ∙ further;
-      same = c.in_ok-byte.ensures.1 ∙ c.loop-index.invariant.same;
-      weighs = grows.0;
-      bound = rw low (bounded c.loop-index.value c.loop-index.weight c.in_ok-byte.byte c.loop-index.invariant.bound);
-      few = omega arith;
-    }
+pub returns : goal.returns
+returns g c =
+    let old = g.Self.Reader.position c.args.self.now in
+    let new = g.Self.Reader.position c.read_u8.new.self in
+    let sound = g.met.Self.Reader.sound c.args.self.now in
+    let back = one_back_from old new c.in_ok-first.first sound.within c.in_ok-first.ensures in
+    subst (λ p. Reads (λ x. x) unsigned_leb128 p c.rest_of_uleb128.result (g.Self.Reader.position c.rest_of_uleb128.new.input)) back c.rest_of_uleb128.ensures
