@@ -1,10 +1,10 @@
 -- Lists that are compared item by item, from either end, and a list that loses an item.
-use Rattle.std.proofs.Common.{◌≡◌, ℕ, ◌<◌, Bool, true, false, ◌&&◌, Option, Some, None, List, [], ◌∷◌, ◌++◌, length, get_or, take, drop, reverse, ◌+◌, ◌-◌, refl, sym, ap, ◌∙◌, arith}
+use Rattle.std.proofs.Common.{◌≡◌, ℕ, ◌<◌, Bool, true, false, ◌&&◌, Option, Some, None, List, [], ◌∷◌, ◌++◌, length, get_or, take, drop, reverse, suc, ◌≤◌, ◌+◌, ◌-◌, refl, sym, ap, ◌∙◌, arith}
 use Rattle.std.proofs.Math.ListN.{drop_of_length-le}
 use Rattle.std.proofs.Math.Numerals.{add-one}
-use Rattle.std.proofs.lemmas.List.{length-append, length-drop, drop_more, append_assoc, same_from_push}
-use Rattle.std.proofs.lemmas.List.Edits.{length-remove, paste_all}
-use Rattle.std.specs.List.{remove, copy_within}
+use Rattle.std.proofs.lemmas.List.{length-append, length-drop, length-take-le, drop_more, take_more, append_assoc, same_from_push}
+use Rattle.std.proofs.lemmas.List.Edits.{length-remove, paste_all, swap_is}
+use Rattle.std.specs.List.{remove, copy_within, insert, swap}
 use Rattle.std.specs.Option.{IfSome, IfNone}
 use Rattle.std.proofs.Math.Bool.{and_comm}
 use Rattle.std.proofs.lemmas.List.{reverse-append}
@@ -75,3 +75,32 @@ module _ {A : Type 0} (E : A → A → Bool) where
       ∙ pointwise-push (reverse xs) (reverse ys) x y
       ∙ and_comm (pointwise E (reverse xs) (reverse ys)) (E x y)
       ∙ ap (λ t. E x y && t) (pointwise-reverse xs ys)
+
+-- ---- a list that gets an item in its midst
+
+swap_next : {A : Type 0} (xs : List A) (x y : A) (rest : List A) → swap (xs ++ x ∷ y ∷ rest) (length xs) (suc (length xs)) ≡ xs ++ y ∷ x ∷ rest
+swap_next [] x y rest = refl
+swap_next (z ∷ xs) x y rest =
+    let all = xs ++ x ∷ y ∷ rest in
+    let count : length all ≡ length xs + suc (suc (length rest)) = length-append xs (x ∷ y ∷ rest) in
+    ap (λ l. z ∷ l) (swap_is all (length xs) (suc (length xs)) z (omega arith) (omega arith) ∙ swap_next xs x y rest)
+
+-- the item that was put in goes down by one place
+pub one_down : {A : Type 0} (front : List A) (place : ℕ) (item : A) → 1 ≤ place → place ≤ length front
+    → swap (insert front place item) (place - 1) place ≡ insert front (place - 1) item
+one_down [] place item some within = absurd (omega arith)
+one_down (d ∷ others) place item some within =
+    let front = d ∷ others in
+    let below = place - 1 in
+    let here : place ≡ suc below = omega arith in
+    let before = get_or front below d in
+    let next : below + 1 ≡ place = omega arith in
+    let whole : drop below front ≡ before ∷ drop place front = drop_more front below d (omega arith) ∙ ap (λ k. before ∷ drop k front) next in
+    let count : length (take below front) ≡ below = length-take-le below front (omega arith) in
+    let longer : take place front ≡ take below front ++ before ∷ [] = ap (λ k. take k front) (sym next) ∙ take_more front below d (omega arith) in
+    let parted : insert front place item ≡ take below front ++ before ∷ item ∷ drop place front = ap (λ l. l ++ item ∷ drop place front) longer ∙ append_assoc (take below front) (before ∷ []) (item ∷ drop place front) in
+    ap (λ l. swap l below place) parted
+    ∙ ap (λ k. swap (take below front ++ before ∷ item ∷ drop place front) below k) here
+    ∙ ap (λ k. swap (take below front ++ before ∷ item ∷ drop place front) k (suc k)) (sym count)
+    ∙ swap_next (take below front) before item (drop place front)
+    ∙ ap (λ l. take below front ++ item ∷ l) (sym whole)

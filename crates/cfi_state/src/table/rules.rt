@@ -12,7 +12,7 @@ ghost use Rattle.cfi_state.specs.RulePairs.{rules_of, IsDistinctRegisters, IsRis
 ghost use Rattle.cfi_state.specs.Equality.{is_within, rule_eq, rules_eq};
 ghost use Rattle.cfi_state.specs.EqualityLaws.{rules_equiv};
 
-use crate::storage::{ArrayLike, CopyList, Refused, Why, remove_at, write_at};
+use crate::storage::{ArrayLike, CopyList, Refused, Why, remove_at, shorten, write_at, write_over};
 use arrayvec::ArrayVec;
 use cfi_parts::instruction::UnwindExpression;
 use cfi_read_core::{Error, ReaderOffset, Register, Result};
@@ -239,9 +239,10 @@ fn fill<T: ReaderOffset, A: ArrayLike<Item = (Register, RegisterRule<T>)>>(
     ensures err { OnErr result (A.items list.new ≡ []) }
     ensures memory { IfErr result (λ error. (error ≡ Error.OutOfMemory) × IsNone A.limit × (1 ≤ length pairs.now)) }
 {
-    list.clear();
-    for pair in pairs {
-        let Err(refused) = list.try_push(*pair) else {
+    shorten(list, pairs.len());
+    write_over(list, pairs);
+    for place in list.as_slice().len()..pairs.len() {
+        let Err(refused) = list.try_push(pairs[place]) else {
             continue;
         };
         list.clear();
