@@ -20,13 +20,11 @@ use Rattle.cfi_state.specs.ContextEffects.{Evaluates, EndsCie}
 use Rattle.cfi_state.specs.MappedStates.{map_parts, map_row}
 use Rattle.cfi_state.specs.UnwindTableStates.{TableState, before_last_row, after_last_row}
 use Rattle.cfi_state.specs.MachineRuns.{MayAllocate, may_allocate, current_row, NextAnswer, passes, ends_row, refuses, cannot_read, last_row, no_row, RunsInitialInstructions, FindsRow, contains_it, goes_on, is_refused, comes_to_end, AnswersFde, by_cie, by_rows}
-use Rattle.cfi_state.specs.FdeAnswers.{row_contains, fde_answer}
-use Rattle.cfi_state.specs.ListLimits.{IsFixed}
+use Rattle.cfi_state.specs.FdeAnswers.{row_contains}
 use Rattle.cfi_state.proofs.MappedRuns.{step_ok-mapped, end_ok-mapped, step_refusal-mapped, end_refusal-mapped}
 use Rattle.cfi_state.proofs.MappedSteps.{is_move-mapped, fresh-mapped}
 use Rattle.cfi_state.proofs.RunSteps.{LeadsTo, leads-on, next-row, LeadsToCie, cie-leads-on, cie-refused, cie-unreadable, cie-ended, cie-end-refused}
 use Rattle.cfi_state.proofs.KeptAnswers.{keeps_next, keeps_cie}
-use Rattle.cfi_state.proofs.Laws.{run_is_due, is_due_where_never}
 use Rattle.cfi_state.proofs.IsStateAfter.{stands_fresh}
 use Rattle.cfi_state.proofs.FixedStorage.{fixed_never}
 use Rattle.cfi_state.proofs.RunAnswers.{next_or_memory, next_is_due}
@@ -237,11 +235,6 @@ module _ (s : Setting) (free : Bool) (cie fde : Readings Instruction) (address :
 
   pub answer-refused : (expected : Result (State ℕ) Error) (e : Error) → RunsInitialInstructions (may_allocate s free) s fresh_state cie expected → expected ≡ Err e → AnswersFde (may_allocate s free) s cie fde address (Err e)
   answer-refused expected e runs is = by_cie e (subst (λ r. RunsInitialInstructions (may_allocate s free) s fresh_state cie r) is runs)
-
-  -- over a fixed storage the answer is that of the form without a machine
-  pub answer-fixed : (result : Result (Row ℕ) Error) → AnswersFde (may_allocate s free) s cie fde address result → IsFixed s.rule_limit s.stack_limit free → result ≡ fde_answer s cie fde address
-  answer-fixed result answers is_fixed =
-      is_due_where_never (may_allocate s free) s cie fde address result (run_is_due (may_allocate s free) s cie fde address result answers) (fixed_never s free is_fixed.0 is_fixed.1 is_fixed.2)
 
   module _ {T : Type 0} (number : T → ℕ) (p : TableState (State ℕ) ℕ) (leads : LeadsToAnswer p) (t : Setting) (same : t ≡ s) (given : Result (Option (Bor (Row T))) Error) (q : TableState (State ℕ) ℕ) (context : ContextState T) (holds_row : Bool)
       (lent : LendsNextRow number t free p given q context holds_row) where

@@ -8,12 +8,9 @@ ghost use Rattle.cfi_parts.specs.InstructionIterators.{instruction_reader};
 ghost use Rattle.cfi_parts.specs.InstructionReaders.{instructions_left};
 ghost use Rattle.cfi_state.specs.UnwindContexts.{empty_context};
 ghost use Rattle.cfi_state.specs.ContextEffects.{setting_of};
-ghost use Rattle.cfi_state.specs.KeptInstructions.{AnswersByKept};
-ghost use Rattle.cfi_state.specs.ListLimits.{IsFixed};
 ghost use Rattle.cfi_state.specs.Machine.{fresh_state};
 ghost use Rattle.cfi_state.specs.MappedStates.{row_lent};
 ghost use Rattle.cfi_state.specs.UnwindTableStates.{before_last_row};
-ghost use Rattle.cfi_state.specs.FdeAnswers.{fde_answer};
 ghost use Rattle.cfi_state.specs.MachineRuns.{may_allocate, RunsInitialInstructions, FindsRow, AnswersFde};
 ghost use Rattle.cfi_read_core.specs.ReaderCalls.{map_ok};
 ghost use Rattle.cfi_unwind.specs.AddressRow.{setting};
@@ -56,7 +53,7 @@ impl<'a, 'ctx, R: Reader, S: UnwindContextStorage<R::Offset>> UnwindTable<'a, 'c
 
     /// The table of an FDE, whose rows are made in the context.
     ///
-    /// The context is emptied, so nothing of its past counts; then the CIE's initial instructions runs, whose final rules are kept for
+    /// The context is emptied, so nothing of its past counts; then the CIE's initial instructions run, whose final rules are kept for
     /// `DW_CFA_restore`, and the table stands before the FDE's first row. Of the FDE's instructions none is read yet.
     ///
     /// The rows follow each other from the FDE's first address to its end, so that each address of it lies in exactly one.
@@ -284,14 +281,6 @@ pub(crate) fn unwind_info_for_address<
         AnswersFde (may_allocate s S.Rules.copies_free) s
         (instructions_left (instruction_reader R.position cie_instructions.entry)) (instructions_left (instruction_reader R.position fde_instructions.entry))
         address (row_lent R.Offset.number result) }
-    ensures kept { let s = setting_of parameters S.Rules.limit S.Stack.limit in
-        AnswersByKept (may_allocate s S.Rules.copies_free) s
-        (instructions_left (instruction_reader R.position cie_instructions.entry)) (instructions_left (instruction_reader R.position fde_instructions.entry))
-        address (row_lent R.Offset.number result) }
-    ensures fixed { let s = setting_of parameters S.Rules.limit S.Stack.limit in
-        IsFixed S.Rules.limit S.Stack.limit S.Rules.copies_free →
-        row_lent R.Offset.number result
-        ≡ fde_answer s (instructions_left (instruction_reader R.position cie_instructions.entry)) (instructions_left (instruction_reader R.position fde_instructions.entry)) address }
 {
     let mut table = UnwindTable::with_instructions(
         parameters,
