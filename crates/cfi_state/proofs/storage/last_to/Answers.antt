@@ -16,5 +16,5 @@ loop-place-preserved g c =
       stands = λ front last is.
           c.swap.ensures.after ∙ ap (λ l. swap l (place - 1) place) (i.stands front last is)
           ∙ one_down front place last (omega arith)
-              (let all = ap length is ∙ length-append front (last ∷ []) in let same = i.count in omega arith);
+          (let all = ap length is ∙ length-append front (last ∷ []) in let same = i.count in omega arith);
     }
