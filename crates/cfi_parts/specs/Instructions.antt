@@ -121,6 +121,16 @@ IsRare opcode =
     (opcode ≢ 0x00) × (opcode ≢ 0x02) × (opcode ≢ 0x03) × (opcode ≢ 0x04) × (opcode ≢ 0x0a) × (opcode ≢ 0x0b)
     × (opcode ≢ 0x0c) × (opcode ≢ 0x0d) × (opcode ≢ 0x0e)
 
+-- Of the rare ones, not one that sets the location or defines the CFA, and not a vendor's without a register.
+abbrev pub IsRuleOrUnknown : ℕ → Type 0
+IsRuleOrUnknown opcode =
+    IsRare opcode × (opcode ≢ 0x01) × (opcode ≢ 0x0f) × (opcode ≢ 0x12) × (opcode ≢ 0x13) × (opcode ≢ 0x2d) × (opcode ≢ 0x2e)
+
+-- Of these, not one whose rule has an offset from the CFA.
+abbrev pub IsRuleWithoutOffsetOrUnknown : ℕ → Type 0
+IsRuleWithoutOffsetOrUnknown opcode =
+    IsRuleOrUnknown opcode × (opcode ≢ 0x05) × (opcode ≢ 0x11) × (opcode ≢ 0x14) × (opcode ≢ 0x15) × (opcode ≢ 0x2f)
+
 -- the primary opcodes, which are the two high bits alone: the low six bits are the first operand
 abbrev pub primary_opcodes : ℕ → List (ℕ × Read Instruction)
 primary_opcodes low =

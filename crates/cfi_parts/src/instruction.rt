@@ -62,7 +62,7 @@ fn split_expression<R: Reader>(expression: &UnwindExpression<R::Offset>, input: 
 
 /// A call frame instruction (DWARF 5 section 6.4.2), over the offsets of its reader. Addresses, deltas and sizes are
 /// those that were read: nothing is factored yet.
-#[derive(Clone, Copy, Debug, PartialEq, Eq)]
+#[derive(Copy, Debug, PartialEq, Eq)]
 pub enum CallFrameInstruction<T> {
     /// A new row begins at the address.
     SetLoc {
@@ -162,6 +162,17 @@ pub enum CallFrameInstruction<T> {
     NegateRaState,
     /// Nothing, for padding.
     Nop,
+}
+
+impl<T: Copy> Clone for CallFrameInstruction<T> {
+    ghost is_clone = { λ x y. y ≡ x };
+
+    ghost is_infallible = { λ _. ⊤ };
+
+    #[inline(always)]
+    fn clone(&self) -> std::result::Result<Self, AllocError> {
+        Ok(*self)
+    }
 }
 
 /// The instructions of an entry in order (DWARF 5 sections 6.4.2 and 7.24).

@@ -3,7 +3,7 @@ ghost use Rattle.std.specs.Prelude.{◌≡◌, ◌≤◌};
 ghost use Rattle.cfi_read_core.specs.ReadFunctions.{chosen_from};
 ghost use Rattle.cfi_read_core.specs.ReaderCalls.{Reads};
 ghost use Rattle.cfi_parts.specs.ReadingParameters.{instruction_context, pointer_context};
-ghost use Rattle.cfi_parts.specs.Instructions.{IsRare, expression, extended_opcodes, instruction, location_by, unknown_opcode};
+ghost use Rattle.cfi_parts.specs.Instructions.{IsRare, IsRuleOrUnknown, IsRuleWithoutOffsetOrUnknown, expression, extended_opcodes, instruction, location_by, unknown_opcode};
 ghost use Rattle.cfi_parts.specs.MappedInstructions.{map_expression, map_instruction};
 
 use crate::instruction::{CallFrameInstruction, UnwindExpression};
@@ -163,7 +163,31 @@ fn parse_rare<R: Reader>(
         DW_CFA_def_cfa_offset_sf => Ok(CallFrameInstruction::DefCfaOffsetSf {
             factored_offset: input.read_sleb128()?,
         }),
-        // register rules (section 6.4.2.3)
+        // vendors' opcodes
+        DW_CFA_AARCH64_negate_ra_state => match parameters.vendor {
+            Vendor::AArch64 => Ok(CallFrameInstruction::NegateRaState),
+            Vendor::Default => Err(Error::UnknownCallFrameInstruction(opcode)),
+        },
+        DW_CFA_GNU_args_size => Ok(CallFrameInstruction::ArgsSize {
+            size: input.read_uleb128()?,
+        }),
+        _ => parse_rule(opcode, parameters, input),
+    }
+}
+
+/// Reads the operands of an opcode that gives a register a rule by an offset from the CFA (section 6.4.2.3).
+fn parse_rule<R: Reader>(
+    opcode: DwCfa,
+    parameters: &InstructionParameters<'_, R>,
+    input: &mut R,
+) -> Result<CallFrameInstruction<R::Offset>>
+    requires rule { IsRuleOrUnknown opcode.0 }
+    requires behind { (R.position parameters.now.pointers.section.now).place ≤ (R.position input.old).place }
+    ensures { Reads (map_instruction R.Offset.number)
+        (chosen_from opcode.0 (extended_opcodes (instruction_context R.position parameters.now)) (unknown_opcode opcode.0))
+        (R.position input.old) result (R.position input.new) }
+{
+    match opcode {
         DW_CFA_offset_extended => Ok(CallFrameInstruction::Offset {
             register: read_register(input)?,
             factored_offset: input.read_uleb128()?,
@@ -184,6 +208,23 @@ fn parse_rare<R: Reader>(
             register: read_register(input)?,
             factored_offset: input.read_sleb128()?,
         }),
+        _ => parse_rule_without_offset(opcode, parameters, input),
+    }
+}
+
+/// Reads the operands of an opcode that gives a register another rule (section 6.4.2.3).
+fn parse_rule_without_offset<R: Reader>(
+    opcode: DwCfa,
+    parameters: &InstructionParameters<'_, R>,
+    input: &mut R,
+) -> Result<CallFrameInstruction<R::Offset>>
+    requires rule { IsRuleWithoutOffsetOrUnknown opcode.0 }
+    requires behind { (R.position parameters.now.pointers.section.now).place ≤ (R.position input.old).place }
+    ensures { Reads (map_instruction R.Offset.number)
+        (chosen_from opcode.0 (extended_opcodes (instruction_context R.position parameters.now)) (unknown_opcode opcode.0))
+        (R.position input.old) result (R.position input.new) }
+{
+    match opcode {
         DW_CFA_restore_extended => Ok(CallFrameInstruction::Restore {
             register: read_register(input)?,
         }),
@@ -204,14 +245,6 @@ fn parse_rare<R: Reader>(
         DW_CFA_val_expression => Ok(CallFrameInstruction::ValExpression {
             register: read_register(input)?,
             expression: parse_expression(&parameters.pointers, input)?,
-        }),
-        // vendors' opcodes
-        DW_CFA_AARCH64_negate_ra_state => match parameters.vendor {
-            Vendor::AArch64 => Ok(CallFrameInstruction::NegateRaState),
-            Vendor::Default => Err(Error::UnknownCallFrameInstruction(opcode)),
-        },
-        DW_CFA_GNU_args_size => Ok(CallFrameInstruction::ArgsSize {
-            size: input.read_uleb128()?,
         }),
         _ => Err(Error::UnknownCallFrameInstruction(opcode)),
     }
