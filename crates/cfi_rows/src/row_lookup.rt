@@ -66,26 +66,48 @@ fn find_row<'ctx, S: UnwindContextStorage<usize>>(
     requires { CanBeAnswered request.now }
     ensures { IsAnswer (room S.Rules.limit S.Stack.limit S.Rules.copies_free) request.now (bytes_of sections.now) (map_ok (λ row. row.now) result) }
 {
+    match request.words.kind {
+        Kind::DebugFrame => find_in_debug_frame(request, sections, context),
+        Kind::EhFrame => find_in_eh_frame(request, sections, context),
+    }
+}
+
+/// The row by a scan of `.debug_frame`, which has no header.
+fn find_in_debug_frame<'ctx, S: UnwindContextStorage<usize>>(
+    request: &Request,
+    sections: &Sections,
+    context: &'ctx mut UnwindContext<usize, S>,
+) -> Result<&'ctx UnwindTableRow<usize, S::Rules>, Error>
+    requires can_be_answered { CanBeAnswered request.now }
+    requires kind { request.now.words.kind ≡ Kind.DebugFrame }
+    ensures { IsAnswer (room S.Rules.limit S.Stack.limit S.Rules.copies_free) request.now (bytes_of sections.now) (map_ok (λ row. row.now) result) }
+{
+    let words = &request.words;
+    let mut frame = DebugFrame::new(sections.section.as_slice(), words.endian);
+    frame.set_address_size(words.address_size);
+    frame.set_vendor(words.vendor);
+    row_by_scan(&frame, &words.bases(), context, request.address)
+}
+
+/// The row by the header of `.eh_frame` where the request has one, and else by a scan.
+fn find_in_eh_frame<'ctx, S: UnwindContextStorage<usize>>(
+    request: &Request,
+    sections: &Sections,
+    context: &'ctx mut UnwindContext<usize, S>,
+) -> Result<&'ctx UnwindTableRow<usize, S::Rules>, Error>
+    requires can_be_answered { CanBeAnswered request.now }
+    requires kind { request.now.words.kind ≡ Kind.EhFrame }
+    ensures { IsAnswer (room S.Rules.limit S.Stack.limit S.Rules.copies_free) request.now (bytes_of sections.now) (map_ok (λ row. row.now) result) }
+{
     let words = &request.words;
     let bases = words.bases();
-    let section = sections.section.as_slice();
-    match words.kind {
-        Kind::DebugFrame => {
-            let mut frame = DebugFrame::new(section, words.endian);
-            frame.set_address_size(words.address_size);
-            frame.set_vendor(words.vendor);
-            row_by_scan(&frame, &bases, context, request.address)
-        }
-        Kind::EhFrame => {
-            let mut frame = EhFrame::new(section, words.endian);
-            frame.set_address_size(words.address_size);
-            frame.set_vendor(words.vendor);
-            let Some(_) = words.header else {
-                return row_by_scan(&frame, &bases, context, request.address);
-            };
-            let header = EhFrameHdr::new(sections.header.as_slice(), words.endian);
-            let size = words.address_size;
-            row_by_header(&header, size, &frame, &bases, context, request.address)
-        }
-    }
+    let mut frame = EhFrame::new(sections.section.as_slice(), words.endian);
+    frame.set_address_size(words.address_size);
+    frame.set_vendor(words.vendor);
+    let Some(_) = words.header else {
+        return row_by_scan(&frame, &bases, context, request.address);
+    };
+    let header = EhFrameHdr::new(sections.header.as_slice(), words.endian);
+    let size = words.address_size;
+    row_by_header(&header, size, &frame, &bases, context, request.address)
 }
