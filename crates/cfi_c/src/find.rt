@@ -1,5 +1,5 @@
 //! The row of an address in what C hands in.
-ghost use Rattle.std.specs.Prelude.{◌≡◌, ◌↔◌, Some, IsTrue};
+ghost use Rattle.std.specs.Prelude.{◌≡◌, ◌↔◌, Some, IsTrue, true, false};
 ghost use Rattle.cfi_read_core.specs.ByteOrder.{is_big};
 ghost use Rattle.cfi_read_core.specs.Addresses.{IsAddressSize};
 ghost use Rattle.cfi_read_core.specs.ReaderCalls.{map_ok};
@@ -51,17 +51,47 @@ fn by_scan<'ctx>(
     ensures { map_ok (λ row. row.now) result
         ≡ row_by_scan (Some 192) (Some 4) (section_of bases.now section.now) address }
 {
-    let known = bases_of(bases);
     if bases.debug_frame {
-        let mut frame = DebugFrame::new(section, endian_of(bases));
-        frame.set_address_size(bases.address_size);
-        frame.set_vendor(vendor_of(bases));
-        return row_by_scan(&frame, &known, context, address);
+        scan_debug_frame(context, section, bases, address)
+    } else {
+        scan_eh_frame(context, section, bases, address)
     }
+}
+
+/// The row by a scan of `.debug_frame`.
+fn scan_debug_frame<'ctx>(
+    context: &'ctx mut Context,
+    section: &[u8],
+    bases: &CfiBases,
+    address: u64,
+) -> Result<&'ctx FoundRow, Error>
+    requires size { IsAddressSize bases.now.address_size }
+    requires kind { bases.now.debug_frame ≡ true }
+    ensures { map_ok (λ row. row.now) result
+        ≡ row_by_scan (Some 192) (Some 4) (section_of bases.now section.now) address }
+{
+    let mut frame = DebugFrame::new(section, endian_of(bases));
+    frame.set_address_size(bases.address_size);
+    frame.set_vendor(vendor_of(bases));
+    row_by_scan(&frame, &bases_of(bases), context, address)
+}
+
+/// The row by a scan of `.eh_frame`.
+fn scan_eh_frame<'ctx>(
+    context: &'ctx mut Context,
+    section: &[u8],
+    bases: &CfiBases,
+    address: u64,
+) -> Result<&'ctx FoundRow, Error>
+    requires size { IsAddressSize bases.now.address_size }
+    requires kind { bases.now.debug_frame ≡ false }
+    ensures { map_ok (λ row. row.now) result
+        ≡ row_by_scan (Some 192) (Some 4) (section_of bases.now section.now) address }
+{
     let mut frame = EhFrame::new(section, endian_of(bases));
     frame.set_address_size(bases.address_size);
     frame.set_vendor(vendor_of(bases));
-    row_by_scan(&frame, &known, context, address)
+    row_by_scan(&frame, &bases_of(bases), context, address)
 }
 
 fn by_table<'ctx>(
