@@ -1,9 +1,12 @@
 //! How often each of the six calls with a `get_cie` asks it, on every way out.
 //!
 //! The contracts of calls that take the closure by value leave its last state open; the counts stand here.
-use crate::searches::{HEADER, SECTION, bases, second_target};
-use cfi_read_core::{DebugFrameOffset, Error, LittleEndian, ReaderOffsetId};
-use gimli_cfi::hdr::EhFrameHdr;
+use crate::searches::{
+    HEADER, SECTION, Slice, bases, ended, read_header, second_target, start_of, table_of,
+};
+use cfi_read_core::{DebugFrameOffset, Error, LittleEndian};
+use gimli_cfi::entry::{CommonInformationEntry, FrameDescriptionEntry};
+use gimli_cfi::hdr::EhHdrTable;
 use gimli_cfi::pointer::BaseAddresses;
 use gimli_cfi::section::{DebugFrame, EhFrame, UnwindSection};
 use gimli_cfi::table::UnwindContext;
@@ -21,6 +24,30 @@ const FDES: [u8; 84] = [
 /// What a call answers, by a number that tells which entry or row it is, and how often it asked.
 type Asked<T> = (Result<T, Error>, u32);
 
+/// What a call for an FDE answers, and what one for a row.
+type Both = (Asked<usize>, Asked<u64>);
+
+fn offset_of(found: Result<FrameDescriptionEntry<Slice<'_>>, Error>) -> Result<usize, Error> {
+    match found {
+        Ok(fde) => Ok(fde.offset()),
+        Err(refusal) => Err(refusal),
+    }
+}
+
+/// What the closures for FDEs answer. Those for rows call the section themselves: a CIE has to be of the section there,
+/// as only that call promises.
+fn debug_frame_cie<'a>(
+    from: &DebugFrame<Slice<'a>>,
+    bases: &BaseAddresses,
+    offset: DebugFrameOffset<usize>,
+    refuses: bool,
+) -> Result<CommonInformationEntry<Slice<'a>>, Error> {
+    if refuses {
+        return Err(Error::UnknownAugmentation);
+    }
+    from.cie_from_offset(bases, offset)
+}
+
 /// `PartialFrameDescriptionEntry::parse` of the FDE at an offset.
 fn parsed(offset: usize, refuses: bool) -> Asked<usize> {
     let section = DebugFrame::new(&FDES, LittleEndian);
@@ -29,14 +56,11 @@ fn parsed(offset: usize, refuses: bool) -> Asked<usize> {
     let read = match section.partial_fde_from_offset(&bases, DebugFrameOffset(offset)) {
         Ok(partial) => partial.parse(|from, bases, offset| {
             asked = asked.saturating_add(1);
-            if refuses {
-                return Err(Error::UnknownAugmentation);
-            }
-            from.cie_from_offset(bases, offset)
+            debug_frame_cie(from, bases, offset, refuses)
         }),
         Err(refusal) => Err(refusal),
     };
-    (read.map(|fde| fde.offset()), asked)
+    (offset_of(read), asked)
 }
 
 /// `UnwindSection::fde_from_offset`.
@@ -46,12 +70,9 @@ fn at_offset(offset: usize, refuses: bool) -> Asked<usize> {
     let mut asked = 0u32;
     let read = section.fde_from_offset(&bases, DebugFrameOffset(offset), |from, bases, offset| {
         asked = asked.saturating_add(1);
-        if refuses {
-            return Err(Error::UnknownAugmentation);
-        }
-        from.cie_from_offset(bases, offset)
+        debug_frame_cie(from, bases, offset, refuses)
     });
-    (read.map(|fde| fde.offset()), asked)
+    (offset_of(read), asked)
 }
 
 /// `UnwindSection::fde_for_address` over so many bytes of the FDEs.
@@ -61,12 +82,9 @@ fn for_address(bytes: &[u8], address: u64, refuses: bool) -> Asked<usize> {
     let mut asked = 0u32;
     let found = section.fde_for_address(&bases, address, |from, bases, offset| {
         asked = asked.saturating_add(1);
-        if refuses {
-            return Err(Error::UnknownAugmentation);
-        }
-        from.cie_from_offset(bases, offset)
+        debug_frame_cie(from, bases, offset, refuses)
     });
-    (found.map(|fde| fde.offset()), asked)
+    (offset_of(found), asked)
 }
 
 /// `UnwindSection::unwind_info_for_address` over so many bytes of the FDEs: the first address of the row.
@@ -86,55 +104,45 @@ fn row_for_address(
         }
         from.cie_from_offset(bases, offset)
     });
-    let start = match found {
-        Ok(row) => Ok(row.start_address()),
-        Err(refusal) => Err(refusal),
-    };
-    (start, asked)
+    (start_of(found), asked)
+}
+
+/// Both calls for an address.
+fn by_scan(context: &mut UnwindContext<usize>, bytes: &[u8], address: u64, refuses: bool) -> Both {
+    let fde = for_address(bytes, address, refuses);
+    (fde, row_for_address(context, bytes, address, refuses))
 }
 
 /// `EhHdrTable::fde_for_address`.
-fn by_table(section: &[u8], header: &[u8], address: u64, refuses: bool) -> Asked<usize> {
-    let bases = bases();
-    let frame = EhFrame::new(section, LittleEndian);
+pub(crate) fn fde_by_table(
+    table: &EhHdrTable<'_, Slice<'_>>,
+    frame: &EhFrame<Slice<'_>>,
+    address: u64,
+    refuses: bool,
+) -> Asked<usize> {
     let mut asked = 0u32;
-    let header = match EhFrameHdr::new(header, LittleEndian).parse(&bases, 8) {
-        Ok(header) => header,
-        Err(refusal) => return (Err(refusal), asked),
-    };
-    let Some(table) = header.table() else {
-        return (Err(Error::NoUnwindInfoForAddress), asked);
-    };
-    let found = table.fde_for_address(&frame, &bases, address, |from, bases, offset| {
+    let found = table.fde_for_address(frame, &bases(), address, |from, bases, offset| {
         asked = asked.saturating_add(1);
         if refuses {
             return Err(Error::UnknownAugmentation);
         }
         from.cie_from_offset(bases, offset)
     });
-    (found.map(|fde| fde.offset()), asked)
+    (offset_of(found), asked)
 }
 
 /// `EhHdrTable::unwind_info_for_address`: the first address of the row.
 fn row_by_table(
     context: &mut UnwindContext<usize>,
-    section: &[u8],
-    header: &[u8],
+    table: &EhHdrTable<'_, Slice<'_>>,
+    frame: &EhFrame<Slice<'_>>,
     address: u64,
     refuses: bool,
 ) -> Asked<u64> {
-    let bases = bases();
-    let frame = EhFrame::new(section, LittleEndian);
     let mut asked = 0u32;
-    let header = match EhFrameHdr::new(header, LittleEndian).parse(&bases, 8) {
-        Ok(header) => header,
-        Err(refusal) => return (Err(refusal), asked),
-    };
-    let Some(table) = header.table() else {
-        return (Err(Error::NoUnwindInfoForAddress), asked);
-    };
+    let bases = bases();
     let found = table.unwind_info_for_address(
-        &frame,
+        frame,
         &bases,
         context,
         address,
@@ -146,60 +154,79 @@ fn row_by_table(
             from.cie_from_offset(bases, offset)
         },
     );
-    let start = match found {
-        Ok(row) => Ok(row.start_address()),
-        Err(refusal) => Err(refusal),
-    };
-    (start, asked)
+    (start_of(found), asked)
 }
 
-fn ended(place: u64) -> Error {
-    Error::UnexpectedEof(ReaderOffsetId(place))
+/// Both calls for an address by a header's table.
+fn by_table(
+    context: &mut UnwindContext<usize>,
+    section: &[u8],
+    header: &[u8],
+    address: u64,
+    refuses: bool,
+) -> Result<Both, Error> {
+    let frame = EhFrame::new(section, LittleEndian);
+    let parsed = read_header(header, &bases())?;
+    let table = table_of(&parsed)?;
+    let fde = fde_by_table(&table, &frame, address, refuses);
+    let row = row_by_table(context, &table, &frame, address, refuses);
+    Ok((fde, row))
+}
+
+fn both_found(offset: usize, start: u64, asked: u32) -> Both {
+    ((Ok(offset), asked), (Ok(start), asked))
+}
+
+fn both_refused(refusal: Error, asked: u32) -> Both {
+    ((Err(refusal), asked), (Err(refusal), asked))
+}
+
+/// Both calls for the FDE at an offset.
+fn read_at(offset: usize, refuses: bool) -> [Asked<usize>; 2] {
+    [at_offset(offset, refuses), parsed(offset, refuses)]
 }
 
 #[test]
-fn one_fde_asks_once(rt: HostRuntime) -> Result<(), Fail> {
-    let answers: [(usize, Asked<usize>); 5] = [
-        (20, (Ok(20), 1)),
-        (44, (Ok(44), 1)),
-        (68, (Err(ended(84)), 1)),
-        (0, (Err(Error::NotCiePointer(0)), 0)),
-        (84, (Err(ended(84)), 0)),
+fn one_fde_asks_once(rt: HostRuntime) {
+    let found = [
+        read_at(20, false),
+        read_at(44, false),
+        read_at(68, false),
+        read_at(0, false),
+        read_at(84, false),
+        read_at(44, true),
     ];
-    for (offset, answer) in answers {
-        assert_eq!(rt; at_offset(offset, false), answer);
-        assert_eq!(rt; parsed(offset, false), answer);
-    }
-    let refused = (Err(Error::UnknownAugmentation), 1);
-    assert_eq!(rt; at_offset(44, true), refused);
-    assert_eq!(rt; parsed(44, true), refused);
-    Ok(())
+    let expected = [
+        [(Ok(20), 1); 2],
+        [(Ok(44), 1); 2],
+        [(Err(ended(84)), 1); 2],
+        [(Err(Error::NotCiePointer(0)), 0); 2],
+        [(Err(ended(84)), 0); 2],
+        [(Err(Error::UnknownAugmentation), 1); 2],
+    ];
+    assert_eq!(rt; found, expected);
 }
 
 #[test]
 fn a_scan_asks_once_an_fde(rt: HostRuntime) -> Result<(), Fail> {
     let mut context: UnwindContext<usize> = UnwindContext::new(rt.alloc())?;
-    let found: [(u64, usize, u32); 2] = [(0x1008, 20, 1), (0x201f, 44, 2)];
-    for (address, offset, asked) in found {
-        assert_eq!(rt; for_address(&FDES, address, false), (Ok(offset), asked));
-        let row = row_for_address(&mut context, &FDES, address, false);
-        assert_eq!(rt; row, (Ok(address & 0xf000), asked));
-    }
-    let refusals: [(usize, u64, Error, u32); 3] = [
-        (68, 0x3000, Error::NoUnwindInfoForAddress, 2),
-        (66, 0x2008, ended(48), 1),
-        (84, 0x3000, ended(84), 3),
+    let found = [
+        by_scan(&mut context, &FDES, 0x1008, false),
+        by_scan(&mut context, &FDES, 0x201f, false),
+        by_scan(&mut context, &FDES[..68], 0x3000, false),
+        by_scan(&mut context, &FDES[..66], 0x2008, false),
+        by_scan(&mut context, &FDES, 0x3000, false),
+        by_scan(&mut context, &FDES, 0x2008, true),
     ];
-    for (length, address, refusal, asked) in refusals {
-        let bytes = &FDES[..length];
-        assert_eq!(rt; for_address(bytes, address, false), (Err(refusal), asked));
-        let row = row_for_address(&mut context, bytes, address, false);
-        assert_eq!(rt; row, (Err(refusal), asked));
-    }
-    let refused = Error::UnknownAugmentation;
-    assert_eq!(rt; for_address(&FDES, 0x2008, true), (Err(refused), 1));
-    let row = row_for_address(&mut context, &FDES, 0x2008, true);
-    assert_eq!(rt; row, (Err(refused), 1));
+    let expected = [
+        both_found(20, 0x1000, 1),
+        both_found(44, 0x2000, 2),
+        both_refused(Error::NoUnwindInfoForAddress, 2),
+        both_refused(ended(48), 1),
+        both_refused(ended(84), 3),
+        both_refused(Error::UnknownAugmentation, 1),
+    ];
+    assert_eq!(rt; found, expected);
     Ok(())
 }
 
@@ -209,27 +236,22 @@ fn a_table_asks_once(rt: HostRuntime) -> Result<(), Fail> {
     let mut cut = SECTION;
     cut[60] = 0x20;
     let before = second_target([0, 1, 0, 0]);
-    assert_eq!(rt; by_table(&SECTION, &HEADER, 0x1018, false), (Ok(44), 1));
-    let row = row_by_table(&mut context, &SECTION, &HEADER, 0x1018, false);
-    assert_eq!(rt; row, (Ok(0x1011), 1));
-    let refusals: [(&[u8], &[u8], u64, Error, u32); 4] = [
-        (&SECTION, &HEADER, 0xff0, Error::NoUnwindInfoForAddress, 1),
-        (&SECTION, &HEADER, 0x1040, Error::NoUnwindInfoForAddress, 1),
-        (&SECTION, &before, 0x1018, Error::NotCiePointer(0), 0),
-        (&cut, &HEADER, 0x1018, ended(61), 1),
+    let found = [
+        by_table(&mut context, &SECTION, &HEADER, 0x1018, false),
+        by_table(&mut context, &SECTION, &HEADER, 0xff0, false),
+        by_table(&mut context, &SECTION, &HEADER, 0x1040, false),
+        by_table(&mut context, &SECTION, &before, 0x1018, false),
+        by_table(&mut context, &cut, &HEADER, 0x1018, false),
+        by_table(&mut context, &SECTION, &HEADER, 0x1018, true),
     ];
-    for (section, header, address, refusal, asked) in refusals {
-        let found = by_table(section, header, address, false);
-        assert_eq!(rt; found, (Err(refusal), asked));
-        let row = row_by_table(&mut context, section, header, address, false);
-        assert_eq!(rt; row, (Err(refusal), asked));
-    }
-    let refused = Error::UnknownAugmentation;
-    assert_eq!(rt;
-        by_table(&SECTION, &HEADER, 0x1018, true),
-        (Err(refused), 1)
-    );
-    let row = row_by_table(&mut context, &SECTION, &HEADER, 0x1018, true);
-    assert_eq!(rt; row, (Err(refused), 1));
+    let expected = [
+        Ok(both_found(44, 0x1011, 1)),
+        Ok(both_refused(Error::NoUnwindInfoForAddress, 1)),
+        Ok(both_refused(Error::NoUnwindInfoForAddress, 1)),
+        Ok(both_refused(Error::NotCiePointer(0), 0)),
+        Ok(both_refused(ended(61), 1)),
+        Ok(both_refused(Error::UnknownAugmentation, 1)),
+    ];
+    assert_eq!(rt; found, expected);
     Ok(())
 }

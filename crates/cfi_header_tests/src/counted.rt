@@ -2,12 +2,13 @@
 ghost use Rattle.std.specs.Ordering.{on};
 ghost use Rattle.std.specs.Cmp.{on_per, on_equiv};
 
-use crate::searches::HEADER;
+use crate::searches::{HEADER, Slice};
 use cfi_read_core::{EndianSlice, Error, LittleEndian, Reader};
 use gimli_cfi::hdr::{EhFrameHdr, TableStarts, row_by_table};
 use gimli_cfi::pointer::BaseAddresses;
 use gimli_cfi::section::EhFrame;
 use gimli_cfi::table::UnwindContext;
+use std::alloc::Global;
 use std::cell::Cell;
 use std::test::Fail;
 
@@ -101,23 +102,17 @@ impl<R: Reader> Reader for Counted<'_, R> {
 }
 
 /// How many numbers of the header `lookup` reads for an address, and how many `row_by_table`.
-fn reads_for(
-    header: &[u8],
-    context: &mut UnwindContext<usize>,
+///
+/// Over any reader: the check is much longer where each call below names what `Counted` is made of.
+fn reads_of<R: Reader>(
+    header: EhFrameHdr<R>,
+    frame: &EhFrame<R>,
+    reads: &Cell<u32>,
+    context: &mut UnwindContext<R::Offset>,
     address: u64,
 ) -> Result<Option<(u32, u32)>, Error> {
     let bases = BaseAddresses::default().set_eh_frame_hdr(0x1f00);
-    let elsewhere = Cell::new(0u32);
-    let reads = Cell::new(0u32);
-    let frame = EhFrame::from(Counted {
-        inner: EndianSlice::new(&[], LittleEndian),
-        reads: &elsewhere,
-    });
-    let section = EhFrameHdr::from(Counted {
-        inner: EndianSlice::new(header, LittleEndian),
-        reads: &reads,
-    });
-    let parsed = section.parse(&bases, 8)?;
+    let parsed = header.parse(&bases, 8)?;
     let Some(table) = parsed.table() else {
         return Ok(None);
     };
@@ -126,34 +121,82 @@ fn reads_for(
     let looked_up = reads.get();
     let mut starts = TableStarts::new(&table, &bases)?;
     reads.set(0);
-    let _row = row_by_table(&table, &mut starts, &frame, &bases, context, address);
+    let _row = row_by_table(&table, &mut starts, frame, &bases, context, address);
     Ok(Some((looked_up, reads.get())))
+}
+
+fn counting<'a>(bytes: &'a [u8], reads: &'a Cell<u32>) -> Counted<'a, Slice<'a>> {
+    Counted {
+        inner: EndianSlice::new(bytes, LittleEndian),
+        reads,
+    }
+}
+
+/// The same for a header's bytes, and for a section without bytes.
+fn reads_for(
+    header: &[u8],
+    context: &mut UnwindContext<usize>,
+    address: u64,
+) -> Result<Option<(u32, u32)>, Error> {
+    let elsewhere = Cell::new(0u32);
+    let reads = Cell::new(0u32);
+    let frame = EhFrame::from(counting(&[], &elsewhere));
+    let header = EhFrameHdr::from(counting(header, &reads));
+    reads_of(header, &frame, &reads, context, address)
+}
+
+/// The most numbers that either reads for one of these addresses.
+fn most_reads(header: &[u8], context: &mut UnwindContext<usize>) -> Result<Option<u32>, Error> {
+    let mut most = 0u32;
+    for address in [0u64, 1, 4000, 8001, 15999, 16000, 40000, 70000] {
+        let Some((looked_up, by_table)) = reads_for(header, context, address)? else {
+            return Ok(None);
+        };
+        most = most.max(looked_up).max(by_table);
+    }
+    Ok(Some(most))
+}
+
+/// Writes a header of a thousand rows, whose starts are the multiples of a factor without their upper bits.
+fn write_rows(header: &mut Vec<u8>, factor: u32) -> Result<(), Fail> {
+    header.extend_from_slice(&[1, 3, 3, 3, 0, 0, 0, 0, 0xe8, 3, 0, 0])?;
+    for row in 0..1000u32 {
+        let start = row.wrapping_mul(factor) % 65536;
+        header.extend_from_slice(&start.to_le_bytes())?;
+        header.extend_from_slice(&row.to_le_bytes())?;
+    }
+    Ok(())
+}
+
+/// Whether no search in those thousand rows reads more than the eleven numbers that halving needs.
+fn are_halved(
+    alloc: Global,
+    context: &mut UnwindContext<usize>,
+    factor: u32,
+) -> Result<bool, Fail> {
+    let mut header = Vec::new(alloc);
+    write_rows(&mut header, factor)?;
+    let most = most_reads(&header, context)?;
+    Ok(matches!(most, Some(0..=11)))
 }
 
 #[test]
 fn starts_are_read_by_halving(rt: HostRuntime) -> Result<(), Fail> {
     let mut context: UnwindContext<usize> = UnwindContext::new(rt.alloc())?;
     let one: [u8; 20] = [1, 3, 3, 3, 0, 0, 0, 0, 1, 0, 0, 0, 0, 1, 0, 0, 0, 2, 0, 0];
-    assert_eq!(rt; reads_for(&one, &mut context, 0x180)?, Some((1, 1)));
-    // Two starts and the target.
-    assert_eq!(rt; reads_for(&HEADER, &mut context, 0x1018)?, Some((3, 3)));
+    let few = [
+        reads_for(&one, &mut context, 0x180),
+        // Two starts and the target.
+        reads_for(&HEADER, &mut context, 0x1018),
+    ];
     // A thousand rows in order, and a thousand whose starts go up and down.
-    for factor in [16u32, 40503] {
-        let mut header = Vec::new(rt.alloc());
-        header.extend_from_slice(&[1, 3, 3, 3, 0, 0, 0, 0, 0xe8, 3, 0, 0])?;
-        for row in 0..1000u32 {
-            let start = row.wrapping_mul(factor) % 65536;
-            header.extend_from_slice(&start.to_le_bytes())?;
-            header.extend_from_slice(&row.to_le_bytes())?;
-        }
-        for address in [0u64, 1, 4000, 8001, 15999, 16000, 40000, 70000] {
-            let Some((looked_up, by_table)) = reads_for(&header, &mut context, address)? else {
-                assert!(rt; false);
-                return Ok(());
-            };
-            assert!(rt; looked_up <= 11);
-            assert!(rt; by_table <= 11);
-        }
-    }
+    let many = [
+        are_halved(rt.alloc(), &mut context, 16)?,
+        are_halved(rt.alloc(), &mut context, 40503)?,
+    ];
+    assert_eq!(rt;
+        (few, many),
+        ([Ok(Some((1, 1))), Ok(Some((3, 3)))], [true; 2])
+    );
     Ok(())
 }

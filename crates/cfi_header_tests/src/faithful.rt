@@ -1,32 +1,20 @@
 //! Tables of `.eh_frame_hdr` that list the FDEs of their section faithfully, and the faults of others.
 
-use crate::searches::{HEADER, SECTION};
-use cfi_read_core::{DwEhPe, Error, LittleEndian, ReaderOffsetId};
-use gimli_cfi::hdr::{EhFrameHdr, FaithfulTable, Unfaithful};
-use gimli_cfi::pointer::BaseAddresses;
+use crate::searches::{HEADER, SECTION, bases, ended, read_header, start_of, table_of};
+use cfi_read_core::{DwEhPe, Error, LittleEndian};
+use gimli_cfi::hdr::{FaithfulTable, Unfaithful};
 use gimli_cfi::section::EhFrame;
 use gimli_cfi::table::{UnwindContext, row_by_scan};
 use std::test::Fail;
 
-fn bases() -> BaseAddresses {
-    BaseAddresses::default()
-        .set_eh_frame_hdr(0x1f00)
-        .set_eh_frame(0x2000)
-}
-
-fn ended(place: u64) -> Error {
-    Error::UnexpectedEof(ReaderOffsetId(place))
-}
-
 /// The reason against a header's table; none where it is faithful.
-fn reason(header: &[u8], section: &[u8]) -> Result<Option<Unfaithful>, Error> {
+type Reason = Result<Option<Unfaithful>, Error>;
+
+fn reason(header: &[u8], section: &[u8]) -> Reason {
     let bases = bases();
     let frame = EhFrame::new(section, LittleEndian);
-    let parsed = EhFrameHdr::new(header, LittleEndian).parse(&bases, 8)?;
-    let Some(table) = parsed.table() else {
-        return Err(Error::NoUnwindInfoForAddress);
-    };
-    match FaithfulTable::new(&table, &frame, &bases) {
+    let parsed = read_header(header, &bases)?;
+    match FaithfulTable::new(&table_of(&parsed)?, &frame, &bases) {
         Ok(_) => Ok(None),
         Err(reason) => Ok(Some(reason)),
     }
@@ -39,6 +27,16 @@ fn with<const N: usize>(bytes: [u8; N], at: usize, new: &[u8]) -> [u8; N] {
         *to = *from;
     }
     changed
+}
+
+/// The reason where the header has these bytes from an index on.
+fn with_header(at: usize, new: &[u8]) -> Reason {
+    reason(&with(HEADER, at, new), &SECTION)
+}
+
+/// The reason where the section has these bytes from an index on.
+fn with_section(at: usize, new: &[u8]) -> Reason {
+    reason(&HEADER, &with(SECTION, at, new))
 }
 
 /// The header with a row more, of no FDE.
@@ -68,20 +66,37 @@ fn fde_within_an_fde() -> [u8; 108] {
 
 #[test]
 fn faithful_tables(rt: HostRuntime) {
-    assert_eq!(rt; reason(&HEADER, &SECTION), Ok(None));
-    // One row and one FDE.
-    assert_eq!(rt; reason(&with(HEADER, 8, &[1]), &SECTION[..44]), Ok(None));
-    // The first FDE has no addresses; then its end wraps, so that it contains none.
-    assert_eq!(rt; reason(&HEADER, &with(SECTION, 36, &[0])), Ok(None));
-    assert_eq!(rt;
-        reason(&HEADER, &with(SECTION, 36, &[0xff, 0xff, 0xff, 0xff])),
-        Ok(None)
-    );
-    assert_eq!(rt; reason(&HEADER, &fde_within_an_fde()), Ok(None));
+    let found = [
+        reason(&HEADER, &SECTION),
+        // One row and one FDE.
+        reason(&with(HEADER, 8, &[1]), &SECTION[..44]),
+        // The first FDE has no addresses; then its end wraps, so that it contains none.
+        with_section(36, &[0]),
+        with_section(36, &[0xff, 0xff, 0xff, 0xff]),
+        reason(&HEADER, &fde_within_an_fde()),
+    ];
+    assert_eq!(rt; found, [Ok(None); 5]);
+}
+
+/// The header without its second row.
+fn without_second_row() -> [u8; 36] {
+    let first_and_third = [0x20, 0xf1, 0xff, 0xff, 0x40, 1, 0, 0];
+    with(with(HEADER, 8, &[2]), 20, &first_and_third)
 }
 
 #[test]
 fn rows_that_list_no_fde(rt: HostRuntime) {
+    let found = [
+        // The second row is missing, and the third.
+        reason(&without_second_row(), &SECTION),
+        with_header(8, &[2]),
+        // A start is one off, and a target; a target is that of another FDE.
+        with_header(20, &[0x11]),
+        with_header(24, &[0x2d]),
+        with_header(24, &[0x18]),
+        // A target is within an entry, at what looks like the FDE.
+        reason(&with(HEADER, 32, &[0x54]), &fde_within_an_fde()),
+    ];
     let second = Ok(Some(Unfaithful::NoRow {
         offset: 44,
         address: 0x1010,
@@ -90,22 +105,12 @@ fn rows_that_list_no_fde(rt: HostRuntime) {
         offset: 64,
         address: 0x1020,
     }));
-    // The second row is missing, and the third.
-    let first_and_third = [0x20, 0xf1, 0xff, 0xff, 0x40, 1, 0, 0];
-    assert_eq!(rt;
-        reason(&with(with(HEADER, 8, &[2]), 20, &first_and_third), &SECTION),
-        second
-    );
-    assert_eq!(rt; reason(&with(HEADER, 8, &[2]), &SECTION), third);
-    // A start is one off, and a target; a target is that of another FDE.
-    assert_eq!(rt; reason(&with(HEADER, 20, &[0x11]), &SECTION), second);
-    assert_eq!(rt; reason(&with(HEADER, 24, &[0x2d]), &SECTION), second);
-    assert_eq!(rt; reason(&with(HEADER, 24, &[0x18]), &SECTION), second);
-    // A target is within an entry, at what looks like the FDE.
-    assert_eq!(rt;
-        reason(&with(HEADER, 32, &[0x54]), &fde_within_an_fde()),
-        third
-    );
+    assert_eq!(rt; found, [second, third, second, second, second, third]);
+}
+
+/// The reason where a row starts at or below the one before it.
+fn order(row: u64, before: u64, start: u64) -> Reason {
+    Ok(Some(Unfaithful::Order { row, before, start }))
 }
 
 #[test]
@@ -114,39 +119,26 @@ fn rows_out_of_order(rt: HostRuntime) {
     let swapped = [
         0x10, 0xf1, 0xff, 0xff, 0x2c, 1, 0, 0, 0, 0xf1, 0xff, 0xff, 0x18, 1, 0, 0,
     ];
-    assert_eq!(rt;
-        reason(&with(HEADER, 12, &swapped), &SECTION),
-        Ok(Some(Unfaithful::Order {
-            row: 1,
-            before: 0x1010,
-            start: 0x1000,
-        }))
-    );
     // The first row stands twice.
     let first = [0, 0xf1, 0xff, 0xff, 0x18, 1, 0, 0];
-    assert_eq!(rt;
-        reason(&with(HEADER, 20, &first), &SECTION),
-        Ok(Some(Unfaithful::Order {
-            row: 1,
-            before: 0x1000,
-            start: 0x1000,
-        }))
-    );
-    // The last row starts below the one before it.
-    assert_eq!(rt;
-        reason(&with(HEADER, 28, &[8]), &SECTION),
-        Ok(Some(Unfaithful::Order {
-            row: 2,
-            before: 0x1010,
-            start: 0x1008,
-        }))
-    );
+    let found = [
+        with_header(12, &swapped),
+        with_header(20, &first),
+        // The last row starts below the one before it.
+        with_header(28, &[8]),
+    ];
+    let expected = [
+        order(1, 0x1010, 0x1000),
+        order(1, 0x1000, 0x1000),
+        order(2, 0x1010, 0x1008),
+    ];
+    assert_eq!(rt; found, expected);
 }
 
 #[test]
 fn overlapping_fdes(rt: HostRuntime) {
     assert_eq!(rt;
-        reason(&HEADER, &with(SECTION, 36, &[0x11])),
+        with_section(36, &[0x11]),
         Ok(Some(Unfaithful::Overlap {
             offset: 24,
             end: 0x1011,
@@ -157,101 +149,100 @@ fn overlapping_fdes(rt: HostRuntime) {
 
 #[test]
 fn counts_that_differ(rt: HostRuntime) {
-    assert_eq!(rt;
+    let found = [
         reason(&four_rows(), &SECTION),
-        Ok(Some(Unfaithful::Count { rows: 4, fdes: 3 }))
-    );
-    assert_eq!(rt;
         reason(&HEADER, &SECTION[..24]),
-        Ok(Some(Unfaithful::Count { rows: 3, fdes: 0 }))
-    );
-    // The fourth row isn't there.
-    assert_eq!(rt;
-        reason(&with(HEADER, 8, &[4]), &SECTION),
+        // The fourth row isn't there.
+        with_header(8, &[4]),
+    ];
+    let expected = [
+        Ok(Some(Unfaithful::Count { rows: 4, fdes: 3 })),
+        Ok(Some(Unfaithful::Count { rows: 3, fdes: 0 })),
         Ok(Some(Unfaithful::Row {
             row: 3,
             refusal: ended(36),
-        }))
-    );
+        })),
+    ];
+    assert_eq!(rt; found, expected);
 }
 
 #[test]
 fn refused_parts(rt: HostRuntime) {
-    // The starts are indirect, and the pointer to the section; the format can't be searched.
-    assert_eq!(rt;
-        reason(&with(HEADER, 3, &[0xbb]), &SECTION),
+    let found = [
+        // The starts are indirect, and the pointer to the section; the format can't be searched.
+        with_header(3, &[0xbb]),
+        with_header(1, &[0x9b]),
+        with_header(3, &[0x31]),
+        // The CIE of the second FDE is an FDE; the last FDE is cut.
+        with_section(48, &[0x18]),
+        reason(&HEADER, &SECTION[..80]),
+    ];
+    let expected = [
         Ok(Some(Unfaithful::Row {
             row: 0,
             refusal: Error::UnsupportedIndirectPointer,
-        }))
-    );
-    assert_eq!(rt;
-        reason(&with(HEADER, 1, &[0x9b]), &SECTION),
-        Ok(Some(Unfaithful::Header(Error::UnsupportedIndirectPointer)))
-    );
-    assert_eq!(rt;
-        reason(&with(HEADER, 3, &[0x31]), &SECTION),
-        Ok(Some(Unfaithful::Header(Error::UnsupportedPointerEncoding(DwEhPe(0x31)))))
-    );
-    // The CIE of the second FDE is an FDE; the last FDE is cut.
-    assert_eq!(rt;
-        reason(&HEADER, &with(SECTION, 48, &[0x18])),
+        })),
+        Ok(Some(Unfaithful::Header(Error::UnsupportedIndirectPointer))),
+        Ok(Some(Unfaithful::Header(Error::UnsupportedPointerEncoding(DwEhPe(0x31))))),
         Ok(Some(Unfaithful::Fde {
             offset: 44,
             refusal: Error::NotCieId(24),
-        }))
-    );
-    assert_eq!(rt;
-        reason(&HEADER, &SECTION[..80]),
+        })),
         Ok(Some(Unfaithful::Entry {
             offset: 64,
             refusal: ended(68),
-        }))
-    );
+        })),
+    ];
+    assert_eq!(rt; found, expected);
 }
 
-/// The first addresses of the rows for an address, by a checked table and by going through the section.
+/// The first address of the row for an address by a checked table.
+fn by_checked_table(
+    context: &mut UnwindContext<usize>,
+    address: u64,
+) -> Result<Result<u64, Error>, Error> {
+    let bases = bases();
+    let frame = EhFrame::new(&SECTION, LittleEndian);
+    let parsed = read_header(&HEADER, &bases)?;
+    match FaithfulTable::new(&table_of(&parsed)?, &frame, &bases) {
+        Ok(checked) => Ok(start_of(checked.row(context, address))),
+        Err(_) => Err(Error::NoUnwindInfoForAddress),
+    }
+}
+
+/// The same by going through the section.
+fn by_scan(context: &mut UnwindContext<usize>, address: u64) -> Result<u64, Error> {
+    let frame = EhFrame::new(&SECTION, LittleEndian);
+    start_of(row_by_scan(&frame, &bases(), context, address))
+}
+
+/// Both for an address, the table first.
 fn both_ways(
     context: &mut UnwindContext<usize>,
     address: u64,
-) -> Result<(Result<u64, Error>, Result<u64, Error>), Error> {
-    let bases = bases();
-    let frame = EhFrame::new(&SECTION, LittleEndian);
-    let parsed = EhFrameHdr::new(&HEADER, LittleEndian).parse(&bases, 8)?;
-    let Some(table) = parsed.table() else {
-        return Err(Error::NoUnwindInfoForAddress);
-    };
-    let Ok(checked) = FaithfulTable::new(&table, &frame, &bases) else {
-        return Err(Error::NoUnwindInfoForAddress);
-    };
-    let by_table = match checked.row(context, address) {
-        Ok(row) => Ok(row.start_address()),
-        Err(refusal) => Err(refusal),
-    };
-    let by_scan = match row_by_scan(&frame, &bases, context, address) {
-        Ok(row) => Ok(row.start_address()),
-        Err(refusal) => Err(refusal),
-    };
-    Ok((by_table, by_scan))
+) -> Result<[Result<u64, Error>; 2], Error> {
+    let by_table = by_checked_table(context, address)?;
+    Ok([by_table, by_scan(context, address)])
 }
 
 #[test]
 fn rows_by_a_checked_table(rt: HostRuntime) -> Result<(), Fail> {
     let mut context: UnwindContext<usize> = UnwindContext::new(rt.alloc())?;
-    let none = Err(Error::NoUnwindInfoForAddress);
-    assert_eq!(rt; both_ways(&mut context, 0xfff), Ok((none, none)));
-    assert_eq!(rt;
+    let found = [
+        both_ways(&mut context, 0xfff),
         both_ways(&mut context, 0x1000),
-        Ok((Ok(0x1000), Ok(0x1000)))
-    );
-    assert_eq!(rt;
         both_ways(&mut context, 0x1011),
-        Ok((Ok(0x1011), Ok(0x1011)))
-    );
-    assert_eq!(rt;
         both_ways(&mut context, 0x103f),
-        Ok((Ok(0x1020), Ok(0x1020)))
-    );
-    assert_eq!(rt; both_ways(&mut context, 0x1040), Ok((none, none)));
+        both_ways(&mut context, 0x1040),
+    ];
+    let none = Err(Error::NoUnwindInfoForAddress);
+    let expected = [
+        Ok([none; 2]),
+        Ok([Ok(0x1000); 2]),
+        Ok([Ok(0x1011); 2]),
+        Ok([Ok(0x1020); 2]),
+        Ok([none; 2]),
+    ];
+    assert_eq!(rt; found, expected);
     Ok(())
 }

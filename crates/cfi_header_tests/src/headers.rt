@@ -1,9 +1,9 @@
 //! Headers of `.eh_frame_hdr`, and the rows of their tables.
+use crate::searches::{Slice, ended, read_header, table_of};
 use cfi_read_core::{
-    BigEndian, DwEhPe, EndianSlice, Error, LittleEndian, NarrowSlice, Reader, ReaderOffsetId,
-    Section, SectionId,
+    BigEndian, DwEhPe, EndianSlice, Error, LittleEndian, NarrowSlice, Reader, Section, SectionId,
 };
-use gimli_cfi::hdr::EhFrameHdr;
+use gimli_cfi::hdr::{EhFrameHdr, EhHdrTable, EhHdrTableIter, ParsedEhFrameHdr};
 use gimli_cfi::pointer::{BaseAddresses, Pointer};
 use std::test::Fail;
 
@@ -46,12 +46,19 @@ fn shown<R: Reader>(header: EhFrameHdr<R>, bases: &BaseAddresses, address_size: 
     Ok((parsed.eh_frame_ptr(), rows))
 }
 
-fn ended(place: u64) -> Error {
-    Error::UnexpectedEof(ReaderOffsetId(place))
+/// The same over a slice whose offsets are machine words.
+fn shown_wide(bytes: &[u8], bases: &BaseAddresses, address_size: u8) -> Shown {
+    shown(EhFrameHdr::new(bytes, LittleEndian), bases, address_size)
+}
+
+/// The same over a narrow slice.
+fn shown_narrow(bytes: &[u8], bases: &BaseAddresses, address_size: u8) -> Shown {
+    let bytes = NarrowSlice::new(bytes, LittleEndian)?;
+    shown(EhFrameHdr::from(bytes), bases, address_size)
 }
 
 #[test]
-fn headers_without_rows(rt: HostRuntime) -> Result<(), Fail> {
+fn headers_without_rows(rt: HostRuntime) {
     let none = BaseAddresses::default();
     let headers: [(&[u8], BaseAddresses, u8, Pointer); 8] = [
         (
@@ -94,21 +101,12 @@ fn headers_without_rows(rt: HostRuntime) -> Result<(), Fail> {
         (&[1, 0x01, 0xff, 0x3b, 5], none, 8, Pointer::Direct(5)),
     ];
     for (bytes, bases, size, pointer) in headers {
-        let expected: Shown = Ok((pointer, None));
-        assert_eq!(rt;
-            shown(EhFrameHdr::new(bytes, LittleEndian), &bases, size),
-            expected
-        );
-        assert_eq!(rt;
-            shown(
-                EhFrameHdr::from(NarrowSlice::new(bytes, LittleEndian)?),
-                &bases,
-                size
-            ),
-            expected
-        );
+        let found = [
+            shown_wide(bytes, &bases, size),
+            shown_narrow(bytes, &bases, size),
+        ];
+        assert_eq!(rt; found, [Ok((pointer, None)); 2], "for {bytes:?}");
     }
-    Ok(())
 }
 
 #[test]
@@ -171,71 +169,124 @@ fn refused_headers(rt: HostRuntime) {
         ),
     ];
     for (bytes, bases, refusal) in headers {
-        let expected: Shown = Err(refusal);
-        assert_eq!(rt;
-            shown(EhFrameHdr::new(bytes, LittleEndian), &bases, 8),
-            expected
-        );
+        assert_eq!(rt; shown_wide(bytes, &bases, 8), Err(refusal), "for {bytes:?}");
     }
+}
+
+/// What a call for the next row answers, and the bounds on the rows after it.
+type Step = (
+    Result<Option<(Pointer, Pointer)>, Error>,
+    (usize, Option<usize>),
+);
+
+fn step(rows: &mut EhHdrTableIter<'_, '_, Slice<'_>>) -> Step {
+    let row = rows.next();
+    (row, rows.size_hint())
+}
+
+/// The first five steps in a table.
+fn steps(table: &EhHdrTable<'_, Slice<'_>>, bases: &BaseAddresses) -> [Step; 5] {
+    let mut rows = table.iter(bases);
+    [
+        step(&mut rows),
+        step(&mut rows),
+        step(&mut rows),
+        step(&mut rows),
+        step(&mut rows),
+    ]
+}
+
+fn row(start: u64, target: u64, left: usize) -> Step {
+    let row = (Pointer::Direct(start), Pointer::Direct(target));
+    (Ok(Some(row)), (left, Some(left)))
+}
+
+fn refused_row(refusal: Error, left: usize) -> Step {
+    (Err(refusal), (left, Some(left)))
+}
+
+/// A step where no row is left.
+const NO_ROW: Step = (Ok(None), (0, Some(0)));
+
+/// How many rows are refused for want of a base, and how many are not.
+fn refused_without_bases(table: &EhHdrTable<'_, Slice<'_>>) -> (u32, u32) {
+    let mut refused = 0u32;
+    let mut others = 0u32;
+    for row in table.iter(&BaseAddresses::default()) {
+        match row {
+            Err(Error::DataRelativePointerButDataBaseIsUndefined) => {
+                refused = refused.saturating_add(1);
+            }
+            _ => others = others.saturating_add(1),
+        }
+    }
+    (refused, others)
 }
 
 #[test]
 fn rows_in_order(rt: HostRuntime) -> Result<(), Fail> {
     let bases = at(0x1f00);
-    let parsed = EhFrameHdr::new(&THREE_ROWS, LittleEndian).parse(&bases, 8)?;
-    assert_eq!(rt; parsed.eh_frame_ptr(), Pointer::Direct(0x2000));
-    let Some(table) = parsed.table() else {
-        assert!(rt; false);
-        return Ok(());
-    };
-    let mut rows = table.iter(&bases);
-    assert_eq!(rt; rows.size_hint(), (3, Some(3)));
-    let expected: [(u64, u64); 3] = [(0x1000, 0x2018), (0x1010, 0x202c), (0x1020, 0x2040)];
-    for (start, target) in expected {
-        assert_eq!(rt;
-            rows.next()?,
-            Some((Pointer::Direct(start), Pointer::Direct(target)))
-        );
-    }
-    assert_eq!(rt; rows.size_hint(), (0, Some(0)));
-    assert_eq!(rt; rows.next()?, None);
-    assert_eq!(rt; rows.next()?, None);
-    // Without bases each row is refused.
-    let mut refused = 0u32;
-    for row in table.iter(&BaseAddresses::default()) {
-        let missing = Error::DataRelativePointerButDataBaseIsUndefined;
-        assert_eq!(rt; row.err(), Some(missing));
-        refused = refused.saturating_add(1);
-    }
-    assert_eq!(rt; refused, 3);
+    let parsed = read_header(&THREE_ROWS, &bases)?;
+    let table = table_of(&parsed)?;
+    let expected = [
+        row(0x1000, 0x2018, 2),
+        row(0x1010, 0x202c, 1),
+        row(0x1020, 0x2040, 0),
+        NO_ROW,
+        NO_ROW,
+    ];
+    assert_eq!(rt;
+        (
+            shown_wide(&THREE_ROWS, &bases, 8),
+            steps(&table, &bases),
+            refused_without_bases(&table)
+        ),
+        (
+            Ok((Pointer::Direct(0x2000), Some((3, Some(3))))),
+            expected,
+            (3, 0)
+        )
+    );
     Ok(())
 }
 
 #[test]
 fn refused_rows_count(rt: HostRuntime) -> Result<(), Fail> {
     let bases = at(0x1f00);
-    let parsed = EhFrameHdr::new(&ONE_ROW_MISSING, LittleEndian).parse(&bases, 8)?;
-    if let Some(table) = parsed.table() {
-        let mut rows = table.iter(&bases);
-        for _ in 0..3u32 {
-            assert!(rt; rows.next()?.is_some());
-        }
-        assert_eq!(rt; rows.next(), Err(ended(36)));
-        assert_eq!(rt; rows.next(), Ok(None));
-    }
-    let parsed = EhFrameHdr::new(&REFUSED_ROW, LittleEndian).parse(&bases, 1)?;
-    if let Some(table) = parsed.table() {
-        let mut rows = table.iter(&bases);
-        let first = Some((Pointer::Direct(1), Pointer::Direct(2)));
-        assert_eq!(rt; rows.next(), Ok(first));
-        assert_eq!(rt; rows.next(), Err(Error::BadUnsignedLeb128));
-        assert_eq!(rt; rows.size_hint(), (1, Some(1)));
+    let missing = read_header(&ONE_ROW_MISSING, &bases)?;
+    let refused = EhFrameHdr::new(&REFUSED_ROW, LittleEndian).parse(&bases, 1)?;
+    let found = [
+        steps(&table_of(&missing)?, &bases),
+        steps(&table_of(&refused)?, &bases),
+    ];
+    let with_missing = [
+        row(0x1000, 0x2018, 3),
+        row(0x1010, 0x202c, 2),
+        row(0x1020, 0x2040, 1),
+        refused_row(ended(36), 0),
+        NO_ROW,
+    ];
+    let with_refused = [
+        row(1, 2, 2),
+        refused_row(Error::BadUnsignedLeb128, 1),
         // The third row begins after the number that was refused.
-        let third = Some((Pointer::Direct(5), Pointer::Direct(6)));
-        assert_eq!(rt; rows.next(), Ok(third));
-        assert_eq!(rt; rows.next(), Ok(None));
-    }
+        row(5, 6, 0),
+        NO_ROW,
+        NO_ROW,
+    ];
+    assert_eq!(rt; found, [with_missing, with_refused]);
     Ok(())
+}
+
+/// The first row of a header's table in big-endian order.
+fn first_row(
+    header: &ParsedEhFrameHdr<EndianSlice<'_, BigEndian>>,
+    bases: &BaseAddresses,
+) -> Result<Option<(Pointer, Pointer)>, Error> {
+    match header.table() {
+        Some(table) => table.iter(bases).next(),
+        None => Ok(None),
+    }
 }
 
 #[test]
@@ -245,21 +296,20 @@ fn big_endian_rows(rt: HostRuntime) -> Result<(), Fail> {
     ];
     let bases = BaseAddresses::default();
     let parsed = EhFrameHdr::new(&bytes, BigEndian).parse(&bases, 2)?;
-    assert_eq!(rt; parsed.eh_frame_ptr(), Pointer::Direct(0x2000));
-    if let Some(table) = parsed.table() {
-        let row = (Pointer::Direct(0x1000), Pointer::Direct(0x2018));
-        assert_eq!(rt; table.iter(&bases).next(), Ok(Some(row)));
-    }
+    let row = (Pointer::Direct(0x1000), Pointer::Direct(0x2018));
+    assert_eq!(rt;
+        (parsed.eh_frame_ptr(), first_row(&parsed, &bases)),
+        (Pointer::Direct(0x2000), Ok(Some(row)))
+    );
     Ok(())
 }
 
 #[test]
 fn the_header_names_itself(rt: HostRuntime) {
-    type Slice<'a> = EndianSlice<'a, LittleEndian>;
-    assert_eq!(rt;
-        <EhFrameHdr<Slice> as Section<Slice>>::id(),
-        SectionId::EhFrameHdr
-    );
+    let id = <EhFrameHdr<Slice> as Section<Slice>>::id();
     let header = EhFrameHdr::new(&THREE_ROWS, LittleEndian);
-    assert_eq!(rt; header.reader().slice().len(), 36);
+    assert_eq!(rt;
+        (id, header.reader().slice().len()),
+        (SectionId::EhFrameHdr, 36)
+    );
 }

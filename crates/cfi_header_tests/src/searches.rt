@@ -2,17 +2,25 @@
 ghost use Rattle.std.specs.Prelude.{ok_or, slice_get};
 ghost use Rattle.cfi_read_core.specs.declared.error.Error.TheVariants.{NoUnwindInfoForAddress};
 
+use crate::asked::fde_by_table;
 use cfi_read_core::{
-    DwEhPe, EhFrameOffset, EndianSlice, Error, LittleEndian, NarrowSlice, ReaderOffsetId, Register,
+    DwEhPe, EhFrameOffset, EndianSlice, Error, LittleEndian, NarrowSlice, Reader, ReaderOffsetId,
+    Register,
 };
 use gimli_cfi::call_count::CallCount;
 use gimli_cfi::hdr::{
-    EhFrameHdr, ParsedEhFrameHdr, StartSource, TableStarts, row_by_table, search_starts,
+    EhFrameHdr, EhHdrTable, ParsedEhFrameHdr, StartSource, TableStarts, row_by_table, search_starts,
 };
 use gimli_cfi::pointer::{BaseAddresses, Pointer};
 use gimli_cfi::section::{EhFrame, UnwindSection};
+use gimli_cfi::storage::{StoreOnHeap, UnwindContextStorage};
 use gimli_cfi::table::{CfaRule, UnwindContext, UnwindTableRow, row_by_scan};
 use std::test::Fail;
+
+pub(crate) type Slice<'a> = EndianSlice<'a, LittleEndian>;
+
+/// A row of a context that stores on the heap.
+type HeapRow = UnwindTableRow<usize, <StoreOnHeap as UnwindContextStorage<usize>>::Rules>;
 
 /// A section at 0x2000 of a CIE and three FDEs, at 24, 44 and 64, which begin at 0x1000, 0x1010 and 0x1020.
 pub(crate) const SECTION: [u8; 88] = [
@@ -39,16 +47,32 @@ pub(crate) fn bases() -> BaseAddresses {
         .set_eh_frame(0x2000)
 }
 
-fn ended(place: u64) -> Error {
+pub(crate) fn ended(place: u64) -> Error {
     Error::UnexpectedEof(ReaderOffsetId(place))
+}
+
+/// A header of 8-byte addresses. The tests read it here, since each call over a type parameter makes the check longer.
+pub(crate) fn read_header<'a>(
+    header: &'a [u8],
+    bases: &BaseAddresses,
+) -> Result<ParsedEhFrameHdr<Slice<'a>>, Error> {
+    EhFrameHdr::new(header, LittleEndian).parse(bases, 8)
+}
+
+/// The header's table, which these tests expect to be there.
+pub(crate) fn table_of<'a>(
+    parsed: &'a ParsedEhFrameHdr<Slice<'a>>,
+) -> Result<EhHdrTable<'a, Slice<'a>>, Error> {
+    match parsed.table() {
+        Some(table) => Ok(table),
+        None => Err(Error::NoUnwindInfoForAddress),
+    }
 }
 
 /// The addresses of a row, and the offset of its CFA from register 7.
 type Shown = (u64, u64, Option<i64>);
 
-fn shown<
-    A: gimli_cfi::storage::ArrayLike<Item = (Register, gimli_cfi::table::RegisterRule<usize>)>,
->(row: &UnwindTableRow<usize, A>) -> Shown {
+fn shown(row: &HeapRow) -> Shown {
     let offset = match *row.cfa() {
         CfaRule::RegisterAndOffset {
             register: Register(7),
@@ -59,43 +83,81 @@ fn shown<
     (row.start_address(), row.end_address(), offset)
 }
 
-/// The row for an address by a header's table.
+/// The first address of a row.
+pub(crate) fn start_of(found: Result<&HeapRow, Error>) -> Result<u64, Error> {
+    match found {
+        Ok(row) => Ok(row.start_address()),
+        Err(refusal) => Err(refusal),
+    }
+}
+
+/// The row for an address by a table and its starts.
+fn row_by_starts(
+    table: &EhHdrTable<'_, Slice<'_>>,
+    context: &mut UnwindContext<usize>,
+    address: u64,
+) -> Result<Shown, Error> {
+    let bases = bases();
+    let frame = EhFrame::new(&SECTION, LittleEndian);
+    let mut starts = TableStarts::new(table, &bases)?;
+    let row = row_by_table(table, &mut starts, &frame, &bases, context, address)?;
+    Ok(shown(row))
+}
+
+/// The same by a header's bytes.
 fn by_table(
     header: &[u8],
     context: &mut UnwindContext<usize>,
     address: u64,
 ) -> Result<Shown, Error> {
-    let bases = bases();
-    let frame = EhFrame::new(&SECTION, LittleEndian);
-    let parsed = EhFrameHdr::new(header, LittleEndian).parse(&bases, 8)?;
-    let Some(table) = parsed.table() else {
-        return Err(Error::NoUnwindInfoForAddress);
-    };
-    let mut starts = TableStarts::new(&table, &bases)?;
-    let row = row_by_table(&table, &mut starts, &frame, &bases, context, address)?;
-    Ok(shown(row))
+    let parsed = read_header(header, &bases())?;
+    row_by_starts(&table_of(&parsed)?, context, address)
 }
 
-/// The same, asked for CIEs.
-fn by_table_and_cies(
-    header: &[u8],
+/// The row for an address by a table, asked for CIEs.
+fn row_by_cies(
+    table: &EhHdrTable<'_, Slice<'_>>,
     context: &mut UnwindContext<usize>,
     address: u64,
 ) -> Result<Shown, Error> {
-    let bases = bases();
     let frame = EhFrame::new(&SECTION, LittleEndian);
-    let parsed = EhFrameHdr::new(header, LittleEndian).parse(&bases, 8)?;
-    let Some(table) = parsed.table() else {
-        return Err(Error::NoUnwindInfoForAddress);
-    };
-    let row = table.unwind_info_for_address(
-        &frame,
-        &bases,
-        context,
-        address,
-        |from, bases, offset| from.cie_from_offset(bases, offset),
-    )?;
+    let get_cie = EhFrame::cie_from_offset;
+    let row = table.unwind_info_for_address(&frame, &bases(), context, address, get_cie)?;
     Ok(shown(row))
+}
+
+/// The same by the header.
+fn by_table_and_cies(context: &mut UnwindContext<usize>, address: u64) -> Result<Shown, Error> {
+    let parsed = read_header(&HEADER, &bases())?;
+    row_by_cies(&table_of(&parsed)?, context, address)
+}
+
+/// The row for an address by going through the section.
+fn by_scan(context: &mut UnwindContext<usize>, address: u64) -> Result<Shown, Error> {
+    let frame = EhFrame::new(&SECTION, LittleEndian);
+    let row = row_by_scan(&frame, &bases(), context, address)?;
+    Ok(shown(row))
+}
+
+/// The target of an address by a header's table.
+fn looked_up(header: &[u8], address: u64) -> Result<Pointer, Error> {
+    let bases = bases();
+    let parsed = read_header(header, &bases)?;
+    table_of(&parsed)?.lookup(address, &bases)
+}
+
+/// The offset in the section of a target.
+fn offset_of(target: Pointer) -> Result<EhFrameOffset<usize>, Error> {
+    let parsed = read_header(&HEADER, &bases())?;
+    table_of(&parsed)?.pointer_to_offset(target)
+}
+
+/// The offset of the FDE that a header's table names for an address, or a refusal of its CIE.
+fn named_fde(header: &[u8], address: u64, refuses: bool) -> Result<usize, Error> {
+    let frame = EhFrame::new(&SECTION, LittleEndian);
+    let parsed = read_header(header, &bases())?;
+    let (offset, _) = fde_by_table(&table_of(&parsed)?, &frame, address, refuses);
+    offset
 }
 
 /// The header with another target in its second row.
@@ -116,39 +178,34 @@ fn encoded(encoding: u8) -> [u8; 36] {
 }
 
 #[test]
-fn lookups(rt: HostRuntime) -> Result<(), Fail> {
-    let bases = bases();
-    let parsed = EhFrameHdr::new(&HEADER, LittleEndian).parse(&bases, 8)?;
-    let Some(table) = parsed.table() else {
-        assert!(rt; false);
-        return Ok(());
-    };
-    let targets: [(u64, u64); 3] = [(0xff0, 0x2018), (0x1018, 0x202c), (0x1020, 0x2040)];
-    for (address, target) in targets {
-        assert_eq!(rt; table.lookup(address, &bases)?, Pointer::Direct(target));
-    }
-    let offsets: [(Pointer, Result<usize, Error>); 4] = [
-        (Pointer::Direct(0x2018), Ok(24)),
-        (Pointer::Direct(0x2000), Ok(0)),
-        (
-            Pointer::Direct(0x1fff),
-            Err(Error::OffsetOutOfBounds(0x1fff)),
-        ),
-        (
-            Pointer::Indirect(0x2018),
-            Err(Error::UnsupportedIndirectPointer),
-        ),
+fn lookups(rt: HostRuntime) {
+    let targets = [
+        looked_up(&HEADER, 0xff0),
+        looked_up(&HEADER, 0x1018),
+        looked_up(&HEADER, 0x1020),
     ];
-    for (pointer, offset) in offsets {
-        let found = table.pointer_to_offset(pointer);
-        assert_eq!(rt; found, offset.map(EhFrameOffset));
-    }
-    Ok(())
+    let offsets = [
+        offset_of(Pointer::Direct(0x2018)),
+        offset_of(Pointer::Direct(0x2000)),
+        offset_of(Pointer::Direct(0x1fff)),
+        offset_of(Pointer::Indirect(0x2018)),
+    ];
+    let expected_targets = [
+        Ok(Pointer::Direct(0x2018)),
+        Ok(Pointer::Direct(0x202c)),
+        Ok(Pointer::Direct(0x2040)),
+    ];
+    let expected_offsets = [
+        Ok(EhFrameOffset(24)),
+        Ok(EhFrameOffset(0)),
+        Err(Error::OffsetOutOfBounds(0x1fff)),
+        Err(Error::UnsupportedIndirectPointer),
+    ];
+    assert_eq!(rt; (targets, offsets), (expected_targets, expected_offsets));
 }
 
 #[test]
 fn table_and_scan_agree(rt: HostRuntime) -> Result<(), Fail> {
-    let frame = EhFrame::new(&SECTION, LittleEndian);
     let mut context: UnwindContext<usize> = UnwindContext::new(rt.alloc())?;
     let rows: [(u64, Result<Shown, Error>); 4] = [
         (0xff0, Err(Error::NoUnwindInfoForAddress)),
@@ -157,89 +214,88 @@ fn table_and_scan_agree(rt: HostRuntime) -> Result<(), Fail> {
         (0x1040, Err(Error::NoUnwindInfoForAddress)),
     ];
     for (address, row) in rows {
-        assert_eq!(rt; by_table(&HEADER, &mut context, address), row);
-        assert_eq!(rt; by_table_and_cies(&HEADER, &mut context, address), row);
-        let scanned = match row_by_scan(&frame, &bases(), &mut context, address) {
-            Ok(found) => Ok(shown(found)),
-            Err(refusal) => Err(refusal),
-        };
-        assert_eq!(rt; scanned, row);
+        let found = [
+            by_table(&HEADER, &mut context, address),
+            by_table_and_cies(&mut context, address),
+            by_scan(&mut context, address),
+        ];
+        assert_eq!(rt; found, [row; 3], "for {address}");
     }
     Ok(())
+}
+
+/// The row for 0x1018 with another target in the second row.
+fn by_target(context: &mut UnwindContext<usize>, target: [u8; 4]) -> Result<Shown, Error> {
+    by_table(&second_target(target), context, 0x1018)
+}
+
+/// The row for 0x1018 with the rows encoded otherwise.
+fn by_encoding(context: &mut UnwindContext<usize>, encoding: u8) -> Result<Shown, Error> {
+    by_table(&encoded(encoding), context, 0x1018)
+}
+
+/// The row for an address by a table that ends after its second row.
+fn by_cut_table(context: &mut UnwindContext<usize>, address: u64) -> Result<Shown, Error> {
+    by_table(&HEADER[..28], context, address)
 }
 
 #[test]
 fn dishonest_tables(rt: HostRuntime) -> Result<(), Fail> {
     let mut context: UnwindContext<usize> = UnwindContext::new(rt.alloc())?;
-    let targets: [([u8; 4], Error); 5] = [
-        ([0x18, 1, 0, 0], Error::NoUnwindInfoForAddress),
-        ([0, 1, 0, 0], Error::NotCiePointer(0)),
-        ([0x54, 1, 0, 0], Error::NoEntryAtGivenOffset(84)),
-        ([0x59, 1, 0, 0], ended(0)),
-        ([0xff, 0, 0, 0], Error::OffsetOutOfBounds(0x1fff)),
+    let found = [
+        by_target(&mut context, [0x18, 1, 0, 0]),
+        by_target(&mut context, [0, 1, 0, 0]),
+        by_target(&mut context, [0x54, 1, 0, 0]),
+        by_target(&mut context, [0x59, 1, 0, 0]),
+        by_target(&mut context, [0xff, 0, 0, 0]),
+        by_encoding(&mut context, 0xbb),
+        by_encoding(&mut context, 0x31),
+        by_cut_table(&mut context, 0x1018),
+        by_cut_table(&mut context, 0x1008),
     ];
-    for (target, refusal) in targets {
-        let found = by_table(&second_target(target), &mut context, 0x1018);
-        assert_eq!(rt; found, Err(refusal));
-    }
-    let encodings: [(u8, Error); 2] = [
-        (0xbb, Error::UnsupportedIndirectPointer),
-        (0x31, Error::UnsupportedPointerEncoding(DwEhPe(0x31))),
+    let expected = [
+        Err(Error::NoUnwindInfoForAddress),
+        Err(Error::NotCiePointer(0)),
+        Err(Error::NoEntryAtGivenOffset(84)),
+        Err(ended(0)),
+        Err(Error::OffsetOutOfBounds(0x1fff)),
+        Err(Error::UnsupportedIndirectPointer),
+        Err(Error::UnsupportedPointerEncoding(DwEhPe(0x31))),
+        Err(ended(28)),
+        Ok((0x1000, 0x1010, Some(8))),
     ];
-    for (encoding, refusal) in encodings {
-        let found = by_table(&encoded(encoding), &mut context, 0x1018);
-        assert_eq!(rt; found, Err(refusal));
-    }
-    let cut = &HEADER[..28];
-    assert_eq!(rt; by_table(cut, &mut context, 0x1018), Err(ended(28)));
-    let row = Ok((0x1000, 0x1010, Some(8)));
-    assert_eq!(rt; by_table(cut, &mut context, 0x1008), row);
+    assert_eq!(rt; found, expected);
     Ok(())
 }
 
 #[test]
-fn the_fde_that_a_table_names(rt: HostRuntime) -> Result<(), Fail> {
-    let bases = bases();
-    let frame = EhFrame::new(&SECTION, LittleEndian);
-    let parsed = EhFrameHdr::new(&HEADER, LittleEndian).parse(&bases, 8)?;
-    let Some(table) = parsed.table() else {
-        assert!(rt; false);
-        return Ok(());
-    };
-    let addresses: [(u64, Result<usize, Error>); 3] = [
-        (0x1018, Ok(44)),
-        (0x103f, Ok(64)),
-        (0xff0, Err(Error::NoUnwindInfoForAddress)),
+fn the_fde_that_a_table_names(rt: HostRuntime) {
+    let found = [
+        named_fde(&HEADER, 0x1018, false),
+        named_fde(&HEADER, 0x103f, false),
+        named_fde(&HEADER, 0xff0, false),
+        named_fde(&HEADER, 0x1018, true),
     ];
-    for (address, offset) in addresses {
-        let found = table.fde_for_address(&frame, &bases, address, |from, bases, offset| {
-            from.cie_from_offset(bases, offset)
-        });
-        assert_eq!(rt; found.map(|fde| fde.offset()), offset);
-    }
-    let refused = table.fde_for_address(&frame, &bases, 0x1018, |_, _, _| {
-        Err(Error::UnknownAugmentation)
-    });
-    assert_eq!(rt; refused.err(), Some(Error::UnknownAugmentation));
-    Ok(())
+    let expected = [
+        Ok(44),
+        Ok(64),
+        Err(Error::NoUnwindInfoForAddress),
+        Err(Error::UnknownAugmentation),
+    ];
+    assert_eq!(rt; found, expected);
 }
 
 #[test]
-fn an_indirect_target(rt: HostRuntime) -> Result<(), Fail> {
-    let bases = bases();
-    let frame = EhFrame::new(&SECTION, LittleEndian);
+fn an_indirect_target(rt: HostRuntime) {
     let header: [u8; 20] = [
         1, 0x1b, 0x03, 0xbb, 0xfc, 0, 0, 0, 1, 0, 0, 0, 0, 0xf1, 0xff, 0xff, 0x18, 1, 0, 0,
     ];
-    let parsed = EhFrameHdr::new(&header, LittleEndian).parse(&bases, 8)?;
-    if let Some(table) = parsed.table() {
-        assert_eq!(rt; table.lookup(0x1000, &bases)?, Pointer::Indirect(0x2018));
-        let found = table.fde_for_address(&frame, &bases, 0x1000, |from, bases, offset| {
-            from.cie_from_offset(bases, offset)
-        });
-        assert_eq!(rt; found.err(), Some(Error::UnsupportedIndirectPointer));
-    }
-    Ok(())
+    let found = (
+        looked_up(&header, 0x1000),
+        named_fde(&header, 0x1000, false),
+    );
+    let refused = Err(Error::UnsupportedIndirectPointer);
+    assert_eq!(rt; found, (Ok(Pointer::Indirect(0x2018)), refused));
 }
 
 type Row = Result<Option<(Pointer, Pointer)>, Error>;
@@ -248,7 +304,7 @@ type Row = Result<Option<(Pointer, Pointer)>, Error>;
 type Passed = (Row, usize, Row);
 
 /// The same over a header that was read.
-fn passed<R: cfi_read_core::Reader>(
+fn passed<R: Reader>(
     parsed: &ParsedEhFrameHdr<R>,
     bases: &BaseAddresses,
     count: usize,
@@ -259,69 +315,81 @@ fn passed<R: cfi_read_core::Reader>(
     Some((row, left, rows.next()))
 }
 
+/// The same over a header's bytes.
+fn passed_in(header: &[u8], count: usize) -> Result<Option<Passed>, Error> {
+    let bases = bases();
+    let parsed = read_header(header, &bases)?;
+    Ok(passed(&parsed, &bases, count))
+}
+
+/// The same over a narrow slice.
+fn passed_in_narrow(header: &[u8], count: usize) -> Result<Option<Passed>, Error> {
+    let bases = bases();
+    let header = EhFrameHdr::from(NarrowSlice::new(header, LittleEndian)?);
+    let parsed = header.parse(&bases, 8)?;
+    Ok(passed(&parsed, &bases, count))
+}
+
 /// What the first call answers.
-fn first_row<R: cfi_read_core::Reader>(
-    parsed: &ParsedEhFrameHdr<R>,
-    bases: &BaseAddresses,
-) -> Option<Row> {
-    Some(parsed.table()?.iter(bases).next())
+fn first_row(header: &[u8]) -> Row {
+    let bases = bases();
+    let parsed = read_header(header, &bases)?;
+    table_of(&parsed)?.iter(&bases).next()
+}
+
+/// Whether the starts of a header's table can be read one by one.
+fn has_starts(header: &[u8]) -> Result<bool, Error> {
+    let bases = bases();
+    let parsed = read_header(header, &bases)?;
+    Ok(TableStarts::new(&table_of(&parsed)?, &bases).is_ok())
 }
 
 #[test]
-fn rows_passed_at_once(rt: HostRuntime) -> Result<(), Fail> {
-    let bases = bases();
-    let parsed = EhFrameHdr::new(&HEADER, LittleEndian).parse(&bases, 8)?;
+fn rows_passed_at_once(rt: HostRuntime) {
+    let other = encoded(0x31);
+    let found = [
+        passed_in(&HEADER, 1),
+        passed_in(&HEADER, 2),
+        passed_in(&HEADER, 3),
+        passed_in(&other, 0),
+    ];
     let second = (Pointer::Direct(0x1010), Pointer::Direct(0x202c));
     let third = (Pointer::Direct(0x1020), Pointer::Direct(0x2040));
-    let counts: [(usize, Passed); 3] = [
-        (1, (Ok(Some(second)), 1, Ok(Some(third)))),
-        (2, (Ok(Some(third)), 0, Ok(None))),
-        (3, (Ok(None), 0, Ok(None))),
-    ];
-    for (count, answers) in counts {
-        assert_eq!(rt; passed(&parsed, &bases, count), Some(answers));
-    }
-    let other = encoded(0x31);
-    let parsed = EhFrameHdr::new(&other, LittleEndian).parse(&bases, 8)?;
     let refusal = Error::UnsupportedPointerEncoding(DwEhPe(0x31));
-    let Some(first) = first_row(&parsed, &bases) else {
-        assert!(rt; false);
-        return Ok(());
-    };
-    assert_eq!(rt; passed(&parsed, &bases, 0), Some((Err(refusal), 3, first)));
-    if let Some(table) = parsed.table() {
-        assert_eq!(rt; table.lookup(0x1018, &bases), Err(refusal));
-        assert!(rt; TableStarts::new(&table, &bases).is_err());
-    }
-    Ok(())
+    let expected = [
+        Ok(Some((Ok(Some(second)), 1, Ok(Some(third))))),
+        Ok(Some((Ok(Some(third)), 0, Ok(None)))),
+        Ok(Some((Ok(None), 0, Ok(None)))),
+        Ok(Some((Err(refusal), 3, first_row(&other)))),
+    ];
+    assert_eq!(rt;
+        (found, looked_up(&other, 0x1018), has_starts(&other)),
+        (expected, Err(refusal), Ok(false))
+    );
 }
 
 #[test]
-fn rows_that_are_not_there(rt: HostRuntime) -> Result<(), Fail> {
-    let bases = bases();
-    let parsed = EhFrameHdr::new(&MANY_ROWS, LittleEndian).parse(&bases, 8)?;
-    let half: usize = 1 << 63;
-    let absent = Err(ended(20));
-    assert_eq!(rt; passed(&parsed, &bases, 1), Some((absent, half, absent)));
-    if let Some(table) = parsed.table() {
-        assert_eq!(rt; table.lookup(0x1018, &bases), Err(Error::UnsupportedOffset));
-    }
+fn rows_that_are_not_there(rt: HostRuntime) {
     let mut fewer = MANY_ROWS;
     fewer[19] = 0;
     fewer[15] = 0x20;
-    let parsed = EhFrameHdr::new(&fewer, LittleEndian).parse(&bases, 8)?;
+    let found = [
+        passed_in(&MANY_ROWS, 1),
+        passed_in(&fewer, 0x1000_0000),
+        passed_in_narrow(&fewer, 0x1000_0000),
+    ];
+    let half: usize = 1 << 63;
     let count: usize = 0x2000_0000;
+    let absent = Err(ended(20));
+    let expected = [
+        Ok(Some((absent, half, absent))),
+        Ok(Some((absent, count, absent))),
+        Ok(Some((Err(Error::UnsupportedOffset), count, absent))),
+    ];
     assert_eq!(rt;
-        passed(&parsed, &bases, 0x1000_0000),
-        Some((absent, count, absent))
+        (found, looked_up(&MANY_ROWS, 0x1018)),
+        (expected, Err(Error::UnsupportedOffset))
     );
-    let narrow = EhFrameHdr::from(NarrowSlice::new(&fewer, LittleEndian)?).parse(&bases, 8)?;
-    let refusal = Error::UnsupportedOffset;
-    assert_eq!(rt;
-        passed(&narrow, &bases, 0x1000_0000),
-        Some((Err(refusal), count, absent))
-    );
-    Ok(())
 }
 
 /// Starts in a list, and how many calls were made.
@@ -366,51 +434,78 @@ impl StartSource for Itself {
     }
 }
 
-#[test]
-fn searches_by_halving(rt: HostRuntime) {
-    // The starts, the address, the row that is found, and the number of calls.
-    let searches: [(&[u64], u64, u64, u32); 7] = [
-        (&[10, 20, 30], 5, 0, 1),
-        (&[10, 20, 30], 25, 1, 2),
-        (&[10, 20, 30], 30, 2, 2),
-        (&[30, 10, 20], 15, 1, 2),
-        (&[30, 10, 20], 35, 2, 2),
-        (&[10], 5, 0, 0),
-        (&[1, 3, 5, 7, 9], 8, 3, 3),
-    ];
-    for (starts, address, row, calls) in searches {
-        let count = starts.len() as u64;
-        if count > 0 {
-            let mut source = Listed {
-                starts,
-                made: 0,
-                calls: CallCount::none(),
-            };
-            assert_eq!(rt; search_starts(&mut source, count, address), Ok(row));
-            assert_eq!(rt; source.made, calls, "{starts:?} for {address}");
-        }
+/// The row that a search finds, and the number of calls.
+type Searched = (Result<u64, Error>, u32);
+
+/// A search in a list, which has a start.
+fn searched(starts: &[u64], address: u64) -> Searched {
+    let count = starts.len() as u64;
+    if count == 0 {
+        return (Err(Error::NoUnwindInfoForAddress), 0);
     }
+    let mut source = Listed {
+        starts,
+        made: 0,
+        calls: CallCount::none(),
+    };
+    let row = search_starts(&mut source, count, address);
+    (row, source.made)
+}
+
+/// A search in as many rows as there can be.
+fn searched_in_all(address: u64) -> Searched {
     let mut source = Itself {
         made: 0,
         calls: CallCount::none(),
     };
-    assert_eq!(rt; search_starts(&mut source, u64::MAX, 12345), Ok(12345));
-    assert!(rt; source.made <= 64);
+    let row = search_starts(&mut source, u64::MAX, address);
+    (row, source.made)
+}
+
+#[test]
+fn searches_by_halving(rt: HostRuntime) {
+    let rising = [10, 20, 30];
+    let unordered = [30, 10, 20];
+    let found = [
+        searched(&rising, 5),
+        searched(&rising, 25),
+        searched(&rising, 30),
+        searched(&unordered, 15),
+        searched(&unordered, 35),
+        searched(&[10], 5),
+        searched(&[1, 3, 5, 7, 9], 8),
+    ];
+    let expected = [
+        (Ok(0), 1),
+        (Ok(1), 2),
+        (Ok(2), 2),
+        (Ok(1), 2),
+        (Ok(2), 2),
+        (Ok(0), 0),
+        (Ok(3), 3),
+    ];
+    let (row, made) = searched_in_all(12345);
+    assert_eq!(rt; (found, row, made <= 64), (expected, Ok(12345), true));
+}
+
+/// The target of an address by a table and its starts.
+fn looked_up_in(
+    table: &EhHdrTable<'_, Slice<'_>>,
+    bases: &BaseAddresses,
+    address: u64,
+) -> Result<Pointer, Error> {
+    let mut starts = TableStarts::new(table, bases)?;
+    table.lookup_in(&mut starts, address, bases)
 }
 
 #[test]
 fn a_search_with_the_starts_of_the_table(rt: HostRuntime) -> Result<(), Fail> {
     let bases = BaseAddresses::default().set_eh_frame_hdr(0x1f00);
-    let parsed = EhFrameHdr::new(&HEADER, LittleEndian).parse(&bases, 8)?;
-    let Some(table) = parsed.table() else {
-        assert!(rt; false);
-        return Ok(());
-    };
-    let mut starts = TableStarts::new(&table, &bases)?;
+    let parsed = read_header(&HEADER, &bases)?;
+    let target = looked_up_in(&table_of(&parsed)?, &bases, 0x1018);
     assert_eq!(rt;
-        table.lookup_in(&mut starts, 0x1018, &bases),
-        Ok(Pointer::Direct(0x202c))
+        (target, parsed.eh_frame_ptr()),
+        (Ok(Pointer::Direct(0x202c)), Pointer::Direct(0x2000))
     );
-    assert_eq!(rt; parsed.eh_frame_ptr(), Pointer::Direct(0x2000));
     Ok(())
 }
