@@ -1,7 +1,7 @@
 //! Sections that end too early, or whose numbers are the greatest, over offsets of eight bytes and of four.
 use crate::entries::bytes_of;
 use crate::sections::THREE_ROWS;
-use cfi_read_core::{EndianSlice, Error, LittleEndian, NarrowSlice, Reader, ReaderOffsetId};
+use cfi_read_core::{Error, LittleEndian, NarrowSlice, Reader, ReaderOffsetId, StoreOnHeap};
 use gimli_cfi::pointer::BaseAddresses;
 use gimli_cfi::section::{DebugFrame, EhFrame, UnwindSection};
 use gimli_cfi::storage::UnwindContextStorage;
@@ -12,62 +12,59 @@ use std::test::Fail;
 /// The addresses of the row for 0x1002.
 type Answer = Result<(u64, u64), Error>;
 
-const ENDS_AT_THE_FIRST_PLACE: Answer = Err(Error::UnexpectedEof(ReaderOffsetId(0)));
+fn ended(place: u64) -> Answer {
+    Err(Error::UnexpectedEof(ReaderOffsetId(place)))
+}
 
 fn row_in<R: Reader, S: UnwindSection<R>, C: UnwindContextStorage<R::Offset>>(
-    context: &mut UnwindContext<R::Offset, C>,
+    alloc: Global,
     section: &S,
 ) -> Answer {
-    let row = row_by_scan(section, &BaseAddresses::default(), context, 0x1002)?;
+    let mut context: UnwindContext<R::Offset, C> = UnwindContext::new_in(alloc)?;
+    let row = row_by_scan(section, &BaseAddresses::default(), &mut context, 0x1002)?;
     Ok((row.start_address(), row.end_address()))
 }
 
-type Wide<'a> = EndianSlice<'a, LittleEndian>;
-
-type Narrow<'a> = NarrowSlice<'a, LittleEndian>;
-
-/// Over offsets of eight bytes.
-fn wide<'a, S: UnwindSection<Wide<'a>>>(alloc: Global, section: &S) -> Result<Answer, Fail> {
-    let mut context: UnwindContext<usize> = UnwindContext::new(alloc)?;
-    Ok(row_in(&mut context, section))
-}
-
-/// Over offsets of four bytes.
-fn narrow<'a, S: UnwindSection<Narrow<'a>>>(alloc: Global, section: &S) -> Result<Answer, Fail> {
-    let mut context: UnwindContext<u32> = UnwindContext::new(alloc)?;
-    Ok(row_in(&mut context, section))
-}
-
-/// In `.debug_frame`, over both.
-fn in_debug_frame(alloc: Global, bytes: &[u8]) -> Result<(Answer, Answer), Fail> {
-    let by_wide = wide(alloc, &DebugFrame::new(bytes, LittleEndian))?;
-    let section = DebugFrame::from(NarrowSlice::new(bytes, LittleEndian)?);
-    Ok((by_wide, narrow(alloc, &section)?))
+/// In `.debug_frame`, over offsets of eight bytes and of four.
+fn in_debug_frame(alloc: Global, bytes: &[u8]) -> Result<(Answer, Answer), Error> {
+    let wide = DebugFrame::new(bytes, LittleEndian);
+    let narrow = DebugFrame::from(NarrowSlice::new(bytes, LittleEndian)?);
+    Ok((
+        row_in::<_, _, StoreOnHeap>(alloc, &wide),
+        row_in::<_, _, StoreOnHeap>(alloc, &narrow),
+    ))
 }
 
 /// The same in `.eh_frame`.
-fn in_eh_frame(alloc: Global, bytes: &[u8]) -> Result<(Answer, Answer), Fail> {
-    let by_wide = wide(alloc, &EhFrame::new(bytes, LittleEndian))?;
-    let section = EhFrame::from(NarrowSlice::new(bytes, LittleEndian)?);
-    Ok((by_wide, narrow(alloc, &section)?))
+fn in_eh_frame(alloc: Global, bytes: &[u8]) -> Result<(Answer, Answer), Error> {
+    let wide = EhFrame::new(bytes, LittleEndian);
+    let narrow = EhFrame::from(NarrowSlice::new(bytes, LittleEndian)?);
+    Ok((
+        row_in::<_, _, StoreOnHeap>(alloc, &wide),
+        row_in::<_, _, StoreOnHeap>(alloc, &narrow),
+    ))
+}
+
+/// What both answer where the section of three rows has so many bytes.
+fn answer_of_a_cut(count: usize) -> Answer {
+    match count {
+        0 | 20 => Err(Error::NoUnwindInfoForAddress),
+        1..=3 => ended(0),
+        4..=19 => ended(4),
+        21..=23 => ended(20),
+        24..=51 => ended(24),
+        _ => Ok((0x1001, 0x1004)),
+    }
 }
 
 /// A section that is cut within an entry ends where the entry's rest would begin.
 #[test]
 fn three_rows_cut(rt: HostRuntime) -> Result<(), Fail> {
     for count in 0..=52usize {
-        let answer = match count {
-            0 | 20 => Err(Error::NoUnwindInfoForAddress),
-            1..=3 => ENDS_AT_THE_FIRST_PLACE,
-            4..=19 => Err(Error::UnexpectedEof(ReaderOffsetId(4))),
-            21..=23 => Err(Error::UnexpectedEof(ReaderOffsetId(20))),
-            24..=51 => Err(Error::UnexpectedEof(ReaderOffsetId(24))),
-            _ => Ok((0x1001, 0x1004)),
-        };
         let Some(bytes) = THREE_ROWS.get(..count) else {
-            assert!(rt; false);
-            return Ok(());
+            return Err(Fail::new("a cut is longer than the section"));
         };
+        let answer = answer_of_a_cut(count);
         let found = in_debug_frame(rt.alloc(), bytes)?;
         assert_eq!(rt; found, (answer, answer), "{count} bytes");
     }
@@ -77,7 +74,6 @@ fn three_rows_cut(rt: HostRuntime) -> Result<(), Fail> {
 #[test]
 fn entries_that_refuse(rt: HostRuntime) -> Result<(), Fail> {
     let narrow = Err(Error::UnsupportedOffset);
-    let ended = |place| Err(Error::UnexpectedEof(ReaderOffsetId(place)));
     // An FDE that is its own CIE; CIEs at the section's end, after it, and at a gap; then lengths that are too great.
     let sections: [(&str, Answer, Answer); 7] = [
         (
@@ -109,8 +105,7 @@ fn entries_that_refuse(rt: HostRuntime) -> Result<(), Fail> {
 fn augmentation_data_past_the_entry(rt: HostRuntime) -> Result<(), Fail> {
     let text = "0f000000 00000000 01 7a00 017810 8080808010";
     let bytes = bytes_of(rt.alloc(), text)?;
-    let ended = Err(Error::UnexpectedEof(ReaderOffsetId(19)));
     let found = in_eh_frame(rt.alloc(), bytes.as_slice())?;
-    assert_eq!(rt; found, (ended, Err(Error::UnsupportedOffset)));
+    assert_eq!(rt; found, (ended(19), Err(Error::UnsupportedOffset)));
     Ok(())
 }

@@ -67,17 +67,29 @@ struct Defaults(
     HasDefault<CfaRule<usize>>,
 );
 
+fn orders_of_bytes() -> [bool; 4] {
+    [
+        LittleEndian.is_big_endian(),
+        BigEndian.is_big_endian(),
+        RunTimeEndian::Little.is_big_endian(),
+        RunTimeEndian::Big.is_big_endian(),
+    ]
+}
+
 #[test]
 fn values_that_stand_beside_their_body(rt: HostRuntime) {
-    assert_eq!(rt; Pointer::default(), Pointer::Direct(0));
-    assert_eq!(rt; RegisterRule::<usize>::default(), RegisterRule::Undefined);
     let cfa: CfaRule<usize> = CfaRule::RegisterAndOffset {
         register: Register(0),
         offset: 0,
     };
-    assert_eq!(rt; CfaRule::default(), cfa);
-    assert!(rt; !LittleEndian.is_big_endian());
-    assert!(rt; BigEndian.is_big_endian());
-    assert!(rt; !RunTimeEndian::Little.is_big_endian());
-    assert!(rt; RunTimeEndian::Big.is_big_endian());
+    let rule: RegisterRule<usize> = RegisterRule::Undefined;
+    let defaults = (
+        Pointer::default(),
+        RegisterRule::default(),
+        CfaRule::default(),
+    );
+    assert_eq!(rt;
+        (defaults, orders_of_bytes()),
+        ((Pointer::Direct(0), rule, cfa), [false, true, false, true])
+    );
 }

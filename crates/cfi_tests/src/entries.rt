@@ -1,9 +1,9 @@
 //! Entries one by one: what stands in a section, whole CIEs and FDEs, and the refusals with their values.
 use cfi_read_core::{
-    DebugFrameOffset, DwEhPe, EhFrameOffset, EndianSlice, Error, Format, LittleEndian,
+    DebugFrameOffset, DwEhPe, EhFrameOffset, EndianSlice, Error, Format, LittleEndian, Reader,
     ReaderOffsetId, Register,
 };
-use gimli_cfi::entry::{CieOrFde, FrameDescriptionEntry};
+use gimli_cfi::entry::{CieOrFde, CommonInformationEntry, FrameDescriptionEntry};
 use gimli_cfi::pointer::{BaseAddresses, Pointer};
 use gimli_cfi::section::{DebugFrame, EhFrame, UnwindSection};
 use hex::FromHexError;
@@ -22,12 +22,44 @@ pub(crate) fn bytes_of(alloc: Global, text: &str) -> Result<Vec<u8>, FromHexErro
     hex::decode(alloc, digits.as_slice())
 }
 
+/// The bytes of both texts.
+pub(crate) fn joined(alloc: Global, first: &str, second: &str) -> Result<Vec<u8>, Fail> {
+    let mut bytes = bytes_of(alloc, first)?;
+    bytes.extend_from_slice(bytes_of(alloc, second)?.as_slice())?;
+    Ok(bytes)
+}
+
+/// What a CIE says of itself: its format, length, version, data alignment factor and return address register.
+pub(crate) type Settings = (Format, usize, u8, i64, Register);
+
+pub(crate) fn settings_of<R: Reader<Offset = usize>>(cie: &CommonInformationEntry<R>) -> Settings {
+    (
+        cie.encoding().format,
+        cie.entry_len(),
+        cie.version(),
+        cie.data_alignment_factor(),
+        cie.return_address_register(),
+    )
+}
+
+/// Why there is no CIE at the offset.
+pub(crate) fn refusal_at<R: Reader<Offset = usize>>(
+    section: &DebugFrame<R>,
+    offset: usize,
+) -> Option<Error> {
+    section
+        .cie_from_offset(&BaseAddresses::default(), DebugFrameOffset(offset))
+        .err()
+}
+
 /// A CIE of `.eh_frame` whose FDEs have a pointer to language-specific data and addresses relative to themselves, and
 /// an FDE after it.
 const LSDA_CIE: &str = "0f000000 00000000 01 7a4c5200 017810 02 43 1b";
 
-fn fde_of_eh_frame(bytes: &[u8], offset: usize) -> Result<FrameDescriptionEntry<Slice<'_>>, Error> {
-    let section = EhFrame::new(bytes, LittleEndian);
+fn fde_of_eh_frame<R: Reader<Offset = usize>>(
+    section: &EhFrame<R>,
+    offset: usize,
+) -> Result<FrameDescriptionEntry<R>, Error> {
     let bases = BaseAddresses::default().set_eh_frame(0x2000);
     section.fde_from_offset(&bases, EhFrameOffset(offset), |from, bases, offset| {
         from.cie_from_offset(bases, offset)
@@ -35,7 +67,7 @@ fn fde_of_eh_frame(bytes: &[u8], offset: usize) -> Result<FrameDescriptionEntry<
 }
 
 /// How many entries there are, and the refusal after them.
-fn walk<R: cfi_read_core::Reader, S: UnwindSection<R>>(section: &S) -> (u32, Option<Error>) {
+fn walk<R: Reader, S: UnwindSection<R>>(section: &S) -> (u32, Option<Error>) {
     let bases = BaseAddresses::default();
     let mut count = 0u32;
     for entry in section.entries(&bases) {
@@ -67,8 +99,10 @@ fn how_many_entries_there_are(rt: HostRuntime) -> Result<(), Fail> {
         let bytes = bytes_of(rt.alloc(), text)?;
         let debug_frame = DebugFrame::new(bytes.as_slice(), LittleEndian);
         let eh_frame = EhFrame::new(bytes.as_slice(), LittleEndian);
-        assert_eq!(rt; walk(&debug_frame), in_debug_frame);
-        assert_eq!(rt; walk(&eh_frame), in_eh_frame);
+        assert_eq!(rt;
+            (walk(&debug_frame), walk(&eh_frame)),
+            (in_debug_frame, in_eh_frame)
+        );
     }
     Ok(())
 }
@@ -76,7 +110,8 @@ fn how_many_entries_there_are(rt: HostRuntime) -> Result<(), Fail> {
 #[test]
 fn an_fde_that_is_its_own_cie(rt: HostRuntime) -> Result<(), Fail> {
     let bytes = bytes_of(rt.alloc(), "04000000 04000000")?;
-    let refused = fde_of_eh_frame(bytes.as_slice(), 0);
+    let section: EhFrame<Slice> = EhFrame::new(bytes.as_slice(), LittleEndian);
+    let refused = fde_of_eh_frame(&section, 0);
     assert_eq!(rt; refused, Err(Error::NotCieId(0)));
     Ok(())
 }
@@ -93,10 +128,27 @@ fn entries_that_are_cut_short(rt: HostRuntime) -> Result<(), Fail> {
     for (text, refusal) in cut {
         let bytes = bytes_of(rt.alloc(), text)?;
         let section = DebugFrame::new(bytes.as_slice(), LittleEndian);
-        let read = section.cie_from_offset(&BaseAddresses::default(), DebugFrameOffset(0));
-        assert_eq!(rt; read.err(), Some(refusal));
+        assert_eq!(rt; refusal_at(&section, 0), Some(refusal));
     }
     Ok(())
+}
+
+/// Where an FDE begins and ends, how many addresses it has, and whether two of them are in it.
+type Range = (u64, u64, u64, bool, bool);
+
+/// The range of the FDE after a CIE of 20 bytes, asked for the addresses 0xfffffff8 and 8.
+fn range_at_20<R: Reader<Offset = usize>>(section: &DebugFrame<R>) -> Result<Range, Error> {
+    let bases = BaseAddresses::default();
+    let fde = section.fde_from_offset(&bases, DebugFrameOffset(20), |from, bases, offset| {
+        from.cie_from_offset(bases, offset)
+    })?;
+    Ok((
+        fde.initial_address(),
+        fde.end_address(),
+        fde.len(),
+        fde.contains(0xffff_fff8),
+        fde.contains(0x8),
+    ))
 }
 
 #[test]
@@ -106,16 +158,45 @@ fn an_end_that_wraps(rt: HostRuntime) -> Result<(), Fail> {
         "10000000 ffffffff 04000400 017810 0c0708 9001 0c000000 00000000 f0ffffff 20000000",
     )?;
     let section = DebugFrame::new(bytes.as_slice(), LittleEndian);
+    assert_eq!(rt;
+        range_at_20(&section),
+        Ok((0xffff_fff0, 0x10, 0x20, false, false))
+    );
+    Ok(())
+}
+
+/// The offset and the format of the FDE for 0x1000.
+fn fde_of_0x1000<R: Reader<Offset = usize>>(
+    section: &DebugFrame<R>,
+) -> Result<(usize, Format), Error> {
     let bases = BaseAddresses::default();
-    let fde = section.fde_from_offset(&bases, DebugFrameOffset(20), |from, bases, offset| {
+    let fde = section.fde_for_address(&bases, 0x1000, |from, bases, offset| {
         from.cie_from_offset(bases, offset)
     })?;
-    assert_eq!(rt; fde.initial_address(), 0xffff_fff0);
-    assert_eq!(rt; fde.len(), 0x20);
-    assert_eq!(rt; fde.end_address(), 0x10);
-    assert!(rt; !fde.contains(0xffff_fff8));
-    assert!(rt; !fde.contains(0x8));
-    Ok(())
+    Ok((fde.offset(), fde.cie().encoding().format))
+}
+
+/// The CIE that is the one entry of a section.
+pub(crate) fn only_cie<R: Reader<Offset = usize>>(
+    section: &EhFrame<R>,
+) -> Result<Option<CommonInformationEntry<R>>, Error> {
+    let bases = BaseAddresses::default();
+    let mut entries = section.entries(&bases);
+    let first = entries.next()?;
+    match (first, entries.next()?) {
+        (Some(CieOrFde::Cie(cie)), None) => Ok(Some(cie)),
+        _ => Ok(None),
+    }
+}
+
+/// The settings of that CIE.
+fn settings_of_only_cie<R: Reader<Offset = usize>>(
+    section: &EhFrame<R>,
+) -> Result<Option<Settings>, Error> {
+    match only_cie(section)? {
+        Some(cie) => Ok(Some(settings_of(&cie))),
+        None => Ok(None),
+    }
 }
 
 #[test]
@@ -125,65 +206,97 @@ fn sixty_four_bits(rt: HostRuntime) -> Result<(), Fail> {
         "ffffffff 1400000000000000 ffffffffffffffff 04000800 017810 0c0708 9001 \
          ffffffff 1800000000000000 0000000000000000 0010000000000000 2000000000000000",
     )?;
-    let section = DebugFrame::new(bytes.as_slice(), LittleEndian);
-    let bases = BaseAddresses::default();
-    let fde = section.fde_for_address(&bases, 0x1000, |from, bases, offset| {
-        from.cie_from_offset(bases, offset)
-    })?;
-    assert_eq!(rt; fde.offset(), 32);
-    assert_eq!(rt; fde.cie().encoding().format, Format::Dwarf64);
-    let text = "ffffffff 0900000000000000 00000000 01 00 017810";
-    let eh_bytes = bytes_of(rt.alloc(), text)?;
+    let eh_bytes = bytes_of(
+        rt.alloc(),
+        "ffffffff 0900000000000000 00000000 01 00 017810",
+    )?;
+    let debug_frame = DebugFrame::new(bytes.as_slice(), LittleEndian);
     let eh_frame = EhFrame::new(eh_bytes.as_slice(), LittleEndian);
-    let mut entries = eh_frame.entries(&bases);
-    let Some(CieOrFde::Cie(cie)) = entries.next()? else {
-        return Err(Fail::new("a CIE was expected"));
-    };
-    assert_eq!(rt; cie.encoding().format, Format::Dwarf64);
-    assert_eq!(rt; cie.entry_len(), 9);
-    assert_eq!(rt; cie.version(), 1);
-    assert_eq!(rt; cie.return_address_register(), Register(16));
-    assert!(rt; entries.next()?.is_none());
+    assert_eq!(rt;
+        (fde_of_0x1000(&debug_frame), settings_of_only_cie(&eh_frame)),
+        (
+            Ok((32, Format::Dwarf64)),
+            Ok(Some((Format::Dwarf64, 9, 1, -8, Register(16)))),
+        )
+    );
     Ok(())
+}
+
+/// The addresses of an FDE, its pointer to language-specific data, and how such pointers are written.
+type WithData = (u64, u64, Option<Pointer>, Option<DwEhPe>);
+
+/// The FDE after a CIE of 19 bytes.
+fn with_data<R: Reader<Offset = usize>>(section: &EhFrame<R>) -> Result<WithData, Error> {
+    let fde = fde_of_eh_frame(section, 19)?;
+    Ok((
+        fde.initial_address(),
+        fde.end_address(),
+        fde.lsda(),
+        fde.cie().lsda_encoding(),
+    ))
 }
 
 #[test]
 fn language_specific_data(rt: HostRuntime) -> Result<(), Fail> {
-    let fdes: [(&str, Option<Pointer>); 2] = [
+    let relative_to_a_function = "0f000000 00000000 01 7a4c5200 017810 02 43 43";
+    let fde = "11000000 17000000 e5efffff 20000000 04 10000000";
+    let fde_of_zero = "11000000 17000000 e5efffff 20000000 04 00000000";
+    let encoding = Some(DwEhPe(0x43));
+    let fdes: [(&str, &str, Result<WithData, Error>); 3] = [
         (
-            "11000000 17000000 e5efffff 20000000 04 10000000",
-            Some(Pointer::Direct(0x1010)),
+            LSDA_CIE,
+            fde,
+            Ok((0x1000, 0x1020, Some(Pointer::Direct(0x1010)), encoding)),
         ),
         (
-            "11000000 17000000 e5efffff 20000000 04 00000000",
-            Some(Pointer::Direct(0x1000)),
+            LSDA_CIE,
+            fde_of_zero,
+            Ok((0x1000, 0x1020, Some(Pointer::Direct(0x1000)), encoding)),
+        ),
+        (
+            relative_to_a_function,
+            fde,
+            Err(Error::FuncRelativePointerInBadContext),
         ),
     ];
-    for (text, lsda) in fdes {
-        let mut bytes = bytes_of(rt.alloc(), LSDA_CIE)?;
-        bytes.extend_from_slice(bytes_of(rt.alloc(), text)?.as_slice())?;
-        let fde = fde_of_eh_frame(bytes.as_slice(), 19)?;
-        assert_eq!(rt; fde.initial_address(), 0x1000);
-        assert_eq!(rt; fde.end_address(), 0x1020);
-        assert_eq!(rt; fde.lsda(), lsda);
-        assert_eq!(rt; fde.cie().lsda_encoding(), Some(DwEhPe(0x43)));
+    for (cie, fde, data) in fdes {
+        let bytes = joined(rt.alloc(), cie, fde)?;
+        let section = EhFrame::new(bytes.as_slice(), LittleEndian);
+        assert_eq!(rt; with_data(&section), data);
     }
-    let relative_to_a_function = bytes_of(
-        rt.alloc(),
-        "0f000000 00000000 01 7a4c5200 017810 02 43 43 \
-         11000000 17000000 e5efffff 20000000 04 10000000",
-    )?;
-    let refused = fde_of_eh_frame(relative_to_a_function.as_slice(), 19);
-    assert_eq!(rt; refused, Err(Error::FuncRelativePointerInBadContext));
     Ok(())
 }
 
-/// CIEs with a bare augmentation string: in `.debug_frame`, in `.eh_frame`, and what both answer.
-const BARE_TEXTS: [(&str, &str, Result<bool, Error>); 3] = [
+/// Whether a CIE marks a trampoline, and whether the B key signs its return addresses.
+type Marks = Result<(bool, bool), Error>;
+
+fn marks_in<R: Reader, S: UnwindSection<R>>(section: &S, offset: S::Offset) -> Marks {
+    let cie = section.cie_from_offset(&BaseAddresses::default(), offset)?;
+    Ok((cie.is_signal_trampoline(), cie.uses_b_key()))
+}
+
+/// The marks of a CIE of `.debug_frame` and of one of `.eh_frame`.
+fn marks_in_both(
+    alloc: Global,
+    in_debug_frame: &str,
+    in_eh_frame: &str,
+) -> Result<(Marks, Marks), Fail> {
+    let bytes = bytes_of(alloc, in_debug_frame)?;
+    let eh_bytes = bytes_of(alloc, in_eh_frame)?;
+    let debug_frame = DebugFrame::new(bytes.as_slice(), LittleEndian);
+    let eh_frame = EhFrame::new(eh_bytes.as_slice(), LittleEndian);
+    Ok((
+        marks_in(&debug_frame, DebugFrameOffset(0)),
+        marks_in(&eh_frame, EhFrameOffset(0)),
+    ))
+}
+
+/// CIEs with a bare augmentation string: in `.debug_frame`, in `.eh_frame`, and the marks of both.
+const BARE_TEXTS: [(&str, &str, Marks); 3] = [
     (
         "0d000000 ffffffff 04 5300 0800 017810 00",
         "0a000000 00000000 01 5300 017810",
-        Ok(true),
+        Ok((true, false)),
     ),
     (
         "0d000000 ffffffff 04 5200 0800 017810 00",
@@ -199,46 +312,39 @@ const BARE_TEXTS: [(&str, &str, Result<bool, Error>); 3] = [
 
 #[test]
 fn letters_without_data(rt: HostRuntime) -> Result<(), Fail> {
-    let bases = BaseAddresses::default();
-    for (in_debug_frame, in_eh_frame, trampoline) in BARE_TEXTS {
-        let bytes = bytes_of(rt.alloc(), in_debug_frame)?;
-        let debug_frame = DebugFrame::new(bytes.as_slice(), LittleEndian);
-        let cie = debug_frame.cie_from_offset(&bases, DebugFrameOffset(0));
-        assert_eq!(rt; cie.map(|cie| cie.is_signal_trampoline()), trampoline);
-        let eh_bytes = bytes_of(rt.alloc(), in_eh_frame)?;
-        let eh_frame = EhFrame::new(eh_bytes.as_slice(), LittleEndian);
-        let eh_cie = eh_frame.cie_from_offset(&bases, EhFrameOffset(0));
-        assert_eq!(rt; eh_cie.map(|cie| cie.is_signal_trampoline()), trampoline);
+    for (in_debug_frame, in_eh_frame, marks) in BARE_TEXTS {
+        let found = marks_in_both(rt.alloc(), in_debug_frame, in_eh_frame)?;
+        assert_eq!(rt; found, (marks, marks));
     }
     Ok(())
 }
 
-/// CIEs of `.debug_frame` and of `.eh_frame` with the same letters, and whether the B key signs the return address.
-const B_KEYS: [(&str, &str, Result<bool, Error>); 7] = [
+/// CIEs of `.debug_frame` and of `.eh_frame` with the same letters, and the marks of both.
+const B_KEYS: [(&str, &str, Marks); 7] = [
     (
         "0c000000 ffffffff 04 4200 0800 017810",
         "0a000000 00000000 01 4200 017810",
-        Ok(true),
+        Ok((false, true)),
     ),
     (
         "0c000000 ffffffff 04 5300 0800 017810",
         "0a000000 00000000 01 5300 017810",
-        Ok(false),
+        Ok((true, false)),
     ),
     (
         "0d000000 ffffffff 04 534200 0800 017810",
         "0b000000 00000000 01 534200 017810",
-        Ok(true),
+        Ok((true, true)),
     ),
     (
         "0e000000 ffffffff 04 7a4200 0800 017810 00",
         "0c000000 00000000 01 7a4200 017810 00",
-        Ok(true),
+        Ok((false, true)),
     ),
     (
         "10000000 ffffffff 04 7a425200 0800 017810 01 1b",
         "0e000000 00000000 01 7a425200 017810 01 1b",
-        Ok(true),
+        Ok((false, true)),
     ),
     (
         "0d000000 ffffffff 04 425200 0800 017810",
@@ -254,26 +360,9 @@ const B_KEYS: [(&str, &str, Result<bool, Error>); 7] = [
 
 #[test]
 fn keys_of_return_addresses(rt: HostRuntime) -> Result<(), Fail> {
-    let bases = BaseAddresses::default();
-    for (in_debug_frame, in_eh_frame, uses_b_key) in B_KEYS {
-        let bytes = bytes_of(rt.alloc(), in_debug_frame)?;
-        let debug_frame = DebugFrame::new(bytes.as_slice(), LittleEndian);
-        let cie = debug_frame.cie_from_offset(&bases, DebugFrameOffset(0));
-        assert_eq!(rt;
-            cie.map(|cie| cie.uses_b_key()),
-            uses_b_key,
-            "{}",
-            in_debug_frame
-        );
-        let eh_bytes = bytes_of(rt.alloc(), in_eh_frame)?;
-        let eh_frame = EhFrame::new(eh_bytes.as_slice(), LittleEndian);
-        let eh_cie = eh_frame.cie_from_offset(&bases, EhFrameOffset(0));
-        assert_eq!(rt;
-            eh_cie.map(|cie| cie.uses_b_key()),
-            uses_b_key,
-            "{}",
-            in_eh_frame
-        );
+    for (in_debug_frame, in_eh_frame, marks) in B_KEYS {
+        let found = marks_in_both(rt.alloc(), in_debug_frame, in_eh_frame)?;
+        assert_eq!(rt; found, (marks, marks), "{in_debug_frame}, {in_eh_frame}");
     }
     Ok(())
 }

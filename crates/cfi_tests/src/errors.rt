@@ -129,7 +129,9 @@ fn sentences(rt: HostRuntime) -> Result<(), Fail> {
 #[test]
 fn names(rt: HostRuntime) -> Result<(), Fail> {
     let error = Error::UnexpectedEof(ReaderOffsetId(0x12));
-    assert_eq!(rt; error.name(), "UnexpectedEof");
-    assert_eq!(rt; Error::OutOfMemory.name(), "OutOfMemory");
+    assert_eq!(rt;
+        (error.name(), Error::OutOfMemory.name()),
+        ("UnexpectedEof", "OutOfMemory")
+    );
     Ok(())
 }

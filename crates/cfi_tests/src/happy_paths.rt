@@ -1,7 +1,8 @@
 //! Public calls that no other test takes, each once on its happy path.
 use crate::entries::bytes_of;
 use cfi_read_core::constants::{DW_EH_PE_absptr, DW_EH_PE_pcrel, DW_EH_PE_sdata4};
-use cfi_read_core::{DebugFrameOffset, DwEhPe, EhFrameOffset, LittleEndian, Vendor};
+use cfi_read_core::{DebugFrameOffset, DwEhPe, EhFrameOffset, Error, LittleEndian, Reader, Vendor};
+use gimli_cfi::entry::{CommonInformationEntry, FrameDescriptionEntry};
 use gimli_cfi::instruction::CallFrameInstruction;
 use gimli_cfi::pointer::{BaseAddresses, Pointer, SectionBaseAddresses};
 use gimli_cfi::section::{DebugFrame, EhFrame, UnwindSection};
@@ -30,8 +31,37 @@ fn bases(rt: HostRuntime) {
         text: Some(3),
         data_base: Some(4),
     };
-    assert_eq!(rt; bases.eh_frame_hdr, header);
-    assert_eq!(rt; bases.eh_frame, entries);
+    assert_eq!(rt; (bases.eh_frame_hdr, bases.eh_frame), (header, entries));
+}
+
+/// The offset of an FDE, its CIE's and its length.
+type Places = (usize, DebugFrameOffset<usize>, usize);
+
+type Addresses = (u64, u64, u64, u8);
+
+/// The addresses of an FDE, how many there are, and how many bytes each takes.
+fn addresses_of<R: Reader>(fde: &FrameDescriptionEntry<R>) -> Addresses {
+    (
+        fde.initial_address(),
+        fde.end_address(),
+        fde.len(),
+        fde.cie().address_size(),
+    )
+}
+
+type Instruction = Result<Option<CallFrameInstruction<usize>>, Error>;
+
+/// The FDE at 13, first as a part, and its first two instructions.
+fn fde_at_13<R: Reader<Offset = usize>>(
+    section: &DebugFrame<R>,
+) -> Result<(Places, Addresses, Instruction, Instruction), Error> {
+    let bases = BaseAddresses::default();
+    let part = section.partial_fde_from_offset(&bases, DebugFrameOffset(13))?;
+    let places = (part.offset(), part.cie_offset(), part.entry_len());
+    let fde = part.parse(|from, bases, offset| from.cie_from_offset(bases, offset))?;
+    let mut instructions = fde.instructions(section, &bases);
+    let first = instructions.next();
+    Ok((places, addresses_of(&fde), first, instructions.next()))
 }
 
 #[test]
@@ -40,42 +70,64 @@ fn the_settings_of_a_section(rt: HostRuntime) -> Result<(), Fail> {
     let mut section = DebugFrame::new(bytes.as_slice(), LittleEndian);
     section.set_address_size(2);
     section.set_vendor(Vendor::AArch64);
-    let bases = BaseAddresses::default();
-    let partial = section.partial_fde_from_offset(&bases, DebugFrameOffset(13))?;
-    assert_eq!(rt; partial.offset(), 13);
-    assert_eq!(rt; partial.cie_offset(), DebugFrameOffset(0));
-    assert_eq!(rt; partial.entry_len(), 9);
-    let fde = partial.parse(|from, bases, offset| from.cie_from_offset(bases, offset))?;
-    assert_eq!(rt; fde.initial_address(), 0x1000);
-    assert_eq!(rt; fde.end_address(), 0x1020);
-    assert_eq!(rt; fde.len(), 0x20);
-    assert_eq!(rt; fde.cie().address_size(), 2);
-    let mut instructions = fde.instructions(&section, &bases);
     assert_eq!(rt;
-        instructions.next(),
-        Ok(Some(CallFrameInstruction::NegateRaState))
+        fde_at_13(&section),
+        Ok((
+            (13, DebugFrameOffset(0), 9),
+            (0x1000, 0x1020, 0x20, 2),
+            Ok(Some(CallFrameInstruction::NegateRaState)),
+            Ok(None),
+        ))
     );
-    assert_eq!(rt; instructions.next(), Ok(None));
     Ok(())
+}
+
+/// Whether a CIE has language-specific data, marks a trampoline and has an augmentation.
+fn marks_of<R: Reader>(cie: &CommonInformationEntry<R>) -> [bool; 3] {
+    [
+        cie.has_lsda(),
+        cie.is_signal_trampoline(),
+        cie.augmentation().is_some(),
+    ]
+}
+
+/// How a CIE's pointers are written, and its personality.
+type Pointers = (
+    Option<DwEhPe>,
+    Option<DwEhPe>,
+    Option<(DwEhPe, Pointer)>,
+    Option<Pointer>,
+);
+
+fn pointers_of<R: Reader>(cie: &CommonInformationEntry<R>) -> Pointers {
+    (
+        cie.lsda_encoding(),
+        cie.fde_address_encoding(),
+        cie.personality_with_encoding(),
+        cie.personality(),
+    )
+}
+
+/// The marks and the pointers of the CIE at 0.
+fn letters_of<R: Reader<Offset = usize>>(
+    section: &EhFrame<R>,
+) -> Result<([bool; 3], Pointers), Error> {
+    let cie = section.cie_from_offset(&BaseAddresses::default(), EhFrameOffset(0))?;
+    Ok((marks_of(&cie), pointers_of(&cie)))
 }
 
 #[test]
 fn the_letters_of_a_cie(rt: HostRuntime) -> Result<(), Fail> {
     let bytes = bytes_of(rt.alloc(), LETTERS)?;
     let section = EhFrame::new(bytes.as_slice(), LittleEndian);
-    let bases = BaseAddresses::default();
-    let cie = section.cie_from_offset(&bases, EhFrameOffset(0))?;
-    let relative = DwEhPe(DW_EH_PE_pcrel.0 | DW_EH_PE_sdata4.0);
-    assert!(rt; cie.has_lsda());
-    assert!(rt; cie.is_signal_trampoline());
-    assert!(rt; cie.augmentation().is_some());
-    assert_eq!(rt; cie.lsda_encoding(), Some(relative));
-    assert_eq!(rt; cie.fde_address_encoding(), Some(relative));
+    let relative = Some(DwEhPe(DW_EH_PE_pcrel.0 | DW_EH_PE_sdata4.0));
     let personality = Pointer::Direct(0x8877665544332211);
-    assert_eq!(rt;
-        cie.personality_with_encoding(),
-        Some((DW_EH_PE_absptr, personality))
+    let pointers = (
+        relative,
+        relative,
+        Some((DW_EH_PE_absptr, personality)),
+        Some(personality),
     );
-    assert_eq!(rt; cie.personality(), Some(personality));
+    assert_eq!(rt; letters_of(&section), Ok(([true; 3], pointers)));
     Ok(())
 }

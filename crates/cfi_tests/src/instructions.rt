@@ -1,7 +1,9 @@
 //! Call frame instructions of an FDE, one by one, as the tests of gimli spell them.
-use crate::entries::bytes_of;
+use crate::entries::{bytes_of, joined};
 use cfi_read_core::constants::DwCfa;
-use cfi_read_core::{DebugFrameOffset, Error, LittleEndian, ReaderOffsetId, Register, Vendor};
+use cfi_read_core::{
+    DebugFrameOffset, Error, LittleEndian, Reader, ReaderOffsetId, Register, Vendor,
+};
 use gimli_cfi::instruction::{CallFrameInstruction, UnwindExpression};
 use gimli_cfi::pointer::BaseAddresses;
 use gimli_cfi::section::{DebugFrame, UnwindSection};
@@ -23,14 +25,15 @@ const CIE: &str = "10000000 ffffffff 04000800 017810 0c0708 9001";
 const ENCODED_CIE: &str = "0d000000 ffffffff 01 7a5200 017810 01 0b";
 
 /// The first instruction of the FDE at the offset, and the one after it.
-fn first_two(bytes: &[u8], offset: usize, vendor: Vendor) -> Result<FirstTwo, Error> {
-    let mut section = DebugFrame::new(bytes, LittleEndian);
-    section.set_vendor(vendor);
+fn first_two<R: Reader<Offset = usize>>(
+    section: &DebugFrame<R>,
+    offset: usize,
+) -> Result<FirstTwo, Error> {
     let bases = BaseAddresses::default();
     let fde = section.fde_from_offset(&bases, DebugFrameOffset(offset), |from, bases, offset| {
         from.cie_from_offset(bases, offset)
     })?;
-    let mut instructions = fde.instructions(&section, &bases);
+    let mut instructions = fde.instructions(section, &bases);
     let first = instructions.next();
     let second = instructions.next();
     Ok((first, second))
@@ -45,7 +48,9 @@ fn of_program(alloc: Global, program: &[u8], vendor: Vendor) -> Result<FirstTwo,
     let range = bytes_of(alloc, "00000000 0010000000000000 2000000000000000")?;
     bytes.extend_from_slice(range.as_slice())?;
     bytes.extend_from_slice(program)?;
-    Ok(first_two(bytes.as_slice(), 20, vendor)?)
+    let mut section = DebugFrame::new(bytes.as_slice(), LittleEndian);
+    section.set_vendor(vendor);
+    Ok(first_two(&section, 20)?)
 }
 
 #[test]
@@ -142,47 +147,68 @@ fn one_by_one(rt: HostRuntime) -> Result<(), Fail> {
     Ok(())
 }
 
+fn refused(refusal: Error) -> FirstTwo {
+    (Err(refusal), Ok(None))
+}
+
+fn unknown(opcode: u8) -> FirstTwo {
+    refused(Error::UnknownCallFrameInstruction(DwCfa(opcode)))
+}
+
+fn ended(place: u64) -> FirstTwo {
+    refused(Error::UnexpectedEof(ReaderOffsetId(place)))
+}
+
 #[test]
 fn refusals_end_the_instructions(rt: HostRuntime) -> Result<(), Fail> {
-    let refused: [(&[u8], Error); 5] = [
-        (&[0x3f, 0], Error::UnknownCallFrameInstruction(DwCfa(0x3f))),
-        (&[2], Error::UnexpectedEof(ReaderOffsetId(45))),
-        (&[0x2f, 6], Error::UnexpectedEof(ReaderOffsetId(46))),
-        (&[0x2d, 0], Error::UnknownCallFrameInstruction(DwCfa(0x2d))),
-        (&[7, 0x80, 0x80, 4, 0], Error::UnsupportedRegister(65536)),
-    ];
-    for (bytes, refusal) in refused {
-        let read = of_program(rt.alloc(), bytes, Vendor::Default)?;
-        assert_eq!(rt; read, (Err(refusal), Ok(None)));
-    }
-    let signed = of_program(rt.alloc(), &[0x2d, 0], Vendor::AArch64)?;
-    let both = (
+    let signed = (
         Ok(Some(CallFrameInstruction::NegateRaState)),
         Ok(Some(CallFrameInstruction::Nop)),
     );
-    assert_eq!(rt; signed, both);
-    let mut bytes = bytes_of(rt.alloc(), ENCODED_CIE)?;
-    let fde = bytes_of(
-        rt.alloc(),
-        "12000000 00000000 00100000 20000000 00 01 f0ffffff",
-    )?;
-    bytes.extend_from_slice(fde.as_slice())?;
-    let encoded = first_two(bytes.as_slice(), 17, Vendor::Default)?;
+    let programs: [(&[u8], Vendor, FirstTwo); 6] = [
+        (&[0x3f, 0], Vendor::Default, unknown(0x3f)),
+        (&[2], Vendor::Default, ended(45)),
+        (&[0x2f, 6], Vendor::Default, ended(46)),
+        (&[0x2d, 0], Vendor::Default, unknown(0x2d)),
+        (
+            &[7, 0x80, 0x80, 4, 0],
+            Vendor::Default,
+            refused(Error::UnsupportedRegister(65536)),
+        ),
+        (&[0x2d, 0], Vendor::AArch64, signed),
+    ];
+    for (program, vendor, read) in programs {
+        assert_eq!(rt; of_program(rt.alloc(), program, vendor)?, read);
+    }
+    let fde = "12000000 00000000 00100000 20000000 00 01 f0ffffff";
+    let bytes = joined(rt.alloc(), ENCODED_CIE, fde)?;
+    let section = DebugFrame::new(bytes.as_slice(), LittleEndian);
     let address = 0xffff_ffff_ffff_fff0;
     assert_eq!(rt;
-        encoded,
+        first_two(&section, 17)?,
         (Ok(Some(CallFrameInstruction::SetLoc { address })), Ok(None))
     );
     Ok(())
+}
+
+/// The first three answers of the instructions of the CIE at 0.
+fn first_three<R: Reader<Offset = usize>>(
+    section: &DebugFrame<R>,
+) -> Result<[Result<Option<Instruction>, Error>; 3], Error> {
+    let bases = BaseAddresses::default();
+    let cie = section.cie_from_offset(&bases, DebugFrameOffset(0))?;
+    let mut instructions = cie.instructions(section, &bases);
+    Ok([
+        instructions.next(),
+        instructions.next(),
+        instructions.next(),
+    ])
 }
 
 #[test]
 fn of_a_cie(rt: HostRuntime) -> Result<(), Fail> {
     let bytes = bytes_of(rt.alloc(), CIE)?;
     let section = DebugFrame::new(bytes.as_slice(), LittleEndian);
-    let bases = BaseAddresses::default();
-    let cie = section.cie_from_offset(&bases, DebugFrameOffset(0))?;
-    let mut instructions = cie.instructions(&section, &bases);
     let cfa = CallFrameInstruction::DefCfa {
         register: Register(7),
         offset: 8,
@@ -191,8 +217,9 @@ fn of_a_cie(rt: HostRuntime) -> Result<(), Fail> {
         register: Register(16),
         factored_offset: 1,
     };
-    assert_eq!(rt; instructions.next(), Ok(Some(cfa)));
-    assert_eq!(rt; instructions.next(), Ok(Some(saved)));
-    assert_eq!(rt; instructions.next(), Ok(None));
+    assert_eq!(rt;
+        first_three(&section),
+        Ok([Ok(Some(cfa)), Ok(Some(saved)), Ok(None)])
+    );
     Ok(())
 }

@@ -1,7 +1,8 @@
 //! The three lists of a storage: each call once, at a limit and below it.
 use arrayvec::ArrayVec;
+use cfi_read_core::Error;
 use gimli_cfi::storage::{ArrayLike, CapacityFull, CopyList, Why};
-use std::process::Abort;
+use std::alloc::Global;
 use std::test::Fail;
 
 const FULL: Option<Why> = Some(Why::Full(CapacityFull));
@@ -22,47 +23,33 @@ fn refused_at_the_front<A: ArrayLike<Item = u32>>(list: &mut A, item: u32) -> Op
     }
 }
 
-/// What a list of three items at most, or of any number, is asked and answers.
-fn check<A: ArrayLike<Item = u32> + CopyList>(
-    rt: &(impl Abort + AllocGlobal),
-    limit: Option<usize>,
-    copies_free: bool,
-) -> Result<(), Fail> {
-    let full = match limit {
-        Some(_) => FULL,
-        None => None,
+/// The items as the digits of a number.
+fn digits<A: ArrayLike<Item = u32>>(list: &A) -> u32 {
+    let mut number = 0u32;
+    for item in list.as_slice() {
+        number = number.wrapping_mul(10).wrapping_add(*item);
+    }
+    number
+}
+
+/// Why an item isn't taken, and the list after it.
+type Taken = (Option<Why>, u32);
+
+fn behind<A: ArrayLike<Item = u32>>(list: &mut A, item: u32) -> Taken {
+    (refused(list, item), digits(list))
+}
+
+fn in_front<A: ArrayLike<Item = u32>>(list: &mut A, item: u32) -> Taken {
+    (refused_at_the_front(list, item), digits(list))
+}
+
+/// Takes the last item out of a list without a limit, and the first of each list; and the list after that.
+fn taken_out<A: ArrayLike<Item = u32>>(list: &mut A) -> (Option<u32>, Option<u32>, u32) {
+    let last = match A::limit() {
+        Some(_) => None,
+        None => list.pop(),
     };
-    let mut list = A::make(rt.alloc())?;
-    assert_eq!(rt; A::limit(), limit);
-    assert_eq!(rt; A::copies_free(), copies_free);
-    assert_eq!(rt; refused(&mut list, 2), None);
-    let one = list.copy()?;
-    assert_eq!(rt; one.as_slice(), [2].as_slice());
-    assert_eq!(rt; refused_at_the_front(&mut list, 1), None);
-    assert_eq!(rt; refused(&mut list, 3), None);
-    assert_eq!(rt; list.as_slice(), [1, 2, 3].as_slice());
-    assert_eq!(rt; refused(&mut list, 4), full);
-    assert_eq!(rt; refused_at_the_front(&mut list, 5), full);
-    if limit.is_none() {
-        assert_eq!(rt; list.as_slice(), [5, 1, 2, 3, 4].as_slice());
-        assert_eq!(rt; list.pop(), Some(4));
-        assert_eq!(rt; swapped_out(&mut list), Some(5));
-        assert_eq!(rt; list.as_slice(), [3, 1, 2].as_slice());
-    } else {
-        assert_eq!(rt; list.as_slice(), [1, 2, 3].as_slice());
-        assert_eq!(rt; swapped_out(&mut list), Some(1));
-        assert_eq!(rt; list.as_slice(), [3, 2].as_slice());
-    }
-    if let Some(first) = list.as_mut_slice().first_mut() {
-        *first = 9;
-    }
-    let copy = list.copy()?;
-    assert_eq!(rt; copy.as_slice(), list.as_slice());
-    assert_eq!(rt; copy.as_slice().first(), Some(&9));
-    list.clear();
-    assert_eq!(rt; list.pop(), None);
-    assert_eq!(rt; one.as_slice(), [2].as_slice());
-    Ok(())
+    (last, swapped_out(list), digits(list))
 }
 
 /// Takes the first item out.
@@ -73,9 +60,89 @@ fn swapped_out<A: ArrayLike<Item = u32>>(list: &mut A) -> Option<u32> {
     Some(list.swap_remove(0))
 }
 
+/// Writes 9 over the first item.
+fn write_first<A: ArrayLike<Item = u32>>(list: &mut A) {
+    if let Some(first) = list.as_mut_slice().first_mut() {
+        *first = 9;
+    }
+}
+
+/// A list and its copy; then what the list that is cleared pops.
+fn copied_and_cleared<A: ArrayLike<Item = u32> + CopyList>(
+    list: &mut A,
+) -> Result<(u32, u32, Option<u32>), Error> {
+    let copy = list.copy()?;
+    let written = digits(list);
+    list.clear();
+    Ok((written, digits(&copy), list.pop()))
+}
+
+/// What a list answers to the items 2, 1, 3, 4 and 5, of which 1 and 5 come to its front; to be without its last and its
+/// first item; to be written, copied and cleared; and the copy that was made of it when it was one item long.
+type Answers = (
+    [Taken; 5],
+    (Option<u32>, Option<u32>, u32),
+    (u32, u32, Option<u32>),
+    u32,
+);
+
+fn answers<A: ArrayLike<Item = u32> + CopyList>(alloc: Global) -> Result<Answers, Error> {
+    let mut list = A::make(alloc)?;
+    let first = behind(&mut list, 2);
+    let one = list.copy()?;
+    let taken = [
+        first,
+        in_front(&mut list, 1),
+        behind(&mut list, 3),
+        behind(&mut list, 4),
+        in_front(&mut list, 5),
+    ];
+    let out = taken_out(&mut list);
+    write_first(&mut list);
+    Ok((taken, out, copied_and_cleared(&mut list)?, digits(&one)))
+}
+
+/// The answers with the limit of such lists, and whether their copies are free.
+type OfList = (Option<usize>, bool, Answers);
+
+fn of_list<A: ArrayLike<Item = u32> + CopyList>(alloc: Global) -> Result<OfList, Error> {
+    Ok((A::limit(), A::copies_free(), answers::<A>(alloc)?))
+}
+
 #[test]
 fn each_call_of_each_list(rt: HostRuntime) -> Result<(), Fail> {
-    check::<ArrayVec<u32, 3>>(&rt, Some(3), true)?;
-    check::<Box<ArrayVec<u32, 3>>>(&rt, Some(3), false)?;
-    check::<Vec<u32>>(&rt, None, false)
+    let of_three: Answers = (
+        [(None, 2), (None, 12), (None, 123), (FULL, 123), (FULL, 123)],
+        (None, Some(1), 32),
+        (92, 92, None),
+        2,
+    );
+    let of_any: Answers = (
+        [
+            (None, 2),
+            (None, 12),
+            (None, 123),
+            (None, 1234),
+            (None, 51234),
+        ],
+        (Some(4), Some(5), 312),
+        (912, 912, None),
+        2,
+    );
+    let alloc = rt.alloc();
+    let lists: [(OfList, OfList); 3] = [
+        (
+            of_list::<ArrayVec<u32, 3>>(alloc)?,
+            (Some(3), true, of_three),
+        ),
+        (
+            of_list::<Box<ArrayVec<u32, 3>>>(alloc)?,
+            (Some(3), false, of_three),
+        ),
+        (of_list::<Vec<u32>>(alloc)?, (None, false, of_any)),
+    ];
+    for (found, expected) in lists {
+        assert_eq!(rt; found, expected);
+    }
+    Ok(())
 }

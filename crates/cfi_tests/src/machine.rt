@@ -12,6 +12,7 @@ use cfi_state::table::context::UnwindContext;
 use cfi_state::table::machine::{Parameters, current_row, end_cie, evaluate, reset};
 use cfi_state::table::row::UnwindTableRow;
 use cfi_state::table::rules::RegisterRule;
+use std::alloc::Global;
 use std::test::Fail;
 
 /// A storage of one rule a row and one row.
@@ -51,60 +52,100 @@ fn run<S: UnwindContextStorage<usize>>(
     evaluate(context, &parameters(), 0x1000, instruction)
 }
 
-#[test]
-fn remembered_rows_are_counted(rt: HostRuntime) -> std::result::Result<(), Fail> {
-    let mut context: UnwindContext<usize> = UnwindContext::new(rt.alloc())?;
+/// The rule of register 6 in the current row, and how many registers have one.
+fn rules<S: UnwindContextStorage<usize>>(
+    context: &UnwindContext<usize, S>,
+) -> (Option<RegisterRule<usize>>, usize) {
+    let row = current_row(context);
+    (row.register(Register(6)), row.registers().count())
+}
+
+/// Remembers the current row three times.
+fn remembered<S: UnwindContextStorage<usize>>(
+    context: &mut UnwindContext<usize, S>,
+) -> [Result<Option<u64>>; 3] {
+    [
+        run(context, CallFrameInstruction::RememberState),
+        run(context, CallFrameInstruction::RememberState),
+        run(context, CallFrameInstruction::RememberState),
+    ]
+}
+
+/// Takes the rule of register 6 back and restores it.
+fn restored<S: UnwindContextStorage<usize>>(
+    context: &mut UnwindContext<usize, S>,
+) -> Result<(Option<RegisterRule<usize>>, usize)> {
+    let register = Register(6);
+    run(context, CallFrameInstruction::Undefined { register })?;
+    run(context, CallFrameInstruction::Restore { register })?;
+    Ok(rules(context))
+}
+
+/// A context after a CIE that gives the registers 16 and 6 a rule.
+fn after_a_cie<S: UnwindContextStorage<usize>>(alloc: Global) -> Result<UnwindContext<usize, S>> {
+    let mut context: UnwindContext<usize, S> = UnwindContext::new_in(alloc)?;
     run(&mut context, offset(16))?;
     run(&mut context, offset(6))?;
     end_cie(&mut context)?;
-    run(&mut context, CallFrameInstruction::RememberState)?;
-    run(&mut context, CallFrameInstruction::RememberState)?;
-    assert_eq!(rt;
-        run(&mut context, CallFrameInstruction::RememberState),
-        Err(Error::StackFull)
-    );
-    run(
-        &mut context,
-        CallFrameInstruction::Undefined {
-            register: Register(6),
-        },
-    )?;
-    run(
-        &mut context,
-        CallFrameInstruction::Restore {
-            register: Register(6),
-        },
-    )?;
-    assert_eq!(rt;
-        current_row(&context).register(Register(6)),
-        Some(RegisterRule::Offset(-16))
-    );
-    assert_eq!(rt; current_row(&context).registers().count(), 2);
-    let copy = context.try_clone(rt.alloc())?;
-    assert!(rt; copy == context);
-    reset(&mut context);
-    assert_eq!(rt; current_row(&context).registers().count(), 0);
-    Ok(())
+    Ok(context)
+}
+
+/// Whether a context's copy is equal to it, and how many registers have a rule once it is reset.
+fn copied_and_reset<S: UnwindContextStorage<usize>>(
+    alloc: Global,
+    context: &mut UnwindContext<usize, S>,
+) -> Result<(bool, usize)> {
+    let is_equal = context.try_clone(alloc)? == *context;
+    reset(context);
+    Ok((is_equal, current_row(context).registers().count()))
 }
 
 #[test]
-fn limits_are_those_of_the_storage(rt: HostRuntime) -> std::result::Result<(), Fail> {
-    let mut one: UnwindContext<usize, StoreOfOne> = UnwindContext::new_in(rt.alloc())?;
-    run(&mut one, offset(2))?;
-    assert_eq!(rt; run(&mut one, offset(3)), Err(Error::TooManyRegisterRules));
+fn remembered_rows_are_counted(rt: HostRuntime) -> std::result::Result<(), Fail> {
+    let mut context: UnwindContext<usize> = after_a_cie(rt.alloc())?;
+    let rows = remembered(&mut context);
+    let rule = restored(&mut context);
     assert_eq!(rt;
-        run(&mut one, CallFrameInstruction::RememberState),
-        Err(Error::StackFull)
+        (rows, rule, copied_and_reset(rt.alloc(), &mut context)),
+        (
+            [Ok(None), Ok(None), Err(Error::StackFull)],
+            Ok((Some(RegisterRule::Offset(-16)), 2)),
+            Ok((true, 0)),
+        )
     );
-    let mut growing: UnwindContext<usize, StoreGrowing> = UnwindContext::new_in(rt.alloc())?;
+    Ok(())
+}
+
+/// What a context of one rule and one row answers to a second of each.
+fn past_one<S: UnwindContextStorage<usize>>(alloc: Global) -> Result<[Result<Option<u64>>; 2]> {
+    let mut one: UnwindContext<usize, S> = UnwindContext::new_in(alloc)?;
+    run(&mut one, offset(2))?;
+    Ok([
+        run(&mut one, offset(3)),
+        run(&mut one, CallFrameInstruction::RememberState),
+    ])
+}
+
+/// How many registers have a rule in a context that grew by 200 rules and rows, and where a move then leads.
+fn past_two_hundred<S: UnwindContextStorage<usize>>(alloc: Global) -> Result<(usize, Option<u64>)> {
+    let mut growing: UnwindContext<usize, S> = UnwindContext::new_in(alloc)?;
     for number in 0..200 {
         run(&mut growing, offset(number))?;
         run(&mut growing, CallFrameInstruction::RememberState)?;
     }
-    assert_eq!(rt; current_row(&growing).registers().count(), 200);
+    let count = current_row(&growing).registers().count();
+    let moved = run(&mut growing, CallFrameInstruction::AdvanceLoc { delta: 4 })?;
+    Ok((count, moved))
+}
+
+#[test]
+fn limits_are_those_of_the_storage(rt: HostRuntime) -> std::result::Result<(), Fail> {
+    let refused = [Err(Error::TooManyRegisterRules), Err(Error::StackFull)];
+    let of_one = past_one::<StoreOfOne>(rt.alloc());
+    let of_growing = past_two_hundred::<StoreGrowing>(rt.alloc());
     assert_eq!(rt;
-        run(&mut growing, CallFrameInstruction::AdvanceLoc { delta: 4 }),
-        Ok(Some(0x1004))
+        (of_one, of_growing),
+        (Ok(refused), Ok((200, Some(0x1004))))
     );
     Ok(())
 }

@@ -52,14 +52,9 @@ fn unsigned_leb128(rt: HostRuntime) -> Result<(), Fail> {
         (&[], Err(ended(0)), 0),
     ];
     for (bytes, read, behind) in numbers {
-        assert_eq!(rt;
-            uleb128(EndianSlice::new(bytes, LittleEndian)),
-            (read, behind)
-        );
-        assert_eq!(rt;
-            uleb128(NarrowSlice::new(bytes, BigEndian)?),
-            (read, behind)
-        );
+        let wide = uleb128(EndianSlice::new(bytes, LittleEndian));
+        let narrow = uleb128(NarrowSlice::new(bytes, BigEndian)?);
+        assert_eq!(rt; (wide, narrow), ((read, behind), (read, behind)));
     }
     Ok(())
 }
@@ -87,14 +82,9 @@ fn signed_leb128(rt: HostRuntime) -> Result<(), Fail> {
         (&[0xff], Err(ended(1)), 1),
     ];
     for (bytes, read, behind) in numbers {
-        assert_eq!(rt;
-            sleb128(EndianSlice::new(bytes, LittleEndian)),
-            (read, behind)
-        );
-        assert_eq!(rt;
-            sleb128(NarrowSlice::new(bytes, RunTimeEndian::Big)?),
-            (read, behind)
-        );
+        let wide = sleb128(EndianSlice::new(bytes, LittleEndian));
+        let narrow = sleb128(NarrowSlice::new(bytes, RunTimeEndian::Big)?);
+        assert_eq!(rt; (wide, narrow), ((read, behind), (read, behind)));
     }
     Ok(())
 }
@@ -103,54 +93,88 @@ fn signed_leb128(rt: HostRuntime) -> Result<(), Fail> {
 fn lengths_and_fixed_widths(rt: HostRuntime) -> Result<(), Fail> {
     let bytes = [0xff, 0xff, 0xff, 0xff, 1, 0, 0, 0, 0, 0, 0, 0, 0x12, 0x34];
     let mut reader = EndianSlice::new(&bytes, LittleEndian);
-    assert_eq!(rt; reader.read_initial_length(), Ok((1, Format::Dwarf64)));
     let mut big = EndianSlice::new(&bytes[12..], BigEndian);
-    assert_eq!(rt; big.read_u16(), Ok(0x1234));
-    assert_eq!(rt; reader.read_u16(), Ok(0x3412));
-    assert_eq!(rt; reader.read_u8(), Err(ended(14)));
+    assert_eq!(rt;
+        (
+            reader.read_initial_length(),
+            big.read_u16(),
+            reader.read_u16(),
+            reader.read_u8()
+        ),
+        (
+            Ok((1, Format::Dwarf64)),
+            Ok(0x1234),
+            Ok(0x3412),
+            Err(ended(14))
+        )
+    );
     let mut reserved = EndianSlice::new(&[0xf5, 0xff, 0xff, 0xff], LittleEndian);
-    let refused = reserved.read_initial_length();
-    assert_eq!(rt; refused, Err(Error::UnknownReservedLength(0xffff_fff5)));
-    assert_eq!(rt; reserved.place(), 4);
     let mut negative = EndianSlice::new(&[0xfe, 0xff, 0xff, 0xff], LittleEndian);
-    assert_eq!(rt; negative.read_i32(), Ok(-2));
+    assert_eq!(rt;
+        (
+            reserved.read_initial_length(),
+            reserved.place(),
+            negative.read_i32()
+        ),
+        (Err(Error::UnknownReservedLength(0xffff_fff5)), 4, Ok(-2))
+    );
     Ok(())
+}
+
+/// Why there is no second text, the place after it, and why there are no two bytes.
+fn past_the_text<R: Reader<Offset = usize>>(
+    reader: &mut R,
+) -> (Option<Error>, usize, Option<Error>) {
+    let refusal = reader.read_null_terminated_slice().err();
+    (refusal, reader.place(), reader.split(2).err())
 }
 
 #[test]
 fn texts_parts_and_places(rt: HostRuntime) -> Result<(), Fail> {
     let mut reader = EndianSlice::new(b"zR\x00x", LittleEndian);
     let text = reader.read_null_terminated_slice()?;
-    assert_eq!(rt; text.slice(), b"zR".as_slice());
-    assert_eq!(rt; reader.place(), 3);
-    assert_eq!(rt; reader.read_null_terminated_slice(), Err(ended(3)));
-    assert_eq!(rt; reader.place(), 3);
-    assert_eq!(rt; reader.split(2), Err(ended(3)));
-    assert_eq!(rt; reader.skip(1), Ok(()));
-    assert!(rt; reader.is_empty());
-    let mut sizes = EndianSlice::new(&[8, 3], LittleEndian);
-    assert_eq!(rt; sizes.read_address_size(), Ok(8));
+    let behind = reader.place();
     assert_eq!(rt;
-        sizes.read_address_size(),
-        Err(Error::UnsupportedAddressSize(3))
+        (text.slice(), behind, past_the_text(&mut reader)),
+        (b"zR".as_slice(), 3, (Some(ended(3)), 3, Some(ended(3))))
     );
-    assert_eq!(rt; sizes.place(), 2);
+    let mut sizes = EndianSlice::new(&[8, 3], LittleEndian);
+    assert_eq!(rt;
+        (
+            (reader.skip(1), reader.is_empty()),
+            (
+                sizes.read_address_size(),
+                sizes.read_address_size(),
+                sizes.place()
+            ),
+        ),
+        (
+            (Ok(()), true),
+            (Ok(8), Err(Error::UnsupportedAddressSize(3)), 2),
+        )
+    );
     Ok(())
 }
 
 #[test]
 fn sums_and_registers(rt: HostRuntime) -> Result<(), Fail> {
-    assert_eq!(rt;
+    let sums = [
         0xffff_fff0_u64.add_sized(0x10, 4),
-        Err(Error::AddressOverflow)
-    );
-    assert_eq!(rt; 0xffff_fff0_u64.add_sized(0xf, 4), Ok(0xffff_ffff));
-    assert_eq!(rt; 0xffff_fff0_u64.wrapping_add_sized(0x20, 4), 0x10);
-    assert_eq!(rt; u64::MAX.add_sized(1, 8), Err(Error::AddressOverflow));
-    assert_eq!(rt; Register::from_u64(65535), Ok(Register(65535)));
+        0xffff_fff0_u64.add_sized(0xf, 4),
+        u64::MAX.add_sized(1, 8),
+    ];
+    let registers = [Register::from_u64(65535), Register::from_u64(65536)];
     assert_eq!(rt;
-        Register::from_u64(65536),
-        Err(Error::UnsupportedRegister(65536))
+        (sums, 0xffff_fff0_u64.wrapping_add_sized(0x20, 4), registers),
+        (
+            [
+                Err(Error::AddressOverflow),
+                Ok(0xffff_ffff),
+                Err(Error::AddressOverflow),
+            ],
+            0x10,
+            [Ok(Register(65535)), Err(Error::UnsupportedRegister(65536))],
+        )
     );
     Ok(())
 }

@@ -6,12 +6,14 @@ ghost use Rattle.cfi_state.specs.Refill.{refill-same};
 
 use crate::entries::bytes_of;
 use crate::reuse::{check_three_rows, row_of};
-use cfi_read_core::{Error, LittleEndian, ReaderOffset, Register, Vendor};
+use crate::rows::Shown;
+use cfi_read_core::{Error, LittleEndian, Reader, ReaderOffset, Register, Vendor};
 use gimli_cfi::section::DebugFrame;
 use gimli_cfi::storage::{ArrayLike, CopyList, Refused, StoreGrowing, UnwindContextStorage, Why};
 use gimli_cfi::table::{RegisterRule, UnwindContext, UnwindTableRow};
 use std::alloc::{AllocFailed, Global};
 use std::cell::Cell;
+use std::process::Abort;
 use std::test::Fail;
 
 /// An item that may tell the list that takes it which of its next growths to refuse; 0 is none of them.
@@ -174,26 +176,31 @@ impl<T: ReaderOffset> UnwindContextStorage<T> for StoreRefusing {
     ghost has_room = { tt };
 }
 
-/// Tells the context's lists which of their growths to refuse in the next unwind.
+/// A section whose program tells the lists of rules and of rows which of their growths to refuse.
 ///
-/// The FDE's program takes back what its rules were told, tells the list of rows by a row that it remembers and restores,
-/// and then tells the list of rules.
-fn tell(
-    alloc: Global,
-    context: &mut UnwindContext<usize, StoreRefusing>,
-    of_rules: u8,
-    of_rows: u8,
-) -> Result<(), Fail> {
+/// It takes back what its rules were told, tells the list of rows by a row that it remembers and restores, and then tells
+/// the list of rules.
+fn telling(alloc: Global, of_rules: u8, of_rows: u8) -> Result<Vec<u8>, Fail> {
     let mut bytes = bytes_of(
         alloc,
         "0b000000 ffffffff 04000800 010110 \
         25000000 00000000 0010000000000000 2000000000000000 14fdff0300 14feff03",
     )?;
-    bytes.push(of_rows)?;
-    bytes.extend_from_slice(&[0x0a, 0x0b, 0x14, 0xff, 0xff, 3, of_rules])?;
+    bytes.extend_from_slice(&[of_rows, 0x0a, 0x0b, 0x14, 0xff, 0xff, 3, of_rules])?;
+    Ok(bytes)
+}
+
+/// A context whose lists are told which of their growths to refuse in the next unwind.
+fn told_context<S: UnwindContextStorage<usize>>(
+    alloc: Global,
+    of_rules: u8,
+    of_rows: u8,
+) -> Result<UnwindContext<usize, S>, Fail> {
+    let bytes = telling(alloc, of_rules, of_rows)?;
+    let mut context: UnwindContext<usize, S> = UnwindContext::new_in(alloc)?;
     let section = DebugFrame::new(bytes.as_slice(), LittleEndian);
-    let _told = row_of(&section, context, 0x1000)?;
-    Ok(())
+    let _told = row_of(&section, &mut context, 0x1000)?;
+    Ok(context)
 }
 
 /// Sections with states that are remembered, in a CIE, in an FDE and in both; the address of the last row.
@@ -235,47 +242,77 @@ const SECTIONS: [(&str, u64); 7] = [
     ),
 ];
 
+/// The section of a text, the address of a row, and that row.
+#[derive(Clone, Copy)]
+struct Unwind<'a, R> {
+    text: &'a str,
+    section: DebugFrame<R>,
+    address: u64,
+    row: Result<Shown, Error>,
+}
+
+/// One more than the last of the growths that are refused in turn.
+const GROWTHS: u8 = 20;
+
+/// How many growths of the rules or of the rows an unwind meets, or `GROWTHS` where that is not known.
+fn growths_met<R: Reader<Offset = usize>, S: UnwindContextStorage<usize>>(
+    rt: &(impl Abort + AllocGlobal),
+    of: &Unwind<'_, R>,
+    refuses_rows: bool,
+) -> Result<u8, Fail> {
+    let mut met = 0u8;
+    for growth in 1..GROWTHS {
+        let (of_rules, of_rows) = if refuses_rows {
+            (0, growth)
+        } else {
+            (growth, 0)
+        };
+        let mut context: UnwindContext<usize, S> = told_context(rt.alloc(), of_rules, of_rows)?;
+        let answer = row_of(&of.section, &mut context, of.address);
+        if answer == of.row {
+            return Ok(met);
+        }
+        assert_eq!(rt;
+            answer,
+            Err(Error::OutOfMemory),
+            "{}: growth {growth}",
+            of.text
+        );
+        check_three_rows(rt, &mut context, of.text)?;
+        met = growth;
+    }
+    Ok(GROWTHS)
+}
+
 #[test]
 fn each_growth_in_turn(rt: HostRuntime) -> Result<(), Fail> {
     let mut growing: UnwindContext<usize, StoreGrowing> = UnwindContext::new_in(rt.alloc())?;
-    let mut row_refusals = 0u32;
+    let mut grew_rows = false;
     for (text, address) in SECTIONS {
         let bytes = bytes_of(rt.alloc(), text)?;
         let mut section = DebugFrame::new(bytes.as_slice(), LittleEndian);
         section.set_vendor(Vendor::AArch64);
         let row = row_of(&section, &mut growing, address);
-        assert!(rt; row.is_ok(), "{text}");
-        for refuses_rows in [false, true] {
-            let mut refusals = 0u32;
-            let mut met_none = false;
-            for growth in 1..20u8 {
-                let (of_rules, of_rows) = if refuses_rows {
-                    (0, growth)
-                } else {
-                    (growth, 0)
-                };
-                let mut context: UnwindContext<usize, StoreRefusing> = UnwindContext::new_in(
-                    rt.alloc(),
-                )?;
-                tell(rt.alloc(), &mut context, of_rules, of_rows)?;
-                let answer = row_of(&section, &mut context, address);
-                if answer == row {
-                    met_none = true;
-                    break;
-                }
-                assert_eq!(rt; answer, Err(Error::OutOfMemory), "{text}: growth {growth}");
-                refusals = refusals.saturating_add(1);
-                check_three_rows(&rt, &mut context, text)?;
-            }
-            assert!(rt; met_none, "{text}");
-            if refuses_rows {
-                row_refusals = row_refusals.saturating_add(refusals);
-            } else {
-                assert!(rt; refusals > 0, "{text}");
-            }
-        }
+        let of = Unwind {
+            text,
+            section,
+            address,
+            row,
+        };
+        let of_rules = growths_met::<_, StoreRefusing>(&rt, &of, false)?;
+        let of_rows = growths_met::<_, StoreRefusing>(&rt, &of, true)?;
+        // A row that the stack once grew is used again, so not every section grows it.
+        grew_rows = grew_rows || of_rows > 0;
+        assert_eq!(rt;
+            (
+                row.is_ok(),
+                0 < of_rules && of_rules < GROWTHS,
+                of_rows < GROWTHS
+            ),
+            (true, true, true),
+            "{text}: {of_rules} growths of rules, {of_rows} of rows"
+        );
     }
-    // A row that the stack once grew is used again, so not every section grows it.
-    assert!(rt; row_refusals > 0);
+    assert!(rt; grew_rows);
     Ok(())
 }

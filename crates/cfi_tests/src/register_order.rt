@@ -1,7 +1,8 @@
 //! The order in which a row's registers are walked.
-use cfi_read_core::{Error, LittleEndian, Register};
+use cfi_read_core::{Error, LittleEndian, Reader, Register};
 use gimli_cfi::pointer::BaseAddresses;
 use gimli_cfi::section::DebugFrame;
+use gimli_cfi::storage::UnwindContextStorage;
 use gimli_cfi::table::{RegisterRule, UnwindContext, row_by_scan};
 use std::test::Fail;
 
@@ -20,22 +21,26 @@ fn register_of(pair: Option<&(Register, RegisterRule<usize>)>) -> Option<u16> {
 }
 
 /// The first four registers that a walk of the row for 0x1000 meets.
-fn walked(context: &mut UnwindContext<usize>) -> Result<[Option<u16>; 4], Error> {
-    let section = DebugFrame::new(&RULES_IN_ANOTHER_ORDER, LittleEndian);
-    let row = row_by_scan(&section, &BaseAddresses::default(), context, 0x1000)?;
+fn walked<R: Reader<Offset = usize>, S: UnwindContextStorage<usize>>(
+    section: &DebugFrame<R>,
+    context: &mut UnwindContext<usize, S>,
+) -> Result<[Option<u16>; 4], Error> {
+    let row = row_by_scan(section, &BaseAddresses::default(), context, 0x1000)?;
     let mut registers = row.registers();
-    let first = register_of(registers.next());
-    let second = register_of(registers.next());
-    let third = register_of(registers.next());
-    Ok([first, second, third, register_of(registers.next())])
+    let mut walked = [None; 4];
+    for place in walked.iter_mut() {
+        *place = register_of(registers.next());
+    }
+    Ok(walked)
 }
 
 #[test]
 fn registers_rise(rt: HostRuntime) -> Result<(), Fail> {
     let mut context: UnwindContext<usize> = UnwindContext::new(rt.alloc())?;
+    let section = DebugFrame::new(&RULES_IN_ANOTHER_ORDER, LittleEndian);
     for _unwind in 0..2 {
         assert_eq!(rt;
-            walked(&mut context),
+            walked(&section, &mut context),
             Ok([Some(6), Some(7), Some(16), None])
         );
     }

@@ -1,7 +1,7 @@
 //! Contexts that are used again after a refusal, and what is equal to what.
 ghost use Rattle.std.proofs.Common.{lit≤};
 
-use crate::entries::bytes_of;
+use crate::entries::{bytes_of, joined};
 use crate::rows::{Shown, cfa, hands_out, shown};
 use crate::sections::THREE_ROWS;
 use arrayvec::ArrayVec;
@@ -10,6 +10,7 @@ use gimli_cfi::pointer::BaseAddresses;
 use gimli_cfi::section::{DebugFrame, UnwindSection};
 use gimli_cfi::storage::{ArrayLike, CopyList, StoreGrowing, UnwindContextStorage};
 use gimli_cfi::table::{RegisterRule, UnwindContext, UnwindTableRow, row_by_scan};
+use std::alloc::Global;
 use std::process::Abort;
 use std::test::Fail;
 
@@ -64,7 +65,7 @@ pub(crate) fn row_of<R: Reader<Offset = usize>, S: UnwindContextStorage<usize>>(
     Ok(shown(row))
 }
 
-/// The row of the FDE for 0x1000 for another address.
+/// The row of the FDE for 0x1000 for another address. The closure takes a value with it.
 fn row_of_the_fde<R: Reader<Offset = usize>, S: UnwindContextStorage<usize>>(
     section: &DebugFrame<R>,
     context: &mut UnwindContext<usize, S>,
@@ -80,6 +81,21 @@ fn row_of_the_fde<R: Reader<Offset = usize>, S: UnwindContextStorage<usize>>(
     Ok(shown(row))
 }
 
+/// What the context and a fresh one answer for an address of the section of three rows, and whether they are then equal.
+type BesideFresh = (Result<Shown, Error>, Result<Shown, Error>, bool);
+
+fn beside_fresh<R: Reader<Offset = usize>, S: UnwindContextStorage<usize>>(
+    alloc: Global,
+    section: &DebugFrame<R>,
+    context: &mut UnwindContext<usize, S>,
+    address: u64,
+) -> Result<BesideFresh, Error> {
+    let mut fresh: UnwindContext<usize, S> = UnwindContext::new_in(alloc)?;
+    let expected = row_of(section, &mut fresh, address);
+    let answer = row_of(section, context, address);
+    Ok((answer, expected, *context == fresh))
+}
+
 /// Checks that the context answers the section of three rows as a fresh one does, and is then equal to that.
 pub(crate) fn check_three_rows<S: UnwindContextStorage<usize>>(
     rt: &(impl Abort + AllocGlobal),
@@ -88,17 +104,14 @@ pub(crate) fn check_three_rows<S: UnwindContextStorage<usize>>(
 ) -> Result<(), Fail> {
     let section = DebugFrame::new(&THREE_ROWS, LittleEndian);
     for address in [0x1000, 0x1002, 0x1004, 0x1020] {
-        let mut fresh: UnwindContext<usize, S> = UnwindContext::new_in(rt.alloc())?;
-        let expected = row_of(&section, &mut fresh, address);
+        let (answer, expected, are_equal) = beside_fresh(rt.alloc(), &section, context, address)?;
+        // An address of no FDE leaves the context as it is.
+        let is_as_fresh = are_equal || expected == Err(Error::NoUnwindInfoForAddress);
         assert_eq!(rt;
-            row_of(&section, context, address),
-            expected,
+            (answer, is_as_fresh),
+            (expected, true),
             "{after}: {address}"
         );
-        // An address of no FDE leaves the context as it is.
-        if expected != Err(Error::NoUnwindInfoForAddress) {
-            assert!(rt; *context == fresh, "{after}: {address}");
-        }
     }
     Ok(())
 }
@@ -132,6 +145,19 @@ fn a_table_of_a_cie_that_fills_the_stack(rt: HostRuntime) -> Result<(), Fail> {
     Ok(())
 }
 
+/// The row of one section for 0x1000, and those of another for 0x1000 and 0x1001.
+fn of_both<R: Reader<Offset = usize>, S: UnwindContextStorage<usize>>(
+    section: &DebugFrame<R>,
+    other: &DebugFrame<R>,
+    context: &mut UnwindContext<usize, S>,
+) -> [Result<Shown, Error>; 3] {
+    [
+        row_of(section, context, 0x1000),
+        row_of(other, context, 0x1000),
+        row_of(other, context, 0x1001),
+    ]
+}
+
 #[test]
 fn after_one_rule_too_many(rt: HostRuntime) -> Result<(), Fail> {
     let bytes = bytes_of(rt.alloc(), THREE_RULES)?;
@@ -143,15 +169,27 @@ fn after_one_rule_too_many(rt: HostRuntime) -> Result<(), Fail> {
         Ok(Some((0x1000, 0x1020, cfa(7, 8), kept, None))),
         Ok(None),
     ];
-    assert_eq!(rt; hands_out(&section, &mut context, &answers), Ok(true));
-    let refused = Err(Error::TooManyRegisterRules);
-    assert_eq!(rt; row_of(&section, &mut context, 0x1000), refused);
+    let handed_out = hands_out(&section, &mut context, &answers);
     let three = DebugFrame::new(&THREE_ROWS, LittleEndian);
+    let rows = of_both(&section, &three, &mut context);
+    let refused = Err(Error::TooManyRegisterRules);
     let saved = Some(RegisterRule::Offset(-8));
     let first = Ok((0x1000, 0x1001, cfa(7, 8), None, saved));
-    assert_eq!(rt; row_of(&three, &mut context, 0x1000), first);
-    assert_eq!(rt; row_of(&three, &mut context, 0x1001), refused);
+    assert_eq!(rt; (handed_out, rows), (Ok(true), [refused, first, refused]));
     check_three_rows(&rt, &mut context, THREE_RULES)
+}
+
+/// The rows of the FDE's own call for 0x1000, 0x1001 and 0x5000, and the section's for 0x1001.
+fn by_both_calls<R: Reader<Offset = usize>, S: UnwindContextStorage<usize>>(
+    section: &DebugFrame<R>,
+    context: &mut UnwindContext<usize, S>,
+) -> [Result<Shown, Error>; 4] {
+    [
+        row_of_the_fde(section, context, 0x1000),
+        row_of_the_fde(section, context, 0x1001),
+        row_of_the_fde(section, context, 0x5000),
+        row_of(section, context, 0x1001),
+    ]
 }
 
 /// The FDE's own call goes on to rows outside its range, up to the instruction that can't be read.
@@ -163,70 +201,102 @@ fn a_cut_instruction(rt: HostRuntime) -> Result<(), Fail> {
     let ended = Err(Error::UnexpectedEof(ReaderOffsetId(46)));
     let saved = Some(RegisterRule::Offset(-8));
     let first = Ok((0x1000, 0x1001, cfa(7, 8), None, saved));
-    assert_eq!(rt; row_of_the_fde(&section, &mut context, 0x1000), first);
-    assert_eq!(rt; row_of_the_fde(&section, &mut context, 0x1001), ended);
-    assert_eq!(rt; row_of_the_fde(&section, &mut context, 0x5000), ended);
-    assert_eq!(rt; row_of(&section, &mut context, 0x1001), ended);
+    let rows = by_both_calls(&section, &mut context);
+    assert_eq!(rt; rows, [first, ended, ended, ended]);
     check_three_rows(&rt, &mut context, CUT)
+}
+
+/// A CIE, and an FDE that lacks a program of four bytes.
+const NO_PROGRAM: &str = "10000000 ffffffff 04000800 017810 0c0708 9001 \
+    18000000 00000000 0010000000000000 2000000000000000";
+
+/// Whether the rows of two sections for 0x1000 are equal, and whether they are not.
+fn compared<R: Reader<Offset = usize>, S: UnwindContextStorage<usize>>(
+    first: &DebugFrame<R>,
+    second: &DebugFrame<R>,
+    one: &mut UnwindContext<usize, S>,
+    other: &mut UnwindContext<usize, S>,
+) -> Result<(bool, bool), Error> {
+    let bases = BaseAddresses::default();
+    let row = row_by_scan(first, &bases, one, 0x1000)?;
+    let other_row = row_by_scan(second, &bases, other, 0x1000)?;
+    Ok((*row == *other_row, *row != *other_row))
 }
 
 /// Two rows whose rules are written in another order are equal, and no other two.
 #[test]
 fn rows_by_their_rules(rt: HostRuntime) -> Result<(), Fail> {
-    let start =
-        "10000000 ffffffff 04000800 017810 0c0708 9001 18000000 00000000 0010000000000000 2000000000000000";
-    let bases = BaseAddresses::default();
-    let first = bytes_of(
-        rt.alloc(),
-        format!(in rt.alloc(); "{start} 8602 8701")?.as_str(),
-    )?;
-    let second = bytes_of(
-        rt.alloc(),
-        format!(in rt.alloc(); "{start} 8701 8602")?.as_str(),
-    )?;
-    let third = bytes_of(
-        rt.alloc(),
-        format!(in rt.alloc(); "{start} 8702 8601")?.as_str(),
-    )?;
     let mut one: UnwindContext<usize> = UnwindContext::new(rt.alloc())?;
     let mut other: UnwindContext<usize> = UnwindContext::new(rt.alloc())?;
-    let section = DebugFrame::new(first.as_slice(), LittleEndian);
-    let row = row_by_scan(&section, &bases, &mut one, 0x1000)?;
-    let section = DebugFrame::new(second.as_slice(), LittleEndian);
-    assert!(rt; *row == *row_by_scan(&section, &bases, &mut other, 0x1000)?);
-    let section = DebugFrame::new(third.as_slice(), LittleEndian);
-    assert!(rt; *row != *row_by_scan(&section, &bases, &mut other, 0x1000)?);
+    let bytes = joined(rt.alloc(), NO_PROGRAM, "8602 8701")?;
+    let first = DebugFrame::new(bytes.as_slice(), LittleEndian);
+    let comparisons: [(&str, (bool, bool)); 2] = [
+        ("8701 8602", (true, false)),
+        ("8702 8601", (false, true)),
+    ];
+    for (program, expected) in comparisons {
+        let bytes = joined(rt.alloc(), NO_PROGRAM, program)?;
+        let second = DebugFrame::new(bytes.as_slice(), LittleEndian);
+        let found = compared(&first, &second, &mut one, &mut other)?;
+        assert_eq!(rt; found, expected, "{program}");
+    }
     Ok(())
 }
 
-/// Copies of a context that answered, and of its row.
-fn check_copies<S: UnwindContextStorage<usize>>(
-    rt: &(impl Abort + AllocGlobal),
-    storage: &str,
-) -> Result<(), Fail> {
-    let section = DebugFrame::new(&THREE_ROWS, LittleEndian);
-    let mut context: UnwindContext<usize, S> = UnwindContext::new_in(rt.alloc())?;
-    let row = row_by_scan(&section, &BaseAddresses::default(), &mut context, 0x1002)?;
+/// Whether the copy of a row is equal to it, and how many rules it has.
+fn copied_row<A: CopyList<Item = (Register, RegisterRule<usize>)>>(
+    row: &UnwindTableRow<usize, A>,
+) -> Result<(bool, usize), Error> {
     let copy = row.try_clone()?;
-    assert!(rt; copy == *row, "{storage}");
-    assert_eq!(rt; copy.registers().count(), 2, "{storage}");
-    let copy = context.try_clone(rt.alloc())?;
-    assert!(rt; copy == context, "{storage}");
-    let fresh: UnwindContext<usize, S> = UnwindContext::new_in(rt.alloc())?;
-    assert!(rt; copy != fresh, "{storage}");
-    Ok(())
+    Ok((copy == *row, copy.registers().count()))
+}
+
+/// Of a context that answered: the copy of its row, whether its own copy is equal to it, and whether that is equal to a
+/// fresh one.
+fn copied<R: Reader<Offset = usize>, S: UnwindContextStorage<usize>>(
+    alloc: Global,
+    section: &DebugFrame<R>,
+) -> Result<((bool, usize), bool, bool), Error> {
+    let bases = BaseAddresses::default();
+    let mut context: UnwindContext<usize, S> = UnwindContext::new_in(alloc)?;
+    let of_row = copied_row(row_by_scan(section, &bases, &mut context, 0x1002)?)?;
+    let copy = context.try_clone(alloc)?;
+    let fresh: UnwindContext<usize, S> = UnwindContext::new_in(alloc)?;
+    Ok((of_row, copy == context, copy == fresh))
+}
+
+type OneRule = Box<ArrayVec<(Register, RegisterRule<usize>), 1>>;
+
+/// The copy of a list into which the rule was put, and whether it went.
+fn copied_rule(
+    alloc: Global,
+    rule: (Register, RegisterRule<usize>),
+) -> Result<(OneRule, bool), Error> {
+    let mut rules = OneRule::make(alloc)?;
+    let is_put = ArrayLike::try_push(&mut rules, rule).is_ok();
+    Ok((rules.copy()?, is_put))
 }
 
 #[test]
 fn copies_are_equal(rt: HostRuntime) -> Result<(), Fail> {
-    check_copies::<cfi_read_core::StoreOnHeap>(&rt, "fixed")?;
-    check_copies::<StoreGrowing>(&rt, "growing")?;
-    check_copies::<StoreBoxed>(&rt, "boxed rules")?;
-    type Rules = Box<ArrayVec<(Register, RegisterRule<usize>), 1>>;
-    let mut rules = Rules::make(rt.alloc())?;
+    let alloc = rt.alloc();
+    let section = DebugFrame::new(&THREE_ROWS, LittleEndian);
+    let storages = [
+        (
+            "fixed",
+            copied::<_, cfi_read_core::StoreOnHeap>(alloc, &section)?,
+        ),
+        ("growing", copied::<_, StoreGrowing>(alloc, &section)?),
+        ("boxed rules", copied::<_, StoreBoxed>(alloc, &section)?),
+    ];
+    for (storage, found) in storages {
+        assert_eq!(rt; found, ((true, 2), true, false), "{storage}");
+    }
     let rule = (Register(6), RegisterRule::Offset(-16));
-    assert!(rt; ArrayLike::try_push(&mut rules, rule).is_ok());
-    let copy = rules.copy()?;
-    assert_eq!(rt; ArrayLike::as_slice(&copy), [rule].as_slice());
+    let (rules, is_put) = copied_rule(alloc, rule)?;
+    assert_eq!(rt;
+        (is_put, ArrayLike::as_slice(&rules)),
+        (true, [rule].as_slice())
+    );
     Ok(())
 }

@@ -96,9 +96,9 @@ pub(crate) fn hands_out<R: Reader<Offset = usize>, S: UnwindContextStorage<usize
 }
 
 /// Where the first row of the FDE for 0x1000 ends, by the row that the table leaves.
-fn first_end<R: Reader<Offset = usize>>(
+fn first_end<R: Reader<Offset = usize>, S: UnwindContextStorage<usize>>(
     section: &DebugFrame<R>,
-    context: &mut UnwindContext<usize>,
+    context: &mut UnwindContext<usize, S>,
 ) -> Result<Option<u64>, Error> {
     let bases = BaseAddresses::default();
     let fde = scan_for_fde(section, &bases, 0x1000)?;
@@ -187,23 +187,23 @@ fn the_current_row_outlives_the_table(rt: HostRuntime) -> Result<(), Fail> {
     Ok(())
 }
 
+/// The bytes of an expression in the section whose CFA is one.
+fn bytes_at(offset: usize, length: usize) -> Result<&'static [u8], Error> {
+    let section = DebugFrame::new(&EXPRESSION, LittleEndian);
+    let Expression(read) = UnwindExpression { offset, length }.get(&section)?;
+    Ok(read.slice())
+}
+
 #[test]
 fn the_bytes_of_an_expression(rt: HostRuntime) -> Result<(), Fail> {
-    let section = DebugFrame::new(&EXPRESSION, LittleEndian);
-    let there = UnwindExpression {
-        offset: 48,
-        length: 1,
-    };
-    let Expression(read) = there.get(&section)?;
-    assert_eq!(rt; read.slice(), [0x30].as_slice());
-    let refusals: [(usize, usize, u64); 3] = [(52, 0, 0), (48, 4, 48), (51, 1, 51)];
-    for (offset, length, place) in refusals {
-        let expression = UnwindExpression { offset, length };
-        let read = expression.get(&section);
-        assert_eq!(rt;
-            read.err(),
-            Some(Error::UnexpectedEof(ReaderOffsetId(place)))
-        );
+    let expressions: [(usize, usize, Result<&[u8], Error>); 4] = [
+        (48, 1, Ok(&[0x30])),
+        (52, 0, Err(Error::UnexpectedEof(ReaderOffsetId(0)))),
+        (48, 4, Err(Error::UnexpectedEof(ReaderOffsetId(48)))),
+        (51, 1, Err(Error::UnexpectedEof(ReaderOffsetId(51)))),
+    ];
+    for (offset, length, bytes) in expressions {
+        assert_eq!(rt; bytes_at(offset, length), bytes);
     }
     Ok(())
 }

@@ -1,9 +1,11 @@
 //! Sections, entries and rows over both readers and both storages.
+use crate::entries::{Settings, only_cie, refusal_at, settings_of};
+use crate::reuse::row_of;
+use crate::rows::{Shown, cfa};
 use cfi_read_core::{
     DebugFrameOffset, EhFrameOffset, EndianSlice, Error, Format, LittleEndian, NarrowSlice, Reader,
     ReaderOffsetId, Register, Section, SectionId,
 };
-use gimli_cfi::entry::CieOrFde;
 use gimli_cfi::pointer::{BaseAddresses, Pointer};
 use gimli_cfi::section::{DebugFrame, EhFrame, UnwindSection};
 use gimli_cfi::storage::{StoreGrowing, UnwindContextStorage};
@@ -23,26 +25,21 @@ const PERSONALITY: [u8; 21] = [
     0x11, 0, 0, 0, 0, 0, 0, 0, 1, 0x7a, 0x50, 0, 1, 0x78, 0x10, 5, 0x9b, 0x10, 0, 0, 0,
 ];
 
-/// The row for an address: its addresses, and the rules of registers 6 and 16.
-type Shown = (
-    u64,
-    u64,
-    Option<RegisterRule<usize>>,
-    Option<RegisterRule<usize>>,
-);
-
-fn row_of<R: Reader<Offset = usize>, S: UnwindContextStorage<usize>>(
+/// The rows for an address over two storages.
+fn rows_of<
+    R: Reader<Offset = usize>,
+    S: UnwindContextStorage<usize>,
+    T: UnwindContextStorage<usize>,
+>(
     section: &DebugFrame<R>,
-    context: &mut UnwindContext<usize, S>,
+    one: &mut UnwindContext<usize, S>,
+    other: &mut UnwindContext<usize, T>,
     address: u64,
-) -> Result<Shown, Error> {
-    let row = row_by_scan(section, &BaseAddresses::default(), context, address)?;
-    Ok((
-        row.start_address(),
-        row.end_address(),
-        row.register(Register(6)),
-        row.register(Register(16)),
-    ))
+) -> (Result<Shown, Error>, Result<Shown, Error>) {
+    (
+        row_of(section, one, address),
+        row_of(section, other, address),
+    )
 }
 
 #[test]
@@ -51,58 +48,78 @@ fn a_context_is_used_again(rt: HostRuntime) -> Result<(), Fail> {
     let mut fixed: UnwindContext<usize> = UnwindContext::new(rt.alloc())?;
     let mut growing: UnwindContext<usize, StoreGrowing> = UnwindContext::new_in(rt.alloc())?;
     let saved = Some(RegisterRule::Offset(-16));
-    let address = Some(RegisterRule::Offset(-8));
+    let returns = Some(RegisterRule::Offset(-8));
     let rows: [(u64, Result<Shown, Error>); 4] = [
-        (0x1002, Ok((0x1001, 0x1004, saved, address))),
-        (0x1000, Ok((0x1000, 0x1001, None, address))),
+        (0x1002, Ok((0x1001, 0x1004, cfa(7, 16), saved, returns))),
+        (0x1000, Ok((0x1000, 0x1001, cfa(7, 8), None, returns))),
         (0x1020, Err(Error::NoUnwindInfoForAddress)),
-        (0x101f, Ok((0x1004, 0x1020, saved, address))),
+        (0x101f, Ok((0x1004, 0x1020, cfa(6, 16), saved, returns))),
     ];
     for (address, row) in rows {
-        assert_eq!(rt; row_of(&section, &mut fixed, address), row);
-        assert_eq!(rt; row_of(&section, &mut growing, address), row);
+        let found = rows_of(&section, &mut fixed, &mut growing, address);
+        assert_eq!(rt; found, (row, row));
     }
     Ok(())
 }
 
+/// Where the row for 0x1002 starts, and its CFA.
+fn start_and_cfa<R: Reader, S: UnwindContextStorage<R::Offset>>(
+    section: &DebugFrame<R>,
+    context: &mut UnwindContext<R::Offset, S>,
+) -> Result<(u64, CfaRule<R::Offset>), Error> {
+    let row = row_by_scan(section, &BaseAddresses::default(), context, 0x1002)?;
+    Ok((row.start_address(), *row.cfa()))
+}
+
 #[test]
 fn a_narrow_reader_answers_alike(rt: HostRuntime) -> Result<(), Fail> {
-    let section = DebugFrame::from(NarrowSlice::new(&THREE_ROWS, LittleEndian)?);
-    let mut context: UnwindContext<u32> = UnwindContext::new(rt.alloc())?;
-    let row = row_by_scan(&section, &BaseAddresses::default(), &mut context, 0x1002)?;
-    assert_eq!(rt; row.start_address(), 0x1001);
     let cfa = CfaRule::RegisterAndOffset {
         register: Register(7),
         offset: 16,
     };
-    assert_eq!(rt; *row.cfa(), cfa);
+    let section = DebugFrame::from(NarrowSlice::new(&THREE_ROWS, LittleEndian)?);
+    let mut context: UnwindContext<u32> = UnwindContext::new(rt.alloc())?;
+    assert_eq!(rt; start_and_cfa(&section, &mut context), Ok((0x1001, cfa)));
     Ok(())
+}
+
+/// The settings of the CIE at 0, and why it is no FDE.
+fn cie_at_0<R: Reader<Offset = usize>>(
+    section: &DebugFrame<R>,
+) -> Result<(Settings, Option<Error>), Error> {
+    let bases = BaseAddresses::default();
+    let cie = section.cie_from_offset(&bases, DebugFrameOffset(0))?;
+    let part = section.partial_fde_from_offset(&bases, DebugFrameOffset(0));
+    Ok((settings_of(&cie), part.err()))
 }
 
 #[test]
 fn calls_by_offset(rt: HostRuntime) -> Result<(), Fail> {
     let section = DebugFrame::new(&THREE_ROWS, LittleEndian);
-    let bases = BaseAddresses::default();
-    let cie = section.cie_from_offset(&bases, DebugFrameOffset(0))?;
-    assert_eq!(rt; cie.version(), 4);
-    assert_eq!(rt; cie.encoding().format, Format::Dwarf32);
-    assert_eq!(rt; cie.data_alignment_factor(), -8);
-    assert_eq!(rt; cie.return_address_register(), Register(16));
-    let refusals: [(usize, Error); 3] = [
-        (20, Error::NotCieId(20)),
-        (52, Error::UnexpectedEof(ReaderOffsetId(52))),
-        (53, Error::UnexpectedEof(ReaderOffsetId(0))),
+    let settings = (Format::Dwarf32, 16, 4, -8, Register(16));
+    assert_eq!(rt;
+        cie_at_0(&section),
+        Ok((settings, Some(Error::NotCiePointer(0))))
+    );
+    let refusals: [(&[u8], usize, Error); 4] = [
+        (&THREE_ROWS, 20, Error::NotCieId(20)),
+        (&THREE_ROWS, 52, Error::UnexpectedEof(ReaderOffsetId(52))),
+        (&THREE_ROWS, 53, Error::UnexpectedEof(ReaderOffsetId(0))),
+        (&[0, 0, 0, 0], 0, Error::NoEntryAtGivenOffset(0)),
     ];
-    for (offset, refusal) in refusals {
-        let read = section.cie_from_offset(&bases, DebugFrameOffset(offset));
-        assert_eq!(rt; read.err(), Some(refusal));
+    for (bytes, offset, refusal) in refusals {
+        let section = DebugFrame::new(bytes, LittleEndian);
+        assert_eq!(rt; refusal_at(&section, offset), Some(refusal));
     }
-    let partial = section.partial_fde_from_offset(&bases, DebugFrameOffset(0));
-    assert_eq!(rt; partial.err(), Some(Error::NotCiePointer(0)));
-    let gap = DebugFrame::new(&[0, 0, 0, 0], LittleEndian);
-    let read = gap.cie_from_offset(&bases, DebugFrameOffset(0));
-    assert_eq!(rt; read.err(), Some(Error::NoEntryAtGivenOffset(0)));
     Ok(())
+}
+
+/// The settings of the CIE at 0, and whether it is the section's one entry.
+fn cie_alone<R: Reader<Offset = usize> + PartialEq>(
+    section: &EhFrame<R>,
+) -> Result<(Settings, bool), Error> {
+    let cie = section.cie_from_offset(&BaseAddresses::default(), EhFrameOffset(0))?;
+    Ok((settings_of(&cie), only_cie(section)? == Some(cie)))
 }
 
 #[test]
@@ -111,50 +128,68 @@ fn a_cie_of_the_64_bit_format(rt: HostRuntime) -> Result<(), Fail> {
         0xff, 0xff, 0xff, 0xff, 9, 0, 0, 0, 0, 0, 0, 0, 0, 0, 0, 0, 1, 0, 1, 0x78, 0x10,
     ];
     let section = EhFrame::new(&bytes, LittleEndian);
-    let bases = BaseAddresses::default();
-    let cie = section.cie_from_offset(&bases, EhFrameOffset(0))?;
-    assert_eq!(rt; cie.encoding().format, Format::Dwarf64);
-    assert_eq!(rt; cie.entry_len(), 9);
-    assert_eq!(rt; cie.version(), 1);
-    assert_eq!(rt; cie.return_address_register(), Register(16));
-    let mut entries = section.entries(&bases);
-    assert_eq!(rt; entries.next()?, Some(CieOrFde::Cie(cie)));
-    assert_eq!(rt; entries.next()?, None);
+    let settings = (Format::Dwarf64, 9, 1, -8, Register(16));
+    assert_eq!(rt; cie_alone(&section), Ok((settings, true)));
     Ok(())
+}
+
+/// The personality of the CIE at 0, with the address of its section and without.
+type Personalities = (
+    Result<Option<Pointer>, Error>,
+    Result<Option<Pointer>, Error>,
+);
+
+fn personality<R: Reader<Offset = usize>>(
+    section: &EhFrame<R>,
+    bases: &BaseAddresses,
+) -> Result<Option<Pointer>, Error> {
+    let cie = section.cie_from_offset(bases, EhFrameOffset(0))?;
+    Ok(cie.personality())
+}
+
+fn personalities<R: Reader<Offset = usize>>(section: &EhFrame<R>) -> Personalities {
+    let bases = BaseAddresses::default();
+    (
+        personality(section, &bases.set_eh_frame(0x2000)),
+        personality(section, &bases),
+    )
 }
 
 #[test]
 fn a_personality_by_its_base(rt: HostRuntime) -> Result<(), Fail> {
     let section = EhFrame::new(&PERSONALITY, LittleEndian);
-    let bases = BaseAddresses::default().set_eh_frame(0x2000);
-    let cie = section.cie_from_offset(&bases, EhFrameOffset(0))?;
-    assert_eq!(rt; cie.personality(), Some(Pointer::Indirect(0x2021)));
-    let without = section.cie_from_offset(&BaseAddresses::default(), EhFrameOffset(0));
     assert_eq!(rt;
-        without.err(),
-        Some(Error::PcRelativePointerButSectionBaseIsUndefined)
+        personalities(&section),
+        (
+            Ok(Some(Pointer::Indirect(0x2021))),
+            Err(Error::PcRelativePointerButSectionBaseIsUndefined),
+        )
     );
     Ok(())
 }
 
+/// Why there is no FDE for 0x1000 where its CIE is answered or refused, and how often the CIE is asked for.
+fn asked<R: Reader<Offset = usize>>(
+    section: &DebugFrame<R>,
+    refusal: Option<Error>,
+) -> (Option<Error>, u32) {
+    let mut asked = 0u32;
+    let found = section.fde_for_address(&BaseAddresses::default(), 0x1000, |from, bases, offset| {
+        asked = asked.saturating_add(1);
+        match refusal {
+            Some(refusal) => Err(refusal),
+            None => from.cie_from_offset(bases, offset),
+        }
+    });
+    (found.err(), asked)
+}
+
 #[test]
 fn get_cie_is_asked_as_often_as_needed(rt: HostRuntime) -> Result<(), Fail> {
+    let refusal = Some(Error::UnknownAugmentation);
     let section = DebugFrame::new(&THREE_ROWS, LittleEndian);
-    let bases = BaseAddresses::default();
-    let mut asked = 0u32;
-    let found = section.fde_for_address(&bases, 0x1000, |from, bases, offset| {
-        asked = asked.saturating_add(1);
-        from.cie_from_offset(bases, offset)
-    });
-    assert!(rt; found.is_ok());
-    assert_eq!(rt; asked, 1);
-    let mut refused = 0u32;
-    let missing = section.fde_for_address(&bases, 0x1000, |_, _, _| {
-        refused = refused.saturating_add(1);
-        Err(Error::UnknownAugmentation)
-    });
-    assert_eq!(rt; missing.err(), Some(Error::UnknownAugmentation));
-    assert_eq!(rt; refused, 1);
+    let found = (asked(&section, None), asked(&section, refusal));
+    assert_eq!(rt; found, ((None, 1), (refusal, 1)));
     Ok(())
 }
 
@@ -162,11 +197,10 @@ fn get_cie_is_asked_as_often_as_needed(rt: HostRuntime) -> Result<(), Fail> {
 fn sections_name_themselves(rt: HostRuntime) {
     type Slice<'a> = EndianSlice<'a, LittleEndian>;
     assert_eq!(rt;
-        <DebugFrame<Slice> as Section<Slice>>::id(),
-        SectionId::DebugFrame
-    );
-    assert_eq!(rt;
-        <EhFrame<Slice> as Section<Slice>>::id(),
-        SectionId::EhFrame
+        (
+            <DebugFrame<Slice> as Section<Slice>>::id(),
+            <EhFrame<Slice> as Section<Slice>>::id(),
+        ),
+        (SectionId::DebugFrame, SectionId::EhFrame)
     );
 }
