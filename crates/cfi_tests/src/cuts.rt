@@ -1,7 +1,7 @@
 //! Sections that end too early, or whose numbers are the greatest, over offsets of eight bytes and of four.
 use crate::entries::bytes_of;
 use crate::sections::THREE_ROWS;
-use cfi_read_core::{Error, LittleEndian, NarrowSlice, Reader, ReaderOffsetId, StoreOnHeap};
+use cfi_read_core::{EndianSlice, Error, LittleEndian, NarrowSlice, Reader, ReaderOffsetId};
 use gimli_cfi::pointer::BaseAddresses;
 use gimli_cfi::section::{DebugFrame, EhFrame, UnwindSection};
 use gimli_cfi::storage::UnwindContextStorage;
@@ -17,32 +17,41 @@ fn ended(place: u64) -> Answer {
 }
 
 fn row_in<R: Reader, S: UnwindSection<R>, C: UnwindContextStorage<R::Offset>>(
-    alloc: Global,
+    context: &mut UnwindContext<R::Offset, C>,
     section: &S,
 ) -> Answer {
-    let mut context: UnwindContext<R::Offset, C> = UnwindContext::new_in(alloc)?;
-    let row = row_by_scan(section, &BaseAddresses::default(), &mut context, 0x1002)?;
+    let row = row_by_scan(section, &BaseAddresses::default(), context, 0x1002)?;
     Ok((row.start_address(), row.end_address()))
 }
 
-/// In `.debug_frame`, over offsets of eight bytes and of four.
-fn in_debug_frame(alloc: Global, bytes: &[u8]) -> Result<(Answer, Answer), Error> {
-    let wide = DebugFrame::new(bytes, LittleEndian);
-    let narrow = DebugFrame::from(NarrowSlice::new(bytes, LittleEndian)?);
-    Ok((
-        row_in::<_, _, StoreOnHeap>(alloc, &wide),
-        row_in::<_, _, StoreOnHeap>(alloc, &narrow),
-    ))
+type Wide<'a> = EndianSlice<'a, LittleEndian>;
+
+type Narrow<'a> = NarrowSlice<'a, LittleEndian>;
+
+/// Over offsets of eight bytes.
+fn wide<'a, S: UnwindSection<Wide<'a>>>(alloc: Global, section: &S) -> Result<Answer, Fail> {
+    let mut context: UnwindContext<usize> = UnwindContext::new(alloc)?;
+    Ok(row_in(&mut context, section))
+}
+
+/// Over offsets of four bytes.
+fn narrow<'a, S: UnwindSection<Narrow<'a>>>(alloc: Global, section: &S) -> Result<Answer, Fail> {
+    let mut context: UnwindContext<u32> = UnwindContext::new(alloc)?;
+    Ok(row_in(&mut context, section))
+}
+
+/// In `.debug_frame`, over both.
+fn in_debug_frame(alloc: Global, bytes: &[u8]) -> Result<(Answer, Answer), Fail> {
+    let by_wide = wide(alloc, &DebugFrame::new(bytes, LittleEndian))?;
+    let section = DebugFrame::from(NarrowSlice::new(bytes, LittleEndian)?);
+    Ok((by_wide, narrow(alloc, &section)?))
 }
 
 /// The same in `.eh_frame`.
-fn in_eh_frame(alloc: Global, bytes: &[u8]) -> Result<(Answer, Answer), Error> {
-    let wide = EhFrame::new(bytes, LittleEndian);
-    let narrow = EhFrame::from(NarrowSlice::new(bytes, LittleEndian)?);
-    Ok((
-        row_in::<_, _, StoreOnHeap>(alloc, &wide),
-        row_in::<_, _, StoreOnHeap>(alloc, &narrow),
-    ))
+fn in_eh_frame(alloc: Global, bytes: &[u8]) -> Result<(Answer, Answer), Fail> {
+    let by_wide = wide(alloc, &EhFrame::new(bytes, LittleEndian))?;
+    let section = EhFrame::from(NarrowSlice::new(bytes, LittleEndian)?);
+    Ok((by_wide, narrow(alloc, &section)?))
 }
 
 /// What both answer where the section of three rows has so many bytes.
