@@ -10,5 +10,3 @@ pub mod instructions;
 pub mod kept_cies;
 pub mod one_row;
 pub mod own_storage;
-#[cfg(test)]
-mod tests;

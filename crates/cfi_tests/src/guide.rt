@@ -1,8 +1,8 @@
 //! Each program of the guide on a small section, whose rows were worked out by hand.
-use crate::all_rows::{count_all_rows, count_rows, last_end};
-use crate::instructions::expression_bytes;
-use crate::one_row::{cfa_of, end_of_row, row_of_call, start_of_row};
-use crate::own_storage::end_in_small;
+use cfi_callers::all_rows::{count_all_rows, count_rows, last_end};
+use cfi_callers::instructions::expression_bytes;
+use cfi_callers::one_row::{cfa_of, end_of_row, row_of_call, start_of_row};
+use cfi_callers::own_storage::end_in_small;
 use gimli_cfi::{BaseAddresses, EhFrame, EhFrameHdr, LittleEndian, Register, UnwindContext};
 use std::test::Fail;
 
