@@ -1,6 +1,6 @@
 -- What a contract sees of an unwind table: its state, in numbers.
 --     state_in_numbers number location context      the state of the machine
---     table_state position number table      the state of a table (`TableViews`)
+--     table_state position number table      the state of a table (`UnwindTableViews`)
 --     GivesNextAnswer s copies_free p answer q      over a storage, a table in the state p answers next, and then is in the state q
 --     AnswersWithoutMachine, KeepsCieProgram      the same without a machine, and of the program of a CIE
 --     StartsRows      what making the table of an FDE answers
