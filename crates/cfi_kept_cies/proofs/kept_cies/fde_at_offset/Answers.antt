@@ -1,16 +1,16 @@
 use Rattle.std.proofs.Common.{rules}
 use Rattle.cfi_parts.specs.CallFrameSections.{IsOf}
 use Rattle.cfi_unwind.specs.KeptCie.{KeepsCie}
-use Rattle.cfi_unwind.proofs.Answered.{chosen_by, ok_answered_by}
-use Rattle.cfi_callers.proofs.kept_cies.fde_with_kept_cies.Goals as goal
+use Rattle.cfi_unwind.proofs.Answered.{ok_answered_by, read_by}
+use Rattle.cfi_kept_cies.proofs.kept_cies.fde_at_offset.Goals as goal
 
-pub returns-clause-found : goal.returns-clause-found
-returns-clause-found g c =
-    chosen_by _ _ _ _ _ _ (λ kept. KeepsCie g.R.Reader.position g.R.Offset.ReaderOffset.number (g.S._UnwindSectionPrivate.view c.args.section.now) c.args.bases.now kept.0.now) _ _ _ _ tt c.fde_for_address.ensures.scan.1
+pub returns-clause-read : goal.returns-clause-read
+returns-clause-read g c =
+    read_by _ _ _ _ _ _ (λ kept. KeepsCie g.R.Reader.position g.R.Offset.ReaderOffset.number (g.S._UnwindSectionPrivate.view c.args.section.now) c.args.bases.now kept.0.now) _ _ _ tt c.fde_from_offset.ensures.read
     (λ f asked answer h holds call. let met = rw (call.at_section, call.at_bases) at call.call.met in (search rules, search rules))
 
 pub returns-clause-cie_part : goal.returns-clause-cie_part
 returns-clause-cie_part g c =
     ok_answered_by _ _ _ (λ fde. fde.cie) (λ kept. KeepsCie g.R.Reader.position g.R.Offset.ReaderOffset.number (g.S._UnwindSectionPrivate.view c.args.section.now) c.args.bases.now kept.0.now)
-    (λ cie. IsOf (g.R.Reader.position cie.initial_instructions) (g.S._UnwindSectionPrivate.view c.args.section.now).position) _ tt _ c.fde_for_address.ensures.cie
+    (λ cie. IsOf (g.R.Reader.position cie.initial_instructions) (g.S._UnwindSectionPrivate.view c.args.section.now).position) _ tt _ c.fde_from_offset.ensures.cie
     (λ f asked answer h holds call. let met = rw (call.at_section, call.at_bases) at call.call.met in (search rules, search rules))

@@ -1,7 +1,7 @@
 use Rattle.std.specs.Prelude.{IfSome}
 use Rattle.cfi_parts.specs.CallFrameSections.{IsOf}
 use Rattle.cfi_unwind.proofs.Answered.{answered_by}
-use Rattle.cfi_callers.proofs.kept_cies.row_by_table_with_kept_cies.Goals as goal
+use Rattle.cfi_kept_cies.proofs.kept_cies.row_by_table_with_kept_cies.Goals as goal
 
 pub unwind_info_for_address-requires-clause-of_section : goal.unwind_info_for_address-requires-clause-of_section
 unwind_info_for_address-requires-clause-of_section g c =

@@ -3,7 +3,7 @@ use Rattle.cfi_parts.specs.CallFrameSections.{IsOf}
 use Rattle.cfi_unwind.specs.KeptCie.{KeepsCie}
 use Rattle.cfi_unwind.specs.EntryViews.{partial_of}
 use Rattle.cfi_unwind.proofs.Answered.{ok_answered_by, read_by}
-use Rattle.cfi_callers.proofs.kept_cies.whole_fde.Goals as goal
+use Rattle.cfi_kept_cies.proofs.kept_cies.whole_fde.Goals as goal
 
 pub returns-clause-read : goal.returns-clause-read
 returns-clause-read g c =

@@ -1,7 +1,7 @@
 use Rattle.std.proofs.Common.{rules, inl, inr}
 use Rattle.cfi_unwind.specs.KeptCie.{KeepsCie}
 use Rattle.cfi_unwind.proofs.Answered.{chosen_by}
-use Rattle.cfi_callers.proofs.kept_cies.fde_in_either.Goals as goal
+use Rattle.cfi_kept_cies.proofs.kept_cies.fde_in_either.Goals as goal
 
 pub returns-then-is_ok : goal.returns-then-is_ok
 returns-then-is_ok g c =

@@ -1,7 +1,7 @@
 use Rattle.cfi_unwind.specs.KeptCie.{KeepsCie}
-use Rattle.cfi_callers.proofs.FoundRow.{by_scan}
+use Rattle.cfi_kept_cies.proofs.FoundRow.{by_scan}
 use Rattle.cfi_unwind.proofs.Answered.{answered_by, chosen_by}
-use Rattle.cfi_callers.proofs.kept_cies.row_with_kept_cies.Goals as goal
+use Rattle.cfi_kept_cies.proofs.kept_cies.row_with_kept_cies.Goals as goal
 
 pub unwind_info_for_address-requires-clause-of_section : goal.unwind_info_for_address-requires-clause-of_section
 unwind_info_for_address-requires-clause-of_section g c =
