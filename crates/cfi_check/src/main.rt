@@ -9,17 +9,13 @@ ghost use Rattle.std.specs.Io.KnownBytes.{Appends};
 ghost use Rattle.std.specs.Process.{exit_status};
 ghost use Rattle.cfi_program.specs.Runs.{IsRun};
 ghost use Rattle.cfi_program.specs.Words.{texts};
-ghost use Rattle.cfi_check.specs.ProgramOutput.{answers};
+ghost use Rattle.cfi_check_run.specs.ProgramOutput.{answers};
 
-mod command_line;
-mod output_line;
-mod run;
-mod table_check;
 #[cfg(test)]
 mod tests;
 
+use cfi_check_run::run::run;
 use cfi_program::words::{texts_of, words_after_name};
-use run::run;
 use std::alloc::Global;
 use std::io::{Read, Write};
 use std::process::ExitCode;

@@ -1,6 +1,6 @@
 //! Whole runs over memory: faithful tables, each fault of others, wrong words and input, failing output.
 
-use crate::run::run;
+use cfi_check_run::run::run;
 use std::alloc::{AllocError, Global};
 use std::io;
 use std::io::{ErrorKind, Write};

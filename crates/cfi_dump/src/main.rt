@@ -8,17 +8,13 @@ ghost use Rattle.std.specs.Prelude.{ℕ, List, IfSome, option_map};
 ghost use Rattle.std.specs.Io.KnownBytes.{Appends};
 ghost use Rattle.std.specs.Process.{exit_status};
 ghost use Rattle.cfi_program.specs.Words.{texts};
-ghost use Rattle.cfi_dump.specs.ProgramOutput.{IsRun};
+ghost use Rattle.cfi_dump_run.specs.ProgramOutput.{IsRun};
 
-mod dump;
-mod entry_line;
-mod run;
 #[cfg(test)]
 mod tests;
-mod words;
 
+use cfi_dump_run::run::run;
 use cfi_program::words::{texts_of, words_after_name};
-use run::run;
 use std::alloc::Global;
 use std::io::{BufWriter, Read, Write};
 use std::process::ExitCode;

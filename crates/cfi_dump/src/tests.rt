@@ -1,5 +1,5 @@
 //! Whole runs over memory: sections whose rows were worked out by hand, wrong words and input.
-use crate::run::run;
+use cfi_dump_run::run::run;
 use std::alloc::{AllocError, Global};
 use std::process::Abort;
 use std::test::Fail;

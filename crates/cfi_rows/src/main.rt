@@ -10,16 +10,13 @@ ghost use Rattle.std.specs.Io.KnownBytes.{Appends};
 ghost use Rattle.std.specs.Process.{exit_status};
 ghost use Rattle.cfi_program.specs.Runs.{IsRun};
 ghost use Rattle.cfi_program.specs.Words.{texts};
-ghost use Rattle.cfi_rows.specs.ProgramOutput.{answers};
+ghost use Rattle.cfi_rows_run.specs.ProgramOutput.{answers};
 
-mod command_line;
-mod row_lookup;
-mod run;
 #[cfg(test)]
 mod tests;
 
 use cfi_program::words::{texts_of, words_after_name};
-use run::run;
+use cfi_rows_run::run::run;
 use std::alloc::Global;
 use std::io::{Read, Write};
 use std::process::ExitCode;

@@ -4,10 +4,10 @@ mod extensions;
 mod failing;
 mod header;
 
-use crate::run::run;
 use cfi_parts::instruction::UnwindExpression;
 use cfi_program::lines::{Address, write_part};
 use cfi_program::row_line::{Cfa, Rule};
+use cfi_rows_run::run::run;
 use cfi_state::table::rules::{CfaRule, RegisterRule};
 use std::alloc::{AllocError, Global};
 use std::process::Abort;

@@ -1,5 +1,5 @@
 //! Runs whose words are missing, or whose input or output fails.
-use crate::run::run;
+use cfi_rows_run::run::run;
 use std::io;
 use std::io::{ErrorKind, Read, Write};
 

@@ -1,0 +1,6 @@
+use Rattle.std.proofs.Common.{◌≡◌}
+use Rattle.cfi_bench_passes.proofs.passes.fdes.Given as goal
+
+-- the entries are those of the section
+abbrev pub invariant-loop : goal.invariant-loop
+invariant-loop g l = l.entries.section ≡ l.section

@@ -1,0 +1,34 @@
+//! The words of the command line.
+ghost use Rattle.std.specs.Prelude.{◌≡◌};
+ghost use Rattle.cfi_program.specs.Words.{texts};
+ghost use Rattle.cfi_check_run.specs.CommandLine.{request_of, with_header};
+
+use cfi_program::words::{SectionWords, first, with_options};
+
+/// What the words ask for: a check of `.eh_frame` and its header.
+#[derive(Clone, Copy, Debug, PartialEq, Eq)]
+pub struct Request {
+    /// What they say of the section.
+    pub words: SectionWords,
+    /// Where the header lies in memory.
+    pub header: u64,
+}
+
+/// What the words after the program's name ask for; `None` where they are wrong.
+pub fn parse(words: &[&str]) -> Option<Request>
+    ensures { result ≡ request_of (texts words.now) }
+{
+    let [kind, order, size, options @ ..] = words else {
+        return None;
+    };
+    let words = first(kind, order, size)?;
+    asked_by(with_options(words, options)?)
+}
+
+/// The request of the words, where they say where the header lies; `.debug_frame` has none.
+fn asked_by(words: SectionWords) -> Option<Request>
+    ensures { result ≡ with_header words words.header }
+{
+    let header = words.header?;
+    Some(Request { words, header })
+}

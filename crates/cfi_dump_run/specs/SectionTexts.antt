@@ -1,0 +1,62 @@
+-- What is printed of a section.
+--     fde_rows section fde      the rows of an FDE, and the refusals among them, in order
+--     lines answers      a line for each
+--     entry_text section entry      an entry, and after an FDE its rows
+--     section_text section      all entries in order
+use Rattle.std.specs.Prelude.{ℕ, Option, Some, None, List, [], ◌∷◌, ◌++◌, Result, Ok, Err, flat_map}
+use Rattle.cfi_read_core.specs.declared.error.Error.{Error}
+use Rattle.cfi_read_core.specs.ReadFunctions.{Readings}
+use Rattle.cfi_state.specs.MachineSettings.{Setting}
+use Rattle.cfi_state.specs.Program.{in_fde}
+use Rattle.cfi_state.specs.Row.{Row}
+use Rattle.cfi_state.specs.FdeAnswers.{answers, cie_refusal, on_option}
+use Rattle.cfi_unwind.specs.AddressRow.{setting}
+use Rattle.cfi_unwind.specs.Entries.{Entry, CieEntry, FdeEntry, entries}
+use Rattle.cfi_unwind.specs.EntryInstructions.{cie_instructions, fde_instructions}
+use Rattle.cfi_unwind.specs.Fdes.{Fde, PartialFde}
+use Rattle.cfi_unwind.specs.Scan.{read_fde}
+use Rattle.cfi_unwind.specs.Sections.{Section}
+use Rattle.cfi_program.specs.Lines.{refusal_line}
+use Rattle.cfi_program.specs.RowLines.{answer_line}
+use Rattle.cfi_dump_run.specs.EntryLines.{cie_line, fde_line, partial_fde_line}
+
+-- ---- the rows of an FDE
+
+-- in a storage of 192 rules and 4 rows
+abbrev pub setting_of_fde : Fde → Setting
+setting_of_fde fde = setting (Some 192) (Some 4) fde
+
+-- the refusal of the CIE's initial instructions; else the rows and refusals of the FDE's
+abbrev pub fde_rows : Section → Fde → List (Result (Row ℕ) Error)
+fde_rows section fde =
+    on_option (answers (setting_of_fde fde) (in_fde (cie_instructions section fde.cie).values []) (fde_instructions section fde)) (λ e. Err e ∷ [])
+    (cie_refusal (setting_of_fde fde) (cie_instructions section fde.cie))
+
+abbrev pub lines : List (Result (Row ℕ) Error) → List ℕ
+lines [] = []
+lines (answer ∷ answers) = (answer_line answer).text ++ lines answers
+
+-- ---- an entry
+
+-- an FDE and its rows; or what was read of it, and the refusal of the rest
+abbrev pub fde_text : Section → PartialFde → Result Fde Error → List ℕ
+fde_text section partial (Ok fde) = fde_line fde ++ lines (fde_rows section fde)
+fde_text section partial (Err e) = partial_fde_line partial.found.offset partial.found.length ++ (refusal_line e).text
+
+-- an FDE is read with the CIE to which it points
+abbrev pub entry_text : Section → Entry → List ℕ
+entry_text section (CieEntry cie) = cie_line cie
+entry_text section (FdeEntry partial) = fde_text section partial (read_fde section partial)
+
+-- ---- the section
+
+abbrev pub refusal_text : Option Error → List ℕ
+refusal_text None = []
+refusal_text (Some e) = (refusal_line e).text
+
+-- each entry, and after the last one the refusal with which they end
+unfoldable pub entries_text : Section → Readings Entry → List ℕ
+entries_text section readings = flat_map (entry_text section) readings.values ++ refusal_text readings.refusal
+
+abbrev pub section_text : Section → List ℕ
+section_text section = entries_text section (entries section)
