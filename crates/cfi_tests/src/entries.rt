@@ -61,9 +61,7 @@ fn fde_of_eh_frame<R: Reader<Offset = usize>>(
     offset: usize,
 ) -> Result<FrameDescriptionEntry<R>, Error> {
     let bases = BaseAddresses::default().set_eh_frame(0x2000);
-    section.fde_from_offset(&bases, EhFrameOffset(offset), |from, bases, offset| {
-        from.cie_from_offset(bases, offset)
-    })
+    section.fde_from_offset(&bases, EhFrameOffset(offset), EhFrame::cie_from_offset)
 }
 
 /// How many entries there are, and the refusal after them.
@@ -79,23 +77,32 @@ fn walk<R: Reader, S: UnwindSection<R>>(section: &S) -> (u32, Option<Error>) {
     (count, None)
 }
 
+/// A section of no bytes, two that a gap begins, and an FDE whose CIE in `.eh_frame` would lie before the section; the
+/// entries of each in `.debug_frame` and in `.eh_frame`.
+const COUNTED: [(&str, (u32, Option<Error>), (u32, Option<Error>)); 4] = [
+    ("", (0, None), (0, None)),
+    (
+        "00000000 10000000 ffffffff 04000800 017810 0c0708 9001 \
+        14000000 04000000 0010000000000000 2000000000000000",
+        (2, None),
+        (0, None),
+    ),
+    (
+        "ffffffff 0000000000000000 10000000 ffffffff 04000800 017810 0c0708 9001 \
+        14000000 0c000000 0010000000000000 2000000000000000",
+        (2, None),
+        (0, None),
+    ),
+    (
+        "04000000 05000000",
+        (1, None),
+        (0, Some(Error::OffsetOutOfBounds(5))),
+    ),
+];
+
 #[test]
 fn how_many_entries_there_are(rt: HostRuntime) -> Result<(), Fail> {
-    let gap = "00000000 10000000 ffffffff 04000800 017810 0c0708 9001 \
-        14000000 04000000 0010000000000000 2000000000000000";
-    let wide_gap = "ffffffff 0000000000000000 10000000 ffffffff 04000800 017810 0c0708 9001 \
-        14000000 0c000000 0010000000000000 2000000000000000";
-    let sections: [(&str, (u32, Option<Error>), (u32, Option<Error>)); 4] = [
-        ("", (0, None), (0, None)),
-        (gap, (2, None), (0, None)),
-        (wide_gap, (2, None), (0, None)),
-        (
-            "04000000 05000000",
-            (1, None),
-            (0, Some(Error::OffsetOutOfBounds(5))),
-        ),
-    ];
-    for (text, in_debug_frame, in_eh_frame) in sections {
+    for (text, in_debug_frame, in_eh_frame) in COUNTED {
         let bytes = bytes_of(rt.alloc(), text)?;
         let debug_frame = DebugFrame::new(bytes.as_slice(), LittleEndian);
         let eh_frame = EhFrame::new(bytes.as_slice(), LittleEndian);
@@ -116,16 +123,17 @@ fn an_fde_that_is_its_own_cie(rt: HostRuntime) -> Result<(), Fail> {
     Ok(())
 }
 
+const CUT: [(&str, Error); 5] = [
+    ("0500", Error::UnexpectedEof(ReaderOffsetId(0))),
+    ("f5ffffff", Error::UnknownReservedLength(0xffff_fff5)),
+    ("ffffffff 39300000", Error::UnexpectedEof(ReaderOffsetId(4))),
+    ("000000ff ffffffff", Error::UnexpectedEof(ReaderOffsetId(4))),
+    ("00000000", Error::NoEntryAtGivenOffset(0)),
+];
+
 #[test]
 fn entries_that_are_cut_short(rt: HostRuntime) -> Result<(), Fail> {
-    let cut: [(&str, Error); 5] = [
-        ("0500", Error::UnexpectedEof(ReaderOffsetId(0))),
-        ("f5ffffff", Error::UnknownReservedLength(0xffff_fff5)),
-        ("ffffffff 39300000", Error::UnexpectedEof(ReaderOffsetId(4))),
-        ("000000ff ffffffff", Error::UnexpectedEof(ReaderOffsetId(4))),
-        ("00000000", Error::NoEntryAtGivenOffset(0)),
-    ];
-    for (text, refusal) in cut {
+    for (text, refusal) in CUT {
         let bytes = bytes_of(rt.alloc(), text)?;
         let section = DebugFrame::new(bytes.as_slice(), LittleEndian);
         assert_eq!(rt; refusal_at(&section, 0), Some(refusal));
@@ -139,9 +147,7 @@ type Range = (u64, u64, u64, bool, bool);
 /// The range of the FDE after a CIE of 20 bytes, asked for the addresses 0xfffffff8 and 8.
 fn range_at_20<R: Reader<Offset = usize>>(section: &DebugFrame<R>) -> Result<Range, Error> {
     let bases = BaseAddresses::default();
-    let fde = section.fde_from_offset(&bases, DebugFrameOffset(20), |from, bases, offset| {
-        from.cie_from_offset(bases, offset)
-    })?;
+    let fde = section.fde_from_offset(&bases, DebugFrameOffset(20), DebugFrame::cie_from_offset)?;
     Ok((
         fde.initial_address(),
         fde.end_address(),
@@ -170,9 +176,7 @@ fn fde_of_0x1000<R: Reader<Offset = usize>>(
     section: &DebugFrame<R>,
 ) -> Result<(usize, Format), Error> {
     let bases = BaseAddresses::default();
-    let fde = section.fde_for_address(&bases, 0x1000, |from, bases, offset| {
-        from.cie_from_offset(bases, offset)
-    })?;
+    let fde = section.fde_for_address(&bases, 0x1000, DebugFrame::cie_from_offset)?;
     Ok((fde.offset(), fde.cie().encoding().format))
 }
 
@@ -236,30 +240,31 @@ fn with_data<R: Reader<Offset = usize>>(section: &EhFrame<R>) -> Result<WithData
     ))
 }
 
+const ENCODING: Option<DwEhPe> = Some(DwEhPe(0x43));
+
+/// CIEs, the last of which has addresses relative to a function, and FDEs, the second of which points to zero; what the
+/// FDEs say.
+const WITH_DATA: [(&str, &str, Result<WithData, Error>); 3] = [
+    (
+        LSDA_CIE,
+        "11000000 17000000 e5efffff 20000000 04 10000000",
+        Ok((0x1000, 0x1020, Some(Pointer::Direct(0x1010)), ENCODING)),
+    ),
+    (
+        LSDA_CIE,
+        "11000000 17000000 e5efffff 20000000 04 00000000",
+        Ok((0x1000, 0x1020, Some(Pointer::Direct(0x1000)), ENCODING)),
+    ),
+    (
+        "0f000000 00000000 01 7a4c5200 017810 02 43 43",
+        "11000000 17000000 e5efffff 20000000 04 10000000",
+        Err(Error::FuncRelativePointerInBadContext),
+    ),
+];
+
 #[test]
 fn language_specific_data(rt: HostRuntime) -> Result<(), Fail> {
-    let relative_to_a_function = "0f000000 00000000 01 7a4c5200 017810 02 43 43";
-    let fde = "11000000 17000000 e5efffff 20000000 04 10000000";
-    let fde_of_zero = "11000000 17000000 e5efffff 20000000 04 00000000";
-    let encoding = Some(DwEhPe(0x43));
-    let fdes: [(&str, &str, Result<WithData, Error>); 3] = [
-        (
-            LSDA_CIE,
-            fde,
-            Ok((0x1000, 0x1020, Some(Pointer::Direct(0x1010)), encoding)),
-        ),
-        (
-            LSDA_CIE,
-            fde_of_zero,
-            Ok((0x1000, 0x1020, Some(Pointer::Direct(0x1000)), encoding)),
-        ),
-        (
-            relative_to_a_function,
-            fde,
-            Err(Error::FuncRelativePointerInBadContext),
-        ),
-    ];
-    for (cie, fde, data) in fdes {
+    for (cie, fde, data) in WITH_DATA {
         let bytes = joined(rt.alloc(), cie, fde)?;
         let section = EhFrame::new(bytes.as_slice(), LittleEndian);
         assert_eq!(rt; with_data(&section), data);
@@ -275,20 +280,28 @@ fn marks_in<R: Reader, S: UnwindSection<R>>(section: &S, offset: S::Offset) -> M
     Ok((cie.is_signal_trampoline(), cie.uses_b_key()))
 }
 
-/// The marks of a CIE of `.debug_frame` and of one of `.eh_frame`.
+/// The marks of a CIE of `.debug_frame`.
+fn marks_in_debug_frame(alloc: Global, text: &str) -> Result<Marks, FromHexError> {
+    let bytes = bytes_of(alloc, text)?;
+    let section = DebugFrame::new(bytes.as_slice(), LittleEndian);
+    Ok(marks_in(&section, DebugFrameOffset(0)))
+}
+
+/// The marks of a CIE of `.eh_frame`.
+fn marks_in_eh_frame(alloc: Global, text: &str) -> Result<Marks, FromHexError> {
+    let bytes = bytes_of(alloc, text)?;
+    let section = EhFrame::new(bytes.as_slice(), LittleEndian);
+    Ok(marks_in(&section, EhFrameOffset(0)))
+}
+
+/// The marks of both.
 fn marks_in_both(
     alloc: Global,
     in_debug_frame: &str,
     in_eh_frame: &str,
-) -> Result<(Marks, Marks), Fail> {
-    let bytes = bytes_of(alloc, in_debug_frame)?;
-    let eh_bytes = bytes_of(alloc, in_eh_frame)?;
-    let debug_frame = DebugFrame::new(bytes.as_slice(), LittleEndian);
-    let eh_frame = EhFrame::new(eh_bytes.as_slice(), LittleEndian);
-    Ok((
-        marks_in(&debug_frame, DebugFrameOffset(0)),
-        marks_in(&eh_frame, EhFrameOffset(0)),
-    ))
+) -> Result<(Marks, Marks), FromHexError> {
+    let marks = marks_in_debug_frame(alloc, in_debug_frame)?;
+    Ok((marks, marks_in_eh_frame(alloc, in_eh_frame)?))
 }
 
 /// CIEs with a bare augmentation string: in `.debug_frame`, in `.eh_frame`, and the marks of both.

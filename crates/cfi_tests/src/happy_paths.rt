@@ -51,18 +51,32 @@ fn addresses_of<R: Reader>(fde: &FrameDescriptionEntry<R>) -> Addresses {
 
 type Instruction = Result<Option<CallFrameInstruction<usize>>, Error>;
 
-/// The FDE at 13, first as a part, and its first two instructions.
-fn fde_at_13<R: Reader<Offset = usize>>(
-    section: &DebugFrame<R>,
-) -> Result<(Places, Addresses, Instruction, Instruction), Error> {
+/// The places of the FDE at 13, by its part.
+fn places_at_13<R: Reader<Offset = usize>>(section: &DebugFrame<R>) -> Result<Places, Error> {
     let bases = BaseAddresses::default();
     let part = section.partial_fde_from_offset(&bases, DebugFrameOffset(13))?;
-    let places = (part.offset(), part.cie_offset(), part.entry_len());
-    let fde = part.parse(|from, bases, offset| from.cie_from_offset(bases, offset))?;
+    Ok((part.offset(), part.cie_offset(), part.entry_len()))
+}
+
+/// The addresses of the FDE at 13, which is parsed from its part, and its first two instructions.
+fn fde_at_13<R: Reader<Offset = usize>>(
+    section: &DebugFrame<R>,
+) -> Result<(Addresses, Instruction, Instruction), Error> {
+    let bases = BaseAddresses::default();
+    let part = section.partial_fde_from_offset(&bases, DebugFrameOffset(13))?;
+    let fde = part.parse(DebugFrame::cie_from_offset)?;
     let mut instructions = fde.instructions(section, &bases);
     let first = instructions.next();
-    Ok((places, addresses_of(&fde), first, instructions.next()))
+    Ok((addresses_of(&fde), first, instructions.next()))
 }
+
+const PLACES: Result<Places, Error> = Ok((13, DebugFrameOffset(0), 9));
+
+const OF_NARROW: Result<(Addresses, Instruction, Instruction), Error> = Ok((
+    (0x1000, 0x1020, 0x20, 2),
+    Ok(Some(CallFrameInstruction::NegateRaState)),
+    Ok(None),
+));
 
 #[test]
 fn the_settings_of_a_section(rt: HostRuntime) -> Result<(), Fail> {
@@ -70,15 +84,8 @@ fn the_settings_of_a_section(rt: HostRuntime) -> Result<(), Fail> {
     let mut section = DebugFrame::new(bytes.as_slice(), LittleEndian);
     section.set_address_size(2);
     section.set_vendor(Vendor::AArch64);
-    assert_eq!(rt;
-        fde_at_13(&section),
-        Ok((
-            (13, DebugFrameOffset(0), 9),
-            (0x1000, 0x1020, 0x20, 2),
-            Ok(Some(CallFrameInstruction::NegateRaState)),
-            Ok(None),
-        ))
-    );
+    let found = (places_at_13(&section), fde_at_13(&section));
+    assert_eq!(rt; found, (PLACES, OF_NARROW));
     Ok(())
 }
 
@@ -116,18 +123,24 @@ fn letters_of<R: Reader<Offset = usize>>(
     Ok((marks_of(&cie), pointers_of(&cie)))
 }
 
+const RELATIVE: Option<DwEhPe> = Some(DwEhPe(DW_EH_PE_pcrel.0 | DW_EH_PE_sdata4.0));
+
+const PERSONALITY: Pointer = Pointer::Direct(0x8877665544332211);
+
+const OF_LETTERS: Result<([bool; 3], Pointers), Error> = Ok((
+    [true; 3],
+    (
+        RELATIVE,
+        RELATIVE,
+        Some((DW_EH_PE_absptr, PERSONALITY)),
+        Some(PERSONALITY),
+    ),
+));
+
 #[test]
 fn the_letters_of_a_cie(rt: HostRuntime) -> Result<(), Fail> {
     let bytes = bytes_of(rt.alloc(), LETTERS)?;
     let section = EhFrame::new(bytes.as_slice(), LittleEndian);
-    let relative = Some(DwEhPe(DW_EH_PE_pcrel.0 | DW_EH_PE_sdata4.0));
-    let personality = Pointer::Direct(0x8877665544332211);
-    let pointers = (
-        relative,
-        relative,
-        Some((DW_EH_PE_absptr, personality)),
-        Some(personality),
-    );
-    assert_eq!(rt; letters_of(&section), Ok(([true; 3], pointers)));
+    assert_eq!(rt; letters_of(&section), OF_LETTERS);
     Ok(())
 }

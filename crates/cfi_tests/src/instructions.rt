@@ -30,164 +30,198 @@ fn first_two<R: Reader<Offset = usize>>(
     offset: usize,
 ) -> Result<FirstTwo, Error> {
     let bases = BaseAddresses::default();
-    let fde = section.fde_from_offset(&bases, DebugFrameOffset(offset), |from, bases, offset| {
-        from.cie_from_offset(bases, offset)
-    })?;
+    let offset = DebugFrameOffset(offset);
+    let fde = section.fde_from_offset(&bases, offset, DebugFrame::cie_from_offset)?;
     let mut instructions = fde.instructions(section, &bases);
     let first = instructions.next();
     let second = instructions.next();
     Ok((first, second))
 }
 
-/// The same of a program after a CIE of 20 bytes; the program begins at 44.
-fn of_program(alloc: Global, program: &[u8], vendor: Vendor) -> Result<FirstTwo, Fail> {
+/// Addresses from 0x1000 up to 0x1020 for the CIE at 0.
+const RANGE: [u8; 20] = [
+    0, 0, 0, 0, 0, 0x10, 0, 0, 0, 0, 0, 0, 0x20, 0, 0, 0, 0, 0, 0, 0,
+];
+
+/// A CIE of 20 bytes, and an FDE whose program begins at 44.
+fn with_program(alloc: Global, program: &[u8]) -> Result<Vec<u8>, Fail> {
     let mut bytes = bytes_of(alloc, CIE)?;
     let size = u32::try_from(program.len()).unwrap_or(u32::MAX);
     let length = 20u32.saturating_add(size);
     bytes.extend_from_slice(&length.to_le_bytes())?;
-    let range = bytes_of(alloc, "00000000 0010000000000000 2000000000000000")?;
-    bytes.extend_from_slice(range.as_slice())?;
+    bytes.extend_from_slice(&RANGE)?;
     bytes.extend_from_slice(program)?;
+    Ok(bytes)
+}
+
+/// The first two instructions of that FDE.
+fn of_program(alloc: Global, program: &[u8], vendor: Vendor) -> Result<FirstTwo, Fail> {
+    let bytes = with_program(alloc, program)?;
     let mut section = DebugFrame::new(bytes.as_slice(), LittleEndian);
     section.set_vendor(vendor);
     Ok(first_two(&section, 20)?)
 }
 
+/// Programs, each of one instruction.
+const VECTORS: [(&[u8], Instruction); 15] = [
+    (&[0x6a], CallFrameInstruction::AdvanceLoc { delta: 42 }),
+    (
+        &[0x83, 0xcd, 0x0f],
+        CallFrameInstruction::Offset {
+            register: Register(3),
+            factored_offset: 1997,
+        },
+    ),
+    (
+        &[0xc3],
+        CallFrameInstruction::Restore {
+            register: Register(3),
+        },
+    ),
+    (&[2, 8], CallFrameInstruction::AdvanceLoc { delta: 8 }),
+    (
+        &[3, 0xf4, 1],
+        CallFrameInstruction::AdvanceLoc { delta: 500 },
+    ),
+    (
+        &[4, 0, 0, 0x10, 0],
+        CallFrameInstruction::AdvanceLoc { delta: 1048576 },
+    ),
+    (
+        &[9, 7, 8],
+        CallFrameInstruction::Register {
+            dest_register: Register(7),
+            src_register: Register(8),
+        },
+    ),
+    (
+        &[0x12, 2, 0xf1, 0xb1, 0x7f],
+        CallFrameInstruction::DefCfaSf {
+            register: Register(2),
+            factored_offset: -9999,
+        },
+    ),
+    (
+        &[0x13, 0x85, 0x7f],
+        CallFrameInstruction::DefCfaOffsetSf {
+            factored_offset: -123,
+        },
+    ),
+    (
+        &[0x11, 7, 0x5f],
+        CallFrameInstruction::OffsetExtendedSf {
+            register: Register(7),
+            factored_offset: -33,
+        },
+    ),
+    (
+        &[0x0f, 0x0a, 0x0a, 9, 8, 7, 6, 5, 4, 3, 2, 1],
+        CallFrameInstruction::DefCfaExpression {
+            expression: UnwindExpression {
+                offset: 46,
+                length: 10,
+            },
+        },
+    ),
+    (
+        &[0x16, 0x32, 6, 2, 2, 1, 1, 5, 5],
+        CallFrameInstruction::ValExpression {
+            register: Register(50),
+            expression: UnwindExpression {
+                offset: 47,
+                length: 6,
+            },
+        },
+    ),
+    (&[0x2e, 0x10], CallFrameInstruction::ArgsSize { size: 16 }),
+    (
+        &[0x2f, 6, 2],
+        CallFrameInstruction::OffsetExtendedNegative {
+            register: Register(6),
+            factored_offset: 2,
+        },
+    ),
+    (
+        &[1, 8, 7, 6, 5, 4, 3, 2, 1],
+        CallFrameInstruction::SetLoc {
+            address: 0x0102030405060708,
+        },
+    ),
+];
+
 #[test]
 fn one_by_one(rt: HostRuntime) -> Result<(), Fail> {
-    let vectors: [(&[u8], Instruction); 15] = [
-        (&[0x6a], CallFrameInstruction::AdvanceLoc { delta: 42 }),
-        (
-            &[0x83, 0xcd, 0x0f],
-            CallFrameInstruction::Offset {
-                register: Register(3),
-                factored_offset: 1997,
-            },
-        ),
-        (
-            &[0xc3],
-            CallFrameInstruction::Restore {
-                register: Register(3),
-            },
-        ),
-        (&[2, 8], CallFrameInstruction::AdvanceLoc { delta: 8 }),
-        (
-            &[3, 0xf4, 1],
-            CallFrameInstruction::AdvanceLoc { delta: 500 },
-        ),
-        (
-            &[4, 0, 0, 0x10, 0],
-            CallFrameInstruction::AdvanceLoc { delta: 1048576 },
-        ),
-        (
-            &[9, 7, 8],
-            CallFrameInstruction::Register {
-                dest_register: Register(7),
-                src_register: Register(8),
-            },
-        ),
-        (
-            &[0x12, 2, 0xf1, 0xb1, 0x7f],
-            CallFrameInstruction::DefCfaSf {
-                register: Register(2),
-                factored_offset: -9999,
-            },
-        ),
-        (
-            &[0x13, 0x85, 0x7f],
-            CallFrameInstruction::DefCfaOffsetSf {
-                factored_offset: -123,
-            },
-        ),
-        (
-            &[0x11, 7, 0x5f],
-            CallFrameInstruction::OffsetExtendedSf {
-                register: Register(7),
-                factored_offset: -33,
-            },
-        ),
-        (
-            &[0x0f, 0x0a, 0x0a, 9, 8, 7, 6, 5, 4, 3, 2, 1],
-            CallFrameInstruction::DefCfaExpression {
-                expression: UnwindExpression {
-                    offset: 46,
-                    length: 10,
-                },
-            },
-        ),
-        (
-            &[0x16, 0x32, 6, 2, 2, 1, 1, 5, 5],
-            CallFrameInstruction::ValExpression {
-                register: Register(50),
-                expression: UnwindExpression {
-                    offset: 47,
-                    length: 6,
-                },
-            },
-        ),
-        (&[0x2e, 0x10], CallFrameInstruction::ArgsSize { size: 16 }),
-        (
-            &[0x2f, 6, 2],
-            CallFrameInstruction::OffsetExtendedNegative {
-                register: Register(6),
-                factored_offset: 2,
-            },
-        ),
-        (
-            &[1, 8, 7, 6, 5, 4, 3, 2, 1],
-            CallFrameInstruction::SetLoc {
-                address: 0x0102030405060708,
-            },
-        ),
-    ];
-    for (bytes, instruction) in vectors {
+    for (bytes, instruction) in VECTORS {
         let read = of_program(rt.alloc(), bytes, Vendor::Default)?;
         assert_eq!(rt; read, (Ok(Some(instruction)), Ok(None)));
     }
     Ok(())
 }
 
-fn refused(refusal: Error) -> FirstTwo {
-    (Err(refusal), Ok(None))
+/// Programs whose first instruction is refused, but by one vendor.
+const PROGRAMS: [(&[u8], Vendor, FirstTwo); 6] = [
+    (
+        &[0x3f, 0],
+        Vendor::Default,
+        (
+            Err(Error::UnknownCallFrameInstruction(DwCfa(0x3f))),
+            Ok(None),
+        ),
+    ),
+    (
+        &[2],
+        Vendor::Default,
+        (Err(Error::UnexpectedEof(ReaderOffsetId(45))), Ok(None)),
+    ),
+    (
+        &[0x2f, 6],
+        Vendor::Default,
+        (Err(Error::UnexpectedEof(ReaderOffsetId(46))), Ok(None)),
+    ),
+    (
+        &[0x2d, 0],
+        Vendor::Default,
+        (
+            Err(Error::UnknownCallFrameInstruction(DwCfa(0x2d))),
+            Ok(None),
+        ),
+    ),
+    (
+        &[7, 0x80, 0x80, 4, 0],
+        Vendor::Default,
+        (Err(Error::UnsupportedRegister(65536)), Ok(None)),
+    ),
+    (
+        &[0x2d, 0],
+        Vendor::AArch64,
+        (
+            Ok(Some(CallFrameInstruction::NegateRaState)),
+            Ok(Some(CallFrameInstruction::Nop)),
+        ),
+    ),
+];
+
+/// The first two instructions of an FDE that sets its location, after a CIE of encoded addresses.
+fn of_encoded(alloc: Global) -> Result<FirstTwo, Fail> {
+    let fde = "12000000 00000000 00100000 20000000 00 01 f0ffffff";
+    let bytes = joined(alloc, ENCODED_CIE, fde)?;
+    let section = DebugFrame::new(bytes.as_slice(), LittleEndian);
+    Ok(first_two(&section, 17)?)
 }
 
-fn unknown(opcode: u8) -> FirstTwo {
-    refused(Error::UnknownCallFrameInstruction(DwCfa(opcode)))
-}
-
-fn ended(place: u64) -> FirstTwo {
-    refused(Error::UnexpectedEof(ReaderOffsetId(place)))
-}
+const SET_LOC: FirstTwo = (
+    Ok(Some(CallFrameInstruction::SetLoc {
+        address: 0xffff_ffff_ffff_fff0,
+    })),
+    Ok(None),
+);
 
 #[test]
 fn refusals_end_the_instructions(rt: HostRuntime) -> Result<(), Fail> {
-    let signed = (
-        Ok(Some(CallFrameInstruction::NegateRaState)),
-        Ok(Some(CallFrameInstruction::Nop)),
-    );
-    let programs: [(&[u8], Vendor, FirstTwo); 6] = [
-        (&[0x3f, 0], Vendor::Default, unknown(0x3f)),
-        (&[2], Vendor::Default, ended(45)),
-        (&[0x2f, 6], Vendor::Default, ended(46)),
-        (&[0x2d, 0], Vendor::Default, unknown(0x2d)),
-        (
-            &[7, 0x80, 0x80, 4, 0],
-            Vendor::Default,
-            refused(Error::UnsupportedRegister(65536)),
-        ),
-        (&[0x2d, 0], Vendor::AArch64, signed),
-    ];
-    for (program, vendor, read) in programs {
+    for (program, vendor, read) in PROGRAMS {
         assert_eq!(rt; of_program(rt.alloc(), program, vendor)?, read);
     }
-    let fde = "12000000 00000000 00100000 20000000 00 01 f0ffffff";
-    let bytes = joined(rt.alloc(), ENCODED_CIE, fde)?;
-    let section = DebugFrame::new(bytes.as_slice(), LittleEndian);
-    let address = 0xffff_ffff_ffff_fff0;
-    assert_eq!(rt;
-        first_two(&section, 17)?,
-        (Ok(Some(CallFrameInstruction::SetLoc { address })), Ok(None))
-    );
+    assert_eq!(rt; of_encoded(rt.alloc())?, SET_LOC);
     Ok(())
 }
 
