@@ -2,7 +2,7 @@
 ghost use Rattle.std.proofs.Common.{lit≤};
 
 use crate::entries::{bytes_of, joined};
-use crate::rows::{Shown, cfa, hands_out, shown};
+use crate::rows::{R7_8, RETURNS, Shown, hands_out, shown};
 use crate::sections::THREE_ROWS;
 use arrayvec::ArrayVec;
 use cfi_read_core::{Error, LittleEndian, Reader, ReaderOffset, ReaderOffsetId, Register, Section};
@@ -96,7 +96,26 @@ fn beside_fresh<R: Reader<Offset = usize>, S: UnwindContextStorage<usize>>(
     Ok((answer, expected, *context == fresh))
 }
 
-/// Checks that the context answers the section of three rows as a fresh one does, and is then equal to that.
+/// Checks that the context answers an address as a fresh one does, and is then equal to that.
+fn check_row<R: Reader<Offset = usize>, S: UnwindContextStorage<usize>>(
+    rt: &(impl Abort + AllocGlobal),
+    section: &DebugFrame<R>,
+    context: &mut UnwindContext<usize, S>,
+    address: u64,
+    after: &str,
+) -> Result<(), Fail> {
+    let (answer, expected, are_equal) = beside_fresh(rt.alloc(), section, context, address)?;
+    // An address of no FDE leaves the context as it is.
+    let is_as_fresh = are_equal || expected == Err(Error::NoUnwindInfoForAddress);
+    assert_eq!(rt;
+        (answer, is_as_fresh),
+        (expected, true),
+        "{after}: {address}"
+    );
+    Ok(())
+}
+
+/// The same of addresses in and after the section of three rows.
 pub(crate) fn check_three_rows<S: UnwindContextStorage<usize>>(
     rt: &(impl Abort + AllocGlobal),
     context: &mut UnwindContext<usize, S>,
@@ -104,14 +123,7 @@ pub(crate) fn check_three_rows<S: UnwindContextStorage<usize>>(
 ) -> Result<(), Fail> {
     let section = DebugFrame::new(&THREE_ROWS, LittleEndian);
     for address in [0x1000, 0x1002, 0x1004, 0x1020] {
-        let (answer, expected, are_equal) = beside_fresh(rt.alloc(), &section, context, address)?;
-        // An address of no FDE leaves the context as it is.
-        let is_as_fresh = are_equal || expected == Err(Error::NoUnwindInfoForAddress);
-        assert_eq!(rt;
-            (answer, is_as_fresh),
-            (expected, true),
-            "{after}: {address}"
-        );
+        check_row(rt, &section, context, address, after)?;
     }
     Ok(())
 }
@@ -158,24 +170,42 @@ fn of_both<R: Reader<Offset = usize>, S: UnwindContextStorage<usize>>(
     ]
 }
 
+const KEPT: Option<RegisterRule<usize>> = Some(RegisterRule::Offset(-24));
+
+const PAST_ONE_RULE: [Result<Option<Shown>, Error>; 3] = [
+    Err(Error::TooManyRegisterRules),
+    Ok(Some((0x1000, 0x1020, R7_8, KEPT, None))),
+    Ok(None),
+];
+
+/// The row for 0x1000 up to a move.
+const FIRST: Result<Shown, Error> = Ok((0x1000, 0x1001, R7_8, None, RETURNS));
+
+const OF_BOTH: [Result<Shown, Error>; 3] = [
+    Err(Error::TooManyRegisterRules),
+    FIRST,
+    Err(Error::TooManyRegisterRules),
+];
+
+/// Whether a section hands out those answers, and then its row and those of the section of three rows.
+fn past_one_rule<S: UnwindContextStorage<usize>>(
+    context: &mut UnwindContext<usize, S>,
+    bytes: &[u8],
+) -> (Result<bool, Error>, [Result<Shown, Error>; 3]) {
+    let section = DebugFrame::new(bytes, LittleEndian);
+    let three = DebugFrame::new(&THREE_ROWS, LittleEndian);
+    (
+        hands_out(&section, context, &PAST_ONE_RULE),
+        of_both(&section, &three, context),
+    )
+}
+
 #[test]
 fn after_one_rule_too_many(rt: HostRuntime) -> Result<(), Fail> {
     let bytes = bytes_of(rt.alloc(), THREE_RULES)?;
-    let section = DebugFrame::new(bytes.as_slice(), LittleEndian);
     let mut context: UnwindContext<usize, StoreOfOne> = UnwindContext::new_in(rt.alloc())?;
-    let kept = Some(RegisterRule::Offset(-24));
-    let answers: [Result<Option<Shown>, Error>; 3] = [
-        Err(Error::TooManyRegisterRules),
-        Ok(Some((0x1000, 0x1020, cfa(7, 8), kept, None))),
-        Ok(None),
-    ];
-    let handed_out = hands_out(&section, &mut context, &answers);
-    let three = DebugFrame::new(&THREE_ROWS, LittleEndian);
-    let rows = of_both(&section, &three, &mut context);
-    let refused = Err(Error::TooManyRegisterRules);
-    let saved = Some(RegisterRule::Offset(-8));
-    let first = Ok((0x1000, 0x1001, cfa(7, 8), None, saved));
-    assert_eq!(rt; (handed_out, rows), (Ok(true), [refused, first, refused]));
+    let found = past_one_rule(&mut context, bytes.as_slice());
+    assert_eq!(rt; found, (Ok(true), OF_BOTH));
     check_three_rows(&rt, &mut context, THREE_RULES)
 }
 
@@ -192,17 +222,16 @@ fn by_both_calls<R: Reader<Offset = usize>, S: UnwindContextStorage<usize>>(
     ]
 }
 
+const ENDED: Result<Shown, Error> = Err(Error::UnexpectedEof(ReaderOffsetId(46)));
+
 /// The FDE's own call goes on to rows outside its range, up to the instruction that can't be read.
 #[test]
 fn a_cut_instruction(rt: HostRuntime) -> Result<(), Fail> {
     let bytes = bytes_of(rt.alloc(), CUT)?;
     let section = DebugFrame::new(bytes.as_slice(), LittleEndian);
     let mut context: UnwindContext<usize> = UnwindContext::new(rt.alloc())?;
-    let ended = Err(Error::UnexpectedEof(ReaderOffsetId(46)));
-    let saved = Some(RegisterRule::Offset(-8));
-    let first = Ok((0x1000, 0x1001, cfa(7, 8), None, saved));
     let rows = by_both_calls(&section, &mut context);
-    assert_eq!(rt; rows, [first, ended, ended, ended]);
+    assert_eq!(rt; rows, [FIRST, ENDED, ENDED, ENDED]);
     check_three_rows(&rt, &mut context, CUT)
 }
 
@@ -277,21 +306,18 @@ fn copied_rule(
     Ok((rules.copy()?, is_put))
 }
 
+const COPIED: [Result<((bool, usize), bool, bool), Error>; 3] = [Ok(((true, 2), true, false)); 3];
+
 #[test]
 fn copies_are_equal(rt: HostRuntime) -> Result<(), Fail> {
     let alloc = rt.alloc();
     let section = DebugFrame::new(&THREE_ROWS, LittleEndian);
-    let storages = [
-        (
-            "fixed",
-            copied::<_, cfi_read_core::StoreOnHeap>(alloc, &section)?,
-        ),
-        ("growing", copied::<_, StoreGrowing>(alloc, &section)?),
-        ("boxed rules", copied::<_, StoreBoxed>(alloc, &section)?),
+    let found = [
+        copied::<_, cfi_read_core::StoreOnHeap>(alloc, &section),
+        copied::<_, StoreGrowing>(alloc, &section),
+        copied::<_, StoreBoxed>(alloc, &section),
     ];
-    for (storage, found) in storages {
-        assert_eq!(rt; found, ((true, 2), true, false), "{storage}");
-    }
+    assert_eq!(rt; found, COPIED, "fixed, growing, boxed rules");
     let rule = (Register(6), RegisterRule::Offset(-16));
     let (rules, is_put) = copied_rule(alloc, rule)?;
     assert_eq!(rt;

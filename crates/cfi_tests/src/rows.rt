@@ -1,5 +1,4 @@
 //! The rows of an FDE in order, and the row of an address with any `get_cie`.
-use crate::entries::bytes_of;
 use crate::sections::THREE_ROWS;
 use cfi_parts::instruction::UnwindExpression;
 use cfi_read_core::dwarf_section::Expression;
@@ -40,12 +39,18 @@ const TWO_CIES: [u8; 88] = [
 ];
 
 /// A CIE whose code alignment factor is 2^63, and an FDE that moves by two of it.
-const LARGE_FACTOR: &str = "19000000 ffffffff 04000800 80808080808080808001 7810 0c0708 9001 \
-    15000000 00000000 0010000000000000 2000000000000000 42";
+const LARGE_FACTOR: [u8; 54] = [
+    0x19, 0, 0, 0, 0xff, 0xff, 0xff, 0xff, 4, 0, 8, 0, 0x80, 0x80, 0x80, 0x80, 0x80, 0x80, 0x80,
+    0x80, 0x80, 1, 0x78, 0x10, 0xc, 7, 8, 0x90, 1, 0x15, 0, 0, 0, 0, 0, 0, 0, 0, 0x10, 0, 0, 0, 0,
+    0, 0, 0x20, 0, 0, 0, 0, 0, 0, 0, 0x42,
+];
 
 /// An FDE that sets the location to its first address.
-const SET_LOC: &str = "10000000 ffffffff 04000800 017810 0c0708 9001 \
-    1d000000 00000000 0010000000000000 2000000000000000 01 0010000000000000";
+const SET_LOC: [u8; 53] = [
+    0x10, 0, 0, 0, 0xff, 0xff, 0xff, 0xff, 4, 0, 8, 0, 1, 0x78, 0x10, 0xc, 7, 8, 0x90, 1, 0x1d, 0,
+    0, 0, 0, 0, 0, 0, 0, 0x10, 0, 0, 0, 0, 0, 0, 0x20, 0, 0, 0, 0, 0, 0, 0, 1, 0, 0x10, 0, 0, 0, 0,
+    0, 0,
+];
 
 /// A row: its addresses, its CFA, and the rules of registers 6 and 16.
 pub(crate) type Shown = (
@@ -78,21 +83,29 @@ fn next_shown<R: Reader<Offset = usize>, S: UnwindContextStorage<usize>>(
     }
 }
 
+/// Whether a table yields these answers in order.
+fn yields<R: Reader<Offset = usize>, S: UnwindContextStorage<usize>>(
+    table: &mut UnwindTable<'_, '_, R, S>,
+    answers: Answers<'_>,
+) -> bool {
+    for answer in answers {
+        if next_shown(table) != *answer {
+            return false;
+        }
+    }
+    true
+}
+
 /// Whether the FDE for 0x1000 yields these answers in order, and no current row after the last.
 pub(crate) fn hands_out<R: Reader<Offset = usize>, S: UnwindContextStorage<usize>>(
     section: &DebugFrame<R>,
     context: &mut UnwindContext<usize, S>,
-    answers: &[Result<Option<Shown>, Error>],
+    answers: Answers<'_>,
 ) -> Result<bool, Error> {
     let bases = BaseAddresses::default();
     let fde = scan_for_fde(section, &bases, 0x1000)?;
     let mut table = fde.rows(section, &bases, context)?;
-    for answer in answers {
-        if next_shown(&mut table) != *answer {
-            return Ok(false);
-        }
-    }
-    Ok(table.into_current_row().is_none())
+    Ok(yields(&mut table, answers) && table.into_current_row().is_none())
 }
 
 /// Where the first row of the FDE for 0x1000 ends, by the row that the table leaves.
@@ -103,76 +116,97 @@ fn first_end<R: Reader<Offset = usize>, S: UnwindContextStorage<usize>>(
     let bases = BaseAddresses::default();
     let fde = scan_for_fde(section, &bases, 0x1000)?;
     let mut table = UnwindTable::new(section, &bases, context, &fde)?;
-    let _first = next_shown(&mut table)?;
+    let _first = table.next_row()?;
     match table.into_current_row() {
         Some(row) => Ok(Some(row.end_address())),
         None => Ok(None),
     }
 }
 
-/// A CFA of a register and an offset.
-pub(crate) fn cfa(register: u16, offset: i64) -> CfaRule<usize> {
-    CfaRule::RegisterAndOffset {
-        register: Register(register),
-        offset,
-    }
-}
+/// The CFA that is register 7 and 8.
+pub(crate) const R7_8: CfaRule<usize> = CfaRule::RegisterAndOffset {
+    register: Register(7),
+    offset: 8,
+};
+
+/// The CFA that is register 7 and 16.
+pub(crate) const R7_16: CfaRule<usize> = CfaRule::RegisterAndOffset {
+    register: Register(7),
+    offset: 16,
+};
+
+/// The CFA that is register 7 and 32.
+const R7_32: CfaRule<usize> = CfaRule::RegisterAndOffset {
+    register: Register(7),
+    offset: 32,
+};
+
+/// The CFA that is register 6 and 16.
+pub(crate) const R6_16: CfaRule<usize> = CfaRule::RegisterAndOffset {
+    register: Register(6),
+    offset: 16,
+};
+
+const BY_EXPRESSION: CfaRule<usize> = CfaRule::Expression(UnwindExpression {
+    offset: 48,
+    length: 1,
+});
+
+/// The rule of register 6 where it has one.
+pub(crate) const SAVED: Option<RegisterRule<usize>> = Some(RegisterRule::Offset(-16));
+
+/// The rule of register 16.
+pub(crate) const RETURNS: Option<RegisterRule<usize>> = Some(RegisterRule::Offset(-8));
+
+/// What a table answers in order.
+type Answers<'a> = &'a [Result<Option<Shown>, Error>];
+
+/// A move that leads to the same address ends a row of no addresses.
+const AT_ONCE: Answers<'static> = &[
+    Ok(Some((0x1000, 0x1000, R7_8, None, RETURNS))),
+    Ok(Some((0x1000, 0x1020, R7_8, None, RETURNS))),
+    Ok(None),
+];
+
+const TABLES: [(&[u8], Answers<'static>); 6] = [
+    (&LARGE_FACTOR, AT_ONCE),
+    (&SET_LOC, AT_ONCE),
+    (
+        &THREE_ROWS,
+        &[
+            Ok(Some((0x1000, 0x1001, R7_8, None, RETURNS))),
+            Ok(Some((0x1001, 0x1004, R7_16, SAVED, RETURNS))),
+            Ok(Some((0x1004, 0x1020, R6_16, SAVED, RETURNS))),
+            Ok(None),
+            Ok(None),
+        ],
+    ),
+    (
+        &REMEMBERED,
+        &[
+            Ok(Some((0x1000, 0x1002, R7_32, None, RETURNS))),
+            Ok(Some((0x1002, 0x1020, R7_8, None, RETURNS))),
+            Ok(None),
+        ],
+    ),
+    (
+        &CIE_MOVES,
+        &[Ok(Some((0x1000, 0x1020, R7_8, None, RETURNS))), Ok(None)],
+    ),
+    (
+        &EXPRESSION,
+        &[
+            Err(Error::CfiInstructionInInvalidContext),
+            Ok(Some((0x1000, 0x1020, BY_EXPRESSION, SAVED, RETURNS))),
+            Ok(None),
+        ],
+    ),
+];
 
 #[test]
 fn rows_one_by_one(rt: HostRuntime) -> Result<(), Fail> {
-    let saved = Some(RegisterRule::Offset(-16));
-    let address = Some(RegisterRule::Offset(-8));
-    let expression = CfaRule::Expression(UnwindExpression {
-        offset: 48,
-        length: 1,
-    });
-    let large_factor = bytes_of(rt.alloc(), LARGE_FACTOR)?;
-    let set_loc = bytes_of(rt.alloc(), SET_LOC)?;
-    // A move that leads to the same address ends a row of no addresses.
-    let at_once: &[Result<Option<Shown>, Error>] = &[
-        Ok(Some((0x1000, 0x1000, cfa(7, 8), None, address))),
-        Ok(Some((0x1000, 0x1020, cfa(7, 8), None, address))),
-        Ok(None),
-    ];
-    let tables: [(&[u8], &[Result<Option<Shown>, Error>]); 6] = [
-        (large_factor.as_slice(), at_once),
-        (set_loc.as_slice(), at_once),
-        (
-            &THREE_ROWS,
-            &[
-                Ok(Some((0x1000, 0x1001, cfa(7, 8), None, address))),
-                Ok(Some((0x1001, 0x1004, cfa(7, 16), saved, address))),
-                Ok(Some((0x1004, 0x1020, cfa(6, 16), saved, address))),
-                Ok(None),
-                Ok(None),
-            ],
-        ),
-        (
-            &REMEMBERED,
-            &[
-                Ok(Some((0x1000, 0x1002, cfa(7, 32), None, address))),
-                Ok(Some((0x1002, 0x1020, cfa(7, 8), None, address))),
-                Ok(None),
-            ],
-        ),
-        (
-            &CIE_MOVES,
-            &[
-                Ok(Some((0x1000, 0x1020, cfa(7, 8), None, address))),
-                Ok(None),
-            ],
-        ),
-        (
-            &EXPRESSION,
-            &[
-                Err(Error::CfiInstructionInInvalidContext),
-                Ok(Some((0x1000, 0x1020, expression, saved, address))),
-                Ok(None),
-            ],
-        ),
-    ];
     let mut context: UnwindContext<usize> = UnwindContext::new(rt.alloc())?;
-    for (bytes, answers) in tables {
+    for (bytes, answers) in TABLES {
         let section = DebugFrame::new(bytes, LittleEndian);
         assert_eq!(rt; hands_out(&section, &mut context, answers), Ok(true));
     }
@@ -194,15 +228,16 @@ fn bytes_at(offset: usize, length: usize) -> Result<&'static [u8], Error> {
     Ok(read.slice())
 }
 
+const EXPRESSIONS: [(usize, usize, Result<&[u8], Error>); 4] = [
+    (48, 1, Ok(&[0x30])),
+    (52, 0, Err(Error::UnexpectedEof(ReaderOffsetId(0)))),
+    (48, 4, Err(Error::UnexpectedEof(ReaderOffsetId(48)))),
+    (51, 1, Err(Error::UnexpectedEof(ReaderOffsetId(51)))),
+];
+
 #[test]
 fn the_bytes_of_an_expression(rt: HostRuntime) -> Result<(), Fail> {
-    let expressions: [(usize, usize, Result<&[u8], Error>); 4] = [
-        (48, 1, Ok(&[0x30])),
-        (52, 0, Err(Error::UnexpectedEof(ReaderOffsetId(0)))),
-        (48, 4, Err(Error::UnexpectedEof(ReaderOffsetId(48)))),
-        (51, 1, Err(Error::UnexpectedEof(ReaderOffsetId(51)))),
-    ];
-    for (offset, length, bytes) in expressions {
+    for (offset, length, bytes) in EXPRESSIONS {
         assert_eq!(rt; bytes_at(offset, length), bytes);
     }
     Ok(())
@@ -229,41 +264,42 @@ fn with_changing_cies(
     (answer, asked)
 }
 
+const WITH_CHANGING_CIES: [(u64, Result<Shown, Error>, u32); 3] = [
+    (0x1000, Ok((0x1000, 0x1020, R7_8, None, RETURNS)), 1),
+    (0x2000, Ok((0x2000, 0x2020, R7_16, None, RETURNS)), 2),
+    (0x3000, Err(Error::NoUnwindInfoForAddress), 2),
+];
+
 #[test]
 fn a_get_cie_that_changes(rt: HostRuntime) -> Result<(), Fail> {
     let mut context: UnwindContext<usize> = UnwindContext::new(rt.alloc())?;
-    let address = Some(RegisterRule::Offset(-8));
-    let rows: [(u64, Result<Shown, Error>, u32); 3] = [
-        (0x1000, Ok((0x1000, 0x1020, cfa(7, 8), None, address)), 1),
-        (0x2000, Ok((0x2000, 0x2020, cfa(7, 16), None, address)), 2),
-        (0x3000, Err(Error::NoUnwindInfoForAddress), 2),
-    ];
-    for (address, row, asked) in rows {
+    for (address, row, asked) in WITH_CHANGING_CIES {
         assert_eq!(rt; with_changing_cies(&mut context, address), (row, asked));
     }
     Ok(())
 }
 
-#[test]
-fn a_get_cie_that_refuses(rt: HostRuntime) -> Result<(), Fail> {
+/// Why the two CIEs give no row for an address, the first call being refused.
+fn refused_at_first(context: &mut UnwindContext<usize>, address: u64) -> Option<Error> {
     let section = DebugFrame::new(&TWO_CIES, LittleEndian);
     let bases = BaseAddresses::default();
+    let mut asked = 0u32;
+    let found = section.unwind_info_for_address(&bases, context, address, |from, bases, offset| {
+        if asked == 0 {
+            asked = 1;
+            return Err(Error::UnknownAugmentation);
+        }
+        from.cie_from_offset(bases, offset)
+    });
+    found.err()
+}
+
+#[test]
+fn a_get_cie_that_refuses(rt: HostRuntime) -> Result<(), Fail> {
     let mut context: UnwindContext<usize> = UnwindContext::new(rt.alloc())?;
     for address in [0x1000, 0x2000] {
-        let mut asked = 0u32;
-        let found = section.unwind_info_for_address(
-            &bases,
-            &mut context,
-            address,
-            |from, bases, offset| {
-                if asked == 0 {
-                    asked = 1;
-                    return Err(Error::UnknownAugmentation);
-                }
-                from.cie_from_offset(bases, offset)
-            },
-        );
-        assert_eq!(rt; found.err(), Some(Error::UnknownAugmentation));
+        let refused = refused_at_first(&mut context, address);
+        assert_eq!(rt; refused, Some(Error::UnknownAugmentation));
     }
     Ok(())
 }

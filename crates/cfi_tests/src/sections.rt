@@ -1,7 +1,7 @@
 //! Sections, entries and rows over both readers and both storages.
 use crate::entries::{Settings, only_cie, refusal_at, settings_of};
 use crate::reuse::row_of;
-use crate::rows::{Shown, cfa};
+use crate::rows::{R6_16, R7_8, R7_16, RETURNS, SAVED, Shown};
 use cfi_read_core::{
     DebugFrameOffset, EhFrameOffset, EndianSlice, Error, Format, LittleEndian, NarrowSlice, Reader,
     ReaderOffsetId, Register, Section, SectionId,
@@ -9,7 +9,8 @@ use cfi_read_core::{
 use gimli_cfi::pointer::{BaseAddresses, Pointer};
 use gimli_cfi::section::{DebugFrame, EhFrame, UnwindSection};
 use gimli_cfi::storage::{StoreGrowing, UnwindContextStorage};
-use gimli_cfi::table::{CfaRule, RegisterRule, UnwindContext, row_by_scan};
+use gimli_cfi::table::{CfaRule, UnwindContext, row_by_scan};
+use std::process::Abort;
 use std::test::Fail;
 
 /// A CIE of version 4 (addresses of 8 bytes, factors 1 and -8, return register 16; r7+8, r16 at -8), and an FDE from
@@ -25,40 +26,33 @@ const PERSONALITY: [u8; 21] = [
     0x11, 0, 0, 0, 0, 0, 0, 0, 1, 0x7a, 0x50, 0, 1, 0x78, 0x10, 5, 0x9b, 0x10, 0, 0, 0,
 ];
 
-/// The rows for an address over two storages.
-fn rows_of<
-    R: Reader<Offset = usize>,
-    S: UnwindContextStorage<usize>,
-    T: UnwindContextStorage<usize>,
->(
-    section: &DebugFrame<R>,
-    one: &mut UnwindContext<usize, S>,
-    other: &mut UnwindContext<usize, T>,
-    address: u64,
-) -> (Result<Shown, Error>, Result<Shown, Error>) {
-    (
-        row_of(section, one, address),
-        row_of(section, other, address),
-    )
+/// Addresses and their rows.
+const ROWS: [(u64, Result<Shown, Error>); 4] = [
+    (0x1002, Ok((0x1001, 0x1004, R7_16, SAVED, RETURNS))),
+    (0x1000, Ok((0x1000, 0x1001, R7_8, None, RETURNS))),
+    (0x1020, Err(Error::NoUnwindInfoForAddress)),
+    (0x101f, Ok((0x1004, 0x1020, R6_16, SAVED, RETURNS))),
+];
+
+/// Checks those rows by one context.
+fn check_rows<S: UnwindContextStorage<usize>>(
+    rt: &(impl Abort + AllocGlobal),
+    context: &mut UnwindContext<usize, S>,
+    storage: &str,
+) {
+    let section = DebugFrame::new(&THREE_ROWS, LittleEndian);
+    for (address, row) in ROWS {
+        let found = row_of(&section, context, address);
+        assert_eq!(rt; found, row, "{storage}: {address}");
+    }
 }
 
 #[test]
 fn a_context_is_used_again(rt: HostRuntime) -> Result<(), Fail> {
-    let section = DebugFrame::new(&THREE_ROWS, LittleEndian);
     let mut fixed: UnwindContext<usize> = UnwindContext::new(rt.alloc())?;
+    check_rows(&rt, &mut fixed, "fixed");
     let mut growing: UnwindContext<usize, StoreGrowing> = UnwindContext::new_in(rt.alloc())?;
-    let saved = Some(RegisterRule::Offset(-16));
-    let returns = Some(RegisterRule::Offset(-8));
-    let rows: [(u64, Result<Shown, Error>); 4] = [
-        (0x1002, Ok((0x1001, 0x1004, cfa(7, 16), saved, returns))),
-        (0x1000, Ok((0x1000, 0x1001, cfa(7, 8), None, returns))),
-        (0x1020, Err(Error::NoUnwindInfoForAddress)),
-        (0x101f, Ok((0x1004, 0x1020, cfa(6, 16), saved, returns))),
-    ];
-    for (address, row) in rows {
-        let found = rows_of(&section, &mut fixed, &mut growing, address);
-        assert_eq!(rt; found, (row, row));
-    }
+    check_rows(&rt, &mut growing, "growing");
     Ok(())
 }
 
@@ -71,15 +65,19 @@ fn start_and_cfa<R: Reader, S: UnwindContextStorage<R::Offset>>(
     Ok((row.start_address(), *row.cfa()))
 }
 
+const NARROW_CFA: CfaRule<u32> = CfaRule::RegisterAndOffset {
+    register: Register(7),
+    offset: 16,
+};
+
 #[test]
 fn a_narrow_reader_answers_alike(rt: HostRuntime) -> Result<(), Fail> {
-    let cfa = CfaRule::RegisterAndOffset {
-        register: Register(7),
-        offset: 16,
-    };
     let section = DebugFrame::from(NarrowSlice::new(&THREE_ROWS, LittleEndian)?);
     let mut context: UnwindContext<u32> = UnwindContext::new(rt.alloc())?;
-    assert_eq!(rt; start_and_cfa(&section, &mut context), Ok((0x1001, cfa)));
+    assert_eq!(rt;
+        start_and_cfa(&section, &mut context),
+        Ok((0x1001, NARROW_CFA))
+    );
     Ok(())
 }
 
@@ -93,6 +91,14 @@ fn cie_at_0<R: Reader<Offset = usize>>(
     Ok((settings_of(&cie), part.err()))
 }
 
+/// Sections, offsets, and why there is no CIE at them.
+const REFUSALS: [(&[u8], usize, Error); 4] = [
+    (&THREE_ROWS, 20, Error::NotCieId(20)),
+    (&THREE_ROWS, 52, Error::UnexpectedEof(ReaderOffsetId(52))),
+    (&THREE_ROWS, 53, Error::UnexpectedEof(ReaderOffsetId(0))),
+    (&[0, 0, 0, 0], 0, Error::NoEntryAtGivenOffset(0)),
+];
+
 #[test]
 fn calls_by_offset(rt: HostRuntime) -> Result<(), Fail> {
     let section = DebugFrame::new(&THREE_ROWS, LittleEndian);
@@ -101,13 +107,7 @@ fn calls_by_offset(rt: HostRuntime) -> Result<(), Fail> {
         cie_at_0(&section),
         Ok((settings, Some(Error::NotCiePointer(0))))
     );
-    let refusals: [(&[u8], usize, Error); 4] = [
-        (&THREE_ROWS, 20, Error::NotCieId(20)),
-        (&THREE_ROWS, 52, Error::UnexpectedEof(ReaderOffsetId(52))),
-        (&THREE_ROWS, 53, Error::UnexpectedEof(ReaderOffsetId(0))),
-        (&[0, 0, 0, 0], 0, Error::NoEntryAtGivenOffset(0)),
-    ];
-    for (bytes, offset, refusal) in refusals {
+    for (bytes, offset, refusal) in REFUSALS {
         let section = DebugFrame::new(bytes, LittleEndian);
         assert_eq!(rt; refusal_at(&section, offset), Some(refusal));
     }
