@@ -56,14 +56,15 @@ fn in_eh_frame(alloc: Global, bytes: &[u8]) -> Result<(Answer, Answer), Fail> {
 
 /// What both answer where the section of three rows has so many bytes.
 fn answer_of_a_cut(count: usize) -> Answer {
-    match count {
-        0 | 20 => Err(Error::NoUnwindInfoForAddress),
-        1..=3 => ended(0),
-        4..=19 => ended(4),
-        21..=23 => ended(20),
-        24..=51 => ended(24),
-        _ => Ok((0x1001, 0x1004)),
-    }
+    let place = match count {
+        0 | 20 => return Err(Error::NoUnwindInfoForAddress),
+        1..=3 => 0,
+        4..=19 => 4,
+        21..=23 => 20,
+        24..=51 => 24,
+        _ => return Ok((0x1001, 0x1004)),
+    };
+    ended(place)
 }
 
 /// A section that is cut within an entry ends where the entry's rest would begin.
@@ -80,31 +81,48 @@ fn three_rows_cut(rt: HostRuntime) -> Result<(), Fail> {
     Ok(())
 }
 
+/// An FDE that is its own CIE; CIEs at the section's end, after it, and at a gap; then lengths that are too great. The
+/// refusals over both.
+const REFUSED: [(&str, Error, Error); 7] = [
+    ("04000000 00000000", Error::NotCieId(0), Error::NotCieId(0)),
+    (
+        "04000000 08000000",
+        Error::UnexpectedEof(ReaderOffsetId(8)),
+        Error::UnexpectedEof(ReaderOffsetId(8)),
+    ),
+    (
+        "04000000 09000000",
+        Error::UnexpectedEof(ReaderOffsetId(0)),
+        Error::UnexpectedEof(ReaderOffsetId(0)),
+    ),
+    (
+        "00000000 04000000 00000000",
+        Error::NoEntryAtGivenOffset(0),
+        Error::NoEntryAtGivenOffset(0),
+    ),
+    (
+        "efffffff",
+        Error::UnexpectedEof(ReaderOffsetId(4)),
+        Error::UnexpectedEof(ReaderOffsetId(4)),
+    ),
+    (
+        "ffffffff ffffffffffffffff",
+        Error::UnexpectedEof(ReaderOffsetId(12)),
+        Error::UnsupportedOffset,
+    ),
+    (
+        "ffffffff 0000000001000000",
+        Error::UnexpectedEof(ReaderOffsetId(12)),
+        Error::UnsupportedOffset,
+    ),
+];
+
 #[test]
 fn entries_that_refuse(rt: HostRuntime) -> Result<(), Fail> {
-    let narrow = Err(Error::UnsupportedOffset);
-    // An FDE that is its own CIE; CIEs at the section's end, after it, and at a gap; then lengths that are too great.
-    let sections: [(&str, Answer, Answer); 7] = [
-        (
-            "04000000 00000000",
-            Err(Error::NotCieId(0)),
-            Err(Error::NotCieId(0)),
-        ),
-        ("04000000 08000000", ended(8), ended(8)),
-        ("04000000 09000000", ended(0), ended(0)),
-        (
-            "00000000 04000000 00000000",
-            Err(Error::NoEntryAtGivenOffset(0)),
-            Err(Error::NoEntryAtGivenOffset(0)),
-        ),
-        ("efffffff", ended(4), ended(4)),
-        ("ffffffff ffffffffffffffff", ended(12), narrow),
-        ("ffffffff 0000000001000000", ended(12), narrow),
-    ];
-    for (text, by_wide, by_narrow) in sections {
+    for (text, by_wide, by_narrow) in REFUSED {
         let bytes = bytes_of(rt.alloc(), text)?;
         let found = in_debug_frame(rt.alloc(), bytes.as_slice())?;
-        assert_eq!(rt; found, (by_wide, by_narrow), "{text}");
+        assert_eq!(rt; found, (Err(by_wide), Err(by_narrow)), "{text}");
     }
     Ok(())
 }

@@ -3,7 +3,10 @@ use cfi_callers::all_rows::{count_all_rows, count_rows, last_end};
 use cfi_callers::instructions::expression_bytes;
 use cfi_callers::one_row::{cfa_of, end_of_row, row_of_call, start_of_row};
 use cfi_callers::own_storage::end_in_small;
-use gimli_cfi::{BaseAddresses, EhFrame, EhFrameHdr, LittleEndian, Register, UnwindContext};
+use gimli_cfi::{
+    BaseAddresses, EhFrame, EhFrameHdr, EndianSlice, Error, LittleEndian, Register, UnwindContext,
+};
+use std::alloc::Global;
 use std::test::Fail;
 
 /// A CIE, an FDE of 16 addresses from 0x1000 with two rows, and the end; the section lies at 0x2000.
@@ -31,32 +34,56 @@ fn bases() -> BaseAddresses {
         .set_eh_frame_hdr(0x1f00)
 }
 
-#[test]
-fn one_row(rt: HostRuntime) -> Result<(), Fail> {
+type Frame<'a> = EhFrame<EndianSlice<'a, LittleEndian>>;
+
+/// Where the row of 0x1008 starts by the header's table; none where the header has no table.
+fn start_by_table(frame: &Frame, ctx: &mut UnwindContext<usize>) -> Result<Option<u64>, Error> {
+    let bases = bases();
+    let header = EhFrameHdr::new(&HEADER, LittleEndian).parse(&bases, 8)?;
+    match header.table() {
+        Some(table) => Ok(Some(start_of_row(&table, frame, &bases, ctx, 0x1008)?)),
+        None => Ok(None),
+    }
+}
+
+/// Where the row of the call before 0x1001 ends.
+fn end_of_call(frame: &Frame, ctx: &mut UnwindContext<usize>) -> Result<u64, Error> {
+    Ok(row_of_call(frame, &bases(), ctx, 0x1001)?.end_address())
+}
+
+/// Where rows end and start: by the header, by its table, by a return address, and in a storage of one's own.
+type Places = (
+    Result<u64, Error>,
+    Result<Option<u64>, Error>,
+    Result<u64, Error>,
+    Result<u64, Error>,
+);
+
+fn places(alloc: Global, ctx: &mut UnwindContext<usize>) -> Places {
     let bases = bases();
     let frame = EhFrame::new(&SECTION, LittleEndian);
+    (
+        end_of_row(&frame, &HEADER, &bases, ctx, 0x1000),
+        start_by_table(&frame, ctx),
+        end_of_call(&frame, ctx),
+        end_in_small(alloc, &frame, &bases, 0x1001),
+    )
+}
+
+#[test]
+fn one_row(rt: HostRuntime) -> Result<(), Fail> {
+    let cfas = (
+        cfa_of(rt.alloc(), &SECTION, 0x2000, 0x1008),
+        cfa_of(rt.alloc(), &EXPRESSION, 0x2000, 0x1008),
+    );
     let mut ctx = UnwindContext::<usize>::new(rt.alloc())?;
-    let cfa = cfa_of(rt.alloc(), &SECTION, 0x2000, 0x1008)?;
-    assert_eq!(rt; cfa, Some((Register(7), 16)));
-    let cfa = cfa_of(rt.alloc(), &EXPRESSION, 0x2000, 0x1008)?;
-    assert_eq!(rt; cfa, None);
     assert_eq!(rt;
-        end_of_row(&frame, &HEADER, &bases, &mut ctx, 0x1000)?,
-        0x1001
+        (cfas, places(rt.alloc(), &mut ctx)),
+        (
+            (Ok(Some((Register(7), 16))), Ok(None)),
+            (Ok(0x1001), Ok(Some(0x1001)), Ok(0x1001), Ok(0x1010)),
+        )
     );
-    let header = EhFrameHdr::new(&HEADER, LittleEndian).parse(&bases, 8)?;
-    let Some(table) = header.table() else {
-        return Err(Fail::from("the header has a table"));
-    };
-    assert_eq!(rt;
-        start_of_row(&table, &frame, &bases, &mut ctx, 0x1008)?,
-        0x1001
-    );
-    assert_eq!(rt;
-        row_of_call(&frame, &bases, &mut ctx, 0x1001)?.end_address(),
-        0x1001
-    );
-    assert_eq!(rt; end_in_small(rt.alloc(), &frame, &bases, 0x1001)?, 0x1010);
     Ok(())
 }
 
@@ -65,15 +92,20 @@ fn all_rows(rt: HostRuntime) -> Result<(), Fail> {
     let bases = bases();
     let frame = EhFrame::new(&SECTION, LittleEndian);
     let mut ctx = UnwindContext::<usize>::new(rt.alloc())?;
-    assert_eq!(rt; count_rows(&frame, &bases, &mut ctx, 0x1008)?, 2);
-    assert_eq!(rt; count_all_rows(&frame, &bases, &mut ctx)?, 2);
-    assert_eq!(rt; last_end(&frame, &bases, &mut ctx)?, 0x1010);
+    assert_eq!(rt;
+        (
+            count_rows(&frame, &bases, &mut ctx, 0x1008),
+            count_all_rows(&frame, &bases, &mut ctx),
+            last_end(&frame, &bases, &mut ctx)
+        ),
+        (Ok(2), Ok(2), Ok(0x1010))
+    );
     Ok(())
 }
 
 #[test]
 fn expressions(rt: HostRuntime) -> Result<(), Fail> {
     let frame = EhFrame::new(&EXPRESSION, LittleEndian);
-    assert_eq!(rt; expression_bytes(&frame, &bases(), 0x1008)?, 1);
+    assert_eq!(rt; expression_bytes(&frame, &bases(), 0x1008), Ok(1));
     Ok(())
 }

@@ -109,40 +109,41 @@ fn of_list<A: ArrayLike<Item = u32> + CopyList>(alloc: Global) -> Result<OfList,
     Ok((A::limit(), A::copies_free(), answers::<A>(alloc)?))
 }
 
+const OF_THREE: Answers = (
+    [(None, 2), (None, 12), (None, 123), (FULL, 123), (FULL, 123)],
+    (None, Some(1), 32),
+    (92, 92, None),
+    2,
+);
+
+const OF_ANY: Answers = (
+    [
+        (None, 2),
+        (None, 12),
+        (None, 123),
+        (None, 1234),
+        (None, 51234),
+    ],
+    (Some(4), Some(5), 312),
+    (912, 912, None),
+    2,
+);
+
+/// Of a list of three items, of a boxed one, and of one without a limit.
+const OF_LISTS: [Result<OfList, Error>; 3] = [
+    Ok((Some(3), true, OF_THREE)),
+    Ok((Some(3), false, OF_THREE)),
+    Ok((None, false, OF_ANY)),
+];
+
 #[test]
 fn each_call_of_each_list(rt: HostRuntime) -> Result<(), Fail> {
-    let of_three: Answers = (
-        [(None, 2), (None, 12), (None, 123), (FULL, 123), (FULL, 123)],
-        (None, Some(1), 32),
-        (92, 92, None),
-        2,
-    );
-    let of_any: Answers = (
-        [
-            (None, 2),
-            (None, 12),
-            (None, 123),
-            (None, 1234),
-            (None, 51234),
-        ],
-        (Some(4), Some(5), 312),
-        (912, 912, None),
-        2,
-    );
     let alloc = rt.alloc();
-    let lists: [(OfList, OfList); 3] = [
-        (
-            of_list::<ArrayVec<u32, 3>>(alloc)?,
-            (Some(3), true, of_three),
-        ),
-        (
-            of_list::<Box<ArrayVec<u32, 3>>>(alloc)?,
-            (Some(3), false, of_three),
-        ),
-        (of_list::<Vec<u32>>(alloc)?, (None, false, of_any)),
+    let found = [
+        of_list::<ArrayVec<u32, 3>>(alloc),
+        of_list::<Box<ArrayVec<u32, 3>>>(alloc),
+        of_list::<Vec<u32>>(alloc),
     ];
-    for (found, expected) in lists {
-        assert_eq!(rt; found, expected);
-    }
+    assert_eq!(rt; found, OF_LISTS);
     Ok(())
 }

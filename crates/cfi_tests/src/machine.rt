@@ -100,19 +100,28 @@ fn copied_and_reset<S: UnwindContextStorage<usize>>(
     Ok((is_equal, current_row(context).registers().count()))
 }
 
+/// What three rows that are remembered answer, a rule that is restored, and a copy and a reset.
+type Counted = (
+    [Result<Option<u64>>; 3],
+    Result<(Option<RegisterRule<usize>>, usize)>,
+    Result<(bool, usize)>,
+);
+
+const COUNTED: Counted = (
+    [Ok(None), Ok(None), Err(Error::StackFull)],
+    Ok((Some(RegisterRule::Offset(-16)), 2)),
+    Ok((true, 0)),
+);
+
 #[test]
 fn remembered_rows_are_counted(rt: HostRuntime) -> std::result::Result<(), Fail> {
     let mut context: UnwindContext<usize> = after_a_cie(rt.alloc())?;
-    let rows = remembered(&mut context);
-    let rule = restored(&mut context);
-    assert_eq!(rt;
-        (rows, rule, copied_and_reset(rt.alloc(), &mut context)),
-        (
-            [Ok(None), Ok(None), Err(Error::StackFull)],
-            Ok((Some(RegisterRule::Offset(-16)), 2)),
-            Ok((true, 0)),
-        )
+    let counted = (
+        remembered(&mut context),
+        restored(&mut context),
+        copied_and_reset(rt.alloc(), &mut context),
     );
+    assert_eq!(rt; counted, COUNTED);
     Ok(())
 }
 
@@ -126,26 +135,35 @@ fn past_one<S: UnwindContextStorage<usize>>(alloc: Global) -> Result<[Result<Opt
     ])
 }
 
+/// Gives a context 200 rules and rows.
+fn grow<S: UnwindContextStorage<usize>>(context: &mut UnwindContext<usize, S>) -> Result<()> {
+    for number in 0..200 {
+        run(context, offset(number))?;
+        run(context, CallFrameInstruction::RememberState)?;
+    }
+    Ok(())
+}
+
 /// How many registers have a rule in a context that grew by 200 rules and rows, and where a move then leads.
 fn past_two_hundred<S: UnwindContextStorage<usize>>(alloc: Global) -> Result<(usize, Option<u64>)> {
     let mut growing: UnwindContext<usize, S> = UnwindContext::new_in(alloc)?;
-    for number in 0..200 {
-        run(&mut growing, offset(number))?;
-        run(&mut growing, CallFrameInstruction::RememberState)?;
-    }
+    grow(&mut growing)?;
     let count = current_row(&growing).registers().count();
     let moved = run(&mut growing, CallFrameInstruction::AdvanceLoc { delta: 4 })?;
     Ok((count, moved))
 }
 
+const PAST_ONE: Result<[Result<Option<u64>>; 2]> = Ok([
+    Err(Error::TooManyRegisterRules),
+    Err(Error::StackFull),
+]);
+
+const PAST_TWO_HUNDRED: Result<(usize, Option<u64>)> = Ok((200, Some(0x1004)));
+
 #[test]
 fn limits_are_those_of_the_storage(rt: HostRuntime) -> std::result::Result<(), Fail> {
-    let refused = [Err(Error::TooManyRegisterRules), Err(Error::StackFull)];
     let of_one = past_one::<StoreOfOne>(rt.alloc());
     let of_growing = past_two_hundred::<StoreGrowing>(rt.alloc());
-    assert_eq!(rt;
-        (of_one, of_growing),
-        (Ok(refused), Ok((200, Some(0x1004))))
-    );
+    assert_eq!(rt; (of_one, of_growing), (PAST_ONE, PAST_TWO_HUNDRED));
     Ok(())
 }

@@ -29,29 +29,34 @@ fn ended(place: u64) -> Error {
     Error::UnexpectedEof(ReaderOffsetId(place))
 }
 
+/// The examples of DWARF 5 section 7.6, padding, and the greatest number; what each gives, and the place after it.
+const UNSIGNED: [(&[u8], Result<u64, Error>, u64); 9] = [
+    (&[2], Ok(2), 1),
+    (&[127], Ok(127), 1),
+    (&[0x80, 1], Ok(128), 2),
+    (&[0xb9, 0x64], Ok(12857), 2),
+    (&[0x90, 0x80, 0x00], Ok(16), 3),
+    (
+        &[0xff, 0xff, 0xff, 0xff, 0xff, 0xff, 0xff, 0xff, 0xff, 1],
+        Ok(u64::MAX),
+        10,
+    ),
+    (
+        &[0x80, 0x80, 0x80, 0x80, 0x80, 0x80, 0x80, 0x80, 0x80, 2],
+        Err(Error::BadUnsignedLeb128),
+        10,
+    ),
+    (
+        &[0x80, 0x80],
+        Err(Error::UnexpectedEof(ReaderOffsetId(2))),
+        2,
+    ),
+    (&[], Err(Error::UnexpectedEof(ReaderOffsetId(0))), 0),
+];
+
 #[test]
 fn unsigned_leb128(rt: HostRuntime) -> Result<(), Fail> {
-    // The examples of DWARF 5 section 7.6, padding, and the greatest number.
-    let numbers: [(&[u8], Result<u64, Error>, u64); 9] = [
-        (&[2], Ok(2), 1),
-        (&[127], Ok(127), 1),
-        (&[0x80, 1], Ok(128), 2),
-        (&[0xb9, 0x64], Ok(12857), 2),
-        (&[0x90, 0x80, 0x00], Ok(16), 3),
-        (
-            &[0xff, 0xff, 0xff, 0xff, 0xff, 0xff, 0xff, 0xff, 0xff, 1],
-            Ok(u64::MAX),
-            10,
-        ),
-        (
-            &[0x80, 0x80, 0x80, 0x80, 0x80, 0x80, 0x80, 0x80, 0x80, 2],
-            Err(Error::BadUnsignedLeb128),
-            10,
-        ),
-        (&[0x80, 0x80], Err(ended(2)), 2),
-        (&[], Err(ended(0)), 0),
-    ];
-    for (bytes, read, behind) in numbers {
+    for (bytes, read, behind) in UNSIGNED {
         let wide = uleb128(EndianSlice::new(bytes, LittleEndian));
         let narrow = uleb128(NarrowSlice::new(bytes, BigEndian)?);
         assert_eq!(rt; (wide, narrow), ((read, behind), (read, behind)));
@@ -59,29 +64,31 @@ fn unsigned_leb128(rt: HostRuntime) -> Result<(), Fail> {
     Ok(())
 }
 
+/// The same of signed ones.
+const SIGNED: [(&[u8], Result<i64, Error>, u64); 10] = [
+    (&[2], Ok(2), 1),
+    (&[0x7e], Ok(-2), 1),
+    (&[0xff, 0], Ok(127), 2),
+    (&[0x81, 0x7f], Ok(-127), 2),
+    (&[0x80, 1], Ok(128), 2),
+    (&[0x80, 0x7f], Ok(-128), 2),
+    (&[0x85, 0x80, 0x80, 0x00], Ok(5), 4),
+    (
+        &[0x80, 0x80, 0x80, 0x80, 0x80, 0x80, 0x80, 0x80, 0x80, 0x7f],
+        Ok(i64::MIN),
+        10,
+    ),
+    (
+        &[0x80, 0x80, 0x80, 0x80, 0x80, 0x80, 0x80, 0x80, 0x80, 1],
+        Err(Error::BadSignedLeb128),
+        10,
+    ),
+    (&[0xff], Err(Error::UnexpectedEof(ReaderOffsetId(1))), 1),
+];
+
 #[test]
 fn signed_leb128(rt: HostRuntime) -> Result<(), Fail> {
-    let numbers: [(&[u8], Result<i64, Error>, u64); 10] = [
-        (&[2], Ok(2), 1),
-        (&[0x7e], Ok(-2), 1),
-        (&[0xff, 0], Ok(127), 2),
-        (&[0x81, 0x7f], Ok(-127), 2),
-        (&[0x80, 1], Ok(128), 2),
-        (&[0x80, 0x7f], Ok(-128), 2),
-        (&[0x85, 0x80, 0x80, 0x00], Ok(5), 4),
-        (
-            &[0x80, 0x80, 0x80, 0x80, 0x80, 0x80, 0x80, 0x80, 0x80, 0x7f],
-            Ok(i64::MIN),
-            10,
-        ),
-        (
-            &[0x80, 0x80, 0x80, 0x80, 0x80, 0x80, 0x80, 0x80, 0x80, 1],
-            Err(Error::BadSignedLeb128),
-            10,
-        ),
-        (&[0xff], Err(ended(1)), 1),
-    ];
-    for (bytes, read, behind) in numbers {
+    for (bytes, read, behind) in SIGNED {
         let wide = sleb128(EndianSlice::new(bytes, LittleEndian));
         let narrow = sleb128(NarrowSlice::new(bytes, RunTimeEndian::Big)?);
         assert_eq!(rt; (wide, narrow), ((read, behind), (read, behind)));
