@@ -65,6 +65,19 @@ impl<I> Refusing<I> {
     }
 }
 
+impl<I: Tells> Refusing<I> {
+    /// Whether the growth by an item is the refused one, which that of an item that tells is not.
+    fn refuses_item(&self, item: &I) -> bool {
+        match item.told() {
+            Some(growth) => {
+                self.refused.set(growth);
+                false
+            }
+            None => self.refuses(),
+        }
+    }
+}
+
 fn no_memory<I>(item: I) -> Refused<I>
     ensures { result ≡ record { why = Why.Memory; item = item } }
 {
@@ -107,13 +120,8 @@ impl<I: Tells + Drop> ArrayLike for Refusing<I> {
     }
 
     fn try_push(&mut self, item: I) -> Result<(), Refused<I>> {
-        match item.told() {
-            Some(growth) => self.refused.set(growth),
-            None => {
-                if self.refuses() {
-                    return Err(no_memory(item));
-                }
-            }
+        if self.refuses_item(&item) {
+            return Err(no_memory(item));
         }
         match self.kept.push(item) {
             Ok(()) => Ok(()),
@@ -122,13 +130,8 @@ impl<I: Tells + Drop> ArrayLike for Refusing<I> {
     }
 
     fn try_insert(&mut self, index: usize, item: I) -> Result<(), Refused<I>> {
-        match item.told() {
-            Some(growth) => self.refused.set(growth),
-            None => {
-                if self.refuses() {
-                    return Err(no_memory(item));
-                }
-            }
+        if self.refuses_item(&item) {
+            return Err(no_memory(item));
         }
         match self.kept.insert(index, item) {
             Ok(()) => Ok(()),
@@ -190,17 +193,17 @@ fn telling(alloc: Global, of_rules: u8, of_rows: u8) -> Result<Vec<u8>, Fail> {
     Ok(bytes)
 }
 
-/// A context whose lists are told which of their growths to refuse in the next unwind.
-fn told_context<S: UnwindContextStorage<usize>>(
+/// Tells the lists of a context which of their growths to refuse in the next unwind.
+fn tell<S: UnwindContextStorage<usize>>(
     alloc: Global,
+    context: &mut UnwindContext<usize, S>,
     of_rules: u8,
     of_rows: u8,
-) -> Result<UnwindContext<usize, S>, Fail> {
+) -> Result<(), Fail> {
     let bytes = telling(alloc, of_rules, of_rows)?;
-    let mut context: UnwindContext<usize, S> = UnwindContext::new_in(alloc)?;
     let section = DebugFrame::new(bytes.as_slice(), LittleEndian);
-    let _told = row_of(&section, &mut context, 0x1000)?;
-    Ok(context)
+    let _told = row_of(&section, context, 0x1000)?;
+    Ok(())
 }
 
 /// Sections with states that are remembered, in a CIE, in an FDE and in both; the address of the last row.
@@ -254,34 +257,88 @@ struct Unwind<'a, R> {
 /// One more than the last of the growths that are refused in turn.
 const GROWTHS: u8 = 20;
 
+/// Whether an unwind by a fresh context meets the growth of the rules or of the rows that is refused, after which the
+/// context serves.
+fn meets<R: Reader<Offset = usize>, S: UnwindContextStorage<usize>>(
+    rt: &(impl Abort + AllocGlobal),
+    of: &Unwind<'_, R>,
+    context: &mut UnwindContext<usize, S>,
+    of_rules: u8,
+    of_rows: u8,
+) -> Result<bool, Fail> {
+    tell(rt.alloc(), context, of_rules, of_rows)?;
+    let answer = row_of(&of.section, context, of.address);
+    if answer == of.row {
+        return Ok(false);
+    }
+    assert_eq!(rt;
+        answer,
+        Err(Error::OutOfMemory),
+        "{}: growth {of_rules} of rules, {of_rows} of rows",
+        of.text
+    );
+    check_three_rows(rt, context, of.text)?;
+    Ok(true)
+}
+
 /// How many growths of the rules or of the rows an unwind meets, or `GROWTHS` where that is not known.
 fn growths_met<R: Reader<Offset = usize>, S: UnwindContextStorage<usize>>(
     rt: &(impl Abort + AllocGlobal),
     of: &Unwind<'_, R>,
     refuses_rows: bool,
 ) -> Result<u8, Fail> {
-    let mut met = 0u8;
     for growth in 1..GROWTHS {
         let (of_rules, of_rows) = if refuses_rows {
             (0, growth)
         } else {
             (growth, 0)
         };
-        let mut context: UnwindContext<usize, S> = told_context(rt.alloc(), of_rules, of_rows)?;
-        let answer = row_of(&of.section, &mut context, of.address);
-        if answer == of.row {
-            return Ok(met);
+        let mut context: UnwindContext<usize, S> = UnwindContext::new_in(rt.alloc())?;
+        if !meets(rt, of, &mut context, of_rules, of_rows)? {
+            return Ok(growth.saturating_sub(1));
         }
-        assert_eq!(rt;
-            answer,
-            Err(Error::OutOfMemory),
-            "{}: growth {growth}",
-            of.text
-        );
-        check_three_rows(rt, &mut context, of.text)?;
-        met = growth;
     }
     Ok(GROWTHS)
+}
+
+/// Checks an unwind with each of its growths refused in turn; whether one of them was of rows.
+fn check_growths<R: Reader<Offset = usize>>(
+    rt: &(impl Abort + AllocGlobal),
+    of: &Unwind<'_, R>,
+) -> Result<bool, Fail> {
+    let of_rules = growths_met::<_, StoreRefusing>(rt, of, false)?;
+    let of_rows = growths_met::<_, StoreRefusing>(rt, of, true)?;
+    assert_eq!(rt;
+        (
+            of.row.is_ok(),
+            0 < of_rules && of_rules < GROWTHS,
+            of_rows < GROWTHS
+        ),
+        (true, true, true),
+        "{}: {of_rules} growths of rules, {of_rows} of rows",
+        of.text
+    );
+    Ok(of_rows > 0)
+}
+
+/// Checks that unwind for the section of a text.
+fn check_section(
+    rt: &(impl Abort + AllocGlobal),
+    growing: &mut UnwindContext<usize, StoreGrowing>,
+    text: &str,
+    address: u64,
+) -> Result<bool, Fail> {
+    let bytes = bytes_of(rt.alloc(), text)?;
+    let mut section = DebugFrame::new(bytes.as_slice(), LittleEndian);
+    section.set_vendor(Vendor::AArch64);
+    let row = row_of(&section, growing, address);
+    let of = Unwind {
+        text,
+        section,
+        address,
+        row,
+    };
+    check_growths(rt, &of)
 }
 
 #[test]
@@ -289,29 +346,8 @@ fn each_growth_in_turn(rt: HostRuntime) -> Result<(), Fail> {
     let mut growing: UnwindContext<usize, StoreGrowing> = UnwindContext::new_in(rt.alloc())?;
     let mut grew_rows = false;
     for (text, address) in SECTIONS {
-        let bytes = bytes_of(rt.alloc(), text)?;
-        let mut section = DebugFrame::new(bytes.as_slice(), LittleEndian);
-        section.set_vendor(Vendor::AArch64);
-        let row = row_of(&section, &mut growing, address);
-        let of = Unwind {
-            text,
-            section,
-            address,
-            row,
-        };
-        let of_rules = growths_met::<_, StoreRefusing>(&rt, &of, false)?;
-        let of_rows = growths_met::<_, StoreRefusing>(&rt, &of, true)?;
         // A row that the stack once grew is used again, so not every section grows it.
-        grew_rows = grew_rows || of_rows > 0;
-        assert_eq!(rt;
-            (
-                row.is_ok(),
-                0 < of_rules && of_rules < GROWTHS,
-                of_rows < GROWTHS
-            ),
-            (true, true, true),
-            "{text}: {of_rules} growths of rules, {of_rows} of rows"
-        );
+        grew_rows |= check_section(&rt, &mut growing, text, address)?;
     }
     assert!(rt; grew_rows);
     Ok(())
