@@ -2,9 +2,9 @@
 //!
 //! The contracts of calls that take the closure by value leave its last state open; the counts stand here.
 use crate::searches::{
-    HEADER, SECTION, Slice, bases, ended, read_header, second_target, start_of, table_of,
+    HEADER, SECTION, bases, ended, read_header, second_target, start_of, table_of,
 };
-use cfi_read_core::{DebugFrameOffset, Error, LittleEndian};
+use cfi_read_core::{DebugFrameOffset, Error, LittleEndian, Reader};
 use gimli_cfi::entry::{CommonInformationEntry, FrameDescriptionEntry};
 use gimli_cfi::hdr::EhHdrTable;
 use gimli_cfi::pointer::BaseAddresses;
@@ -27,7 +27,9 @@ type Asked<T> = (Result<T, Error>, u32);
 /// What a call for an FDE answers, and what one for a row.
 type Both = (Asked<usize>, Asked<u64>);
 
-fn offset_of(found: Result<FrameDescriptionEntry<Slice<'_>>, Error>) -> Result<usize, Error> {
+fn offset_of<R: Reader<Offset = usize>>(
+    found: Result<FrameDescriptionEntry<R>, Error>,
+) -> Result<usize, Error> {
     match found {
         Ok(fde) => Ok(fde.offset()),
         Err(refusal) => Err(refusal),
@@ -36,12 +38,12 @@ fn offset_of(found: Result<FrameDescriptionEntry<Slice<'_>>, Error>) -> Result<u
 
 /// What the closures for FDEs answer. Those for rows call the section themselves: a CIE has to be of the section there,
 /// as only that call promises.
-fn debug_frame_cie<'a>(
-    from: &DebugFrame<Slice<'a>>,
+fn debug_frame_cie<R: Reader<Offset = usize>>(
+    from: &DebugFrame<R>,
     bases: &BaseAddresses,
     offset: DebugFrameOffset<usize>,
     refuses: bool,
-) -> Result<CommonInformationEntry<Slice<'a>>, Error> {
+) -> Result<CommonInformationEntry<R>, Error> {
     if refuses {
         return Err(Error::UnknownAugmentation);
     }
@@ -49,8 +51,11 @@ fn debug_frame_cie<'a>(
 }
 
 /// `PartialFrameDescriptionEntry::parse` of the FDE at an offset.
-fn parsed(offset: usize, refuses: bool) -> Asked<usize> {
-    let section = DebugFrame::new(&FDES, LittleEndian);
+fn parsed<R: Reader<Offset = usize>>(
+    section: &DebugFrame<R>,
+    offset: usize,
+    refuses: bool,
+) -> Asked<usize> {
     let bases = BaseAddresses::default();
     let mut asked = 0u32;
     let read = match section.partial_fde_from_offset(&bases, DebugFrameOffset(offset)) {
@@ -64,8 +69,11 @@ fn parsed(offset: usize, refuses: bool) -> Asked<usize> {
 }
 
 /// `UnwindSection::fde_from_offset`.
-fn at_offset(offset: usize, refuses: bool) -> Asked<usize> {
-    let section = DebugFrame::new(&FDES, LittleEndian);
+fn at_offset<R: Reader<Offset = usize>>(
+    section: &DebugFrame<R>,
+    offset: usize,
+    refuses: bool,
+) -> Asked<usize> {
     let bases = BaseAddresses::default();
     let mut asked = 0u32;
     let read = section.fde_from_offset(&bases, DebugFrameOffset(offset), |from, bases, offset| {
@@ -75,9 +83,12 @@ fn at_offset(offset: usize, refuses: bool) -> Asked<usize> {
     (offset_of(read), asked)
 }
 
-/// `UnwindSection::fde_for_address` over so many bytes of the FDEs.
-fn for_address(bytes: &[u8], address: u64, refuses: bool) -> Asked<usize> {
-    let section = DebugFrame::new(bytes, LittleEndian);
+/// `UnwindSection::fde_for_address`.
+fn for_address<R: Reader<Offset = usize>>(
+    section: &DebugFrame<R>,
+    address: u64,
+    refuses: bool,
+) -> Asked<usize> {
     let bases = BaseAddresses::default();
     let mut asked = 0u32;
     let found = section.fde_for_address(&bases, address, |from, bases, offset| {
@@ -87,14 +98,13 @@ fn for_address(bytes: &[u8], address: u64, refuses: bool) -> Asked<usize> {
     (offset_of(found), asked)
 }
 
-/// `UnwindSection::unwind_info_for_address` over so many bytes of the FDEs: the first address of the row.
-fn row_for_address(
+/// `UnwindSection::unwind_info_for_address`: the first address of the row.
+fn row_for_address<R: Reader<Offset = usize>>(
     context: &mut UnwindContext<usize>,
-    bytes: &[u8],
+    section: &DebugFrame<R>,
     address: u64,
     refuses: bool,
 ) -> Asked<u64> {
-    let section = DebugFrame::new(bytes, LittleEndian);
     let bases = BaseAddresses::default();
     let mut asked = 0u32;
     let found = section.unwind_info_for_address(&bases, context, address, |from, bases, offset| {
@@ -107,16 +117,17 @@ fn row_for_address(
     (start_of(found), asked)
 }
 
-/// Both calls for an address.
+/// Both calls for an address over so many bytes of the FDEs.
 fn by_scan(context: &mut UnwindContext<usize>, bytes: &[u8], address: u64, refuses: bool) -> Both {
-    let fde = for_address(bytes, address, refuses);
-    (fde, row_for_address(context, bytes, address, refuses))
+    let section = DebugFrame::new(bytes, LittleEndian);
+    let fde = for_address(&section, address, refuses);
+    (fde, row_for_address(context, &section, address, refuses))
 }
 
 /// `EhHdrTable::fde_for_address`.
-pub(crate) fn fde_by_table(
-    table: &EhHdrTable<'_, Slice<'_>>,
-    frame: &EhFrame<Slice<'_>>,
+pub(crate) fn fde_by_table<R: Reader<Offset = usize>>(
+    table: &EhHdrTable<'_, R>,
+    frame: &EhFrame<R>,
     address: u64,
     refuses: bool,
 ) -> Asked<usize> {
@@ -132,10 +143,10 @@ pub(crate) fn fde_by_table(
 }
 
 /// `EhHdrTable::unwind_info_for_address`: the first address of the row.
-fn row_by_table(
+fn row_by_table<R: Reader<Offset = usize>>(
     context: &mut UnwindContext<usize>,
-    table: &EhHdrTable<'_, Slice<'_>>,
-    frame: &EhFrame<Slice<'_>>,
+    table: &EhHdrTable<'_, R>,
+    frame: &EhFrame<R>,
     address: u64,
     refuses: bool,
 ) -> Asked<u64> {
@@ -183,7 +194,11 @@ fn both_refused(refusal: Error, asked: u32) -> Both {
 
 /// Both calls for the FDE at an offset.
 fn read_at(offset: usize, refuses: bool) -> [Asked<usize>; 2] {
-    [at_offset(offset, refuses), parsed(offset, refuses)]
+    let section = DebugFrame::new(&FDES, LittleEndian);
+    [
+        at_offset(&section, offset, refuses),
+        parsed(&section, offset, refuses),
+    ]
 }
 
 #[test]
@@ -210,23 +225,31 @@ fn one_fde_asks_once(rt: HostRuntime) {
 #[test]
 fn a_scan_asks_once_an_fde(rt: HostRuntime) -> Result<(), Fail> {
     let mut context: UnwindContext<usize> = UnwindContext::new(rt.alloc())?;
-    let found = [
-        by_scan(&mut context, &FDES, 0x1008, false),
-        by_scan(&mut context, &FDES, 0x201f, false),
-        by_scan(&mut context, &FDES[..68], 0x3000, false),
-        by_scan(&mut context, &FDES[..66], 0x2008, false),
-        by_scan(&mut context, &FDES, 0x3000, false),
-        by_scan(&mut context, &FDES, 0x2008, true),
+    let cases: [(&[u8], u64, bool, Both); 6] = [
+        (&FDES, 0x1008, false, both_found(20, 0x1000, 1)),
+        (&FDES, 0x201f, false, both_found(44, 0x2000, 2)),
+        (
+            &FDES[..68],
+            0x3000,
+            false,
+            both_refused(Error::NoUnwindInfoForAddress, 2),
+        ),
+        (&FDES[..66], 0x2008, false, both_refused(ended(48), 1)),
+        (&FDES, 0x3000, false, both_refused(ended(84), 3)),
+        (
+            &FDES,
+            0x2008,
+            true,
+            both_refused(Error::UnknownAugmentation, 1),
+        ),
     ];
-    let expected = [
-        both_found(20, 0x1000, 1),
-        both_found(44, 0x2000, 2),
-        both_refused(Error::NoUnwindInfoForAddress, 2),
-        both_refused(ended(48), 1),
-        both_refused(ended(84), 3),
-        both_refused(Error::UnknownAugmentation, 1),
-    ];
-    assert_eq!(rt; found, expected);
+    for (bytes, address, refuses, both) in cases {
+        assert_eq!(rt;
+            by_scan(&mut context, bytes, address, refuses),
+            both,
+            "for {address}"
+        );
+    }
     Ok(())
 }
 
@@ -236,22 +259,41 @@ fn a_table_asks_once(rt: HostRuntime) -> Result<(), Fail> {
     let mut cut = SECTION;
     cut[60] = 0x20;
     let before = second_target([0, 1, 0, 0]);
-    let found = [
-        by_table(&mut context, &SECTION, &HEADER, 0x1018, false),
-        by_table(&mut context, &SECTION, &HEADER, 0xff0, false),
-        by_table(&mut context, &SECTION, &HEADER, 0x1040, false),
-        by_table(&mut context, &SECTION, &before, 0x1018, false),
-        by_table(&mut context, &cut, &HEADER, 0x1018, false),
-        by_table(&mut context, &SECTION, &HEADER, 0x1018, true),
+    let cases: [(&[u8], &[u8], u64, bool, Both); 6] = [
+        (&SECTION, &HEADER, 0x1018, false, both_found(44, 0x1011, 1)),
+        (
+            &SECTION,
+            &HEADER,
+            0xff0,
+            false,
+            both_refused(Error::NoUnwindInfoForAddress, 1),
+        ),
+        (
+            &SECTION,
+            &HEADER,
+            0x1040,
+            false,
+            both_refused(Error::NoUnwindInfoForAddress, 1),
+        ),
+        (
+            &SECTION,
+            &before,
+            0x1018,
+            false,
+            both_refused(Error::NotCiePointer(0), 0),
+        ),
+        (&cut, &HEADER, 0x1018, false, both_refused(ended(61), 1)),
+        (
+            &SECTION,
+            &HEADER,
+            0x1018,
+            true,
+            both_refused(Error::UnknownAugmentation, 1),
+        ),
     ];
-    let expected = [
-        Ok(both_found(44, 0x1011, 1)),
-        Ok(both_refused(Error::NoUnwindInfoForAddress, 1)),
-        Ok(both_refused(Error::NoUnwindInfoForAddress, 1)),
-        Ok(both_refused(Error::NotCiePointer(0), 0)),
-        Ok(both_refused(ended(61), 1)),
-        Ok(both_refused(Error::UnknownAugmentation, 1)),
-    ];
-    assert_eq!(rt; found, expected);
+    for (section, header, address, refuses, both) in cases {
+        let found = by_table(&mut context, section, header, address, refuses);
+        assert_eq!(rt; found, Ok(both), "for {address}");
+    }
     Ok(())
 }

@@ -1,8 +1,8 @@
 //! Tables of `.eh_frame_hdr` that list the FDEs of their section faithfully, and the faults of others.
 
 use crate::searches::{HEADER, SECTION, bases, ended, read_header, start_of, table_of};
-use cfi_read_core::{DwEhPe, Error, LittleEndian};
-use gimli_cfi::hdr::{FaithfulTable, Unfaithful};
+use cfi_read_core::{DwEhPe, Error, LittleEndian, Reader};
+use gimli_cfi::hdr::{FaithfulTable, ParsedEhFrameHdr, Unfaithful};
 use gimli_cfi::section::EhFrame;
 use gimli_cfi::table::{UnwindContext, row_by_scan};
 use std::test::Fail;
@@ -10,14 +10,17 @@ use std::test::Fail;
 /// The reason against a header's table; none where it is faithful.
 type Reason = Result<Option<Unfaithful>, Error>;
 
-fn reason(header: &[u8], section: &[u8]) -> Reason {
-    let bases = bases();
-    let frame = EhFrame::new(section, LittleEndian);
-    let parsed = read_header(header, &bases)?;
-    match FaithfulTable::new(&table_of(&parsed)?, &frame, &bases) {
+fn reason_in<R: Reader>(parsed: &ParsedEhFrameHdr<R>, frame: &EhFrame<R>) -> Reason {
+    match FaithfulTable::new(&table_of(parsed)?, frame, &bases()) {
         Ok(_) => Ok(None),
         Err(reason) => Ok(Some(reason)),
     }
+}
+
+/// The same for a header's bytes and a section's.
+fn reason(header: &[u8], section: &[u8]) -> Reason {
+    let frame = EhFrame::new(section, LittleEndian);
+    reason_in(&read_header(header, &bases())?, &frame)
 }
 
 /// The bytes with these in place of those from an index on.
@@ -197,23 +200,25 @@ fn refused_parts(rt: HostRuntime) {
 }
 
 /// The first address of the row for an address by a checked table.
-fn by_checked_table(
+fn by_checked_table<R: Reader<Offset = usize>>(
+    parsed: &ParsedEhFrameHdr<R>,
+    frame: &EhFrame<R>,
     context: &mut UnwindContext<usize>,
     address: u64,
 ) -> Result<Result<u64, Error>, Error> {
-    let bases = bases();
-    let frame = EhFrame::new(&SECTION, LittleEndian);
-    let parsed = read_header(&HEADER, &bases)?;
-    match FaithfulTable::new(&table_of(&parsed)?, &frame, &bases) {
+    match FaithfulTable::new(&table_of(parsed)?, frame, &bases()) {
         Ok(checked) => Ok(start_of(checked.row(context, address))),
         Err(_) => Err(Error::NoUnwindInfoForAddress),
     }
 }
 
 /// The same by going through the section.
-fn by_scan(context: &mut UnwindContext<usize>, address: u64) -> Result<u64, Error> {
-    let frame = EhFrame::new(&SECTION, LittleEndian);
-    start_of(row_by_scan(&frame, &bases(), context, address))
+fn by_scan<R: Reader<Offset = usize>>(
+    frame: &EhFrame<R>,
+    context: &mut UnwindContext<usize>,
+    address: u64,
+) -> Result<u64, Error> {
+    start_of(row_by_scan(frame, &bases(), context, address))
 }
 
 /// Both for an address, the table first.
@@ -221,28 +226,29 @@ fn both_ways(
     context: &mut UnwindContext<usize>,
     address: u64,
 ) -> Result<[Result<u64, Error>; 2], Error> {
-    let by_table = by_checked_table(context, address)?;
-    Ok([by_table, by_scan(context, address)])
+    let frame = EhFrame::new(&SECTION, LittleEndian);
+    let parsed = read_header(&HEADER, &bases())?;
+    let by_table = by_checked_table(&parsed, &frame, context, address)?;
+    Ok([by_table, by_scan(&frame, context, address)])
 }
 
 #[test]
 fn rows_by_a_checked_table(rt: HostRuntime) -> Result<(), Fail> {
     let mut context: UnwindContext<usize> = UnwindContext::new(rt.alloc())?;
-    let found = [
-        both_ways(&mut context, 0xfff),
-        both_ways(&mut context, 0x1000),
-        both_ways(&mut context, 0x1011),
-        both_ways(&mut context, 0x103f),
-        both_ways(&mut context, 0x1040),
-    ];
     let none = Err(Error::NoUnwindInfoForAddress);
-    let expected = [
-        Ok([none; 2]),
-        Ok([Ok(0x1000); 2]),
-        Ok([Ok(0x1011); 2]),
-        Ok([Ok(0x1020); 2]),
-        Ok([none; 2]),
+    let starts = [
+        (0xfff, none),
+        (0x1000, Ok(0x1000)),
+        (0x1011, Ok(0x1011)),
+        (0x103f, Ok(0x1020)),
+        (0x1040, none),
     ];
-    assert_eq!(rt; found, expected);
+    for (address, start) in starts {
+        assert_eq!(rt;
+            both_ways(&mut context, address),
+            Ok([start; 2]),
+            "for {address}"
+        );
+    }
     Ok(())
 }

@@ -60,9 +60,9 @@ pub(crate) fn read_header<'a>(
 }
 
 /// The header's table, which these tests expect to be there.
-pub(crate) fn table_of<'a>(
-    parsed: &'a ParsedEhFrameHdr<Slice<'a>>,
-) -> Result<EhHdrTable<'a, Slice<'a>>, Error> {
+pub(crate) fn table_of<R: Reader>(
+    parsed: &ParsedEhFrameHdr<R>,
+) -> Result<EhHdrTable<'_, R>, Error> {
     match parsed.table() {
         Some(table) => Ok(table),
         None => Err(Error::NoUnwindInfoForAddress),
@@ -72,7 +72,8 @@ pub(crate) fn table_of<'a>(
 /// The addresses of a row, and the offset of its CFA from register 7.
 type Shown = (u64, u64, Option<i64>);
 
-fn shown(row: &HeapRow) -> Shown {
+fn shown(found: Result<&HeapRow, Error>) -> Result<Shown, Error> {
+    let row = found?;
     let offset = match *row.cfa() {
         CfaRule::RegisterAndOffset {
             register: Register(7),
@@ -80,7 +81,7 @@ fn shown(row: &HeapRow) -> Shown {
         } => Some(offset),
         _ => None,
     };
-    (row.start_address(), row.end_address(), offset)
+    Ok((row.start_address(), row.end_address(), offset))
 }
 
 /// The first address of a row.
@@ -92,16 +93,16 @@ pub(crate) fn start_of(found: Result<&HeapRow, Error>) -> Result<u64, Error> {
 }
 
 /// The row for an address by a table and its starts.
-fn row_by_starts(
-    table: &EhHdrTable<'_, Slice<'_>>,
+fn row_by_starts<R: Reader<Offset = usize>>(
+    parsed: &ParsedEhFrameHdr<R>,
+    frame: &EhFrame<R>,
     context: &mut UnwindContext<usize>,
     address: u64,
 ) -> Result<Shown, Error> {
     let bases = bases();
-    let frame = EhFrame::new(&SECTION, LittleEndian);
-    let mut starts = TableStarts::new(table, &bases)?;
-    let row = row_by_table(table, &mut starts, &frame, &bases, context, address)?;
-    Ok(shown(row))
+    let table = table_of(parsed)?;
+    let mut starts = TableStarts::new(&table, &bases)?;
+    shown(row_by_table(&table, &mut starts, frame, &bases, context, address))
 }
 
 /// The same by a header's bytes.
@@ -110,46 +111,57 @@ fn by_table(
     context: &mut UnwindContext<usize>,
     address: u64,
 ) -> Result<Shown, Error> {
+    let frame = EhFrame::new(&SECTION, LittleEndian);
     let parsed = read_header(header, &bases())?;
-    row_by_starts(&table_of(&parsed)?, context, address)
+    row_by_starts(&parsed, &frame, context, address)
 }
 
 /// The row for an address by a table, asked for CIEs.
-fn row_by_cies(
-    table: &EhHdrTable<'_, Slice<'_>>,
+fn row_by_cies<R: Reader<Offset = usize>>(
+    parsed: &ParsedEhFrameHdr<R>,
+    frame: &EhFrame<R>,
     context: &mut UnwindContext<usize>,
     address: u64,
 ) -> Result<Shown, Error> {
-    let frame = EhFrame::new(&SECTION, LittleEndian);
+    let table = table_of(parsed)?;
     let get_cie = EhFrame::cie_from_offset;
-    let row = table.unwind_info_for_address(&frame, &bases(), context, address, get_cie)?;
-    Ok(shown(row))
+    shown(table.unwind_info_for_address(frame, &bases(), context, address, get_cie))
 }
 
 /// The same by the header.
 fn by_table_and_cies(context: &mut UnwindContext<usize>, address: u64) -> Result<Shown, Error> {
+    let frame = EhFrame::new(&SECTION, LittleEndian);
     let parsed = read_header(&HEADER, &bases())?;
-    row_by_cies(&table_of(&parsed)?, context, address)
+    row_by_cies(&parsed, &frame, context, address)
 }
 
 /// The row for an address by going through the section.
 fn by_scan(context: &mut UnwindContext<usize>, address: u64) -> Result<Shown, Error> {
     let frame = EhFrame::new(&SECTION, LittleEndian);
-    let row = row_by_scan(&frame, &bases(), context, address)?;
-    Ok(shown(row))
+    shown(row_by_scan(&frame, &bases(), context, address))
 }
 
-/// The target of an address by a header's table.
+/// The target of an address by a header that was read.
+fn looked_up_by<R: Reader>(parsed: &ParsedEhFrameHdr<R>, address: u64) -> Result<Pointer, Error> {
+    table_of(parsed)?.lookup(address, &bases())
+}
+
+/// The same by a header's bytes.
 fn looked_up(header: &[u8], address: u64) -> Result<Pointer, Error> {
-    let bases = bases();
-    let parsed = read_header(header, &bases)?;
-    table_of(&parsed)?.lookup(address, &bases)
+    looked_up_by(&read_header(header, &bases())?, address)
 }
 
-/// The offset in the section of a target.
+/// The offset in the section of a target, by a header that was read.
+fn offset_by<R: Reader<Offset = usize>>(
+    parsed: &ParsedEhFrameHdr<R>,
+    target: Pointer,
+) -> Result<EhFrameOffset<usize>, Error> {
+    table_of(parsed)?.pointer_to_offset(target)
+}
+
+/// The same by the header.
 fn offset_of(target: Pointer) -> Result<EhFrameOffset<usize>, Error> {
-    let parsed = read_header(&HEADER, &bases())?;
-    table_of(&parsed)?.pointer_to_offset(target)
+    offset_by(&read_header(&HEADER, &bases())?, target)
 }
 
 /// The offset of the FDE that a header's table names for an address, or a refusal of its CIE.
@@ -330,18 +342,17 @@ fn passed_in_narrow(header: &[u8], count: usize) -> Result<Option<Passed>, Error
     Ok(passed(&parsed, &bases, count))
 }
 
-/// What the first call answers.
-fn first_row(header: &[u8]) -> Row {
+/// What the first call answers, and whether the starts of the table can be read one by one.
+fn first_row_and_starts<R: Reader>(parsed: &ParsedEhFrameHdr<R>) -> Option<(Row, bool)> {
     let bases = bases();
-    let parsed = read_header(header, &bases)?;
-    table_of(&parsed)?.iter(&bases).next()
+    let table = parsed.table()?;
+    let row = table.iter(&bases).next();
+    Some((row, TableStarts::new(&table, &bases).is_ok()))
 }
 
-/// Whether the starts of a header's table can be read one by one.
-fn has_starts(header: &[u8]) -> Result<bool, Error> {
-    let bases = bases();
-    let parsed = read_header(header, &bases)?;
-    Ok(TableStarts::new(&table_of(&parsed)?, &bases).is_ok())
+/// The same over a header's bytes.
+fn first_in(header: &[u8]) -> Result<Option<(Row, bool)>, Error> {
+    Ok(first_row_and_starts(&read_header(header, &bases())?))
 }
 
 #[test]
@@ -355,16 +366,18 @@ fn rows_passed_at_once(rt: HostRuntime) {
     ];
     let second = (Pointer::Direct(0x1010), Pointer::Direct(0x202c));
     let third = (Pointer::Direct(0x1020), Pointer::Direct(0x2040));
+    // The first bytes of the rows as two LEB128 numbers, 0 and 0x31f_fff1.
+    let first = Ok(Some((Pointer::Direct(0x1f00), Pointer::Direct(0x320_1ef1))));
     let refusal = Error::UnsupportedPointerEncoding(DwEhPe(0x31));
     let expected = [
         Ok(Some((Ok(Some(second)), 1, Ok(Some(third))))),
         Ok(Some((Ok(Some(third)), 0, Ok(None)))),
         Ok(Some((Ok(None), 0, Ok(None)))),
-        Ok(Some((Err(refusal), 3, first_row(&other)))),
+        Ok(Some((Err(refusal), 3, first))),
     ];
     assert_eq!(rt;
-        (found, looked_up(&other, 0x1018), has_starts(&other)),
-        (expected, Err(refusal), Ok(false))
+        (found, looked_up(&other, 0x1018), first_in(&other)),
+        (expected, Err(refusal), Ok(Some((first, false))))
     );
 }
 
@@ -489,12 +502,13 @@ fn searches_by_halving(rt: HostRuntime) {
 }
 
 /// The target of an address by a table and its starts.
-fn looked_up_in(
-    table: &EhHdrTable<'_, Slice<'_>>,
+fn looked_up_in<R: Reader>(
+    parsed: &ParsedEhFrameHdr<R>,
     bases: &BaseAddresses,
     address: u64,
 ) -> Result<Pointer, Error> {
-    let mut starts = TableStarts::new(table, bases)?;
+    let table = table_of(parsed)?;
+    let mut starts = TableStarts::new(&table, bases)?;
     table.lookup_in(&mut starts, address, bases)
 }
 
@@ -502,9 +516,8 @@ fn looked_up_in(
 fn a_search_with_the_starts_of_the_table(rt: HostRuntime) -> Result<(), Fail> {
     let bases = BaseAddresses::default().set_eh_frame_hdr(0x1f00);
     let parsed = read_header(&HEADER, &bases)?;
-    let target = looked_up_in(&table_of(&parsed)?, &bases, 0x1018);
     assert_eq!(rt;
-        (target, parsed.eh_frame_ptr()),
+        (looked_up_in(&parsed, &bases, 0x1018), parsed.eh_frame_ptr()),
         (Ok(Pointer::Direct(0x202c)), Pointer::Direct(0x2000))
     );
     Ok(())
