@@ -168,7 +168,19 @@ fn row_by_table<R: Reader<Offset = usize>>(
     (start_of(found), asked)
 }
 
-/// Both calls for an address by a header's table.
+/// Both calls for an address by a table.
+fn both_by_table<R: Reader<Offset = usize>>(
+    context: &mut UnwindContext<usize>,
+    table: &EhHdrTable<'_, R>,
+    frame: &EhFrame<R>,
+    address: u64,
+    refuses: bool,
+) -> Both {
+    let fde = fde_by_table(table, frame, address, refuses);
+    (fde, row_by_table(context, table, frame, address, refuses))
+}
+
+/// The same by a header's bytes.
 fn by_table(
     context: &mut UnwindContext<usize>,
     section: &[u8],
@@ -179,17 +191,18 @@ fn by_table(
     let frame = EhFrame::new(section, LittleEndian);
     let parsed = read_header(header, &bases())?;
     let table = table_of(&parsed)?;
-    let fde = fde_by_table(&table, &frame, address, refuses);
-    let row = row_by_table(context, &table, &frame, address, refuses);
-    Ok((fde, row))
+    Ok(both_by_table(context, &table, &frame, address, refuses))
 }
 
-fn both_found(offset: usize, start: u64, asked: u32) -> Both {
-    ((Ok(offset), asked), (Ok(start), asked))
-}
+/// The offset of the FDE and the first address of the row, or a refusal.
+type Found = Result<(usize, u64), Error>;
 
-fn both_refused(refusal: Error, asked: u32) -> Both {
-    ((Err(refusal), asked), (Err(refusal), asked))
+/// What both calls answer.
+fn both(found: Found, asked: u32) -> Both {
+    match found {
+        Ok((offset, start)) => ((Ok(offset), asked), (Ok(start), asked)),
+        Err(refusal) => ((Err(refusal), asked), (Err(refusal), asked)),
+    }
 }
 
 /// Both calls for the FDE at an offset.
@@ -225,30 +238,23 @@ fn one_fde_asks_once(rt: HostRuntime) {
 #[test]
 fn a_scan_asks_once_an_fde(rt: HostRuntime) -> Result<(), Fail> {
     let mut context: UnwindContext<usize> = UnwindContext::new(rt.alloc())?;
-    let cases: [(&[u8], u64, bool, Both); 6] = [
-        (&FDES, 0x1008, false, both_found(20, 0x1000, 1)),
-        (&FDES, 0x201f, false, both_found(44, 0x2000, 2)),
+    let cases: [(&[u8], u64, bool, Found, u32); 6] = [
+        (&FDES, 0x1008, false, Ok((20, 0x1000)), 1),
+        (&FDES, 0x201f, false, Ok((44, 0x2000)), 2),
         (
             &FDES[..68],
             0x3000,
             false,
-            both_refused(Error::NoUnwindInfoForAddress, 2),
+            Err(Error::NoUnwindInfoForAddress),
+            2,
         ),
-        (&FDES[..66], 0x2008, false, both_refused(ended(48), 1)),
-        (&FDES, 0x3000, false, both_refused(ended(84), 3)),
-        (
-            &FDES,
-            0x2008,
-            true,
-            both_refused(Error::UnknownAugmentation, 1),
-        ),
+        (&FDES[..66], 0x2008, false, Err(ended(48)), 1),
+        (&FDES, 0x3000, false, Err(ended(84)), 3),
+        (&FDES, 0x2008, true, Err(Error::UnknownAugmentation), 1),
     ];
-    for (bytes, address, refuses, both) in cases {
-        assert_eq!(rt;
-            by_scan(&mut context, bytes, address, refuses),
-            both,
-            "for {address}"
-        );
+    for (bytes, address, refuses, found, asked) in cases {
+        let by_scan = by_scan(&mut context, bytes, address, refuses);
+        assert_eq!(rt; by_scan, both(found, asked), "for {address}");
     }
     Ok(())
 }
@@ -259,41 +265,32 @@ fn a_table_asks_once(rt: HostRuntime) -> Result<(), Fail> {
     let mut cut = SECTION;
     cut[60] = 0x20;
     let before = second_target([0, 1, 0, 0]);
-    let cases: [(&[u8], &[u8], u64, bool, Both); 6] = [
-        (&SECTION, &HEADER, 0x1018, false, both_found(44, 0x1011, 1)),
-        (
-            &SECTION,
-            &HEADER,
-            0xff0,
-            false,
-            both_refused(Error::NoUnwindInfoForAddress, 1),
-        ),
-        (
-            &SECTION,
-            &HEADER,
-            0x1040,
-            false,
-            both_refused(Error::NoUnwindInfoForAddress, 1),
-        ),
+    let none = Err(Error::NoUnwindInfoForAddress);
+    let cases: [(&[u8], &[u8], u64, bool, Found, u32); 6] = [
+        (&SECTION, &HEADER, 0x1018, false, Ok((44, 0x1011)), 1),
+        (&SECTION, &HEADER, 0xff0, false, none, 1),
+        (&SECTION, &HEADER, 0x1040, false, none, 1),
         (
             &SECTION,
             &before,
             0x1018,
             false,
-            both_refused(Error::NotCiePointer(0), 0),
+            Err(Error::NotCiePointer(0)),
+            0,
         ),
-        (&cut, &HEADER, 0x1018, false, both_refused(ended(61), 1)),
+        (&cut, &HEADER, 0x1018, false, Err(ended(61)), 1),
         (
             &SECTION,
             &HEADER,
             0x1018,
             true,
-            both_refused(Error::UnknownAugmentation, 1),
+            Err(Error::UnknownAugmentation),
+            1,
         ),
     ];
-    for (section, header, address, refuses, both) in cases {
-        let found = by_table(&mut context, section, header, address, refuses);
-        assert_eq!(rt; found, Ok(both), "for {address}");
+    for (section, header, address, refuses, found, asked) in cases {
+        let by_table = by_table(&mut context, section, header, address, refuses);
+        assert_eq!(rt; by_table, Ok(both(found, asked)), "for {address}");
     }
     Ok(())
 }

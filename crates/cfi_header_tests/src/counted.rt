@@ -8,7 +8,7 @@ use gimli_cfi::hdr::{EhFrameHdr, TableStarts, row_by_table};
 use gimli_cfi::pointer::BaseAddresses;
 use gimli_cfi::section::EhFrame;
 use gimli_cfi::table::UnwindContext;
-use std::alloc::Global;
+use std::alloc::{AllocError, Global};
 use std::cell::Cell;
 use std::test::Fail;
 
@@ -158,12 +158,12 @@ fn most_reads(header: &[u8], context: &mut UnwindContext<usize>) -> Result<Optio
 }
 
 /// Writes a header of a thousand rows, whose starts are the multiples of a factor without their upper bits.
-fn write_rows(header: &mut Vec<u8>, factor: u32) -> Result<(), Fail> {
+fn write_rows(header: &mut Vec<u8>, factor: u32) -> Result<(), AllocError> {
     header.extend_from_slice(&[1, 3, 3, 3, 0, 0, 0, 0, 0xe8, 3, 0, 0])?;
     for row in 0..1000u32 {
         let start = row.wrapping_mul(factor) % 65536;
-        header.extend_from_slice(&start.to_le_bytes())?;
-        header.extend_from_slice(&row.to_le_bytes())?;
+        let both = u64::from(start) | (u64::from(row) << 32);
+        header.extend_from_slice(&both.to_le_bytes())?;
     }
     Ok(())
 }

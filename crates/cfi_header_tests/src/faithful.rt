@@ -1,10 +1,12 @@
 //! Tables of `.eh_frame_hdr` that list the FDEs of their section faithfully, and the faults of others.
 
-use crate::searches::{HEADER, SECTION, bases, ended, read_header, start_of, table_of};
+use crate::searches::{
+    HEADER, SECTION, Shown, bases, by_scan, ended, read_header, shown, table_of,
+};
 use cfi_read_core::{DwEhPe, Error, LittleEndian, Reader};
 use gimli_cfi::hdr::{FaithfulTable, ParsedEhFrameHdr, Unfaithful};
 use gimli_cfi::section::EhFrame;
-use gimli_cfi::table::{UnwindContext, row_by_scan};
+use gimli_cfi::table::UnwindContext;
 use std::test::Fail;
 
 /// The reason against a header's table; none where it is faithful.
@@ -199,33 +201,24 @@ fn refused_parts(rt: HostRuntime) {
     assert_eq!(rt; found, expected);
 }
 
-/// The first address of the row for an address by a checked table.
+/// The row for an address by a checked table.
 fn by_checked_table<R: Reader<Offset = usize>>(
     parsed: &ParsedEhFrameHdr<R>,
     frame: &EhFrame<R>,
     context: &mut UnwindContext<usize>,
     address: u64,
-) -> Result<Result<u64, Error>, Error> {
+) -> Result<Result<Shown, Error>, Error> {
     match FaithfulTable::new(&table_of(parsed)?, frame, &bases()) {
-        Ok(checked) => Ok(start_of(checked.row(context, address))),
+        Ok(checked) => Ok(shown(checked.row(context, address))),
         Err(_) => Err(Error::NoUnwindInfoForAddress),
     }
 }
 
-/// The same by going through the section.
-fn by_scan<R: Reader<Offset = usize>>(
-    frame: &EhFrame<R>,
-    context: &mut UnwindContext<usize>,
-    address: u64,
-) -> Result<u64, Error> {
-    start_of(row_by_scan(frame, &bases(), context, address))
-}
-
-/// Both for an address, the table first.
+/// The same, and then by going through the section.
 fn both_ways(
     context: &mut UnwindContext<usize>,
     address: u64,
-) -> Result<[Result<u64, Error>; 2], Error> {
+) -> Result<[Result<Shown, Error>; 2], Error> {
     let frame = EhFrame::new(&SECTION, LittleEndian);
     let parsed = read_header(&HEADER, &bases())?;
     let by_table = by_checked_table(&parsed, &frame, context, address)?;
@@ -236,17 +229,17 @@ fn both_ways(
 fn rows_by_a_checked_table(rt: HostRuntime) -> Result<(), Fail> {
     let mut context: UnwindContext<usize> = UnwindContext::new(rt.alloc())?;
     let none = Err(Error::NoUnwindInfoForAddress);
-    let starts = [
+    let rows: [(u64, Result<Shown, Error>); 5] = [
         (0xfff, none),
-        (0x1000, Ok(0x1000)),
-        (0x1011, Ok(0x1011)),
-        (0x103f, Ok(0x1020)),
+        (0x1000, Ok((0x1000, 0x1010, Some(8)))),
+        (0x1011, Ok((0x1011, 0x1020, Some(16)))),
+        (0x103f, Ok((0x1020, 0x1040, Some(8)))),
         (0x1040, none),
     ];
-    for (address, start) in starts {
+    for (address, row) in rows {
         assert_eq!(rt;
             both_ways(&mut context, address),
-            Ok([start; 2]),
+            Ok([row; 2]),
             "for {address}"
         );
     }

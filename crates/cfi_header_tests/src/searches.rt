@@ -70,9 +70,9 @@ pub(crate) fn table_of<R: Reader>(
 }
 
 /// The addresses of a row, and the offset of its CFA from register 7.
-type Shown = (u64, u64, Option<i64>);
+pub(crate) type Shown = (u64, u64, Option<i64>);
 
-fn shown(found: Result<&HeapRow, Error>) -> Result<Shown, Error> {
+pub(crate) fn shown(found: Result<&HeapRow, Error>) -> Result<Shown, Error> {
     let row = found?;
     let offset = match *row.cfa() {
         CfaRule::RegisterAndOffset {
@@ -136,9 +136,12 @@ fn by_table_and_cies(context: &mut UnwindContext<usize>, address: u64) -> Result
 }
 
 /// The row for an address by going through the section.
-fn by_scan(context: &mut UnwindContext<usize>, address: u64) -> Result<Shown, Error> {
-    let frame = EhFrame::new(&SECTION, LittleEndian);
-    shown(row_by_scan(&frame, &bases(), context, address))
+pub(crate) fn by_scan<R: Reader<Offset = usize>>(
+    frame: &EhFrame<R>,
+    context: &mut UnwindContext<usize>,
+    address: u64,
+) -> Result<Shown, Error> {
+    shown(row_by_scan(frame, &bases(), context, address))
 }
 
 /// The target of an address by a header that was read.
@@ -219,6 +222,7 @@ fn lookups(rt: HostRuntime) {
 #[test]
 fn table_and_scan_agree(rt: HostRuntime) -> Result<(), Fail> {
     let mut context: UnwindContext<usize> = UnwindContext::new(rt.alloc())?;
+    let frame = EhFrame::new(&SECTION, LittleEndian);
     let rows: [(u64, Result<Shown, Error>); 4] = [
         (0xff0, Err(Error::NoUnwindInfoForAddress)),
         (0x1018, Ok((0x1011, 0x1020, Some(16)))),
@@ -229,16 +233,11 @@ fn table_and_scan_agree(rt: HostRuntime) -> Result<(), Fail> {
         let found = [
             by_table(&HEADER, &mut context, address),
             by_table_and_cies(&mut context, address),
-            by_scan(&mut context, address),
+            by_scan(&frame, &mut context, address),
         ];
         assert_eq!(rt; found, [row; 3], "for {address}");
     }
     Ok(())
-}
-
-/// The row for 0x1018 with another target in the second row.
-fn by_target(context: &mut UnwindContext<usize>, target: [u8; 4]) -> Result<Shown, Error> {
-    by_table(&second_target(target), context, 0x1018)
 }
 
 /// The row for 0x1018 with the rows encoded otherwise.
@@ -254,23 +253,25 @@ fn by_cut_table(context: &mut UnwindContext<usize>, address: u64) -> Result<Show
 #[test]
 fn dishonest_tables(rt: HostRuntime) -> Result<(), Fail> {
     let mut context: UnwindContext<usize> = UnwindContext::new(rt.alloc())?;
+    let targets = [
+        ([0x18, 1, 0, 0], Error::NoUnwindInfoForAddress),
+        ([0, 1, 0, 0], Error::NotCiePointer(0)),
+        ([0x54, 1, 0, 0], Error::NoEntryAtGivenOffset(84)),
+        ([0x59, 1, 0, 0], ended(0)),
+        ([0xff, 0, 0, 0], Error::OffsetOutOfBounds(0x1fff)),
+    ];
+    // The second row has another target.
+    for (target, refusal) in targets {
+        let row = by_table(&second_target(target), &mut context, 0x1018);
+        assert_eq!(rt; row, Err(refusal), "for {target:?}");
+    }
     let found = [
-        by_target(&mut context, [0x18, 1, 0, 0]),
-        by_target(&mut context, [0, 1, 0, 0]),
-        by_target(&mut context, [0x54, 1, 0, 0]),
-        by_target(&mut context, [0x59, 1, 0, 0]),
-        by_target(&mut context, [0xff, 0, 0, 0]),
         by_encoding(&mut context, 0xbb),
         by_encoding(&mut context, 0x31),
         by_cut_table(&mut context, 0x1018),
         by_cut_table(&mut context, 0x1008),
     ];
     let expected = [
-        Err(Error::NoUnwindInfoForAddress),
-        Err(Error::NotCiePointer(0)),
-        Err(Error::NoEntryAtGivenOffset(84)),
-        Err(ended(0)),
-        Err(Error::OffsetOutOfBounds(0x1fff)),
         Err(Error::UnsupportedIndirectPointer),
         Err(Error::UnsupportedPointerEncoding(DwEhPe(0x31))),
         Err(ended(28)),
@@ -327,19 +328,22 @@ fn passed<R: Reader>(
     Some((row, left, rows.next()))
 }
 
+/// The same over a header.
+fn passed_by<R: Reader>(header: EhFrameHdr<R>, count: usize) -> Result<Option<Passed>, Error> {
+    let bases = bases();
+    let parsed = header.parse(&bases, 8)?;
+    Ok(passed(&parsed, &bases, count))
+}
+
 /// The same over a header's bytes.
 fn passed_in(header: &[u8], count: usize) -> Result<Option<Passed>, Error> {
-    let bases = bases();
-    let parsed = read_header(header, &bases)?;
-    Ok(passed(&parsed, &bases, count))
+    passed_by(EhFrameHdr::new(header, LittleEndian), count)
 }
 
 /// The same over a narrow slice.
 fn passed_in_narrow(header: &[u8], count: usize) -> Result<Option<Passed>, Error> {
-    let bases = bases();
-    let header = EhFrameHdr::from(NarrowSlice::new(header, LittleEndian)?);
-    let parsed = header.parse(&bases, 8)?;
-    Ok(passed(&parsed, &bases, count))
+    let header = NarrowSlice::new(header, LittleEndian)?;
+    passed_by(EhFrameHdr::from(header), count)
 }
 
 /// What the first call answers, and whether the starts of the table can be read one by one.
