@@ -11,8 +11,6 @@ mod entries;
 #[cfg(test)]
 mod errors;
 #[cfg(test)]
-mod guide;
-#[cfg(test)]
 mod happy_paths;
 #[cfg(test)]
 mod instructions;
