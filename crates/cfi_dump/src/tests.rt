@@ -62,22 +62,16 @@ fn prints(
 
 #[test]
 fn worked_sections(rt: HostRuntime) -> Result<(), Fail> {
-    prints(&rt, "debug_frame le 8", THREE_ROWS, THREE_ROWS_PRINTED, 0)?;
-    prints(
-        &rt,
-        "debug_frame le 8 input=hex",
-        REFUSED,
-        REFUSED_PRINTED,
-        0,
-    )?;
-    prints(
-        &rt,
-        "eh_frame le 8 section=0x2000",
-        LETTERS,
-        LETTERS_PRINTED,
-        0,
-    )?;
-    prints(&rt, "eh_frame be 4", "", "", 0)
+    let sections = [
+        ("debug_frame le 8", THREE_ROWS, THREE_ROWS_PRINTED),
+        ("debug_frame le 8 input=hex", REFUSED, REFUSED_PRINTED),
+        ("eh_frame le 8 section=0x2000", LETTERS, LETTERS_PRINTED),
+        ("eh_frame be 4", "", ""),
+    ];
+    for (words, input, text) in sections {
+        prints(&rt, words, input, text, 0)?;
+    }
+    Ok(())
 }
 
 #[test]
