@@ -55,8 +55,11 @@ fn prints(
     status: u8,
 ) -> Result<(), Fail> {
     let (answered, output) = run_bytes(rt.alloc(), words, input.as_bytes())?;
-    assert_eq!(rt; str::from_utf8(output.as_slice()), Ok(text), "{words}");
-    assert_eq!(rt; answered, status, "{words}");
+    assert_eq!(rt;
+        (str::from_utf8(output.as_slice()), answered),
+        (Ok(text), status),
+        "{words}"
+    );
     Ok(())
 }
 
