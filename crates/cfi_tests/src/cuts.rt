@@ -1,7 +1,6 @@
 //! Sections that end too early, or whose numbers are the greatest, over offsets of eight bytes and of four.
-use crate::entries::bytes_of;
-use crate::sections::THREE_ROWS;
 use cfi_read_core::{EndianSlice, Error, LittleEndian, NarrowSlice, Reader, ReaderOffsetId};
+use cfi_test_bytes::{THREE_ROWS, bytes_of};
 use gimli_cfi::pointer::BaseAddresses;
 use gimli_cfi::section::{DebugFrame, EhFrame, UnwindSection};
 use gimli_cfi::storage::UnwindContextStorage;

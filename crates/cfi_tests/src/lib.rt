@@ -1,5 +1,4 @@
-//! Tests that cross crates: readings, instructions, entries and rows, whose answers stand in the standards or were
-//! worked out by hand.
+//! Tests of rows, over both readers and both storages, whose answers stand in the standards or were worked out by hand.
 #![tactic(auto)]
 
 #[cfg(test)]
@@ -7,19 +6,7 @@ mod cuts;
 #[cfg(test)]
 mod derives;
 #[cfg(test)]
-mod entries;
-#[cfg(test)]
-mod errors;
-#[cfg(test)]
-mod happy_paths;
-#[cfg(test)]
-mod instructions;
-#[cfg(test)]
-mod lists;
-#[cfg(test)]
-mod machine;
-#[cfg(test)]
-mod reads;
+mod readers_and_storages;
 #[cfg(test)]
 mod refused_growth;
 #[cfg(test)]
@@ -28,5 +15,3 @@ mod register_order;
 mod reuse;
 #[cfg(test)]
 mod rows;
-#[cfg(test)]
-mod sections;

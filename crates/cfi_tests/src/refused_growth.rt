@@ -4,10 +4,10 @@ ghost use Rattle.std.specs.Vec as vec;
 ghost use Rattle.std.specs.Prelude.{◌≡◌, None, false};
 ghost use Rattle.cfi_state.specs.Refill.{refill-same};
 
-use crate::entries::bytes_of;
 use crate::reuse::{check_three_rows, row_of};
 use crate::rows::Shown;
 use cfi_read_core::{Error, LittleEndian, Reader, ReaderOffset, Register, Vendor};
+use cfi_test_bytes::bytes_of;
 use gimli_cfi::section::DebugFrame;
 use gimli_cfi::storage::{ArrayLike, CopyList, Refused, StoreGrowing, UnwindContextStorage, Why};
 use gimli_cfi::table::{RegisterRule, UnwindContext, UnwindTableRow};

@@ -1,11 +1,10 @@
 //! Contexts that are used again after a refusal, and what is equal to what.
 ghost use Rattle.std.proofs.Common.{lit≤};
 
-use crate::entries::{bytes_of, joined};
 use crate::rows::{R7_8, RETURNS, Shown, hands_out, shown};
-use crate::sections::THREE_ROWS;
 use arrayvec::ArrayVec;
 use cfi_read_core::{Error, LittleEndian, Reader, ReaderOffset, ReaderOffsetId, Register, Section};
+use cfi_test_bytes::{THREE_ROWS, bytes_of, joined};
 use gimli_cfi::pointer::BaseAddresses;
 use gimli_cfi::section::{DebugFrame, UnwindSection};
 use gimli_cfi::storage::{ArrayLike, CopyList, StoreGrowing, UnwindContextStorage};

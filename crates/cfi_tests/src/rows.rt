@@ -1,8 +1,8 @@
 //! The rows of an FDE in order, and the row of an address with any `get_cie`.
-use crate::sections::THREE_ROWS;
 use cfi_parts::instruction::UnwindExpression;
 use cfi_read_core::dwarf_section::Expression;
 use cfi_read_core::{DebugFrameOffset, Error, LittleEndian, Reader, ReaderOffsetId, Register};
+use cfi_test_bytes::THREE_ROWS;
 use cfi_unwind::unwind_section::scan_for_fde;
 use gimli_cfi::pointer::BaseAddresses;
 use gimli_cfi::section::{DebugFrame, UnwindSection};

@@ -1,33 +1,17 @@
 //! Entries one by one: what stands in a section, whole CIEs and FDEs, and the refusals with their values.
+use cfi_parts::pointer::{BaseAddresses, Pointer};
 use cfi_read_core::{
     DebugFrameOffset, DwEhPe, EhFrameOffset, EndianSlice, Error, Format, LittleEndian, Reader,
     ReaderOffsetId, Register,
 };
-use gimli_cfi::entry::{CieOrFde, CommonInformationEntry, FrameDescriptionEntry};
-use gimli_cfi::pointer::{BaseAddresses, Pointer};
-use gimli_cfi::section::{DebugFrame, EhFrame, UnwindSection};
+use cfi_test_bytes::{bytes_of, joined};
+use cfi_unwind::entry::{CieOrFde, CommonInformationEntry, FrameDescriptionEntry};
+use cfi_unwind::unwind_section::{DebugFrame, EhFrame, UnwindSection};
 use hex::FromHexError;
 use std::alloc::Global;
 use std::test::Fail;
 
 type Slice<'a> = EndianSlice<'a, LittleEndian>;
-
-/// The bytes that the digits write, spaces left out.
-pub(crate) fn bytes_of(alloc: Global, text: &str) -> Result<Vec<u8>, FromHexError> {
-    let mut digits = Vec::new(alloc);
-    if digits.extend_from_slice(text.as_bytes()).is_err() {
-        return Err(FromHexError::OutOfMemory);
-    }
-    digits.retain(|byte| *byte != b' ');
-    hex::decode(alloc, digits.as_slice())
-}
-
-/// The bytes of both texts.
-pub(crate) fn joined(alloc: Global, first: &str, second: &str) -> Result<Vec<u8>, Fail> {
-    let mut bytes = bytes_of(alloc, first)?;
-    bytes.extend_from_slice(bytes_of(alloc, second)?.as_slice())?;
-    Ok(bytes)
-}
 
 /// What a CIE says of itself: its format, length, version, data alignment factor and return address register.
 pub(crate) type Settings = (Format, usize, u8, i64, Register);

@@ -1,5 +1,5 @@
 //! What a refusal says.
-use gimli_cfi::{DwCfa, DwEhPe, Error, ReaderOffsetId};
+use cfi_read_core::{DwCfa, DwEhPe, Error, ReaderOffsetId};
 use std::test::Fail;
 
 const NUMBERED: [(Error, &str); 14] = [

@@ -1,7 +1,7 @@
 //! The three lists of a storage: each call once, at a limit and below it.
 use arrayvec::ArrayVec;
 use cfi_read_core::Error;
-use gimli_cfi::storage::{ArrayLike, CapacityFull, CopyList, Why};
+use cfi_state::storage::{ArrayLike, CapacityFull, CopyList, Why};
 use std::alloc::Global;
 use std::test::Fail;
 

@@ -1,12 +1,12 @@
 //! Call frame instructions of an FDE, one by one, as the tests of gimli spell them.
-use crate::entries::{bytes_of, joined};
+use cfi_parts::instruction::{CallFrameInstruction, UnwindExpression};
+use cfi_parts::pointer::BaseAddresses;
 use cfi_read_core::constants::DwCfa;
 use cfi_read_core::{
     DebugFrameOffset, Error, LittleEndian, Reader, ReaderOffsetId, Register, Vendor,
 };
-use gimli_cfi::instruction::{CallFrameInstruction, UnwindExpression};
-use gimli_cfi::pointer::BaseAddresses;
-use gimli_cfi::section::{DebugFrame, UnwindSection};
+use cfi_test_bytes::{bytes_of, joined};
+use cfi_unwind::unwind_section::{DebugFrame, UnwindSection};
 use std::alloc::Global;
 use std::test::Fail;
 

@@ -1,11 +1,11 @@
 //! Public calls that no other test takes, each once on its happy path.
-use crate::entries::bytes_of;
+use cfi_parts::instruction::CallFrameInstruction;
+use cfi_parts::pointer::{BaseAddresses, Pointer, SectionBaseAddresses};
 use cfi_read_core::constants::{DW_EH_PE_absptr, DW_EH_PE_pcrel, DW_EH_PE_sdata4};
 use cfi_read_core::{DebugFrameOffset, DwEhPe, EhFrameOffset, Error, LittleEndian, Reader, Vendor};
-use gimli_cfi::entry::{CommonInformationEntry, FrameDescriptionEntry};
-use gimli_cfi::instruction::CallFrameInstruction;
-use gimli_cfi::pointer::{BaseAddresses, Pointer, SectionBaseAddresses};
-use gimli_cfi::section::{DebugFrame, EhFrame, UnwindSection};
+use cfi_test_bytes::bytes_of;
+use cfi_unwind::entry::{CommonInformationEntry, FrameDescriptionEntry};
+use cfi_unwind::unwind_section::{DebugFrame, EhFrame, UnwindSection};
 use std::test::Fail;
 
 /// A CIE of version 1 and an FDE of addresses of two bytes, whose program toggles the sign state.

@@ -1,85 +1,18 @@
-//! Sections, entries and rows over both readers and both storages.
+//! Sections: what stands at an offset, how often `get_cie` is asked, and the names.
 use crate::entries::{Settings, only_cie, refusal_at, settings_of};
-use crate::reuse::row_of;
-use crate::rows::{R6_16, R7_8, R7_16, RETURNS, SAVED, Shown};
+use cfi_parts::pointer::{BaseAddresses, Pointer};
 use cfi_read_core::{
-    DebugFrameOffset, EhFrameOffset, EndianSlice, Error, Format, LittleEndian, NarrowSlice, Reader,
+    DebugFrameOffset, EhFrameOffset, EndianSlice, Error, Format, LittleEndian, Reader,
     ReaderOffsetId, Register, Section, SectionId,
 };
-use gimli_cfi::pointer::{BaseAddresses, Pointer};
-use gimli_cfi::section::{DebugFrame, EhFrame, UnwindSection};
-use gimli_cfi::storage::{StoreGrowing, UnwindContextStorage};
-use gimli_cfi::table::{CfaRule, UnwindContext, row_by_scan};
-use std::process::Abort;
+use cfi_test_bytes::THREE_ROWS;
+use cfi_unwind::unwind_section::{DebugFrame, EhFrame, UnwindSection};
 use std::test::Fail;
-
-/// A CIE of version 4 (addresses of 8 bytes, factors 1 and -8, return register 16; r7+8, r16 at -8), and an FDE from
-/// 0x1000 up to 0x1020 whose program makes three rows.
-pub const THREE_ROWS: [u8; 52] = [
-    0x10, 0, 0, 0, 0xff, 0xff, 0xff, 0xff, 4, 0, 8, 0, 1, 0x78, 0x10, 0x0c, 7, 8, 0x90, 1, 0x1c, 0,
-    0, 0, 0, 0, 0, 0, 0, 0x10, 0, 0, 0, 0, 0, 0, 0x20, 0, 0, 0, 0, 0, 0, 0, 0x41, 0x0e, 0x10, 0x86,
-    2, 0x43, 0x0d, 6,
-];
 
 /// A CIE of `.eh_frame` with a personality that is relative to its own place, and indirect.
 const PERSONALITY: [u8; 21] = [
     0x11, 0, 0, 0, 0, 0, 0, 0, 1, 0x7a, 0x50, 0, 1, 0x78, 0x10, 5, 0x9b, 0x10, 0, 0, 0,
 ];
-
-/// Addresses and their rows.
-const ROWS: [(u64, Result<Shown, Error>); 4] = [
-    (0x1002, Ok((0x1001, 0x1004, R7_16, SAVED, RETURNS))),
-    (0x1000, Ok((0x1000, 0x1001, R7_8, None, RETURNS))),
-    (0x1020, Err(Error::NoUnwindInfoForAddress)),
-    (0x101f, Ok((0x1004, 0x1020, R6_16, SAVED, RETURNS))),
-];
-
-/// Checks those rows by one context.
-fn check_rows<S: UnwindContextStorage<usize>>(
-    rt: &(impl Abort + AllocGlobal),
-    context: &mut UnwindContext<usize, S>,
-    storage: &str,
-) {
-    let section = DebugFrame::new(&THREE_ROWS, LittleEndian);
-    for (address, row) in ROWS {
-        let found = row_of(&section, context, address);
-        assert_eq!(rt; found, row, "{storage}: {address}");
-    }
-}
-
-#[test]
-fn a_context_is_used_again(rt: HostRuntime) -> Result<(), Fail> {
-    let mut fixed: UnwindContext<usize> = UnwindContext::new(rt.alloc())?;
-    check_rows(&rt, &mut fixed, "fixed");
-    let mut growing: UnwindContext<usize, StoreGrowing> = UnwindContext::new_in(rt.alloc())?;
-    check_rows(&rt, &mut growing, "growing");
-    Ok(())
-}
-
-/// Where the row for 0x1002 starts, and its CFA.
-fn start_and_cfa<R: Reader, S: UnwindContextStorage<R::Offset>>(
-    section: &DebugFrame<R>,
-    context: &mut UnwindContext<R::Offset, S>,
-) -> Result<(u64, CfaRule<R::Offset>), Error> {
-    let row = row_by_scan(section, &BaseAddresses::default(), context, 0x1002)?;
-    Ok((row.start_address(), *row.cfa()))
-}
-
-const NARROW_CFA: CfaRule<u32> = CfaRule::RegisterAndOffset {
-    register: Register(7),
-    offset: 16,
-};
-
-#[test]
-fn a_narrow_reader_answers_alike(rt: HostRuntime) -> Result<(), Fail> {
-    let section = DebugFrame::from(NarrowSlice::new(&THREE_ROWS, LittleEndian)?);
-    let mut context: UnwindContext<u32> = UnwindContext::new(rt.alloc())?;
-    assert_eq!(rt;
-        start_and_cfa(&section, &mut context),
-        Ok((0x1001, NARROW_CFA))
-    );
-    Ok(())
-}
 
 /// The settings of the CIE at 0, and why it is no FDE.
 fn cie_at_0<R: Reader<Offset = usize>>(
