@@ -4,9 +4,9 @@ use Rattle.cfi_read_core.specs.contracts.common.RegisterDefault.TheImpl as regis
 use Rattle.cfi_read_core.specs.contracts.common.StoreOnHeap.{the_row as store}
 use Rattle.cfi_read_core.specs.contracts.offset.UsizeReaderOffset.TheImpl as offset
 use Rattle.arrayvec.specs.contracts.array_vec.ArrayVec
-use Rattle.cfi_state.specs.contracts.storage.ArrayVecArrayLike.TheImpl as list
-use Rattle.cfi_state.specs.contracts.storage.ArrayVecCopyList.TheImpl as copies
-use Rattle.cfi_state.specs.contracts.storage.BoxArrayVecArrayLike.TheImpl as boxed-list
+use Rattle.cfi_lists.specs.contracts.array_like.ArrayVecArrayLike.TheImpl as list
+use Rattle.cfi_lists.specs.contracts.array_like.ArrayVecCopyList.TheImpl as copies
+use Rattle.cfi_lists.specs.contracts.array_like.BoxArrayVecArrayLike.TheImpl as boxed-list
 use Rattle.cfi_state.specs.contracts.table.row.UnwindTableRowArrayVecTuple2RegisterRegisterRuleDefault.TheImpl as row-default
 use Rattle.cfi_state.specs.contracts.table.rules.RegisterRuleClone.TheImpl as rule-clone
 use Rattle.cfi_state.specs.contracts.table.rules.RegisterRuleDefault.TheImpl as rule-default

@@ -15,8 +15,6 @@ pub mod UnwindTableStates
 pub mod RowExpressions
 pub mod MachineRuns
 pub mod KeptInstructions
-pub mod ListLimits
-pub mod Refill
 pub mod StorageRefusals
 pub mod RulePairs
 pub mod UnwindContexts

@@ -1,8 +1,8 @@
 -- The refusal that stands for an item that a list didn't take.
 use Rattle.cfi_read_core.specs.declared.error.Error.{Error}
 use Rattle.cfi_read_core.specs.declared.error.Error.TheVariants.{OutOfMemory}
-use Rattle.cfi_state.specs.declared.storage.Why.{Why}
-use Rattle.cfi_state.specs.declared.storage.Why.TheVariants.{Full, Memory}
+use Rattle.cfi_lists.specs.declared.array_like.Why.{Why}
+use Rattle.cfi_lists.specs.declared.array_like.Why.TheVariants.{Full, Memory}
 
 abbrev pub refusal_for : Why → Error → Error
 refusal_for (Full _) full = full

@@ -7,7 +7,7 @@ use Rattle.std.specs.FinMap.{get, len}
 use Rattle.cfi_read_core.specs.declared.error.Error.{Error}
 use Rattle.cfi_read_core.specs.declared.error.Error.TheVariants.{StackFull, PopWithEmptyStack, CfiInstructionInInvalidContext}
 use Rattle.cfi_state.specs.declared.table.rules.RegisterRule.{RegisterRule}
-use Rattle.cfi_state.specs.ListLimits.{HasRoomFor}
+use Rattle.cfi_lists.specs.ListLimits.{HasRoomFor}
 use Rattle.cfi_state.specs.MachineSettings.{is_at_limit}
 use Rattle.cfi_state.specs.Machine.{Rules, State, copies_held}
 use Rattle.cfi_state.specs.Row.{Row, empty_row, with_parts}

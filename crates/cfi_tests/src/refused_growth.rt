@@ -2,7 +2,7 @@
 ghost use Rattle.std.proofs.Common.{sym, ◌∙◌};
 ghost use Rattle.std.specs.Vec as vec;
 ghost use Rattle.std.specs.Prelude.{◌≡◌, None, false};
-ghost use Rattle.cfi_state.specs.Refill.{refill-same};
+ghost use Rattle.cfi_lists.specs.Refill.{refill-same};
 
 use crate::reuse::{check_three_rows, row_of};
 use crate::rows::Shown;

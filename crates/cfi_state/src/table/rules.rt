@@ -5,15 +5,16 @@ ghost use Rattle.cfi_state.specs.declared.table.rules.RegisterRule.TheVariants.{
 ghost use Rattle.std.specs.Iterator.{YieldsFirstRef, item_count};
 ghost use Rattle.std.specs.Cmp.{partial_equiv_from_equiv};
 ghost use Rattle.std.specs.FinMap.{get};
-ghost use Rattle.cfi_state.specs.ListLimits.{IsWithinLimit};
+ghost use Rattle.cfi_lists.specs.ListLimits.{IsWithinLimit};
 ghost use Rattle.cfi_state.specs.StorageRefusals.{refusal_for};
 ghost use Rattle.cfi_state.specs.RegisterRuleIters.{rules_left};
 ghost use Rattle.cfi_state.specs.RulePairs.{rules_of, IsDistinctRegisters, IsRising, BelongsAt, AddsRules};
 ghost use Rattle.cfi_state.specs.Equality.{is_within, rule_eq, rules_eq};
 ghost use Rattle.cfi_state.specs.EqualityLaws.{rules_equiv};
 
-use crate::storage::{ArrayLike, CopyList, Refused, Why, remove_at, shorten, write_at, write_over};
+use crate::storage::{ArrayLike, CopyList, Refused, Why};
 use arrayvec::ArrayVec;
+use cfi_lists::array_like::{remove_at, shorten, write_at, write_over};
 use cfi_parts::instruction::UnwindExpression;
 use cfi_read_core::{Error, ReaderOffset, Register, Result};
 use std::alloc::Global;

@@ -1,5 +1,5 @@
 use Rattle.std.proofs.Common.{◌≡◌, take, length}
-use Rattle.cfi_state.proofs.storage.shorten.Given as goal
+use Rattle.cfi_lists.proofs.array_like.shorten.Given as goal
 
 -- the items before `count` stay
 abbrev pub invariant-loop-list : goal.invariant-loop-list

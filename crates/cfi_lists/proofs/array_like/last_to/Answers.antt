@@ -1,8 +1,8 @@
-use Rattle.std.proofs.Common.{ap, ◌∙◌, ◌+◌, ◌-◌, ◌≤◌, ◌<◌, List, [], ◌∷◌, length, arith}
+use Rattle.std.proofs.Common.{ap, ◌∙◌, ◌-◌, [], ◌∷◌, length, arith}
 use Rattle.std.specs.List.{swap}
 use Rattle.std.proofs.lemmas.List.{length-append}
-use Rattle.cfi_state.proofs.Lists.{one_down}
-use Rattle.cfi_state.proofs.storage.last_to.Goals as goal
+use Rattle.cfi_lists.proofs.Edits.{one_down}
+use Rattle.cfi_lists.proofs.array_like.last_to.Goals as goal
 
 pub loop-place-preserved : goal.loop-place-preserved
 loop-place-preserved g c =

@@ -1,7 +1,7 @@
 use Rattle.std.proofs.Common.{ap, ◌∙◌, arith, length, get_or, ◌-◌, ◌<◌}
 use Rattle.std.specs.List.{remove}
-use Rattle.cfi_state.proofs.Lists.{popped, moved_down}
-use Rattle.cfi_state.proofs.storage.remove_at.Goals as goal
+use Rattle.cfi_lists.proofs.Edits.{popped, moved_down}
+use Rattle.cfi_lists.proofs.array_like.remove_at.Goals as goal
 
 pub returns : goal.returns
 returns g c =

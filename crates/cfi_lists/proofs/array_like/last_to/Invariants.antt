@@ -1,6 +1,6 @@
 use Rattle.std.proofs.Common.{◌≡◌, ◌≤◌, ◌<◌, List, [], ◌∷◌, ◌++◌, length}
 use Rattle.std.specs.List.{insert}
-use Rattle.cfi_state.proofs.storage.last_to.Given as goal
+use Rattle.cfi_lists.proofs.array_like.last_to.Given as goal
 
 -- the item that was last stands at the place
 abbrev pub invariant-loop-place : goal.invariant-loop-place

@@ -1,0 +1,2 @@
+pub mod ListLimits
+pub mod Refill

@@ -1,0 +1,4 @@
+//! Lists with an optional limit.
+#![tactic(auto)]
+
+pub mod array_like;
