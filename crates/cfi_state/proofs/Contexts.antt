@@ -1,6 +1,8 @@
 -- How the rows of a stack show a context.
 use Rattle.std.proofs.Common.{◌≡◌, ◌≢◌, Result, Ok, Err, ℕ, ◌+◌, ◌-◌, ◌<◌, ◌≤◌, Bool, true, false, nat_le, eqb, ◌&&◌, cond, Option, Some, None, IsSomeAnd, List, [], ◌∷◌, ◌++◌, length, reverse, take, get_or, refl, sym, ap, ◌∙◌, subst, arith}
-use Rattle.std.proofs.lemmas.List.{length-take-le, take_more, length-reverse, reverse-append}
+use Rattle.std.proofs.Math.ListN.{set, length-set}
+use Rattle.std.proofs.Math.Seq.{take-length}
+use Rattle.std.proofs.lemmas.List.{length-take-le, length_push, take_all, take_more, take_more_set, take-set, length-reverse, reverse-append}
 use Rattle.std.proofs.lemmas.Option.{get_or_from_slice_get, slice_get_within}
 use Rattle.std.proofs.lemmas.Bool.Decides.{nat_tests}
 use Rattle.std.specs.FinMap.{len}
@@ -96,6 +98,37 @@ module _ {T : Type 0} where
             subst (λ s. Performs {B = Unit {0}} ⊥ (context_restore s) s (context_of after new last rules ended) (Ok tt)) (sym whole)
             (λ i. record { row = brought i; remembered = reverse (same.1 i); initial_rules = initial_of rules ended })
       ] refl brought
+
+  -- ---- rows that are written to a stack
+
+  pub same_below-set : (rows lent : List (Row T)) (place : ℕ) (row : Row T) → lent ≡ rows → place < length rows → IsSameBelow place rows (set lent place row)
+  same_below-set rows lent place row is within = (omega (arith, length-set lent place row, ap length is, within), take-set lent place row ∙ ap (take place) is)
+
+  pub kept-over : (old new : List (Row T)) (depth : ℕ) (row : Row T) → depth < length old → new ≡ set old depth row → IsKept old depth row new (depth + 1)
+  kept-over old new depth row within is =
+      (refl, omega (arith, ap length is, length-set old depth row, within), ap (take (depth + 1)) is ∙ take_more_set old depth row within)
+
+  pub kept-appended : (old new : List (Row T)) (depth : ℕ) (row : Row T) → depth ≡ length old → new ≡ old ++ row ∷ [] → IsKept old depth row new (length new)
+  kept-appended old new depth row all is = (
+    omega (arith, ap length is, length_push old row, all),
+    omega arith,
+    take-length new ∙ is ∙ ap (λ rows. rows ++ row ∷ []) (sym (take_all depth old (omega (arith, all)))),
+  )
+
+  module _ (row : Row T) (rows : List (Row T)) (depth : ℕ) (rules : Rules T) (ended : Bool) (state : ContextState T) (shows : context_of row rows depth rules ended ≡ state)
+      (remembered items slice : List (Row T)) (seen : reverse remembered ≡ state.remembered) (copied : items ≡ remembered) (lent : slice ≡ items)
+      (copies : Rules T) (same : copies ≡ rules) where
+    pub shows-copy : (copy : Row T) → copy ≡ row → context_of copy items (length slice) copies ended ≡ state
+    shows-copy copy is =
+        let all : reverse (take (length slice) items) ≡ reverse (take depth rows) =
+        ap reverse (ap (λ l. take (length l) items) lent ∙ take-length items ∙ copied) ∙ seen ∙ sym (ap (λ (s : ContextState T). s.remembered) shows) in
+        (λ i. record { row = is i; remembered = all i; initial_rules = initial_of (same i) ended }) ∙ shows
+
+    pub context-copy : (limit : Option ℕ) → IsContext limit rows depth rules ended → IsContext limit items (length slice) copies ended
+    context-copy limit context =
+        let count : depth ≡ length slice =
+        omega (arith, ap length lent, ap length copied, length-reverse remembered, ap length seen, ap (λ (s : ContextState T). length s.remembered) shows, length-reverse (take depth rows), length-take-le depth rows context.0) in
+        (omega (arith, ap length lent), subst (λ n. HasRoomFor limit (1 + n + copies_held (initial_of copies ended))) count (subst (λ r. HasRoomFor limit (1 + depth + copies_held (initial_of r ended))) (sym same) context.1))
 
   -- ---- the rules that the CIE's initial instructions ended with
 

@@ -1,7 +1,7 @@
--- Lists that are compared item by item, from either end.
-use Rattle.std.proofs.Common.{◌≡◌, Bool, true, false, ◌&&◌, List, [], ◌∷◌, ◌++◌, reverse, refl, ap, ◌∙◌}
+-- Lists that are compared item by item, from either end, and that are gone over item by item.
+use Rattle.std.proofs.Common.{◌≡◌, ℕ, ◌+◌, ◌<◌, ◌≤◌, Bool, true, false, ◌&&◌, List, [], ◌∷◌, ◌++◌, length, get_or, take, reverse, refl, sym, ap, ◌∙◌}
 use Rattle.std.proofs.Math.Bool.{and_comm}
-use Rattle.std.proofs.lemmas.List.{reverse-append}
+use Rattle.std.proofs.lemmas.List.{length-take-le, reverse-append, take_more}
 use Rattle.std.specs.Cmp.Lexicographic.{pointwise}
 
 and_assoc : (a b c : Bool) → (a && (b && c)) ≡ ((a && b) && c)
@@ -37,3 +37,12 @@ module _ {A : Type 0} (E : A → A → Bool) where
       ∙ pointwise-push (reverse xs) (reverse ys) x y
       ∙ and_comm (pointwise E (reverse xs) (reverse ys)) (E x y)
       ∙ ap (λ t. E x y && t) (pointwise-reverse xs ys)
+
+-- the items gone over so far, and the next
+pub one_more : {A : Type 0} (items held new : List A) (index : ℕ) (item : A) → index < length items → item ≡ get_or items index item → held ≡ take index items
+    → new ≡ held ++ item ∷ [] → new ≡ take (index + 1) items
+one_more items held new index item within is same pushed = pushed ∙ (λ i. same i ++ is i ∷ []) ∙ sym (take_more items index item within)
+
+-- the items gone over at the start
+pub as_far_as : {A : Type 0} (items held : List A) (count : ℕ) → count ≤ length items → held ≡ take count items → held ≡ take (length held) items
+as_far_as items held count within is = is ∙ ap (λ n. take n items) (sym (ap length is ∙ length-take-le count items within))

@@ -1,3 +1,6 @@
+use Rattle.std.proofs.Common.{◌∙◌, ◌≤◌, ap, length, arith}
+use Rattle.std.proofs.lemmas.List.{length-take, take_all}
+use Rattle.cfi_state.proofs.Lists.{one_more, as_far_as}
 use Rattle.cfi_state.proofs.Registers.{fill-refused}
 use Rattle.cfi_state.proofs.table.rules.fill.Goals as goal
 
@@ -5,3 +8,19 @@ pub returns-in-loop-place-clause-memory : goal.returns-in-loop-place-clause-memo
 returns-in-loop-place-clause-memory g c =
     rw c.refusal_of.ensures
     (fill-refused g.A.ArrayLike.limit _ _ c.loop-place.place c.in-Err.refused.why c.requires c.loop-place.invariant c.loop-place-test.true c.in-Err.ensures.full c.in-Err.ensures.memory)
+
+pub loop-place-preserved : goal.loop-place-preserved
+loop-place-preserved g c =
+    one_more c.args.pairs.now (g.A.ArrayLike.items c.loop-place.list) (g.A.ArrayLike.items c.try_push.new.self) c.loop-place.place c.index-pairs-place.result c.loop-place-test.true c.index-pairs-place.is c.loop-place.invariant
+    c.in_default.ensures.ok
+
+pub returns-clause-ok : goal.returns-clause-ok
+returns-clause-ok g c = c.loop-place.invariant ∙ take_all c.loop-place.place c.args.pairs.now (omega arith)
+
+pub write_over-requires : goal.write_over-requires
+write_over-requires g c = omega (arith, ap length c.shorten.ensures, length-take (length c.args.pairs.now) (g.A.ArrayLike.items c.args.list.now))
+
+pub loop-place-init : goal.loop-place-init
+loop-place-init g c =
+    let within : length (g.A.ArrayLike.items c.shorten.new.list) ≤ length c.args.pairs.now = omega (arith, ap length c.shorten.ensures, length-take (length c.args.pairs.now) (g.A.ArrayLike.items c.args.list.now)) in
+    rw c.as_slice-place.ensures.value (as_far_as c.args.pairs.now (g.A.ArrayLike.items c.write_over.new.list) _ within c.write_over.ensures)
