@@ -13,6 +13,11 @@ pub by_row : {A : Type 0} (size : Option ℕ) (n : ℕ) (e : Error) (start : ℕ
 by_row None n e start table a of_row found k searchable boundary same = absurd (cc)
 by_row (Some size) n e start table a of_row found k searchable boundary same = inr (k, boundary, same)
 
+-- a format that can be searched has a size
+pub not_none : (size : Option ℕ) (n : ℕ) (e : Error) → ok_or size e ≡ Ok n → size ≡ None → ⊥
+not_none None n e searchable none = cc
+not_none (Some size) n e searchable none = cc
+
 -- where the starts rise, by the last row at or below the address
 pub rising_row : {A : Type 0} (size : Option ℕ) (start : ℕ → Result ℕ Error) (table : Table) (a : ℕ) (of_row : ℕ → Result A Error) (found : Result A Error) →
     IsSome size → AreRising start table.count → SearchedBy size start table a of_row found → (k : ℕ) × IsLastUpTo start table.count a k × (found ≡ of_row k)

@@ -22,3 +22,22 @@ module _ (a b c count left w : ℕ) where
       let more : suc (count - left) * w ≡ (count - left) * w + w = suc-mul (count - left) w in
       let fewer : suc (count - left) * w ≤ (count + 1) * w = mul-le-mul_right w (omega arith) in
       omega (arith, before, here, more, fewer)
+
+-- for one FDE: a search, the row that it finds, and the next one
+module _ (a n b : ℕ) (searched : b ≤ a + n) where
+  pub by_search : b ≤ a + (n + 2)
+  by_search = omega (arith, searched)
+
+  pub by_start : (c : ℕ) → c ≡ b + 1 → c ≤ a + (n + 2)
+  by_start c first = omega (arith, searched, first)
+
+  pub by_next : (c d : ℕ) → c ≡ b + 1 → d ≡ c + 1 → d ≤ a + (n + 2)
+  by_next c d first second = omega (arith, searched, first, second)
+
+-- for the table: each row in order, then the FDEs
+module _ (a n w b : ℕ) (rows : b ≤ a + n) where
+  pub by_rows : b ≤ a + (n + w)
+  by_rows = omega (arith, rows)
+
+  pub by_fdes : (c : ℕ) → c ≤ b + w → c ≤ a + (n + w)
+  by_fdes c fdes = omega (arith, rows, fdes)

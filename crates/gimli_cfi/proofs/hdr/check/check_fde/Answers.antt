@@ -4,6 +4,7 @@ use Rattle.gimli_cfi.specs.BoundaryRows.{AreRising, IsBoundaryRow}
 use Rattle.gimli_cfi.specs.EhFrameHdr.{start_of}
 use Rattle.gimli_cfi.specs.HeaderViews.{header_section_view, table_view}
 use Rattle.gimli_cfi.proofs.Reasons.{never_refused, no_row_by_start, no_row_by_target}
+use Rattle.gimli_cfi.proofs.StartCounts.{by_search, by_start, by_next}
 use Rattle.gimli_cfi.proofs.hdr.check.check_fde.Goals as goal
 
 pub returns-in-Err-clause-reason : goal.returns-in-Err-clause-reason
@@ -34,3 +35,30 @@ returns-then-not-is_at-clause-reason g c =
     let is : start_of header table c.in-Ok.row ≡ Ok fde.initial = given ∙ ap Ok (c.if-start-address.false ∙ initial) in
     let differ = rw offset at (c.is_at.ensures.no c.if-not-is_at.true) in
     (sym offset, sym initial, no_row_by_target header table c.args.eh_frame c.in-Ok.row c.in_ok-target.target fde rising boundary.inside is c.in_ok-target.ensures.given differ)
+
+pub returns-in-Err-clause-calls : goal.returns-in-Err-clause-calls
+returns-in-Err-clause-calls g c = by_search _ _ _ c.search_starts.ensures.calls
+
+pub returns-in_err-start-clause-calls : goal.returns-in_err-start-clause-calls
+returns-in_err-start-clause-calls g c = by_start _ _ _ c.search_starts.ensures.calls _ c.start_at.ensures.calls
+
+pub returns-then-start-address-clause-calls : goal.returns-then-start-address-clause-calls
+returns-then-start-address-clause-calls g c = by_start _ _ _ c.search_starts.ensures.calls _ c.start_at.ensures.calls
+
+pub returns-in_err-target-clause-calls : goal.returns-in_err-target-clause-calls
+returns-in_err-target-clause-calls g c = by_start _ _ _ c.search_starts.ensures.calls _ c.start_at.ensures.calls
+
+pub returns-then-not-is_at-clause-calls : goal.returns-then-not-is_at-clause-calls
+returns-then-not-is_at-clause-calls g c = by_start _ _ _ c.search_starts.ensures.calls _ c.start_at.ensures.calls
+
+pub returns-else-after-table-clause-calls : goal.returns-else-after-table-clause-calls
+returns-else-after-table-clause-calls g c = by_start _ _ _ c.search_starts.ensures.calls _ c.start_at.ensures.calls
+
+pub returns-in_err-next-clause-calls : goal.returns-in_err-next-clause-calls
+returns-in_err-next-clause-calls g c = by_next _ _ _ c.search_starts.ensures.calls _ _ c.start_at.ensures.calls c.start_at-then-after-table.ensures.calls
+
+pub returns-then-next-end-clause-calls : goal.returns-then-next-end-clause-calls
+returns-then-next-end-clause-calls g c = by_next _ _ _ c.search_starts.ensures.calls _ _ c.start_at.ensures.calls c.start_at-then-after-table.ensures.calls
+
+pub returns-else-next-end-clause-calls : goal.returns-else-next-end-clause-calls
+returns-else-next-end-clause-calls g c = by_next _ _ _ c.search_starts.ensures.calls _ _ c.start_at.ensures.calls c.start_at-then-after-table.ensures.calls

@@ -1,4 +1,4 @@
-use Rattle.std.proofs.Common.{◌≡◌, ◌≤◌, ◌-◌, ◌*◌, ℕ, Ok, Err, sym, subst, refl, ◌∙◌, rules}
+use Rattle.std.proofs.Common.{◌≡◌, ◌-◌, ◌*◌, ℕ, Ok, Err, sym, subst, refl, ◌∙◌, rules}
 use Rattle.gimli_cfi.specs.BoundaryRows.{AreRising}
 use Rattle.cfi_unwind.specs.Entries.{FdeEntry, end_of_entry, entries, entries_left}
 use Rattle.cfi_unwind.specs.EntryViews.{partial_of}
@@ -7,8 +7,8 @@ use Rattle.cfi_unwind.specs.CieAndFdeViews.{fde_view}
 use Rattle.cfi_read_core.specs.ReadFunctions.{Position}
 use Rattle.gimli_cfi.specs.TableCheck.{starts_for_fde}
 use Rattle.gimli_cfi.specs.HeaderViews.{section_view, header_section_view, table_view}
-use Rattle.gimli_cfi.proofs.EntryEnds.{StandsAt, stands_after, stands_first}
-use Rattle.gimli_cfi.proofs.Passed.{Passed, is_among, passed_fde, passed_none, reason_of_fde, row_left}
+use Rattle.gimli_cfi.proofs.EntryEnds.{StandsAt, stands_after, stands_first, stands_refused}
+use Rattle.gimli_cfi.proofs.Passed.{Passed, all_listed, entry_refused, fewer_fdes, is_among, passed_fde, passed_none, reason_of_fde, row_left}
 use Rattle.gimli_cfi.proofs.StartCounts.{at_most, none_yet, one_more, with_last}
 use Rattle.gimli_cfi.proofs.hdr.check.check_fdes.Goals as goal
 
@@ -27,6 +27,12 @@ loop-entry-init g c =
       answers = refl;
       calls = none_yet (g.St.StartSource.calls c.args.starts.now) ((table.count - table.count) * starts_for_fde table.count);
     }
+
+pub returns-in-Err-clause-reason : goal.returns-in-Err-clause-reason
+returns-in-Err-clause-reason g c =
+    let section = section_view g.R.Reader.position c.args.frame.now c.args.bases.now in
+    let is = rw (c.loop-entry.invariant.same_section, c.loop-entry.invariant.same_bases) at c.in-Err.ensures.met in
+    stands_refused section c.in-Err.refusal c.loop-entry.invariant.stands is.0 (entry_refused _ _ _ section c.loop-entry.invariant.passed c.in-Err.refusal is.0)
 
 pub returns-in-Err-clause-calls : goal.returns-in-Err-clause-calls
 returns-in-Err-clause-calls g c =
@@ -59,11 +65,10 @@ returns-in_err-check_fde-clause-reason g c =
     let section = section_view g.R.Reader.position c.args.frame.now c.args.bases.now in
     let fde = fde_view g.R.Reader.position g.R.Offset.ReaderOffset.number c.in-Ok.fde in
     let partial = partial_of g.R.Reader.position g.R.Offset.ReaderOffset.number c.in-Fde.partial.found c.in-Fde.partial.cie_offset in
-    let others = entries_left section (g.R.Reader.position c.next.new.self.input).place in
-    let met = rw (c.next.ensures.section, c.next.ensures.bases, c.loop-entry.invariant.same_section, c.loop-entry.invariant.same_bases, c.in-Ok-Some.field-0-is, c.in-Fde.is) at c.in-Ok-Some.ensures.met in
+    let met = rw (c.loop-entry.invariant.same_section, c.loop-entry.invariant.same_bases, c.in-Ok-Some.field-0-is, c.in-Fde.is) at c.in-Ok-Some.ensures.met in
     let same_section_and_bases = rw (c.in-Ok-Some.field-0-is, c.in-Fde.is) at c.in-Ok-Some.ensures.same_section_and_bases in
     let read : Ok fde ≡ read_fde section partial = rw (same_section_and_bases.0 ∙ c.loop-entry.invariant.same_section, same_section_and_bases.1 ∙ c.loop-entry.invariant.same_bases) at c.in-Ok.ensures in
-    let among = is_among header table c.args.eh_frame section {others = others} partial c.loop-entry.invariant.passed met fde (sym read) in
+    let among = is_among header table c.args.eh_frame section partial c.loop-entry.invariant.passed met fde (sym read) in
     rw gives (reason_of_fde header table c.args.eh_frame section fde c.in_err-check_fde.field-0.0 among c.in_err-check_fde.ensures.reason)
 
 pub returns-in_err-check_fde-clause-calls : goal.returns-in_err-check_fde-clause-calls
@@ -81,11 +86,10 @@ overflow_sub-left g c =
     let section = section_view g.R.Reader.position c.args.frame.now c.args.bases.now in
     let fde = fde_view g.R.Reader.position g.R.Offset.ReaderOffset.number c.in-Ok.fde in
     let partial = partial_of g.R.Reader.position g.R.Offset.ReaderOffset.number c.in-Fde.partial.found c.in-Fde.partial.cie_offset in
-    let others = entries_left section (g.R.Reader.position c.next.new.self.input).place in
-    let met = rw (c.next.ensures.section, c.next.ensures.bases, c.loop-entry.invariant.same_section, c.loop-entry.invariant.same_bases, c.in-Ok-Some.field-0-is, c.in-Fde.is) at c.in-Ok-Some.ensures.met in
+    let met = rw (c.loop-entry.invariant.same_section, c.loop-entry.invariant.same_bases, c.in-Ok-Some.field-0-is, c.in-Fde.is) at c.in-Ok-Some.ensures.met in
     let same_section_and_bases = rw (c.in-Ok-Some.field-0-is, c.in-Fde.is) at c.in-Ok-Some.ensures.same_section_and_bases in
     let read : Ok fde ≡ read_fde section partial = rw (same_section_and_bases.0 ∙ c.loop-entry.invariant.same_section, same_section_and_bases.1 ∙ c.loop-entry.invariant.same_bases) at c.in-Ok.ensures in
-    row_left header table c.args.eh_frame section {others = others} partial c.loop-entry.invariant.passed met fde (sym read) c.in_ok-check_fde.ensures.row
+    row_left header table c.args.eh_frame section partial c.loop-entry.invariant.passed met fde (sym read) c.in_ok-check_fde.ensures.row
 
 pub loop-entry-preserved-in-Fde : goal.loop-entry-preserved-in-Fde
 loop-entry-preserved-in-Fde g c =
@@ -99,7 +103,7 @@ loop-entry-preserved-in-Fde g c =
     let same_section_and_bases = rw (c.in-Ok-Some.field-0-is, c.in-Fde.is) at c.in-Ok-Some.ensures.same_section_and_bases in
     let read : Ok fde ≡ read_fde section partial = rw (same_section_and_bases.0 ∙ c.loop-entry.invariant.same_section, same_section_and_bases.1 ∙ c.loop-entry.invariant.same_bases) at c.in-Ok.ensures in
     let ended : c.end_of_entry-end.result ≡ end_of_entry (FdeEntry partial) = rw c.in-Fde.is at c.end_of_entry-end.ensures in
-    let some : 1 ≤ c.loop-entry.left = row_left header table c.args.eh_frame section {others = others} partial c.loop-entry.invariant.passed met fde (sym read) c.in_ok-check_fde.ensures.row in
+    let some = overflow_sub-left g c in
     record {
       same_section = c.next.ensures.section ∙ c.loop-entry.invariant.same_section;
       same_bases = c.next.ensures.bases ∙ c.loop-entry.invariant.same_bases;
@@ -109,6 +113,11 @@ loop-entry-preserved-in-Fde g c =
       calls = one_more (g.St.StartSource.calls c.args.starts.now) _ _ table.count c.loop-entry.left (starts_for_fde table.count) some c.loop-entry.invariant.passed.fewer c.loop-entry.invariant.calls c.in_ok-check_fde.ensures.calls;
     }
 
+pub returns-then-left-eq0-clause-listed : goal.returns-then-left-eq0-clause-listed
+returns-then-left-eq0-clause-listed g c =
+    let is = rw (c.loop-entry.invariant.same_section, c.loop-entry.invariant.same_bases, c.in-Ok-None.field-0-is) at c.in-Ok-None.ensures.met in
+    all_listed _ _ _ _ c.loop-entry.invariant.passed is.0 c.if-left-eq0.true
+
 pub returns-then-left-eq0-clause-calls : goal.returns-then-left-eq0-clause-calls
 returns-then-left-eq0-clause-calls g c =
     let count = (table_view g.R.Reader.position c.args.table.now).count in
@@ -116,6 +125,11 @@ returns-then-left-eq0-clause-calls g c =
 
 pub returns-then-left-eq0-clause-same : goal.returns-then-left-eq0-clause-same
 returns-then-left-eq0-clause-same g c = c.loop-entry.invariant.answers
+
+pub returns-else-left-eq0-clause-reason : goal.returns-else-left-eq0-clause-reason
+returns-else-left-eq0-clause-reason g c =
+    let is = rw (c.loop-entry.invariant.same_section, c.loop-entry.invariant.same_bases, c.in-Ok-None.field-0-is) at c.in-Ok-None.ensures.met in
+    fewer_fdes _ _ _ _ c.loop-entry.invariant.passed is.0 c.if-left-eq0.false
 
 pub returns-else-left-eq0-clause-calls : goal.returns-else-left-eq0-clause-calls
 returns-else-left-eq0-clause-calls g c =

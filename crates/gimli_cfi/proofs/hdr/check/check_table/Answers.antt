@@ -7,6 +7,7 @@ use Rattle.gimli_cfi.specs.EhFrameHdr.{start_of, value_size}
 use Rattle.gimli_cfi.specs.HeaderViews.{listing_view}
 use Rattle.gimli_cfi.proofs.Faithful.{faithful}
 use Rattle.gimli_cfi.proofs.Reasons.{not_faithful, reason_of_starts, reason_of_fdes, direct_at, some_of, if_err}
+use Rattle.gimli_cfi.proofs.StartCounts.{none_yet, by_rows, by_fdes}
 use Rattle.gimli_cfi.proofs.hdr.check.check_table.Goals as goal
 
 pub returns-in_err-check_starts-clause-unfaithful : goal.returns-in_err-check_starts-clause-unfaithful
@@ -29,3 +30,15 @@ returns-clause-unfaithful g c =
     let l = listing_view g.R.Reader.position c.args.table.now c.args.frame.now c.args.bases.now in
     let at : l.eh_frame ≡ Direct c.in_ok-eh_frame.eh_frame = direct_at l.eh_frame c.in_ok-eh_frame.eh_frame (sym c.in_ok-eh_frame.ensures.given ∙ c.direct.ensures) in
     if_err c.check_fdes.result (λ reason why. not_faithful l reason (reason_of_fdes l c.in_ok-eh_frame.eh_frame reason at why)) c.check_fdes.ensures.reason
+
+pub returns-in_err-eh_frame-clause-calls : goal.returns-in_err-eh_frame-clause-calls
+returns-in_err-eh_frame-clause-calls g c = none_yet _ _
+
+pub returns-in_err-size-clause-calls : goal.returns-in_err-size-clause-calls
+returns-in_err-size-clause-calls g c = none_yet _ _
+
+pub returns-in_err-check_starts-clause-calls : goal.returns-in_err-check_starts-clause-calls
+returns-in_err-check_starts-clause-calls g c = by_rows _ _ _ _ c.check_starts.ensures.calls
+
+pub returns-clause-calls : goal.returns-clause-calls
+returns-clause-calls g c = by_fdes _ _ _ _ c.check_starts.ensures.calls _ c.check_fdes.ensures.calls
