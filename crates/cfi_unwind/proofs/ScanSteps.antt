@@ -21,33 +21,33 @@ module _ {F : Type 0} (gives : F → ℕ → Result Cie Error → F → Type 0) 
   unfolding chosen_of_given
   scans_refusal e f = ([], refl, refl)
 
-  -- the same of equal entries
-  pub scans_cie_at : {xs : Readings Entry} (cie : Cie) (others : Readings Entry) (f : F) (answer : Result Fde Error) (g : F) → xs ≡ with_first (CieEntry cie) others →
-      Scans gives section a others f answer g → Scans gives section a xs f answer g
-  scans_cie_at {xs = xs} cie others f answer g e behind = subst (λ x. Scans gives section a x f answer g) (sym e) behind
-
-  module _ (partial : PartialFde) (others : Readings Entry) (given : Result Cie Error) (f h : F) (asking : gives f partial.cie_offset given h) where
-    decides : List (Result Cie Error) → Result Fde Error → Option (Result Fde Error)
-    decides more r = answer_if_decided a r more (chosen_of_given a section (partial_fdes others.values) others.refusal more)
-
-    pub scans_refused_fde : (e : Error) → fde_with section partial given ≡ Err e → Scans gives section a (with_first (FdeEntry partial) others) f (Err e) h
-    unfolding chosen_of_given decides
-    scans_refused_fde e is = (given ∷ [], (h, asking, refl), ap (decides []) is)
-
-    pub scans_found : (fde : Fde) → fde_with section partial given ≡ Ok fde → covers fde a ≡ true → Scans gives section a (with_first (FdeEntry partial) others) f (Ok fde) h
-    unfolding chosen_of_given decides
-    scans_found fde is there =
-        (given ∷ [], (h, asking, refl), ap (decides []) is ∙ ap (λ (b : Bool). if b then Some (Ok fde) else chosen_of_given a section (partial_fdes others.values) others.refusal []) there)
-
-    pub scans_passed : (fde : Fde) (answer : Result Fde Error) (g : F) → fde_with section partial given ≡ Ok fde → covers fde a ≡ false →
-        Scans gives section a others h answer g → Scans gives section a (with_first (FdeEntry partial) others) f answer g
-    unfolding chosen_of_given decides
-    scans_passed fde answer g is elsewhere (more, answers, e) =
-        (given ∷ more, (h, asking, answers), ap (decides more) is ∙ (ap (λ (b : Bool). if b then if_last more (Ok fde) else chosen_of_given a section (partial_fdes others.values) others.refusal more) elsewhere ∙ e))
-
   -- a scan of equal entries with an equal answer
   pub scans_at : {xs ys : Readings Entry} {f : F} {r q : Result Fde Error} {g : F} → xs ≡ ys → r ≡ q → Scans gives section a ys f q g → Scans gives section a xs f r g
   scans_at {xs = xs} {ys = ys} {f = f} {r = r} {q = q} {g = g} e k h = subst (λ x. Scans gives section a x f r g) (sym e) (subst (λ x. Scans gives section a ys f x g) (sym k) h)
+
+  -- the same of equal entries
+  pub scans_cie_at : {xs : Readings Entry} (cie : Cie) (others : Readings Entry) (f : F) (answer : Result Fde Error) (g : F) → xs ≡ with_first (CieEntry cie) others →
+      Scans gives section a others f answer g → Scans gives section a xs f answer g
+  scans_cie_at cie others f answer g e behind = scans_at e refl behind
+
+  module _ {xs : Readings Entry} (partial : PartialFde) (others : Readings Entry) (met : xs ≡ with_first (FdeEntry partial) others) (given : Result Cie Error) (f h : F) (asking : gives f partial.cie_offset given h) where
+    decides : List (Result Cie Error) → Result Fde Error → Option (Result Fde Error)
+    decides more r = answer_if_decided a r more (chosen_of_given a section (partial_fdes others.values) others.refusal more)
+
+    pub scans_refused_fde : (e : Error) (r : Result Fde Error) → r ≡ Err e → fde_with section partial given ≡ Err e → Scans gives section a xs f r h
+    unfolding chosen_of_given decides
+    scans_refused_fde e r gone is = scans_at met gone (given ∷ [], (h, asking, refl), ap (decides []) is)
+
+    pub scans_found : (fde : Fde) → fde_with section partial given ≡ Ok fde → (b : Bool) → b ≡ covers fde a → b ≡ true → Scans gives section a xs f (Ok fde) h
+    unfolding chosen_of_given decides
+    scans_found fde is b tested there =
+        scans_at met refl (given ∷ [], (h, asking, refl), ap (decides []) is ∙ ap (λ (b : Bool). if b then Some (Ok fde) else chosen_of_given a section (partial_fdes others.values) others.refusal []) (sym tested ∙ there))
+
+    pub scans_passed : (fde : Fde) (answer : Result Fde Error) (g : F) → fde_with section partial given ≡ Ok fde → (b : Bool) → b ≡ covers fde a → b ≡ false →
+        Scans gives section a others h answer g → Scans gives section a xs f answer g
+    unfolding chosen_of_given decides
+    scans_passed fde answer g is b tested elsewhere (more, answers, e) =
+        scans_at met refl (given ∷ more, (h, asking, answers), ap (decides more) is ∙ (ap (λ (b : Bool). if b then if_last more (Ok fde) else chosen_of_given a section (partial_fdes others.values) others.refusal more) (sym tested ∙ elsewhere) ∙ e))
 
 -- Where each call gives the CIE to which the FDE points, by what it keeps, the answer is the chosen FDE.
 module _ {F : Type 0} (gives : F → ℕ → Result Cie Error → F → Type 0) (section : Section) (I : F → Type 0) (reads : (f : F) (offset : ℕ) (given : Result Cie Error) (g : F) → I f → gives f offset given g → I g × (given ≡ cie_at section offset)) where
