@@ -1,10 +1,9 @@
 //! How often each of the six calls with a `get_cie` asks it, on every way out.
 //!
 //! The contracts of calls that take the closure by value leave its last state open; the counts stand here.
-use crate::searches::{
-    HEADER, SECTION, bases, ended, read_header, second_target, start_of, table_of,
-};
+use crate::searches::{HEADER, SECTION, bases, read_header, second_target, start_of, table_of};
 use cfi_read_core::{DebugFrameOffset, Error, LittleEndian, Reader};
+use cfi_test_bytes::ended;
 use gimli_cfi::entry::{CommonInformationEntry, FrameDescriptionEntry};
 use gimli_cfi::hdr::EhHdrTable;
 use gimli_cfi::pointer::BaseAddresses;

@@ -1,9 +1,8 @@
 //! Tables of `.eh_frame_hdr` that list the FDEs of their section faithfully, and the faults of others.
 
-use crate::searches::{
-    HEADER, SECTION, Shown, bases, by_scan, ended, read_header, shown, table_of,
-};
+use crate::searches::{HEADER, SECTION, Shown, bases, by_scan, read_header, shown, table_of};
 use cfi_read_core::{DwEhPe, Error, LittleEndian, Reader};
+use cfi_test_bytes::ended;
 use gimli_cfi::hdr::{FaithfulTable, ParsedEhFrameHdr, Unfaithful};
 use gimli_cfi::section::EhFrame;
 use gimli_cfi::table::UnwindContext;

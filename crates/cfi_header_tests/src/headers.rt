@@ -1,8 +1,9 @@
 //! Headers of `.eh_frame_hdr`, and the rows of their tables.
-use crate::searches::{Slice, ended, read_header, table_of};
+use crate::searches::{Slice, read_header, table_of};
 use cfi_read_core::{
     BigEndian, DwEhPe, EndianSlice, Error, LittleEndian, NarrowSlice, Reader, Section, SectionId,
 };
+use cfi_test_bytes::ended;
 use gimli_cfi::hdr::{EhFrameHdr, EhHdrTable, EhHdrTableIter, ParsedEhFrameHdr};
 use gimli_cfi::pointer::{BaseAddresses, Pointer};
 use std::test::Fail;

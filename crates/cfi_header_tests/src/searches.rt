@@ -4,9 +4,9 @@ ghost use Rattle.cfi_read_core.specs.declared.error.Error.TheVariants.{NoUnwindI
 
 use crate::asked::fde_by_table;
 use cfi_read_core::{
-    DwEhPe, EhFrameOffset, EndianSlice, Error, LittleEndian, NarrowSlice, Reader, ReaderOffsetId,
-    Register,
+    DwEhPe, EhFrameOffset, EndianSlice, Error, LittleEndian, NarrowSlice, Reader, Register,
 };
+use cfi_test_bytes::ended;
 use gimli_cfi::call_count::CallCount;
 use gimli_cfi::hdr::{
     EhFrameHdr, EhHdrTable, ParsedEhFrameHdr, StartSource, TableStarts, row_by_table, search_starts,
@@ -45,10 +45,6 @@ pub(crate) fn bases() -> BaseAddresses {
     BaseAddresses::default()
         .set_eh_frame_hdr(0x1f00)
         .set_eh_frame(0x2000)
-}
-
-pub(crate) fn ended(place: u64) -> Error {
-    Error::UnexpectedEof(ReaderOffsetId(place))
 }
 
 /// A header of 8-byte addresses. The tests read it here, since each call over a type parameter makes the check longer.

@@ -4,6 +4,7 @@ use cfi_read_core::{
     BigEndian, EndianSlice, Error, LittleEndian, NarrowSlice, Reader, ReaderAddress,
     ReaderOffsetId, Register, RunTimeEndian,
 };
+use cfi_test_bytes::ended;
 use std::test::Fail;
 
 /// What an unsigned LEB128 number gives, and the place after it.
@@ -23,10 +24,6 @@ fn sleb128<R: Reader>(reader: R) -> (Result<i64, Error>, u64) {
 fn place<R: Reader>(reader: &R) -> u64 {
     use cfi_read_core::ReaderOffset;
     reader.place().into_u64()
-}
-
-fn ended(place: u64) -> Error {
-    Error::UnexpectedEof(ReaderOffsetId(place))
 }
 
 /// The examples of DWARF 5 section 7.6, padding, and the greatest number; what each gives, and the place after it.

@@ -1,6 +1,7 @@
-//! The bytes of the sections that several crates of tests read.
+//! What several crates of tests share: sections as bytes, and the refusal where bytes end.
 #![tactic(auto)]
 
+use cfi_read_core::{Error, ReaderOffsetId};
 use hex::FromHexError;
 use std::alloc::Global;
 
@@ -11,6 +12,11 @@ pub const THREE_ROWS: [u8; 52] = [
     0, 0, 0, 0, 0, 0, 0, 0x10, 0, 0, 0, 0, 0, 0, 0x20, 0, 0, 0, 0, 0, 0, 0, 0x41, 0x0e, 0x10, 0x86,
     2, 0x43, 0x0d, 6,
 ];
+
+/// The bytes end too early for a read at the place.
+pub fn ended(place: u64) -> Error {
+    Error::UnexpectedEof(ReaderOffsetId(place))
+}
 
 /// The bytes that the digits write, spaces left out.
 pub fn bytes_of(alloc: Global, text: &str) -> Result<Vec<u8>, FromHexError> {

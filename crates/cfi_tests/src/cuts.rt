@@ -1,6 +1,6 @@
 //! Sections that end too early, or whose numbers are the greatest, over offsets of eight bytes and of four.
 use cfi_read_core::{EndianSlice, Error, LittleEndian, NarrowSlice, Reader, ReaderOffsetId};
-use cfi_test_bytes::{THREE_ROWS, bytes_of};
+use cfi_test_bytes::{THREE_ROWS, bytes_of, ended};
 use gimli_cfi::pointer::BaseAddresses;
 use gimli_cfi::section::{DebugFrame, EhFrame, UnwindSection};
 use gimli_cfi::storage::UnwindContextStorage;
@@ -10,10 +10,6 @@ use std::test::Fail;
 
 /// The addresses of the row for 0x1002.
 type Answer = Result<(u64, u64), Error>;
-
-fn ended(place: u64) -> Answer {
-    Err(Error::UnexpectedEof(ReaderOffsetId(place)))
-}
 
 fn row_in<R: Reader, S: UnwindSection<R>, C: UnwindContextStorage<R::Offset>>(
     context: &mut UnwindContext<R::Offset, C>,
@@ -63,7 +59,7 @@ fn answer_of_a_cut(count: usize) -> Answer {
         24..=51 => 24,
         _ => return Ok((0x1001, 0x1004)),
     };
-    ended(place)
+    Err(ended(place))
 }
 
 /// A section that is cut within an entry ends where the entry's rest would begin.
@@ -132,6 +128,6 @@ fn augmentation_data_past_the_entry(rt: HostRuntime) -> Result<(), Fail> {
     let text = "0f000000 00000000 01 7a00 017810 8080808010";
     let bytes = bytes_of(rt.alloc(), text)?;
     let found = in_eh_frame(rt.alloc(), bytes.as_slice())?;
-    assert_eq!(rt; found, (ended(19), Err(Error::UnsupportedOffset)));
+    assert_eq!(rt; found, (Err(ended(19)), Err(Error::UnsupportedOffset)));
     Ok(())
 }
