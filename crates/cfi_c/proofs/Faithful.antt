@@ -3,7 +3,7 @@ use Rattle.std.proofs.Common.{◌≡◌, ◌≤◌, ℕ, Bool, true, List, lengt
 use Rattle.cfi_read_core.specs.declared.error.Error.{Error}
 use Rattle.cfi_read_core.specs.Addresses.{IsAddressSize}
 use Rattle.cfi_parts.specs.declared.pointer.Pointer.TheVariants.{Direct}
-use Rattle.cfi_unwind.specs.Fdes.{Fde}
+use Rattle.cfi_entry.specs.Fdes.{Fde}
 use Rattle.cfi_unwind.specs.Scan.{answer_by, chosen_fde}
 use Rattle.cfi_unwind.specs.AddressRow.{row_by_scan, row_of_fde}
 use Rattle.gimli_cfi.specs.EhFrameHdr as headers

@@ -8,7 +8,7 @@ use Rattle.cfi_parts.specs.declared.pointer.SectionBaseAddresses.{SectionBaseAdd
 use Rattle.cfi_state.specs.Row.{Row}
 use Rattle.cfi_state.specs.MappedStates.{map_row}
 use Rattle.cfi_state.proofs.MappedEquality.{as_it_is, same_row}
-use Rattle.cfi_unwind.specs.Sections.{Section, SectionKind}
+use Rattle.cfi_entry.specs.Sections.{Section, SectionKind}
 use Rattle.cfi_unwind.proofs.Laws.{row_is_due_where_fixed}
 use Rattle.gimli_cfi.specs.EhFrameHdr.{HeaderSection, header_section}
 use Rattle.gimli_cfi.specs.RowsByHeader.{IsRowByHeader}

@@ -25,8 +25,8 @@ use Rattle.cfi_state.specs.declared.table.rules.CfaRule.TheVariants as cfa
 use Rattle.cfi_state.specs.declared.table.rules.RegisterRule.{RegisterRule}
 use Rattle.cfi_state.specs.declared.table.rules.RegisterRule.TheVariants as rule
 use Rattle.cfi_state.specs.Row.{Row}
-use Rattle.cfi_unwind.specs.Sections.{Section, SectionKind, DebugFrame, EhFrame}
-use Rattle.cfi_unwind.specs.Fdes.{Fde}
+use Rattle.cfi_entry.specs.Sections.{Section, SectionKind, DebugFrame, EhFrame}
+use Rattle.cfi_entry.specs.Fdes.{Fde}
 use Rattle.cfi_unwind.specs.Scan.{answer_by}
 use Rattle.cfi_unwind.specs.AddressRow.{row_by_scan, row_of_fde}
 use Rattle.gimli_cfi.specs.EhFrameHdr as headers

@@ -1,7 +1,7 @@
 //! The row of an address.
 ghost use Rattle.std.specs.Prelude.{◌≤◌, ◌-◌};
 ghost use Rattle.cfi_state.specs.MappedStates.{row_lent};
-ghost use Rattle.cfi_unwind.specs.Sections.{section_of};
+ghost use Rattle.cfi_entry.specs.Sections.{section_of};
 ghost use Rattle.cfi_unwind.specs.AddressRow.{IsRowByScan};
 
 use gimli_cfi::hdr::FaithfulTable;

@@ -1,6 +1,6 @@
 -- The verdict is that of the bytes.
 use Rattle.std.proofs.Common.{◌≡◌, ◌∙◌, ℕ, List, Some, Ok, ap, subst, sym}
-use Rattle.cfi_unwind.specs.Sections.{Section}
+use Rattle.cfi_entry.specs.Sections.{Section}
 use Rattle.gimli_cfi.specs.EhFrameHdr.{Header, HeaderSection, header_of}
 use Rattle.gimli_cfi.specs.TableCheck.{Listing}
 use Rattle.cfi_program.specs.Input.{Bytes}

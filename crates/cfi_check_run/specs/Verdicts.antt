@@ -1,6 +1,6 @@
 -- What is right to say of a section and its header.
 use Rattle.std.specs.Prelude.{◌≡◌, Some, None, Ok, Err}
-use Rattle.cfi_unwind.specs.Sections.{Section}
+use Rattle.cfi_entry.specs.Sections.{Section}
 use Rattle.gimli_cfi.specs.EhFrameHdr.{Header, HeaderSection, header_of}
 use Rattle.gimli_cfi.specs.TableCheck.{IsReason, Listing, ListsFaithfully}
 use Rattle.cfi_check_run.specs.declared.table_check.Verdict.{Verdict}

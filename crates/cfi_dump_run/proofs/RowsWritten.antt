@@ -22,9 +22,9 @@ use Rattle.cfi_state.proofs.FixedStorage.{fixed_never}
 use Rattle.cfi_state.proofs.IsStateAfter.{accepted_value, refused_error}
 use Rattle.cfi_state.proofs.KeptAnswers.{kept_next_is, kept_cie_is}
 use Rattle.cfi_state.proofs.MappedEquality.{as_it_is, same_row}
-use Rattle.cfi_unwind.specs.EntryInstructions.{cie_instructions, fde_instructions}
-use Rattle.cfi_unwind.specs.Fdes.{Fde}
-use Rattle.cfi_unwind.specs.Sections.{Section}
+use Rattle.cfi_entry.specs.EntryInstructions.{cie_instructions, fde_instructions}
+use Rattle.cfi_entry.specs.Fdes.{Fde}
+use Rattle.cfi_entry.specs.Sections.{Section}
 use Rattle.cfi_unwind.specs.UnwindTableCalls.{AnswersWithoutMachine, KeepsCieProgram, LendsNextRow}
 use Rattle.cfi_program.specs.Lines.{refusal_line}
 use Rattle.cfi_program.specs.RowLines.{answer_line}

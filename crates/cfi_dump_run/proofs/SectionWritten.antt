@@ -8,10 +8,10 @@ use Rattle.cfi_read_core.specs.declared.error.Error.{Error}
 use Rattle.cfi_parts.specs.CallFrameSections.{SectionView}
 use Rattle.cfi_parts.specs.InstructionReaders.{items, refusal_item}
 use Rattle.cfi_parts.specs.declared.pointer.BaseAddresses.{BaseAddresses}
-use Rattle.cfi_unwind.specs.Entries.{Entry, entries_left}
-use Rattle.cfi_unwind.specs.Fdes.{Fde, PartialFde}
+use Rattle.cfi_entry.specs.Entries.{Entry, entries_left}
+use Rattle.cfi_entry.specs.Fdes.{Fde, PartialFde}
 use Rattle.cfi_unwind.specs.Scan.{read_fde}
-use Rattle.cfi_unwind.specs.Sections.{Section, section_of}
+use Rattle.cfi_entry.specs.Sections.{Section, section_of}
 use Rattle.cfi_program.specs.Lines.{refusal_line}
 use Rattle.cfi_program.specs.WriterOutput.{IsBeginning, Writes}
 use Rattle.cfi_program.proofs.WrittenLemmas.{IsGiven, beginning_then, given_all, given_first, given_then, writes_last, writes_refused}

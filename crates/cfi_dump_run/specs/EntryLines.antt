@@ -3,9 +3,9 @@ use Rattle.std.specs.Prelude.{ℕ, Bool, true, false, Option, Some, None, List, 
 use Rattle.std.specs.Fmt.{decimal, signed_decimal}
 use Rattle.cfi_parts.specs.declared.pointer.Pointer.{Pointer}
 use Rattle.cfi_parts.specs.declared.pointer.Pointer.TheVariants.{Direct, Indirect}
-use Rattle.cfi_unwind.specs.Augmentations.{address_encoding_of, lsda_encoding_of, personality_of, is_trampoline, has_b_key}
-use Rattle.cfi_unwind.specs.Cies.{Cie}
-use Rattle.cfi_unwind.specs.Fdes.{Fde, end_of}
+use Rattle.cfi_entry.specs.Augmentations.{address_encoding_of, lsda_encoding_of, personality_of, is_trampoline, has_b_key}
+use Rattle.cfi_entry.specs.Cies.{Cie}
+use Rattle.cfi_entry.specs.Fdes.{Fde, end_of}
 use Rattle.cfi_program.specs.Lines.{address_text}
 
 -- ---- what stands only where an entry has it

@@ -11,11 +11,11 @@ use Rattle.cfi_state.specs.Program.{in_fde}
 use Rattle.cfi_state.specs.Row.{Row}
 use Rattle.cfi_state.specs.FdeAnswers.{answers, cie_refusal, on_option}
 use Rattle.cfi_unwind.specs.AddressRow.{setting}
-use Rattle.cfi_unwind.specs.Entries.{Entry, CieEntry, FdeEntry, entries}
-use Rattle.cfi_unwind.specs.EntryInstructions.{cie_instructions, fde_instructions}
-use Rattle.cfi_unwind.specs.Fdes.{Fde, PartialFde}
+use Rattle.cfi_entry.specs.Entries.{Entry, CieEntry, FdeEntry, entries}
+use Rattle.cfi_entry.specs.EntryInstructions.{cie_instructions, fde_instructions}
+use Rattle.cfi_entry.specs.Fdes.{Fde, PartialFde}
 use Rattle.cfi_unwind.specs.Scan.{read_fde}
-use Rattle.cfi_unwind.specs.Sections.{Section}
+use Rattle.cfi_entry.specs.Sections.{Section}
 use Rattle.cfi_program.specs.Lines.{refusal_line}
 use Rattle.cfi_program.specs.RowLines.{answer_line}
 use Rattle.cfi_dump_run.specs.EntryLines.{cie_line, fde_line, partial_fde_line}

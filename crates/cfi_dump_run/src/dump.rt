@@ -2,10 +2,10 @@
 ghost use Rattle.std.specs.Prelude.{◌≡◌, IfOk};
 ghost use Rattle.cfi_read_core.specs.ReaderCalls.{map_ok};
 ghost use Rattle.cfi_parts.specs.CallFrameSections.{IsOf};
-ghost use Rattle.cfi_unwind.specs.CieAndFdeViews.{fde_view};
+ghost use Rattle.cfi_unwind.specs.FdeViews.{fde_view};
 ghost use Rattle.cfi_unwind.specs.EntryViews.{partial_of};
 ghost use Rattle.cfi_unwind.specs.Scan.{read_fde};
-ghost use Rattle.cfi_unwind.specs.Sections.{section_of};
+ghost use Rattle.cfi_entry.specs.Sections.{section_of};
 ghost use Rattle.cfi_program.specs.WriterOutput.{Writes};
 ghost use Rattle.cfi_dump_run.specs.SectionTexts.{fde_rows, fde_text, lines, section_text};
 

@@ -1,7 +1,8 @@
 //! The lines of entries.
 ghost use Rattle.std.specs.Prelude.{◌≡◌, ◌++◌, [], ◌∷◌, Some, IfSome};
 ghost use Rattle.std.specs.Option.{option_map};
-ghost use Rattle.cfi_unwind.specs.CieAndFdeViews.{cie_view, fde_view};
+ghost use Rattle.cfi_entry.specs.CieViews.{cie_view};
+ghost use Rattle.cfi_unwind.specs.FdeViews.{fde_view};
 ghost use Rattle.cfi_program.specs.WriterOutput.{Writes};
 ghost use Rattle.cfi_dump_run.specs.EntryLines.{target_text, addresses_text, lsda_encoding_text, personality_text, signal_text, b_key_text, lsda_text, cie_head, cie_factors, cie_augmentation, cie_line, fde_head, fde_addresses, fde_line, partial_fde_line};
 

@@ -1,7 +1,7 @@
 //! The whole program, over any reader and writer.
 ghost use Rattle.std.specs.Prelude.{◌≡◌, ◌⊎◌, ℕ, List, Some, None, IfOk, IfErr, IfSome, IsNone, option_map};
 ghost use Rattle.std.specs.Io.KnownBytes.{Appends};
-ghost use Rattle.cfi_unwind.specs.Sections.{section_of};
+ghost use Rattle.cfi_entry.specs.Sections.{section_of};
 ghost use Rattle.cfi_program.specs.Lines.{Line};
 ghost use Rattle.cfi_program.specs.Words.{AreRead, texts};
 ghost use Rattle.cfi_program.specs.WriterOutput.{Prints};

@@ -8,14 +8,15 @@ ghost use Rattle.cfi_read_core.specs.ReaderCalls.{map_ok};
 ghost use Rattle.cfi_read_core.specs.declared.error.Error.{Error as Refusal};
 ghost use Rattle.cfi_parts.specs.CallFrameSections.{IsOf};
 ghost use Rattle.cfi_state.specs.MappedStates.{row_lent};
-ghost use Rattle.cfi_unwind.specs.Sections.{section_of};
-ghost use Rattle.cfi_unwind.specs.Entries.{cie_at, fde_at, fde_by};
+ghost use Rattle.cfi_entry.specs.Sections.{section_of};
+ghost use Rattle.cfi_entry.specs.Entries.{cie_at, fde_at, fde_by};
 ghost use Rattle.cfi_unwind.specs.EntryViews.{partial_of};
-ghost use Rattle.cfi_unwind.specs.Fdes.{Covers, Fde};
+ghost use Rattle.cfi_entry.specs.Fdes.{Covers, Fde};
 ghost use Rattle.cfi_unwind.specs.Scan.{chosen_fde};
 ghost use Rattle.cfi_unwind.specs.AddressRow.{IsRowByScan, IsRowOfFound};
 ghost use Rattle.cfi_unwind.specs.KeptCie.{KeepsCie};
-ghost use Rattle.cfi_unwind.specs.CieAndFdeViews.{cie_view, fde_view};
+ghost use Rattle.cfi_entry.specs.CieViews.{cie_view};
+ghost use Rattle.cfi_unwind.specs.FdeViews.{fde_view};
 ghost use Rattle.gimli_cfi.specs.HeaderViews.{section_view};
 
 use gimli_cfi::{

@@ -5,8 +5,8 @@ use Rattle.cfi_read_core.specs.ByteOrder.{is_big}
 use Rattle.cfi_read_core.specs.ReadFunctions.{Position}
 use Rattle.cfi_read_core.specs.ReaderCalls.{all_of}
 use Rattle.cfi_parts.specs.declared.pointer.SectionBaseAddresses.{SectionBaseAddresses}
-use Rattle.cfi_unwind.specs.Sections as sections
-use Rattle.cfi_unwind.specs.Sections.{Section}
+use Rattle.cfi_entry.specs.Sections as sections
+use Rattle.cfi_entry.specs.Sections.{Section}
 use Rattle.gimli_cfi.specs.EhFrameHdr.{header_section}
 use Rattle.cfi_program.specs.declared.words.SectionWords.{SectionWords}
 use Rattle.cfi_program.specs.SectionOfWords.{header_section_of, kind_of_section, section_of}

@@ -2,8 +2,8 @@
 use Rattle.std.specs.Prelude.{ℕ, Some, List, length}
 use Rattle.cfi_read_core.specs.ByteOrder.{is_big}
 use Rattle.cfi_read_core.specs.ReadFunctions.{Source}
-use Rattle.cfi_unwind.specs.Sections as sections
-use Rattle.cfi_unwind.specs.Sections.{Section}
+use Rattle.cfi_entry.specs.Sections as sections
+use Rattle.cfi_entry.specs.Sections.{Section}
 use Rattle.gimli_cfi.specs.EhFrameHdr.{HeaderSection}
 use Rattle.cfi_program.specs.declared.words.Kind.{Kind}
 use Rattle.cfi_program.specs.declared.words.Kind.TheVariants.{DebugFrame, EhFrame}

@@ -6,7 +6,7 @@ use Rattle.cfi_read_core.specs.ReaderCalls.{map_ok}
 use Rattle.cfi_state.specs.Row.{Row}
 use Rattle.cfi_state.specs.MappedStates.{map_row}
 use Rattle.cfi_state.proofs.MappedEquality.{as_it_is, same_row}
-use Rattle.cfi_unwind.specs.Sections.{Section}
+use Rattle.cfi_entry.specs.Sections.{Section}
 use Rattle.cfi_unwind.specs.Scan.{chosen_fde}
 use Rattle.gimli_cfi.specs.EhFrameHdr.{HeaderSection}
 use Rattle.gimli_cfi.specs.RowsByHeader.{IsRowByHeader}

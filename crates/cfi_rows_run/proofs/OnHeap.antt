@@ -2,7 +2,7 @@
 use Rattle.std.proofs.Common.{◌≡◌, ℕ, true, Some, Result, refl, subst}
 use Rattle.cfi_read_core.specs.declared.error.Error.{Error}
 use Rattle.cfi_state.specs.Row.{Row}
-use Rattle.cfi_unwind.specs.Fdes.{Fde}
+use Rattle.cfi_entry.specs.Fdes.{Fde}
 use Rattle.cfi_unwind.specs.Scan.{answer_by}
 use Rattle.cfi_unwind.specs.AddressRow.{row_of_fde}
 use Rattle.cfi_unwind.proofs.Laws.{row_is_due_where_fixed}

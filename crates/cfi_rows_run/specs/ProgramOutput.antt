@@ -2,7 +2,7 @@
 use Rattle.std.specs.Prelude.{◌≡◌, ℕ, Bool, true, false, Option, Some, None, Result}
 use Rattle.cfi_read_core.specs.declared.error.Error.{Error}
 use Rattle.cfi_state.specs.Row.{Row}
-use Rattle.cfi_unwind.specs.Fdes.{Fde}
+use Rattle.cfi_entry.specs.Fdes.{Fde}
 use Rattle.cfi_unwind.specs.Scan.{chosen_fde}
 use Rattle.gimli_cfi.specs.EhFrameHdr.{header_of}
 use Rattle.gimli_cfi.specs.RowsByHeader.{FoundByHeader}

@@ -6,10 +6,10 @@ use Rattle.std.specs.Borrow.{Bor}
 use Rattle.cfi_read_core.specs.declared.error.Error.{Error}
 use Rattle.cfi_parts.specs.declared.pointer.BaseAddresses.{BaseAddresses}
 use Rattle.cfi_read_core.specs.ReaderCalls.{map_ok}
-use Rattle.cfi_unwind.specs.Sections.{Section}
-use Rattle.cfi_unwind.specs.Cies.{Cie}
-use Rattle.cfi_unwind.specs.Fdes.{Fde, PartialFde}
-use Rattle.cfi_unwind.specs.Entries.{cie_at, entries, fde_by, fde_with}
+use Rattle.cfi_entry.specs.Sections.{Section}
+use Rattle.cfi_entry.specs.Cies.{Cie}
+use Rattle.cfi_entry.specs.Fdes.{Fde, PartialFde}
+use Rattle.cfi_entry.specs.Entries.{cie_at, entries, fde_by, fde_with}
 use Rattle.cfi_unwind.specs.Scan.{chosen_fde}
 use Rattle.cfi_unwind.specs.GetCieCalls.{GetCieCall, CallsLead, IsAnswered, IsCallFor, ReadsWith, Scans}
 use Rattle.cfi_unwind.proofs.ScanSteps.{scan_reads}

@@ -12,12 +12,12 @@ use Rattle.cfi_read_core.specs.ReadFunctions.{Read, Source, Outcome, Extent, Rea
 use Rattle.cfi_read_core.specs.Numbers.{InitialLength, initial_length, initial_length_size, length_in, unsigned, unsigned_leb128, signed_leb128, text}
 use Rattle.cfi_read_core.specs.ReaderCalls.{map_ok}
 use Rattle.cfi_read_core.proofs.Given.{Gives, gives_give, gives_bind, gives_within}
-use Rattle.cfi_unwind.specs.Sections.{Section, offset_in, id_width, cie_offset_of, pointer_context}
-use Rattle.cfi_unwind.specs.Augmentations.{augmentation}
-use Rattle.cfi_unwind.specs.Prefixes.{Prefix, prefix, fields_after_length, of_length}
-use Rattle.cfi_unwind.specs.Cies.{Cie, cie_of, cie_fields, is_known_version, sizes, return_register}
-use Rattle.cfi_unwind.specs.Fdes.{PartialFde}
-use Rattle.cfi_unwind.specs.Entries.{Entry, CieEntry, FdeEntry, end_of_entry, entry_of, entries, entries_with, entries_from, partial_fde_of, is_cie}
+use Rattle.cfi_entry.specs.Sections.{Section, offset_in, id_width, cie_offset_of, pointer_context}
+use Rattle.cfi_entry.specs.Augmentations.{augmentation}
+use Rattle.cfi_entry.specs.Prefixes.{Prefix, prefix, fields_after_length, of_length}
+use Rattle.cfi_entry.specs.Cies.{Cie, cie_of, cie_fields, is_known_version, sizes, return_register}
+use Rattle.cfi_entry.specs.Fdes.{PartialFde}
+use Rattle.cfi_entry.specs.Entries.{Entry, CieEntry, FdeEntry, end_of_entry, entry_of, entries, entries_with, entries_from, partial_fde_of, is_cie}
 use Rattle.cfi_unwind.proofs.EntryLemmas.{onward_prefix, prefix_offset}
 
 -- ---- the place after a read

@@ -13,12 +13,12 @@ use Rattle.cfi_read_core.specs.Numbers.{InitialLength, initial_length, length_in
 use Rattle.cfi_read_core.proofs.Given.{Gives, gives_give, gives_if, gives_bind, gives_bind_from, gives_within}
 use Rattle.cfi_read_core.proofs.Onward.{IsOnward, onward_give, onward_refuse, onward_if, onward_bind, onward_here, onward_within, onward_split, onward_unsigned, onward_offset, onward_initial_length}
 use Rattle.cfi_read_core.proofs.Repeating.{Advances, advances_bind, advances_unsigned}
-use Rattle.cfi_unwind.specs.Sections.{Section, offset_in, id_width, cie_offset_of}
-use Rattle.cfi_unwind.specs.Prefixes.{Prefix, prefix, fields_after_length, of_length}
-use Rattle.cfi_unwind.specs.Cies.{Cie, cie_of}
-use Rattle.cfi_unwind.specs.Fdes.{PartialFde, Fde, fde_fields, addresses, address_encoding_of, lsda}
+use Rattle.cfi_entry.specs.Sections.{Section, offset_in, id_width, cie_offset_of}
+use Rattle.cfi_entry.specs.Prefixes.{Prefix, prefix, fields_after_length, of_length}
+use Rattle.cfi_entry.specs.Cies.{Cie, cie_of}
+use Rattle.cfi_entry.specs.Fdes.{PartialFde, Fde, fde_fields, addresses, address_encoding_of, lsda}
 use Rattle.cfi_unwind.specs.Scan.{partial_fdes, read_fde, fde_readings, IsAmong}
-use Rattle.cfi_unwind.specs.Entries.{Entry, CieEntry, FdeEntry, entry_of, entries_with, entries_from, entries_left, entries, prefix_at, partial_fde_at, partial_fde_of, is_cie, cie_at, fde_with, fde_by, fde_at}
+use Rattle.cfi_entry.specs.Entries.{Entry, CieEntry, FdeEntry, entry_of, entries_with, entries_from, entries_left, entries, prefix_at, partial_fde_at, partial_fde_of, is_cie, cie_at, fde_with, fde_by, fde_at}
 
 -- ---- prefixes
 

@@ -15,9 +15,9 @@ use Rattle.cfi_state.specs.MachineRuns.{may_allocate, AnswersFde}
 use Rattle.cfi_state.specs.KeptInstructions.{AnswersByKept}
 use Rattle.cfi_state.proofs.Laws.{by_kept, by_run, is_due, is_due_where_never, contains_it}
 use Rattle.cfi_state.proofs.FixedStorage.{fixed_never}
-use Rattle.cfi_unwind.specs.Sections.{Section}
-use Rattle.cfi_unwind.specs.Fdes.{Fde}
-use Rattle.cfi_unwind.specs.EntryInstructions.{cie_instructions, fde_instructions}
+use Rattle.cfi_entry.specs.Sections.{Section}
+use Rattle.cfi_entry.specs.Fdes.{Fde}
+use Rattle.cfi_entry.specs.EntryInstructions.{cie_instructions, fde_instructions}
 use Rattle.cfi_unwind.specs.Scan.{answer_by, chosen_fde}
 use Rattle.cfi_unwind.specs.AddressRow.{setting, row_of_fde, row_by_scan, IsRowOfFound, IsRowByScan}
 

@@ -1,10 +1,8 @@
 pub mod EntryLemmas
-pub mod EntryReads
 pub mod EntryEnds
 pub mod ScanLemmas
 pub mod ScanSteps
 pub mod WalkLemmas
-pub mod Within
 pub mod TableSteps
 pub mod Laws
 pub mod RowLemmas

@@ -4,10 +4,10 @@ use Rattle.std.specs.Prelude.{IfOk, if◌then◌else◌}
 use Rattle.cfi_read_core.specs.declared.error.Error.{Error}
 use Rattle.cfi_read_core.specs.declared.error.Error.TheVariants.{NoUnwindInfoForAddress}
 use Rattle.cfi_read_core.specs.ReadFunctions.{Readings, no_values, with_first}
-use Rattle.cfi_unwind.specs.Sections.{Section}
-use Rattle.cfi_unwind.specs.Cies.{Cie}
-use Rattle.cfi_unwind.specs.Fdes.{PartialFde, Fde, covers}
-use Rattle.cfi_unwind.specs.Entries.{Entry, CieEntry, FdeEntry, cie_at, entries, fde_with}
+use Rattle.cfi_entry.specs.Sections.{Section}
+use Rattle.cfi_entry.specs.Cies.{Cie}
+use Rattle.cfi_entry.specs.Fdes.{PartialFde, Fde, covers}
+use Rattle.cfi_entry.specs.Entries.{Entry, CieEntry, FdeEntry, cie_at, entries, fde_with}
 use Rattle.cfi_unwind.specs.Scan.{IsGiven, chosen_fde, chosen_of_given, answer_if_decided, if_last, partial_fdes}
 use Rattle.cfi_unwind.specs.GetCieCalls.{Scans}
 use Rattle.cfi_unwind.proofs.ScanLemmas.{own_chosen, own_cies}

@@ -22,10 +22,10 @@ use Rattle.cfi_unwind.specs.AddressRow.{IsRowOfFde, setting}
 use Rattle.cfi_unwind.proofs.Laws.{row_by_run}
 use Rattle.cfi_unwind.proofs.RowLemmas.{lent_expressions}
 use Rattle.std.specs.Borrow.{Bor}
-use Rattle.cfi_unwind.specs.Sections.{Section, position_of}
-use Rattle.cfi_unwind.specs.Cies.{Cie}
-use Rattle.cfi_unwind.specs.Fdes.{Fde}
-use Rattle.cfi_unwind.specs.EntryInstructions.{cie_instructions, fde_instructions}
+use Rattle.cfi_entry.specs.Sections.{Section, position_of}
+use Rattle.cfi_entry.specs.Cies.{Cie}
+use Rattle.cfi_entry.specs.Fdes.{Fde}
+use Rattle.cfi_entry.specs.EntryInstructions.{cie_instructions, fde_instructions}
 use Rattle.cfi_unwind.specs.UnwindTableCalls.{KeepsCieProgram, StartsRows}
 
 -- each instruction has its expression in the section

@@ -8,9 +8,9 @@ use Rattle.cfi_read_core.specs.ReadFunctions.{Readings, Source, Position, Outcom
 use Rattle.cfi_read_core.specs.ReaderCalls.{map_ok, end_position}
 use Rattle.cfi_read_core.proofs.Onward.{IsOnward, onward_bind, onward_give, onward_of_result}
 use Rattle.cfi_read_core.proofs.Repeating.{Advances, advances_bind}
-use Rattle.cfi_unwind.specs.Sections.{Section, zero_length_ends}
-use Rattle.cfi_unwind.specs.Prefixes.{Prefix, prefix}
-use Rattle.cfi_unwind.specs.Entries.{Entry, entry_of, entries_with, entries_from, entries_left}
+use Rattle.cfi_entry.specs.Sections.{Section, zero_length_ends}
+use Rattle.cfi_entry.specs.Prefixes.{Prefix, prefix}
+use Rattle.cfi_entry.specs.Entries.{Entry, entry_of, entries_with, entries_from, entries_left}
 use Rattle.cfi_unwind.specs.EntrySteps.{GoesThrough, entry_read, entry_of_prefix}
 use Rattle.cfi_unwind.proofs.EntryLemmas.{advances_prefix, one_entry, onward_prefix}
 

@@ -11,9 +11,9 @@ use Rattle.cfi_state.specs.Row.{Row}
 use Rattle.cfi_state.specs.FdeAnswers.{fde_answer}
 use Rattle.cfi_state.specs.MachineRuns.{may_allocate}
 use Rattle.cfi_state.specs.MemoryOnTheWay.{may_allocate_on_the_way, IsDueOrOutOfMemory}
-use Rattle.cfi_unwind.specs.Sections.{Section}
-use Rattle.cfi_unwind.specs.Fdes.{Fde, end_of}
-use Rattle.cfi_unwind.specs.EntryInstructions.{cie_instructions, fde_instructions}
+use Rattle.cfi_entry.specs.Sections.{Section}
+use Rattle.cfi_entry.specs.Fdes.{Fde, end_of}
+use Rattle.cfi_entry.specs.EntryInstructions.{cie_instructions, fde_instructions}
 use Rattle.cfi_unwind.specs.Scan.{answer_by, chosen_fde, scan_answer}
 
 -- by the limits of a storage: of the rules in a row, and of the rows that are held

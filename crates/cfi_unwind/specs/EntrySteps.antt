@@ -3,9 +3,9 @@ use Rattle.std.specs.Prelude.{◌≡◌, ◌≤◌, Option, Some, None}
 use Rattle.std.specs.Coded.{Coded-set, coded_list, coded_ℕ, coded_bool, le_prop}
 use Rattle.cfi_read_core.specs.ReadFunctions.{Read, Position, ◌>>=◌, give, of_result}
 use Rattle.cfi_read_core.specs.ReaderCalls.{map_ok}
-use Rattle.cfi_unwind.specs.Sections.{Section}
-use Rattle.cfi_unwind.specs.Prefixes.{Prefix, prefix}
-use Rattle.cfi_unwind.specs.Entries.{Entry, entry_of}
+use Rattle.cfi_entry.specs.Sections.{Section}
+use Rattle.cfi_entry.specs.Prefixes.{Prefix, prefix}
+use Rattle.cfi_entry.specs.Entries.{Entry, entry_of}
 
 -- A reader that goes through a section has its bytes and its end, and stands no earlier than its first place.
 pub record GoesThrough (reader section : Position) : Type 0 where

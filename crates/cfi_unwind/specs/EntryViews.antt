@@ -1,11 +1,11 @@
 -- Entries that a walk yields, as what they mean.
 use Rattle.std.specs.Prelude.{ℕ}
 use Rattle.cfi_read_core.specs.ReadFunctions.{Position}
-use Rattle.cfi_unwind.specs.Cies.{Cie}
-use Rattle.cfi_unwind.specs.Fdes.{PartialFde}
-use Rattle.cfi_unwind.specs.Entries.{Entry, CieEntry, FdeEntry}
-use Rattle.cfi_unwind.specs.CieAndFdeViews.{prefix_view}
-use Rattle.cfi_unwind.specs.declared.entry.prefix.EntryPrefix.{EntryPrefix}
+use Rattle.cfi_entry.specs.Cies.{Cie}
+use Rattle.cfi_entry.specs.Fdes.{PartialFde}
+use Rattle.cfi_entry.specs.Entries.{Entry, CieEntry, FdeEntry}
+use Rattle.cfi_entry.specs.CieViews.{prefix_view}
+use Rattle.cfi_entry.specs.declared.prefix.EntryPrefix.{EntryPrefix}
 use Rattle.cfi_unwind.specs.declared.entry.entries.EntryFields.{EntryFields}
 use Rattle.cfi_unwind.specs.declared.entry.entries.EntryFields.TheVariants as code
 

@@ -6,10 +6,10 @@ use Rattle.cfi_read_core.specs.ReaderCalls.{map_ok}
 use Rattle.cfi_read_core.specs.ReadFunctions.{Readings}
 use Rattle.cfi_read_core.specs.declared.error.Error.{Error}
 use Rattle.cfi_parts.specs.declared.pointer.BaseAddresses.{BaseAddresses}
-use Rattle.cfi_unwind.specs.Sections.{Section}
-use Rattle.cfi_unwind.specs.Cies.{Cie}
-use Rattle.cfi_unwind.specs.Fdes.{PartialFde, Fde}
-use Rattle.cfi_unwind.specs.Entries.{Entry, fde_with}
+use Rattle.cfi_entry.specs.Sections.{Section}
+use Rattle.cfi_entry.specs.Cies.{Cie}
+use Rattle.cfi_entry.specs.Fdes.{PartialFde, Fde}
+use Rattle.cfi_entry.specs.Entries.{Entry, fde_with}
 use Rattle.cfi_unwind.specs.Scan.{IsGiven, chosen_of_given, partial_fdes}
 
 -- A call of f with the section and the bases, for the CIE at the offset `asked`: its answer, and the state g after it.

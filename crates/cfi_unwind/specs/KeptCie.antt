@@ -3,10 +3,10 @@ use Rattle.std.specs.Prelude.{◌≡◌, ℕ, Option, Ok, IfSome}
 use Rattle.cfi_read_core.specs.ReadFunctions.{Position}
 use Rattle.cfi_parts.specs.CallFrameSections.{SectionView, IsOf}
 use Rattle.cfi_parts.specs.declared.pointer.BaseAddresses.{BaseAddresses}
-use Rattle.cfi_unwind.specs.Sections.{section_of}
-use Rattle.cfi_unwind.specs.Entries.{cie_at}
-use Rattle.cfi_unwind.specs.CieAndFdeViews.{cie_view}
-use Rattle.cfi_unwind.specs.declared.entry.cie.CieFields.{CieFields}
+use Rattle.cfi_entry.specs.Sections.{section_of}
+use Rattle.cfi_entry.specs.Entries.{cie_at}
+use Rattle.cfi_entry.specs.CieViews.{cie_view}
+use Rattle.cfi_entry.specs.declared.cie.CieFields.{CieFields}
 
 -- the CIE that is kept, if there is one, is the section's at its offset
 abbrev pub KeepsCie : {R O : Type 0} → (R → Position) → (O → ℕ) → SectionView → BaseAddresses → Option (ℕ × CieFields R O) → Type 0

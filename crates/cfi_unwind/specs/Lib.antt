@@ -1,12 +1,5 @@
-pub mod Sections
-pub mod Prefixes
-pub mod Augmentations
-pub mod Cies
-pub mod Fdes
-pub mod EntryInstructions
-pub mod Entries
 pub mod Scan
-pub mod CieAndFdeViews
+pub mod FdeViews
 pub mod EntryViews
 pub mod EntrySteps
 pub mod GetCieCalls

@@ -28,9 +28,9 @@ use Rattle.cfi_state.specs.Program.{in_fde}
 use Rattle.cfi_state.specs.FdeAnswers.{IsStateAfter, AreConsecutive, row_contains}
 use Rattle.cfi_state.specs.MachineRuns.{current_row, NextAnswer, RunsInitialInstructions, may_allocate}
 use Rattle.cfi_state.specs.KeptInstructions.{AnswersForProgram, KeepsInitialInstructions}
-use Rattle.cfi_unwind.specs.Sections.{Section, position_of}
-use Rattle.cfi_unwind.specs.Fdes.{Fde}
-use Rattle.cfi_unwind.specs.EntryInstructions.{cie_instructions, fde_instructions}
+use Rattle.cfi_entry.specs.Sections.{Section, position_of}
+use Rattle.cfi_entry.specs.Fdes.{Fde}
+use Rattle.cfi_entry.specs.EntryInstructions.{cie_instructions, fde_instructions}
 
 abbrev pub GivesNextAnswer : Setting → Bool → TableState (State ℕ) ℕ → Result (Option (Row ℕ)) Error → TableState (State ℕ) ℕ → Type 0
 GivesNextAnswer s copies_free = NextAnswer (may_allocate s copies_free) s

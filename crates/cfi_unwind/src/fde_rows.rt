@@ -4,9 +4,9 @@ ghost use Rattle.cfi_parts.specs.CallFrameSections.{IsOf};
 ghost use Rattle.cfi_state.specs.ContextEffects.{setting_of};
 ghost use Rattle.cfi_state.specs.MappedStates.{row_lent};
 ghost use Rattle.cfi_state.specs.RowExpressions.{HasExpressionsIn};
-ghost use Rattle.cfi_unwind.specs.Sections.{section_of};
+ghost use Rattle.cfi_entry.specs.Sections.{section_of};
 ghost use Rattle.cfi_unwind.specs.AddressRow.{IsRowOfFde, setting};
-ghost use Rattle.cfi_unwind.specs.CieAndFdeViews.{fde_view};
+ghost use Rattle.cfi_unwind.specs.FdeViews.{fde_view};
 ghost use Rattle.cfi_unwind.specs.UnwindTableCalls.{StartsRows};
 ghost use Rattle.cfi_unwind.specs.UnwindTableViews.{table_state};
 
@@ -14,6 +14,7 @@ use crate::entry::fde::FrameDescriptionEntry;
 use crate::unwind_section::UnwindSection;
 use crate::unwind_table::{self, UnwindTable};
 use cfi_parts::pointer::BaseAddresses;
+use cfi_read_core::address::AddressSize;
 use cfi_read_core::{Reader, Result};
 use cfi_state::storage::UnwindContextStorage;
 use cfi_state::table::context::UnwindContext;
@@ -26,9 +27,9 @@ impl<R: Reader> FrameDescriptionEntry<R> {
         ensures setting { (rules stack : Option ℕ) → setting_of result rules stack ≡ setting rules stack (fde_view R.position R.Offset.number self.now) }
     {
         Parameters {
-            code_alignment_factor: self.cie.code_alignment_factor,
-            data_alignment_factor: self.cie.data_alignment_factor,
-            address_size: self.cie.address_size,
+            code_alignment_factor: self.cie.code_alignment_factor(),
+            data_alignment_factor: self.cie.data_alignment_factor(),
+            address_size: AddressSize::new(self.cie.address_size()),
             initial_address: self.initial_address,
             end_address: self.end_address(),
         }

@@ -3,38 +3,38 @@ ghost use Rattle.std.specs.Prelude.{◌≡◌, ◌≤◌, ◌<◌, IfOk, Result}
 ghost use Rattle.cfi_read_core.specs.ReaderCalls.{map_ok};
 ghost use Rattle.cfi_read_core.specs.declared.error.Error.{Error};
 ghost use Rattle.cfi_parts.specs.CallFrameSections.{IsOf};
-ghost use Rattle.cfi_unwind.specs.Sections.{section_of};
+ghost use Rattle.cfi_entry.specs.Sections.{section_of};
 ghost use Rattle.cfi_state.specs.MappedStates.{row_lent};
 ghost use Rattle.cfi_state.specs.RowExpressions.{HasExpressionsIn};
-ghost use Rattle.cfi_unwind.specs.declared.entry.cie.CieFields.{CieFields};
+ghost use Rattle.cfi_entry.specs.declared.cie.CieFields.{CieFields};
 ghost use Rattle.cfi_unwind.specs.AddressRow.{IsRowOfFound};
-ghost use Rattle.cfi_unwind.specs.Fdes.{Covers, Fde};
-ghost use Rattle.cfi_unwind.specs.Entries.{cie_at, entries, partial_fde_at};
+ghost use Rattle.cfi_entry.specs.Fdes.{Covers, Fde};
+ghost use Rattle.cfi_entry.specs.Entries.{cie_at, entries, partial_fde_at};
 ghost use Rattle.cfi_unwind.specs.Scan.{chosen_fde};
 ghost use Rattle.cfi_unwind.specs.KeptCie.{KeepsCie};
 ghost use Rattle.cfi_unwind.specs.GetCieCalls.{GetCieCall, IsAnswered, ReadsWith, Scans};
-ghost use Rattle.cfi_unwind.specs.CieAndFdeViews.{cie_view, fde_view};
+ghost use Rattle.cfi_entry.specs.CieViews.{cie_view};
+ghost use Rattle.cfi_unwind.specs.FdeViews.{fde_view};
 ghost use Rattle.cfi_unwind.specs.EntryViews.{partial_of};
 
 mod by_ref;
-mod debug_frame;
-mod eh_frame;
 
-use crate::entry::entries::{cie_at, partial_fde_at};
-use crate::entry::in_section::InSection;
+use crate::entry::entries::partial_fde_at;
 use crate::entry::{
     CfiEntriesIter, CommonInformationEntry, FrameDescriptionEntry, PartialFrameDescriptionEntry,
 };
 pub use by_ref::fde_from_offset_by_ref;
 use by_ref::{fde_for_address_by_ref, unwind_info_for_address_by_ref};
+use cfi_entry::cie::cie_at;
+pub use cfi_entry::debug_frame::DebugFrame;
+pub use cfi_entry::eh_frame::EhFrame;
+use cfi_entry::in_section::InSection;
 use cfi_parts::pointer::BaseAddresses;
 use cfi_parts::section_properties::{_UnwindSectionPrivate, UnwindOffset};
-use cfi_read_core::{Reader, ReaderOffset, Result};
+use cfi_read_core::{DebugFrameOffset, EhFrameOffset, Reader, ReaderOffset, Result};
 use cfi_state::storage::UnwindContextStorage;
 use cfi_state::table::context::UnwindContext;
 use cfi_state::table::row::UnwindTableRow;
-pub use debug_frame::DebugFrame;
-pub use eh_frame::EhFrame;
 use std::fmt::Debug;
 
 /// A call frame section (DWARF 5 section 6.4.1; LSB Core, "The .eh_frame section").
@@ -174,6 +174,14 @@ pub trait UnwindSection<R: Reader>: Copy + Debug + _UnwindSectionPrivate<R> {
     {
         unwind_info_for_address_by_ref(self, bases, ctx, address, &mut get_cie)
     }
+}
+
+impl<R: Reader> UnwindSection<R> for DebugFrame<R> {
+    type Offset = DebugFrameOffset<R::Offset>;
+}
+
+impl<R: Reader> UnwindSection<R> for EhFrame<R> {
+    type Offset = EhFrameOffset<R::Offset>;
 }
 
 /// The section's first FDE that contains the address, with the CIE to which it points.

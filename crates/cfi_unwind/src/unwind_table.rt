@@ -14,8 +14,8 @@ ghost use Rattle.cfi_state.specs.UnwindTableStates.{before_last_row};
 ghost use Rattle.cfi_state.specs.MachineRuns.{may_allocate, RunsInitialInstructions, FindsRow, AnswersFde};
 ghost use Rattle.cfi_read_core.specs.ReaderCalls.{map_ok};
 ghost use Rattle.cfi_unwind.specs.AddressRow.{setting};
-ghost use Rattle.cfi_unwind.specs.Sections.{section_of};
-ghost use Rattle.cfi_unwind.specs.CieAndFdeViews.{fde_view};
+ghost use Rattle.cfi_entry.specs.Sections.{section_of};
+ghost use Rattle.cfi_unwind.specs.FdeViews.{fde_view};
 ghost use Rattle.cfi_unwind.specs.UnwindTableCalls.{GivesNextAnswer, AnswersWithoutMachine, IsNextOrMemory, KeepsExpressionsIn, KeepsCieProgram, StartsRows, state_in_numbers, row_due, row_given, state_after, LendsNextRow};
 
 use crate::entry::FrameDescriptionEntry;

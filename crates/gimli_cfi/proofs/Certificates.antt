@@ -9,7 +9,7 @@ use Rattle.cfi_parts.specs.declared.pointer.Pointer.{Pointer}
 use Rattle.cfi_parts.specs.declared.pointer.Pointer.TheVariants.{Direct}
 use Rattle.cfi_state.specs.Row.{Row}
 use Rattle.cfi_unwind.specs.AddressRow.{IsRowOfFound, IsRowByScan}
-use Rattle.cfi_unwind.specs.Fdes.{Fde}
+use Rattle.cfi_entry.specs.Fdes.{Fde}
 use Rattle.cfi_unwind.specs.Scan.{chosen_fde}
 use Rattle.gimli_cfi.specs.TableCheck.{Listing, ListsFaithfully}
 use Rattle.gimli_cfi.specs.EhFrameHdr.{start_of, value_size}

@@ -7,12 +7,12 @@ use Rattle.cfi_read_core.specs.Numbers.{unsigned, signed, leb128_bytes, unsigned
 use Rattle.cfi_read_core.specs.Addresses.{address, address_size}
 use Rattle.cfi_parts.specs.Pointers.{encoding_byte, encoded_value, base_of, pointer}
 use Rattle.cfi_parts.specs.Instructions.{expression, instruction}
-use Rattle.cfi_unwind.specs.Sections.{SectionKind, DebugFrame, EhFrame, Section}
-use Rattle.cfi_unwind.specs.Prefixes.{prefix}
-use Rattle.cfi_unwind.specs.Augmentations.{letter, letters, letters_with_data, augmentation}
-use Rattle.cfi_unwind.specs.Cies.{cie_fields}
-use Rattle.cfi_unwind.specs.Fdes.{fde_fields}
-use Rattle.cfi_unwind.specs.Entries.{entry_of, entries_from, cie_at, partial_fde_at}
+use Rattle.cfi_entry.specs.Sections.{SectionKind, DebugFrame, EhFrame, Section}
+use Rattle.cfi_entry.specs.Prefixes.{prefix}
+use Rattle.cfi_entry.specs.Augmentations.{letter, letters, letters_with_data, augmentation}
+use Rattle.cfi_entry.specs.Cies.{cie_fields}
+use Rattle.cfi_entry.specs.Fdes.{fde_fields}
+use Rattle.cfi_entry.specs.Entries.{entry_of, entries_from, cie_at, partial_fde_at}
 use Rattle.cfi_unwind.specs.Scan.{first_covering}
 use Rattle.gimli_cfi.specs.EhFrameHdr.{HeaderSection, Table, row_count, header_fields, row_by, start_field, target_field, start_of, target_of}
 use Rattle.gimli_cfi.specs.HeaderRows.{rows_from}

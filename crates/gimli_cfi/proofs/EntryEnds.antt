@@ -3,8 +3,8 @@ use Rattle.std.proofs.Common.{◌≡◌, ℕ, Option, Some, None, refl, sym, ap,
 use Rattle.std.specs.List.{last_or}
 use Rattle.cfi_read_core.specs.declared.error.Error.{Error}
 use Rattle.cfi_read_core.specs.ReadFunctions.{Readings, no_values, with_first}
-use Rattle.cfi_unwind.specs.Sections.{Section}
-use Rattle.cfi_unwind.specs.Entries.{Entry, end_of_entry, entries}
+use Rattle.cfi_entry.specs.Sections.{Section}
+use Rattle.cfi_entry.specs.Entries.{Entry, end_of_entry, entries}
 use Rattle.cfi_unwind.proofs.EntryEnds.{AllInside, EndsInside, entries_inside}
 use Rattle.gimli_cfi.specs.TableCheck.{end_of_last, IsEntryRefusal}
 

@@ -7,9 +7,9 @@ use Rattle.std.proofs.lemmas.Map.Steps.{le-length_from_below}
 use Rattle.cfi_read_core.specs.declared.error.Error.{Error}
 use Rattle.cfi_parts.specs.declared.pointer.Pointer.{Pointer}
 use Rattle.cfi_parts.specs.declared.pointer.Pointer.TheVariants.{Direct}
-use Rattle.cfi_unwind.specs.Sections.{Section}
-use Rattle.cfi_unwind.specs.Fdes.{Fde, Covers, end_of}
-use Rattle.cfi_unwind.specs.Entries.{fde_at}
+use Rattle.cfi_entry.specs.Sections.{Section}
+use Rattle.cfi_entry.specs.Fdes.{Fde, Covers, end_of}
+use Rattle.cfi_entry.specs.Entries.{fde_at}
 use Rattle.cfi_unwind.specs.Scan.{fde_readings, IsAmong}
 use Rattle.cfi_unwind.proofs.EntryLemmas.{fde_at_its_offset}
 use Rattle.gimli_cfi.specs.BoundaryRows.{AreRising}

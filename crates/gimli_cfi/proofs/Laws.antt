@@ -10,7 +10,7 @@ use Rattle.std.proofs.lemmas.Bool.{cases_lt}
 use borrow.Author.Tests.{leb-false}
 use Rattle.cfi_read_core.specs.declared.error.Error.{Error}
 use Rattle.cfi_parts.specs.declared.pointer.Pointer.TheVariants.{Direct}
-use Rattle.cfi_unwind.specs.Sections.{Section}
+use Rattle.cfi_entry.specs.Sections.{Section}
 use Rattle.cfi_unwind.specs.Scan.{chosen_fde}
 use Rattle.gimli_cfi.specs.BoundaryRows.{IsBoundaryRow, IsRefusalOfRow}
 use Rattle.gimli_cfi.specs.EhFrameHdr.{HeaderSection, Table, start_of}

@@ -4,13 +4,13 @@ use Rattle.std.specs.Prelude.{⊤, nat_le, if◌then◌else◌}
 use Rattle.cfi_read_core.specs.declared.error.Error.{Error}
 use Rattle.cfi_read_core.specs.ReadFunctions.{Readings, remainder, no_values, readings_with}
 use Rattle.cfi_read_core.proofs.Given.{Gives, gives_give, gives_bind, gives_within}
-use Rattle.cfi_unwind.specs.Sections.{Section, cie_offset_of}
-use Rattle.cfi_unwind.specs.Prefixes.{Prefix, prefix}
-use Rattle.cfi_unwind.specs.Cies.{Cie, cie_of}
-use Rattle.cfi_unwind.specs.Fdes.{PartialFde, Fde, fde_fields, addresses, address_encoding_of, lsda}
+use Rattle.cfi_entry.specs.Sections.{Section, cie_offset_of}
+use Rattle.cfi_entry.specs.Prefixes.{Prefix, prefix}
+use Rattle.cfi_entry.specs.Cies.{Cie, cie_of}
+use Rattle.cfi_entry.specs.Fdes.{PartialFde, Fde, fde_fields, addresses, address_encoding_of, lsda}
 use Rattle.cfi_unwind.specs.Scan.{partial_fdes, read_fde, fde_readings}
 use Rattle.cfi_read_core.specs.ReaderCalls.{map_ok}
-use Rattle.cfi_unwind.specs.Entries.{Entry, CieEntry, FdeEntry, entry_of, entries_with, entries_from, entries, partial_fde_of, is_cie, cie_at, fde_with}
+use Rattle.cfi_entry.specs.Entries.{Entry, CieEntry, FdeEntry, entry_of, entries_with, entries_from, entries, partial_fde_of, is_cie, cie_at, fde_with}
 use Rattle.cfi_unwind.proofs.EntryLemmas.{advances_prefix, onward_prefix, prefix_offset}
 
 -- each stands at or after the offset and after those before it

@@ -3,10 +3,10 @@ use Rattle.std.proofs.Common.{◌≡◌, ◌≢◌, ◌≤◌, ◌+◌, ◌-◌,
 use Rattle.std.specs.List.{AllByRecursion}
 use Rattle.cfi_read_core.specs.declared.error.Error.{Error}
 use Rattle.cfi_read_core.specs.ReadFunctions.{Readings, no_values, with_first}
-use Rattle.cfi_unwind.specs.Sections.{Section}
-use Rattle.cfi_unwind.specs.Cies.{Cie}
-use Rattle.cfi_unwind.specs.Fdes.{PartialFde, Fde}
-use Rattle.cfi_unwind.specs.Entries.{Entry, CieEntry, FdeEntry, entries}
+use Rattle.cfi_entry.specs.Sections.{Section}
+use Rattle.cfi_entry.specs.Cies.{Cie}
+use Rattle.cfi_entry.specs.Fdes.{PartialFde, Fde}
+use Rattle.cfi_entry.specs.Entries.{Entry, CieEntry, FdeEntry, entries}
 use Rattle.cfi_unwind.specs.Scan.{partial_fdes, read_fde, fde_readings, IsAmong}
 use Rattle.gimli_cfi.specs.declared.hdr.unfaithful.Unfaithful.{Unfaithful}
 use Rattle.gimli_cfi.specs.declared.hdr.unfaithful.Unfaithful.TheVariants as reasons

@@ -8,9 +8,9 @@ use Rattle.cfi_read_core.specs.declared.error.Error.TheVariants.{UnsupportedPoin
 use Rattle.cfi_parts.specs.declared.pointer.Pointer.{Pointer}
 use Rattle.cfi_parts.specs.declared.pointer.Pointer.TheVariants.{Direct, Indirect}
 use Rattle.cfi_parts.specs.Pointers.{direct}
-use Rattle.cfi_unwind.specs.Sections.{Section}
-use Rattle.cfi_unwind.specs.Fdes.{Fde, PartialFde}
-use Rattle.cfi_unwind.specs.Entries.{entries}
+use Rattle.cfi_entry.specs.Sections.{Section}
+use Rattle.cfi_entry.specs.Fdes.{Fde, PartialFde}
+use Rattle.cfi_entry.specs.Entries.{entries}
 use Rattle.cfi_unwind.specs.Scan.{partial_fdes, read_fde}
 use Rattle.gimli_cfi.specs.declared.hdr.unfaithful.Unfaithful.{Unfaithful}
 use Rattle.gimli_cfi.specs.declared.hdr.unfaithful.Unfaithful.TheVariants as reasons

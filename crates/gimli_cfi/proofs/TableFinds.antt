@@ -3,10 +3,10 @@ use Rattle.std.proofs.Common.{◌≡◌, ℕ, true, false, Option, Some, None, R
 use Rattle.cfi_read_core.specs.declared.error.Error.{Error}
 use Rattle.cfi_read_core.specs.declared.error.Error.TheVariants.{NoUnwindInfoForAddress}
 use Rattle.cfi_parts.specs.declared.pointer.Pointer.{Pointer}
-use Rattle.cfi_unwind.specs.Sections.{Section}
-use Rattle.cfi_unwind.specs.Cies.{Cie}
-use Rattle.cfi_unwind.specs.Fdes.{PartialFde, Fde, covers}
-use Rattle.cfi_unwind.specs.Entries.{cie_at, fde_with, fde_by, partial_fde_at}
+use Rattle.cfi_entry.specs.Sections.{Section}
+use Rattle.cfi_entry.specs.Cies.{Cie}
+use Rattle.cfi_entry.specs.Fdes.{PartialFde, Fde, covers}
+use Rattle.cfi_entry.specs.Entries.{cie_at, fde_with, fde_by, partial_fde_at}
 use Rattle.cfi_unwind.specs.GetCieCalls.{ReadsWith}
 use Rattle.gimli_cfi.specs.EhFrameHdr.{HeaderSection, Table, value_size, target_of}
 use Rattle.gimli_cfi.specs.TableLookup.{SearchedBy, IsFoundBySearch, IsFoundByTable, ReadsAt, fde_if_covers, fde_at_pointer, fde_by_target, fde_by_row}

@@ -10,11 +10,11 @@ use Rattle.cfi_parts.specs.declared.pointer.Pointer.{Pointer}
 use Rattle.cfi_parts.specs.declared.pointer.Pointer.TheVariants.{Direct, Indirect}
 use Rattle.cfi_parts.specs.declared.instruction.CallFrameInstruction.TheVariants.{AdvanceLoc, DefCfa, DefCfaRegister, DefCfaOffset, Offset}
 use Rattle.cfi_parts.specs.Instructions.{Instruction}
-use Rattle.cfi_unwind.specs.Sections.{Section, EhFrame}
-use Rattle.cfi_unwind.specs.Cies.{Cie}
-use Rattle.cfi_unwind.specs.Fdes.{Fde, end_of}
-use Rattle.cfi_unwind.specs.Entries.{Entry, CieEntry, FdeEntry, entries, cie_at, partial_fde_at, fde_at}
-use Rattle.cfi_unwind.specs.EntryInstructions.{cie_instructions, fde_instructions}
+use Rattle.cfi_entry.specs.Sections.{Section, EhFrame}
+use Rattle.cfi_entry.specs.Cies.{Cie}
+use Rattle.cfi_entry.specs.Fdes.{Fde, end_of}
+use Rattle.cfi_entry.specs.Entries.{Entry, CieEntry, FdeEntry, entries, cie_at, partial_fde_at, fde_at}
+use Rattle.cfi_entry.specs.EntryInstructions.{cie_instructions, fde_instructions}
 use Rattle.cfi_unwind.specs.Scan.{chosen_fde}
 use Rattle.gimli_cfi.specs.EhFrameHdr.{HeaderSection, Header, Table, header_of, row, start_of, target_of, offset_of_pointer}
 use Rattle.gimli_cfi.specs.HeaderRows.{rows_left, walk_of}

@@ -10,7 +10,7 @@ use Rattle.cfi_state.specs.declared.table.rules.CfaRule.TheVariants.{RegisterAnd
 use Rattle.cfi_state.specs.declared.table.rules.RegisterRule.{RegisterRule}
 use Rattle.cfi_state.specs.declared.table.rules.RegisterRule.TheVariants.{Offset, Constant}
 use Rattle.cfi_state.specs.Row.{Row}
-use Rattle.cfi_unwind.specs.Sections.{Section}
+use Rattle.cfi_entry.specs.Sections.{Section}
 use Rattle.cfi_unwind.specs.AddressRow.{row_by_scan}
 use Rattle.gimli_cfi.proofs.Computing.{computing, debug_frame, three}
 

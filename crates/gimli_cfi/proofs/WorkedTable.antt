@@ -4,9 +4,9 @@ use Rattle.std.specs.Prelude.{IsOk}
 use Rattle.std.specs.List.{AllByRecursion}
 use Rattle.cfi_read_core.specs.declared.common.Format.TheVariants.{Dwarf32}
 use Rattle.cfi_read_core.specs.declared.error.Error.{Error}
-use Rattle.cfi_unwind.specs.Cies.{Cie}
-use Rattle.cfi_unwind.specs.Fdes.{Fde, Covers, end_of}
-use Rattle.cfi_unwind.specs.Entries.{entries}
+use Rattle.cfi_entry.specs.Cies.{Cie}
+use Rattle.cfi_entry.specs.Fdes.{Fde, Covers, end_of}
+use Rattle.cfi_entry.specs.Entries.{entries}
 use Rattle.cfi_unwind.specs.Scan.{fde_readings, IsAmong}
 use Rattle.gimli_cfi.specs.EhFrameHdr.{start_of}
 use Rattle.gimli_cfi.specs.FaithfulTables.{IsFaithful, IsRowOf, IsFdeOf}

@@ -2,9 +2,9 @@
 use Rattle.std.specs.Prelude.{◌≡◌, ◌≢◌, ◌<◌, ◌+◌, ℕ, None, Ok, IsSome, IsOk}
 use Rattle.std.specs.List.{AllByRecursion}
 use Rattle.cfi_parts.specs.declared.pointer.Pointer.TheVariants.{Direct}
-use Rattle.cfi_unwind.specs.Sections.{Section}
-use Rattle.cfi_unwind.specs.Fdes.{Fde, Covers}
-use Rattle.cfi_unwind.specs.Entries.{entries}
+use Rattle.cfi_entry.specs.Sections.{Section}
+use Rattle.cfi_entry.specs.Fdes.{Fde, Covers}
+use Rattle.cfi_entry.specs.Entries.{entries}
 use Rattle.cfi_unwind.specs.Scan.{fde_readings, IsAmong}
 use Rattle.gimli_cfi.specs.EhFrameHdr.{HeaderSection, Table, value_size, start_of, target_of}
 

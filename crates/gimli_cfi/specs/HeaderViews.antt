@@ -6,8 +6,8 @@ use Rattle.cfi_read_core.specs.ReaderCalls.{extent_of}
 use Rattle.cfi_parts.specs.declared.pointer.BaseAddresses.{BaseAddresses}
 use Rattle.cfi_parts.specs.declared.pointer.Pointer.{Pointer}
 use Rattle.cfi_parts.specs.CallFrameSections.{EhFrame as of_eh_frame}
-use Rattle.cfi_unwind.specs.declared.unwind_section.eh_frame.EhFrame.{EhFrame}
-use Rattle.cfi_unwind.specs.Sections.{Section, section_of}
+use Rattle.cfi_entry.specs.declared.eh_frame.EhFrame.{EhFrame}
+use Rattle.cfi_entry.specs.Sections.{Section, section_of}
 use Rattle.gimli_cfi.specs.declared.hdr.header.ParsedEhFrameHdr.{ParsedEhFrameHdr}
 use Rattle.gimli_cfi.specs.declared.hdr.table.EhHdrTable.{EhHdrTable}
 use Rattle.gimli_cfi.specs.declared.hdr.iter.EhHdrTableIter.{EhHdrTableIter}

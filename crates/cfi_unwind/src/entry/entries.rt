@@ -5,16 +5,16 @@ ghost use Rattle.std.specs.Iterator.{YieldsFirstBy, item_count};
 ghost use Rattle.cfi_read_core.specs.ReaderCalls.{Reads, remaining, map_ok};
 ghost use Rattle.cfi_parts.specs.InstructionReaders.{Meets, items};
 ghost use Rattle.cfi_parts.specs.CallFrameSections.{IsOf};
-ghost use Rattle.cfi_unwind.specs.Sections.{section_of};
-ghost use Rattle.cfi_unwind.specs.Entries.{cie_at, entries_left, entry_of, partial_fde_at, partial_fde_of, prefix_at};
+ghost use Rattle.cfi_entry.specs.Sections.{section_of};
+ghost use Rattle.cfi_entry.specs.Entries.{entries_left, entry_of, partial_fde_at, partial_fde_of};
 ghost use Rattle.cfi_unwind.specs.EntrySteps.{GoesThrough, GoesThrough_prop, entry_read};
-ghost use Rattle.cfi_unwind.specs.CieAndFdeViews.{cie_view, prefix_view, section_in};
+ghost use Rattle.cfi_entry.specs.CieViews.{cie_view, prefix_view, section_in};
 ghost use Rattle.cfi_unwind.specs.EntryViews.{OfEither, entry_view, partial_of};
 
-use crate::entry::cie::{CommonInformationEntry, read_cie};
-use crate::entry::in_section::InSection;
 use crate::entry::partial::{PartialFdeFields, PartialFrameDescriptionEntry};
-use crate::entry::prefix::{EntryPrefix, read_prefix};
+use cfi_entry::cie::{CommonInformationEntry, read_cie};
+use cfi_entry::in_section::InSection;
+use cfi_entry::prefix::{EntryPrefix, prefix_at, read_prefix};
 use cfi_parts::pointer::BaseAddresses;
 use cfi_parts::section_properties::_UnwindSectionPrivate;
 use cfi_read_core::{Error, Reader, ReaderOffset, Result};
@@ -60,7 +60,7 @@ fn read_partial_fde<'bases, R: Reader, S: _UnwindSectionPrivate<R> + Copy>(
 }
 
 /// What the entry after its prefix is.
-#[tactic(auto, unfolding(crate::specs::Entries::entry_of))]
+#[tactic(auto, unfolding(cfi_entry::specs::Entries::entry_of))]
 #[inline(always)]
 fn read_entry_after<'bases, R: Reader, S: _UnwindSectionPrivate<R> + Copy>(
     at: &InSection<'bases, S>,
@@ -134,45 +134,9 @@ fn next_entry<'bases, R: Reader, S: _UnwindSectionPrivate<R> + Copy>(
     Ok(None)
 }
 
-/// The prefix of the entry at an offset of the section. Refused with `UnexpectedEof` where the offset lies after
-/// the section's end, and with `NoEntryAtGivenOffset` where the length there is zero.
-#[inline(always)]
-fn prefix_at<R: Reader, S: _UnwindSectionPrivate<R>>(
-    at: &InSection<'_, S>,
-    offset: R::Offset,
-) -> Result<EntryPrefix<R, R::Offset>>
-    ensures read { map_ok (prefix_view R.position R.Offset.number) result ≡ prefix_at (section_in S.view at.now) (R.Offset.number offset) }
-    ensures part { IfOk result (λ found. IsOf (R.position found.rest) (S.view at.now.section).position) }
-{
-    let mut input = *at.section.section();
-    input.skip(offset)?;
-    match read_prefix(at, &mut input)? {
-        Some(found) => Ok(found),
-        None => Err(Error::NoEntryAtGivenOffset(offset.into_u64())),
-    }
-}
-
-/// The CIE at an offset of the section. Refused with `NotCieId` where the id there is no CIE's.
-#[tactic(auto, unfolding(crate::specs::Entries::cie_at))]
-#[inline(always)]
-pub(crate) fn cie_at<R: Reader, S: _UnwindSectionPrivate<R> + Copy>(
-    at: &InSection<'_, S>,
-    offset: R::Offset,
-) -> Result<CommonInformationEntry<R>>
-    ensures read { map_ok (cie_view R.position R.Offset.number) result ≡ cie_at (section_in S.view at.now) (R.Offset.number offset) }
-    ensures part { IfOk result (λ cie. IsOf (R.position cie.initial_instructions) (S.view at.now.section).position) }
-{
-    let found = prefix_at(at, offset)?;
-    if S::is_cie(found.format, found.id) {
-        read_cie(at, &found)
-    } else {
-        Err(Error::NotCieId(offset.into_u64()))
-    }
-}
-
 /// The FDE at an offset of the section, as far as the offset of its CIE. Refused with `NotCiePointer` where the id
 /// there is a CIE's.
-#[tactic(auto, unfolding(crate::specs::Entries::partial_fde_at))]
+#[tactic(auto, unfolding(cfi_entry::specs::Entries::partial_fde_at))]
 #[inline(always)]
 pub(crate) fn partial_fde_at<'bases, R: Reader, S: _UnwindSectionPrivate<R> + Copy>(
     at: &InSection<'bases, S>,

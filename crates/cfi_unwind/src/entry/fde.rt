@@ -3,21 +3,19 @@ ghost use Rattle.std.specs.Prelude.{◌≡◌, ◌≤◌, IfOk, Some};
 ghost use Rattle.std.specs.Option.{option_map};
 ghost use Rattle.cfi_read_core.specs.ReaderCalls.{Reads, map_ok};
 ghost use Rattle.cfi_parts.specs.CallFrameSections.{IsOf};
-ghost use Rattle.cfi_unwind.specs.Augmentations.{is_trampoline, personality_of};
-ghost use Rattle.cfi_unwind.specs.Fdes.{addresses, covers, end_of, fde_after, lsda};
-ghost use Rattle.cfi_unwind.specs.CieAndFdeViews.{augmentation_view, cie_view, fde_view, prefix_view, section_in};
+ghost use Rattle.cfi_entry.specs.Augmentations.{is_trampoline, personality_of};
+ghost use Rattle.cfi_entry.specs.Fdes.{covers, end_of, fde_after};
+ghost use Rattle.cfi_entry.specs.CieViews.{augmentation_view, cie_view, prefix_view, section_in};
+ghost use Rattle.cfi_unwind.specs.FdeViews.{fde_view};
 
-use crate::entry::augmentation::Augmentation;
-use crate::entry::cie::{CieFields, CommonInformationEntry};
-use crate::entry::in_section::InSection;
-use crate::entry::prefix::EntryPrefix;
-use cfi_parts::pointer::{
-    Pointer, PointerEncodingParameters, parse_encoded_pointer, parse_encoded_value,
-};
+use cfi_entry::cie::{CieFields, CommonInformationEntry};
+use cfi_entry::fde_fields::{read_addresses, read_lsda};
+use cfi_entry::in_section::InSection;
+use cfi_entry::prefix::EntryPrefix;
+use cfi_parts::pointer::Pointer;
 use cfi_parts::section_properties::_UnwindSectionPrivate;
 use cfi_read_core::address::AddressSize;
-use cfi_read_core::reader::read_offset;
-use cfi_read_core::{DwEhPe, Reader, ReaderAddress, Result};
+use cfi_read_core::{Reader, ReaderAddress, Result};
 
 /// A frame description entry, over its reader and the reader's offsets.
 #[derive(Clone, Copy, Debug, PartialEq, Eq)]
@@ -34,66 +32,8 @@ pub struct FdeFields<R, O> {
 /// A frame description entry: the instructions for a range of addresses.
 pub type FrameDescriptionEntry<R> = FdeFields<R, <R as Reader>::Offset>;
 
-/// The initial address, and how many addresses there are. Indirection of the address is ignored.
-#[inline(always)]
-fn read_addresses<R: Reader, S: _UnwindSectionPrivate<R>>(
-    at: &InSection<'_, S>,
-    address_size: AddressSize,
-    encoding: Option<DwEhPe>,
-    input: &mut R,
-) -> Result<(u64, u64)>
-    requires { (S.view at.now.section).position.place ≤ (R.position input.old).place }
-    ensures { Reads (λ x. x) (addresses (section_in S.view at.now) address_size.bytes (option_map (λ e. e.0) encoding)) (R.position input.old) result (R.position input.new) }
-{
-    let size = address_size.bytes();
-    let Some(encoding) = encoding else {
-        let initial_address = input.read_address(size)?;
-        return Ok((initial_address, input.read_address(size)?));
-    };
-    let parameters = PointerEncodingParameters {
-        bases: &at.bases.eh_frame,
-        func_base: None,
-        address_size,
-        section: at.section.section(),
-    };
-    let initial_address = parse_encoded_pointer(encoding, &parameters, input)?.pointer();
-    Ok((initial_address, parse_encoded_value(encoding, size, input)?))
-}
-
-/// The pointer to the language-specific data, from the augmentation data. What else the data has is dropped.
-#[inline(always)]
-fn read_lsda<R: Reader, S: _UnwindSectionPrivate<R>>(
-    at: &InSection<'_, S>,
-    address_size: AddressSize,
-    initial_address: u64,
-    augmentation: &Option<Augmentation>,
-    input: &mut R,
-) -> Result<Option<Pointer>>
-    requires { IsOf (R.position input.old) (S.view at.now.section).position }
-    ensures { Reads (λ x. x) (lsda (section_in S.view at.now) address_size.bytes initial_address (option_map augmentation_view augmentation.now)) (R.position input.old) result (R.position input.new) }
-{
-    let Some(augmentation) = *augmentation else {
-        return Ok(None);
-    };
-    if !augmentation.has_augmentation_data {
-        return Ok(None);
-    }
-    let length = read_offset(input)?;
-    let mut data = input.split(length)?;
-    let Some(encoding) = augmentation.lsda_encoding else {
-        return Ok(None);
-    };
-    let parameters = PointerEncodingParameters {
-        bases: &at.bases.eh_frame,
-        func_base: Some(initial_address),
-        address_size,
-        section: at.section.section(),
-    };
-    Ok(Some(parse_encoded_pointer(encoding, &parameters, &mut data)?))
-}
-
 /// Reads the FDE of a CIE after its prefix.
-#[tactic(auto, unfolding(crate::specs::Fdes::fde_fields))]
+#[tactic(auto, unfolding(cfi_entry::specs::Fdes::fde_fields))]
 #[inline(always)]
 pub(crate) fn read_fde<R: Reader, S: _UnwindSectionPrivate<R>>(
     at: &InSection<'_, S>,
@@ -107,19 +47,10 @@ pub(crate) fn read_fde<R: Reader, S: _UnwindSectionPrivate<R>>(
     ensures cie { IfOk result (λ fde. fde.cie ≡ cie.now) }
 {
     let mut input = found.rest;
-    let encoding = match cie.augmentation {
-        Some(known) => known.fde_address_encoding,
-        None => None,
-    };
-    let address_size = cie.address_size;
+    let encoding = cie.fde_address_encoding();
+    let address_size = AddressSize::new(cie.address_size());
     let (initial_address, address_range) = read_addresses(at, address_size, encoding, &mut input)?;
-    let lsda = read_lsda(
-        at,
-        address_size,
-        initial_address,
-        &cie.augmentation,
-        &mut input,
-    )?;
+    let lsda = read_lsda(at, cie, initial_address, &mut input)?;
     Ok(FdeFields {
         offset: found.offset,
         length: found.length,
@@ -202,7 +133,7 @@ impl<R: Reader> FrameDescriptionEntry<R> {
         ensures { result ≡ end_of (fde_view R.position R.Offset.number self.now) }
     {
         self.initial_address
-            .wrapping_add_sized(self.address_range, self.cie.address_size.bytes())
+            .wrapping_add_sized(self.address_range, self.cie.address_size())
     }
 
     /// Whether the address lies in the entry. Nothing lies in one whose end wraps to its initial address or below it.

@@ -2,11 +2,11 @@
 ghost use Rattle.std.specs.Prelude.{◌≡◌, ⊤};
 ghost use Rattle.cfi_parts.specs.CallFrameSections.{IsOf, IsOf_prop};
 
-use crate::entry::cie::CommonInformationEntry;
 use crate::entry::fde::{FrameDescriptionEntry, read_fde};
-use crate::entry::in_section::InSection;
-use crate::entry::prefix::EntryPrefix;
 use crate::unwind_section::UnwindSection;
+use cfi_entry::cie::CommonInformationEntry;
+use cfi_entry::in_section::InSection;
+use cfi_entry::prefix::EntryPrefix;
 use cfi_parts::pointer::BaseAddresses;
 use cfi_parts::section_properties::_UnwindSectionPrivate;
 use cfi_read_core::{Format, Reader, Result};
@@ -58,9 +58,10 @@ impl<'bases, Section: _UnwindSectionPrivate<R> + Copy, R: Reader> PartialFrameDe
 > {
     ghost use Rattle.std.specs.Prelude.{IfOk};
     ghost use Rattle.cfi_read_core.specs.ReaderCalls.{map_ok};
-    ghost use Rattle.cfi_unwind.specs.Sections.{section_of};
-    ghost use Rattle.cfi_unwind.specs.Fdes.{fde_of};
-    ghost use Rattle.cfi_unwind.specs.CieAndFdeViews.{cie_view, fde_view};
+    ghost use Rattle.cfi_entry.specs.Sections.{section_of};
+    ghost use Rattle.cfi_entry.specs.Fdes.{fde_of};
+    ghost use Rattle.cfi_entry.specs.CieViews.{cie_view};
+    ghost use Rattle.cfi_unwind.specs.FdeViews.{fde_view};
     ghost use Rattle.cfi_unwind.specs.EntryViews.{partial_of};
 
     /// Where the entry begins in its section.
@@ -113,9 +114,10 @@ impl<'bases, Section: UnwindSection<R>, R: Reader> PartialFrameDescriptionEntry<
 > {
     ghost use Rattle.std.specs.Prelude.{IfOk, Ok};
     ghost use Rattle.cfi_read_core.specs.ReaderCalls.{map_ok};
-    ghost use Rattle.cfi_unwind.specs.Sections.{section_of};
+    ghost use Rattle.cfi_entry.specs.Sections.{section_of};
     ghost use Rattle.cfi_unwind.specs.GetCieCalls.{GetCieCall, IsAnswered, ReadsWith};
-    ghost use Rattle.cfi_unwind.specs.CieAndFdeViews.{cie_view, fde_view};
+    ghost use Rattle.cfi_entry.specs.CieViews.{cie_view};
+    ghost use Rattle.cfi_unwind.specs.FdeViews.{fde_view};
     ghost use Rattle.cfi_unwind.specs.EntryViews.{partial_of};
 
     /// Where the entry's CIE begins in its section.

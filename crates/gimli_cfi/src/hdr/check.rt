@@ -2,10 +2,11 @@
 ghost use Rattle.std.specs.Prelude.{◌≡◌, ◌≢◌, ◌+◌, ◌≤◌, ℕ, IfOk, IfErr, Ok, Some, true, false};
 ghost use Rattle.cfi_read_core.specs.ReaderCalls.{map_ok};
 ghost use Rattle.cfi_parts.specs.declared.pointer.Pointer.TheVariants.{Direct};
-ghost use Rattle.cfi_unwind.specs.Entries.{end_of_entry};
+ghost use Rattle.cfi_entry.specs.Entries.{end_of_entry};
 ghost use Rattle.cfi_unwind.specs.EntryViews.{entry_view, partial_of};
 ghost use Rattle.cfi_unwind.specs.Scan.{read_fde};
-ghost use Rattle.cfi_unwind.specs.CieAndFdeViews.{cie_view, fde_view};
+ghost use Rattle.cfi_entry.specs.CieViews.{cie_view};
+ghost use Rattle.cfi_unwind.specs.FdeViews.{fde_view};
 ghost use Rattle.gimli_cfi.specs.BoundaryRows.{AreRising};
 ghost use Rattle.gimli_cfi.specs.TableCheck.{AreListed, HasRow, IsRefusalIn, IsRefusalOfHeader, ListsFaithfully};
 ghost use Rattle.gimli_cfi.specs.TableCheck.{IsReason, IsReasonOfFde, IsReasonOfFdes, IsReasonOfStarts};

@@ -1,8 +1,8 @@
 use Rattle.std.proofs.Common.{◌≡◌, Ok, Err}
-use Rattle.cfi_unwind.specs.CieAndFdeViews.{fde_view}
+use Rattle.cfi_unwind.specs.FdeViews.{fde_view}
 use Rattle.cfi_unwind.specs.EntryViews.{partial_of}
 use Rattle.cfi_unwind.specs.Scan.{read_fde}
-use Rattle.cfi_unwind.specs.Sections.{section_of}
+use Rattle.cfi_entry.specs.Sections.{section_of}
 use Rattle.cfi_program.specs.Lines.{refusal_line}
 use Rattle.cfi_program.proofs.WrittenLemmas.{writes_refused}
 use Rattle.cfi_dump_run.specs.EntryLines.{fde_line, partial_fde_line}

@@ -1,7 +1,7 @@
 use Rattle.std.proofs.Common.{◌∙◌, ap, sym, Some}
 use Rattle.cfi_state.specs.ContextEffects.{setting_of}
-use Rattle.cfi_unwind.specs.CieAndFdeViews.{fde_view}
-use Rattle.cfi_unwind.specs.Sections.{section_of}
+use Rattle.cfi_unwind.specs.FdeViews.{fde_view}
+use Rattle.cfi_entry.specs.Sections.{section_of}
 use Rattle.cfi_program.proofs.WrittenLemmas.{writes_refused}
 use Rattle.cfi_dump_run.proofs.RowsWritten.{fewer_after, all_written, line_written, line_begun, before_rows, refused_rows}
 use Rattle.cfi_dump_run.proofs.dump.write_rows.Goals as goal

@@ -1,7 +1,7 @@
 use Rattle.std.proofs.Common.{◌≡◌, Some}
 use Rattle.cfi_state.specs.ContextEffects.{setting_of}
-use Rattle.cfi_unwind.specs.CieAndFdeViews.{fde_view}
-use Rattle.cfi_unwind.specs.Sections.{section_of}
+use Rattle.cfi_unwind.specs.FdeViews.{fde_view}
+use Rattle.cfi_entry.specs.Sections.{section_of}
 use Rattle.cfi_unwind.specs.UnwindTableViews.{table_state}
 use Rattle.cfi_dump_run.specs.SectionTexts.{setting_of_fde, fde_rows, lines}
 use Rattle.cfi_dump_run.proofs.RowsWritten.{StandsAt, answers_left}

@@ -1,6 +1,6 @@
 use Rattle.std.proofs.Common.{◌≡◌, ℕ, ap, sym, subst, ◌∙◌}
-use Rattle.cfi_unwind.specs.Entries.{entries_left}
-use Rattle.cfi_unwind.specs.Sections.{section_of}
+use Rattle.cfi_entry.specs.Entries.{entries_left}
+use Rattle.cfi_entry.specs.Sections.{section_of}
 use Rattle.cfi_program.proofs.WrittenLemmas.{IsGiven, beginning_then, given_first, given_then, writes_refused}
 use Rattle.cfi_dump_run.specs.SectionTexts.{entries_text, section_text}
 use Rattle.cfi_dump_run.proofs.SectionWritten.{all_written, to_write}

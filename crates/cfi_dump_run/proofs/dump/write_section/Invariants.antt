@@ -1,6 +1,6 @@
 use Rattle.std.proofs.Common.{◌≡◌}
-use Rattle.cfi_unwind.specs.Entries.{entries_left}
-use Rattle.cfi_unwind.specs.Sections.{section_of}
+use Rattle.cfi_entry.specs.Entries.{entries_left}
+use Rattle.cfi_entry.specs.Sections.{section_of}
 use Rattle.cfi_program.proofs.WrittenLemmas.{IsGiven}
 use Rattle.cfi_dump_run.specs.SectionTexts.{entries_text, section_text}
 use Rattle.cfi_dump_run.proofs.dump.write_section.Given as goal

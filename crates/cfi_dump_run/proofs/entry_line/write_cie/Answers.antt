@@ -1,5 +1,5 @@
 use Rattle.std.proofs.Common.{◌++◌}
-use Rattle.cfi_unwind.specs.CieAndFdeViews.{cie_view}
+use Rattle.cfi_entry.specs.CieViews.{cie_view}
 use Rattle.cfi_program.proofs.WrittenLemmas.{given_first, given_then, beginning_then, writes_last, writes_refused}
 use Rattle.cfi_dump_run.specs.EntryLines.{cie_head, cie_factors, cie_augmentation}
 use Rattle.cfi_dump_run.proofs.entry_line.write_cie.Goals as goal

@@ -1,5 +1,5 @@
 use Rattle.std.proofs.Common.{[], ◌∷◌, ◌++◌}
-use Rattle.cfi_unwind.specs.CieAndFdeViews.{fde_view}
+use Rattle.cfi_unwind.specs.FdeViews.{fde_view}
 use Rattle.cfi_program.proofs.WrittenLemmas.{given_first, given_then, beginning_then, writes_last, writes_refused}
 use Rattle.cfi_dump_run.specs.EntryLines.{fde_head, fde_addresses, lsda_text}
 use Rattle.cfi_dump_run.proofs.entry_line.write_fde.Goals as goal

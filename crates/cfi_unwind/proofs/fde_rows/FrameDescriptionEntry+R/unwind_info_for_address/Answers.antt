@@ -1,8 +1,8 @@
 use Rattle.std.proofs.Common.{Ok}
 use Rattle.cfi_state.specs.MappedStates.{row_lent}
 use Rattle.cfi_state.proofs.Laws.{run_is_due}
-use Rattle.cfi_unwind.specs.Sections.{section_of}
-use Rattle.cfi_unwind.specs.CieAndFdeViews.{fde_view}
+use Rattle.cfi_entry.specs.Sections.{section_of}
+use Rattle.cfi_unwind.specs.FdeViews.{fde_view}
 use Rattle.cfi_unwind.proofs.Laws.{row_contains}
 use Rattle.cfi_unwind.proofs.RowLemmas.{lent_contains, same_run}
 use Rattle.cfi_unwind.proofs.StartLemmas.{row_inside}

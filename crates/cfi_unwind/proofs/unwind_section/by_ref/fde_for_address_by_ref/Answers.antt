@@ -6,15 +6,16 @@ use Rattle.cfi_read_core.specs.ReaderCalls.{map_ok}
 use Rattle.cfi_parts.specs.CallFrameSections.{SectionView}
 use Rattle.cfi_parts.specs.InstructionReaders.{Meets}
 use Rattle.cfi_parts.specs.declared.pointer.BaseAddresses.{BaseAddresses}
-use Rattle.cfi_unwind.specs.Cies.{Cie}
-use Rattle.cfi_unwind.specs.Fdes.{Fde, PartialFde, fde_of}
+use Rattle.cfi_entry.specs.Cies.{Cie}
+use Rattle.cfi_entry.specs.Fdes.{Fde, PartialFde, fde_of}
 use Rattle.cfi_unwind.specs.declared.entry.entries.EntryFields.{EntryFields}
 use Rattle.cfi_unwind.specs.declared.entry.entries.EntryFields.TheVariants as code
 use Rattle.cfi_unwind.specs.GetCieCalls.{GetCieCall}
-use Rattle.cfi_unwind.specs.Entries.{Entry, entries_left}
+use Rattle.cfi_entry.specs.Entries.{Entry, entries_left}
 use Rattle.cfi_unwind.specs.EntryViews.{OfEither, partial_of}
-use Rattle.cfi_unwind.specs.Sections.{section_of}
-use Rattle.cfi_unwind.specs.CieAndFdeViews.{cie_view, fde_view}
+use Rattle.cfi_entry.specs.Sections.{section_of}
+use Rattle.cfi_entry.specs.CieViews.{cie_view}
+use Rattle.cfi_unwind.specs.FdeViews.{fde_view}
 use Rattle.cfi_unwind.proofs.ScanSteps.{scans_at, scans_cie_at, scans_end, scans_found, scans_passed, scans_refusal, scans_refused_fde}
 use Rattle.cfi_unwind.proofs.unwind_section.by_ref.fde_for_address_by_ref.Goals as goal
 

@@ -1,6 +1,6 @@
 use Rattle.std.proofs.Common.{◌≡◌, Err, ap, refl, rules, sym}
 use Rattle.cfi_read_core.specs.ReaderCalls.{map_ok}
-use Rattle.cfi_unwind.specs.CieAndFdeViews.{fde_view}
+use Rattle.cfi_unwind.specs.FdeViews.{fde_view}
 use Rattle.cfi_unwind.proofs.unwind_section.by_ref.fde_from_offset_by_ref.Goals as goal
 
 pub returns-in_err-partial-clause-read : goal.returns-in_err-partial-clause-read

@@ -1,5 +1,5 @@
 use Rattle.std.proofs.Common.{◌≡◌, ◌≢◌, Ok, ap, sym, ◌∙◌}
-use Rattle.cfi_unwind.specs.CieAndFdeViews.{fde_view}
+use Rattle.cfi_unwind.specs.FdeViews.{fde_view}
 use Rattle.gimli_cfi.specs.BoundaryRows.{AreRising, IsBoundaryRow}
 use Rattle.gimli_cfi.specs.EhFrameHdr.{start_of}
 use Rattle.gimli_cfi.specs.HeaderViews.{header_section_view, table_view}

@@ -1,9 +1,9 @@
 use Rattle.std.proofs.Common.{◌≡◌, ◌-◌, ◌*◌, ℕ, Ok, Err, sym, subst, refl, ◌∙◌, rules}
 use Rattle.gimli_cfi.specs.BoundaryRows.{AreRising}
-use Rattle.cfi_unwind.specs.Entries.{FdeEntry, end_of_entry, entries, entries_left}
+use Rattle.cfi_entry.specs.Entries.{FdeEntry, end_of_entry, entries, entries_left}
 use Rattle.cfi_unwind.specs.EntryViews.{partial_of}
 use Rattle.cfi_unwind.specs.Scan.{read_fde}
-use Rattle.cfi_unwind.specs.CieAndFdeViews.{fde_view}
+use Rattle.cfi_unwind.specs.FdeViews.{fde_view}
 use Rattle.cfi_read_core.specs.ReadFunctions.{Position}
 use Rattle.gimli_cfi.specs.TableCheck.{starts_for_fde}
 use Rattle.gimli_cfi.specs.HeaderViews.{section_view, header_section_view, table_view}

@@ -1,5 +1,5 @@
 use Rattle.std.proofs.Common.{◌≡◌, ◌≤◌, ◌+◌, ◌-◌, ◌*◌, length}
-use Rattle.cfi_unwind.specs.Entries.{entries, entries_left}
+use Rattle.cfi_entry.specs.Entries.{entries, entries_left}
 use Rattle.cfi_parts.specs.InstructionReaders.{items}
 use Rattle.gimli_cfi.specs.TableCheck.{starts_for_fde}
 use Rattle.gimli_cfi.specs.HeaderViews.{section_view, header_section_view, table_view}

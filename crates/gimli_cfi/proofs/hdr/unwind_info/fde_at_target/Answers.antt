@@ -1,6 +1,6 @@
 use Rattle.std.proofs.Common.{◌≡◌, Err, ap, rules, sym, ◌∙◌}
 use Rattle.cfi_read_core.specs.ReaderCalls.{map_ok}
-use Rattle.cfi_unwind.specs.CieAndFdeViews.{fde_view}
+use Rattle.cfi_unwind.specs.FdeViews.{fde_view}
 use Rattle.gimli_cfi.proofs.TableFinds.{at_refused, at_read, covering_ok, covering_not}
 use Rattle.gimli_cfi.proofs.hdr.unwind_info.fde_at_target.Goals as goal
 

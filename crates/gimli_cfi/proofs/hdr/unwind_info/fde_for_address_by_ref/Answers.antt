@@ -1,6 +1,6 @@
 use Rattle.std.proofs.Common.{◌≡◌, Err, ap, refl, rules}
 use Rattle.cfi_read_core.specs.ReaderCalls.{map_ok}
-use Rattle.cfi_unwind.specs.CieAndFdeViews.{fde_view}
+use Rattle.cfi_unwind.specs.FdeViews.{fde_view}
 use Rattle.gimli_cfi.proofs.hdr.unwind_info.fde_for_address_by_ref.Goals as goal
 
 pub returns-in_err-target-clause-found : goal.returns-in_err-target-clause-found

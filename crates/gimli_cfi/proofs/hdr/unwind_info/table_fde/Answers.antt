@@ -1,7 +1,8 @@
 use Rattle.std.proofs.Common.{◌≡◌, Err, Ok, ap, rules, sym, ◌∙◌}
 use Rattle.cfi_read_core.specs.ReaderCalls.{map_ok}
-use Rattle.cfi_unwind.specs.Entries.{cie_at}
-use Rattle.cfi_unwind.specs.CieAndFdeViews.{cie_view, fde_view}
+use Rattle.cfi_entry.specs.Entries.{cie_at}
+use Rattle.cfi_entry.specs.CieViews.{cie_view}
+use Rattle.cfi_unwind.specs.FdeViews.{fde_view}
 use Rattle.gimli_cfi.specs.HeaderViews.{section_view, header_section_view, table_view}
 use Rattle.gimli_cfi.proofs.TableFinds.{at_own, found_through}
 use Rattle.gimli_cfi.proofs.hdr.unwind_info.table_fde.Goals as goal

@@ -1,7 +1,7 @@
 use Rattle.cfi_read_core.proofs.Onward.{onward_unsigned}
 use Rattle.cfi_parts.proofs.InstructionLemmas.{onward_pointer}
-use Rattle.cfi_unwind.proofs.EntryReads.{onward_encoding_byte}
-use Rattle.cfi_unwind.proofs.Within.{behind_of}
+use Rattle.cfi_entry.proofs.EntryReads.{onward_encoding_byte}
+use Rattle.cfi_entry.proofs.Within.{behind_of}
 use Rattle.gimli_cfi.proofs.HeaderReads.{onward_row_count, whole_of}
 use Rattle.gimli_cfi.proofs.hdr.header.EhFrameHdr.parse.Goals as goal
 

@@ -1,5 +1,5 @@
 use Rattle.std.proofs.Common.{◌≡◌, ◌+◌, ◌-◌, Err, arith, rules}
-use Rattle.cfi_unwind.proofs.Within.{behind_of}
+use Rattle.cfi_entry.proofs.Within.{behind_of}
 use Rattle.gimli_cfi.proofs.HeaderReads.{onward_row}
 use Rattle.gimli_cfi.proofs.RowWalk.{none_left, first_left}
 use Rattle.gimli_cfi.specs.HeaderViews.{header_section_view}

@@ -1,0 +1,2 @@
+pub mod EntryReads
+pub mod Within

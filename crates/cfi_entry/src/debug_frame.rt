@@ -1,0 +1,155 @@
+//! The section `.debug_frame`.
+ghost use Rattle.std.specs.Prelude.{◌≡◌, refl};
+ghost use Rattle.cfi_read_core.specs.Addresses.{IsAddressSize, sized_by};
+ghost use Rattle.cfi_read_core.specs.declared.common.Vendor.TheVariants.{Default as no_vendor};
+ghost use Rattle.cfi_read_core.specs.ReaderCalls.{all_of};
+ghost use Rattle.cfi_read_core.specs.Windows.{slice_position};
+ghost use Rattle.cfi_parts.specs.CallFrameSections.{DebugFrame as debug_frame, section_id};
+
+use cfi_parts::section_properties::{_UnwindSectionPrivate, CieOffsetEncoding};
+use cfi_read_core::address::AddressSize;
+use cfi_read_core::{EndianSlice, Endianity, Format, Reader, Section, SectionId, Vendor};
+
+/// The section `.debug_frame` (DWARF 5 section 6.4.1).
+///
+/// Made of a reader, its addresses take 8 bytes where a CIE gives no size, and no vendor's opcodes are read.
+///
+/// # Example
+///
+/// ```
+/// let mut section = DebugFrame::new(bytes, BigEndian);
+/// section.set_address_size(4);
+/// let cie = section.cie_from_offset(&BaseAddresses::default(), DebugFrameOffset(0))?;
+/// ```
+#[derive(Clone, Copy, Debug, PartialEq, Eq)]
+pub struct DebugFrame<R> {
+    section: R,
+    address_size: AddressSize,
+    vendor: Vendor,
+}
+
+impl<'input, E: Endianity> DebugFrame<EndianSlice<'input, E>> {
+    /// The section of these bytes in this byte order. It holds no copy of them.
+    #[inline(always)]
+    pub fn new(section: &'input [u8], endian: E) -> Self
+        ensures section { slice_position E.big_endian result.section ≡ all_of section.now (E.big_endian endian) 18446744073709551615 }
+        ensures size { result.address_size.bytes ≡ 8 }
+        ensures vendor { result.vendor ≡ no_vendor }
+    {
+        Self::from(EndianSlice::new(section, endian))
+    }
+}
+
+impl<R> DebugFrame<R> {
+    /// Sets how many bytes an address takes where a CIE gives no size: 1, 2, 4 or 8.
+    #[inline(always)]
+    pub fn set_address_size(&mut self, size: u8)
+        requires { IsAddressSize size }
+        ensures size { self.new.address_size.bytes ≡ size }
+        ensures section { self.new.section ≡ self.old.section }
+        ensures vendor { self.new.vendor ≡ self.old.vendor }
+    {
+        self.address_size = AddressSize::new(size);
+    }
+
+    /// Sets whose vendor opcodes are read.
+    #[inline(always)]
+    pub fn set_vendor(&mut self, vendor: Vendor)
+        ensures vendor { self.new.vendor ≡ vendor }
+        ensures section { self.new.section ≡ self.old.section }
+        ensures size { self.new.address_size ≡ self.old.address_size }
+    {
+        self.vendor = vendor;
+    }
+}
+
+impl<R> From<R> for DebugFrame<R> {
+    ghost from_gives = { λ r s. (s.section ≡ r) × ((s.address_size.bytes ≡ 8) × (s.vendor ≡ no_vendor)) };
+
+    #[inline(always)]
+    fn from(section: R) -> Self {
+        DebugFrame {
+            section,
+            address_size: AddressSize::new(8),
+            vendor: Vendor::Default,
+        }
+    }
+}
+
+impl<R> Section<R> for DebugFrame<R> {
+    ghost bytes = { λ s. s.section };
+
+    ghost ID = { section_id debug_frame };
+
+    #[inline(always)]
+    fn id() -> SectionId {
+        SectionId::DebugFrame
+    }
+
+    #[inline(always)]
+    fn reader(&self) -> &R {
+        &self.section
+    }
+
+    ghost of_reader = { λ r s e. e.0 };
+}
+
+impl<R: Reader> _UnwindSectionPrivate<R> for DebugFrame<R> {
+    ghost view = { λ s. record { kind = debug_frame; position = R.position s.section; address_size = s.address_size.bytes; vendor = s.vendor } };
+
+    ghost KIND = { debug_frame };
+
+    #[inline(always)]
+    fn section(&self) -> &R {
+        &self.section
+    }
+
+    #[inline(always)]
+    fn has_zero_terminator() -> bool {
+        false
+    }
+
+    #[inline(always)]
+    fn is_cie(format: Format, id: u64) -> bool {
+        match format {
+            Format::Dwarf32 => id == 0xffff_ffff,
+            Format::Dwarf64 => id == 0xffff_ffff_ffff_ffff,
+        }
+    }
+
+    #[inline(always)]
+    fn cie_offset_encoding(format: Format) -> CieOffsetEncoding {
+        match format {
+            Format::Dwarf32 => CieOffsetEncoding::U32,
+            Format::Dwarf64 => CieOffsetEncoding::U64,
+        }
+    }
+
+    #[inline(always)]
+    fn resolve_cie_offset(&self, _base: R::Offset, offset: R::Offset) -> Option<R::Offset> {
+        Some(offset)
+    }
+
+    #[inline(always)]
+    fn has_address_and_segment_sizes(version: u8) -> bool {
+        version == 4
+    }
+
+    #[inline(always)]
+    fn address_size(&self) -> u8 {
+        self.address_size.bytes()
+    }
+
+    #[inline(always)]
+    fn vendor(&self) -> Vendor {
+        self.vendor
+    }
+
+    ghost kind = { λ s. refl };
+
+    ghost sized = { λ s. sized_by s.address_size.bytes s.address_size.sized };
+
+    ghost sound = { λ s. R.sound s.section };
+
+    ghost greatest = { λ s. R.greatest s.section };
+}
