@@ -2,7 +2,7 @@
 //!
 //! A driver makes the same passes by gimli, so these take what a user of gimli takes, and no shorter way.
 ghost use Rattle.std.specs.Prelude.{◌≡◌, IfOk};
-ghost use Rattle.cfi_parts.specs.CallFrameSections.{IsOf};
+ghost use Rattle.cfi_instruction.specs.CallFrameSections.{IsOf};
 
 use crate::sums::{Done, FAILED, REFUSED, row_sum, rules_sum};
 use gimli_cfi::{

@@ -1,5 +1,5 @@
 //! Expressions of rows and instructions, which lie in their section: `get` is never refused, and no line of proof says so.
-ghost use Rattle.cfi_parts.specs.CallFrameSections.{IsOf};
+ghost use Rattle.cfi_instruction.specs.CallFrameSections.{IsOf};
 
 use cfi_parts::instruction::CallFrameInstruction;
 use cfi_parts::pointer::BaseAddresses;

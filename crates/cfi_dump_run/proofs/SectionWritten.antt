@@ -5,7 +5,7 @@ use Rattle.std.specs.Result.{IsErr}
 use Rattle.std.specs.Io.KnownBytes.{Appends}
 use Rattle.cfi_read_core.specs.ReadFunctions.{Readings}
 use Rattle.cfi_read_core.specs.declared.error.Error.{Error}
-use Rattle.cfi_parts.specs.CallFrameSections.{SectionView}
+use Rattle.cfi_instruction.specs.CallFrameSections.{SectionView}
 use Rattle.cfi_parts.specs.InstructionReaders.{items, refusal_item}
 use Rattle.cfi_parts.specs.declared.pointer.BaseAddresses.{BaseAddresses}
 use Rattle.cfi_entry.specs.Entries.{Entry, entries_left}

@@ -1,7 +1,7 @@
 //! The entries of a section in order, and the rows of each FDE.
 ghost use Rattle.std.specs.Prelude.{◌≡◌, IfOk};
 ghost use Rattle.cfi_read_core.specs.ReaderCalls.{map_ok};
-ghost use Rattle.cfi_parts.specs.CallFrameSections.{IsOf};
+ghost use Rattle.cfi_instruction.specs.CallFrameSections.{IsOf};
 ghost use Rattle.cfi_unwind.specs.FdeViews.{fde_view};
 ghost use Rattle.cfi_unwind.specs.EntryViews.{partial_of};
 ghost use Rattle.cfi_unwind.specs.Scan.{read_fde};

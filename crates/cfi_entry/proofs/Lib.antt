@@ -1,2 +1,3 @@
 pub mod EntryReads
 pub mod Within
+pub mod EntryKinds

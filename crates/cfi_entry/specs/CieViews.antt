@@ -3,7 +3,7 @@ use Rattle.std.specs.Prelude.{ℕ}
 use Rattle.std.specs.Option.{option_map}
 use Rattle.cfi_read_core.specs.ReadFunctions.{Position}
 use Rattle.cfi_read_core.specs.ReaderCalls.{extent_of}
-use Rattle.cfi_parts.specs.CallFrameSections.{SectionView}
+use Rattle.cfi_instruction.specs.CallFrameSections.{SectionView}
 use Rattle.cfi_entry.specs.Sections.{Section, section_of}
 use Rattle.cfi_entry.specs.Prefixes.{Prefix}
 use Rattle.cfi_entry.specs.Augmentations.{Augmentation as AugmentationMeaning}

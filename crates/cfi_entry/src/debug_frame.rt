@@ -4,9 +4,9 @@ ghost use Rattle.cfi_read_core.specs.Addresses.{IsAddressSize, sized_by};
 ghost use Rattle.cfi_read_core.specs.declared.common.Vendor.TheVariants.{Default as no_vendor};
 ghost use Rattle.cfi_read_core.specs.ReaderCalls.{all_of};
 ghost use Rattle.cfi_read_core.specs.Windows.{slice_position};
-ghost use Rattle.cfi_parts.specs.CallFrameSections.{DebugFrame as debug_frame, section_id};
+ghost use Rattle.cfi_instruction.specs.CallFrameSections.{DebugFrame as debug_frame, section_id};
 
-use cfi_parts::section_properties::{_UnwindSectionPrivate, CieOffsetEncoding};
+use cfi_instruction::section_properties::{_UnwindSectionPrivate, CieOffsetEncoding};
 use cfi_read_core::address::AddressSize;
 use cfi_read_core::{EndianSlice, Endianity, Format, Reader, Section, SectionId, Vendor};
 

@@ -2,16 +2,16 @@
 ghost use Rattle.std.specs.Prelude.{◌≡◌, ◌≤◌};
 ghost use Rattle.std.specs.Option.{option_map};
 ghost use Rattle.cfi_read_core.specs.ReaderCalls.{Reads};
-ghost use Rattle.cfi_parts.specs.CallFrameSections.{IsOf};
+ghost use Rattle.cfi_instruction.specs.CallFrameSections.{IsOf};
 ghost use Rattle.cfi_entry.specs.Fdes.{addresses, lsda};
 ghost use Rattle.cfi_entry.specs.CieViews.{augmentation_view, section_in};
 
 use crate::cie::CommonInformationEntry;
 use crate::in_section::InSection;
+use cfi_instruction::section_properties::_UnwindSectionPrivate;
 use cfi_parts::pointer::{
     Pointer, PointerEncodingParameters, parse_encoded_pointer, parse_encoded_value,
 };
-use cfi_parts::section_properties::_UnwindSectionPrivate;
 use cfi_read_core::address::AddressSize;
 use cfi_read_core::reader::read_offset;
 use cfi_read_core::{DwEhPe, Reader, Result};

@@ -3,13 +3,13 @@ ghost use Rattle.std.specs.Prelude.{◌≡◌, IfOk, IfSome, ◌≤◌};
 ghost use Rattle.std.specs.Option.{option_map};
 ghost use Rattle.cfi_read_core.specs.Numbers.{unsigned};
 ghost use Rattle.cfi_read_core.specs.ReaderCalls.{Reads, map_ok};
-ghost use Rattle.cfi_parts.specs.CallFrameSections.{IsOf, width_of};
+ghost use Rattle.cfi_instruction.specs.CallFrameSections.{IsOf, width_of};
 ghost use Rattle.cfi_entry.specs.Prefixes.{fields_after_length, prefix};
 ghost use Rattle.cfi_entry.specs.Entries.{prefix_at};
 ghost use Rattle.cfi_entry.specs.CieViews.{prefix_view, section_in};
 
 use crate::in_section::InSection;
-use cfi_parts::section_properties::{_UnwindSectionPrivate, CieOffsetEncoding};
+use cfi_instruction::section_properties::{_UnwindSectionPrivate, CieOffsetEncoding};
 use cfi_read_core::{Error, Format, Reader, ReaderOffset, Result};
 
 /// What an entry begins with, and what is left of it after its id.

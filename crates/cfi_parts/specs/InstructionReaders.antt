@@ -1,5 +1,5 @@
 -- The instructions that are still to be read in order.
-use Rattle.std.specs.Prelude.{◌≡◌, List, [], ◌∷◌, ◌++◌, map, Option, Some, None, Result, Ok, Err}
+use Rattle.std.specs.Prelude.{◌≡◌, ◌≤◌, List, [], ◌∷◌, ◌++◌, map, Option, Some, None, Result, Ok, Err}
 use Rattle.cfi_read_core.specs.declared.error.Error.{Error}
 use Rattle.cfi_read_core.specs.ReadFunctions.{Readings, Position, with_first, no_values}
 use Rattle.cfi_read_core.specs.ReaderCalls.{extent_of}
@@ -9,6 +9,11 @@ use Rattle.cfi_parts.specs.Instructions.{Instruction, InstructionContext, instru
 pub record InstructionReader : Type 0 where
   pub context : InstructionContext
   pub position : Position
+
+-- The section of the pointers is this one, and the reader ends with it at the latest.
+pub record ReadsIn (section : Position) (reader : InstructionReader) : Type 0 where
+  pub first : reader.context.pointers.section ≡ section.place
+  pub last : reader.position.source.last ≤ section.source.last
 
 abbrev pub instructions_left : InstructionReader → Readings Instruction
 instructions_left p = instructions p.context (extent_of p.position) p.position.source

@@ -5,12 +5,12 @@ use Rattle.cfi_read_core.specs.declared.common.Register.{Register as RegisterNum
 use Rattle.cfi_read_core.specs.declared.common.Vendor.{Vendor}
 use Rattle.cfi_read_core.specs.declared.common.Vendor.TheVariants as vendors
 use Rattle.cfi_read_core.specs.declared.error.Error.TheVariants.{UnknownCallFrameInstruction}
-use Rattle.cfi_read_core.specs.ReadFunctions.{Read, Source, Extent, Readings, readings_over, ◌>>=◌, ◌>>◌, give, refuse, of_result, skip, split, chosen_from}
+use Rattle.cfi_read_core.specs.ReadFunctions.{Read, Source, Extent, Readings, readings_over, ◌>>=◌, give, refuse, of_result, split, chosen_from}
 use Rattle.cfi_read_core.specs.Numbers.{unsigned, unsigned_leb128, signed_leb128, offset_leb128, register_leb128}
 use Rattle.cfi_read_core.specs.Addresses.{address}
-use Rattle.cfi_parts.specs.declared.instruction.UnwindExpression.{UnwindExpression}
-use Rattle.cfi_parts.specs.declared.instruction.CallFrameInstruction.{CallFrameInstruction}
-use Rattle.cfi_parts.specs.declared.instruction.CallFrameInstruction.TheVariants as variant
+use Rattle.cfi_instruction.specs.declared.instruction.UnwindExpression.{UnwindExpression}
+use Rattle.cfi_instruction.specs.declared.instruction.CallFrameInstruction.{CallFrameInstruction}
+use Rattle.cfi_instruction.specs.declared.instruction.CallFrameInstruction.TheVariants as variant
 use Rattle.cfi_parts.specs.Pointers.{PointerContext, pointer, direct}
 
 -- What the instructions of an entry are read with.
@@ -30,12 +30,6 @@ expression context = do
   length ← offset_leb128
   extent ← split length
   give (record { offset = extent.first - context.section; length = length })
-
--- the bytes of an expression, from a reader of the section in which it was read
-unfoldable pub expression_bytes : UnwindExpression ℕ → Read Extent
-expression_bytes e = do
-  skip e.offset
-  split e.length
 
 abbrev pub location_by : PointerContext → Option ℕ → Read ℕ
 location_by context None = address context.size

@@ -1,6 +1,5 @@
 #![tactic(auto)]
-//! Encoded pointers, call frame instructions, and the properties of a call frame section.
+//! Encoded pointers, and call frame instructions as they are read.
 
 pub mod instruction;
 pub mod pointer;
-pub mod section_properties;

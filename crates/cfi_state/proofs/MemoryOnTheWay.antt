@@ -11,8 +11,8 @@ use Rattle.std.proofs.lemmas.List.{append-nil}
 use Rattle.cfi_read_core.specs.ReadFunctions.{Readings, with_first, no_values}
 use Rattle.cfi_read_core.specs.declared.error.Error.{Error}
 use Rattle.cfi_read_core.specs.declared.error.Error.TheVariants.{OutOfMemory, NoUnwindInfoForAddress}
-use Rattle.cfi_parts.specs.declared.instruction.CallFrameInstruction.{CallFrameInstruction}
-use Rattle.cfi_parts.specs.declared.instruction.CallFrameInstruction.TheVariants as instruction
+use Rattle.cfi_instruction.specs.declared.instruction.CallFrameInstruction.{CallFrameInstruction}
+use Rattle.cfi_instruction.specs.declared.instruction.CallFrameInstruction.TheVariants as instruction
 use Rattle.cfi_state.specs.Row.{Row}
 use Rattle.cfi_state.specs.MachineSettings.{Setting, next_location, is_move}
 use Rattle.cfi_state.specs.Program.{Program, in_cie, in_fde, followed_by, refused_if, location_of, refusal, refusal_at_end}

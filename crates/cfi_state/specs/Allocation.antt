@@ -3,7 +3,7 @@
 --     may_allocate_at_end s copies_free x      whether the end of a CIE's initial instructions may
 use Rattle.std.specs.Prelude.{ℕ, Bool, false, not, ◌&&◌, ◌||◌, nat_le, Option, Some, None, is_some}
 use Rattle.std.specs.FinMap as map
-use Rattle.cfi_parts.specs.declared.instruction.CallFrameInstruction.{CallFrameInstruction}
+use Rattle.cfi_instruction.specs.declared.instruction.CallFrameInstruction.{CallFrameInstruction}
 use Rattle.cfi_state.specs.Actions.{Action, gives_rule, restores_rule, toggles_sign_state, remembers_state, action}
 use Rattle.cfi_state.specs.MachineSettings.{Setting, ra_sign_state}
 use Rattle.cfi_state.specs.Machine.{Rules, State}

@@ -4,7 +4,7 @@
 --     EndsCie s copies_free location old new result      the same of the end of a CIE's initial instructions
 use Rattle.std.specs.Prelude.{◌≡◌, ℕ, Bool, List, ◌∷◌, Option, Some, None, Result, Ok, Err}
 use Rattle.cfi_read_core.specs.declared.error.Error.{Error}
-use Rattle.cfi_parts.specs.declared.instruction.CallFrameInstruction.{CallFrameInstruction}
+use Rattle.cfi_instruction.specs.declared.instruction.CallFrameInstruction.{CallFrameInstruction}
 use Rattle.cfi_state.specs.Actions.{Action, remembers_state, restores_state, action}
 use Rattle.cfi_state.specs.declared.table.machine.Parameters.{Parameters}
 use Rattle.cfi_state.specs.MachineSettings.{Setting}

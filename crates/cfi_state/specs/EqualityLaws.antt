@@ -7,7 +7,7 @@ use Rattle.std.specs.Cmp.{IsEquivalence, IsPartialEquivalence, Equal-is, first_s
 use Rattle.std.specs.Cmp.Lexicographic.{lists_equiv, options_equiv}
 use Rattle.std.proofs.Math.Bool.{and_comm}
 use Rattle.std.specs.FinMap.{FinMap, nat_cmp-IsAntisymmetric, get, keys, contains_key, contains_key-keys}
-use Rattle.cfi_parts.specs.declared.instruction.UnwindExpression.{UnwindExpression}
+use Rattle.cfi_instruction.specs.declared.instruction.UnwindExpression.{UnwindExpression}
 use Rattle.cfi_state.specs.declared.table.rules.CfaRule.{CfaRule}
 use Rattle.cfi_state.specs.declared.table.rules.CfaRule.TheVariants as cfa
 use Rattle.cfi_state.specs.declared.table.rules.RegisterRule.{RegisterRule}

@@ -3,7 +3,7 @@
 --     next_location s location i      the location after the instruction i
 use Rattle.std.specs.Prelude.{ℕ, ◌+◌, ◌*◌, ◌%◌, ◌^◌, Bool, true, false, ◌==◌, ℤ, Option, Some, None}
 use Rattle.cfi_read_core.specs.Addresses.{fits}
-use Rattle.cfi_parts.specs.declared.instruction.CallFrameInstruction.{CallFrameInstruction}
+use Rattle.cfi_instruction.specs.declared.instruction.CallFrameInstruction.{CallFrameInstruction}
 use Rattle.cfi_state.specs.Actions.{Action, sets_location, advances_location, remembers_state, restores_state, toggles_sign_state, action}
 
 -- What stays fixed while the programs of a CIE and an FDE run. A limit that is `None` is absent.

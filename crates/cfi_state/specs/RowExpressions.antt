@@ -6,9 +6,9 @@ use Rattle.std.specs.Prelude.{ℕ, Option, Some, None, IfSome}
 use Rattle.std.specs.FinMap.{get}
 use Rattle.std.specs.List.{AllByRecursion}
 use Rattle.cfi_read_core.specs.ReadFunctions.{Position}
-use Rattle.cfi_parts.specs.declared.instruction.UnwindExpression.{UnwindExpression}
-use Rattle.cfi_parts.specs.MappedInstructions.{map_expression}
-use Rattle.cfi_parts.specs.ExpressionPlaces.{LiesIn, expression_of}
+use Rattle.cfi_instruction.specs.declared.instruction.UnwindExpression.{UnwindExpression}
+use Rattle.cfi_instruction.specs.MappedInstructions.{map_expression}
+use Rattle.cfi_instruction.specs.ExpressionPlaces.{LiesIn, expression_of}
 use Rattle.cfi_state.specs.declared.table.rules.CfaRule.{CfaRule}
 use Rattle.cfi_state.specs.declared.table.rules.CfaRule.TheVariants as cfa
 use Rattle.cfi_state.specs.declared.table.rules.RegisterRule.{RegisterRule}

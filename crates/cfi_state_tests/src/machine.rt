@@ -4,7 +4,7 @@ ghost use Rattle.std.specs.Prelude.{◌≡◌};
 ghost use Rattle.std.proofs.Common.{lit≤};
 
 use arrayvec::ArrayVec;
-use cfi_parts::instruction::CallFrameInstruction;
+use cfi_instruction::instruction::CallFrameInstruction;
 use cfi_read_core::address::AddressSize;
 use cfi_read_core::{Error, ReaderOffset, Register, Result};
 use cfi_state::storage::{StoreGrowing, UnwindContextStorage};

@@ -6,7 +6,7 @@ use Rattle.cfi_read_core.specs.declared.error.Error.{Error}
 use Rattle.cfi_read_core.specs.ReadFunctions.{Readings}
 use Rattle.cfi_read_core.specs.ReaderCalls.{map_ok}
 use Rattle.cfi_parts.specs.Instructions.{Instruction}
-use Rattle.cfi_parts.specs.ExpressionPlaces.{LiesIn, HasExpressionIn}
+use Rattle.cfi_instruction.specs.ExpressionPlaces.{LiesIn, HasExpressionIn}
 use Rattle.cfi_parts.proofs.ExpressionPlaces.{all_read_in}
 use Rattle.cfi_state.specs.MachineSettings.{Setting}
 use Rattle.cfi_state.specs.Machine.{State, fresh_state}

@@ -8,10 +8,10 @@ use Rattle.cfi_read_core.specs.ReadFunctions.{Readings, with_first, no_values}
 use Rattle.cfi_read_core.specs.ReaderCalls.{map_ok}
 use Rattle.cfi_read_core.specs.declared.error.Error.{Error}
 use Rattle.cfi_read_core.specs.declared.error.Error.TheVariants.{NoUnwindInfoForAddress}
-use Rattle.cfi_parts.specs.declared.instruction.CallFrameInstruction.{CallFrameInstruction}
+use Rattle.cfi_instruction.specs.declared.instruction.CallFrameInstruction.{CallFrameInstruction}
 use Rattle.cfi_parts.specs.Instructions.{Instruction}
 use Rattle.cfi_parts.specs.InstructionReaders.{Meets}
-use Rattle.cfi_parts.specs.MappedInstructions.{map_instruction}
+use Rattle.cfi_instruction.specs.MappedInstructions.{map_instruction}
 use Rattle.cfi_state.specs.Row.{Row, at_start, at_end}
 use Rattle.cfi_state.specs.MachineSettings.{Setting, is_move}
 use Rattle.cfi_state.specs.Machine.{State, fresh_state, step}
@@ -29,7 +29,7 @@ use Rattle.cfi_state.proofs.IsStateAfter.{stands_fresh}
 use Rattle.cfi_state.proofs.FixedStorage.{fixed_never}
 use Rattle.cfi_state.proofs.RunAnswers.{next_or_memory, next_is_due}
 use Rattle.cfi_state.proofs.RowExpressions.{next_holds}
-use Rattle.cfi_parts.specs.ExpressionPlaces.{LiesIn}
+use Rattle.cfi_instruction.specs.ExpressionPlaces.{LiesIn}
 use Rattle.cfi_unwind.specs.UnwindTableCalls.{GivesNextAnswer, AnswersWithoutMachine, IsNextOrMemory, KeepsExpressionsIn, KeepsCieProgram, state_in_numbers, row_due, state_after, LendsNextRow}
 
 -- what an instruction leaves as it was

@@ -1,7 +1,7 @@
 -- A CIE that is kept with its offset, to be answered again.
 use Rattle.std.specs.Prelude.{◌≡◌, ℕ, Option, Ok, IfSome}
 use Rattle.cfi_read_core.specs.ReadFunctions.{Position}
-use Rattle.cfi_parts.specs.CallFrameSections.{SectionView, IsOf}
+use Rattle.cfi_instruction.specs.CallFrameSections.{SectionView, IsOf}
 use Rattle.cfi_parts.specs.declared.pointer.BaseAddresses.{BaseAddresses}
 use Rattle.cfi_entry.specs.Sections.{section_of}
 use Rattle.cfi_entry.specs.Entries.{cie_at}

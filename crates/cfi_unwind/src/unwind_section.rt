@@ -2,7 +2,7 @@
 ghost use Rattle.std.specs.Prelude.{◌≡◌, ◌≤◌, ◌<◌, IfOk, Result};
 ghost use Rattle.cfi_read_core.specs.ReaderCalls.{map_ok};
 ghost use Rattle.cfi_read_core.specs.declared.error.Error.{Error};
-ghost use Rattle.cfi_parts.specs.CallFrameSections.{IsOf};
+ghost use Rattle.cfi_instruction.specs.CallFrameSections.{IsOf};
 ghost use Rattle.cfi_entry.specs.Sections.{section_of};
 ghost use Rattle.cfi_state.specs.MappedStates.{row_lent};
 ghost use Rattle.cfi_state.specs.RowExpressions.{HasExpressionsIn};
@@ -29,8 +29,8 @@ use cfi_entry::cie::cie_at;
 pub use cfi_entry::debug_frame::DebugFrame;
 pub use cfi_entry::eh_frame::EhFrame;
 use cfi_entry::in_section::InSection;
+use cfi_instruction::section_properties::{_UnwindSectionPrivate, UnwindOffset};
 use cfi_parts::pointer::BaseAddresses;
-use cfi_parts::section_properties::{_UnwindSectionPrivate, UnwindOffset};
 use cfi_read_core::{DebugFrameOffset, EhFrameOffset, Reader, ReaderOffset, Result};
 use cfi_state::storage::UnwindContextStorage;
 use cfi_state::table::context::UnwindContext;

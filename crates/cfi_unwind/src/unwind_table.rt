@@ -3,7 +3,7 @@ ghost use Rattle.std.specs.Prelude.{◌≡◌, ℕ, Option, true, false, IfOk, I
 ghost use Rattle.std.specs.Borrow.{sem};
 ghost use Rattle.std.specs.Io.BufRead.{Rests};
 ghost use mir.Syntax.{named};
-ghost use Rattle.cfi_parts.specs.CallFrameSections.{IsOf};
+ghost use Rattle.cfi_instruction.specs.CallFrameSections.{IsOf};
 ghost use Rattle.cfi_parts.specs.InstructionIterators.{instruction_reader};
 ghost use Rattle.cfi_parts.specs.InstructionReaders.{instructions_left};
 ghost use Rattle.cfi_state.specs.UnwindContexts.{empty_context};

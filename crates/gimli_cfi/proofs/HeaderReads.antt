@@ -4,7 +4,7 @@ use Rattle.std.specs.Prelude.{◌||◌}
 use Rattle.cfi_read_core.specs.ReadFunctions.{Position, give, refuse_if}
 use Rattle.cfi_read_core.specs.ReaderCalls.{IsSound}
 use Rattle.cfi_read_core.specs.PointerEncodings.{is_omitted}
-use Rattle.cfi_parts.specs.CallFrameSections.{IsOf}
+use Rattle.cfi_instruction.specs.CallFrameSections.{IsOf}
 use Rattle.cfi_read_core.proofs.Onward.{IsOnward, onward_give, onward_refuse_if, onward_if, onward_bind}
 use Rattle.cfi_parts.specs.Pointers.{PointerContext, encoded_value, pointer}
 use Rattle.cfi_parts.proofs.InstructionLemmas.{onward_formatted, onward_pointer}

@@ -8,7 +8,7 @@ use Rattle.cfi_read_core.specs.declared.common.Format.TheVariants.{Dwarf32, Dwar
 use Rattle.cfi_read_core.specs.ReadFunctions.{Readings, unexpected_eof}
 use Rattle.cfi_parts.specs.declared.pointer.Pointer.{Pointer}
 use Rattle.cfi_parts.specs.declared.pointer.Pointer.TheVariants.{Direct, Indirect}
-use Rattle.cfi_parts.specs.declared.instruction.CallFrameInstruction.TheVariants.{AdvanceLoc, DefCfa, DefCfaRegister, DefCfaOffset, Offset}
+use Rattle.cfi_instruction.specs.declared.instruction.CallFrameInstruction.TheVariants.{AdvanceLoc, DefCfa, DefCfaRegister, DefCfaOffset, Offset}
 use Rattle.cfi_parts.specs.Instructions.{Instruction}
 use Rattle.cfi_entry.specs.Sections.{Section, EhFrame}
 use Rattle.cfi_entry.specs.Cies.{Cie}

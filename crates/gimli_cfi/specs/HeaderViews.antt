@@ -5,7 +5,7 @@ use Rattle.cfi_read_core.specs.ReadFunctions.{Position}
 use Rattle.cfi_read_core.specs.ReaderCalls.{extent_of}
 use Rattle.cfi_parts.specs.declared.pointer.BaseAddresses.{BaseAddresses}
 use Rattle.cfi_parts.specs.declared.pointer.Pointer.{Pointer}
-use Rattle.cfi_parts.specs.CallFrameSections.{EhFrame as of_eh_frame}
+use Rattle.cfi_instruction.specs.CallFrameSections.{EhFrame as of_eh_frame}
 use Rattle.cfi_entry.specs.declared.eh_frame.EhFrame.{EhFrame}
 use Rattle.cfi_entry.specs.Sections.{Section, section_of}
 use Rattle.gimli_cfi.specs.declared.hdr.header.ParsedEhFrameHdr.{ParsedEhFrameHdr}

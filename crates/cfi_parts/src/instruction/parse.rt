@@ -4,7 +4,7 @@ ghost use Rattle.cfi_read_core.specs.ReadFunctions.{chosen_from};
 ghost use Rattle.cfi_read_core.specs.ReaderCalls.{Reads};
 ghost use Rattle.cfi_parts.specs.ReadingParameters.{instruction_context, pointer_context};
 ghost use Rattle.cfi_parts.specs.Instructions.{IsRare, IsRuleOrUnknown, IsRuleWithoutOffsetOrUnknown, expression, extended_opcodes, instruction, location_by, unknown_opcode};
-ghost use Rattle.cfi_parts.specs.MappedInstructions.{map_expression, map_instruction};
+ghost use Rattle.cfi_instruction.specs.MappedInstructions.{map_expression, map_instruction};
 
 use crate::instruction::{CallFrameInstruction, UnwindExpression};
 use crate::pointer::{PointerEncodingParameters, parse_encoded_pointer};

@@ -5,7 +5,7 @@
 ghost use Rattle.std.specs.Prelude.{◌≡◌, ℕ, None, IfOk, is_some, true, false};
 ghost use Rattle.std.specs.Int.{w64, int_wrapping_mul};
 ghost use Rattle.cfi_state.specs.MachineSettings.{Setting, is_move};
-ghost use Rattle.cfi_parts.specs.declared.instruction.CallFrameInstruction.TheVariants as instruction;
+ghost use Rattle.cfi_instruction.specs.declared.instruction.CallFrameInstruction.TheVariants as instruction;
 ghost use Rattle.cfi_state.specs.Row.{at_start, at_end};
 ghost use Rattle.cfi_state.specs.UnwindContexts.{empty_context, machine_state, with_row};
 ghost use Rattle.cfi_state.specs.declared.table.machine.Parameters.{Parameters};
@@ -17,7 +17,7 @@ use super::context::UnwindContext;
 use super::row::UnwindTableRow;
 use super::rules::{CfaRule, RA_SIGN_STATE, RegisterRule};
 use crate::storage::UnwindContextStorage;
-use cfi_parts::instruction::CallFrameInstruction;
+use cfi_instruction::instruction::CallFrameInstruction;
 use cfi_read_core::address::AddressSize;
 use cfi_read_core::{Error, ReaderAddress, ReaderOffset, Register, Result};
 

@@ -14,8 +14,8 @@ ghost use Rattle.cfi_state.specs.EqualityLaws.{rules_equiv};
 
 use crate::storage::{ArrayLike, CopyList, Refused, Why};
 use arrayvec::ArrayVec;
+use cfi_instruction::instruction::UnwindExpression;
 use cfi_lists::array_like::{remove_at, shorten, write_at, write_over};
-use cfi_parts::instruction::UnwindExpression;
 use cfi_read_core::{Error, ReaderOffset, Register, Result};
 use std::alloc::Global;
 use std::fmt::{Debug, Formatter, Write};

@@ -4,7 +4,7 @@ ghost use Rattle.std.specs.Option.{option_map};
 ghost use Rattle.std.specs.Iterator.{YieldsFirstBy, item_count};
 ghost use Rattle.cfi_read_core.specs.ReaderCalls.{Reads, remaining, map_ok};
 ghost use Rattle.cfi_parts.specs.InstructionReaders.{Meets, items};
-ghost use Rattle.cfi_parts.specs.CallFrameSections.{IsOf};
+ghost use Rattle.cfi_instruction.specs.CallFrameSections.{IsOf};
 ghost use Rattle.cfi_entry.specs.Sections.{section_of};
 ghost use Rattle.cfi_entry.specs.Entries.{entries_left, entry_of, partial_fde_at, partial_fde_of};
 ghost use Rattle.cfi_unwind.specs.EntrySteps.{GoesThrough, GoesThrough_prop, entry_read};
@@ -15,8 +15,8 @@ use crate::entry::partial::{PartialFdeFields, PartialFrameDescriptionEntry};
 use cfi_entry::cie::{CommonInformationEntry, read_cie};
 use cfi_entry::in_section::InSection;
 use cfi_entry::prefix::{EntryPrefix, prefix_at, read_prefix};
+use cfi_instruction::section_properties::_UnwindSectionPrivate;
 use cfi_parts::pointer::BaseAddresses;
-use cfi_parts::section_properties::_UnwindSectionPrivate;
 use cfi_read_core::{Error, Reader, ReaderOffset, Result};
 use std::alloc::AllocError;
 

@@ -2,7 +2,7 @@
 ghost use Rattle.std.specs.Prelude.{◌≡◌, ◌≤◌, IfOk, Some};
 ghost use Rattle.std.specs.Option.{option_map};
 ghost use Rattle.cfi_read_core.specs.ReaderCalls.{Reads, map_ok};
-ghost use Rattle.cfi_parts.specs.CallFrameSections.{IsOf};
+ghost use Rattle.cfi_instruction.specs.CallFrameSections.{IsOf};
 ghost use Rattle.cfi_entry.specs.Augmentations.{is_trampoline, personality_of};
 ghost use Rattle.cfi_entry.specs.Fdes.{covers, end_of, fde_after};
 ghost use Rattle.cfi_entry.specs.CieViews.{augmentation_view, cie_view, prefix_view, section_in};
@@ -12,8 +12,8 @@ use cfi_entry::cie::{CieFields, CommonInformationEntry};
 use cfi_entry::fde_fields::{read_addresses, read_lsda};
 use cfi_entry::in_section::InSection;
 use cfi_entry::prefix::EntryPrefix;
+use cfi_instruction::section_properties::_UnwindSectionPrivate;
 use cfi_parts::pointer::Pointer;
-use cfi_parts::section_properties::_UnwindSectionPrivate;
 use cfi_read_core::address::AddressSize;
 use cfi_read_core::{Reader, ReaderAddress, Result};
 

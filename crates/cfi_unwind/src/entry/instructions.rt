@@ -1,17 +1,16 @@
 //! The instructions of FDEs (DWARF 5 section 6.4.2).
 ghost use Rattle.std.specs.Prelude.{◌≡◌};
-ghost use Rattle.cfi_parts.specs.CallFrameSections.{IsOf};
-ghost use Rattle.cfi_parts.specs.ExpressionPlaces.{ReadsIn};
+ghost use Rattle.cfi_instruction.specs.CallFrameSections.{IsOf};
 ghost use Rattle.cfi_parts.specs.InstructionIterators.{instruction_reader};
-ghost use Rattle.cfi_parts.specs.InstructionReaders.{instructions_left};
+ghost use Rattle.cfi_parts.specs.InstructionReaders.{ReadsIn, instructions_left};
 ghost use Rattle.cfi_entry.specs.Sections.{section_of};
 ghost use Rattle.cfi_entry.specs.EntryInstructions.{fde_instructions};
 ghost use Rattle.cfi_unwind.specs.FdeViews.{fde_view};
 
 use crate::entry::fde::FrameDescriptionEntry;
+use cfi_instruction::section_properties::_UnwindSectionPrivate;
 use cfi_parts::instruction::CallFrameInstructionIter;
 use cfi_parts::pointer::{BaseAddresses, PointerEncodingParameters};
-use cfi_parts::section_properties::_UnwindSectionPrivate;
 use cfi_read_core::Reader;
 use cfi_read_core::address::AddressSize;
 

@@ -1,14 +1,14 @@
 //! Frame description entries as far as the offset of their CIE.
 ghost use Rattle.std.specs.Prelude.{◌≡◌, ⊤};
-ghost use Rattle.cfi_parts.specs.CallFrameSections.{IsOf, IsOf_prop};
+ghost use Rattle.cfi_instruction.specs.CallFrameSections.{IsOf, IsOf_prop};
 
 use crate::entry::fde::{FrameDescriptionEntry, read_fde};
 use crate::unwind_section::UnwindSection;
 use cfi_entry::cie::CommonInformationEntry;
 use cfi_entry::in_section::InSection;
 use cfi_entry::prefix::EntryPrefix;
+use cfi_instruction::section_properties::_UnwindSectionPrivate;
 use cfi_parts::pointer::BaseAddresses;
-use cfi_parts::section_properties::_UnwindSectionPrivate;
 use cfi_read_core::{Format, Reader, Result};
 use std::alloc::AllocError;
 

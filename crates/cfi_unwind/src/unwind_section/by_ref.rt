@@ -3,7 +3,7 @@
 ghost use Rattle.std.specs.Prelude.{◌≡◌, ◌≤◌, ◌<◌, IfOk, Result};
 ghost use Rattle.cfi_read_core.specs.ReaderCalls.{map_ok};
 ghost use Rattle.cfi_read_core.specs.declared.error.Error.{Error};
-ghost use Rattle.cfi_parts.specs.CallFrameSections.{IsOf};
+ghost use Rattle.cfi_instruction.specs.CallFrameSections.{IsOf};
 ghost use Rattle.cfi_state.specs.MappedStates.{row_lent};
 ghost use Rattle.cfi_state.specs.RowExpressions.{HasExpressionsIn};
 ghost use Rattle.cfi_entry.specs.Sections.{section_of};

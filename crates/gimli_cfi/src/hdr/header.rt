@@ -5,7 +5,7 @@ ghost use Rattle.cfi_read_core.specs.Addresses.{IsAddressSize};
 ghost use Rattle.cfi_read_core.specs.ReaderCalls.{Reads, all_of, map_ok};
 ghost use Rattle.cfi_read_core.specs.Windows.{slice_position};
 ghost use Rattle.cfi_read_core.specs.declared.common.SectionId.TheVariants.{EhFrameHdr as eh_frame_hdr_id};
-ghost use Rattle.cfi_parts.specs.CallFrameSections.{IsOf, IsOf_prop};
+ghost use Rattle.cfi_instruction.specs.CallFrameSections.{IsOf, IsOf_prop};
 ghost use Rattle.gimli_cfi.specs.EhFrameHdr.{header_of, header_section, row_count};
 
 use crate::hdr::table::EhHdrTable;

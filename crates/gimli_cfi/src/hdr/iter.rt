@@ -5,7 +5,7 @@ ghost use Rattle.std.specs.Iterator.{UpTo, YieldsFirst, at_most};
 ghost use Rattle.std.specs.Iterator.SizeHint.{IsWithinCount};
 ghost use Rattle.cfi_read_core.specs.ReaderCalls.{Reads};
 ghost use Rattle.cfi_parts.specs.ReadingParameters.{pointer_context};
-ghost use Rattle.cfi_parts.specs.CallFrameSections.{IsOf, IsOf_prop};
+ghost use Rattle.cfi_instruction.specs.CallFrameSections.{IsOf, IsOf_prop};
 ghost use Rattle.gimli_cfi.specs.EhFrameHdr.{row_by};
 ghost use Rattle.gimli_cfi.specs.HeaderRows.{Meets, next_row, rows_left, walk_after, walk_of};
 

@@ -3,7 +3,7 @@ ghost use Rattle.std.specs.Prelude.{◌≡◌, ℕ, ◌+◌, ◌≤◌, ◌<◌,
 ghost use Rattle.cfi_read_core.specs.declared.error.Error.{Error as Refusal};
 ghost use Rattle.cfi_read_core.specs.ReaderCalls.{map_ok};
 ghost use Rattle.cfi_parts.specs.declared.pointer.Pointer.TheVariants.{Direct};
-ghost use Rattle.cfi_parts.specs.CallFrameSections.{IsOf};
+ghost use Rattle.cfi_instruction.specs.CallFrameSections.{IsOf};
 ghost use Rattle.cfi_state.specs.MappedStates.{row_lent};
 ghost use Rattle.cfi_state.specs.RowExpressions.{HasExpressionsIn};
 ghost use Rattle.cfi_entry.specs.declared.cie.CieFields.{CieFields};
@@ -20,8 +20,8 @@ ghost use Rattle.gimli_cfi.specs.HeaderViews.{listing_view, section_view, table_
 
 use crate::hdr::search::StartSource;
 use crate::hdr::table::EhHdrTable;
+use cfi_instruction::section_properties::_UnwindSectionPrivate;
 use cfi_parts::pointer::{BaseAddresses, Pointer};
-use cfi_parts::section_properties::_UnwindSectionPrivate;
 use cfi_read_core::{EhFrameOffset, Error, Reader, Result};
 use cfi_state::storage::UnwindContextStorage;
 use cfi_state::table::context::UnwindContext;

@@ -1,5 +1,5 @@
 use Rattle.std.proofs.Common.{rules}
-use Rattle.cfi_parts.specs.CallFrameSections.{IsOf, EhFrame as of_eh_frame}
+use Rattle.cfi_instruction.specs.CallFrameSections.{IsOf, EhFrame as of_eh_frame}
 use Rattle.cfi_unwind.specs.KeptCie.{KeepsCie}
 use Rattle.cfi_unwind.proofs.Answered.{ok_answered_by}
 use Rattle.cfi_kept_cies.proofs.kept_cies.fde_by_table_with_kept_cies.Goals as goal

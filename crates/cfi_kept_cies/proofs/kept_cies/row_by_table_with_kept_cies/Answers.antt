@@ -1,5 +1,5 @@
 use Rattle.std.specs.Prelude.{IfSome}
-use Rattle.cfi_parts.specs.CallFrameSections.{IsOf}
+use Rattle.cfi_instruction.specs.CallFrameSections.{IsOf}
 use Rattle.cfi_unwind.proofs.Answered.{answered_by}
 use Rattle.cfi_kept_cies.proofs.kept_cies.row_by_table_with_kept_cies.Goals as goal
 

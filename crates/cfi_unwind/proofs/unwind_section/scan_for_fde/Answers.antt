@@ -1,5 +1,5 @@
 use Rattle.std.proofs.Common.{◌≡◌, rules}
-use Rattle.cfi_parts.specs.CallFrameSections.{IsOf}
+use Rattle.cfi_instruction.specs.CallFrameSections.{IsOf}
 use Rattle.cfi_unwind.specs.KeptCie.{KeepsCie}
 use Rattle.cfi_unwind.proofs.Answered.{chosen_by, ok_answered_by}
 use Rattle.cfi_unwind.proofs.unwind_section.scan_for_fde.Goals as goal

@@ -3,7 +3,7 @@ use Rattle.std.specs.Prelude.{IfSome}
 use Rattle.cfi_read_core.specs.declared.error.Error.{Error}
 use Rattle.cfi_read_core.specs.ReadFunctions.{Readings, no_values, with_first}
 use Rattle.cfi_read_core.specs.ReaderCalls.{map_ok}
-use Rattle.cfi_parts.specs.CallFrameSections.{SectionView}
+use Rattle.cfi_instruction.specs.CallFrameSections.{SectionView}
 use Rattle.cfi_parts.specs.InstructionReaders.{Meets}
 use Rattle.cfi_parts.specs.declared.pointer.BaseAddresses.{BaseAddresses}
 use Rattle.cfi_entry.specs.Cies.{Cie}

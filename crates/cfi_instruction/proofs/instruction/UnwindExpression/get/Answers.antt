@@ -1,8 +1,8 @@
 use Rattle.std.proofs.Common.{◌∙◌, ap, sym}
 use Rattle.cfi_read_core.specs.ReadFunctions.{Extent, Outcome}
-use Rattle.cfi_parts.specs.MappedInstructions.{map_expression}
-use Rattle.cfi_parts.proofs.Expressions.{bytes_are_there, bytes_lie_in}
-use Rattle.cfi_parts.proofs.instruction.UnwindExpression.get.Goals as goal
+use Rattle.cfi_instruction.specs.MappedInstructions.{map_expression}
+use Rattle.cfi_instruction.proofs.ExpressionBytes.{bytes_are_there, bytes_lie_in}
+use Rattle.cfi_instruction.proofs.instruction.UnwindExpression.get.Goals as goal
 
 pub returns-in_err-split_expression-clause-there :
     goal.returns-in_err-split_expression-clause-there

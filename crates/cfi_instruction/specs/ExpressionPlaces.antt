@@ -1,21 +1,26 @@
 -- Where the expressions of instructions stand: in the section in which they were read (DWARF 5 section 6.4.2).
 --     LiesIn section e      the expression's bytes are there, from the offset on
 --     place_in section e      where they are
+--     expression_bytes e      them, from a reader of the section
 --     expression_of i, HasExpressionIn number section i      the expression that an instruction holds lies in the section
---     ReadsIn section reader      a reader of instructions in the section, or in a part of it
 use Rattle.std.specs.Prelude.{◌≡◌, ℕ, ◌+◌, ◌-◌, ◌≤◌, Option, Some, None, IfSome}
-use Rattle.cfi_read_core.specs.ReadFunctions.{Position, Extent}
-use Rattle.cfi_parts.specs.declared.instruction.UnwindExpression.{UnwindExpression}
-use Rattle.cfi_parts.specs.declared.instruction.CallFrameInstruction.{CallFrameInstruction}
-use Rattle.cfi_parts.specs.declared.instruction.CallFrameInstruction.TheVariants as instruction
-use Rattle.cfi_parts.specs.MappedInstructions.{map_expression}
-use Rattle.cfi_parts.specs.InstructionReaders.{InstructionReader}
+use Rattle.cfi_read_core.specs.ReadFunctions.{Read, Position, Extent, ◌>>◌, skip, split}
+use Rattle.cfi_instruction.specs.declared.instruction.UnwindExpression.{UnwindExpression}
+use Rattle.cfi_instruction.specs.declared.instruction.CallFrameInstruction.{CallFrameInstruction}
+use Rattle.cfi_instruction.specs.declared.instruction.CallFrameInstruction.TheVariants as instruction
+use Rattle.cfi_instruction.specs.MappedInstructions.{map_expression}
 
 pub record LiesIn (section : Position) (e : UnwindExpression ℕ) : Type 0 where
   pub ends : e.offset + e.length ≤ section.source.last - section.place
 
 abbrev pub place_in : Position → UnwindExpression ℕ → Extent
 place_in section e = record { first = section.place + e.offset; last = section.place + e.offset + e.length }
+
+-- from a reader of the section in which the expression was read
+unfoldable pub expression_bytes : UnwindExpression ℕ → Read Extent
+expression_bytes e = do
+  skip e.offset
+  split e.length
 
 abbrev pub expression_of : {T : Type 0} → CallFrameInstruction T → Option (UnwindExpression T)
 expression_of (instruction.DefCfaExpression e) = Some e
@@ -25,8 +30,3 @@ expression_of _ = None
 
 abbrev pub HasExpressionIn : {T : Type 0} → (T → ℕ) → Position → CallFrameInstruction T → Type 0
 HasExpressionIn number section i = IfSome (expression_of i) (λ e. LiesIn section (map_expression number e))
-
--- The section of the pointers is this one, and the reader ends with it at the latest.
-pub record ReadsIn (section : Position) (reader : InstructionReader) : Type 0 where
-  pub first : reader.context.pointers.section ≡ section.place
-  pub last : reader.position.source.last ≤ section.source.last

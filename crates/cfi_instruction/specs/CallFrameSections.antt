@@ -11,8 +11,8 @@ use Rattle.cfi_read_core.specs.declared.error.Error.TheVariants.{OffsetOutOfBoun
 use Rattle.std.specs.Coded.{Coded-set, coded_list, coded_ℕ, coded_bool, le_prop}
 use Rattle.cfi_read_core.specs.ReadFunctions.{Position}
 use Rattle.cfi_read_core.specs.ReaderCalls.{IsPartOf}
-use Rattle.cfi_parts.specs.declared.section_properties.CieOffsetEncoding.{CieOffsetEncoding}
-use Rattle.cfi_parts.specs.declared.section_properties.CieOffsetEncoding.TheVariants.{U32, U64}
+use Rattle.cfi_instruction.specs.declared.section_properties.CieOffsetEncoding.{CieOffsetEncoding}
+use Rattle.cfi_instruction.specs.declared.section_properties.CieOffsetEncoding.TheVariants.{U32, U64}
 
 pub data SectionKind : Type 0 where
   DebugFrame : SectionKind

@@ -1,7 +1,7 @@
 -- Instructions whose offsets are seen by a function, as the numbers that they are.
-use Rattle.cfi_parts.specs.declared.instruction.UnwindExpression.{UnwindExpression}
-use Rattle.cfi_parts.specs.declared.instruction.CallFrameInstruction.{CallFrameInstruction}
-use Rattle.cfi_parts.specs.declared.instruction.CallFrameInstruction.TheVariants as instruction
+use Rattle.cfi_instruction.specs.declared.instruction.UnwindExpression.{UnwindExpression}
+use Rattle.cfi_instruction.specs.declared.instruction.CallFrameInstruction.{CallFrameInstruction}
+use Rattle.cfi_instruction.specs.declared.instruction.CallFrameInstruction.TheVariants as instruction
 
 abbrev pub map_expression : {A B : Type 0} → (A → B) → UnwindExpression A → UnwindExpression B
 map_expression f e = record { offset = f e.offset; length = f e.length }

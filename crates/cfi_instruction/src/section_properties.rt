@@ -4,7 +4,7 @@ ghost use Rattle.std.specs.Option.{option_map};
 ghost use Rattle.cfi_read_core.specs.declared.error.Error.TheVariants.{OffsetOutOfBounds};
 ghost use Rattle.cfi_read_core.specs.Addresses.{IsAddressSize};
 ghost use Rattle.cfi_read_core.specs.ReaderCalls.{IsSound};
-ghost use Rattle.cfi_parts.specs.CallFrameSections.{SectionView, SectionKind, cie_id, cie_offset_from, has_sizes, id_width, width_of, zero_length_ends};
+ghost use Rattle.cfi_instruction.specs.CallFrameSections.{SectionView, SectionKind, cie_id, cie_offset_from, has_sizes, id_width, width_of, zero_length_ends};
 
 use cfi_read_core::{DebugFrameOffset, EhFrameOffset, Format, Reader, Vendor};
 use std::fmt::Debug;

@@ -1,0 +1,3 @@
+pub mod CallFrameSections
+pub mod MappedInstructions
+pub mod ExpressionPlaces
