@@ -2,7 +2,7 @@
 -- the other.
 --     kept_is_due, due_is_kept      of an FDE, for an address
 --     never_out      where nothing allocates there is no such instruction
-use Rattle.std.proofs.Common.{◌≡◌, ◌⊎◌, inl, inr, ℕ, ◌≤◌, ◌<◌, Bool, true, false, cond, not, ◌&&◌, ◌||◌, leb, ltb, List, [], ◌∷◌, ◌++◌, Option, Some, None, Result, Ok, Err, append_assoc, refl, sym, ap, subst, ◌∙◌, arith}
+use Rattle.std.proofs.Common.{◌≡◌, ◌⊎◌, inl, inr, ℕ, ◌+◌, ◌≤◌, ◌<◌, Bool, true, false, cond, not, ◌&&◌, ◌||◌, leb, ltb, List, [], ◌∷◌, ◌++◌, Option, Some, None, Result, Ok, Err, append_assoc, refl, sym, ap, subst, ◌∙◌, arith}
 use Rattle.std.specs.Prelude.{is_none}
 use Rattle.std.specs.Bool.{IsTrue}
 use Rattle.std.specs.Option.{option_or}
@@ -12,10 +12,10 @@ use Rattle.cfi_read_core.specs.ReadFunctions.{Readings, with_first, no_values}
 use Rattle.cfi_read_core.specs.declared.error.Error.{Error}
 use Rattle.cfi_read_core.specs.declared.error.Error.TheVariants.{OutOfMemory, NoUnwindInfoForAddress}
 use Rattle.cfi_instruction.specs.declared.instruction.CallFrameInstruction.{CallFrameInstruction}
-use Rattle.cfi_instruction.specs.declared.instruction.CallFrameInstruction.TheVariants as instruction
 use Rattle.cfi_state.specs.Row.{Row}
-use Rattle.cfi_state.specs.MachineSettings.{Setting, next_location, is_move}
-use Rattle.cfi_state.specs.Program.{Program, in_cie, in_fde, followed_by, refused_if, location_of, refusal, refusal_at_end}
+use Rattle.cfi_state.specs.Actions.{Action, sets_location, advances_location, action}
+use Rattle.cfi_state.specs.MachineSettings.{Setting, location_after, moves, next_location, is_move}
+use Rattle.cfi_state.specs.Program.{Program, in_cie, in_fde, followed_by, refused_if, location_of, refusal_of, refusal, refusal_at_end}
 use Rattle.cfi_state.specs.FdeAnswers.{or_refused, on_option, row_until, answers_of, answer_at, row_contains, answers, first_refusal, cie_refusal, program_state}
 use Rattle.cfi_state.specs.UnwindTableStates.{TableState, before_last_row, after_last_row, answers_to_come, IsNext}
 use Rattle.cfi_state.specs.MachineRuns.{MayAllocate, AreNever, FindsRow, contains_it, goes_on, is_refused, comes_to_end}
@@ -51,6 +51,12 @@ passed_case first a here next (inl below) (inr known) = absurd (true≢false (sy
 not_passed : (first a here next : ℕ) → (leb first a && ltb a here) ≡ false → (leb here a && ltb a next) ≡ false → (leb first a && ltb a next) ≡ false
 not_passed first a here next before outside = passed_case first a here next (and_cases _ _ outside) (and_cases _ _ before)
 
+as_far : (n : ℕ) → n ≤ n
+as_far n = omega arith
+
+further : (n m : ℕ) → n ≤ n + m
+further n m = omega arith
+
 not_refused : (b : Bool) (e : Error) → refused_if b e ≡ None → b ≡ false
 not_refused true e h = absurd (let wrong : Some e ≡ None = h in cc)
 not_refused false e h = refl
@@ -62,16 +68,22 @@ none_second (Some a) p e = absurd (let wrong : Some a ≡ None = e in cc)
 module _ {T : Type 0} where
   -- ---- locations
 
-  -- an accepted instruction does not move back
+  -- an accepted action does not move back
+  moves_on-by : (s : Setting) (p : Program T) (a : Action T) → refusal_of s p a ≡ None → location_of s p ≤ location_after s (location_of s p) a
+  moves_on-by s p (sets_location address) e = ltb-false address (location_of s p) (not_refused _ _ e)
+  moves_on-by s p (advances_location delta) e = further (location_of s p) _
+  moves_on-by s p _ e = as_far (location_of s p)
+
   pub moves_on : (s : Setting) (p : Program T) (i : CallFrameInstruction T) → refusal s p i ≡ None → location_of s p ≤ next_location s (location_of s p) i
-  moves_on s p (instruction.SetLoc address) e = ltb-false address (location_of s p) (not_refused _ _ e)
-  moves_on s p (instruction.AdvanceLoc delta) e = omega arith
-  moves_on s p _ e = omega arith
+  moves_on s p i accepted = moves_on-by s p (action i) accepted
+
+  still_there-by : (s : Setting) (location : ℕ) (a : Action T) → moves a ≡ false → location_after s location a ≡ location
+  still_there-by s location (sets_location address) e = absurd (false≢true (sym e))
+  still_there-by s location (advances_location delta) e = absurd (false≢true (sym e))
+  still_there-by s location _ e = refl
 
   pub still_there : (s : Setting) (location : ℕ) (i : CallFrameInstruction T) → is_move i ≡ false → next_location s location i ≡ location
-  still_there s location (instruction.SetLoc address) e = absurd (false≢true (sym e))
-  still_there s location (instruction.AdvanceLoc delta) e = absurd (false≢true (sym e))
-  still_there s location _ e = refl
+  still_there s location i still = still_there-by s location (action i) still
 
   goes_up : (s : Setting) (p : Program T) (i : CallFrameInstruction T) → refusal s p i ≡ None → location_of s p ≤ location_of s (followed_by p i)
   goes_up s p i accepted = subst (λ l. location_of s p ≤ l) (sym (location_push s p i)) (moves_on s p i accepted)
@@ -236,10 +248,14 @@ module _ {T : Type 0} (allocates : MayAllocate T) (s : Setting) (address : ℕ) 
     ap Err wanting.2,
   )
 
+  keeps_one : (cie : Instructions) (i : CallFrameInstruction T) (rest : Readings (CallFrameInstruction T)) (result : Result Instructions Error) → refusal s (in_cie cie) i ≡ None
+      → (cie_due (cie ++ i ∷ []) rest ≡ result) ⊎ OutOf result (CieReached (cie ++ i ∷ []) rest) → (cie_due cie (with_first i rest) ≡ result) ⊎ OutOf result (CieReached cie (with_first i rest))
+  keeps_one cie i rest result accepted (inl is) = inl (due_on cie i rest accepted ∙ is)
+  keeps_one cie i rest result accepted (inr out) = inr (reached_on cie i rest accepted out.0, out.1)
+
   keeps_due : (cie : Instructions) (reads : Readings (CallFrameInstruction T)) (result : Result Instructions Error) → KeepsInitialInstructions allocates s cie reads result
       → (cie_due cie reads ≡ result) ⊎ OutOf result (CieReached cie reads)
-  keeps_due cie reads result (cie_keeps cie' i rest result' accepted keeps_rest) =
-      either (λ is. due_on cie' i rest accepted ∙ is) (λ out. (reached_on cie' i rest accepted out.0, out.1)) (keeps_due (cie' ++ i ∷ []) rest result' keeps_rest)
+  keeps_due cie reads result (cie_keeps cie' i rest result' accepted keeps_rest) = keeps_one cie' i rest result' accepted (keeps_due (cie' ++ i ∷ []) rest result' keeps_rest)
   keeps_due cie reads result (cie_leaves_out cie' i rest e out) = left_out_of_cie cie' i rest e out
   keeps_due cie reads result (cie_finds_unreadable cie' e) = inl refl
   keeps_due cie reads result (cie_is_kept cie' accepted) = inl (end_is cie' ∙ ap (λ o. or_refused o cie') accepted)
@@ -275,15 +291,27 @@ module _ {T : Type 0} (allocates : MayAllocate T) (s : Setting) (address : ℕ) 
   by_cie_due cie fde e (inl is) = inl (sym (ap (on_option (answer_at address (answers s (in_fde cie.values []) fde)) (λ d. Err d)) (refused_of (cie_refusal s cie) cie.values e is)))
   by_cie_due cie fde e (inr out) = inr (wanted_in_cie cie fde out.0, ap Err (same_error e out.1))
 
+  by_rows_found : (cie fde : Readings (CallFrameInstruction T)) (result : Result (Row T) Error) → cie_refusal s cie ≡ None
+      → (answer_at address (answers s (in_fde cie.values []) fde) ≡ result) ⊎ OutOf result (Reached (in_fde cie.values []) fde.values) → AnswersOrRunsOut allocates s cie fde address result
+  by_rows_found cie fde result accepted (inl found) = inl (sym (ap (on_option (answer_at address (answers s (in_fde cie.values []) fde)) (λ d. Err d)) accepted ∙ found))
+  by_rows_found cie fde result accepted (inr out) = inr (wanted_in_fde cie fde accepted out.0, out.1)
+
+  by_rows_of_all : (cie fde : Readings (CallFrameInstruction T)) (all : Instructions) (result : Result (Row T) Error) → cie_refusal s cie ≡ None → all ≡ cie.values
+      → FindsRow (NextKeptAnswer allocates s) address (before_last_row (in_fde all []) fde) result → AnswersOrRunsOut allocates s cie fde address result
+  by_rows_of_all cie fde all result accepted same finds =
+      by_rows_found cie fde result accepted
+      (finds_due (before_last_row (in_fde cie.values []) fde) result
+      (subst (λ l. FindsRow (NextKeptAnswer allocates s) address (before_last_row (in_fde l []) fde) result) same finds)
+      (not_started s.initial_address address))
+
+  ok_is_no_error : (all : Instructions) (e : Error) → ◌≡◌ {A = Result Instructions Error} (Ok all) (Err e) → ⊥
+  ok_is_no_error all e is = cc
+
   by_rows_due : (cie fde : Readings (CallFrameInstruction T)) (all : Instructions) (result : Result (Row T) Error) → (cie_due [] cie ≡ Ok all) ⊎ OutOf {A = Instructions} (Ok all) (CieReached [] cie)
       → FindsRow (NextKeptAnswer allocates s) address (before_last_row (in_fde all []) fde) result → AnswersOrRunsOut allocates s cie fde address result
   by_rows_due cie fde all result (inl is) finds =
-      let accepted = accepted_of (cie_refusal s cie) cie.values all is in
-      let own : FindsRow (NextKeptAnswer allocates s) address (before_last_row (in_fde cie.values []) fde) result = subst (λ l. FindsRow (NextKeptAnswer allocates s) address (before_last_row (in_fde l []) fde) result) accepted.1 finds in
-      either (λ found. sym (ap (on_option (answer_at address (answers s (in_fde cie.values []) fde)) (λ d. Err d)) accepted.0 ∙ found))
-      (λ out. (wanted_in_fde cie fde accepted.0 out.0, out.1))
-      (finds_due (before_last_row (in_fde cie.values []) fde) result own (not_started s.initial_address address))
-  by_rows_due cie fde all result (inr out) finds = absurd (let wrong : ◌≡◌ {A = Result Instructions Error} (Ok all) (Err OutOfMemory) = out.1 in cc)
+      by_rows_of_all cie fde all result (accepted_of (cie_refusal s cie) cie.values all is).0 (accepted_of (cie_refusal s cie) cie.values all is).1 finds
+  by_rows_due cie fde all result (inr out) finds = absurd (ok_is_no_error all OutOfMemory out.1)
 
   pub kept_is_due : (cie fde : Readings (CallFrameInstruction T)) (result : Result (Row T) Error) → AnswersByKept allocates s cie fde address result → AnswersOrRunsOut allocates s cie fde address result
   kept_is_due cie fde result (refused_by_cie e keeps_all) = by_cie_due cie fde e (keeps_due [] cie (Err e) keeps_all)
