@@ -40,6 +40,18 @@ pub(crate) fn refusal_at<R: Reader<Offset = usize>>(
 /// an FDE after it.
 const LSDA_CIE: &str = "0f000000 00000000 01 7a4c5200 017810 02 43 1b";
 
+fn fde_of_debug_frame<R: Reader<Offset = usize>>(
+    section: &DebugFrame<R>,
+    offset: usize,
+) -> Result<FrameDescriptionEntry<R>, Error> {
+    let bases = BaseAddresses::default();
+    section.fde_from_offset(
+        &bases,
+        DebugFrameOffset(offset),
+        DebugFrame::cie_from_offset,
+    )
+}
+
 fn fde_of_eh_frame<R: Reader<Offset = usize>>(
     section: &EhFrame<R>,
     offset: usize,
@@ -49,7 +61,9 @@ fn fde_of_eh_frame<R: Reader<Offset = usize>>(
 }
 
 /// How many entries there are, and the refusal after them.
-fn walk<R: Reader, S: UnwindSection<R>>(section: &S) -> (u32, Option<Error>) {
+type Walked = (u32, Option<Error>);
+
+fn walk<R: Reader, S: UnwindSection<R>>(section: &S) -> Walked {
     let bases = BaseAddresses::default();
     let mut count = 0u32;
     for entry in section.entries(&bases) {
@@ -61,39 +75,40 @@ fn walk<R: Reader, S: UnwindSection<R>>(section: &S) -> (u32, Option<Error>) {
     (count, None)
 }
 
+/// The entries of the same bytes in `.debug_frame` and in `.eh_frame`.
+fn walk_both<R: Reader>(reader: R) -> (Walked, Walked) {
+    (
+        walk(&DebugFrame::from(reader)),
+        walk(&EhFrame::from(reader)),
+    )
+}
+
 /// A section of no bytes, two that a gap begins, and an FDE whose CIE in `.eh_frame` would lie before the section; the
 /// entries of each in `.debug_frame` and in `.eh_frame`.
-const COUNTED: [(&str, (u32, Option<Error>), (u32, Option<Error>)); 4] = [
-    ("", (0, None), (0, None)),
+const COUNTED: [(&str, (Walked, Walked)); 4] = [
+    ("", ((0, None), (0, None))),
     (
         "00000000 10000000 ffffffff 04000800 017810 0c0708 9001 \
         14000000 04000000 0010000000000000 2000000000000000",
-        (2, None),
-        (0, None),
+        ((2, None), (0, None)),
     ),
     (
         "ffffffff 0000000000000000 10000000 ffffffff 04000800 017810 0c0708 9001 \
         14000000 0c000000 0010000000000000 2000000000000000",
-        (2, None),
-        (0, None),
+        ((2, None), (0, None)),
     ),
     (
         "04000000 05000000",
-        (1, None),
-        (0, Some(Error::OffsetOutOfBounds(5))),
+        ((1, None), (0, Some(Error::OffsetOutOfBounds(5)))),
     ),
 ];
 
 #[test]
 fn how_many_entries_there_are(rt: HostRuntime) -> Result<(), Fail> {
-    for (text, in_debug_frame, in_eh_frame) in COUNTED {
+    for (text, walked) in &COUNTED {
         let bytes = bytes_of(rt.alloc(), text)?;
-        let debug_frame = DebugFrame::new(bytes.as_slice(), LittleEndian);
-        let eh_frame = EhFrame::new(bytes.as_slice(), LittleEndian);
-        assert_eq!(rt;
-            (walk(&debug_frame), walk(&eh_frame)),
-            (in_debug_frame, in_eh_frame)
-        );
+        let found = walk_both(EndianSlice::new(bytes.as_slice(), LittleEndian));
+        assert_eq!(rt; found, *walked);
     }
     Ok(())
 }
@@ -117,10 +132,10 @@ const CUT: [(&str, Error); 5] = [
 
 #[test]
 fn entries_that_are_cut_short(rt: HostRuntime) -> Result<(), Fail> {
-    for (text, refusal) in CUT {
+    for (text, refusal) in &CUT {
         let bytes = bytes_of(rt.alloc(), text)?;
         let section = DebugFrame::new(bytes.as_slice(), LittleEndian);
-        assert_eq!(rt; refusal_at(&section, 0), Some(refusal));
+        assert_eq!(rt; refusal_at(&section, 0), Some(*refusal));
     }
     Ok(())
 }
@@ -130,8 +145,7 @@ type Range = (u64, u64, u64, bool, bool);
 
 /// The range of the FDE after a CIE of 20 bytes, asked for the addresses 0xfffffff8 and 8.
 fn range_at_20<R: Reader<Offset = usize>>(section: &DebugFrame<R>) -> Result<Range, Error> {
-    let bases = BaseAddresses::default();
-    let fde = section.fde_from_offset(&bases, DebugFrameOffset(20), DebugFrame::cie_from_offset)?;
+    let fde = fde_of_debug_frame(section, 20)?;
     Ok((
         fde.initial_address(),
         fde.end_address(),
@@ -155,12 +169,20 @@ fn an_end_that_wraps(rt: HostRuntime) -> Result<(), Fail> {
     Ok(())
 }
 
-/// The offset and the format of the FDE for 0x1000.
-fn fde_of_0x1000<R: Reader<Offset = usize>>(
+/// The FDE for 0x1000.
+fn fde_of_0x1000<R: Reader>(section: &DebugFrame<R>) -> Result<FrameDescriptionEntry<R>, Error> {
+    section.fde_for_address(
+        &BaseAddresses::default(),
+        0x1000,
+        DebugFrame::cie_from_offset,
+    )
+}
+
+/// The offset and the format of that FDE.
+fn format_of_0x1000<R: Reader<Offset = usize>>(
     section: &DebugFrame<R>,
 ) -> Result<(usize, Format), Error> {
-    let bases = BaseAddresses::default();
-    let fde = section.fde_for_address(&bases, 0x1000, DebugFrame::cie_from_offset)?;
+    let fde = fde_of_0x1000(section)?;
     Ok((fde.offset(), fde.cie().encoding().format))
 }
 
@@ -201,7 +223,10 @@ fn sixty_four_bits(rt: HostRuntime) -> Result<(), Fail> {
     let debug_frame = DebugFrame::new(bytes.as_slice(), LittleEndian);
     let eh_frame = EhFrame::new(eh_bytes.as_slice(), LittleEndian);
     assert_eq!(rt;
-        (fde_of_0x1000(&debug_frame), settings_of_only_cie(&eh_frame)),
+        (
+            format_of_0x1000(&debug_frame),
+            settings_of_only_cie(&eh_frame)
+        ),
         (
             Ok((32, Format::Dwarf64)),
             Ok(Some((Format::Dwarf64, 9, 1, -8, Register(16)))),
@@ -248,10 +273,10 @@ const WITH_DATA: [(&str, &str, Result<WithData, Error>); 3] = [
 
 #[test]
 fn language_specific_data(rt: HostRuntime) -> Result<(), Fail> {
-    for (cie, fde, data) in WITH_DATA {
+    for (cie, fde, data) in &WITH_DATA {
         let bytes = joined(rt.alloc(), cie, fde)?;
         let section = EhFrame::new(bytes.as_slice(), LittleEndian);
-        assert_eq!(rt; with_data(&section), data);
+        assert_eq!(rt; with_data(&section), *data);
     }
     Ok(())
 }
@@ -264,28 +289,26 @@ fn marks_in<R: Reader, S: UnwindSection<R>>(section: &S, offset: S::Offset) -> M
     Ok((cie.is_signal_trampoline(), cie.uses_b_key()))
 }
 
-/// The marks of a CIE of `.debug_frame`.
-fn marks_in_debug_frame(alloc: Global, text: &str) -> Result<Marks, FromHexError> {
-    let bytes = bytes_of(alloc, text)?;
-    let section = DebugFrame::new(bytes.as_slice(), LittleEndian);
-    Ok(marks_in(&section, DebugFrameOffset(0)))
+/// The marks of a CIE of `.debug_frame` and of one of `.eh_frame`.
+fn marks_of_both<R: Reader<Offset = usize>>(in_debug_frame: R, in_eh_frame: R) -> (Marks, Marks) {
+    (
+        marks_in(&DebugFrame::from(in_debug_frame), DebugFrameOffset(0)),
+        marks_in(&EhFrame::from(in_eh_frame), EhFrameOffset(0)),
+    )
 }
 
-/// The marks of a CIE of `.eh_frame`.
-fn marks_in_eh_frame(alloc: Global, text: &str) -> Result<Marks, FromHexError> {
-    let bytes = bytes_of(alloc, text)?;
-    let section = EhFrame::new(bytes.as_slice(), LittleEndian);
-    Ok(marks_in(&section, EhFrameOffset(0)))
-}
-
-/// The marks of both.
+/// The same of CIEs that are written as digits.
 fn marks_in_both(
     alloc: Global,
     in_debug_frame: &str,
     in_eh_frame: &str,
 ) -> Result<(Marks, Marks), FromHexError> {
-    let marks = marks_in_debug_frame(alloc, in_debug_frame)?;
-    Ok((marks, marks_in_eh_frame(alloc, in_eh_frame)?))
+    let debug_frame = bytes_of(alloc, in_debug_frame)?;
+    let eh_frame = bytes_of(alloc, in_eh_frame)?;
+    Ok(marks_of_both(
+        EndianSlice::new(debug_frame.as_slice(), LittleEndian),
+        EndianSlice::new(eh_frame.as_slice(), LittleEndian),
+    ))
 }
 
 /// CIEs with a bare augmentation string: in `.debug_frame`, in `.eh_frame`, and the marks of both.
@@ -309,9 +332,9 @@ const BARE_TEXTS: [(&str, &str, Marks); 3] = [
 
 #[test]
 fn letters_without_data(rt: HostRuntime) -> Result<(), Fail> {
-    for (in_debug_frame, in_eh_frame, marks) in BARE_TEXTS {
+    for (in_debug_frame, in_eh_frame, marks) in &BARE_TEXTS {
         let found = marks_in_both(rt.alloc(), in_debug_frame, in_eh_frame)?;
-        assert_eq!(rt; found, (marks, marks));
+        assert_eq!(rt; found, (*marks, *marks));
     }
     Ok(())
 }
@@ -357,9 +380,9 @@ const B_KEYS: [(&str, &str, Marks); 7] = [
 
 #[test]
 fn keys_of_return_addresses(rt: HostRuntime) -> Result<(), Fail> {
-    for (in_debug_frame, in_eh_frame, marks) in B_KEYS {
+    for (in_debug_frame, in_eh_frame, marks) in &B_KEYS {
         let found = marks_in_both(rt.alloc(), in_debug_frame, in_eh_frame)?;
-        assert_eq!(rt; found, (marks, marks), "{in_debug_frame}, {in_eh_frame}");
+        assert_eq!(rt; found, (*marks, *marks), "{in_debug_frame}, {in_eh_frame}");
     }
     Ok(())
 }

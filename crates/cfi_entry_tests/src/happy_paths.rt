@@ -2,7 +2,9 @@
 use cfi_parts::instruction::CallFrameInstruction;
 use cfi_parts::pointer::{BaseAddresses, Pointer, SectionBaseAddresses};
 use cfi_read_core::constants::{DW_EH_PE_absptr, DW_EH_PE_pcrel, DW_EH_PE_sdata4};
-use cfi_read_core::{DebugFrameOffset, DwEhPe, EhFrameOffset, Error, LittleEndian, Reader, Vendor};
+use cfi_read_core::{
+    DebugFrameOffset, DwEhPe, EhFrameOffset, EndianSlice, Error, LittleEndian, Reader, Vendor,
+};
 use cfi_test_bytes::bytes_of;
 use cfi_unwind::entry::{CommonInformationEntry, FrameDescriptionEntry};
 use cfi_unwind::unwind_section::{DebugFrame, EhFrame, UnwindSection};
@@ -51,10 +53,14 @@ fn addresses_of<R: Reader>(fde: &FrameDescriptionEntry<R>) -> Addresses {
 
 type Instruction = Result<Option<CallFrameInstruction<usize>>, Error>;
 
-/// The places of the FDE at 13, by its part.
-fn places_at_13<R: Reader<Offset = usize>>(section: &DebugFrame<R>) -> Result<Places, Error> {
+/// The places of an FDE, by its part.
+fn places_at<R, S>(section: &S, offset: S::Offset) -> Result<Places, Error>
+where
+    R: Reader<Offset = usize>,
+    S: UnwindSection<R, Offset = DebugFrameOffset<usize>>,
+{
     let bases = BaseAddresses::default();
-    let part = section.partial_fde_from_offset(&bases, DebugFrameOffset(13))?;
+    let part = section.partial_fde_from_offset(&bases, offset)?;
     Ok((part.offset(), part.cie_offset(), part.entry_len()))
 }
 
@@ -70,6 +76,22 @@ fn fde_at_13<R: Reader<Offset = usize>>(
     Ok((addresses_of(&fde), first, instructions.next()))
 }
 
+/// What such a section of addresses of two bytes says of the FDE at 13.
+type OfNarrow = (
+    Result<Places, Error>,
+    Result<(Addresses, Instruction, Instruction), Error>,
+);
+
+fn of_narrow<R: Reader<Offset = usize>>(reader: R) -> OfNarrow {
+    let mut section = DebugFrame::from(reader);
+    section.set_address_size(2);
+    section.set_vendor(Vendor::AArch64);
+    (
+        places_at(&section, DebugFrameOffset(13)),
+        fde_at_13(&section),
+    )
+}
+
 const PLACES: Result<Places, Error> = Ok((13, DebugFrameOffset(0), 9));
 
 const OF_NARROW: Result<(Addresses, Instruction, Instruction), Error> = Ok((
@@ -81,10 +103,7 @@ const OF_NARROW: Result<(Addresses, Instruction, Instruction), Error> = Ok((
 #[test]
 fn the_settings_of_a_section(rt: HostRuntime) -> Result<(), Fail> {
     let bytes = bytes_of(rt.alloc(), NARROW)?;
-    let mut section = DebugFrame::new(bytes.as_slice(), LittleEndian);
-    section.set_address_size(2);
-    section.set_vendor(Vendor::AArch64);
-    let found = (places_at_13(&section), fde_at_13(&section));
+    let found = of_narrow(EndianSlice::new(bytes.as_slice(), LittleEndian));
     assert_eq!(rt; found, (PLACES, OF_NARROW));
     Ok(())
 }

@@ -151,9 +151,9 @@ const VECTORS: [(&[u8], Instruction); 15] = [
 
 #[test]
 fn one_by_one(rt: HostRuntime) -> Result<(), Fail> {
-    for (bytes, instruction) in VECTORS {
+    for (bytes, instruction) in &VECTORS {
         let read = of_program(rt.alloc(), bytes, Vendor::Default)?;
-        assert_eq!(rt; read, (Ok(Some(instruction)), Ok(None)));
+        assert_eq!(rt; read, (Ok(Some(*instruction)), Ok(None)));
     }
     Ok(())
 }
@@ -218,8 +218,8 @@ const SET_LOC: FirstTwo = (
 
 #[test]
 fn refusals_end_the_instructions(rt: HostRuntime) -> Result<(), Fail> {
-    for (program, vendor, read) in PROGRAMS {
-        assert_eq!(rt; of_program(rt.alloc(), program, vendor)?, read);
+    for (program, vendor, read) in &PROGRAMS {
+        assert_eq!(rt; of_program(rt.alloc(), program, *vendor)?, *read);
     }
     assert_eq!(rt; of_encoded(rt.alloc())?, SET_LOC);
     Ok(())

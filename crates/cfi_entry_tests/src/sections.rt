@@ -40,9 +40,9 @@ fn calls_by_offset(rt: HostRuntime) -> Result<(), Fail> {
         cie_at_0(&section),
         Ok((settings, Some(Error::NotCiePointer(0))))
     );
-    for (bytes, offset, refusal) in REFUSALS {
+    for (bytes, offset, refusal) in &REFUSALS {
         let section = DebugFrame::new(bytes, LittleEndian);
-        assert_eq!(rt; refusal_at(&section, offset), Some(refusal));
+        assert_eq!(rt; refusal_at(&section, *offset), Some(*refusal));
     }
     Ok(())
 }
