@@ -2,7 +2,8 @@
 use cfi_read_core::{DwCfa, DwEhPe, Error, ReaderOffsetId};
 use std::test::Fail;
 
-const NUMBERED: [(Error, &str); 14] = [
+/// The refusals, the first fourteen of which name a value.
+const SENTENCES: [(Error, &str); 31] = [
     (
         Error::UnexpectedEof(ReaderOffsetId(0x12)),
         "the bytes end too early for the read at place 0x12",
@@ -50,9 +51,6 @@ const NUMBERED: [(Error, &str); 14] = [
         Error::InvalidCfiSetLoc(0x1000),
         "the location is set back to 0x1000",
     ),
-];
-
-const PLAIN: [(Error, &str); 17] = [
     (
         Error::BadUnsignedLeb128,
         "an unsigned LEB128 number does not fit 64 bits",
@@ -118,7 +116,7 @@ fn is_an_error<E: std::error::Error>(_error: &E) {}
 
 #[test]
 fn sentences(rt: HostRuntime) -> Result<(), Fail> {
-    for (error, sentence) in NUMBERED.iter().chain(PLAIN.iter()) {
+    for (error, sentence) in &SENTENCES {
         is_an_error(error);
         let text = error.to_string(rt.alloc())?;
         assert_eq!(rt; text.as_str(), *sentence);

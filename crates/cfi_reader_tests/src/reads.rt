@@ -26,102 +26,122 @@ fn place<R: Reader>(reader: &R) -> u64 {
     reader.place().into_u64()
 }
 
+/// What a reader of each kind gives of an unsigned number.
+fn uleb128_of_both(bytes: &[u8]) -> Result<[(Result<u64, Error>, u64); 2], Error> {
+    Ok([
+        uleb128(EndianSlice::new(bytes, LittleEndian)),
+        uleb128(NarrowSlice::new(bytes, BigEndian)?),
+    ])
+}
+
 /// The examples of DWARF 5 section 7.6, padding, and the greatest number; what each gives, and the place after it.
-const UNSIGNED: [(&[u8], Result<u64, Error>, u64); 9] = [
-    (&[2], Ok(2), 1),
-    (&[127], Ok(127), 1),
-    (&[0x80, 1], Ok(128), 2),
-    (&[0xb9, 0x64], Ok(12857), 2),
-    (&[0x90, 0x80, 0x00], Ok(16), 3),
+const UNSIGNED: [(&[u8], (Result<u64, Error>, u64)); 9] = [
+    (&[2], (Ok(2), 1)),
+    (&[127], (Ok(127), 1)),
+    (&[0x80, 1], (Ok(128), 2)),
+    (&[0xb9, 0x64], (Ok(12857), 2)),
+    (&[0x90, 0x80, 0x00], (Ok(16), 3)),
     (
         &[0xff, 0xff, 0xff, 0xff, 0xff, 0xff, 0xff, 0xff, 0xff, 1],
-        Ok(u64::MAX),
-        10,
+        (Ok(u64::MAX), 10),
     ),
     (
         &[0x80, 0x80, 0x80, 0x80, 0x80, 0x80, 0x80, 0x80, 0x80, 2],
-        Err(Error::BadUnsignedLeb128),
-        10,
+        (Err(Error::BadUnsignedLeb128), 10),
     ),
     (
         &[0x80, 0x80],
-        Err(Error::UnexpectedEof(ReaderOffsetId(2))),
-        2,
+        (Err(Error::UnexpectedEof(ReaderOffsetId(2))), 2),
     ),
-    (&[], Err(Error::UnexpectedEof(ReaderOffsetId(0))), 0),
+    (&[], (Err(Error::UnexpectedEof(ReaderOffsetId(0))), 0)),
 ];
 
 #[test]
 fn unsigned_leb128(rt: HostRuntime) -> Result<(), Fail> {
-    for (bytes, read, behind) in UNSIGNED {
-        let wide = uleb128(EndianSlice::new(bytes, LittleEndian));
-        let narrow = uleb128(NarrowSlice::new(bytes, BigEndian)?);
-        assert_eq!(rt; (wide, narrow), ((read, behind), (read, behind)));
+    for (bytes, read) in &UNSIGNED {
+        assert_eq!(rt; uleb128_of_both(bytes), Ok([*read; 2]));
     }
     Ok(())
 }
 
+/// What a reader of each kind gives of a signed number.
+fn sleb128_of_both(bytes: &[u8]) -> Result<[(Result<i64, Error>, u64); 2], Error> {
+    Ok([
+        sleb128(EndianSlice::new(bytes, LittleEndian)),
+        sleb128(NarrowSlice::new(bytes, RunTimeEndian::Big)?),
+    ])
+}
+
 /// The same of signed ones.
-const SIGNED: [(&[u8], Result<i64, Error>, u64); 10] = [
-    (&[2], Ok(2), 1),
-    (&[0x7e], Ok(-2), 1),
-    (&[0xff, 0], Ok(127), 2),
-    (&[0x81, 0x7f], Ok(-127), 2),
-    (&[0x80, 1], Ok(128), 2),
-    (&[0x80, 0x7f], Ok(-128), 2),
-    (&[0x85, 0x80, 0x80, 0x00], Ok(5), 4),
+const SIGNED: [(&[u8], (Result<i64, Error>, u64)); 10] = [
+    (&[2], (Ok(2), 1)),
+    (&[0x7e], (Ok(-2), 1)),
+    (&[0xff, 0], (Ok(127), 2)),
+    (&[0x81, 0x7f], (Ok(-127), 2)),
+    (&[0x80, 1], (Ok(128), 2)),
+    (&[0x80, 0x7f], (Ok(-128), 2)),
+    (&[0x85, 0x80, 0x80, 0x00], (Ok(5), 4)),
     (
         &[0x80, 0x80, 0x80, 0x80, 0x80, 0x80, 0x80, 0x80, 0x80, 0x7f],
-        Ok(i64::MIN),
-        10,
+        (Ok(i64::MIN), 10),
     ),
     (
         &[0x80, 0x80, 0x80, 0x80, 0x80, 0x80, 0x80, 0x80, 0x80, 1],
-        Err(Error::BadSignedLeb128),
-        10,
+        (Err(Error::BadSignedLeb128), 10),
     ),
-    (&[0xff], Err(Error::UnexpectedEof(ReaderOffsetId(1))), 1),
+    (&[0xff], (Err(Error::UnexpectedEof(ReaderOffsetId(1))), 1)),
 ];
 
 #[test]
 fn signed_leb128(rt: HostRuntime) -> Result<(), Fail> {
-    for (bytes, read, behind) in SIGNED {
-        let wide = sleb128(EndianSlice::new(bytes, LittleEndian));
-        let narrow = sleb128(NarrowSlice::new(bytes, RunTimeEndian::Big)?);
-        assert_eq!(rt; (wide, narrow), ((read, behind), (read, behind)));
+    for (bytes, read) in &SIGNED {
+        assert_eq!(rt; sleb128_of_both(bytes), Ok([*read; 2]));
     }
     Ok(())
 }
 
+/// A length and numbers one after the other; a reserved length and the place after it; and a number with a sign.
+type Numbers = (
+    (
+        Result<(usize, Format), Error>,
+        Result<u16, Error>,
+        Result<u8, Error>,
+    ),
+    (Result<(usize, Format), Error>, usize),
+    Result<i32, Error>,
+);
+
+fn numbers<R: Reader<Offset = usize>>(wide: R, reserved: R, negative: R) -> Numbers {
+    let (mut wide, mut reserved, mut negative) = (wide, reserved, negative);
+    (
+        (wide.read_initial_length(), wide.read_u16(), wide.read_u8()),
+        (reserved.read_initial_length(), reserved.place()),
+        negative.read_i32(),
+    )
+}
+
+/// A length of the 64-bit format, and a number.
+const WIDE: [u8; 14] = [0xff, 0xff, 0xff, 0xff, 1, 0, 0, 0, 0, 0, 0, 0, 0x12, 0x34];
+
+const NUMBERS: Numbers = (
+    (
+        Ok((1, Format::Dwarf64)),
+        Ok(0x3412),
+        Err(Error::UnexpectedEof(ReaderOffsetId(14))),
+    ),
+    (Err(Error::UnknownReservedLength(0xffff_fff5)), 4),
+    Ok(-2),
+);
+
 #[test]
 fn lengths_and_fixed_widths(rt: HostRuntime) -> Result<(), Fail> {
-    let bytes = [0xff, 0xff, 0xff, 0xff, 1, 0, 0, 0, 0, 0, 0, 0, 0x12, 0x34];
-    let mut reader = EndianSlice::new(&bytes, LittleEndian);
-    let mut big = EndianSlice::new(&bytes[12..], BigEndian);
-    assert_eq!(rt;
-        (
-            reader.read_initial_length(),
-            big.read_u16(),
-            reader.read_u16(),
-            reader.read_u8()
-        ),
-        (
-            Ok((1, Format::Dwarf64)),
-            Ok(0x1234),
-            Ok(0x3412),
-            Err(ended(14))
-        )
+    let mut big = EndianSlice::new(&WIDE[12..], BigEndian);
+    let found = numbers(
+        EndianSlice::new(&WIDE, LittleEndian),
+        EndianSlice::new(&[0xf5, 0xff, 0xff, 0xff], LittleEndian),
+        EndianSlice::new(&[0xfe, 0xff, 0xff, 0xff], LittleEndian),
     );
-    let mut reserved = EndianSlice::new(&[0xf5, 0xff, 0xff, 0xff], LittleEndian);
-    let mut negative = EndianSlice::new(&[0xfe, 0xff, 0xff, 0xff], LittleEndian);
-    assert_eq!(rt;
-        (
-            reserved.read_initial_length(),
-            reserved.place(),
-            negative.read_i32()
-        ),
-        (Err(Error::UnknownReservedLength(0xffff_fff5)), 4, Ok(-2))
-    );
+    assert_eq!(rt; (found, big.read_u16()), (NUMBERS, Ok(0x1234)));
     Ok(())
 }
 
