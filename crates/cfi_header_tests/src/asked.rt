@@ -2,7 +2,7 @@
 //!
 //! The contracts of calls that take the closure by value leave its last state open; the counts stand here.
 use crate::searches::{HEADER, SECTION, bases, read_header, second_target, start_of, table_of};
-use cfi_read_core::{DebugFrameOffset, Error, LittleEndian, Reader};
+use cfi_read_core::{DebugFrameOffset, Error, LittleEndian, Reader, ReaderOffsetId};
 use cfi_test_bytes::ended;
 use gimli_cfi::entry::{CommonInformationEntry, FrameDescriptionEntry};
 use gimli_cfi::hdr::EhHdrTable;
@@ -234,26 +234,36 @@ fn one_fde_asks_once(rt: HostRuntime) {
     assert_eq!(rt; found, expected);
 }
 
+/// How many bytes of the section there are, an address, and whether its CIE is refused; what is found, and how often the
+/// CIE is asked for.
+const SCANS: [(usize, u64, bool, Found, u32); 6] = [
+    (84, 0x1008, false, Ok((20, 0x1000)), 1),
+    (84, 0x201f, false, Ok((44, 0x2000)), 2),
+    (68, 0x3000, false, Err(Error::NoUnwindInfoForAddress), 2),
+    (
+        66,
+        0x2008,
+        false,
+        Err(Error::UnexpectedEof(ReaderOffsetId(48))),
+        1,
+    ),
+    (
+        84,
+        0x3000,
+        false,
+        Err(Error::UnexpectedEof(ReaderOffsetId(84))),
+        3,
+    ),
+    (84, 0x2008, true, Err(Error::UnknownAugmentation), 1),
+];
+
 #[test]
 fn a_scan_asks_once_an_fde(rt: HostRuntime) -> Result<(), Fail> {
     let mut context: UnwindContext<usize> = UnwindContext::new(rt.alloc())?;
-    let cases: [(&[u8], u64, bool, Found, u32); 6] = [
-        (&FDES, 0x1008, false, Ok((20, 0x1000)), 1),
-        (&FDES, 0x201f, false, Ok((44, 0x2000)), 2),
-        (
-            &FDES[..68],
-            0x3000,
-            false,
-            Err(Error::NoUnwindInfoForAddress),
-            2,
-        ),
-        (&FDES[..66], 0x2008, false, Err(ended(48)), 1),
-        (&FDES, 0x3000, false, Err(ended(84)), 3),
-        (&FDES, 0x2008, true, Err(Error::UnknownAugmentation), 1),
-    ];
-    for (bytes, address, refuses, found, asked) in cases {
-        let by_scan = by_scan(&mut context, bytes, address, refuses);
-        assert_eq!(rt; by_scan, both(found, asked), "for {address}");
+    for (count, address, refuses, found, asked) in &SCANS {
+        let bytes = FDES.get(..*count).unwrap_or_default();
+        let by_scan = by_scan(&mut context, bytes, *address, *refuses);
+        assert_eq!(rt; by_scan, both(*found, *asked), "for {address}");
     }
     Ok(())
 }

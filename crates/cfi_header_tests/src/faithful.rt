@@ -224,23 +224,21 @@ fn both_ways(
     Ok([by_table, by_scan(&frame, context, address)])
 }
 
+/// Addresses and their rows.
+const ROWS: [(u64, Result<Shown, Error>); 5] = [
+    (0xfff, Err(Error::NoUnwindInfoForAddress)),
+    (0x1000, Ok((0x1000, 0x1010, Some(8)))),
+    (0x1011, Ok((0x1011, 0x1020, Some(16)))),
+    (0x103f, Ok((0x1020, 0x1040, Some(8)))),
+    (0x1040, Err(Error::NoUnwindInfoForAddress)),
+];
+
 #[test]
 fn rows_by_a_checked_table(rt: HostRuntime) -> Result<(), Fail> {
     let mut context: UnwindContext<usize> = UnwindContext::new(rt.alloc())?;
-    let none = Err(Error::NoUnwindInfoForAddress);
-    let rows: [(u64, Result<Shown, Error>); 5] = [
-        (0xfff, none),
-        (0x1000, Ok((0x1000, 0x1010, Some(8)))),
-        (0x1011, Ok((0x1011, 0x1020, Some(16)))),
-        (0x103f, Ok((0x1020, 0x1040, Some(8)))),
-        (0x1040, none),
-    ];
-    for (address, row) in rows {
-        assert_eq!(rt;
-            both_ways(&mut context, address),
-            Ok([row; 2]),
-            "for {address}"
-        );
+    for (address, row) in &ROWS {
+        let found = both_ways(&mut context, *address);
+        assert_eq!(rt; found, Ok([*row; 2]), "for {address}");
     }
     Ok(())
 }

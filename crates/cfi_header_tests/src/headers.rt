@@ -1,7 +1,8 @@
 //! Headers of `.eh_frame_hdr`, and the rows of their tables.
 use crate::searches::{Slice, read_header, table_of};
 use cfi_read_core::{
-    BigEndian, DwEhPe, EndianSlice, Error, LittleEndian, NarrowSlice, Reader, Section, SectionId,
+    BigEndian, DwEhPe, EndianSlice, Error, LittleEndian, NarrowSlice, Reader, ReaderOffsetId,
+    Section, SectionId,
 };
 use cfi_test_bytes::ended;
 use gimli_cfi::hdr::{EhFrameHdr, EhHdrTable, EhHdrTableIter, ParsedEhFrameHdr};
@@ -58,119 +59,139 @@ fn shown_narrow(bytes: &[u8], bases: &BaseAddresses, address_size: u8) -> Shown 
     shown(EhFrameHdr::from(bytes), bases, address_size)
 }
 
-#[test]
-fn headers_without_rows(rt: HostRuntime) {
-    let none = BaseAddresses::default();
-    let headers: [(&[u8], BaseAddresses, u8, Pointer); 8] = [
-        (
-            &[1, 0x1b, 0xff, 0xff, 0x10, 0, 0, 0],
-            at(0x1f00),
-            8,
-            Pointer::Direct(0x1f14),
-        ),
-        (
-            &[1, 0x9b, 0xff, 0xff, 0xf0, 0xff, 0xff, 0xff],
-            at(0x1f00),
-            8,
-            Pointer::Indirect(0x1ef4),
-        ),
-        (
-            &[1, 0x1b, 0xff, 0xff, 0x20, 0, 0, 0],
-            at(0xffff_fff0),
-            4,
-            Pointer::Direct(0x14),
-        ),
-        (
-            &[1, 0x01, 0xff, 0xff, 0x80, 1],
-            none,
-            8,
-            Pointer::Direct(128),
-        ),
-        (
-            &[1, 0x09, 0xff, 0xff, 0x7f],
-            none,
-            2,
-            Pointer::Direct(0xffff),
-        ),
-        (
-            &[1, 0x01, 0x03, 0x3b, 5, 0, 0, 0, 0],
-            none,
-            8,
-            Pointer::Direct(5),
-        ),
-        (&[1, 0x01, 0x03, 0xff, 5], none, 8, Pointer::Direct(5)),
-        (&[1, 0x01, 0xff, 0x3b, 5], none, 8, Pointer::Direct(5)),
-    ];
-    for (bytes, bases, size, pointer) in headers {
-        let found = [
-            shown_wide(bytes, &bases, size),
-            shown_narrow(bytes, &bases, size),
-        ];
-        assert_eq!(rt; found, [Ok((pointer, None)); 2], "for {bytes:?}");
+/// The bases of a header at an address, if the address is known.
+fn based(header: Option<u64>) -> BaseAddresses {
+    match header {
+        Some(address) => at(address),
+        None => BaseAddresses::default(),
     }
 }
 
+/// Headers, their addresses, the sizes of addresses, and the pointers that they hold.
+const WITHOUT_ROWS: [(&[u8], Option<u64>, u8, Pointer); 8] = [
+    (
+        &[1, 0x1b, 0xff, 0xff, 0x10, 0, 0, 0],
+        Some(0x1f00),
+        8,
+        Pointer::Direct(0x1f14),
+    ),
+    (
+        &[1, 0x9b, 0xff, 0xff, 0xf0, 0xff, 0xff, 0xff],
+        Some(0x1f00),
+        8,
+        Pointer::Indirect(0x1ef4),
+    ),
+    (
+        &[1, 0x1b, 0xff, 0xff, 0x20, 0, 0, 0],
+        Some(0xffff_fff0),
+        4,
+        Pointer::Direct(0x14),
+    ),
+    (
+        &[1, 0x01, 0xff, 0xff, 0x80, 1],
+        None,
+        8,
+        Pointer::Direct(128),
+    ),
+    (
+        &[1, 0x09, 0xff, 0xff, 0x7f],
+        None,
+        2,
+        Pointer::Direct(0xffff),
+    ),
+    (
+        &[1, 0x01, 0x03, 0x3b, 5, 0, 0, 0, 0],
+        None,
+        8,
+        Pointer::Direct(5),
+    ),
+    (&[1, 0x01, 0x03, 0xff, 5], None, 8, Pointer::Direct(5)),
+    (&[1, 0x01, 0xff, 0x3b, 5], None, 8, Pointer::Direct(5)),
+];
+
+#[test]
+fn headers_without_rows(rt: HostRuntime) {
+    for (bytes, address, size, pointer) in &WITHOUT_ROWS {
+        let bases = based(*address);
+        let found = [
+            shown_wide(bytes, &bases, *size),
+            shown_narrow(bytes, &bases, *size),
+        ];
+        assert_eq!(rt; found, [Ok((*pointer, None)); 2], "for {bytes:?}");
+    }
+}
+
+/// Headers, their addresses, and why they are refused.
+const REFUSED: [(&[u8], Option<u64>, Error); 14] = [
+    (
+        &[1, 0x1b, 0xff, 0xff],
+        None,
+        Error::PcRelativePointerButSectionBaseIsUndefined,
+    ),
+    (
+        &[1, 0x1b, 0xff, 0xff],
+        Some(0x1f00),
+        Error::UnexpectedEof(ReaderOffsetId(4)),
+    ),
+    (
+        &[1, 0x05, 0xff, 0xff],
+        None,
+        Error::UnknownPointerEncoding(DwEhPe(0x05)),
+    ),
+    (
+        &[1, 0x40, 0xff, 0xff],
+        None,
+        Error::FuncRelativePointerInBadContext,
+    ),
+    (
+        &[1, 0x50, 0xff, 0xff],
+        None,
+        Error::UnsupportedPointerEncoding(DwEhPe(0x50)),
+    ),
+    (
+        &[1, 0xff, 0x03, 0x3b],
+        Some(0x1f00),
+        Error::CannotParseOmitPointerEncoding,
+    ),
+    (
+        &[1, 0x1b, 0x13, 0x3b, 0xfc, 0, 0, 0, 3, 0, 0, 0],
+        Some(0x1f00),
+        Error::UnsupportedPointerEncoding(DwEhPe(0x13)),
+    ),
+    (
+        &[1, 0x1b, 0x83, 0x3b, 0xfc, 0, 0, 0, 3, 0, 0, 0],
+        Some(0x1f00),
+        Error::UnsupportedPointerEncoding(DwEhPe(0x83)),
+    ),
+    (&[2], None, Error::UnknownVersion(2)),
+    (&[], None, Error::UnexpectedEof(ReaderOffsetId(0))),
+    (
+        &[1, 0x1b],
+        Some(0x1f00),
+        Error::UnexpectedEof(ReaderOffsetId(2)),
+    ),
+    (
+        &[1, 0x1b, 0x05, 0x06],
+        None,
+        Error::UnknownPointerEncoding(DwEhPe(0x05)),
+    ),
+    (
+        &[1, 0x1b, 0x03, 0x06],
+        None,
+        Error::UnknownPointerEncoding(DwEhPe(0x06)),
+    ),
+    (
+        &[1, 0x1b, 0x03, 0x3b, 0xfc, 0, 0, 0, 3, 0],
+        Some(0x1f00),
+        Error::UnexpectedEof(ReaderOffsetId(8)),
+    ),
+];
+
 #[test]
 fn refused_headers(rt: HostRuntime) {
-    let none = BaseAddresses::default();
-    let headers: [(&[u8], BaseAddresses, Error); 14] = [
-        (
-            &[1, 0x1b, 0xff, 0xff],
-            none,
-            Error::PcRelativePointerButSectionBaseIsUndefined,
-        ),
-        (&[1, 0x1b, 0xff, 0xff], at(0x1f00), ended(4)),
-        (
-            &[1, 0x05, 0xff, 0xff],
-            none,
-            Error::UnknownPointerEncoding(DwEhPe(0x05)),
-        ),
-        (
-            &[1, 0x40, 0xff, 0xff],
-            none,
-            Error::FuncRelativePointerInBadContext,
-        ),
-        (
-            &[1, 0x50, 0xff, 0xff],
-            none,
-            Error::UnsupportedPointerEncoding(DwEhPe(0x50)),
-        ),
-        (
-            &[1, 0xff, 0x03, 0x3b],
-            at(0x1f00),
-            Error::CannotParseOmitPointerEncoding,
-        ),
-        (
-            &[1, 0x1b, 0x13, 0x3b, 0xfc, 0, 0, 0, 3, 0, 0, 0],
-            at(0x1f00),
-            Error::UnsupportedPointerEncoding(DwEhPe(0x13)),
-        ),
-        (
-            &[1, 0x1b, 0x83, 0x3b, 0xfc, 0, 0, 0, 3, 0, 0, 0],
-            at(0x1f00),
-            Error::UnsupportedPointerEncoding(DwEhPe(0x83)),
-        ),
-        (&[2], none, Error::UnknownVersion(2)),
-        (&[], none, ended(0)),
-        (&[1, 0x1b], at(0x1f00), ended(2)),
-        (
-            &[1, 0x1b, 0x05, 0x06],
-            none,
-            Error::UnknownPointerEncoding(DwEhPe(0x05)),
-        ),
-        (
-            &[1, 0x1b, 0x03, 0x06],
-            none,
-            Error::UnknownPointerEncoding(DwEhPe(0x06)),
-        ),
-        (
-            &[1, 0x1b, 0x03, 0x3b, 0xfc, 0, 0, 0, 3, 0],
-            at(0x1f00),
-            ended(8),
-        ),
-    ];
-    for (bytes, bases, refusal) in headers {
-        assert_eq!(rt; shown_wide(bytes, &bases, 8), Err(refusal), "for {bytes:?}");
+    for (bytes, address, refusal) in &REFUSED {
+        let found = shown_wide(bytes, &based(*address), 8);
+        assert_eq!(rt; found, Err(*refusal), "for {bytes:?}");
     }
 }
 

@@ -4,7 +4,8 @@ ghost use Rattle.cfi_read_core.specs.declared.error.Error.TheVariants.{NoUnwindI
 
 use crate::asked::fde_by_table;
 use cfi_read_core::{
-    DwEhPe, EhFrameOffset, EndianSlice, Error, LittleEndian, NarrowSlice, Reader, Register,
+    DwEhPe, EhFrameOffset, EndianSlice, Error, LittleEndian, NarrowSlice, Reader, ReaderOffsetId,
+    Register,
 };
 use cfi_test_bytes::ended;
 use gimli_cfi::call_count::CallCount;
@@ -215,23 +216,30 @@ fn lookups(rt: HostRuntime) {
     assert_eq!(rt; (targets, offsets), (expected_targets, expected_offsets));
 }
 
+/// Addresses and their rows.
+const ROWS: [(u64, Result<Shown, Error>); 4] = [
+    (0xff0, Err(Error::NoUnwindInfoForAddress)),
+    (0x1018, Ok((0x1011, 0x1020, Some(16)))),
+    (0x1020, Ok((0x1020, 0x1040, Some(8)))),
+    (0x1040, Err(Error::NoUnwindInfoForAddress)),
+];
+
+/// The row for an address by the table, by the table with CIEs that are kept, and by a scan.
+fn by_each(context: &mut UnwindContext<usize>, address: u64) -> [Result<Shown, Error>; 3] {
+    let frame = EhFrame::new(&SECTION, LittleEndian);
+    [
+        by_table(&HEADER, context, address),
+        by_table_and_cies(context, address),
+        by_scan(&frame, context, address),
+    ]
+}
+
 #[test]
 fn table_and_scan_agree(rt: HostRuntime) -> Result<(), Fail> {
     let mut context: UnwindContext<usize> = UnwindContext::new(rt.alloc())?;
-    let frame = EhFrame::new(&SECTION, LittleEndian);
-    let rows: [(u64, Result<Shown, Error>); 4] = [
-        (0xff0, Err(Error::NoUnwindInfoForAddress)),
-        (0x1018, Ok((0x1011, 0x1020, Some(16)))),
-        (0x1020, Ok((0x1020, 0x1040, Some(8)))),
-        (0x1040, Err(Error::NoUnwindInfoForAddress)),
-    ];
-    for (address, row) in rows {
-        let found = [
-            by_table(&HEADER, &mut context, address),
-            by_table_and_cies(&mut context, address),
-            by_scan(&frame, &mut context, address),
-        ];
-        assert_eq!(rt; found, [row; 3], "for {address}");
+    for (address, row) in &ROWS {
+        let found = by_each(&mut context, *address);
+        assert_eq!(rt; found, [*row; 3], "for {address}");
     }
     Ok(())
 }
@@ -246,20 +254,21 @@ fn by_cut_table(context: &mut UnwindContext<usize>, address: u64) -> Result<Show
     by_table(&HEADER[..28], context, address)
 }
 
+/// Other targets of the second row, and the refusals.
+const OTHER_TARGETS: [([u8; 4], Error); 5] = [
+    ([0x18, 1, 0, 0], Error::NoUnwindInfoForAddress),
+    ([0, 1, 0, 0], Error::NotCiePointer(0)),
+    ([0x54, 1, 0, 0], Error::NoEntryAtGivenOffset(84)),
+    ([0x59, 1, 0, 0], Error::UnexpectedEof(ReaderOffsetId(0))),
+    ([0xff, 0, 0, 0], Error::OffsetOutOfBounds(0x1fff)),
+];
+
 #[test]
 fn dishonest_tables(rt: HostRuntime) -> Result<(), Fail> {
     let mut context: UnwindContext<usize> = UnwindContext::new(rt.alloc())?;
-    let targets = [
-        ([0x18, 1, 0, 0], Error::NoUnwindInfoForAddress),
-        ([0, 1, 0, 0], Error::NotCiePointer(0)),
-        ([0x54, 1, 0, 0], Error::NoEntryAtGivenOffset(84)),
-        ([0x59, 1, 0, 0], ended(0)),
-        ([0xff, 0, 0, 0], Error::OffsetOutOfBounds(0x1fff)),
-    ];
-    // The second row has another target.
-    for (target, refusal) in targets {
-        let row = by_table(&second_target(target), &mut context, 0x1018);
-        assert_eq!(rt; row, Err(refusal), "for {target:?}");
+    for (target, refusal) in &OTHER_TARGETS {
+        let row = by_table(&second_target(*target), &mut context, 0x1018);
+        assert_eq!(rt; row, Err(*refusal), "for {target:?}");
     }
     let found = [
         by_encoding(&mut context, 0xbb),

@@ -114,10 +114,10 @@ const REFUSED: [(&str, Error, Error); 7] = [
 
 #[test]
 fn entries_that_refuse(rt: HostRuntime) -> Result<(), Fail> {
-    for (text, by_wide, by_narrow) in REFUSED {
+    for (text, by_wide, by_narrow) in &REFUSED {
         let bytes = bytes_of(rt.alloc(), text)?;
         let found = in_debug_frame(rt.alloc(), bytes.as_slice())?;
-        assert_eq!(rt; found, (Err(by_wide), Err(by_narrow)), "{text}");
+        assert_eq!(rt; found, (Err(*by_wide), Err(*by_narrow)), "{text}");
     }
     Ok(())
 }

@@ -25,9 +25,9 @@ fn check_rows<S: UnwindContextStorage<usize>>(
     storage: &str,
 ) {
     let section = DebugFrame::new(&THREE_ROWS, LittleEndian);
-    for (address, row) in ROWS {
-        let found = row_of(&section, context, address);
-        assert_eq!(rt; found, row, "{storage}: {address}");
+    for (address, row) in &ROWS {
+        let found = row_of(&section, context, *address);
+        assert_eq!(rt; found, *row, "{storage}: {address}");
     }
 }
 

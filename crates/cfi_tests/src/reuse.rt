@@ -251,6 +251,12 @@ fn compared<R: Reader<Offset = usize>, S: UnwindContextStorage<usize>>(
     Ok((*row == *other_row, *row != *other_row))
 }
 
+/// Programs, and how their row compares with that of "8602 8701".
+const COMPARISONS: [(&str, (bool, bool)); 2] = [
+    ("8701 8602", (true, false)),
+    ("8702 8601", (false, true)),
+];
+
 /// Two rows whose rules are written in another order are equal, and no other two.
 #[test]
 fn rows_by_their_rules(rt: HostRuntime) -> Result<(), Fail> {
@@ -258,15 +264,11 @@ fn rows_by_their_rules(rt: HostRuntime) -> Result<(), Fail> {
     let mut other: UnwindContext<usize> = UnwindContext::new(rt.alloc())?;
     let bytes = joined(rt.alloc(), NO_PROGRAM, "8602 8701")?;
     let first = DebugFrame::new(bytes.as_slice(), LittleEndian);
-    let comparisons: [(&str, (bool, bool)); 2] = [
-        ("8701 8602", (true, false)),
-        ("8702 8601", (false, true)),
-    ];
-    for (program, expected) in comparisons {
+    for (program, expected) in &COMPARISONS {
         let bytes = joined(rt.alloc(), NO_PROGRAM, program)?;
         let second = DebugFrame::new(bytes.as_slice(), LittleEndian);
         let found = compared(&first, &second, &mut one, &mut other)?;
-        assert_eq!(rt; found, expected, "{program}");
+        assert_eq!(rt; found, *expected, "{program}");
     }
     Ok(())
 }

@@ -206,7 +206,7 @@ const TABLES: [(&[u8], Answers<'static>); 6] = [
 #[test]
 fn rows_one_by_one(rt: HostRuntime) -> Result<(), Fail> {
     let mut context: UnwindContext<usize> = UnwindContext::new(rt.alloc())?;
-    for (bytes, answers) in TABLES {
+    for (bytes, answers) in &TABLES {
         let section = DebugFrame::new(bytes, LittleEndian);
         assert_eq!(rt; hands_out(&section, &mut context, answers), Ok(true));
     }
@@ -237,8 +237,8 @@ const EXPRESSIONS: [(usize, usize, Result<&[u8], Error>); 4] = [
 
 #[test]
 fn the_bytes_of_an_expression(rt: HostRuntime) -> Result<(), Fail> {
-    for (offset, length, bytes) in EXPRESSIONS {
-        assert_eq!(rt; bytes_at(offset, length), bytes);
+    for (offset, length, bytes) in &EXPRESSIONS {
+        assert_eq!(rt; bytes_at(*offset, *length), *bytes);
     }
     Ok(())
 }
@@ -273,8 +273,9 @@ const WITH_CHANGING_CIES: [(u64, Result<Shown, Error>, u32); 3] = [
 #[test]
 fn a_get_cie_that_changes(rt: HostRuntime) -> Result<(), Fail> {
     let mut context: UnwindContext<usize> = UnwindContext::new(rt.alloc())?;
-    for (address, row, asked) in WITH_CHANGING_CIES {
-        assert_eq!(rt; with_changing_cies(&mut context, address), (row, asked));
+    for (address, row, asked) in &WITH_CHANGING_CIES {
+        let found = with_changing_cies(&mut context, *address);
+        assert_eq!(rt; found, (*row, *asked));
     }
     Ok(())
 }
