@@ -103,6 +103,9 @@ fn read_letters_with_data<R: Reader, S: _UnwindSectionPrivate<R>>(
 }
 
 /// Reads what an augmentation string means, and the data that it announces. An empty text is no augmentation.
+///
+/// Refused with `UnknownAugmentation` for a letter that isn't known, or that wants data where no `z` announces any, and
+/// with the refusal of the first part of the data that can't be read.
 #[inline(always)]
 pub fn read_augmentation<R: Reader, S: _UnwindSectionPrivate<R>>(
     at: &InSection<'_, S>,

@@ -75,6 +75,9 @@ fn read_return_register<R: Reader>(version: u8, input: &mut R) -> Result<Registe
 }
 
 /// Reads the CIE after its prefix.
+///
+/// Refused with `UnknownVersion` for another version than 1, 3 and 4, with `UnsupportedSegmentSize` where segment
+/// selectors have a size, and with the refusal of the first field that can't be read.
 #[tactic(auto, unfolding(crate::specs::Cies::cie_fields))]
 #[inline(always)]
 pub fn read_cie<R: Reader, S: _UnwindSectionPrivate<R> + Copy>(

@@ -17,6 +17,9 @@ use cfi_read_core::reader::read_offset;
 use cfi_read_core::{DwEhPe, Reader, Result};
 
 /// The initial address, and how many addresses there are. Indirection of the address is ignored.
+///
+/// Refused as `read_address` refuses a plain address, and as `parse_encoded_pointer` and `parse_encoded_value` refuse
+/// encoded ones.
 #[inline(always)]
 pub fn read_addresses<R: Reader, S: _UnwindSectionPrivate<R>>(
     at: &InSection<'_, S>,
@@ -43,6 +46,9 @@ pub fn read_addresses<R: Reader, S: _UnwindSectionPrivate<R>>(
 }
 
 /// The pointer to the language-specific data, from the augmentation data. What else the data has is dropped.
+///
+/// Refused as `read_offset` refuses the length of the data, with `UnexpectedEof` where the data is cut off, and as
+/// `parse_encoded_pointer` refuses the pointer.
 #[inline(always)]
 pub fn read_lsda<R: Reader, S: _UnwindSectionPrivate<R>>(
     at: &InSection<'_, S>,

@@ -62,6 +62,9 @@ fn read_identified<R: Reader, S: _UnwindSectionPrivate<R>>(
 
 /// Reads the prefix at the place of the input, or none where the length is zero. The input then stands after the
 /// entry.
+///
+/// Refused as `read_initial_length` refuses the length, and with `UnexpectedEof` where the entry goes past the section's
+/// end, or its id past its own.
 #[tactic(auto, unfolding(crate::specs::Prefixes::prefix))]
 #[inline(always)]
 pub fn read_prefix<R: Reader, S: _UnwindSectionPrivate<R>>(
