@@ -1,8 +1,7 @@
 -- The bytes of an expression that lies in a section are there.
-use Rattle.std.proofs.Common.{◌≡◌, ◌≤◌, ◌<◌, ◌+◌, ◌-◌, ℕ, Bool, true, false, Result, Ok, Err, refl, sym, ap, ◌∙◌, subst, arith}
+use Rattle.std.proofs.Common.{◌≡◌, ◌≤◌, ◌+◌, ◌-◌, ℕ, Bool, true, false, Ok, Err, refl, ap, ◌∙◌, subst, arith}
 use Rattle.std.specs.Prelude.{nat_le, if◌then◌else◌}
 use borrow.Author.Tests.{leb-true, le-leb}
-use Rattle.cfi_read_core.specs.declared.error.Error.{Error}
 use Rattle.cfi_read_core.specs.ReadFunctions.{Source, Position, Extent, Outcome, carry_on, split, give, unexpected_eof}
 use Rattle.cfi_read_core.specs.ReaderCalls.{IsPartOf, extent_of}
 use Rattle.cfi_instruction.specs.declared.instruction.UnwindExpression.{UnwindExpression}

@@ -3,7 +3,7 @@
 --     place_in section e      where they are
 --     expression_bytes e      them, from a reader of the section
 --     expression_of i, HasExpressionIn number section i      the expression that an instruction holds lies in the section
-use Rattle.std.specs.Prelude.{◌≡◌, ℕ, ◌+◌, ◌-◌, ◌≤◌, Option, Some, None, IfSome}
+use Rattle.std.specs.Prelude.{ℕ, ◌+◌, ◌-◌, ◌≤◌, Option, Some, None, IfSome}
 use Rattle.cfi_read_core.specs.ReadFunctions.{Read, Position, Extent, ◌>>◌, skip, split}
 use Rattle.cfi_instruction.specs.declared.instruction.UnwindExpression.{UnwindExpression}
 use Rattle.cfi_instruction.specs.declared.instruction.CallFrameInstruction.{CallFrameInstruction}
