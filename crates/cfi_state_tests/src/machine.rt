@@ -1,12 +1,12 @@
 //! The machine over concrete storages.
 
-ghost use Rattle.std.specs.Prelude.{◌≡◌};
+ghost use Rattle.std.specs.Prelude.{◌≡◌, None};
 ghost use Rattle.std.proofs.Common.{lit≤};
 
 use arrayvec::ArrayVec;
 use cfi_instruction::instruction::CallFrameInstruction;
 use cfi_read_core::address::AddressSize;
-use cfi_read_core::{Error, ReaderOffset, Register, Result};
+use cfi_read_core::{Error, ReaderOffset, Register, Result, StoreOnHeap};
 use cfi_state::storage::{StoreGrowing, UnwindContextStorage};
 use cfi_state::table::context::UnwindContext;
 use cfi_state::table::machine::{Parameters, current_row, end_cie, evaluate, reset};
@@ -81,13 +81,29 @@ fn restored<S: UnwindContextStorage<usize>>(
     Ok(rules(context))
 }
 
-/// A context after a CIE that gives the registers 16 and 6 a rule.
-fn after_a_cie<S: UnwindContextStorage<usize>>(alloc: Global) -> Result<UnwindContext<usize, S>> {
-    let mut context: UnwindContext<usize, S> = UnwindContext::new_in(alloc)?;
-    run(&mut context, offset(16))?;
-    run(&mut context, offset(6))?;
-    end_cie(&mut context)?;
-    Ok(context)
+/// A CIE that gives the registers 16 and 6 a rule.
+fn run_cie<S: UnwindContextStorage<usize>>(context: &mut UnwindContext<usize, S>) -> Result<()>
+    requires { context.old.initial_rules ≡ None }
+{
+    run(context, offset(16))?;
+    run(context, offset(6))?;
+    end_cie(context)
+}
+
+/// Whether a context's copy is equal to it.
+fn is_equal_to_its_copy<S: UnwindContextStorage<usize>>(
+    alloc: Global,
+    context: &UnwindContext<usize, S>,
+) -> Result<bool> {
+    Ok(context.try_clone(alloc)? == *context)
+}
+
+/// How many registers have a rule once a context is reset.
+fn rules_after_reset<S: UnwindContextStorage<usize>>(
+    context: &mut UnwindContext<usize, S>,
+) -> usize {
+    reset(context);
+    rules(context).1
 }
 
 /// Whether a context's copy is equal to it, and how many registers have a rule once it is reset.
@@ -95,9 +111,8 @@ fn copied_and_reset<S: UnwindContextStorage<usize>>(
     alloc: Global,
     context: &mut UnwindContext<usize, S>,
 ) -> Result<(bool, usize)> {
-    let is_equal = context.try_clone(alloc)? == *context;
-    reset(context);
-    Ok((is_equal, current_row(context).registers().count()))
+    let is_equal = is_equal_to_its_copy(alloc, context)?;
+    Ok((is_equal, rules_after_reset(context)))
 }
 
 /// What three rows that are remembered answer, a rule that is restored, and a copy and a reset.
@@ -113,26 +128,48 @@ const COUNTED: Counted = (
     Ok((true, 0)),
 );
 
+/// What a context answers after that CIE.
+fn counted_by<S: UnwindContextStorage<usize>>(
+    alloc: Global,
+    context: &mut UnwindContext<usize, S>,
+) -> Result<Counted>
+    requires { context.old.initial_rules ≡ None }
+{
+    run_cie(context)?;
+    Ok((
+        remembered(context),
+        restored(context),
+        copied_and_reset(alloc, context),
+    ))
+}
+
+/// What a fresh context answers after that CIE.
+fn counted<S: UnwindContextStorage<usize>>(alloc: Global) -> Result<Counted> {
+    let mut context: UnwindContext<usize, S> = UnwindContext::new_in(alloc)?;
+    counted_by(alloc, &mut context)
+}
+
 #[test]
 fn remembered_rows_are_counted(rt: HostRuntime) -> std::result::Result<(), Fail> {
-    let mut context: UnwindContext<usize> = after_a_cie(rt.alloc())?;
-    let counted = (
-        remembered(&mut context),
-        restored(&mut context),
-        copied_and_reset(rt.alloc(), &mut context),
-    );
-    assert_eq!(rt; counted, COUNTED);
+    assert_eq!(rt; counted::<StoreOnHeap>(rt.alloc()), Ok(COUNTED));
     Ok(())
 }
 
+/// What a context answers to a rule, to a second one, and to a row that is remembered.
+fn one_and_more<S: UnwindContextStorage<usize>>(
+    context: &mut UnwindContext<usize, S>,
+) -> [Result<Option<u64>>; 3] {
+    [
+        run(context, offset(2)),
+        run(context, offset(3)),
+        run(context, CallFrameInstruction::RememberState),
+    ]
+}
+
 /// What a context of one rule and one row answers to a second of each.
-fn past_one<S: UnwindContextStorage<usize>>(alloc: Global) -> Result<[Result<Option<u64>>; 2]> {
+fn past_one<S: UnwindContextStorage<usize>>(alloc: Global) -> Result<[Result<Option<u64>>; 3]> {
     let mut one: UnwindContext<usize, S> = UnwindContext::new_in(alloc)?;
-    run(&mut one, offset(2))?;
-    Ok([
-        run(&mut one, offset(3)),
-        run(&mut one, CallFrameInstruction::RememberState),
-    ])
+    Ok(one_and_more(&mut one))
 }
 
 /// Gives a context 200 rules and rows.
@@ -144,16 +181,24 @@ fn grow<S: UnwindContextStorage<usize>>(context: &mut UnwindContext<usize, S>) -
     Ok(())
 }
 
-/// How many registers have a rule in a context that grew by 200 rules and rows, and where a move then leads.
-fn past_two_hundred<S: UnwindContextStorage<usize>>(alloc: Global) -> Result<(usize, Option<u64>)> {
-    let mut growing: UnwindContext<usize, S> = UnwindContext::new_in(alloc)?;
-    grow(&mut growing)?;
-    let count = current_row(&growing).registers().count();
-    let moved = run(&mut growing, CallFrameInstruction::AdvanceLoc { delta: 4 })?;
+/// How many registers have a rule in a context that grows by 200 rules and rows, and where a move then leads.
+fn grown<S: UnwindContextStorage<usize>>(
+    context: &mut UnwindContext<usize, S>,
+) -> Result<(usize, Option<u64>)> {
+    grow(context)?;
+    let (_, count) = rules(context);
+    let moved = run(context, CallFrameInstruction::AdvanceLoc { delta: 4 })?;
     Ok((count, moved))
 }
 
-const PAST_ONE: Result<[Result<Option<u64>>; 2]> = Ok([
+/// The same of a fresh context.
+fn past_two_hundred<S: UnwindContextStorage<usize>>(alloc: Global) -> Result<(usize, Option<u64>)> {
+    let mut growing: UnwindContext<usize, S> = UnwindContext::new_in(alloc)?;
+    grown(&mut growing)
+}
+
+const PAST_ONE: Result<[Result<Option<u64>>; 3]> = Ok([
+    Ok(None),
     Err(Error::TooManyRegisterRules),
     Err(Error::StackFull),
 ]);
