@@ -1,5 +1,5 @@
 //! Common information entries (DWARF 5 section 6.4.1; LSB Core, "The Common Information Entry Format").
-ghost use Rattle.std.specs.Prelude.{◌≡◌, IfOk, is_some};
+ghost use Rattle.std.specs.Prelude.{◌≡◌, IfOk, is_some, ⊤};
 ghost use Rattle.std.specs.Option.{option_map};
 ghost use Rattle.cfi_read_core.specs.Addresses.{IsAddressSize};
 ghost use Rattle.cfi_read_core.specs.ReaderCalls.{Reads, map_ok};
@@ -22,9 +22,10 @@ use cfi_parts::pointer::{BaseAddresses, Pointer, PointerEncodingParameters};
 use cfi_read_core::address::AddressSize;
 use cfi_read_core::reader::read_register;
 use cfi_read_core::{DwEhPe, Encoding, Error, Format, Reader, ReaderOffset, Register, Result};
+use std::alloc::AllocError;
 
 /// A common information entry, over its reader and the reader's offsets.
-#[derive(Clone, Copy, Debug, PartialEq, Eq)]
+#[derive(Copy, Debug, PartialEq, Eq)]
 pub struct CieFields<R, O> {
     // In an order that leaves few gaps, since a CIE is copied into each of its FDEs.
     pub(crate) offset: O,
@@ -37,6 +38,17 @@ pub struct CieFields<R, O> {
     pub(crate) data_alignment_factor: i64,
     pub(crate) initial_instructions: R,
     pub(crate) augmentation: Option<Augmentation>,
+}
+
+impl<R: Copy, O: Copy> Clone for CieFields<R, O> {
+    ghost is_clone = { λ x y. y ≡ x };
+
+    ghost is_infallible = { λ _. ⊤ };
+
+    #[inline(always)]
+    fn clone(&self) -> std::result::Result<Self, AllocError> {
+        Ok(*self)
+    }
 }
 
 /// A common information entry: what the frame description entries that point to it share.

@@ -1,5 +1,5 @@
 //! The section `.debug_frame`.
-ghost use Rattle.std.specs.Prelude.{◌≡◌, refl};
+ghost use Rattle.std.specs.Prelude.{◌≡◌, refl, ⊤};
 ghost use Rattle.cfi_read_core.specs.Addresses.{IsAddressSize, sized_by};
 ghost use Rattle.cfi_read_core.specs.declared.common.Vendor.TheVariants.{Default as no_vendor};
 ghost use Rattle.cfi_read_core.specs.ReaderCalls.{all_of};
@@ -9,6 +9,7 @@ ghost use Rattle.cfi_instruction.specs.CallFrameSections.{DebugFrame as debug_fr
 use cfi_instruction::section_properties::{_UnwindSectionPrivate, CieOffsetEncoding};
 use cfi_read_core::address::AddressSize;
 use cfi_read_core::{EndianSlice, Endianity, Format, Reader, Section, SectionId, Vendor};
+use std::alloc::AllocError;
 
 /// The section `.debug_frame` (DWARF 5 section 6.4.1).
 ///
@@ -21,11 +22,22 @@ use cfi_read_core::{EndianSlice, Endianity, Format, Reader, Section, SectionId, 
 /// section.set_address_size(4);
 /// let cie = section.cie_from_offset(&BaseAddresses::default(), DebugFrameOffset(0))?;
 /// ```
-#[derive(Clone, Copy, Debug, PartialEq, Eq)]
+#[derive(Copy, Debug, PartialEq, Eq)]
 pub struct DebugFrame<R> {
     section: R,
     address_size: AddressSize,
     vendor: Vendor,
+}
+
+impl<R: Copy> Clone for DebugFrame<R> {
+    ghost is_clone = { λ x y. y ≡ x };
+
+    ghost is_infallible = { λ _. ⊤ };
+
+    #[inline(always)]
+    fn clone(&self) -> std::result::Result<Self, AllocError> {
+        Ok(*self)
+    }
 }
 
 impl<'input, E: Endianity> DebugFrame<EndianSlice<'input, E>> {

@@ -1,5 +1,5 @@
 //! What each entry begins with: its length, which gives the format and the extent, and its id (DWARF 5 section 6.4.1).
-ghost use Rattle.std.specs.Prelude.{◌≡◌, IfOk, IfSome, ◌≤◌};
+ghost use Rattle.std.specs.Prelude.{◌≡◌, IfOk, IfSome, ◌≤◌, ⊤};
 ghost use Rattle.std.specs.Option.{option_map};
 ghost use Rattle.cfi_read_core.specs.Numbers.{unsigned};
 ghost use Rattle.cfi_read_core.specs.ReaderCalls.{Reads, map_ok};
@@ -11,9 +11,10 @@ ghost use Rattle.cfi_entry.specs.CieViews.{prefix_view, section_in};
 use crate::in_section::InSection;
 use cfi_instruction::section_properties::{_UnwindSectionPrivate, CieOffsetEncoding};
 use cfi_read_core::{Error, Format, Reader, ReaderOffset, Result};
+use std::alloc::AllocError;
 
 /// What an entry begins with, and what is left of it after its id.
-#[derive(Clone, Copy, Debug, PartialEq, Eq)]
+#[derive(Copy, Debug, PartialEq, Eq)]
 pub struct EntryPrefix<R, O> {
     pub offset: O,
     pub length: O,
@@ -21,6 +22,17 @@ pub struct EntryPrefix<R, O> {
     pub id: u64,
     pub id_offset: O,
     pub rest: R,
+}
+
+impl<R: Copy, O: Copy> Clone for EntryPrefix<R, O> {
+    ghost is_clone = { λ x y. y ≡ x };
+
+    ghost is_infallible = { λ _. ⊤ };
+
+    #[inline(always)]
+    fn clone(&self) -> std::result::Result<Self, AllocError> {
+        Ok(*self)
+    }
 }
 
 #[inline(always)]

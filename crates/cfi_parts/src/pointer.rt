@@ -1,5 +1,5 @@
 //! Encoded pointers (LSB Core, "DWARF Exception Header Encoding").
-ghost use Rattle.std.specs.Prelude.{◌≡◌, ◌≤◌, ℕ};
+ghost use Rattle.std.specs.Prelude.{◌≡◌, ◌≤◌, ℕ, ⊤};
 ghost use Rattle.cfi_read_core.specs.Numbers.{unsigned_leb128};
 ghost use Rattle.cfi_read_core.specs.ReaderCalls.{Reads};
 ghost use Rattle.cfi_parts.specs.ReadingParameters.{pointer_context};
@@ -12,6 +12,7 @@ use cfi_read_core::constants::{
     DW_EH_PE_textrel, DW_EH_PE_udata2, DW_EH_PE_udata4, DW_EH_PE_udata8, DW_EH_PE_uleb128,
 };
 use cfi_read_core::{DwEhPe, Error, Reader, ReaderAddress, ReaderOffset, Result};
+use std::alloc::AllocError;
 
 /// A decoded pointer: the value itself, or the address at which the value is found.
 #[derive(Clone, Copy, Debug, PartialEq, Eq)]
@@ -128,7 +129,7 @@ impl BaseAddresses {
 }
 
 /// What the pointers of a section are read with.
-#[derive(Clone, Copy, Debug)]
+#[derive(Copy, Debug)]
 pub struct PointerEncodingParameters<'a, R> {
     /// The bases of the section.
     pub bases: &'a SectionBaseAddresses,
@@ -138,6 +139,17 @@ pub struct PointerEncodingParameters<'a, R> {
     pub address_size: AddressSize,
     /// The section, from whose first place `DW_EH_PE_pcrel` counts.
     pub section: &'a R,
+}
+
+impl<R: Copy> Clone for PointerEncodingParameters<'_, R> {
+    ghost is_clone = { λ x y. y ≡ x };
+
+    ghost is_infallible = { λ _. ⊤ };
+
+    #[inline(always)]
+    fn clone(&self) -> std::result::Result<Self, AllocError> {
+        Ok(*self)
+    }
 }
 
 /// Reads a byte that is a pointer encoding. Another one is refused with `UnknownPointerEncoding`, and counts as read.

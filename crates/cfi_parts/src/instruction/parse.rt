@@ -1,5 +1,5 @@
 //! One call frame instruction (DWARF 5 sections 6.4.2 and 7.24).
-ghost use Rattle.std.specs.Prelude.{◌≡◌, ◌≤◌};
+ghost use Rattle.std.specs.Prelude.{◌≡◌, ◌≤◌, ⊤};
 ghost use Rattle.cfi_read_core.specs.ReadFunctions.{chosen_from};
 ghost use Rattle.cfi_read_core.specs.ReaderCalls.{Reads};
 ghost use Rattle.cfi_parts.specs.ReadingParameters.{instruction_context, pointer_context};
@@ -20,9 +20,10 @@ use cfi_read_core::constants::{
 };
 use cfi_read_core::reader::{read_offset, read_register};
 use cfi_read_core::{DwCfa, DwEhPe, Error, Reader, ReaderOffset, Register, Result, Vendor};
+use std::alloc::AllocError;
 
 /// What the instructions of an entry are read with.
-#[derive(Clone, Copy, Debug)]
+#[derive(Copy, Debug)]
 pub struct InstructionParameters<'a, R> {
     /// How the address of `DW_CFA_set_loc` is encoded; a plain address where there is no encoding.
     pub address_encoding: Option<DwEhPe>,
@@ -30,6 +31,17 @@ pub struct InstructionParameters<'a, R> {
     pub pointers: PointerEncodingParameters<'a, R>,
     /// Whose vendor opcodes are known.
     pub vendor: Vendor,
+}
+
+impl<R: Copy> Clone for InstructionParameters<'_, R> {
+    ghost is_clone = { λ x y. y ≡ x };
+
+    ghost is_infallible = { λ _. ⊤ };
+
+    #[inline(always)]
+    fn clone(&self) -> std::result::Result<Self, AllocError> {
+        Ok(*self)
+    }
 }
 
 /// Passes an expression, and answers where it stands in the section.

@@ -1,5 +1,5 @@
 //! The rules of a row.
-ghost use Rattle.std.specs.Prelude.{◌≡◌, ◌<◌, ◌≤◌, [], false, IfOk, OnOk, IfErr, OnErr, IsNone, IsSomeAnd, slice_get, length, pos};
+ghost use Rattle.std.specs.Prelude.{◌≡◌, ◌<◌, ◌≤◌, [], false, IfOk, OnOk, IfErr, OnErr, IsNone, IsSomeAnd, slice_get, length, pos, ⊤};
 ghost use Rattle.cfi_state.specs.declared.table.rules.CfaRule.TheVariants.{RegisterAndOffset};
 ghost use Rattle.cfi_state.specs.declared.table.rules.RegisterRule.TheVariants.{Undefined};
 ghost use Rattle.std.specs.Iterator.{YieldsFirstRef, item_count};
@@ -17,7 +17,7 @@ use arrayvec::ArrayVec;
 use cfi_instruction::instruction::UnwindExpression;
 use cfi_lists::array_like::{remove_at, shorten, write_at, write_over};
 use cfi_read_core::{Error, ReaderOffset, Register, Result};
-use std::alloc::Global;
+use std::alloc::{AllocError, Global};
 use std::fmt::{Debug, Formatter, Write};
 use std::marker::Model;
 
@@ -26,7 +26,7 @@ use std::marker::Model;
 pub const RA_SIGN_STATE: Register = Register(34);
 
 /// How the canonical frame address is found (DWARF 5 section 6.4.1).
-#[derive(Clone, Copy, Debug, PartialEq, Eq)]
+#[derive(Copy, Debug, PartialEq, Eq)]
 pub enum CfaRule<T> {
     /// The value of a register plus an offset.
     RegisterAndOffset {
@@ -37,6 +37,17 @@ pub enum CfaRule<T> {
     },
     /// The value of an expression.
     Expression(UnwindExpression<T>),
+}
+
+impl<T: Copy> Clone for CfaRule<T> {
+    ghost is_clone = { λ x y. y ≡ x };
+
+    ghost is_infallible = { λ _. ⊤ };
+
+    #[inline(always)]
+    fn clone(&self) -> std::result::Result<Self, AllocError> {
+        Ok(*self)
+    }
 }
 
 impl<T> Default for CfaRule<T> {

@@ -21,12 +21,23 @@ use cfi_read_core::{Error, Reader, ReaderOffset, Result};
 use std::alloc::AllocError;
 
 /// An entry, generic over the types of its CIE and its FDE.
-#[derive(Clone, Copy, Debug, PartialEq, Eq)]
+#[derive(Copy, Debug, PartialEq, Eq)]
 pub enum EntryFields<C, F> {
     /// A common information entry.
     Cie(C),
     /// A frame description entry as far as the offset of its CIE.
     Fde(F),
+}
+
+impl<C: Copy, F: Copy> Clone for EntryFields<C, F> {
+    ghost is_clone = { λ x y. y ≡ x };
+
+    ghost is_infallible = { λ _. ⊤ };
+
+    #[inline(always)]
+    fn clone(&self) -> std::result::Result<Self, AllocError> {
+        Ok(*self)
+    }
 }
 
 /// An entry: a CIE whole, or an FDE as far as the offset of its CIE.

@@ -1,5 +1,5 @@
 //! Frame description entries (DWARF 5 section 6.4.1; LSB Core, "The Frame Description Entry Format").
-ghost use Rattle.std.specs.Prelude.{◌≡◌, ◌≤◌, IfOk, Some};
+ghost use Rattle.std.specs.Prelude.{◌≡◌, ◌≤◌, IfOk, Some, ⊤};
 ghost use Rattle.std.specs.Option.{option_map};
 ghost use Rattle.cfi_read_core.specs.ReaderCalls.{Reads, map_ok};
 ghost use Rattle.cfi_instruction.specs.CallFrameSections.{IsOf};
@@ -16,9 +16,10 @@ use cfi_instruction::section_properties::_UnwindSectionPrivate;
 use cfi_parts::pointer::Pointer;
 use cfi_read_core::address::AddressSize;
 use cfi_read_core::{Reader, ReaderAddress, Result};
+use std::alloc::AllocError;
 
 /// A frame description entry, over its reader and the reader's offsets.
-#[derive(Clone, Copy, Debug, PartialEq, Eq)]
+#[derive(Copy, Debug, PartialEq, Eq)]
 pub struct FdeFields<R, O> {
     pub(crate) offset: O,
     pub(crate) length: O,
@@ -27,6 +28,17 @@ pub struct FdeFields<R, O> {
     pub(crate) address_range: u64,
     pub(crate) lsda: Option<Pointer>,
     pub(crate) instructions: R,
+}
+
+impl<R: Copy, O: Copy> Clone for FdeFields<R, O> {
+    ghost is_clone = { λ x y. y ≡ x };
+
+    ghost is_infallible = { λ _. ⊤ };
+
+    #[inline(always)]
+    fn clone(&self) -> std::result::Result<Self, AllocError> {
+        Ok(*self)
+    }
 }
 
 /// A frame description entry: the instructions for a range of addresses.
