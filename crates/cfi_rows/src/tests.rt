@@ -10,6 +10,8 @@ use cfi_program::row_line::{Cfa, Rule};
 use cfi_rows_run::run::run;
 use cfi_state::table::rules::{CfaRule, RegisterRule};
 use std::alloc::{AllocError, Global};
+use std::io;
+use std::io::Write;
 use std::process::Abort;
 use std::test::Fail;
 
@@ -141,29 +143,39 @@ struct Case<'a> {
 
 /// The case of a table's line; none of an empty line.
 fn case_of(line: &str) -> Option<Case<'_>> {
-    let mut parts = line.split('|').map(|part| part.trim());
+    let (name, rest) = line.split_once('|')?;
+    let (words, rest) = rest.split_once('|')?;
+    let (input, line) = rest.split_once('|')?;
     Some(Case {
-        name: parts.next()?,
-        words: parts.next()?,
-        input: parts.next()?,
-        line: parts.next()?,
+        name: name.trim(),
+        words: words.trim(),
+        input: input.trim(),
+        line: line.trim(),
     })
+}
+
+/// What a word of a table's input stands for.
+fn bytes_of(word: &str) -> &str {
+    match word {
+        "CIE" => CIE,
+        "NARROW" => NARROW,
+        "RANGE" => RANGE,
+        _ => word,
+    }
+}
+
+fn write_out(text: &mut String, input: &str) -> Result<(), AllocError> {
+    for word in input.split(' ') {
+        text.push_str(bytes_of(word))?;
+        text.push_str(" ")?;
+    }
+    Ok(())
 }
 
 /// What a table's input stands for.
 fn written_out(alloc: Global, before: &str, input: &str) -> Result<String, AllocError> {
-    let mut text = String::new(alloc);
-    text.push_str(before)?;
-    for word in input.split(' ') {
-        let bytes = match word {
-            "CIE" => CIE,
-            "NARROW" => NARROW,
-            "RANGE" => RANGE,
-            _ => word,
-        };
-        text.push_str(bytes)?;
-        text.push_str(" ")?;
-    }
+    let mut text = format!(in alloc; "{before}")?;
+    write_out(&mut text, input)?;
     Ok(text)
 }
 
@@ -186,26 +198,50 @@ fn run_text(alloc: Global, words: &str, text: &str) -> Result<(u8, Vec<u8>), All
     Ok((status, output))
 }
 
+/// Runs the program, and checks its line, which is given without its line feed, and its status.
+fn expect(
+    rt: &(impl Abort + AllocGlobal),
+    name: &str,
+    words: &str,
+    text: &str,
+    answer: (&str, u8),
+) -> Result<(), Fail> {
+    let (line, status) = answer;
+    let (ended, output) = run_text(rt.alloc(), words, text)?;
+    let whole = format!(in rt.alloc(); "{line}\n")?;
+    assert_eq!(rt;
+        (str::from_utf8(output.as_slice()), ended),
+        (Ok(whole.as_str()), status),
+        "{name}, {words}"
+    );
+    Ok(())
+}
+
 /// Runs each case of the table, with more words, and checks the line and the status.
 fn check(rt: &(impl Abort + AllocGlobal), table: &Table, more_words: &str) -> Result<(), Fail> {
-    let alloc = rt.alloc();
-    let mut text = String::new(alloc);
+    let mut text = String::new(rt.alloc());
     for row in table.cases.lines() {
         let Some(case) = case_of(row) else {
             assert_eq!(rt; row, "");
             continue;
         };
         if case.input != "same" {
-            text = written_out(alloc, table.before, case.input)?;
+            text = written_out(rt.alloc(), table.before, case.input)?;
         }
-        let words = format!(in alloc; "{}{more_words}", case.words)?;
-        let (status, output) = run_text(alloc, words.as_str(), text.as_str())?;
-        let line = format!(in alloc; "{}\n", case.line)?;
-        let printed = str::from_utf8(output.as_slice());
-        assert_eq!(rt; printed, Ok(line.as_str()), "{}{more_words}", case.name);
-        assert_eq!(rt; status, status_of(case.line), "{}{more_words}", case.name);
+        check_case(rt, &case, more_words, text.as_str())?;
     }
     Ok(())
+}
+
+fn check_case(
+    rt: &(impl Abort + AllocGlobal),
+    case: &Case<'_>,
+    more_words: &str,
+    text: &str,
+) -> Result<(), Fail> {
+    let words = format!(in rt.alloc(); "{}{more_words}", case.words)?;
+    let answer = (case.line, status_of(case.line));
+    expect(rt, case.name, words.as_str(), text, answer)
 }
 
 #[test]
@@ -216,41 +252,55 @@ fn worked_sections(rt: HostRuntime) -> Result<(), Fail> {
     check(&rt, &WRONG, "")
 }
 
-/// 193 registers have no room in a row of the fixed storage.
+/// A section whose one FDE gives 193 registers a rule.
+fn write_many_rules(text: &mut String, alloc: Global) -> Result<(), AllocError> {
+    text.push_str("0e000000 ffffffff 04000800 017810 0c0708 d7010000 ")?;
+    text.push_str(RANGE)?;
+    for register in 0..193u32 {
+        // From 128 on a number takes two bytes.
+        let second = if register < 128 { "" } else { "01" };
+        let undefined = format!(in alloc; " 07{register:02x}{second}")?;
+        text.push_str(undefined.as_str())?;
+    }
+    Ok(())
+}
+
+/// The line of its row.
+fn write_many_rules_line(line: &mut String, alloc: Global) -> Result<(), AllocError> {
+    line.push_str("0x1000 0x1020 cfa=r7+8 args=0")?;
+    for register in 0..193u32 {
+        let rule = format!(in alloc; " r{register}=undefined")?;
+        line.push_str(rule.as_str())?;
+    }
+    Ok(())
+}
+
+/// What 193 rules are answered in the fixed storage, in which they have no room in a row, and in the growing one.
+fn check_many_rules(rt: &(impl Abort + AllocGlobal), text: &str, line: &str) -> Result<(), Fail> {
+    let name = "193 rules";
+    let refused = ("refused TooManyRegisterRules", 1);
+    expect(rt, name, "debug_frame le 8 0x1000", text, refused)?;
+    expect(
+        rt,
+        name,
+        "debug_frame le 8 0x1000 store=vec",
+        text,
+        (line, 0),
+    )
+}
+
 #[test]
 fn one_rule_more_than_there_is_room_for(rt: HostRuntime) -> Result<(), Fail> {
     let alloc = rt.alloc();
     let mut text = String::new(alloc);
-    text.push_str("0e000000 ffffffff 04000800 017810 0c0708 d7010000 ")?;
-    text.push_str(RANGE)?;
+    write_many_rules(&mut text, alloc)?;
     let mut line = String::new(alloc);
-    line.push_str("0x1000 0x1020 cfa=r7+8 args=0")?;
-    for register in 0..193u32 {
-        // From 128 on a number takes two bytes.
-        let undefined = if register < 128 {
-            format!(in alloc; " 07{register:02x}")?
-        } else {
-            format!(in alloc; " 07{register:02x}01")?
-        };
-        text.push_str(undefined.as_str())?;
-        let rule = format!(in alloc; " r{register}=undefined")?;
-        line.push_str(rule.as_str())?;
-    }
-    line.push_str("\n")?;
-    let (status, output) = run_text(alloc, "debug_frame le 8 0x1000", text.as_str())?;
-    assert_eq!(rt;
-        output.as_slice(),
-        b"refused TooManyRegisterRules\n".as_slice()
-    );
-    assert_eq!(rt; status, 1);
-    let (status, output) = run_text(alloc, "debug_frame le 8 0x1000 store=vec", text.as_str())?;
-    assert_eq!(rt; str::from_utf8(output.as_slice()), Ok(line.as_str()));
-    assert_eq!(rt; status, 0);
-    Ok(())
+    write_many_rules_line(&mut line, alloc)?;
+    check_many_rules(&rt, text.as_str(), line.as_str())
 }
 
-#[test]
-fn has_room_for_the_longest_part(rt: HostRuntime) -> Result<(), Fail> {
+/// Writes the longest parts of a line, one after the other.
+fn write_longest_parts<W: Write>(output: &mut W) -> io::Result<()> {
     let address = Address(u64::MAX);
     let expression = UnwindExpression {
         offset: usize::MAX,
@@ -258,12 +308,17 @@ fn has_room_for_the_longest_part(rt: HostRuntime) -> Result<(), Fail> {
     };
     let cfa = Cfa(CfaRule::Expression(expression));
     let rule = Rule(RegisterRule::ValExpression(expression));
-    let mut output = Vec::new(rt.alloc());
     write_part(
-        &mut output,
+        output,
         format_args!("{address} {address} cfa={cfa} args={}", u64::MAX),
     )?;
-    write_part(&mut output, format_args!(" r{}={rule}", u16::MAX))?;
+    write_part(output, format_args!(" r{}={rule}", u16::MAX))
+}
+
+#[test]
+fn has_room_for_the_longest_part(rt: HostRuntime) -> Result<(), Fail> {
+    let mut output = Vec::new(rt.alloc());
+    write_longest_parts(&mut output)?;
     let line =
         "0xffffffffffffffff 0xffffffffffffffff cfa=expr@18446744073709551615:18446744073709551615 args=18446744073709551615 r65535=val_expr@18446744073709551615:18446744073709551615";
     assert_eq!(rt; output.as_slice(), line.as_bytes());

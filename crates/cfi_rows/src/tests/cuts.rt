@@ -1,6 +1,6 @@
 //! Inputs that are cut off at every length: each run prints one line, of a row or of a refusal.
 use super::header::LISTED;
-use super::{LIMITS, Table, WORKED, case_of, run_text, written_out};
+use super::{Case, LIMITS, Table, WORKED, case_of, expect, run_text, status_of, written_out};
 use std::alloc::{AllocError, Global};
 use std::process::Abort;
 use std::test::Fail;
@@ -8,7 +8,7 @@ use std::test::Fail;
 /// The section of three rows.
 const THREE_ROWS: &str = "CIE 1c000000 RANGE 41 0e10 8602 43 0d06";
 
-const SECOND_ROW: &str = "0x1001 0x1004 cfa=r7+16 args=0 r6=offset(-16) r16=offset(-8)\n";
+const SECOND_ROW: &str = "0x1001 0x1004 cfa=r7+16 args=0 r6=offset(-16) r16=offset(-8)";
 
 /// The first bytes of a text, without the spaces.
 fn first_bytes(alloc: Global, text: &str, count: usize) -> Result<String, AllocError> {
@@ -38,27 +38,52 @@ fn is_an_answer(status: u8, printed: &str) -> bool {
     rest.is_empty() && line.starts_with(begins)
 }
 
-/// Runs the words with each beginning of the section before what comes after it.
+/// Runs the words of a case over a cut input, and checks what is printed.
+fn check_cut(
+    rt: &(impl Abort + AllocGlobal),
+    case: &Case<'_>,
+    text: &str,
+    count: usize,
+) -> Result<(), Fail> {
+    let (status, output) = run_text(rt.alloc(), case.words, text)?;
+    let printed = str::from_utf8(output.as_slice()).unwrap_or("");
+    assert!(rt;
+        is_an_answer(status, printed),
+        "{}, {count} bytes: {status} {printed}",
+        case.name
+    );
+    Ok(())
+}
+
+/// Runs the words of a case with each beginning of what is cut before what comes after it.
 fn check_cuts(
     rt: &(impl Abort + AllocGlobal),
-    name: &str,
-    words: &str,
+    case: &Case<'_>,
     before: &str,
     cut: &str,
     after: &str,
 ) -> Result<(), Fail> {
-    let alloc = rt.alloc();
     for count in 0..=bytes_in(cut) {
-        let kept = first_bytes(alloc, cut, count)?;
-        let text = format!(in alloc; "{before}{kept}{after}")?;
-        let (status, output) = run_text(alloc, words, text.as_str())?;
-        let printed = str::from_utf8(output.as_slice()).unwrap_or("");
-        assert!(rt;
-            is_an_answer(status, printed),
-            "{name}, {count} bytes: {status} {printed}"
-        );
+        let kept = first_bytes(rt.alloc(), cut, count)?;
+        let text = format!(in rt.alloc(); "{before}{kept}{after}")?;
+        check_cut(rt, case, text.as_str(), count)?;
     }
     Ok(())
+}
+
+/// Cuts the section of an input, and its header where it has one. `before` is the whole section then.
+fn check_input(
+    rt: &(impl Abort + AllocGlobal),
+    case: &Case<'_>,
+    before: &str,
+    text: &str,
+) -> Result<(), Fail> {
+    let Some((section, header)) = text.split_once('\n') else {
+        return check_cuts(rt, case, "", text, "");
+    };
+    let after = format!(in rt.alloc(); "\n{header}")?;
+    check_cuts(rt, case, "", section, after.as_str())?;
+    check_cuts(rt, case, before, header, "")
 }
 
 /// Cuts each section of the table, and each header.
@@ -71,14 +96,7 @@ fn check_table(rt: &(impl Abort + AllocGlobal), table: &Table) -> Result<(), Fai
         if case.input != "same" {
             text = written_out(rt.alloc(), table.before, case.input)?;
         }
-        match text.as_str().split_once('\n') {
-            None => check_cuts(rt, case.name, case.words, "", text.as_str(), "")?,
-            Some((section, header)) => {
-                let after = format!(in rt.alloc(); "\n{header}")?;
-                check_cuts(rt, case.name, case.words, "", section, after.as_str())?;
-                check_cuts(rt, case.name, case.words, table.before, header, "")?;
-            }
-        }
+        check_input(rt, &case, table.before, text.as_str())?;
     }
     Ok(())
 }
@@ -90,25 +108,31 @@ fn each_cut_of_each_input(rt: HostRuntime) -> Result<(), Fail> {
     check_table(&rt, &LISTED)
 }
 
+/// The line of the first bytes of the section.
+fn line_of_cut(count: usize) -> &'static str {
+    match count {
+        0 | 20 => "refused NoUnwindInfoForAddress",
+        52 => SECOND_ROW,
+        _ => "refused UnexpectedEof",
+    }
+}
+
 /// Without an FDE there is no row; within an entry the section ends too early.
 #[test]
 fn each_cut_of_three_rows(rt: HostRuntime) -> Result<(), Fail> {
-    let alloc = rt.alloc();
-    let text = written_out(alloc, "", THREE_ROWS)?;
+    let text = written_out(rt.alloc(), "", THREE_ROWS)?;
     assert_eq!(rt; bytes_in(text.as_str()), 52);
     for count in 0..=52usize {
-        let line = match count {
-            0 | 20 => "refused NoUnwindInfoForAddress\n",
-            52 => SECOND_ROW,
-            _ => "refused UnexpectedEof\n",
-        };
-        let cut = first_bytes(alloc, text.as_str(), count)?;
-        let (_, output) = run_text(alloc, "debug_frame le 8 0x1002", cut.as_str())?;
-        assert_eq!(rt;
-            str::from_utf8(output.as_slice()),
-            Ok(line),
-            "{count} bytes"
-        );
+        let cut = first_bytes(rt.alloc(), text.as_str(), count)?;
+        let line = line_of_cut(count);
+        let answer = (line, status_of(line));
+        expect(
+            &rt,
+            cut.as_str(),
+            "debug_frame le 8 0x1002",
+            cut.as_str(),
+            answer,
+        )?;
     }
     Ok(())
 }

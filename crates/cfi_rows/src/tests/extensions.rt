@@ -1,5 +1,5 @@
 //! Runs with letter `B` in an augmentation string, and with the opcode `DW_CFA_GNU_negative_offset_extended`.
-use super::run_text;
+use super::expect;
 use std::test::Fail;
 
 /// A run over a section of `.debug_frame`: the address, the section, the line without its line feed, and the status.
@@ -65,10 +65,8 @@ const EXTENSIONS: &[Case] = &[
 fn answers_extensions(rt: HostRuntime) -> Result<(), Fail> {
     for case in EXTENSIONS {
         let words = format!(in rt.alloc(); "debug_frame le 8 {}", case.address)?;
-        let (status, output) = run_text(rt.alloc(), words.as_str(), case.section)?;
-        let line = format!(in rt.alloc(); "{}\n", case.line)?;
-        assert_eq!(rt; output.as_slice(), line.as_bytes(), "{}", case.section);
-        assert_eq!(rt; status, case.status, "{}", case.section);
+        let answer = (case.line, case.status);
+        expect(&rt, case.section, words.as_str(), case.section, answer)?;
     }
     Ok(())
 }

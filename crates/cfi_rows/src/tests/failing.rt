@@ -1,7 +1,9 @@
 //! Runs whose words are missing, or whose input or output fails.
 use cfi_rows_run::run::run;
+use std::alloc::Global;
 use std::io;
 use std::io::{ErrorKind, Read, Write};
+use std::process::Abort;
 
 const WORDS: &[&str] = &["debug_frame", "le", "8", "0x1000"];
 
@@ -78,13 +80,29 @@ impl Write for RefusesAt {
     }
 }
 
+/// What a run prints, and its status.
+fn printed<R: Read>(alloc: Global, words: Option<&[&str]>, input: &mut R) -> (Vec<u8>, u8) {
+    let mut output = Vec::new(alloc);
+    let status = run(alloc, words, input, &mut output);
+    (output, status)
+}
+
+/// How many bytes of a section's line an output takes, and the status of the run.
+fn taken(alloc: Global, section: &[u8], output: RefusesAt) -> (usize, u8) {
+    let mut input = section;
+    let mut output = output;
+    let status = run(alloc, Some(WORDS), &mut input, &mut output);
+    (output.taken, status)
+}
+
 #[test]
 fn missing_words(rt: HostRuntime) {
     let mut input: &[u8] = b"";
-    let mut output = Vec::new(rt.alloc());
-    let status = run(rt.alloc(), None, &mut input, &mut output);
-    assert_eq!(rt; status, 2);
-    assert_eq!(rt; output.as_slice(), b"wrong words\n".as_slice());
+    let (output, status) = printed(rt.alloc(), None, &mut input);
+    assert_eq!(rt;
+        (output.as_slice(), status),
+        (b"wrong words\n".as_slice(), 2)
+    );
 }
 
 #[test]
@@ -95,64 +113,81 @@ fn wrong_words_before_a_failed_read(rt: HostRuntime) {
         calls: 0,
         kind: ErrorKind::Other,
     };
-    let mut output = Vec::new(rt.alloc());
-    let status = run(rt.alloc(), Some(words), &mut input, &mut output);
-    assert_eq!(rt; status, 2);
-    assert_eq!(rt; output.as_slice(), b"wrong words\n".as_slice());
+    let (output, status) = printed(rt.alloc(), Some(words), &mut input);
+    assert_eq!(rt;
+        (output.as_slice(), status),
+        (b"wrong words\n".as_slice(), 2)
+    );
+}
+
+/// Words and inputs that are no hexadecimal, in the section or in the header.
+const NO_HEXADECIMAL: [(&[&str], &[u8]); 2] = [
+    (WORDS, b"0g"),
+    (WORDS_WITH_HEADER, b"00000000\n01 1b 03 fg"),
+];
+
+/// The line of an input of so many bytes that is no hexadecimal, where so many reads come before one that fails.
+fn line_after(reads: usize, bytes: usize) -> &'static [u8] {
+    if reads <= bytes {
+        b"wrong input\n"
+    } else {
+        b"wrong hexadecimal\n"
+    }
+}
+
+/// Fails at each call, and last reads the input to its end.
+fn check_reads(
+    rt: &(impl Abort + AllocGlobal),
+    words: &[&str],
+    bytes: &'static [u8],
+    kind: ErrorKind,
+) {
+    for calls in 0..bytes.len() + 2 {
+        let mut input = FailsAt { bytes, calls, kind };
+        let (output, status) = printed(rt.alloc(), Some(words), &mut input);
+        let expected = (line_after(calls, bytes.len()), 2);
+        assert_eq!(rt; (output.as_slice(), status), expected, "{calls} reads");
+    }
 }
 
 /// Read to its end the input is no hexadecimal, in the section or in the header.
 #[test]
 fn a_failed_read(rt: HostRuntime) {
-    let inputs: [(&[&str], &'static [u8]); 2] = [
-        (WORDS, b"0g"),
-        (WORDS_WITH_HEADER, b"00000000\n01 1b 03 fg"),
-    ];
-    for (words, bytes) in inputs {
-        for kind in [ErrorKind::Other, ErrorKind::Interrupted] {
-            for calls in 0..bytes.len() + 2 {
-                let mut input = FailsAt { bytes, calls, kind };
-                let mut output = Vec::new(rt.alloc());
-                let status = run(rt.alloc(), Some(words), &mut input, &mut output);
-                let line: &[u8] = if calls <= bytes.len() {
-                    b"wrong input\n"
-                } else {
-                    b"wrong hexadecimal\n"
-                };
-                assert_eq!(rt; output.as_slice(), line, "{calls} reads");
-                assert_eq!(rt; status, 2, "{calls} reads");
-            }
-        }
+    for (words, bytes) in &NO_HEXADECIMAL {
+        check_reads(&rt, words, bytes, ErrorKind::Other);
+        check_reads(&rt, words, bytes, ErrorKind::Interrupted);
     }
 }
+
+/// Sections, their lines and the statuses of those.
+const WRITTEN: [(&[u8], &[u8], u8); 2] = [
+    (SECTION, ROW, 0),
+    (b"", b"refused NoUnwindInfoForAddress\n", 1),
+];
 
 /// At each byte of a row's line or of a refusal's, the line feed among them. An interrupted write is tried again.
 #[test]
 fn a_failed_write(rt: HostRuntime) {
-    let refused = b"refused NoUnwindInfoForAddress\n".as_slice();
-    for (section, line, status) in [(SECTION, ROW, 0), (b"".as_slice(), refused, 1)] {
+    for (section, line, status) in &WRITTEN {
         for calls in 0..line.len() {
-            let mut input = section;
-            let mut output = RefusesAt::call(calls, ErrorKind::Other);
-            let ended = run(rt.alloc(), Some(WORDS), &mut input, &mut output);
-            assert_eq!(rt; ended, 2, "{calls} bytes");
-            assert_eq!(rt; output.taken, calls, "{calls} bytes");
-            let mut input = section;
-            let mut output = RefusesAt::call(calls, ErrorKind::Interrupted);
-            let ended = run(rt.alloc(), Some(WORDS), &mut input, &mut output);
-            assert_eq!(rt; ended, status, "interrupted after {calls} bytes");
-            assert_eq!(rt; output.taken, line.len(), "interrupted after {calls} bytes");
+            let failed = taken(
+                rt.alloc(),
+                section,
+                RefusesAt::call(calls, ErrorKind::Other),
+            );
+            let interrupted = RefusesAt::call(calls, ErrorKind::Interrupted);
+            let repeated = taken(rt.alloc(), section, interrupted);
+            let expected = ((calls, 2), (line.len(), *status));
+            assert_eq!(rt; (failed, repeated), expected, "{calls} bytes");
         }
     }
 }
 
 #[test]
 fn a_failed_flush(rt: HostRuntime) {
-    for (section, line) in [(SECTION, ROW.len()), (b"".as_slice(), 31)] {
-        let mut input = section;
+    for (section, line, _) in &WRITTEN {
         let mut output = RefusesAt::call(usize::MAX, ErrorKind::Other);
         output.fails_to_flush = true;
-        assert_eq!(rt; run(rt.alloc(), Some(WORDS), &mut input, &mut output), 2);
-        assert_eq!(rt; output.taken, line);
+        assert_eq!(rt; taken(rt.alloc(), section, output), (line.len(), 2));
     }
 }

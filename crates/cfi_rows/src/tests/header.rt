@@ -1,5 +1,5 @@
 //! Runs with a header after the first line.
-use super::{Table, check, run_text};
+use super::{Table, check, expect};
 use std::test::Fail;
 
 /// The first line: a section of three FDEs.
@@ -55,21 +55,23 @@ fn by_a_header(rt: HostRuntime) -> Result<(), Fail> {
     check(&rt, &BIG_ENDIAN, "")
 }
 
+/// Inputs, their lines and the statuses of those.
+const PARTS: [(&str, &str, u8); 3] = [
+    ("0\n0", "wrong hexadecimal", 2),
+    ("00", "refused UnexpectedEof", 1),
+    (
+        "\n01 1b\n03 ff fc00\n0000",
+        "refused NoUnwindInfoForAddress",
+        1,
+    ),
+];
+
 /// The section ends with the first line, and each part is hexadecimal by itself.
 #[test]
 fn parts_at_the_first_line_feed(rt: HostRuntime) -> Result<(), Fail> {
     let words = "eh_frame le 8 0x1018 section=0x2000 header=0x1f00";
-    let inputs: [(&str, &str); 3] = [
-        ("0\n0", "wrong hexadecimal\n"),
-        ("00", "refused UnexpectedEof\n"),
-        (
-            "\n01 1b\n03 ff fc00\n0000",
-            "refused NoUnwindInfoForAddress\n",
-        ),
-    ];
-    for (input, line) in inputs {
-        let (_, output) = run_text(rt.alloc(), words, input)?;
-        assert_eq!(rt; str::from_utf8(output.as_slice()), Ok(line), "{input}");
+    for (input, line, status) in &PARTS {
+        expect(&rt, input, words, input, (line, *status))?;
     }
     Ok(())
 }
