@@ -79,16 +79,26 @@ debug_frame le 8 section=0x2000 | wrong words
 debug_frame le 8 section=0x2000 header=0x1f00 | wrong words
 ";
 
-const THREE: (&str, &str) = ("CIE FDE1 FDE2 FDE3", "HEADER 03000000 ROW1 ROW2 ROW3");
+/// The section of three FDEs.
+const THREE_FDES: &str = "CIE FDE1 FDE2 FDE3";
+
+/// The header with their rows.
+const THREE_ROWS: &str = "HEADER 03000000 ROW1 ROW2 ROW3";
+
+/// What a word of a table stands for.
+fn bytes_of(word: &str) -> &str {
+    for (name, bytes) in &NAMES {
+        if *name == word {
+            return bytes;
+        }
+    }
+    word
+}
 
 /// Adds what the words of a part of the input stand for.
 fn write_out(text: &mut String, part: &str) -> Result<(), AllocError> {
     for word in part.split(' ') {
-        let named = NAMES.iter().find(|(name, _)| *name == word);
-        match named {
-            Some((_, bytes)) => text.push_str(bytes)?,
-            None => text.push_str(word)?,
-        }
+        text.push_str(bytes_of(word))?;
         text.push_str(" ")?;
     }
     Ok(())
@@ -105,12 +115,26 @@ fn status_of(line: &str) -> u8 {
     }
 }
 
+/// Adds the section in the first line, and the header after it.
+fn write_input(text: &mut String, section: &str, header: &str) -> Result<(), AllocError> {
+    write_out(text, section)?;
+    text.push_str("\n")?;
+    write_out(text, header)
+}
+
 fn input_of(alloc: Global, section: &str, header: &str) -> Result<String, AllocError> {
     let mut text = String::new(alloc);
-    write_out(&mut text, section)?;
-    text.push_str("\n")?;
-    write_out(&mut text, header)?;
+    write_input(&mut text, section, header)?;
     Ok(text)
+}
+
+/// Runs the program, and answers what it prints, and its status.
+fn printed(alloc: Global, words: &str, text: &str) -> Result<(Vec<u8>, u8), AllocError> {
+    let words: Vec<&str> = words.split(' ').collect(alloc)?;
+    let mut input = text.as_bytes();
+    let mut output = Vec::new(alloc);
+    let status = run(alloc, Some(words.as_slice()), &mut input, &mut output);
+    Ok((output, status))
 }
 
 /// Runs the program, and compares its line and its status.
@@ -120,32 +144,44 @@ fn expect(
     text: &str,
     line: &str,
 ) -> Result<(), Fail> {
-    let alloc = rt.alloc();
-    let words: Vec<&str> = words.split(' ').collect(alloc)?;
-    let mut input = text.as_bytes();
-    let mut output = Vec::new(alloc);
-    let status = run(alloc, Some(words.as_slice()), &mut input, &mut output);
-    let whole = format!(in alloc; "{line}\n")?;
-    assert_eq!(rt; str::from_utf8(output.as_slice()), Ok(whole.as_str()));
-    assert_eq!(rt; status, status_of(line), "{line}");
+    let (output, status) = printed(rt.alloc(), words, text)?;
+    let whole = format!(in rt.alloc(); "{line}\n")?;
+    assert_eq!(rt;
+        (str::from_utf8(output.as_slice()), status),
+        (Ok(whole.as_str()), status_of(line))
+    );
     Ok(())
+}
+
+/// The section, the header and the line of a case; none of an empty line.
+fn case_of(case: &str) -> Option<(&str, &str, &str)> {
+    let (_name, rest) = case.split_once('|')?;
+    let (section, rest) = rest.split_once('|')?;
+    let (header, line) = rest.split_once('|')?;
+    Some((section.trim(), header.trim(), line.trim()))
 }
 
 /// Runs each case of a table.
 fn expect_each(rt: &(impl Abort + AllocGlobal), cases: &str) -> Result<(), Fail> {
     for case in cases.lines() {
-        let mut parts = case.split('|').map(|part| part.trim());
-        let _name = parts.next();
-        if let (Some(section), Some(header), Some(line)) = (
-            parts.next(),
-            parts.next(),
-            parts.next(),
-        ) {
-            let text = input_of(rt.alloc(), section, header)?;
-            expect(rt, WORDS, text.as_str(), line)?;
-        } else {
+        let Some((section, header, line)) = case_of(case) else {
             assert_eq!(rt; case, "");
-        }
+            continue;
+        };
+        let text = input_of(rt.alloc(), section, header)?;
+        expect(rt, WORDS, text.as_str(), line)?;
+    }
+    Ok(())
+}
+
+/// Runs each case of a table of words over one input.
+fn expect_worded(rt: &(impl Abort + AllocGlobal), cases: &str, text: &str) -> Result<(), Fail> {
+    for case in cases.lines() {
+        let Some((words, line)) = case.split_once('|') else {
+            assert_eq!(rt; case, "");
+            continue;
+        };
+        expect(rt, words.trim(), text, line.trim())?;
     }
     Ok(())
 }
@@ -162,16 +198,8 @@ fn each_fault(rt: HostRuntime) -> Result<(), Fail> {
 
 #[test]
 fn words_of_a_check(rt: HostRuntime) -> Result<(), Fail> {
-    let text = input_of(rt.alloc(), THREE.0, THREE.1)?;
-    for case in WORDED.lines() {
-        let mut parts = case.split('|').map(|part| part.trim());
-        if let (Some(words), Some(line)) = (parts.next(), parts.next()) {
-            expect(&rt, words, text.as_str(), line)?;
-        } else {
-            assert_eq!(rt; case, "");
-        }
-    }
-    Ok(())
+    let text = input_of(rt.alloc(), THREE_FDES, THREE_ROWS)?;
+    expect_worded(&rt, WORDED, text.as_str())
 }
 
 #[test]
@@ -187,8 +215,11 @@ fn big_endian(rt: HostRuntime) -> Result<(), Fail> {
 fn missing_words(rt: HostRuntime) {
     let mut input: &[u8] = b"";
     let mut output = Vec::new(rt.alloc());
-    assert_eq!(rt; run(rt.alloc(), None, &mut input, &mut output), 2);
-    assert_eq!(rt; output.as_slice(), b"wrong words\n".as_slice());
+    let status = run(rt.alloc(), None, &mut input, &mut output);
+    assert_eq!(rt;
+        (output.as_slice(), status),
+        (b"wrong words\n".as_slice(), 2)
+    );
 }
 
 /// Takes so many bytes, one a call, and then fails; where it fails to flush, it fails then alone.
@@ -215,33 +246,60 @@ impl Write for Failing {
     }
 }
 
+/// The status of a run over a failing output.
+fn ended(alloc: Global, words: &[&str], text: &str, output: Failing) -> u8 {
+    let mut input = text.as_bytes();
+    let mut output = output;
+    run(alloc, Some(words), &mut input, &mut output)
+}
+
+/// Runs the program over outputs that take each number of bytes; `status` is that of a whole line.
+fn check_outputs(
+    rt: &(impl Abort + AllocGlobal),
+    words: &[&str],
+    text: &str,
+    line: &str,
+    status: u8,
+) {
+    for room in 0..line.len() + 2 {
+        let flushed = Failing {
+            room,
+            fails_to_flush: false,
+        };
+        let not_flushed = Failing {
+            room,
+            fails_to_flush: true,
+        };
+        let statuses = (
+            ended(rt.alloc(), words, text, flushed),
+            ended(rt.alloc(), words, text, not_flushed),
+        );
+        let whole = room == line.len() + 1;
+        assert_eq!(rt;
+            statuses,
+            (if whole { status } else { 2 }, 2),
+            "{room} bytes"
+        );
+    }
+}
+
+/// Headers of the three FDEs, their lines and the statuses of those.
+const CHECKED: [(&str, &str, u8); 2] = [
+    (THREE_ROWS, "faithful 3", 0),
+    (
+        "HEADER 02000000 ROW1 ROW2",
+        "FDE 0x40: no row starts at 0x1020 and leads to it",
+        1,
+    ),
+];
+
 /// Status 2, at each byte of a line and at the flush, of a faithful table and of a fault.
 #[test]
 fn a_failed_write(rt: HostRuntime) -> Result<(), Fail> {
-    let alloc = rt.alloc();
-    let words: Vec<&str> = WORDS.split(' ').collect(alloc)?;
-    let faithful = input_of(alloc, THREE.0, THREE.1)?;
-    let unfaithful = input_of(alloc, THREE.0, "HEADER 02000000 ROW1 ROW2")?;
-    for (text, line, status) in [
-        (faithful.as_str(), "faithful 3", 0),
-        (
-            unfaithful.as_str(),
-            "FDE 0x40: no row starts at 0x1020 and leads to it",
-            1,
-        ),
-    ] {
-        for room in 0..line.len() + 2 {
-            for fails_to_flush in [false, true] {
-                let mut input = text.as_bytes();
-                let mut output = Failing {
-                    room,
-                    fails_to_flush,
-                };
-                let ended = run(alloc, Some(words.as_slice()), &mut input, &mut output);
-                let whole = room == line.len() + 1 && !fails_to_flush;
-                assert_eq!(rt; ended, if whole { status } else { 2 }, "{room} bytes");
-            }
-        }
+    let words: Vec<&str> = WORDS.split(' ').collect(rt.alloc())?;
+    for (header, line, status) in &CHECKED {
+        let text = input_of(rt.alloc(), THREE_FDES, header)?;
+        check_outputs(&rt, words.as_slice(), text.as_str(), line, *status);
     }
     Ok(())
 }
