@@ -50,11 +50,11 @@ fn run_bytes(alloc: Global, words: &str, input: &[u8]) -> Result<(u8, Vec<u8>), 
 fn prints(
     rt: &(impl Abort + AllocGlobal),
     words: &str,
-    input: &str,
+    input: &[u8],
     text: &str,
     status: u8,
 ) -> Result<(), Fail> {
-    let (answered, output) = run_bytes(rt.alloc(), words, input.as_bytes())?;
+    let (answered, output) = run_bytes(rt.alloc(), words, input)?;
     assert_eq!(rt;
         (str::from_utf8(output.as_slice()), answered),
         (Ok(text), status),
@@ -63,16 +63,18 @@ fn prints(
     Ok(())
 }
 
+/// Words, sections and what is printed of them.
+const WORKED: [(&str, &str, &str); 4] = [
+    ("debug_frame le 8", THREE_ROWS, THREE_ROWS_PRINTED),
+    ("debug_frame le 8 input=hex", REFUSED, REFUSED_PRINTED),
+    ("eh_frame le 8 section=0x2000", LETTERS, LETTERS_PRINTED),
+    ("eh_frame be 4", "", ""),
+];
+
 #[test]
 fn worked_sections(rt: HostRuntime) -> Result<(), Fail> {
-    let sections = [
-        ("debug_frame le 8", THREE_ROWS, THREE_ROWS_PRINTED),
-        ("debug_frame le 8 input=hex", REFUSED, REFUSED_PRINTED),
-        ("eh_frame le 8 section=0x2000", LETTERS, LETTERS_PRINTED),
-        ("eh_frame be 4", "", ""),
-    ];
-    for (words, input, text) in sections {
-        prints(&rt, words, input, text, 0)?;
+    for (words, input, text) in &WORKED {
+        prints(&rt, words, input.as_bytes(), text, 0)?;
     }
     Ok(())
 }
@@ -82,37 +84,37 @@ fn entries_that_are_refused(rt: HostRuntime) -> Result<(), Fail> {
     prints(
         &rt,
         "debug_frame le 8",
-        "0500",
+        b"0500",
         "refused UnexpectedEof\n",
         0,
     )?;
     prints(
         &rt,
         "eh_frame le 8",
-        "04000000 04000000",
+        b"04000000 04000000",
         "fde 0x0 length=4\nrefused NotCieId\n",
         0,
     )
 }
 
+const WRONG_WORDS: [&str; 4] = [
+    "debug_frame le",
+    "debug_frame le 3",
+    "eh_frame le 8 header=1",
+    "eh_frame le 8 input=octal",
+];
+
 #[test]
 fn wrong_words_and_input(rt: HostRuntime) -> Result<(), Fail> {
-    for words in [
-        "debug_frame le",
-        "debug_frame le 3",
-        "eh_frame le 8 header=1",
-        "eh_frame le 8 input=octal",
-    ] {
-        prints(&rt, words, "", "wrong words\n", 2)?;
+    for words in &WRONG_WORDS {
+        prints(&rt, words, b"", "wrong words\n", 2)?;
     }
-    prints(&rt, "eh_frame le 8", "0", "wrong hexadecimal\n", 2)
+    prints(&rt, "eh_frame le 8", b"0", "wrong hexadecimal\n", 2)
 }
 
 /// The bytes of an input are the section as it stands.
 #[test]
 fn bytes(rt: HostRuntime) -> Result<(), Fail> {
-    let (status, output) = run_bytes(rt.alloc(), "debug_frame le 8 input=bytes", &[5, 0])?;
-    assert_eq!(rt; output.as_slice(), b"refused UnexpectedEof\n".as_slice());
-    assert_eq!(rt; status, 0);
-    Ok(())
+    let words = "debug_frame le 8 input=bytes";
+    prints(&rt, words, &[5, 0], "refused UnexpectedEof\n", 0)
 }
