@@ -1,6 +1,6 @@
 -- The rows of an FDE, written one after the other.
 use Rattle.std.proofs.Common.{◌≡◌, ℕ, ◌+◌, ◌<◌, Bool, true, false, cond, List, [], ◌∷◌, ◌++◌, length, Option, Some, None, is_some, Result, Ok, Err, refl, sym, ap, ◌∙◌, subst, arith, append-nil}
-use Rattle.std.specs.Option.{option_map}
+use Rattle.std.specs.Option.{IsSome, option_map}
 use Rattle.std.specs.Result.{result_transpose}
 use Rattle.std.specs.Borrow.{Bor}
 use Rattle.std.specs.Io.KnownBytes.{Appends}
@@ -28,8 +28,8 @@ use Rattle.cfi_entry.specs.Sections.{Section}
 use Rattle.cfi_unwind.specs.UnwindTableCalls.{AnswersWithoutMachine, KeepsCieProgram, LendsNextRow}
 use Rattle.cfi_program.specs.Lines.{refusal_line}
 use Rattle.cfi_program.specs.RowLines.{answer_line}
-use Rattle.cfi_program.specs.WriterOutput.{IsBeginning}
-use Rattle.cfi_program.proofs.WrittenLemmas.{IsGiven, given_first, given_then, given_all, beginning_then}
+use Rattle.cfi_program.specs.WriterOutput.{IsBeginning, Writes}
+use Rattle.cfi_program.proofs.WrittenLemmas.{IsGiven, given_then, given_all, beginning_then}
 use Rattle.cfi_dump_run.specs.SectionTexts.{setting_of_fde, fde_rows, lines}
 
 -- ---- the answers of a table
@@ -81,28 +81,28 @@ pub record StandsAt (s : Setting) (p : TableState (State ℕ) ℕ) (old now : Op
   pub after : IsStateAfter s p.so_far program
   pub given : IsGiven old now (lines (answers_to_come s (at_program p program))) text
 
-module _ (fde : Fde) where
-  never : AreNever {T = ℕ} (may_allocate (setting_of_fde fde) true)
-  never = fixed_never (setting_of_fde fde) true refl refl refl
+module _ (t : Setting) (p q : TableState (State ℕ) ℕ) (r : Lent) (context : ContextState ℕ) (holds : Bool) (lent : LendsNextRow as_it_is t true p r q context holds) where
+  pub fewer_after : (answer : Result (Bor (Row ℕ)) Error) → result_transpose r ≡ Some answer → answers_left q < answers_left p
+  fewer_after answer is = fewer_left (may_allocate t true) t p (numbered r) q lent.next (some_answer r answer is)
 
-  module _ (t : Setting) (same : t ≡ setting_of_fde fde) (p q : TableState (State ℕ) ℕ) (r : Lent) (context : ContextState ℕ) (holds : Bool) (lent : LendsNextRow as_it_is t true p r q context holds) where
-    abbrev kept : AnswersWithoutMachine (setting_of_fde fde) true p (numbered r) q
+-- over a fixed storage
+module _ (s : Setting) (rules : IsSome s.rule_limit) (stack : IsSome s.stack_limit) where
+  never : AreNever {T = ℕ} (may_allocate s true)
+  never = fixed_never s true rules stack refl
+
+  module _ (t : Setting) (same : t ≡ s) (p q : TableState (State ℕ) ℕ) (r : Lent) (context : ContextState ℕ) (holds : Bool) (lent : LendsNextRow as_it_is t true p r q context holds) where
+    abbrev kept : AnswersWithoutMachine s true p (numbered r) q
     kept = subst (λ x. AnswersWithoutMachine x true p (numbered r) q) same lent.kept
 
-    pub fewer_after : (answer : Result (Bor (Row ℕ)) Error) → result_transpose r ≡ Some answer → answers_left q < answers_left p
-    fewer_after answer is = fewer_left (may_allocate t true) t p (numbered r) q lent.next (some_answer r answer is)
-
-    module _ (old now : Option (List ℕ)) (text : List ℕ) (stands : StandsAt (setting_of_fde fde) p old now text) where
+    module _ (old now : Option (List ℕ)) (text : List ℕ) (stands : StandsAt s p old now text) where
       abbrev next_program : Program ℕ
       next_program = (kept.from stands.program stands.after).0
 
       abbrev left : List (Result (Row ℕ) Error)
-      left = answers_to_come (setting_of_fde fde) (at_program q next_program)
+      left = answers_to_come s (at_program q next_program)
 
-      comes : IsNext (answers_to_come (setting_of_fde fde) (at_program p stands.program)) (numbered r) left
-      comes =
-          kept_next_is (may_allocate (setting_of_fde fde) true) (setting_of_fde fde) never (at_program p stands.program) (numbered r) (at_program q next_program)
-          (kept.from stands.program stands.after).1
+      comes : IsNext (answers_to_come s (at_program p stands.program)) (numbered r) left
+      comes = kept_next_is (may_allocate s true) s never (at_program p stands.program) (numbered r) (at_program q next_program) (kept.from stands.program stands.after).1
 
       pub all_written : result_transpose r ≡ None → Appends old now text
       all_written is = given_all old now _ text stands.given (no_line _ left r is comes)
@@ -114,7 +114,7 @@ module _ (fde : Fde) where
         to_write : IsGiven old now (part ++ lines left) text
         to_write = subst (λ xs. IsGiven old now xs text) (first_line _ left r answer is comes) stands.given
 
-        pub line_written : (newer : Option (List ℕ)) → Appends now newer part → StandsAt (setting_of_fde fde) q old newer text
+        pub line_written : (newer : Option (List ℕ)) → Appends now newer part → StandsAt s q old newer text
         line_written newer more = record {
           program = next_program;
           after = (kept.from stands.program stands.after).2;
@@ -124,27 +124,29 @@ module _ (fde : Fde) where
         pub line_begun : (newer : Option (List ℕ)) → ((front : List ℕ) × Appends now newer front × IsBeginning front part) → (front : List ℕ) × Appends old newer front × IsBeginning front text
         line_begun newer begun = beginning_then old now newer part (lines left) text to_write begun
 
-  -- ---- the first of them
+-- ---- the rows of an FDE
 
-  module _ (section : Section) where
-    abbrev cie : Readings Instruction
-    cie = cie_instructions section fde.cie
+module _ (fde : Fde) (section : Section) where
+  abbrev cie : Readings Instruction
+  cie = cie_instructions section fde.cie
 
-    pub before_rows : (p : TableState (State ℕ) ℕ) (old : Option (List ℕ)) → KeepsCieProgram (setting_of_fde fde) true cie (Ok p.so_far) → p.left ≡ fde_instructions section fde → p.has_ended ≡ false
-        → StandsAt (setting_of_fde fde) p old old (lines (fde_rows section fde))
-    before_rows p old (all, keeps, stands) is runs =
-        let accepted = accepted_value (cie_refusal (setting_of_fde fde) cie) cie.values all (kept_cie_is (may_allocate (setting_of_fde fde) true) (setting_of_fde fde) never cie (Ok all) keeps) in
-        let rows : fde_rows section fde ≡ answers_to_come (setting_of_fde fde) (at_program p (in_fde all [])) =
-        ap (on_option (answers (setting_of_fde fde) (in_fde cie.values []) (fde_instructions section fde)) (λ e. Err e ∷ [])) accepted.0
-        ∙ (λ k. cond (sym runs k) [] (answers (setting_of_fde fde) (in_fde (sym accepted.1 k) []) (sym is k))) in
-        record {
-          program = in_fde all [];
-          after = stands;
-          given = subst (λ xs. IsGiven old old (lines xs) (lines (fde_rows section fde))) rows (given_first old (lines (fde_rows section fde)));
-        }
+  never_of_fde : AreNever {T = ℕ} (may_allocate (setting_of_fde fde) true)
+  never_of_fde = never (setting_of_fde fde) refl refl
 
-    pub refused_rows : (e : Error) → KeepsCieProgram (setting_of_fde fde) true cie (Err e) → (refusal_line e).text ≡ lines (fde_rows section fde)
-    refused_rows e keeps =
-        let refused = refused_error (cie_refusal (setting_of_fde fde) cie) cie.values e (kept_cie_is (may_allocate (setting_of_fde fde) true) (setting_of_fde fde) never cie (Err e) keeps) in
-        sym (append-nil (refusal_line e).text)
-        ∙ ap (λ o. lines (on_option (answers (setting_of_fde fde) (in_fde cie.values []) (fde_instructions section fde)) (λ d. Err d ∷ []) o)) (sym refused)
+  -- what is written of a table that stands after the CIE's program
+  pub rows_written : {T E : Type 0} (t : Setting) (p : TableState (State ℕ) ℕ) (old new : Option (List ℕ)) (r : Result T E) → t ≡ setting_of_fde fde
+      → KeepsCieProgram (setting_of_fde fde) true cie (Ok p.so_far) → p.left ≡ fde_instructions section fde → p.has_ended ≡ false
+      → ((program : Program ℕ) → IsStateAfter t p.so_far program → Writes old new r (lines (answers_to_come t (at_program p program)))) → Writes old new r (lines (fde_rows section fde))
+  rows_written t p old new r same (all, keeps, stands) is runs written =
+      let accepted = accepted_value (cie_refusal (setting_of_fde fde) cie) cie.values all (kept_cie_is (may_allocate (setting_of_fde fde) true) (setting_of_fde fde) never_of_fde cie (Ok all) keeps) in
+      let rows : fde_rows section fde ≡ answers_to_come (setting_of_fde fde) (at_program p (in_fde all [])) =
+      ap (on_option (answers (setting_of_fde fde) (in_fde cie.values []) (fde_instructions section fde)) (λ e. Err e ∷ [])) accepted.0
+      ∙ (λ k. cond (sym runs k) [] (answers (setting_of_fde fde) (in_fde (sym accepted.1 k) []) (sym is k))) in
+      let each = subst (λ s. (program : Program ℕ) → IsStateAfter s p.so_far program → Writes old new r (lines (answers_to_come s (at_program p program)))) same written in
+      subst (λ xs. Writes old new r (lines xs)) (sym rows) (each (in_fde all []) stands)
+
+  pub refused_rows : (e : Error) → KeepsCieProgram (setting_of_fde fde) true cie (Err e) → (refusal_line e).text ≡ lines (fde_rows section fde)
+  refused_rows e keeps =
+      let refused = refused_error (cie_refusal (setting_of_fde fde) cie) cie.values e (kept_cie_is (may_allocate (setting_of_fde fde) true) (setting_of_fde fde) never_of_fde cie (Err e) keeps) in
+      sym (append-nil (refusal_line e).text)
+      ∙ ap (λ o. lines (on_option (answers (setting_of_fde fde) (in_fde cie.values []) (fde_instructions section fde)) (λ d. Err d ∷ []) o)) (sym refused)

@@ -1,5 +1,5 @@
 -- The text of a section's entries, one after the other.
-use Rattle.std.proofs.Common.{◌≡◌, ℕ, List, [], ◌∷◌, ◌++◌, map, Option, Some, None, Result, Ok, Err, refl, sym, ap, ◌∙◌, subst, append_assoc, append-nil}
+use Rattle.std.proofs.Common.{◌≡◌, ℕ, List, [], ◌∷◌, ◌++◌, map, Option, Some, None, Result, Ok, Err, IfOk, refl, sym, ap, ◌∙◌, subst, append_assoc, append-nil}
 use Rattle.std.specs.Prelude.{flat_map}
 use Rattle.std.specs.Result.{IsErr}
 use Rattle.std.specs.Io.KnownBytes.{Appends}
@@ -10,12 +10,15 @@ use Rattle.cfi_parts.specs.InstructionReaders.{items, refusal_item}
 use Rattle.cfi_parts.specs.declared.pointer.BaseAddresses.{BaseAddresses}
 use Rattle.cfi_entry.specs.Entries.{Entry, entries_left}
 use Rattle.cfi_entry.specs.Fdes.{Fde, PartialFde}
+use Rattle.cfi_unwind.specs.EntryViews.{OfEither}
 use Rattle.cfi_unwind.specs.Scan.{read_fde}
+use Rattle.cfi_unwind.specs.declared.entry.entries.EntryFields.{EntryFields}
+use Rattle.cfi_unwind.specs.declared.entry.entries.EntryFields.TheVariants as code
 use Rattle.cfi_entry.specs.Sections.{Section, section_of}
 use Rattle.cfi_program.specs.Lines.{refusal_line}
 use Rattle.cfi_program.specs.WriterOutput.{IsBeginning, Writes}
 use Rattle.cfi_program.proofs.WrittenLemmas.{IsGiven, beginning_then, given_all, given_first, given_then, writes_last, writes_refused}
-use Rattle.cfi_dump_run.specs.SectionTexts.{entry_text, entries_text, fde_text, refusal_text}
+use Rattle.cfi_dump_run.specs.SectionTexts.{entry_text, entries_text, fde_text, item_text, refusal_text}
 
 -- ---- a text of two parts
 
@@ -32,11 +35,6 @@ pub as_read : {T E : Type 0} (old new : Option (List ℕ)) (r : Result T E) (sec
 as_read old new r section found reading is written = subst (λ x. Writes old new r (fde_text section found x)) is written
 
 -- ---- a section's entries
-
--- what a walk through the entries answers next
-abbrev pub item_text : Section → Result Entry Error → List ℕ
-item_text section (Ok entry) = entry_text section entry
-item_text section (Err e) = (refusal_line e).text
 
 module _ (section : Section) where
   item_by_item : (values : List Entry) (refusal : Option Error) →
@@ -57,6 +55,13 @@ module _ (section : Section) where
   one_more : (before after : Readings Entry) (item : Result Entry Error) → items before ≡ item ∷ items after → entries_text section before ≡ item_text section item ++ entries_text section after
   one_more before after item is =
       by_items before ∙ ap (flat_map (item_text section)) is ∙ ap (λ xs. item_text section item ++ xs) (sym (by_items after))
+
+-- an entry's FDE is of the section, whatever holds of a CIE
+pub of_section : {C F S : Type 0} (P : C → Type 0) (section_of_fde : F → S) (bases_of_fde : F → BaseAddresses) (s t : S) (a b : BaseAddresses) (item : Result (EntryFields C F) Error) → s ≡ t → a ≡ b
+    → IfOk item (OfEither P (λ f. (section_of_fde f ≡ s) × (bases_of_fde f ≡ a))) → IfOk item (OfEither (λ _. Unit {0}) (λ f. (section_of_fde f ≡ t) × (bases_of_fde f ≡ b)))
+of_section P section_of_fde bases_of_fde s t a b (Ok (code.Cie cie)) same based h = tt
+of_section P section_of_fde bases_of_fde s t a b (Ok (code.Fde partial)) same based h = (h.0 ∙ same, h.1 ∙ based)
+of_section P section_of_fde bases_of_fde s t a b (Err e) same based h = tt
 
 -- an iterator over the section, at s and then at t
 module _ {S : Type 0} (view : S → SectionView) (section : S) (bases : BaseAddresses) (old now : Option (List ℕ)) (text : List ℕ) where

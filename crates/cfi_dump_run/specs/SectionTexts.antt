@@ -2,6 +2,7 @@
 --     fde_rows section fde      the rows of an FDE, and the refusals among them, in order
 --     lines answers      a line for each
 --     entry_text section entry      an entry, and after an FDE its rows
+--     item_text section item      an entry or a refusal
 --     section_text section      all entries in order
 use Rattle.std.specs.Prelude.{ℕ, Option, Some, None, List, [], ◌∷◌, ◌++◌, Result, Ok, Err, flat_map}
 use Rattle.cfi_read_core.specs.declared.error.Error.{Error}
@@ -47,6 +48,11 @@ fde_text section partial (Err e) = partial_fde_line partial.found.offset partial
 abbrev pub entry_text : Section → Entry → List ℕ
 entry_text section (CieEntry cie) = cie_line cie
 entry_text section (FdeEntry partial) = fde_text section partial (read_fde section partial)
+
+-- what stands in an entry's place: it, or the refusal of what can't be read
+abbrev pub item_text : Section → Result Entry Error → List ℕ
+item_text section (Ok entry) = entry_text section entry
+item_text section (Err e) = (refusal_line e).text
 
 -- ---- the section
 

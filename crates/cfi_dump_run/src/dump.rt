@@ -1,20 +1,29 @@
 //! The entries of a section in order, and the rows of each FDE.
-ghost use Rattle.std.specs.Prelude.{◌≡◌, IfOk};
+ghost use Rattle.std.specs.Prelude.{◌≡◌, ◌++◌, ℕ, ⊤, Some, IfOk};
 ghost use Rattle.cfi_read_core.specs.ReaderCalls.{map_ok};
 ghost use Rattle.cfi_instruction.specs.CallFrameSections.{IsOf};
-ghost use Rattle.cfi_unwind.specs.FdeViews.{fde_view};
-ghost use Rattle.cfi_unwind.specs.EntryViews.{partial_of};
-ghost use Rattle.cfi_unwind.specs.Scan.{read_fde};
+ghost use Rattle.cfi_state.specs.ContextEffects.{setting_of};
+ghost use Rattle.cfi_state.specs.FdeAnswers.{IsStateAfter};
+ghost use Rattle.cfi_state.specs.KeptInstructions.{at_program};
+ghost use Rattle.cfi_state.specs.Program.{Program};
+ghost use Rattle.cfi_state.specs.UnwindTableStates.{answers_to_come};
+ghost use Rattle.cfi_entry.specs.CieViews.{cie_view};
 ghost use Rattle.cfi_entry.specs.Sections.{section_of};
+ghost use Rattle.cfi_unwind.specs.FdeViews.{fde_view};
+ghost use Rattle.cfi_unwind.specs.EntryViews.{OfEither, entry_view, partial_of};
+ghost use Rattle.cfi_unwind.specs.Scan.{read_fde};
+ghost use Rattle.cfi_unwind.specs.UnwindTableViews.{table_state};
+ghost use Rattle.cfi_program.specs.Lines.{refusal_line};
 ghost use Rattle.cfi_program.specs.WriterOutput.{Writes};
-ghost use Rattle.cfi_dump_run.specs.SectionTexts.{fde_rows, fde_text, lines, section_text};
+ghost use Rattle.cfi_dump_run.specs.EntryLines.{fde_line, partial_fde_line};
+ghost use Rattle.cfi_dump_run.specs.SectionTexts.{fde_rows, fde_text, item_text, lines, section_text};
 
 use crate::entry_line::{write_cie, write_fde, write_partial_fde};
 use cfi_program::lines::write_refusal;
 use cfi_program::row_line::write_answer;
 use gimli_cfi::{
-    _UnwindSectionPrivate, BaseAddresses, CieOrFde, FrameDescriptionEntry,
-    PartialFrameDescriptionEntry, Reader, Result, UnwindContext, UnwindSection,
+    _UnwindSectionPrivate, BaseAddresses, CieOrFde, Error, FrameDescriptionEntry,
+    PartialFrameDescriptionEntry, Reader, Result, UnwindContext, UnwindSection, UnwindTable,
 };
 use std::io;
 use std::io::Write;
@@ -33,16 +42,35 @@ pub fn write_section<R: Reader<Offset = usize>, S: UnwindSection<R>, W: Write>(
     ensures { Writes (W.contents output.old) (W.contents output.new) result (section_text (section_of (S.view section.now) bases.now)) }
 {
     for entry in section.entries(bases) {
-        match entry {
-            Ok(CieOrFde::Cie(cie)) => write_cie(output, &cie)?,
-            Ok(CieOrFde::Fde(partial)) => {
-                write_fde_and_rows(output, section, bases, context, &partial)?;
-            }
-            Err(error) => {
-                write_refusal(output, error)?;
-            }
-        }
+        write_entry(output, section, bases, context, entry)?;
     }
+    Ok(())
+}
+
+/// Writes the lines of an entry, or of the refusal in its place.
+fn write_entry<R: Reader<Offset = usize>, S: UnwindSection<R>, W: Write>(
+    output: &mut W,
+    section: &S,
+    bases: &BaseAddresses,
+    context: &mut UnwindContext<usize>,
+    entry: Result<CieOrFde<'_, S, R>>,
+) -> io::Result<()>
+    requires { IfOk entry (OfEither (λ _. ⊤) (λ p. (p.section ≡ section.now) × (p.bases.now ≡ bases.now))) }
+    ensures { let found = map_ok (entry_view (cie_view R.position (λ n. n)) (λ p. partial_of R.position (λ n. n) p.found p.cie_offset)) entry.entry in
+        Writes (W.contents output.old) (W.contents output.new) result (item_text (section_of (S.view section.now) bases.now) found) }
+{
+    match entry {
+        Ok(CieOrFde::Cie(cie)) => write_cie(output, &cie),
+        Ok(CieOrFde::Fde(partial)) => write_fde_and_rows(output, section, bases, context, &partial),
+        Err(error) => write_refused(output, error),
+    }
+}
+
+/// Writes the line of a refusal.
+fn write_refused<W: Write>(output: &mut W, error: Error) -> io::Result<()>
+    ensures { Writes (W.contents output.old) (W.contents output.new) result (refusal_line error).text }
+{
+    write_refusal(output, error)?;
     Ok(())
 }
 
@@ -61,16 +89,39 @@ fn write_fde_and_rows<R: Reader<Offset = usize>, S: UnwindSection<R>, W: Write>(
         Writes (W.contents output.old) (W.contents output.new) result (fde_text from found (read_fde from found)) }
 {
     match whole(partial) {
-        Ok(fde) => {
-            write_fde(output, &fde)?;
-            write_rows(output, section, bases, context, &fde)
-        }
-        Err(error) => {
-            write_partial_fde(output, partial.offset(), partial.entry_len())?;
-            write_refusal(output, error)?;
-            Ok(())
-        }
+        Ok(fde) => write_whole_fde(output, section, bases, context, &fde),
+        Err(error) => write_refused_fde(output, partial.offset(), partial.entry_len(), error),
     }
+}
+
+/// Writes the line of an FDE and the lines of its rows.
+fn write_whole_fde<R: Reader<Offset = usize>, S: UnwindSection<R>, W: Write>(
+    output: &mut W,
+    section: &S,
+    bases: &BaseAddresses,
+    context: &mut UnwindContext<usize>,
+    fde: &FrameDescriptionEntry<R>,
+) -> io::Result<()>
+    requires own { IsOf (R.position fde.now.instructions) (S.view section.now).position }
+    requires cie { IsOf (R.position fde.now.cie.initial_instructions) (S.view section.now).position }
+    ensures { let read = fde_view R.position (λ n. n) fde.now in
+        Writes (W.contents output.old) (W.contents output.new) result (fde_line read ++ lines (fde_rows (section_of (S.view section.now) bases.now) read)) }
+{
+    write_fde(output, fde)?;
+    write_rows(output, section, bases, context, fde)
+}
+
+/// Writes what is known of an FDE that can't be read whole, and why it can't.
+fn write_refused_fde<W: Write>(
+    output: &mut W,
+    offset: usize,
+    length: usize,
+    error: Error,
+) -> io::Result<()>
+    ensures { Writes (W.contents output.old) (W.contents output.new) result (partial_fde_line offset length ++ (refusal_line error).text) }
+{
+    write_partial_fde(output, offset, length)?;
+    write_refused(output, error)
 }
 
 /// The whole FDE, with the CIE that stands in the section.
@@ -90,10 +141,10 @@ fn whole<R: Reader, S: UnwindSection<R>>(
 }
 
 /// Writes a line for each row of the FDE, and for each refusal among them.
-fn write_rows<'a, R: Reader<Offset = usize>, S: UnwindSection<R>, W: Write>(
+fn write_rows<R: Reader<Offset = usize>, S: UnwindSection<R>, W: Write>(
     output: &mut W,
-    section: &'a S,
-    bases: &'a BaseAddresses,
+    section: &S,
+    bases: &BaseAddresses,
     context: &mut UnwindContext<usize>,
     fde: &FrameDescriptionEntry<R>,
 ) -> io::Result<()>
@@ -102,13 +153,22 @@ fn write_rows<'a, R: Reader<Offset = usize>, S: UnwindSection<R>, W: Write>(
     ensures { Writes (W.contents output.old) (W.contents output.new) result
         (lines (fde_rows (section_of (S.view section.now) bases.now) (fde_view R.position (λ n. n) fde.now))) }
 {
-    let mut table = match fde.rows(section, bases, context) {
-        Ok(table) => table,
-        Err(error) => {
-            write_refusal(output, error)?;
-            return Ok(());
-        }
-    };
+    match fde.rows(section, bases, context) {
+        Ok(mut table) => write_table(output, &mut table),
+        Err(error) => write_refused(output, error),
+    }
+}
+
+/// Writes a line for each row that is to come of the table, and for each refusal among them.
+fn write_table<R: Reader<Offset = usize>, W: Write>(
+    output: &mut W,
+    table: &mut UnwindTable<'_, '_, R>,
+) -> io::Result<()>
+    ensures { let setting = setting_of table.old.parameters (Some 192) (Some 4) in
+        let state = table_state R.position (λ n. n) table.old in
+        (program : Program ℕ) → IsStateAfter setting state.so_far program
+        → Writes (W.contents output.old) (W.contents output.new) result (lines (answers_to_come setting (at_program state program))) }
+{
     while let Some(answer) = table.next_row().transpose() {
         write_answer(output, answer)?;
     }

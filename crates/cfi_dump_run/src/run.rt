@@ -1,6 +1,8 @@
 //! The whole program, over any reader and writer.
 ghost use Rattle.std.specs.Prelude.{◌≡◌, ◌⊎◌, ℕ, List, Some, None, IfOk, IfErr, IfSome, IsNone, option_map};
 ghost use Rattle.std.specs.Io.KnownBytes.{Appends};
+ghost use Rattle.cfi_read_core.specs.ByteOrder.{is_big};
+ghost use Rattle.cfi_read_core.specs.ReaderCalls.{all_of};
 ghost use Rattle.cfi_entry.specs.Sections.{section_of};
 ghost use Rattle.cfi_program.specs.Lines.{Line};
 ghost use Rattle.cfi_program.specs.Words.{AreRead, texts};
@@ -17,8 +19,8 @@ use cfi_program::lines::{
 };
 use cfi_program::words::{Kind, SectionWords};
 use gimli_cfi::{
-    _UnwindSectionPrivate, BaseAddresses, DebugFrame, EhFrame, Error, Reader, UnwindContext,
-    UnwindSection,
+    _UnwindSectionPrivate, BaseAddresses, DebugFrame, EhFrame, EndianSlice, Error, Reader,
+    UnwindContext, UnwindSection,
 };
 use std::alloc::Global;
 use std::io;
@@ -96,23 +98,39 @@ fn print_bytes<W: Write>(
     ensures { (printed : Line) × Prints printed (W.contents output.old) (W.contents output.new) result
         × ((printed ≡ section_output words.now bytes.now) ⊎ (printed ≡ out_of_memory)) }
 {
-    let mut context = match UnwindContext::<usize>::new(alloc) {
-        Ok(context) => context,
-        Err(error) => return write_refusal(output, error),
-    };
+    match UnwindContext::<usize>::new(alloc) {
+        Ok(mut context) => {
+            let reader = EndianSlice::new(bytes, words.endian);
+            print_read(output, words, reader, &mut context)
+        }
+        Err(error) => write_refusal(output, error),
+    }
+}
+
+/// Prints the section that a reader has.
+fn print_read<R: Reader<Offset = usize>, W: Write>(
+    output: &mut W,
+    words: &SectionWords,
+    reader: R,
+    context: &mut UnwindContext<usize>,
+) -> io::Result<u8>
+    requires { AreRead words.now }
+    ensures { (bytes : List ℕ) → R.position reader ≡ all_of bytes (is_big words.now.endian) 18446744073709551615
+        → Prints (section_output words.now bytes) (W.contents output.old) (W.contents output.new) result }
+{
     let bases = words.bases();
     match words.kind {
         Kind::DebugFrame => {
-            let mut frame = DebugFrame::new(bytes, words.endian);
+            let mut frame = DebugFrame::from(reader);
             frame.set_address_size(words.address_size);
             frame.set_vendor(words.vendor);
-            print_section(output, &frame, &bases, &mut context)
+            print_section(output, &frame, &bases, context)
         }
         Kind::EhFrame => {
-            let mut frame = EhFrame::new(bytes, words.endian);
+            let mut frame = EhFrame::from(reader);
             frame.set_address_size(words.address_size);
             frame.set_vendor(words.vendor);
-            print_section(output, &frame, &bases, &mut context)
+            print_section(output, &frame, &bases, context)
         }
     }
 }

@@ -3,7 +3,7 @@ use Rattle.cfi_entry.specs.Entries.{entries_left}
 use Rattle.cfi_entry.specs.Sections.{section_of}
 use Rattle.cfi_program.proofs.WrittenLemmas.{IsGiven, beginning_then, given_first, given_then, writes_refused}
 use Rattle.cfi_dump_run.specs.SectionTexts.{entries_text, section_text}
-use Rattle.cfi_dump_run.proofs.SectionWritten.{all_written, to_write}
+use Rattle.cfi_dump_run.proofs.SectionWritten.{all_written, of_section, to_write}
 use Rattle.cfi_dump_run.proofs.dump.write_section.Goals as goal
 
 pub loop-entry-init : goal.loop-entry-init
@@ -21,64 +21,26 @@ loop-entry-init g c =
       given = subst (λ (place : ℕ). IsGiven old old (entries_text section (entries_left section place)) (section_text section)) (sym at) (given_first old (section_text section));
     }
 
-pub returns-in_err-write_cie-in-Ok-Cie : goal.returns-in_err-write_cie-in-Ok-Cie
-returns-in_err-write_cie-in-Ok-Cie g c =
-    let steps = c.in-Some.ensures.steps in
-    let left = to_write g.S._UnwindSectionPrivate.view _ _ _ _ _ _ _ _ _ _ _ _ c.loop-entry.invariant.same_section c.loop-entry.invariant.same_bases steps.1.0 steps.1.1
-    (rw (c.in-Ok-Cie.is, c.in-Ok-Cie.field-0-is) at steps.0) c.loop-entry.invariant.given in
-    writes_refused _ _ _ _ c.from_residual.ensures.0 (beginning_then _ _ _ _ _ _ left c.in_err-write_cie-in-Ok-Cie.ensures)
+pub write_entry-requires : goal.write_entry-requires
+write_entry-requires g c =
+    of_section _ (λ p. p.section) (λ p. p.bases.now) _ _ _ _ c.in-Some.entry c.loop-entry.invariant.same_section c.loop-entry.invariant.same_bases c.in-Some.ensures.steps.2
 
-pub loop-entry-preserved-in-Continue-1 : goal.loop-entry-preserved-in-Continue-1
-loop-entry-preserved-in-Continue-1 g c =
+pub returns-in_err-write_entry : goal.returns-in_err-write_entry
+returns-in_err-write_entry g c =
     let steps = c.in-Some.ensures.steps in
-    let left = to_write g.S._UnwindSectionPrivate.view _ _ _ _ _ _ _ _ _ _ _ _ c.loop-entry.invariant.same_section c.loop-entry.invariant.same_bases steps.1.0 steps.1.1
-    (rw (c.in-Ok-Cie.is, c.in-Ok-Cie.field-0-is) at steps.0) c.loop-entry.invariant.given in
-    record {
-      can_next = tt;
-      is_finite = tt;
-      same_section = steps.1.0 ∙ c.loop-entry.invariant.same_section;
-      same_bases = steps.1.1 ∙ c.loop-entry.invariant.same_bases;
-      given = given_then _ _ _ _ _ _ left c.in_ok-write_cie-in-Ok-Cie.ensures;
-    }
-
-pub returns-in_err-write_fde_and_rows-in-Ok-Fde : goal.returns-in_err-write_fde_and_rows-in-Ok-Fde
-returns-in_err-write_fde_and_rows-in-Ok-Fde g c =
-    let steps = c.in-Some.ensures.steps in
-    let left = to_write g.S._UnwindSectionPrivate.view _ _ _ _ _ _ _ _ _ _ _ _ c.loop-entry.invariant.same_section c.loop-entry.invariant.same_bases steps.1.0 steps.1.1
-    (rw (c.in-Ok-Fde.is, c.in-Ok-Fde.field-0-is) at steps.0) c.loop-entry.invariant.given in
-    writes_refused _ _ _ _ c.from_residual-in_err-write_fde_and_rows-in-Ok-Fde.ensures.0 (beginning_then _ _ _ _ _ _ left c.in_err-write_fde_and_rows-in-Ok-Fde.ensures)
-
-pub loop-entry-preserved-in-Continue-branch-2 : goal.loop-entry-preserved-in-Continue-branch-2
-loop-entry-preserved-in-Continue-branch-2 g c =
-    let steps = c.in-Some.ensures.steps in
-    let left = to_write g.S._UnwindSectionPrivate.view _ _ _ _ _ _ _ _ _ _ _ _ c.loop-entry.invariant.same_section c.loop-entry.invariant.same_bases steps.1.0 steps.1.1
-    (rw (c.in-Ok-Fde.is, c.in-Ok-Fde.field-0-is) at steps.0) c.loop-entry.invariant.given in
-    record {
-      can_next = tt;
-      is_finite = tt;
-      same_section = steps.1.0 ∙ c.loop-entry.invariant.same_section;
-      same_bases = steps.1.1 ∙ c.loop-entry.invariant.same_bases;
-      given = given_then _ _ _ _ _ _ left c.in_ok-write_fde_and_rows-in-Ok-Fde.ensures;
-    }
-
-pub returns-in_err-write_refusal-in-Err : goal.returns-in_err-write_refusal-in-Err
-returns-in_err-write_refusal-in-Err g c =
-    let steps = c.in-Some.ensures.steps in
-    let left = to_write g.S._UnwindSectionPrivate.view _ _ _ _ _ _ _ _ _ _ _ _ c.loop-entry.invariant.same_section c.loop-entry.invariant.same_bases steps.1.0 steps.1.1
-    (rw c.in-Err.is at steps.0) c.loop-entry.invariant.given in
-    writes_refused _ _ _ _ c.from_residual-in_err-write_refusal-in-Err.ensures.0 (beginning_then _ _ _ _ _ _ left c.in_err-write_refusal-in-Err.ensures.0)
+    let left = to_write g.S._UnwindSectionPrivate.view _ _ _ _ _ _ _ _ _ _ _ _ c.loop-entry.invariant.same_section c.loop-entry.invariant.same_bases steps.1.0 steps.1.1 steps.0 c.loop-entry.invariant.given in
+    writes_refused _ _ _ _ c.from_residual.ensures.0 (beginning_then _ _ _ _ _ _ left c.in_err-write_entry.ensures)
 
 pub loop-entry-preserved : goal.loop-entry-preserved
 loop-entry-preserved g c =
     let steps = c.in-Some.ensures.steps in
-    let left = to_write g.S._UnwindSectionPrivate.view _ _ _ _ _ _ _ _ _ _ _ _ c.loop-entry.invariant.same_section c.loop-entry.invariant.same_bases steps.1.0 steps.1.1
-    (rw c.in-Err.is at steps.0) c.loop-entry.invariant.given in
+    let left = to_write g.S._UnwindSectionPrivate.view _ _ _ _ _ _ _ _ _ _ _ _ c.loop-entry.invariant.same_section c.loop-entry.invariant.same_bases steps.1.0 steps.1.1 steps.0 c.loop-entry.invariant.given in
     record {
       can_next = tt;
       is_finite = tt;
       same_section = steps.1.0 ∙ c.loop-entry.invariant.same_section;
       same_bases = steps.1.1 ∙ c.loop-entry.invariant.same_bases;
-      given = given_then _ _ _ _ _ _ left c.in_ok-write_refusal-in-Err.ensures.0;
+      given = given_then _ _ _ _ _ _ left c.in_ok-write_entry.ensures;
     }
 
 pub returns : goal.returns
