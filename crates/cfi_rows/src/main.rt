@@ -24,9 +24,10 @@ use std::process::ExitCode;
 fn main(rt: HostRuntime) -> ExitCode {
     let alloc = rt.alloc();
     let words = words_after_name(&rt).ok();
-    let texts = words
-        .as_ref()
-        .and_then(|words| texts_of(alloc, words.as_slice()).ok());
+    let texts = match &words {
+        Some(words) => texts_of(alloc, words.as_slice()).ok(),
+        None => None,
+    };
     run_for(alloc, texts.as_deref(), &mut rt.stdin(), &mut rt.stdout())
 }
 
