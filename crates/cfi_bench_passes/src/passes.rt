@@ -23,17 +23,23 @@ pub fn of_section<E: Endianity>(
 ) -> Done {
     let bases = BaseAddresses::default().set_eh_frame(base);
     let frame = EhFrame::new(bytes, endian);
-    let done = match measure {
-        0 => entries(&frame, &bases),
-        1 => fdes(&frame, &bases),
-        2 => walk(alloc, &frame, &bases, row_sum::<StoreOnHeap>),
-        3 => scans(alloc, &frame, &bases, addresses),
-        7 => walk(alloc, &frame, &bases, rules_sum::<StoreOnHeap>),
-        _ => return FAILED,
-    };
-    match done {
-        Ok(done) => done,
-        Err(_) => FAILED,
+    over_section(alloc, measure, &frame, &bases, addresses).unwrap_or(FAILED)
+}
+
+fn over_section<R: Reader<Offset = usize>, S: UnwindSection<R>>(
+    alloc: Global,
+    measure: u32,
+    section: &S,
+    bases: &BaseAddresses,
+    addresses: &[u64],
+) -> Result<Done> {
+    match measure {
+        0 => entries(section, bases),
+        1 => fdes(section, bases),
+        2 => walk(alloc, section, bases, row_sum::<StoreOnHeap>),
+        3 => scans(alloc, section, bases, addresses),
+        7 => walk(alloc, section, bases, rules_sum::<StoreOnHeap>),
+        _ => Ok(FAILED),
     }
 }
 
@@ -53,21 +59,37 @@ pub fn of_header<E: Endianity>(
         .set_eh_frame_hdr(header_base);
     let frame = EhFrame::new(bytes, endian);
     let header = EhFrameHdr::new(header, endian);
-    let Ok(parsed) = header.parse(&bases, 8) else {
-        return FAILED;
-    };
+    over_header(alloc, measure, &header, &frame, &bases, addresses).unwrap_or(FAILED)
+}
+
+fn over_header<R: Reader<Offset = usize>>(
+    alloc: Global,
+    measure: u32,
+    header: &EhFrameHdr<R>,
+    frame: &EhFrame<R>,
+    bases: &BaseAddresses,
+    addresses: &[u64],
+) -> Result<Done> {
+    let parsed = header.parse(bases, 8)?;
     let Some(table) = parsed.table() else {
-        return FAILED;
+        return Ok(FAILED);
     };
-    let done = match measure {
-        4 => Ok(lookups(&table, &bases, addresses)),
-        5 => rows_by_table(alloc, &table, &frame, &bases, addresses),
-        6 => table_rows(&table, &bases),
-        _ => return FAILED,
-    };
-    match done {
-        Ok(done) => done,
-        Err(_) => FAILED,
+    over_table(alloc, measure, &table, frame, bases, addresses)
+}
+
+fn over_table<R: Reader<Offset = usize>>(
+    alloc: Global,
+    measure: u32,
+    table: &EhHdrTable<'_, R>,
+    frame: &EhFrame<R>,
+    bases: &BaseAddresses,
+    addresses: &[u64],
+) -> Result<Done> {
+    match measure {
+        4 => Ok(lookups(table, bases, addresses)),
+        5 => rows_by_table(alloc, table, frame, bases, addresses),
+        6 => table_rows(table, bases),
+        _ => Ok(FAILED),
     }
 }
 
@@ -78,13 +100,20 @@ fn entries<R: Reader<Offset = usize>, S: UnwindSection<R>>(
     let mut done = Done::none();
     let mut entries = section.entries(bases);
     for _ in 0..u64::MAX {
-        match entries.next()? {
-            None => break,
-            Some(CieOrFde::Cie(cie)) => done.take(cie.offset() as u64),
-            Some(CieOrFde::Fde(partial)) => done.take(partial.offset() as u64),
-        }
+        let Some(entry) = entries.next()? else {
+            break;
+        };
+        done.take(offset_of(&entry));
     }
     Ok(done)
+}
+
+#[inline(always)]
+fn offset_of<R: Reader<Offset = usize>, S: UnwindSection<R>>(entry: &CieOrFde<'_, S, R>) -> u64 {
+    match entry {
+        CieOrFde::Cie(cie) => cie.offset() as u64,
+        CieOrFde::Fde(partial) => partial.offset() as u64,
+    }
 }
 
 /// The whole FDE, with the CIE that stands in the section.
@@ -107,16 +136,24 @@ fn fdes<R: Reader, S: UnwindSection<R>>(section: &S, bases: &BaseAddresses) -> R
     let mut done = Done::none();
     let mut entries = section.entries(bases);
     for _ in 0..u64::MAX {
-        match entries.next()? {
-            None => break,
-            Some(CieOrFde::Cie(_)) => {}
-            Some(CieOrFde::Fde(partial)) => {
-                let fde = whole(section, &partial)?;
-                done.take(fde.initial_address() ^ fde.len());
-            }
+        let Some(entry) = entries.next()? else {
+            break;
+        };
+        if let CieOrFde::Fde(partial) = entry {
+            done.take(fde_sum(section, &partial)?);
         }
     }
     Ok(done)
+}
+
+fn fde_sum<'b, R: Reader, S: UnwindSection<R>>(
+    section: &S,
+    partial: &PartialFrameDescriptionEntry<'b, S, R>,
+) -> Result<u64>
+    requires { partial.now.section ≡ section.now }
+{
+    let fde = whole(section, partial)?;
+    Ok(fde.initial_address() ^ fde.len())
 }
 
 /// The rows of an FDE, each by its sum.
@@ -157,16 +194,28 @@ where
     requires { (row : _) → F.Fn.pre sum_of row }
 {
     let mut context = UnwindContext::<usize>::new(alloc)?;
+    walk_in(section, bases, &mut context, &sum_of)
+}
+
+fn walk_in<R: Reader<Offset = usize>, S: UnwindSection<R>, F>(
+    section: &S,
+    bases: &BaseAddresses,
+    context: &mut UnwindContext<usize>,
+    sum_of: &F,
+) -> Result<Done>
+where
+    F: Fn(&UnwindTableRow<usize, <StoreOnHeap as UnwindContextStorage<usize>>::Rules>) -> u64,
+    requires { (row : _) → F.Fn.pre sum_of.now row }
+{
     let mut done = Done::none();
     let mut entries = section.entries(bases);
     for _ in 0..u64::MAX {
-        match entries.next()? {
-            None => break,
-            Some(CieOrFde::Cie(_)) => {}
-            Some(CieOrFde::Fde(partial)) => {
-                let fde = whole(section, &partial)?;
-                walk_fde(section, bases, &fde, &mut context, &sum_of, &mut done);
-            }
+        let Some(entry) = entries.next()? else {
+            break;
+        };
+        if let CieOrFde::Fde(partial) = entry {
+            let fde = whole(section, &partial)?;
+            walk_fde(section, bases, &fde, context, sum_of, &mut done);
         }
     }
     Ok(done)
@@ -179,14 +228,23 @@ fn scans<R: Reader<Offset = usize>, S: UnwindSection<R>>(
     addresses: &[u64],
 ) -> Result<Done> {
     let mut context = UnwindContext::<usize>::new(alloc)?;
+    Ok(scans_in(section, bases, &mut context, addresses))
+}
+
+fn scans_in<R: Reader<Offset = usize>, Section: UnwindSection<R>, S: UnwindContextStorage<usize>>(
+    section: &Section,
+    bases: &BaseAddresses,
+    context: &mut UnwindContext<usize, S>,
+    addresses: &[u64],
+) -> Done {
     let mut done = Done::none();
     for address in addresses {
-        match row_by_scan(section, bases, &mut context, *address) {
-            Ok(row) => done.take(row_sum::<StoreOnHeap>(row)),
+        match row_by_scan(section, bases, context, *address) {
+            Ok(row) => done.take(row_sum::<S>(row)),
             Err(_) => done.take(!*address),
         }
     }
-    Ok(done)
+    done
 }
 
 fn lookups<R: Reader>(table: &EhHdrTable<'_, R>, bases: &BaseAddresses, addresses: &[u64]) -> Done {
@@ -208,11 +266,21 @@ fn rows_by_table<R: Reader<Offset = usize>>(
     addresses: &[u64],
 ) -> Result<Done> {
     let mut context = UnwindContext::<usize>::new(alloc)?;
+    rows_in(table, frame, bases, &mut context, addresses)
+}
+
+fn rows_in<R: Reader<Offset = usize>, S: UnwindContextStorage<usize>>(
+    table: &EhHdrTable<'_, R>,
+    frame: &EhFrame<R>,
+    bases: &BaseAddresses,
+    context: &mut UnwindContext<usize, S>,
+    addresses: &[u64],
+) -> Result<Done> {
     let mut starts = TableStarts::new(table, bases)?;
     let mut done = Done::none();
     for address in addresses {
-        match row_by_table(table, &mut starts, frame, bases, &mut context, *address) {
-            Ok(row) => done.take(row_sum::<StoreOnHeap>(row)),
+        match row_by_table(table, &mut starts, frame, bases, context, *address) {
+            Ok(row) => done.take(row_sum::<S>(row)),
             Err(_) => done.take(!*address),
         }
     }
