@@ -4,7 +4,7 @@
 ghost use Rattle.std.specs.Prelude.{◌≡◌, IfOk};
 ghost use Rattle.cfi_instruction.specs.CallFrameSections.{IsOf};
 
-use crate::sums::{Done, FAILED, REFUSED, row_sum, rules_sum};
+use crate::sums::{Done, FAILED, REFUSED, RowSums, RulesSums, SumOfRow, row_sum};
 use gimli_cfi::{
     BaseAddresses, CieOrFde, EhFrame, EhFrameHdr, EhHdrTable, Endianity, FrameDescriptionEntry,
     PartialFrameDescriptionEntry, Reader, Result, StoreOnHeap, TableStarts, UnwindContext,
@@ -36,9 +36,9 @@ fn over_section<R: Reader<Offset = usize>, S: UnwindSection<R>>(
     match measure {
         0 => entries(section, bases),
         1 => fdes(section, bases),
-        2 => walk(alloc, section, bases, row_sum::<StoreOnHeap>),
+        2 => walk::<R, S, RowSums>(alloc, section, bases),
         3 => scans(alloc, section, bases, addresses),
-        7 => walk(alloc, section, bases, rules_sum::<StoreOnHeap>),
+        7 => walk::<R, S, RulesSums>(alloc, section, bases),
         _ => Ok(FAILED),
     }
 }
@@ -157,19 +157,21 @@ fn fde_sum<'b, R: Reader, S: UnwindSection<R>>(
 }
 
 /// The rows of an FDE, each by its sum.
-fn walk_fde<'x, R: Reader<Offset = usize>, S: UnwindSection<R>, F>(
-    section: &'x S,
+fn walk_fde<
+    'x,
+    R: Reader<Offset = usize>,
+    Section: UnwindSection<R>,
+    S: UnwindContextStorage<usize>,
+    Sum: SumOfRow,
+>(
+    section: &'x Section,
     bases: &'x BaseAddresses,
     fde: &FrameDescriptionEntry<R>,
-    context: &mut UnwindContext<usize>,
-    sum_of: &F,
+    context: &mut UnwindContext<usize, S>,
     done: &mut Done,
 )
-where
-    F: Fn(&UnwindTableRow<usize, <StoreOnHeap as UnwindContextStorage<usize>>::Rules>) -> u64,
-    requires own { IsOf (R.position fde.now.instructions) (S.view section.now).position }
-    requires cie { IsOf (R.position fde.now.cie.initial_instructions) (S.view section.now).position }
-    requires callable { (row : _) → F.Fn.pre sum_of.now row }
+    requires own { IsOf (R.position fde.now.instructions) (Section.view section.now).position }
+    requires cie { IsOf (R.position fde.now.cie.initial_instructions) (Section.view section.now).position }
 {
     let Ok(mut table) = fde.rows(section, bases, context) else {
         return;
@@ -177,36 +179,27 @@ where
     for _ in 0..u64::MAX {
         match table.next_row() {
             Ok(None) => break,
-            Ok(Some(row)) => done.take(sum_of(row)),
+            Ok(Some(row)) => done.take(Sum::of::<S>(row)),
             Err(_) => done.take(REFUSED),
         }
     }
 }
 
-fn walk<R: Reader<Offset = usize>, S: UnwindSection<R>, F>(
+fn walk<R: Reader<Offset = usize>, S: UnwindSection<R>, Sum: SumOfRow>(
     alloc: Global,
     section: &S,
     bases: &BaseAddresses,
-    sum_of: F,
-) -> Result<Done>
-where
-    F: Fn(&UnwindTableRow<usize, <StoreOnHeap as UnwindContextStorage<usize>>::Rules>) -> u64,
-    requires { (row : _) → F.Fn.pre sum_of row }
-{
+) -> Result<Done> {
     let mut context = UnwindContext::<usize>::new(alloc)?;
-    walk_in(section, bases, &mut context, &sum_of)
+    walk_in::<R, S, StoreOnHeap, Sum>(section, bases, &mut context)
 }
 
-fn walk_in<R: Reader<Offset = usize>, S: UnwindSection<R>, F>(
-    section: &S,
-    bases: &BaseAddresses,
-    context: &mut UnwindContext<usize>,
-    sum_of: &F,
-) -> Result<Done>
-where
-    F: Fn(&UnwindTableRow<usize, <StoreOnHeap as UnwindContextStorage<usize>>::Rules>) -> u64,
-    requires { (row : _) → F.Fn.pre sum_of.now row }
-{
+fn walk_in<
+    R: Reader<Offset = usize>,
+    Section: UnwindSection<R>,
+    S: UnwindContextStorage<usize>,
+    Sum: SumOfRow,
+>(section: &Section, bases: &BaseAddresses, context: &mut UnwindContext<usize, S>) -> Result<Done> {
     let mut done = Done::none();
     let mut entries = section.entries(bases);
     for _ in 0..u64::MAX {
@@ -215,7 +208,7 @@ where
         };
         if let CieOrFde::Fde(partial) = entry {
             let fde = whole(section, &partial)?;
-            walk_fde(section, bases, &fde, context, sum_of, &mut done);
+            walk_fde::<R, Section, S, Sum>(section, bases, &fde, context, &mut done);
         }
     }
     Ok(done)

@@ -37,6 +37,31 @@ fn mix(sum: u64, number: u64) -> u64 {
     sum.rotate_left(5) ^ number
 }
 
+/// What a walk sums of each row.
+pub trait SumOfRow {
+    fn of<S: UnwindContextStorage<usize>>(row: &UnwindTableRow<usize, S::Rules>) -> u64;
+}
+
+/// `row_sum` of each row.
+pub struct RowSums;
+
+impl SumOfRow for RowSums {
+    #[inline(always)]
+    fn of<S: UnwindContextStorage<usize>>(row: &UnwindTableRow<usize, S::Rules>) -> u64 {
+        row_sum::<S>(row)
+    }
+}
+
+/// `rules_sum` of each row.
+pub struct RulesSums;
+
+impl SumOfRow for RulesSums {
+    #[inline(always)]
+    fn of<S: UnwindContextStorage<usize>>(row: &UnwindTableRow<usize, S::Rules>) -> u64 {
+        rules_sum::<S>(row)
+    }
+}
+
 /// Addresses and CFA of a row.
 pub fn row_sum<S: UnwindContextStorage<usize>>(row: &UnwindTableRow<usize, S::Rules>) -> u64 {
     let sum = mix(row.start_address(), row.end_address());
