@@ -6,9 +6,9 @@ ghost use Rattle.cfi_unwind.specs.AddressRow.{IsRowByScan};
 
 use gimli_cfi::hdr::FaithfulTable;
 use gimli_cfi::{
-    _UnwindSectionPrivate, BaseAddresses, CfaRule, EhFrame, EhFrameHdr, EhHdrTable, EndianSlice,
-    Error, LittleEndian, Reader, ReaderOffset, Register, TableStarts, UnwindContext,
-    UnwindContextStorage, UnwindSection, UnwindTableRow, row_by_scan, row_by_table,
+    _UnwindSectionPrivate, BaseAddresses, CfaRule, EhFrame, EhFrameHdr, EhHdrTable, Error,
+    LittleEndian, Reader, ReaderOffset, Register, TableStarts, UnwindContext, UnwindContextStorage,
+    UnwindSection, UnwindTableRow, row_by_scan, row_by_table,
 };
 use std::alloc::Global;
 
@@ -30,14 +30,14 @@ pub fn cfa_of(
 }
 
 /// Where the row of an address ends, by the header's table where it has one.
-pub fn end_of_row(
-    frame: &EhFrame<EndianSlice<'_, LittleEndian>>,
-    header: &[u8],
+pub fn end_of_row<R: Reader<Offset = usize>, S: UnwindContextStorage<usize>>(
+    frame: &EhFrame<R>,
+    header: &EhFrameHdr<R>,
     bases: &BaseAddresses,
-    ctx: &mut UnwindContext<usize>,
+    ctx: &mut UnwindContext<usize, S>,
     address: u64,
 ) -> Result<u64, Error> {
-    let header = EhFrameHdr::new(header, LittleEndian).parse(bases, 8)?;
+    let header = header.parse(bases, 8)?;
     let Some(table) = header.table() else {
         return Ok(row_by_scan(frame, bases, ctx, address)?.end_address());
     };
@@ -47,9 +47,9 @@ pub fn end_of_row(
 }
 
 /// Where the row of an address starts, by a table that was checked.
-pub fn start_of_row(
-    table: &EhHdrTable<'_, EndianSlice<'_, LittleEndian>>,
-    frame: &EhFrame<EndianSlice<'_, LittleEndian>>,
+pub fn start_of_row<R: Reader<Offset = usize>>(
+    table: &EhHdrTable<'_, R>,
+    frame: &EhFrame<R>,
     bases: &BaseAddresses,
     ctx: &mut UnwindContext<usize>,
     address: u64,

@@ -1,8 +1,8 @@
 //! A storage of one's own.
 use arrayvec::ArrayVec;
 use gimli_cfi::{
-    BaseAddresses, EhFrame, EndianSlice, Error, LittleEndian, ReaderOffset, Register, RegisterRule,
-    UnwindContext, UnwindContextStorage, UnwindTableRow, row_by_scan,
+    BaseAddresses, EhFrame, Error, Reader, ReaderOffset, Register, RegisterRule, UnwindContext,
+    UnwindContextStorage, UnwindTableRow, row_by_scan,
 };
 use std::alloc::Global;
 
@@ -20,9 +20,9 @@ impl<T: ReaderOffset> UnwindContextStorage<T> for Small {
 }
 
 /// Where the row of an address ends, unwound in the small storage.
-pub fn end_in_small(
+pub fn end_in_small<R: Reader<Offset = usize>>(
     alloc: Global,
-    frame: &EhFrame<EndianSlice<'_, LittleEndian>>,
+    frame: &EhFrame<R>,
     bases: &BaseAddresses,
     address: u64,
 ) -> Result<u64, Error> {

@@ -62,8 +62,9 @@ type Places = (
 fn places(alloc: Global, ctx: &mut UnwindContext<usize>) -> Places {
     let bases = bases();
     let frame = EhFrame::new(&SECTION, LittleEndian);
+    let header = EhFrameHdr::new(&HEADER, LittleEndian);
     (
-        end_of_row(&frame, &HEADER, &bases, ctx, 0x1000),
+        end_of_row(&frame, &header, &bases, ctx, 0x1000),
         start_by_table(&frame, ctx),
         end_of_call(&frame, ctx),
         end_in_small(alloc, &frame, &bases, 0x1001),
