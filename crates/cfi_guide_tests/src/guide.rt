@@ -4,7 +4,7 @@ use cfi_callers::instructions::expression_bytes;
 use cfi_callers::one_row::{cfa_of, end_of_row, row_of_call, start_of_row};
 use cfi_callers::own_storage::end_in_small;
 use gimli_cfi::{
-    BaseAddresses, EhFrame, EhFrameHdr, EndianSlice, Error, LittleEndian, Register, UnwindContext,
+    BaseAddresses, EhFrame, EhFrameHdr, Error, LittleEndian, Reader, Register, UnwindContext,
 };
 use std::alloc::Global;
 use std::test::Fail;
@@ -34,12 +34,14 @@ fn bases() -> BaseAddresses {
         .set_eh_frame_hdr(0x1f00)
 }
 
-type Frame<'a> = EhFrame<EndianSlice<'a, LittleEndian>>;
-
 /// Where the row of 0x1008 starts by the header's table; none where the header has no table.
-fn start_by_table(frame: &Frame, ctx: &mut UnwindContext<usize>) -> Result<Option<u64>, Error> {
+fn start_by_table<R: Reader<Offset = usize>>(
+    frame: &EhFrame<R>,
+    header: &EhFrameHdr<R>,
+    ctx: &mut UnwindContext<usize>,
+) -> Result<Option<u64>, Error> {
     let bases = bases();
-    let header = EhFrameHdr::new(&HEADER, LittleEndian).parse(&bases, 8)?;
+    let header = header.parse(&bases, 8)?;
     match header.table() {
         Some(table) => Ok(Some(start_of_row(&table, frame, &bases, ctx, 0x1008)?)),
         None => Ok(None),
@@ -47,7 +49,10 @@ fn start_by_table(frame: &Frame, ctx: &mut UnwindContext<usize>) -> Result<Optio
 }
 
 /// Where the row of the call before 0x1001 ends.
-fn end_of_call(frame: &Frame, ctx: &mut UnwindContext<usize>) -> Result<u64, Error> {
+fn end_of_call<R: Reader<Offset = usize>>(
+    frame: &EhFrame<R>,
+    ctx: &mut UnwindContext<usize>,
+) -> Result<u64, Error> {
     Ok(row_of_call(frame, &bases(), ctx, 0x1001)?.end_address())
 }
 
@@ -59,15 +64,18 @@ type Places = (
     Result<u64, Error>,
 );
 
-fn places(alloc: Global, ctx: &mut UnwindContext<usize>) -> Places {
+fn places<R: Reader<Offset = usize>>(
+    alloc: Global,
+    frame: &EhFrame<R>,
+    header: &EhFrameHdr<R>,
+    ctx: &mut UnwindContext<usize>,
+) -> Places {
     let bases = bases();
-    let frame = EhFrame::new(&SECTION, LittleEndian);
-    let header = EhFrameHdr::new(&HEADER, LittleEndian);
     (
-        end_of_row(&frame, &header, &bases, ctx, 0x1000),
-        start_by_table(&frame, ctx),
-        end_of_call(&frame, ctx),
-        end_in_small(alloc, &frame, &bases, 0x1001),
+        end_of_row(frame, header, &bases, ctx, 0x1000),
+        start_by_table(frame, header, ctx),
+        end_of_call(frame, ctx),
+        end_in_small(alloc, frame, &bases, 0x1001),
     )
 }
 
@@ -77,9 +85,11 @@ fn one_row(rt: HostRuntime) -> Result<(), Fail> {
         cfa_of(rt.alloc(), &SECTION, 0x2000, 0x1008),
         cfa_of(rt.alloc(), &EXPRESSION, 0x2000, 0x1008),
     );
+    let frame = EhFrame::new(&SECTION, LittleEndian);
+    let header = EhFrameHdr::new(&HEADER, LittleEndian);
     let mut ctx = UnwindContext::<usize>::new(rt.alloc())?;
     assert_eq!(rt;
-        (cfas, places(rt.alloc(), &mut ctx)),
+        (cfas, places(rt.alloc(), &frame, &header, &mut ctx)),
         (
             (Ok(Some((Register(7), 16))), Ok(None)),
             (Ok(0x1001), Ok(Some(0x1001)), Ok(0x1001), Ok(0x1010)),
@@ -88,19 +98,23 @@ fn one_row(rt: HostRuntime) -> Result<(), Fail> {
     Ok(())
 }
 
+/// The rows of the FDE of 0x1008, those of all FDEs, and where the last row ends.
+type Counts = (Result<u64, Error>, Result<u64, Error>, Result<u64, Error>);
+
+fn counts<R: Reader<Offset = usize>>(frame: &EhFrame<R>, ctx: &mut UnwindContext<usize>) -> Counts {
+    let bases = bases();
+    (
+        count_rows(frame, &bases, ctx, 0x1008),
+        count_all_rows(frame, &bases, ctx),
+        last_end(frame, &bases, ctx),
+    )
+}
+
 #[test]
 fn all_rows(rt: HostRuntime) -> Result<(), Fail> {
-    let bases = bases();
     let frame = EhFrame::new(&SECTION, LittleEndian);
     let mut ctx = UnwindContext::<usize>::new(rt.alloc())?;
-    assert_eq!(rt;
-        (
-            count_rows(&frame, &bases, &mut ctx, 0x1008),
-            count_all_rows(&frame, &bases, &mut ctx),
-            last_end(&frame, &bases, &mut ctx)
-        ),
-        (Ok(2), Ok(2), Ok(0x1010))
-    );
+    assert_eq!(rt; counts(&frame, &mut ctx), (Ok(2), Ok(2), Ok(0x1010)));
     Ok(())
 }
 
