@@ -1,7 +1,9 @@
 //! The rows of an FDE in order, and the row of an address with any `get_cie`.
 use cfi_parts::instruction::UnwindExpression;
 use cfi_read_core::dwarf_section::Expression;
-use cfi_read_core::{DebugFrameOffset, Error, LittleEndian, Reader, ReaderOffsetId, Register};
+use cfi_read_core::{
+    DebugFrameOffset, EndianSlice, Error, LittleEndian, Reader, ReaderOffsetId, Register,
+};
 use cfi_test_bytes::THREE_ROWS;
 use cfi_unwind::unwind_section::scan_for_fde;
 use gimli_cfi::pointer::BaseAddresses;
@@ -243,13 +245,19 @@ fn the_bytes_of_an_expression(rt: HostRuntime) -> Result<(), Fail> {
     Ok(())
 }
 
+/// A reader of the section of two CIEs.
+fn two_cies() -> EndianSlice<'static, LittleEndian> {
+    EndianSlice::new(&TWO_CIES, LittleEndian)
+}
+
 /// The row that the two CIEs give for an address, the first call being answered by the CIE at 0 and each further one by
 /// that at 20; and how many calls there were.
-fn with_changing_cies(
-    context: &mut UnwindContext<usize>,
+fn with_changing_cies<R: Reader<Offset = usize>, S: UnwindContextStorage<usize>>(
+    reader: R,
+    context: &mut UnwindContext<usize, S>,
     address: u64,
 ) -> (Result<Shown, Error>, u32) {
-    let section = DebugFrame::new(&TWO_CIES, LittleEndian);
+    let section = DebugFrame::from(reader);
     let bases = BaseAddresses::default();
     let mut asked = 0u32;
     let found = section.unwind_info_for_address(&bases, context, address, |from, bases, _| {
@@ -274,15 +282,19 @@ const WITH_CHANGING_CIES: [(u64, Result<Shown, Error>, u32); 3] = [
 fn a_get_cie_that_changes(rt: HostRuntime) -> Result<(), Fail> {
     let mut context: UnwindContext<usize> = UnwindContext::new(rt.alloc())?;
     for (address, row, asked) in &WITH_CHANGING_CIES {
-        let found = with_changing_cies(&mut context, *address);
+        let found = with_changing_cies(two_cies(), &mut context, *address);
         assert_eq!(rt; found, (*row, *asked));
     }
     Ok(())
 }
 
 /// Why the two CIEs give no row for an address, the first call being refused.
-fn refused_at_first(context: &mut UnwindContext<usize>, address: u64) -> Option<Error> {
-    let section = DebugFrame::new(&TWO_CIES, LittleEndian);
+fn refused_at_first<R: Reader<Offset = usize>, S: UnwindContextStorage<usize>>(
+    reader: R,
+    context: &mut UnwindContext<usize, S>,
+    address: u64,
+) -> Option<Error> {
+    let section = DebugFrame::from(reader);
     let bases = BaseAddresses::default();
     let mut asked = 0u32;
     let found = section.unwind_info_for_address(&bases, context, address, |from, bases, offset| {
@@ -299,7 +311,7 @@ fn refused_at_first(context: &mut UnwindContext<usize>, address: u64) -> Option<
 fn a_get_cie_that_refuses(rt: HostRuntime) -> Result<(), Fail> {
     let mut context: UnwindContext<usize> = UnwindContext::new(rt.alloc())?;
     for address in [0x1000, 0x2000] {
-        let refused = refused_at_first(&mut context, address);
+        let refused = refused_at_first(two_cies(), &mut context, address);
         assert_eq!(rt; refused, Some(Error::UnknownAugmentation));
     }
     Ok(())
