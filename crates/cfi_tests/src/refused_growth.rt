@@ -247,7 +247,7 @@ const SECTIONS: [(&str, u64); 7] = [
 
 /// The section of a text, the address of a row, and that row.
 #[derive(Clone, Copy)]
-struct Unwind<'a, R> {
+struct Unwind<'a, R: Reader> {
     text: &'a str,
     section: DebugFrame<R>,
     address: u64,
