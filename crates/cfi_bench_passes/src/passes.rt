@@ -100,20 +100,13 @@ fn entries<R: Reader<Offset = usize>, S: UnwindSection<R>>(
     let mut done = Done::none();
     let mut entries = section.entries(bases);
     for _ in 0..u64::MAX {
-        let Some(entry) = entries.next()? else {
-            break;
-        };
-        done.take(offset_of(&entry));
+        match entries.next()? {
+            None => break,
+            Some(CieOrFde::Cie(cie)) => done.take(cie.offset() as u64),
+            Some(CieOrFde::Fde(partial)) => done.take(partial.offset() as u64),
+        }
     }
     Ok(done)
-}
-
-#[inline(always)]
-fn offset_of<R: Reader<Offset = usize>, S: UnwindSection<R>>(entry: &CieOrFde<'_, S, R>) -> u64 {
-    match entry {
-        CieOrFde::Cie(cie) => cie.offset() as u64,
-        CieOrFde::Fde(partial) => partial.offset() as u64,
-    }
 }
 
 /// The whole FDE, with the CIE that stands in the section.
@@ -136,24 +129,16 @@ fn fdes<R: Reader, S: UnwindSection<R>>(section: &S, bases: &BaseAddresses) -> R
     let mut done = Done::none();
     let mut entries = section.entries(bases);
     for _ in 0..u64::MAX {
-        let Some(entry) = entries.next()? else {
-            break;
-        };
-        if let CieOrFde::Fde(partial) = entry {
-            done.take(fde_sum(section, &partial)?);
+        match entries.next()? {
+            None => break,
+            Some(CieOrFde::Cie(_)) => {}
+            Some(CieOrFde::Fde(partial)) => {
+                let fde = whole(section, &partial)?;
+                done.take(fde.initial_address() ^ fde.len());
+            }
         }
     }
     Ok(done)
-}
-
-fn fde_sum<'b, R: Reader, S: UnwindSection<R>>(
-    section: &S,
-    partial: &PartialFrameDescriptionEntry<'b, S, R>,
-) -> Result<u64>
-    requires { partial.now.section ≡ section.now }
-{
-    let fde = whole(section, partial)?;
-    Ok(fde.initial_address() ^ fde.len())
 }
 
 /// The rows of an FDE, each by its sum.
