@@ -1,10 +1,13 @@
-//! Tests of rows, over both readers and both storages, whose answers stand in the standards or were worked out by hand.
+//! Tests of rows, over both readers and both storages, and runs of the programs of CALLING.md. The answers stand in the
+//! standards or were worked out by hand.
 #![tactic(auto)]
 
 #[cfg(test)]
 mod cuts;
 #[cfg(test)]
 mod derives;
+#[cfg(test)]
+mod guide;
 #[cfg(test)]
 mod readers_and_storages;
 #[cfg(test)]
