@@ -1,5 +1,5 @@
 -- What a header gives for an address, by how far it was read.
-use Rattle.std.proofs.Common.{◌≡◌, ℕ, Bool, Option, Some, None, Result, Ok, Err, refl, inl, sym, ap, subst}
+use Rattle.std.proofs.Common.{◌≡◌, ℕ, Bool, Option, Some, None, Result, Ok, Err, refl, inl, sym, subst}
 use Rattle.std.specs.Prelude.{ok_or}
 use Rattle.cfi_read_core.specs.declared.error.Error.{Error}
 use Rattle.cfi_read_core.specs.declared.error.Error.TheVariants.{UnsupportedPointerEncoding}
@@ -9,8 +9,9 @@ use Rattle.cfi_entry.specs.Sections.{Section}
 use Rattle.cfi_entry.specs.Fdes.{Fde}
 use Rattle.cfi_unwind.specs.AddressRow.{IsRowOfFound}
 use Rattle.gimli_cfi.specs.EhFrameHdr.{HeaderSection, Header, Table, header_of, start_of, value_size}
-use Rattle.gimli_cfi.specs.TableLookup.{IsFoundByTable, SearchedBy, fde_by_row}
+use Rattle.gimli_cfi.specs.TableLookup.{IsFoundByTable, fde_by_row}
 use Rattle.gimli_cfi.specs.RowsByHeader.{FoundByHeader, FoundByTable, IsRowByHeader}
+use Rattle.gimli_cfi.proofs.Searches.{by_format}
 
 module _ (rules stack : Option ℕ) (free : Bool) (section : Section) (a : ℕ) (header : HeaderSection) where
   pub refused_by_header : (e : Error) → Err e ≡ header_of header → IsRowByHeader rules stack free section a header (Err e)
@@ -22,19 +23,11 @@ module _ (rules stack : Option ℕ) (free : Bool) (section : Section) (a : ℕ) 
   found_by_header h t found answer is rows finds answers =
       (found, subst (λ read. FoundByHeader section a header read found) is (subst (λ o. FoundByTable section a header h.eh_frame o found) (sym rows) finds), answers)
 
-  -- no format that can be searched
-  unsearchable : (size : Option ℕ) (start : ℕ → Result ℕ Error) (t : Table) (of_row : ℕ → Result Fde Error) (e : Error)
-      → ◌≡◌ {A = Result ℕ Error} (Err e) (ok_or size (UnsupportedPointerEncoding (record { 0 = t.encoding }))) → SearchedBy size start t a of_row (Err e)
-  unsearchable None start t of_row e h =
-      let same : e ≡ UnsupportedPointerEncoding (record { 0 = t.encoding }) = cc in
-      ap Err same
-  unsearchable (Some size) start t of_row e h = cc
-
   pub refused_by_table : (h : Header) (t : Table) (e : Error) → Ok h ≡ header_of header → Some t ≡ h.table
       → ◌≡◌ {A = Result ℕ Error} (Err e) (ok_or (value_size t.encoding) (UnsupportedPointerEncoding (record { 0 = t.encoding }))) → IsRowByHeader rules stack free section a header (Err e)
   refused_by_table h t e is rows refused =
       found_by_header h (Some t) (Err e) (Err e) is (sym rows)
-      (unsearchable (value_size t.encoding) (start_of header t) t (fde_by_row header t h.eh_frame section a) e refused)
+      (by_format (value_size t.encoding) (start_of header t) t a (fde_by_row header t h.eh_frame section a) e refused)
       (inl refl)
 
   pub answered_by_table : (source : HeaderSection) (h : Header) (t : Table) (start : ℕ → Result ℕ Error) (eh_frame : Pointer) (answer : Result (Row ℕ) Error)

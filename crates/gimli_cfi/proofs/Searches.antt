@@ -1,8 +1,9 @@
 -- What a search in the rows comes to.
-use Rattle.std.proofs.Common.{◌≡◌, ℕ, Option, Some, None, Result, Ok, inr, ⊎_elim}
+use Rattle.std.proofs.Common.{◌≡◌, ℕ, Option, Some, None, Result, Ok, Err, refl, ap, inl, inr, ⊎_elim}
 use Rattle.std.specs.Prelude.{IsSome, ok_or}
 use Rattle.cfi_read_core.specs.declared.error.Error.{Error}
-use Rattle.gimli_cfi.specs.BoundaryRows.{IsBoundaryRow, AreRising, IsLastUpTo}
+use Rattle.cfi_read_core.specs.declared.error.Error.TheVariants.{UnsupportedPointerEncoding}
+use Rattle.gimli_cfi.specs.BoundaryRows.{IsBoundaryRow, IsRefusalOfRow, AreRising, IsLastUpTo}
 use Rattle.gimli_cfi.specs.EhFrameHdr.{Table}
 use Rattle.gimli_cfi.specs.TableLookup.{SearchedBy}
 use Rattle.gimli_cfi.proofs.Rising.{last_up_to}
@@ -12,6 +13,18 @@ pub by_row : {A : Type 0} (size : Option ℕ) (n : ℕ) (e : Error) (start : ℕ
     ok_or size e ≡ Ok n → IsBoundaryRow start table.count a k → found ≡ of_row k → SearchedBy size start table a of_row found
 by_row None n e start table a of_row found k searchable boundary same = absurd (cc)
 by_row (Some size) n e start table a of_row found k searchable boundary same = inr (k, boundary, same)
+
+-- by the refusal of a row
+pub by_refusal : {A : Type 0} (size : Option ℕ) (n : ℕ) (e refusal : Error) (start : ℕ → Result ℕ Error) (table : Table) (a : ℕ) (of_row : ℕ → Result A Error) →
+    ok_or size e ≡ Ok n → IsRefusalOfRow start table.count refusal → SearchedBy size start table a of_row (Err refusal)
+by_refusal None n e refusal start table a of_row searchable refused = absurd (cc)
+by_refusal (Some size) n e refusal start table a of_row searchable refused = inl (refusal, refused, refl)
+
+-- by a format that can't be searched
+pub by_format : {A : Type 0} (size : Option ℕ) (start : ℕ → Result ℕ Error) (table : Table) (a : ℕ) (of_row : ℕ → Result A Error) (e : Error) →
+    ◌≡◌ {A = Result ℕ Error} (Err e) (ok_or size (UnsupportedPointerEncoding (record { 0 = table.encoding }))) → SearchedBy size start table a of_row (Err e)
+by_format None start table a of_row e refused = let same : e ≡ UnsupportedPointerEncoding (record { 0 = table.encoding }) = cc in ap Err same
+by_format (Some size) start table a of_row e refused = absurd (cc)
 
 -- a format that can be searched has a size
 pub not_none : (size : Option ℕ) (n : ℕ) (e : Error) → ok_or size e ≡ Ok n → size ≡ None → ⊥

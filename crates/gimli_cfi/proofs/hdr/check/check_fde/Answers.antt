@@ -1,14 +1,34 @@
-use Rattle.std.proofs.Common.{◌≡◌, ◌≢◌, Ok, ap, sym, ◌∙◌}
+use Rattle.std.proofs.Common.{◌≡◌, ◌≢◌, Ok, Err, ap, sym, ◌∙◌, rules}
 use Rattle.cfi_unwind.specs.FdeViews.{fde_view}
 use Rattle.gimli_cfi.specs.BoundaryRows.{AreRising, IsBoundaryRow}
 use Rattle.gimli_cfi.specs.EhFrameHdr.{start_of}
 use Rattle.gimli_cfi.specs.HeaderViews.{header_section_view, table_view}
-use Rattle.gimli_cfi.proofs.Reasons.{never_refused, no_row_by_start, no_row_by_target}
+use Rattle.gimli_cfi.proofs.Reasons.{never_refused, no_row_by_start, no_row_by_target, start_for_fde, target_for_fde}
 use Rattle.gimli_cfi.proofs.StartCounts.{by_search, by_start, by_next}
 use Rattle.gimli_cfi.proofs.hdr.check.check_fde.Goals as goal
 
 pub returns-in-Err-clause-reason : goal.returns-in-Err-clause-reason
 returns-in-Err-clause-reason g c = never_refused _ _ _ c.requires.rising c.in-Err.ensures.refused
+
+pub returns-in_err-start-clause-reason : goal.returns-in_err-start-clause-reason
+returns-in_err-start-clause-reason g c =
+    let gives : c.from_residual.result ≡ Err c.in_err-start.field-0.0 = search rules in
+    let header = header_section_view g.R.Reader.position c.args.table.now.hdr.now c.args.bases.now in
+    let refused = rw (c.search_starts.ensures.same, c.requires.answers) at c.in_err-start.ensures.refused in
+    rw gives (start_for_fde header (table_view g.R.Reader.position c.args.table.now) c.args.eh_frame _ (fde_view g.R.Reader.position g.R.Offset.ReaderOffset.number c.args.fde.now) _ c.in-Ok.ensures.found.inside refused)
+
+pub returns-in_err-target-clause-reason : goal.returns-in_err-target-clause-reason
+returns-in_err-target-clause-reason g c =
+    let gives : c.from_residual-in_err-target.result ≡ Err c.in_err-target.field-0.0 = search rules in
+    let header = header_section_view g.R.Reader.position c.args.table.now.hdr.now c.args.bases.now in
+    rw gives (target_for_fde header (table_view g.R.Reader.position c.args.table.now) c.args.eh_frame _ (fde_view g.R.Reader.position g.R.Offset.ReaderOffset.number c.args.fde.now) _ c.in-Ok.ensures.found.inside c.in_err-target.ensures.refused)
+
+pub returns-in_err-next-clause-reason : goal.returns-in_err-next-clause-reason
+returns-in_err-next-clause-reason g c =
+    let gives : c.from_residual-in_err-next.result ≡ Err c.in_err-next.field-0.0 = search rules in
+    let header = header_section_view g.R.Reader.position c.args.table.now.hdr.now c.args.bases.now in
+    let refused = rw (c.start_at.ensures.same, c.search_starts.ensures.same, c.requires.answers) at c.in_err-next.ensures.refused in
+    rw gives (start_for_fde header (table_view g.R.Reader.position c.args.table.now) c.args.eh_frame _ (fde_view g.R.Reader.position g.R.Offset.ReaderOffset.number c.args.fde.now) _ c.if-after-table.true refused)
 
 pub returns-then-start-address-clause-reason : goal.returns-then-start-address-clause-reason
 returns-then-start-address-clause-reason g c =

@@ -10,3 +10,8 @@ returns-clause-rising g c = λ searchable rising.
     (starts_view g.R.Reader.position c.args.self.now.hdr.now c.args.bases.now) (table_view g.R.Reader.position c.args.self.now) c.args.address
     (target_of (header_section_view g.R.Reader.position c.args.self.now.hdr.now c.args.bases.now) (table_view g.R.Reader.position c.args.self.now))
     c.lookup_in.result searchable rising (rw (same_section_and_bases.0, same_section_and_bases.1) at c.lookup_in.ensures.found)
+
+pub returns-clause-found : goal.returns-clause-found
+returns-clause-found g c =
+    let same_section_and_bases = c.in_ok-starts.ensures.same_section_and_bases in
+    rw (same_section_and_bases.0, same_section_and_bases.1) at c.lookup_in.ensures.found

@@ -1,7 +1,19 @@
-use Rattle.std.proofs.Common.{◌∙◌, sym}
+use Rattle.std.proofs.Common.{◌≡◌, Err, ◌∙◌, rules, sym}
 use Rattle.gimli_cfi.specs.EhFrameHdr.{value_size}
-use Rattle.gimli_cfi.proofs.Searches.{by_row, not_none}
+use Rattle.gimli_cfi.specs.HeaderViews.{table_view}
+use Rattle.gimli_cfi.proofs.Searches.{by_format, by_refusal, by_row, not_none}
 use Rattle.gimli_cfi.proofs.hdr.table.EhHdrTable.lookup_in.Goals as goal
+
+pub returns-in_err-size-clause-found : goal.returns-in_err-size-clause-found
+returns-in_err-size-clause-found g c =
+    let gives : c.from_residual.result ≡ Err c.in_err-size.field-0.0 = search rules in
+    rw gives (by_format (value_size c.args.self.now.hdr.now.table_enc.0) _ (table_view g.R.Reader.position c.args.self.now) _ _ _ c.in_err-size.ensures)
+
+pub returns-in_err-row-clause-found : goal.returns-in_err-row-clause-found
+returns-in_err-row-clause-found g c =
+    let gives : c.from_residual-in_err-row.result ≡ Err c.in_err-row.field-0.0 = search rules in
+    rw gives (by_refusal (value_size c.args.self.now.hdr.now.table_enc.0) c.in_ok-size.size _ _ _ (table_view g.R.Reader.position c.args.self.now) _ _
+    (sym c.searchable_size.ensures ∙ c.in_ok-size.was) c.in_err-row.ensures.refused)
 
 pub returns-in_err-row-clause-not_asked : goal.returns-in_err-row-clause-not_asked
 returns-in_err-row-clause-not_asked g c = λ none.
