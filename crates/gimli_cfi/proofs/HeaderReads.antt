@@ -1,9 +1,10 @@
 -- The reads of a header and of its rows never go back.
-use Rattle.std.proofs.Common.{◌≡◌, ℕ, Ok, refl, arith, rules}
+use Rattle.std.proofs.Common.{◌≡◌, ℕ, Result, Ok, Err, refl, arith, rules}
 use Rattle.std.specs.Prelude.{◌||◌}
 use Rattle.std.specs.Int.{w8}
+use Rattle.cfi_read_core.specs.declared.error.Error.{Error}
 use Rattle.cfi_read_core.specs.ReadFunctions.{Position, Read, give, refuse_if}
-use Rattle.cfi_read_core.specs.ReaderCalls.{IsSound, Reads, extent_of}
+use Rattle.cfi_read_core.specs.ReaderCalls.{IsSound, Reads, extent_of, map_ok}
 use Rattle.cfi_read_core.specs.Numbers.{unsigned}
 use Rattle.cfi_read_core.specs.PointerEncodings.{is_omitted}
 use Rattle.cfi_instruction.specs.CallFrameSections.{IsOf}
@@ -30,13 +31,17 @@ onward_row context encoding =
 abbrev Gave : {A : Type 0} → Read A → Position → A → Position → Type 0
 Gave read old x new = Reads (λ y. y) read old (Ok x) new
 
--- the parts of a header, read in order
-pub header_given : (s : Position) (size : ℕ) (bases : SectionBaseAddresses) {s1 s2 s3 s4 s5 s6 : Position} {version n encoding count_encoding table_encoding count : ℕ} {eh_frame : Pointer} →
+-- the parts of a header, read in order, up to the count or its refusal
+pub header_by_count : (s : Position) (size : ℕ) (bases : SectionBaseAddresses) {s1 s2 s3 s4 s5 s6 : Position} {version n encoding count_encoding table_encoding : ℕ} {eh_frame : Pointer} (count : Result ℕ Error) →
     Gave (unsigned w8) s version s1 → version ≡ 1 → n ≡ size → Gave encoding_byte s1 encoding s2 → Gave encoding_byte s2 count_encoding s3 → Gave encoding_byte s3 table_encoding s4 →
-    Gave (pointer encoding (header_context (header_section s n bases))) s4 eh_frame s5 → Gave (row_count size count_encoding table_encoding) s5 count s6 →
-    Ok (record { eh_frame = eh_frame; table = table_of table_encoding count (extent_of s6) }) ≡ header_of (header_section s size bases)
+    Gave (pointer encoding (header_context (header_section s n bases))) s4 eh_frame s5 → Reads (λ x. x) (row_count size count_encoding table_encoding) s5 count s6 →
+    map_ok (λ count. record { eh_frame = eh_frame; table = table_of table_encoding count (extent_of s6) }) count ≡ header_of (header_section s size bases)
 unfolding header_fields
-header_given s size bases at_version one sized first second third at_pointer at_count =
+header_by_count s size bases (Ok count) at_version one sized first second third at_pointer at_count =
+    let at_version_1 = rw one at at_version in
+    let pointer_of_size = rw sized at at_pointer in
+    search rules
+header_by_count s size bases (Err e) at_version one sized first second third at_pointer at_count =
     let at_version_1 = rw one at at_version in
     let pointer_of_size = rw sized at at_pointer in
     search rules
