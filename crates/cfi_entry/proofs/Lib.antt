@@ -1,3 +1,4 @@
 pub mod EntryReads
 pub mod Within
 pub mod EntryKinds
+pub mod Announced
