@@ -1,1 +1,2 @@
 pub mod FoundRow
+pub mod KeptCalls

@@ -15,6 +15,7 @@ ghost use Rattle.cfi_entry.specs.Fdes.{Covers, Fde};
 ghost use Rattle.cfi_unwind.specs.Scan.{chosen_fde};
 ghost use Rattle.cfi_unwind.specs.AddressRow.{IsRowByScan, IsRowOfFound};
 ghost use Rattle.cfi_unwind.specs.KeptCie.{KeepsCie};
+ghost use Rattle.cfi_kept_cies.specs.KeptAnswers.{AnswersKept};
 ghost use Rattle.cfi_entry.specs.CieViews.{cie_view};
 ghost use Rattle.cfi_unwind.specs.FdeViews.{fde_view};
 ghost use Rattle.gimli_cfi.specs.HeaderViews.{section_view};
@@ -74,10 +75,7 @@ pub fn row_with_kept_cies<
         ctx,
         address,
         |from: &Section, bases: &BaseAddresses, offset: Section::Offset|
-            ensures read { KeepsCie R.position R.Offset.number (Section.view from.now) bases.now kept.entry →
-                map_ok (cie_view R.position R.Offset.number) result ≡ cie_at (section_of (Section.view from.now) bases.now) (R.Offset.number (Section.Offset.offset offset)) }
-            ensures part { KeepsCie R.position R.Offset.number (Section.view from.now) bases.now kept.entry → IfOk result (λ cie. IsOf (R.position cie.initial_instructions) (Section.view from.now).position) }
-            ensures keeps { KeepsCie R.position R.Offset.number (Section.view from.now) bases.now kept.entry → KeepsCie R.position R.Offset.number (Section.view from.now) bases.now kept.exit }
+            ensures { AnswersKept R.position R.Offset.number (Section.view from.now) bases.now kept.entry (R.Offset.number (Section.Offset.offset offset)) result kept.exit }
         { kept_or_read(&mut kept, from, bases, offset) },
     )
 }
@@ -136,9 +134,9 @@ pub fn fde_in_either<R: Reader, S: UnwindSection<R>>(
     let in_first = first.fde_for_address(
         bases,
         address,
-        |from: &S, bases: &BaseAddresses, offset: S::Offset| {
-            kept_or_read(&mut kept, from, bases, offset)
-        },
+        |from: &S, bases: &BaseAddresses, offset: S::Offset|
+            ensures { AnswersKept R.position R.Offset.number (S.view from.now) bases.now kept.entry (R.Offset.number (S.Offset.offset offset)) result kept.exit }
+        { kept_or_read(&mut kept, from, bases, offset) },
     );
     if in_first.is_ok() {
         return in_first;
@@ -147,9 +145,9 @@ pub fn fde_in_either<R: Reader, S: UnwindSection<R>>(
     second.fde_for_address(
         bases,
         address,
-        |from: &S, bases: &BaseAddresses, offset: S::Offset| {
-            kept_or_read(&mut kept_of_second, from, bases, offset)
-        },
+        |from: &S, bases: &BaseAddresses, offset: S::Offset|
+            ensures { AnswersKept R.position R.Offset.number (S.view from.now) bases.now kept_of_second.entry (R.Offset.number (S.Offset.offset offset)) result kept_of_second.exit }
+        { kept_or_read(&mut kept_of_second, from, bases, offset) },
     )
 }
 
@@ -167,9 +165,9 @@ pub fn fde_at_offset<R: Reader, S: UnwindSection<R>>(
     section.fde_from_offset(
         bases,
         offset,
-        |from: &S, bases: &BaseAddresses, offset: S::Offset| {
-            kept_or_read(&mut kept, from, bases, offset)
-        },
+        |from: &S, bases: &BaseAddresses, offset: S::Offset|
+            ensures { AnswersKept R.position R.Offset.number (S.view from.now) bases.now kept.entry (R.Offset.number (S.Offset.offset offset)) result kept.exit }
+        { kept_or_read(&mut kept, from, bases, offset) },
     )
 }
 
@@ -185,10 +183,7 @@ pub fn whole_fde<R: Reader, S: UnwindSection<R>>(
     let mut kept: Kept<R> = None;
     partial.parse(
         |from: &S, bases: &BaseAddresses, offset: S::Offset|
-            ensures read { KeepsCie R.position R.Offset.number (S.view from.now) bases.now kept.entry →
-                map_ok (cie_view R.position R.Offset.number) result ≡ cie_at (section_of (S.view from.now) bases.now) (R.Offset.number (S.Offset.offset offset)) }
-            ensures part { KeepsCie R.position R.Offset.number (S.view from.now) bases.now kept.entry → IfOk result (λ cie. IsOf (R.position cie.initial_instructions) (S.view from.now).position) }
-            ensures keeps { KeepsCie R.position R.Offset.number (S.view from.now) bases.now kept.entry → KeepsCie R.position R.Offset.number (S.view from.now) bases.now kept.exit }
+            ensures { AnswersKept R.position R.Offset.number (S.view from.now) bases.now kept.entry (R.Offset.number (S.Offset.offset offset)) result kept.exit }
         { kept_or_read(&mut kept, from, bases, offset) },
     )
 }

@@ -1,12 +1,13 @@
 use Rattle.cfi_unwind.specs.KeptCie.{KeepsCie}
 use Rattle.cfi_kept_cies.proofs.FoundRow.{by_scan}
 use Rattle.cfi_unwind.proofs.Answered.{answered_by, chosen_by}
+use Rattle.cfi_kept_cies.proofs.KeptCalls.{own, part}
 use Rattle.cfi_kept_cies.proofs.kept_cies.row_with_kept_cies.Goals as goal
 
 pub unwind_info_for_address-requires-clause-of_section : goal.unwind_info_for_address-requires-clause-of_section
 unwind_info_for_address-requires-clause-of_section g c =
     answered_by _ _ _ (λ kept. KeepsCie g.R.Reader.position g.R.Offset.ReaderOffset.number (g.Section._UnwindSectionPrivate.view c.args.section.now) c.args.bases.now kept.0.now) _ _ tt
-    (λ f asked answer h holds call. let met = rw (call.at_section, call.at_bases) at call.call.met in (met.1.1.1 holds, met.1.1.0 holds))
+    (λ f asked answer h holds call. part g.R.Reader.position g.R.Offset.ReaderOffset.number g.Section._UnwindSectionPrivate.view c.args.section.now call.shown_section.now c.args.bases.now call.shown_bases.now call.at_section call.at_bases f.0.now h.0.now (g.R.Offset.ReaderOffset.number (g.Section.Offset.UnwindOffset.offset asked)) answer call.call.met.1 holds)
 
 pub returns : goal.returns
 returns g c =
@@ -14,5 +15,5 @@ returns g c =
     record {
       row = by_scan _ _ _ _ _ row.0 _
           (chosen_by _ _ _ _ _ _ (λ kept. KeepsCie g.R.Reader.position g.R.Offset.ReaderOffset.number (g.Section._UnwindSectionPrivate.view c.args.section.now) c.args.bases.now kept.0.now) _ _ row.0 row.1 tt row.2
-          (λ f asked answer h holds call. let met = rw (call.at_section, call.at_bases) at call.call.met in (met.1.1.1 holds, met.1.0 holds))) row.3;
+          (λ f asked answer h holds call. own g.R.Reader.position g.R.Offset.ReaderOffset.number g.Section._UnwindSectionPrivate.view c.args.section.now call.shown_section.now c.args.bases.now call.shown_bases.now call.at_section call.at_bases f.0.now h.0.now (g.R.Offset.ReaderOffset.number (g.Section.Offset.UnwindOffset.offset asked)) answer call.call.met.1 holds)) row.3;
     }

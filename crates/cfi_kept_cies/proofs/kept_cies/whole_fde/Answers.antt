@@ -3,15 +3,16 @@ use Rattle.cfi_instruction.specs.CallFrameSections.{IsOf}
 use Rattle.cfi_unwind.specs.KeptCie.{KeepsCie}
 use Rattle.cfi_unwind.specs.EntryViews.{partial_of}
 use Rattle.cfi_unwind.proofs.Answered.{ok_answered_by, read_by}
+use Rattle.cfi_kept_cies.proofs.KeptCalls.{own, part}
 use Rattle.cfi_kept_cies.proofs.kept_cies.whole_fde.Goals as goal
 
 pub returns-clause-read : goal.returns-clause-read
 returns-clause-read g c =
     read_by _ _ _ _ _ _ (λ kept. KeepsCie g.R.Reader.position g.R.Offset.ReaderOffset.number (g.S._UnwindSectionPrivate.view c.args.partial.now.section) c.args.partial.now.bases.now kept.0.now) (Ok (partial_of g.R.Reader.position g.R.Offset.ReaderOffset.number c.args.partial.now.found c.args.partial.now.cie_offset)) _ _ tt c.parse.ensures.read
-    (λ f asked answer h holds call. let met = rw (call.at_section, call.at_bases) at call.call.met in (met.1.1.1 holds, met.1.0 holds))
+    (λ f asked answer h holds call. own g.R.Reader.position g.R.Offset.ReaderOffset.number g.S._UnwindSectionPrivate.view c.args.partial.now.section call.shown_section.now c.args.partial.now.bases.now call.shown_bases.now call.at_section call.at_bases f.0.now h.0.now (g.R.Offset.ReaderOffset.number (g.S.Offset.UnwindOffset.offset asked)) answer call.call.met.1 holds)
 
 pub returns-clause-cie_part : goal.returns-clause-cie_part
 returns-clause-cie_part g c =
     ok_answered_by _ _ _ (λ fde. fde.cie) (λ kept. KeepsCie g.R.Reader.position g.R.Offset.ReaderOffset.number (g.S._UnwindSectionPrivate.view c.args.partial.now.section) c.args.partial.now.bases.now kept.0.now)
     (λ cie. IsOf (g.R.Reader.position cie.initial_instructions) (g.S._UnwindSectionPrivate.view c.args.partial.now.section).position) _ tt _ c.parse.ensures.cie
-    (λ f asked answer h holds call. let met = rw (call.at_section, call.at_bases) at call.call.met in (met.1.1.1 holds, met.1.1.0 holds))
+    (λ f asked answer h holds call. part g.R.Reader.position g.R.Offset.ReaderOffset.number g.S._UnwindSectionPrivate.view c.args.partial.now.section call.shown_section.now c.args.partial.now.bases.now call.shown_bases.now call.at_section call.at_bases f.0.now h.0.now (g.R.Offset.ReaderOffset.number (g.S.Offset.UnwindOffset.offset asked)) answer call.call.met.1 holds)
