@@ -3,7 +3,7 @@
 //! Compilers write hundreds of FDEs in a row that point to one CIE, and one FDE is looked up again and again. Here each
 //! call that takes a `get_cie` is handed a closure that keeps the CIE that it read last, with its offset, and answers it
 //! where it is asked for again. The clauses `part` and `cie_part` of an FDE are what an unwind of it asks.
-ghost use Rattle.std.specs.Prelude.{◌≡◌, ◌⊎◌, IfOk, IfSome, Ok, Result};
+ghost use Rattle.std.specs.Prelude.{◌≡◌, ◌⊎◌, IfOk, Ok, Result};
 ghost use Rattle.cfi_read_core.specs.ReaderCalls.{map_ok};
 ghost use Rattle.cfi_read_core.specs.declared.error.Error.{Error as Refusal};
 ghost use Rattle.cfi_instruction.specs.CallFrameSections.{IsOf};
@@ -15,7 +15,7 @@ ghost use Rattle.cfi_entry.specs.Fdes.{Covers, Fde};
 ghost use Rattle.cfi_unwind.specs.Scan.{chosen_fde};
 ghost use Rattle.cfi_unwind.specs.AddressRow.{IsRowByScan, IsRowOfFound};
 ghost use Rattle.cfi_unwind.specs.KeptCie.{KeepsCie};
-ghost use Rattle.cfi_kept_cies.specs.KeptAnswers.{AnswersKept};
+ghost use Rattle.cfi_kept_cies.specs.KeptAnswers.{AnswersKept, eh_frame_view};
 ghost use Rattle.cfi_entry.specs.CieViews.{cie_view};
 ghost use Rattle.cfi_unwind.specs.FdeViews.{fde_view};
 ghost use Rattle.gimli_cfi.specs.HeaderViews.{section_view};
@@ -204,9 +204,9 @@ pub fn fde_by_table_with_kept_cies<R: Reader>(
         frame,
         bases,
         address,
-        |from: &EhFrame<R>, bases: &BaseAddresses, offset: EhFrameOffset<R::Offset>| {
-            kept_or_read(&mut kept, from, bases, offset)
-        },
+        |from: &EhFrame<R>, bases: &BaseAddresses, offset: EhFrameOffset<R::Offset>|
+            ensures { AnswersKept R.position R.Offset.number (eh_frame_view R.position from.now) bases.now kept.entry (R.Offset.number offset.0) result kept.exit }
+        { kept_or_read(&mut kept, from, bases, offset) },
     )
 }
 
@@ -221,26 +221,14 @@ pub fn row_by_table_with_kept_cies<'ctx, R: Reader, S: UnwindContextStorage<R::O
     ensures row { (found : Result Fde Refusal) × IsRowOfFound S.Rules.limit S.Stack.limit S.Rules.copies_free (section_view R.position frame.now bases.now) address
         found (row_lent R.Offset.number result) }
 {
-    let mut kept: Option<CommonInformationEntry<R>> = None;
+    let mut kept: Kept<R> = None;
     table.unwind_info_for_address(
         frame,
         bases,
         ctx,
         address,
         |from: &EhFrame<R>, bases: &BaseAddresses, offset: EhFrameOffset<R::Offset>|
-            ensures keeps { IfSome kept.entry (λ cie. IsOf (R.position cie.initial_instructions) (R.position from.now.section)) →
-                IfSome kept.exit (λ cie. IsOf (R.position cie.initial_instructions) (R.position from.now.section)) }
-            ensures part { IfSome kept.entry (λ cie. IsOf (R.position cie.initial_instructions) (R.position from.now.section)) →
-                IfOk result (λ cie. IsOf (R.position cie.initial_instructions) (R.position from.now.section)) }
-        {
-            if let Some(cie) = kept {
-                if cie.offset() == offset.0 {
-                    return Ok(cie);
-                }
-            }
-            let cie = from.cie_from_offset(bases, offset)?;
-            kept = Some(cie);
-            Ok(cie)
-        },
+            ensures { AnswersKept R.position R.Offset.number (eh_frame_view R.position from.now) bases.now kept.entry (R.Offset.number offset.0) result kept.exit }
+        { kept_or_read(&mut kept, from, bases, offset) },
     )
 }
