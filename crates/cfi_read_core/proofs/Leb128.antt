@@ -1,5 +1,5 @@
 -- An unsigned LEB128 number, byte by byte.
-use Rattle.std.proofs.Common.{◌≡◌, ◌≤◌, ◌<◌, ◌+◌, ◌-◌, ◌*◌, ◌^◌, ◌%◌, ℕ, zero, suc, Bool, true, false, List, [], ◌∷◌, length, take, drop, get_or, Ok, Err, cond, refl, sym, ap, ◌∙◌, arith, add-zero, drop-cons, ⊎_elim}
+use Rattle.std.proofs.Common.{◌≡◌, ◌≤◌, ◌<◌, ◌+◌, ◌-◌, ◌*◌, ◌^◌, ◌%◌, ℕ, zero, suc, Bool, true, false, List, [], ◌∷◌, length, take, drop, get_or, Ok, Err, cond, refl, sym, ap, ◌∙◌, arith, add-zero, drop-cons, ⊎_elim, Result, subst}
 use Rattle.std.specs.Prelude.{nat_lt, nat_le, slice_index, slice_range, if◌then◌else◌}
 use Rattle.std.specs.List.{prefix_len, slice_get}
 use Rattle.std.proofs.lemmas.Bool.{cases_lt}
@@ -9,7 +9,7 @@ use Rattle.cfi_read_core.specs.declared.error.Error.TheVariants.{BadUnsignedLeb1
 use Rattle.cfi_read_core.specs.ReadFunctions.{Read, Source, Position, Outcome, unexpected_eof, rest, carry_on, refuse_if, refuse, give, ◌>>◌}
 use Rattle.std.specs.Int.{w8}
 use Rattle.cfi_read_core.specs.Numbers.{unsigned, number_of, leb128_sum, continuation_count, leb128_bytes, is_bad_byte, unsigned_leb128}
-use Rattle.cfi_read_core.specs.ReaderCalls.{Reads, one_back}
+use Rattle.cfi_read_core.specs.ReaderCalls.{IsSound, Reads, bytes_left, one_back}
 use borrow.Author.Tests.{le-leb, lt-leb, lt-ltb, le-ltb}
 
 abbrev pub goes_on : ℕ → Bool
@@ -263,8 +263,8 @@ tenth_power : 128 ^ 9 ≡ 9223372036854775808
 tenth_power = refl
 
 -- a byte that may be the last adds no more than 64 bits hold
-pub room : (i w v b : ℕ) → i ≤ 9 → w ≡ 128 ^ i → v < w → b < 256 → (i ≡ 9 → b ≤ 1) → v + b % 128 * w < 18446744073709551616
-room i w v b few weighs bound byte tenth =
+room : (i w v b : ℕ) → i ≤ 9 → w ≡ 128 ^ i → v < w → (i ≡ 9 → b ≤ 1) → v + b % 128 * w < 18446744073709551616
+room i w v b few weighs bound tenth =
     ⊎_elim
     (λ (before : i < 9).
     let grows : 128 ^ suc i ≤ 128 ^ 9 = pow-le-pow_right {n = 128} (omega arith) {i = suc i} {j = 9} (omega arith) in
@@ -281,6 +281,19 @@ room i w v b few weighs bound byte tenth =
     omega arith)
     (cases_lt i 9)
 
+pub sum_fits : (i w v b low : ℕ) → i ≤ 9 → w ≡ 128 ^ i → v < w → (i ≡ 9 → b ≤ 1) → low ≡ b % 128 → v + low * w < 18446744073709551616
+sum_fits i w v b low few weighs bound tenth lower = rw lower (room i w v b few weighs bound tenth)
+
+pub product_fits : (i w v b low : ℕ) → i ≤ 9 → w ≡ 128 ^ i → v < w → (i ≡ 9 → b ≤ 1) → low ≡ b % 128 → low * w < 18446744073709551616
+product_fits i w v b low few weighs bound tenth lower = let sum = sum_fits i w v b low few weighs bound tenth lower in omega arith
+
+pub before_tenth : (i b : ℕ) → i ≤ 9 → (i ≡ 9 → b ≤ 1) → 128 ≤ b → i < 9
+before_tenth i b few tenth more =
+    ⊎_elim
+    (λ less. less)
+    (λ (last : 9 ≤ i). let here : i ≡ 9 = omega arith in let small = tenth here in absurd (omega arith))
+    (cases_lt i 9)
+
 pub weight_grows : (i w : ℕ) → i < 9 → w ≡ 128 ^ i → (w * 128 ≡ 128 ^ (i + 1)) × (w * 128 < 18446744073709551616)
 weight_grows i w few weighs =
     let grows : 128 ^ suc i ≤ 128 ^ 9 = pow-le-pow_right {n = 128} (omega arith) {i = suc i} {j = 9} (omega arith) in
@@ -290,8 +303,76 @@ weight_grows i w few weighs =
     (sum ∙ ap (λ (n : ℕ). 128 ^ n) (sym same), omega (arith, tenth_power))
 
 -- what counts so far is below what the next byte counts
-pub bounded : (v w b : ℕ) → v < w → v + b % 128 * w < w * 128
-bounded v w b h =
-    let low : b % 128 ≤ 127 = omega arith in
-    let product : b % 128 * w ≤ 127 * w = mul-le-mul_right w low in
+pub bounded : (v w b low : ℕ) → v < w → low ≡ b % 128 → v + low * w < w * 128
+bounded v w b low h lower =
+    let few : low ≤ 127 = omega arith in
+    let product : low * w ≤ 127 * w = mul-le-mul_right w few in
     omega arith
+
+pub one_more : (i : ℕ) → i < 9 → i + 1 ≤ 9
+one_more i h = omega arith
+
+pub nine_turns : (i : ℕ) → i ≤ 9 → 9 ≤ i → i ≡ 9
+nine_turns i h k = omega arith
+
+-- ---- the same of readers: one began at the number, and stands here in it
+
+abbrev of_byte : Outcome ℕ → Result ℕ Error
+of_byte o = o.value
+
+abbrev place_of : Outcome ℕ → ℕ
+place_of o = o.place
+
+abbrev refused : Error → ℕ → Outcome ℕ
+refused e p = record { value = Err e; place = p }
+
+abbrev read_as : ℕ → ℕ → Outcome ℕ
+read_as n p = record { value = Ok n; place = p }
+
+module _ (began here : Position) (sound : IsSound here) (same : here.source ≡ began.source) (i w v : ℕ)
+    (number : left_gives (9 - i) w v (bytes_left here) here.place ≡ unsigned_leb128 began.source began.place) where
+  pub reads_refused : (e : Error) (after : Position) → Reads (λ x. x) (unsigned w8) here (Err e) after → Reads (λ x. x) unsigned_leb128 began (Err e) after
+  reads_refused e after byte =
+      let is = ap of_byte byte.0 in
+      let stays = sym (no_byte_there here.source here.place e is).2 ∙ ap place_of byte.0 in
+      (turn_ended here.source sound.within here.place i w v _ number e is ∙ ap (refused e) stays, byte.1 ∙ same)
+
+  pub reads_too_large : (b : ℕ) (after : Position) → Reads (λ x. x) (unsigned w8) here (Ok b) after → i ≡ 9 → 1 < b → Reads (λ x. x) unsigned_leb128 began (Err BadUnsignedLeb128) after
+  reads_too_large b after byte nine large =
+      let is = ap of_byte byte.0 in
+      let next = sym (byte_there here.source here.place b sound.within is).1 ∙ ap place_of byte.0 in
+      (turn_too_large here.source sound.within here.place i w v _ number b is nine large ∙ ap (refused BadUnsignedLeb128) next, byte.1 ∙ same)
+
+  pub reads_last : (b low : ℕ) (after : Position) → Reads (λ x. x) (unsigned w8) here (Ok b) after → b < 128 → i ≤ 9 → (i ≡ 9 → b ≤ 1) → low ≡ b % 128 → Reads (λ x. x) unsigned_leb128 began (Ok (v + low * w)) after
+  reads_last b low after byte small few tenth lower =
+      let is = ap of_byte byte.0 in
+      let next = sym (byte_there here.source here.place b sound.within is).1 ∙ ap place_of byte.0 in
+      let whole : b ≡ low = omega arith in
+      let product : w * b ≡ b * w = omega arith in
+      let sum = ap (λ (x : ℕ). v + x) (product ∙ ap (λ (n : ℕ). n * w) whole) in
+      (turn_last here.source sound.within here.place i w v _ number b is small few tenth ∙ ap (λ (x : ℕ). read_as x (here.place + 1)) sum ∙ ap (read_as _) next, byte.1 ∙ same)
+
+  pub reads_on : (b low : ℕ) (after : Position) → Reads (λ x. x) (unsigned w8) here (Ok b) after → 128 ≤ b → i < 9 → low ≡ b % 128 →
+      left_gives (9 - (i + 1)) (w * 128) (v + low * w) (bytes_left after) after.place ≡ unsigned_leb128 began.source began.place
+  reads_on b low after byte more few lower =
+      let is = ap of_byte byte.0 in
+      let next : after.place ≡ here.place + 1 = sym (ap place_of byte.0) ∙ (byte_there here.source here.place b sound.within is).1 in
+      let further = turn_further here.source sound.within here.place i w v _ number b is more few in
+      let product : b % 128 * w ≡ w * (b % 128) = omega arith in
+      let sum = ap (λ (x : ℕ). v + x) (ap (λ (n : ℕ). n * w) lower ∙ product) in
+      let m = 9 - (i + 1) in
+      ap (λ (s : Source). left_gives m (w * 128) (v + low * w) (rest s after.place) after.place) byte.1
+      ∙ ap (λ (p : ℕ). left_gives m (w * 128) (v + low * w) (rest here.source p) p) next
+      ∙ ap (λ (x : ℕ). left_gives m (w * 128) x (rest here.source (here.place + 1)) (here.place + 1)) sum
+      ∙ further
+
+-- a number of one byte
+pub reads_one : (began : Position) → IsSound began → (b value : ℕ) (after : Position) → Reads (λ x. x) (unsigned w8) began (Ok b) after → b < 128 → value ≡ b → Reads (λ x. x) unsigned_leb128 began (Ok value) after
+reads_one began sound b value after byte small same =
+    let last = reads_last began began sound refl 0 1 0 (sym (whole_number began.source began.place)) b b after byte small (omega arith) (λ tenth. omega (arith, tenth)) (omega arith) in
+    let number : 0 + b * 1 ≡ value = omega arith in
+    subst (λ (x : ℕ). Reads (λ x. x) unsigned_leb128 began (Ok x) after) number last
+
+-- the first byte of none
+pub reads_none : (began : Position) → IsSound began → (e : Error) (after : Position) → Reads (λ x. x) (unsigned w8) began (Err e) after → Reads (λ x. x) unsigned_leb128 began (Err e) after
+reads_none began sound e after byte = reads_refused began began sound refl 0 1 0 (sym (whole_number began.source began.place)) e after byte

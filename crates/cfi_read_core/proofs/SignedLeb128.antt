@@ -1,5 +1,5 @@
 -- A signed LEB128 number, byte by byte.
-use Rattle.std.proofs.Common.{◌≡◌, ◌≤◌, ◌<◌, ◌+◌, ◌-◌, ◌*◌, ◌^◌, ◌%◌, ℕ, zero, suc, ℤ, pos, negsuc, Bool, true, false, not, ◌||◌, List, [], ◌∷◌, length, take, Ok, Err, cond, refl, sym, ap, ◌∙◌, arith, ⊎_elim, ◌⊎◌, ne_eqb, subst}
+use Rattle.std.proofs.Common.{◌≡◌, ◌≤◌, ◌<◌, ◌+◌, ◌-◌, ◌*◌, ◌^◌, ◌%◌, ℕ, zero, suc, ℤ, pos, negsuc, Bool, true, false, not, ◌||◌, List, [], ◌∷◌, length, take, Ok, Err, cond, refl, sym, ap, ◌∙◌, arith, ⊎_elim, ◌⊎◌, ne_eqb, subst, Result}
 use Rattle.std.specs.Prelude.{◌-ℤ◌, nat_lt, nat_le, slice_index, ◌==◌, if◌then◌else◌}
 use Rattle.std.specs.Int.{w8, w64, cast_signed, cast_unsigned}
 use Rattle.std.specs.List.{prefix_len, slice_get}
@@ -8,8 +8,9 @@ use Rattle.std.proofs.Math.Nat.{pow-suc, pow-le-pow_right, mul-le-mul_right}
 use borrow.Author.Tests.{le-leb, lt-leb}
 use Rattle.cfi_read_core.specs.declared.error.Error.{Error}
 use Rattle.cfi_read_core.specs.declared.error.Error.TheVariants.{BadSignedLeb128}
-use Rattle.cfi_read_core.specs.ReadFunctions.{Read, Source, Outcome, unexpected_eof, rest, carry_on, refuse_if, refuse, give, ◌>>◌}
+use Rattle.cfi_read_core.specs.ReadFunctions.{Read, Source, Position, Outcome, unexpected_eof, rest, carry_on, refuse_if, refuse, give, ◌>>◌}
 use Rattle.cfi_read_core.specs.Numbers.{unsigned, leb128_sum, continuation_count, leb128_bytes, is_bad_byte, is_below_zero, number_by, signed_leb128_sum, signed_leb128}
+use Rattle.cfi_read_core.specs.ReaderCalls.{IsSound, Reads, bytes_left}
 use Rattle.cfi_read_core.proofs.Leb128.{bad_byte_at, goes_on, same_test, byte_there, no_byte_there}
 
 abbrev pub is_bad : ℕ → Bool
@@ -222,7 +223,7 @@ bad_tenth b h k =
     rw (zero', ones) refl
 
 -- sums that fit: a byte at a place below the tenth
-pub room : (i w v b : ℕ) → i < 9 → w ≡ 128 ^ i → v < w → (v + b % 128 * w < w * 128) × (w * 128 ≤ 9223372036854775808)
+room : (i w v b : ℕ) → i < 9 → w ≡ 128 ^ i → v < w → (v + b % 128 * w < w * 128) × (w * 128 ≤ 9223372036854775808)
 room i w v b few weighs bound =
     let low : b % 128 ≤ 127 = omega arith in
     let product : b % 128 * w ≤ 127 * w = mul-le-mul_right w low in
@@ -231,6 +232,20 @@ room i w v b few weighs bound =
     let top : 128 ^ 9 ≡ 9223372036854775808 = refl in
     let same : w * 128 ≡ 128 ^ i * 128 = ap (λ (n : ℕ). n * 128) weighs in
     (omega arith, omega arith)
+
+pub sum_fits : (i w v b low : ℕ) → i < 9 → w ≡ 128 ^ i → v < w → low ≡ b % 128 → v + low * w < 18446744073709551616
+sum_fits i w v b low few weighs bound lower = let fits = room i w v b few weighs bound in rw lower (omega (arith, fits.0, fits.1))
+
+pub product_fits : (i w v b low : ℕ) → i < 9 → w ≡ 128 ^ i → v < w → low ≡ b % 128 → low * w < 18446744073709551616
+product_fits i w v b low few weighs bound lower = let sum = sum_fits i w v b low few weighs bound lower in omega arith
+
+pub weight_room : (i w v b : ℕ) → i < 9 → w ≡ 128 ^ i → v < w → w * 128 ≤ 9223372036854775808
+weight_room i w v b few weighs bound = (room i w v b few weighs bound).1
+
+pub last_weight : (i w : ℕ) → w ≡ 128 ^ i → i ≡ 9 → w ≤ 9223372036854775808
+last_weight i w weighs nine =
+    let weight : w ≡ 128 ^ 9 = weighs ∙ ap (λ (n : ℕ). 128 ^ n) nine in
+    omega (arith, weight)
 
 -- the tenth byte of a number that is accepted
 accepted_tenth : (source : Source) (inside : source.last ≤ length source.whole) (place w v : ℕ) (whole : Outcome ℤ) → left_gives 0 w v (rest source place) place ≡ whole → (below : Bool) (b : ℕ) → (unsigned w8 source place).value ≡ Ok b →
@@ -249,3 +264,67 @@ tenth_accepted source inside place i w v whole number b is nine below either =
     (λ (e : b ≡ 127). let is' = subst (λ x. (unsigned w8 source place).value ≡ Ok x) e is in
     accepted_tenth source inside place w v whole left true 127 is' refl refl (tenth_of_minus v w below) ∙ ap (λ (x : ℕ). let o : Outcome ℤ = record { value = Ok (number_by (not (x == 0)) v w); place = place + 1 } in o) (sym e))
     either
+
+-- ---- the same of readers: one began at the number, and stands here in it
+
+abbrev of_byte : Outcome ℕ → Result ℕ Error
+of_byte o = o.value
+
+abbrev place_of : Outcome ℕ → ℕ
+place_of o = o.place
+
+abbrev refused : Error → ℕ → Outcome ℤ
+refused e p = record { value = Err e; place = p }
+
+abbrev read_as : ℤ → ℕ → Outcome ℤ
+read_as n p = record { value = Ok n; place = p }
+
+module _ (began here : Position) (sound : IsSound here) (same : here.source ≡ began.source) (i w v : ℕ)
+    (number : left_gives (9 - i) w v (bytes_left here) here.place ≡ signed_leb128 began.source began.place) where
+  pub reads_refused : (e : Error) (after : Position) → Reads (λ x. x) (unsigned w8) here (Err e) after → Reads (λ x. x) signed_leb128 began (Err e) after
+  reads_refused e after byte =
+      let is = ap of_byte byte.0 in
+      let stays = sym (no_byte_there here.source here.place e is).2 ∙ ap place_of byte.0 in
+      (turn_ended here.source sound.within here.place i w v _ number e is ∙ ap (refused e) stays, byte.1 ∙ same)
+
+  pub reads_last : (b low : ℕ) (z : ℤ) (after : Position) → Reads (λ x. x) (unsigned w8) here (Ok b) after → b < 128 → i < 9 → w ≡ 128 ^ i → v < w → low ≡ b % 128 →
+      z ≡ number_by (nat_le 64 b) (v + low * w) (w * 128) → Reads (λ x. x) signed_leb128 began (Ok (cast_signed w64 (cast_unsigned w64 z))) after
+  reads_last b low z after byte small few weighs bound lower signed =
+      let is = ap of_byte byte.0 in
+      let whole : b % 128 ≡ b = omega arith in
+      let ends = turn_last here.source sound.within here.place i w v _ number (nat_le 64 b) b is small few (ap (nat_le 64) whole) in
+      let next = sym (byte_there here.source here.place b sound.within is).1 ∙ ap place_of byte.0 in
+      let product : w * (b % 128) ≡ b % 128 * w = omega arith in
+      let sum = ap (λ (x : ℕ). v + x) (product ∙ ap (λ (n : ℕ). n * w) (sym lower)) in
+      let fits = room i w v b few weighs bound in
+      let bits = signed_bits (nat_le 64 b) (v + low * w) (w * 128) z (rw lower fits.0) fits.1 signed in
+      (ends ∙ ap (λ (x : ℕ). read_as (number_by (nat_le 64 b) x (w * 128)) (here.place + 1)) sum ∙ ap (λ (n : ℤ). read_as n (here.place + 1)) (sym bits) ∙ ap (read_as _) next, byte.1 ∙ same)
+
+  pub reads_on : (b low : ℕ) (after : Position) → Reads (λ x. x) (unsigned w8) here (Ok b) after → 128 ≤ b → i < 9 → low ≡ b % 128 →
+      left_gives (9 - (i + 1)) (w * 128) (v + low * w) (bytes_left after) after.place ≡ signed_leb128 began.source began.place
+  reads_on b low after byte more few lower =
+      let is = ap of_byte byte.0 in
+      let next : after.place ≡ here.place + 1 = sym (ap place_of byte.0) ∙ (byte_there here.source here.place b sound.within is).1 in
+      let further = turn_further here.source sound.within here.place i w v _ number b is more few in
+      let product : b % 128 * w ≡ w * (b % 128) = omega arith in
+      let sum = ap (λ (x : ℕ). v + x) (ap (λ (n : ℕ). n * w) lower ∙ product) in
+      let m = 9 - (i + 1) in
+      ap (λ (s : Source). left_gives m (w * 128) (v + low * w) (rest s after.place) after.place) byte.1
+      ∙ ap (λ (p : ℕ). left_gives m (w * 128) (v + low * w) (rest here.source p) p) next
+      ∙ ap (λ (x : ℕ). left_gives m (w * 128) x (rest here.source (here.place + 1)) (here.place + 1)) sum
+      ∙ further
+
+  pub reads_bad_tenth : (b : ℕ) (after : Position) → Reads (λ x. x) (unsigned w8) here (Ok b) after → i ≡ 9 → is_bad b ≡ true → Reads (λ x. x) signed_leb128 began (Err BadSignedLeb128) after
+  reads_bad_tenth b after byte nine bad =
+      let is = ap of_byte byte.0 in
+      let next = sym (byte_there here.source here.place b sound.within is).1 ∙ ap place_of byte.0 in
+      (tenth_refused here.source sound.within here.place i w v _ number b is nine bad ∙ ap (refused BadSignedLeb128) next, byte.1 ∙ same)
+
+  pub reads_tenth : (b : ℕ) (z : ℤ) (after : Position) → Reads (λ x. x) (unsigned w8) here (Ok b) after → i ≡ 9 → w ≡ 128 ^ i → v < w → (b ≡ 0) ⊎ (b ≡ 127) →
+      z ≡ number_by (not (b == 0)) v w → Reads (λ x. x) signed_leb128 began (Ok (cast_signed w64 (cast_unsigned w64 z))) after
+  reads_tenth b z after byte nine weighs bound either signed =
+      let is = ap of_byte byte.0 in
+      let next = sym (byte_there here.source here.place b sound.within is).1 ∙ ap place_of byte.0 in
+      let ends = tenth_accepted here.source sound.within here.place i w v _ number b is nine bound either in
+      let bits = signed_bits (not (b == 0)) v w z bound (last_weight i w weighs nine) signed in
+      (ends ∙ ap (λ (n : ℤ). read_as n (here.place + 1)) (sym bits) ∙ ap (read_as _) next, byte.1 ∙ same)
