@@ -23,12 +23,12 @@ answered t n source place =
 abbrev zero_at : Source → ℕ → ℕ
 zero_at source place = prefix_len (λ b. not (b == 0)) (rest source place)
 
-pub text_there : (s : Position) (n : ℕ) → find_byte 0 s ≡ Ok n →
+pub text_there : (s : Position) (n : ℕ) → Ok n ≡ find_byte 0 s →
     (text s.source s.place ≡ record { value = Ok (take n (bytes_left s)); place = s.place + n + 1 }) × (n < length (bytes_left s))
 unfolding text
 text_there s n h =
     let m = zero_at s.source s.place in
-    let both = found (nat_lt m (length (bytes_left s))) m n (unexpected_eof s.place) h in (
+    let both = found (nat_lt m (length (bytes_left s))) m n (unexpected_eof s.place) (sym h) in (
       ap (λ (t : Bool). answered t m s.source s.place) both.0 ∙ ap (λ (k : ℕ). answered true k s.source s.place) both.1,
       subst (λ (k : ℕ). k < length (bytes_left s)) both.1 (ltb-true m (length (bytes_left s)) both.0),
     )

@@ -8,7 +8,7 @@ pub returns-in_err-_zero-clause-read : goal.returns-in_err-_zero-clause-read
 returns-in_err-_zero-clause-read g c =
     let s = g.Self.Reader.position c.args.self.now in
     let n = g.Self.Offset.ReaderOffset.number c.in_ok-len.len in
-    let there = text_there s n (sym c.in_ok-len.ensures) in
+    let there = text_there s n c.in_ok-len.ensures in
     let passed = split_gives s.source s.place n _ _ c.in_ok-text.ensures.read.0 in
     let byte = rw (c.in_ok-text.ensures.read.1, passed.2) at c.in_err-_zero.ensures.0 in
     zero_there s n _ _ there.1 byte
@@ -17,7 +17,7 @@ pub returns-clause-read : goal.returns-clause-read
 returns-clause-read g c =
     let s = g.Self.Reader.position c.args.self.now in
     let n = g.Self.Offset.ReaderOffset.number c.in_ok-len.len in
-    let there = text_there s n (sym c.in_ok-len.ensures) in
+    let there = text_there s n c.in_ok-len.ensures in
     let passed = split_gives s.source s.place n _ _ c.in_ok-text.ensures.read.0 in
     let part = front_bytes s (g.Self.Reader.position c.in_ok-text.text) n passed.0 c.in_ok-text.ensures.part passed.1 in
     let byte = rw (c.in_ok-text.ensures.read.1, passed.2) at c.in_ok-_zero.ensures.0 in
