@@ -1,6 +1,6 @@
 -- What an entry is by its id, and what stands at an offset, over plain values.
-use Rattle.std.proofs.Common.{◌≡◌, ℕ, Bool, true, false, Result, Ok, Err, refl, sym, ◌∙◌}
-use Rattle.std.specs.Prelude.{◌==◌}
+use Rattle.std.proofs.Common.{◌≡◌, ℕ, Bool, true, false, Option, Some, None, Result, Ok, Err, refl, sym, ◌∙◌}
+use Rattle.std.specs.Prelude.{◌==◌, ok_or, if◌then◌else◌}
 use Rattle.cfi_read_core.specs.declared.error.Error.{Error}
 use Rattle.cfi_read_core.specs.declared.error.Error.TheVariants.{NotCieId, NotCiePointer}
 use Rattle.cfi_read_core.specs.ReaderCalls.{map_ok}
@@ -9,7 +9,12 @@ use Rattle.cfi_entry.specs.Sections.{Section, cie_id}
 use Rattle.cfi_entry.specs.Prefixes.{Prefix}
 use Rattle.cfi_entry.specs.Cies.{Cie, cie_of}
 use Rattle.cfi_entry.specs.Fdes.{PartialFde}
-use Rattle.cfi_entry.specs.Entries.{Entry, CieEntry, FdeEntry, is_cie, entry_of, prefix_at, cie_at, partial_fde_of, partial_fde_at}
+use Rattle.cfi_entry.specs.Entries.{CieEntry, FdeEntry, is_cie, entry_of, prefix_at, cie_at, partial_fde_of, partial_fde_at}
+
+-- a number that a test gives, and the refusal where it gives none
+pub found_or : (b : Bool) (n : ℕ) (e : Error) {o : Option ℕ} → o ≡ (if b then Some n else None) → ok_or o e ≡ (if b then Ok n else Err e)
+found_or true n e is = rw is refl
+found_or false n e is = rw is refl
 
 module _ (section : Section) (found : Prefix) where
   -- the id's test by the kind of the section's type
