@@ -4,3 +4,4 @@ pub mod ExpressionPlaces
 pub mod InstructionLemmas
 pub mod Walk
 mod Vectors
+pub mod PointerReads

@@ -3,7 +3,7 @@ ghost use Rattle.std.specs.Prelude.{◌≡◌, ◌≤◌, ⊤};
 ghost use Rattle.cfi_read_core.specs.ReadFunctions.{chosen_from};
 ghost use Rattle.cfi_read_core.specs.ReaderCalls.{Reads};
 ghost use Rattle.cfi_parts.specs.ReadingParameters.{instruction_context, pointer_context};
-ghost use Rattle.cfi_parts.specs.Instructions.{IsRare, IsRuleOrUnknown, IsRuleWithoutOffsetOrUnknown, expression, extended_opcodes, instruction, location_by, unknown_opcode};
+ghost use Rattle.cfi_parts.specs.Instructions.{by_rare_opcodes, by_register_rules, by_rules, expression, frequent_opcodes, instruction, location_by};
 ghost use Rattle.cfi_instruction.specs.MappedInstructions.{map_expression, map_instruction};
 
 use crate::instruction::{CallFrameInstruction, UnwindExpression};
@@ -77,7 +77,7 @@ fn parse_location<R: Reader>(
 }
 
 /// Reads an instruction: its opcode and its operands.
-#[tactic(auto, unfolding(crate::specs::Instructions::instruction))]
+#[tactic(auto, unfolding(crate::specs::Instructions::instruction, crate::specs::Instructions::by_rare_opcodes, crate::specs::Instructions::by_rules, crate::specs::Instructions::by_register_rules))]
 #[inline(always)]
 pub fn parse_instruction<R: Reader>(
     parameters: &InstructionParameters<'_, R>,
@@ -114,7 +114,7 @@ fn parse_extended<R: Reader>(
 ) -> Result<CallFrameInstruction<R::Offset>>
     requires { (R.position parameters.now.pointers.section.now).place ≤ (R.position input.old).place }
     ensures { Reads (map_instruction R.Offset.number)
-        (chosen_from opcode.0 (extended_opcodes (instruction_context R.position parameters.now)) (unknown_opcode opcode.0))
+        (chosen_from opcode.0 frequent_opcodes (by_rare_opcodes (instruction_context R.position parameters.now) opcode.0))
         (R.position input.old) result (R.position input.new) }
 {
     match opcode {
@@ -148,15 +148,15 @@ fn parse_extended<R: Reader>(
 }
 
 /// Reads the operands of one of the other opcodes whose two high bits are 0.
+#[tactic(auto, unfolding(crate::specs::Instructions::by_rare_opcodes))]
 fn parse_rare<R: Reader>(
     opcode: DwCfa,
     parameters: &InstructionParameters<'_, R>,
     input: &mut R,
 ) -> Result<CallFrameInstruction<R::Offset>>
-    requires rare { IsRare opcode.0 }
-    requires behind { (R.position parameters.now.pointers.section.now).place ≤ (R.position input.old).place }
+    requires { (R.position parameters.now.pointers.section.now).place ≤ (R.position input.old).place }
     ensures { Reads (map_instruction R.Offset.number)
-        (chosen_from opcode.0 (extended_opcodes (instruction_context R.position parameters.now)) (unknown_opcode opcode.0))
+        (by_rare_opcodes (instruction_context R.position parameters.now) opcode.0)
         (R.position input.old) result (R.position input.new) }
 {
     match opcode {
@@ -188,15 +188,15 @@ fn parse_rare<R: Reader>(
 }
 
 /// Reads the operands of an opcode that gives a register a rule by an offset from the CFA (section 6.4.2.3).
+#[tactic(auto, unfolding(crate::specs::Instructions::by_rules))]
 fn parse_rule<R: Reader>(
     opcode: DwCfa,
     parameters: &InstructionParameters<'_, R>,
     input: &mut R,
 ) -> Result<CallFrameInstruction<R::Offset>>
-    requires rule { IsRuleOrUnknown opcode.0 }
-    requires behind { (R.position parameters.now.pointers.section.now).place ≤ (R.position input.old).place }
+    requires { (R.position parameters.now.pointers.section.now).place ≤ (R.position input.old).place }
     ensures { Reads (map_instruction R.Offset.number)
-        (chosen_from opcode.0 (extended_opcodes (instruction_context R.position parameters.now)) (unknown_opcode opcode.0))
+        (by_rules (instruction_context R.position parameters.now) opcode.0)
         (R.position input.old) result (R.position input.new) }
 {
     match opcode {
@@ -225,15 +225,15 @@ fn parse_rule<R: Reader>(
 }
 
 /// Reads the operands of an opcode that gives a register another rule (section 6.4.2.3).
+#[tactic(auto, unfolding(crate::specs::Instructions::by_register_rules))]
 fn parse_rule_without_offset<R: Reader>(
     opcode: DwCfa,
     parameters: &InstructionParameters<'_, R>,
     input: &mut R,
 ) -> Result<CallFrameInstruction<R::Offset>>
-    requires rule { IsRuleWithoutOffsetOrUnknown opcode.0 }
-    requires behind { (R.position parameters.now.pointers.section.now).place ≤ (R.position input.old).place }
+    requires { (R.position parameters.now.pointers.section.now).place ≤ (R.position input.old).place }
     ensures { Reads (map_instruction R.Offset.number)
-        (chosen_from opcode.0 (extended_opcodes (instruction_context R.position parameters.now)) (unknown_opcode opcode.0))
+        (by_register_rules (instruction_context R.position parameters.now) opcode.0)
         (R.position input.old) result (R.position input.new) }
 {
     match opcode {

@@ -1,0 +1,64 @@
+-- What pointers and operands are read as, over plain values.
+use Rattle.std.proofs.Common.{◌≡◌, ◌∙◌, ◌-◌, ℕ, Bool, true, false, Some, Ok, Err, refl, sym, ap}
+use Rattle.std.specs.Prelude.{if◌then◌else◌}
+use Rattle.std.specs.Int.{w8}
+use Rattle.cfi_read_core.specs.declared.common.Register.{Register as RegisterNumber}
+use Rattle.cfi_read_core.specs.declared.common.Vendor.TheVariants as vendors
+use Rattle.cfi_read_core.specs.declared.error.Error.{Error}
+use Rattle.cfi_read_core.specs.declared.error.Error.TheVariants.{UnknownPointerEncoding, UnknownCallFrameInstruction}
+use Rattle.cfi_read_core.specs.ReadFunctions.{Source, Outcome, ◌>>=◌, carry_on, give}
+use Rattle.cfi_read_core.specs.Numbers.{unsigned, unsigned_leb128, register_leb128}
+use Rattle.cfi_read_core.specs.Addresses.{wrap}
+use Rattle.cfi_read_core.specs.PointerEncodings.{application_of, is_indirect, is_omitted, is_valid_encoding}
+use Rattle.cfi_instruction.specs.declared.instruction.CallFrameInstruction.TheVariants.{OffsetExtendedNegative}
+use Rattle.cfi_parts.specs.declared.pointer.Pointer.TheVariants.{Direct, Indirect}
+use Rattle.cfi_parts.specs.Pointers.{PointerContext, encoding_byte, encoded_value, unknown_encoding, base_of, pointer_to, pointer}
+use Rattle.cfi_parts.specs.Instructions.{Instruction, InstructionContext, by_rare_opcodes, by_rules}
+
+module _ (source : Source) (place : ℕ) where
+  refused_if : (valid : Bool) (b at : ℕ) → valid ≡ false → (if valid then give b else unknown_encoding b) source at ≡ record { value = Err (UnknownPointerEncoding (record { 0 = b })); place = at }
+  refused_if valid b at is = rw is refl
+
+  -- a byte that is no encoding
+  pub byte_refused : {b at : ℕ} → unsigned w8 source place ≡ record { value = Ok b; place = at } → is_valid_encoding b ≡ false →
+      encoding_byte source place ≡ record { value = Err (UnknownPointerEncoding (record { 0 = b })); place = at }
+  unfolding encoding_byte
+  byte_refused {b = b} {at = at} gives invalid =
+      ap (λ (o : Outcome ℕ). carry_on (λ e. if is_valid_encoding e then give e else unknown_encoding e) source o.value o.place) gives ∙ refused_if (is_valid_encoding b) b at invalid
+
+  -- the base of a pointer that counts from itself
+  pub pc_read : (encoding : ℕ) (context : PointerContext) {base start address : ℕ} → application_of encoding ≡ 1 → context.bases.section ≡ Some base →
+      start ≡ place - context.section → address ≡ wrap base start context.size → base_of encoding context source place ≡ record { value = Ok address; place = place }
+  unfolding base_of
+  pc_read encoding context is has starts sum = rw (is, has, sum, starts) refl
+
+  -- a pointer, by its base and its value
+  module _ (encoding : ℕ) (context : PointerContext) (given : is_omitted encoding ≡ false) where
+    pub base_refused : {e : Error} {at : ℕ} → base_of encoding context source place ≡ record { value = Err e; place = at } → pointer encoding context source place ≡ record { value = Err e; place = at }
+    unfolding pointer
+    base_refused gives = rw given (ap (λ (o : Outcome ℕ). carry_on (λ b. encoded_value encoding context.size >>= λ v. give (pointer_to encoding (wrap b v context.size))) source o.value o.place) gives)
+
+    pub pointer_read : {b at v behind address : ℕ} {indirect : Bool} → base_of encoding context source place ≡ record { value = Ok b; place = at } →
+        encoded_value encoding context.size source at ≡ record { value = Ok v; place = behind } → address ≡ wrap b v context.size → is_indirect encoding ≡ indirect →
+        pointer encoding context source place ≡ record { value = Ok (if indirect then Indirect address else Direct address); place = behind }
+    unfolding pointer
+    pointer_read {b = b} base value sum is =
+        rw (given, sum, sym is) (
+        ap (λ (o : Outcome ℕ). carry_on (λ b. encoded_value encoding context.size >>= λ v. give (pointer_to encoding (wrap b v context.size))) source o.value o.place) base
+        ∙ ap (λ (o : Outcome ℕ). carry_on (λ v. give (pointer_to encoding (wrap b v context.size))) source o.value o.place) value)
+
+  -- an opcode that the vendor hasn't
+  pub negate_refused : (c : InstructionContext) {opcode : ℕ} → opcode ≡ 0x2d → c.vendor ≡ vendors.Default →
+      by_rare_opcodes c opcode source place ≡ record { value = Err (UnknownCallFrameInstruction (record { 0 = opcode })); place = place }
+  unfolding by_rare_opcodes
+  negate_refused c is vendor = rw (is, vendor) refl
+
+  -- a register, and an offset that is negated
+  pub negative_read : (c : InstructionContext) {opcode : ℕ} {r : RegisterNumber} {n at behind : ℕ} {further : Source} → opcode ≡ 0x2f → further ≡ source →
+      register_leb128 source place ≡ record { value = Ok r; place = at } → unsigned_leb128 further at ≡ record { value = Ok n; place = behind } →
+      by_rules c opcode source place ≡ record { value = Ok (OffsetExtendedNegative r n); place = behind }
+  unfolding by_rules
+  negative_read c {r = r} {at = at} is same register number =
+      rw is (
+      ap (λ (o : Outcome RegisterNumber). carry_on {B = Instruction} (λ r. unsigned_leb128 >>= λ n. give (OffsetExtendedNegative r n)) source o.value o.place) register
+      ∙ ap (λ (o : Outcome ℕ). carry_on {B = Instruction} (λ n. give (OffsetExtendedNegative r n)) source o.value o.place) (ap (λ (s : Source). unsigned_leb128 s at) (sym same) ∙ number))
