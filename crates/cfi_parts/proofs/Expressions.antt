@@ -1,16 +1,13 @@
 -- The bytes of an expression that was read in a section are there.
-use Rattle.std.proofs.Common.{◌≡◌, ◌≤◌, ◌<◌, ◌+◌, ◌-◌, ℕ, Bool, true, false, List, length, Result, Ok, Err, refl, sym, ap, ◌∙◌, subst, arith, nat_lt, length-take, drop}
+use Rattle.std.proofs.Common.{◌≡◌, ◌≤◌, ◌<◌, ◌+◌, ◌-◌, ℕ, Bool, true, false, List, length, Result, Ok, Err, refl, sym, ap, arith, nat_lt, length-take, drop}
 use Rattle.std.specs.Prelude.{nat_le, if◌then◌else◌}
 use Rattle.std.specs.List.{slice_get}
-use borrow.Author.Tests.{ltb-true, leb-true, le-leb}
+use borrow.Author.Tests.{ltb-true, leb-true}
 use Rattle.cfi_read_core.specs.declared.error.Error.{Error}
 use Rattle.cfi_read_core.specs.declared.error.Error.TheVariants.{BadUnsignedLeb128, UnsupportedOffset}
-use Rattle.cfi_read_core.specs.ReadFunctions.{Read, Source, Position, Extent, Outcome, carry_on, ◌>>=◌, ◌>>◌, split, give, refuse, refuse_if, unexpected_eof, offset, rest}
+use Rattle.cfi_read_core.specs.ReadFunctions.{Read, Source, Extent, Outcome, carry_on, ◌>>=◌, ◌>>◌, split, give, refuse, refuse_if, unexpected_eof, offset, rest}
 use Rattle.cfi_read_core.specs.Numbers.{continuation_count, is_bad_byte, leb128_bytes, leb128_sum, unsigned_leb128, offset_leb128}
-use Rattle.cfi_read_core.specs.ReaderCalls.{IsPartOf, extent_of}
 use Rattle.cfi_instruction.specs.declared.instruction.UnwindExpression.{UnwindExpression}
-use Rattle.cfi_instruction.specs.CallFrameSections.{IsOf}
-use Rattle.cfi_instruction.specs.ExpressionPlaces.{LiesIn, place_in}
 
 -- ---- a read that gives a value stays within the bytes
 

@@ -1,5 +1,5 @@
 -- What pointers and operands are read as, over plain values.
-use Rattle.std.proofs.Common.{◌≡◌, ◌∙◌, ◌-◌, ℕ, Bool, true, false, Some, Ok, Err, refl, sym, ap}
+use Rattle.std.proofs.Common.{◌≡◌, ◌∙◌, ◌-◌, ℕ, Bool, false, Some, Ok, Err, refl, sym, ap}
 use Rattle.std.specs.Prelude.{if◌then◌else◌}
 use Rattle.std.specs.Int.{w8}
 use Rattle.cfi_read_core.specs.declared.common.Register.{Register as RegisterNumber}
@@ -27,10 +27,10 @@ module _ (source : Source) (place : ℕ) where
       ap (λ (o : Outcome ℕ). carry_on (λ e. if is_valid_encoding e then give e else unknown_encoding e) source o.value o.place) gives ∙ refused_if (is_valid_encoding b) b at invalid
 
   -- the base of a pointer that counts from itself
-  pub pc_read : (encoding : ℕ) (context : PointerContext) {base start address : ℕ} → application_of encoding ≡ 1 → context.bases.section ≡ Some base →
-      start ≡ place - context.section → address ≡ wrap base start context.size → base_of encoding context source place ≡ record { value = Ok address; place = place }
+  pub pc_read : (encoding : ℕ) (context : PointerContext) {base start size address : ℕ} → application_of encoding ≡ 1 → context.bases.section ≡ Some base →
+      start ≡ place - context.section → size ≡ context.size → address ≡ wrap base start size → base_of encoding context source place ≡ record { value = Ok address; place = place }
   unfolding base_of
-  pc_read encoding context is has starts sum = rw (is, has, sum, starts) refl
+  pc_read encoding context is has starts sized sum = rw (is, has, sum, starts, sized) refl
 
   -- a pointer, by its base and its value
   module _ (encoding : ℕ) (context : PointerContext) (given : is_omitted encoding ≡ false) where
@@ -38,14 +38,14 @@ module _ (source : Source) (place : ℕ) where
     unfolding pointer
     base_refused gives = rw given (ap (λ (o : Outcome ℕ). carry_on (λ b. encoded_value encoding context.size >>= λ v. give (pointer_to encoding (wrap b v context.size))) source o.value o.place) gives)
 
-    pub pointer_read : {b at v behind address : ℕ} {indirect : Bool} → base_of encoding context source place ≡ record { value = Ok b; place = at } →
-        encoded_value encoding context.size source at ≡ record { value = Ok v; place = behind } → address ≡ wrap b v context.size → is_indirect encoding ≡ indirect →
+    pub pointer_read : {b at v behind size address : ℕ} {indirect : Bool} → base_of encoding context source place ≡ record { value = Ok b; place = at } →
+        size ≡ context.size → encoded_value encoding size source at ≡ record { value = Ok v; place = behind } → address ≡ wrap b v size → is_indirect encoding ≡ indirect →
         pointer encoding context source place ≡ record { value = Ok (if indirect then Indirect address else Direct address); place = behind }
     unfolding pointer
-    pointer_read {b = b} base value sum is =
-        rw (given, sum, sym is) (
+    pointer_read {b = b} {at = at} base sized value sum is =
+        rw (given, sum, sized, sym is) (
         ap (λ (o : Outcome ℕ). carry_on (λ b. encoded_value encoding context.size >>= λ v. give (pointer_to encoding (wrap b v context.size))) source o.value o.place) base
-        ∙ ap (λ (o : Outcome ℕ). carry_on (λ v. give (pointer_to encoding (wrap b v context.size))) source o.value o.place) value)
+        ∙ ap (λ (o : Outcome ℕ). carry_on (λ v. give (pointer_to encoding (wrap b v context.size))) source o.value o.place) (ap (λ (n : ℕ). encoded_value encoding n source at) (sym sized) ∙ value))
 
   -- an opcode that the vendor hasn't
   pub negate_refused : (c : InstructionContext) {opcode : ℕ} → opcode ≡ 0x2d → c.vendor ≡ vendors.Default →

@@ -12,9 +12,9 @@ returns-in_err-base g c =
 pub returns-then-is_indirect : goal.returns-then-is_indirect
 returns-then-is_indirect g c =
     let given : is_omitted c.args.encoding.0 ≡ false = search rules in
-    (pointer_read _ _ _ _ given c.in_ok-base.ensures.0 (rw c.bytes-size.ensures at c.in_ok-value.ensures.0) (rw c.bytes-size.ensures at c.wrapping_add_sized-address.ensures) (sym c.is_indirect.ensures ∙ c.if-is_indirect.true), c.in_ok-value.ensures.1)
+    (pointer_read _ _ _ _ given c.in_ok-base.ensures.0 c.bytes-size.ensures c.in_ok-value.ensures.0 c.wrapping_add_sized-address.ensures (sym c.is_indirect.ensures ∙ c.if-is_indirect.true), c.in_ok-value.ensures.1)
 
 pub returns-else-is_indirect : goal.returns-else-is_indirect
 returns-else-is_indirect g c =
     let given : is_omitted c.args.encoding.0 ≡ false = search rules in
-    (pointer_read _ _ _ _ given c.in_ok-base.ensures.0 (rw c.bytes-size.ensures at c.in_ok-value.ensures.0) (rw c.bytes-size.ensures at c.wrapping_add_sized-address.ensures) (sym c.is_indirect.ensures ∙ c.if-is_indirect.false), c.in_ok-value.ensures.1)
+    (pointer_read _ _ _ _ given c.in_ok-base.ensures.0 c.bytes-size.ensures c.in_ok-value.ensures.0 c.wrapping_add_sized-address.ensures (sym c.is_indirect.ensures ∙ c.if-is_indirect.false), c.in_ok-value.ensures.1)
