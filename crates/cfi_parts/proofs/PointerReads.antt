@@ -4,7 +4,6 @@ use Rattle.std.specs.Prelude.{if◌then◌else◌}
 use Rattle.std.specs.Int.{w8}
 use Rattle.cfi_read_core.specs.declared.common.Register.{Register as RegisterNumber}
 use Rattle.cfi_read_core.specs.declared.common.Vendor.TheVariants as vendors
-use Rattle.cfi_read_core.specs.declared.error.Error.{Error}
 use Rattle.cfi_read_core.specs.declared.error.Error.TheVariants.{UnknownPointerEncoding, UnknownCallFrameInstruction}
 use Rattle.cfi_read_core.specs.ReadFunctions.{Source, Outcome, ◌>>=◌, carry_on, give}
 use Rattle.cfi_read_core.specs.Numbers.{unsigned, unsigned_leb128, register_leb128}
@@ -34,10 +33,6 @@ module _ (source : Source) (place : ℕ) where
 
   -- a pointer, by its base and its value
   module _ (encoding : ℕ) (context : PointerContext) (given : is_omitted encoding ≡ false) where
-    pub base_refused : {e : Error} {at : ℕ} → base_of encoding context source place ≡ record { value = Err e; place = at } → pointer encoding context source place ≡ record { value = Err e; place = at }
-    unfolding pointer
-    base_refused gives = rw given (ap (λ (o : Outcome ℕ). carry_on (λ b. encoded_value encoding context.size >>= λ v. give (pointer_to encoding (wrap b v context.size))) source o.value o.place) gives)
-
     pub pointer_read : {b at v behind size address : ℕ} {indirect : Bool} → base_of encoding context source place ≡ record { value = Ok b; place = at } →
         size ≡ context.size → encoded_value encoding size source at ≡ record { value = Ok v; place = behind } → address ≡ wrap b v size → is_indirect encoding ≡ indirect →
         pointer encoding context source place ≡ record { value = Ok (if indirect then Indirect address else Direct address); place = behind }

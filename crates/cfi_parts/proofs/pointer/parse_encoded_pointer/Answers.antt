@@ -1,13 +1,7 @@
-use Rattle.std.proofs.Common.{◌≡◌, ◌∙◌, Err, rules, sym, false}
+use Rattle.std.proofs.Common.{◌≡◌, ◌∙◌, rules, sym, false}
 use Rattle.cfi_read_core.specs.PointerEncodings.{is_omitted}
-use Rattle.cfi_parts.proofs.PointerReads.{base_refused, pointer_read}
+use Rattle.cfi_parts.proofs.PointerReads.{pointer_read}
 use Rattle.cfi_parts.proofs.pointer.parse_encoded_pointer.Goals as goal
-
-pub returns-in_err-base : goal.returns-in_err-base
-returns-in_err-base g c =
-    let given : is_omitted c.args.encoding.0 ≡ false = search rules in
-    let gives : c.from_residual.result ≡ Err c.in_err-base.field-0.0 = search rules in
-    rw gives (base_refused _ _ _ _ given c.in_err-base.ensures.0, c.in_err-base.ensures.1)
 
 pub returns-then-is_indirect : goal.returns-then-is_indirect
 returns-then-is_indirect g c =
