@@ -15,7 +15,7 @@ use Rattle.cfi_instruction.specs.declared.instruction.UnwindExpression.{UnwindEx
 use Rattle.cfi_instruction.specs.declared.instruction.CallFrameInstruction.{CallFrameInstruction}
 use Rattle.cfi_instruction.specs.declared.instruction.CallFrameInstruction.TheVariants as variant
 use Rattle.cfi_parts.specs.Pointers.{PointerContext}
-use Rattle.cfi_parts.specs.Instructions.{Instruction, InstructionContext, expression, location_by, negate_ra_state, register_and, frequent_opcodes, rare_opcodes, offset_rules, register_rules, extended_opcodes, primary_opcodes, unknown_opcode, by_opcode, instruction, instructions}
+use Rattle.cfi_parts.specs.Instructions.{Instruction, InstructionContext, expression, location_by, negate_ra_state, register_and, row_creation, cfa_definition, offset_rules, register_rules, state_and_others, extended_opcodes, primary_opcodes, unknown_opcode, by_opcode, instruction, instructions}
 use Rattle.cfi_parts.specs.InstructionReaders.{InstructionReader}
 use Rattle.cfi_instruction.specs.MappedInstructions.{map_instruction}
 use Rattle.cfi_instruction.specs.ExpressionPlaces.{LiesIn, expression_of, HasExpressionIn}
@@ -130,41 +130,31 @@ within_both : (first : ℕ) (rows others : List (ℕ × Read Instruction)) → I
 within_both first [] others each rest = rest
 within_both first (row ∷ rows) others each rest = (each.0, within_both first rows others each.1 rest)
 
-within_frequent : (first : ℕ) → IsEachWithin first frequent_opcodes
-within_frequent first = (
-  within_none _ _ (none_made (unsigned w8) variant.AdvanceLoc (λ x. refl)),
+within_row_creation : (first : ℕ) (c : InstructionContext) → IsEachWithin first (row_creation c)
+within_row_creation first c = (
+  within_none first _ (none_made (location_by c.pointers c.address_encoding) variant.SetLoc (λ x. refl)),
   (
-    within_none _ _ (none_made (unsigned w16) variant.AdvanceLoc (λ x. refl)),
+    within_none first _ (none_made (unsigned w8) variant.AdvanceLoc (λ x. refl)),
     (
-      within_none _ _ (none_made (unsigned w32) variant.AdvanceLoc (λ x. refl)),
-      (
-        within_none _ _ (none_two unsigned_leb128 variant.DefCfa (λ r x. refl)),
-        (
-          within_none _ _ (none_made register_leb128 variant.DefCfaRegister (λ x. refl)),
-          (
-            within_none _ _ (none_made unsigned_leb128 variant.DefCfaOffset (λ x. refl)),
-            (within_none _ _ (none_give variant.Nop refl), (within_none _ _ (none_give variant.RememberState refl), (within_none _ _ (none_give variant.RestoreState refl), tt))),
-          ),
-        ),
-      ),
+      within_none first _ (none_made (unsigned w16) variant.AdvanceLoc (λ x. refl)),
+      (within_none first _ (none_made (unsigned w32) variant.AdvanceLoc (λ x. refl)), tt),
     ),
   ),
 )
 
-none_negate : (vendor : Vendor) → GivesNone (negate_ra_state vendor)
-none_negate vendors.AArch64 = none_give variant.NegateRaState refl
-none_negate vendors.Default = none_refuse _
-
-within_rare : (c : InstructionContext) → IsEachWithin c.pointers.section (rare_opcodes c)
-within_rare c = (
-  within_none _ _ (none_made (location_by c.pointers c.address_encoding) variant.SetLoc (λ x. refl)),
+within_cfa_definition : (c : InstructionContext) → IsEachWithin c.pointers.section (cfa_definition c)
+within_cfa_definition c = (
+  within_none _ _ (none_two unsigned_leb128 variant.DefCfa (λ r x. refl)),
   (
-    within_expression c.pointers variant.DefCfaExpression (λ e. refl),
+    within_none _ _ (none_made register_leb128 variant.DefCfaRegister (λ x. refl)),
     (
-      within_none _ _ (none_two signed_leb128 variant.DefCfaSf (λ r x. refl)),
+      within_none _ _ (none_made unsigned_leb128 variant.DefCfaOffset (λ x. refl)),
       (
-        within_none _ _ (none_made signed_leb128 variant.DefCfaOffsetSf (λ x. refl)),
-        (within_none _ _ (none_negate c.vendor), (within_none _ _ (none_made unsigned_leb128 variant.ArgsSize (λ x. refl)), tt)),
+        within_expression c.pointers variant.DefCfaExpression (λ e. refl),
+        (
+          within_none _ _ (none_two signed_leb128 variant.DefCfaSf (λ r x. refl)),
+          (within_none _ _ (none_made signed_leb128 variant.DefCfaOffsetSf (λ x. refl)), tt),
+        ),
       ),
     ),
   ),
@@ -207,13 +197,34 @@ within_register_rules c = (
   ),
 )
 
+none_negate : (vendor : Vendor) → GivesNone (negate_ra_state vendor)
+none_negate vendors.AArch64 = none_give variant.NegateRaState refl
+none_negate vendors.Default = none_refuse _
+
+within_state_and_others : (first : ℕ) (c : InstructionContext) → IsEachWithin first (state_and_others c)
+within_state_and_others first c = (
+  within_none _ _ (none_give variant.Nop refl),
+  (
+    within_none _ _ (none_give variant.RememberState refl),
+    (
+      within_none _ _ (none_give variant.RestoreState refl),
+      (
+        within_none _ _ (none_negate c.vendor),
+        (within_none _ _ (none_made unsigned_leb128 variant.ArgsSize (λ x. refl)), tt),
+      ),
+    ),
+  ),
+)
+
 within_extended : (c : InstructionContext) → IsEachWithin c.pointers.section (extended_opcodes c)
 within_extended c =
     let first = c.pointers.section in
     let rules : List (ℕ × Read Instruction) = offset_rules ++ register_rules c in
-    within_both first frequent_opcodes (rare_opcodes c ++ rules) (within_frequent first)
-    (within_both first (rare_opcodes c) rules (within_rare c)
-    (within_both first offset_rules (register_rules c) (within_offset_rules first) (within_register_rules c)))
+    let others : List (ℕ × Read Instruction) = state_and_others c ++ rules in
+    within_both first (row_creation c) (cfa_definition c ++ others) (within_row_creation first c)
+    (within_both first (cfa_definition c) others (within_cfa_definition c)
+    (within_both first (state_and_others c) rules (within_state_and_others first c)
+    (within_both first offset_rules (register_rules c) (within_offset_rules first) (within_register_rules c))))
 
 within_if : (first : ℕ) (b : Bool) (yes' no' : Read Instruction) → GivesWithin first yes' → GivesWithin first no' → GivesWithin first (if b then yes' else no')
 within_if first true yes' no' y n = y

@@ -18,7 +18,7 @@ use Rattle.cfi_parts.specs.declared.pointer.Pointer.{Pointer}
 use Rattle.cfi_instruction.specs.declared.instruction.UnwindExpression.{UnwindExpression}
 use Rattle.cfi_instruction.specs.declared.instruction.CallFrameInstruction.TheVariants as variant
 use Rattle.cfi_parts.specs.Pointers.{PointerContext, unknown_encoding, in_64_bits, format_table, encoded_value, required_base, pc_base, application_table, base_of, pointer, pointer_to, direct}
-use Rattle.cfi_parts.specs.Instructions.{Instruction, InstructionContext, expression, location_by, negate_ra_state, register_and, frequent_opcodes, rare_opcodes, offset_rules, register_rules, extended_opcodes, primary_opcodes, unknown_opcode, by_opcode, instruction}
+use Rattle.cfi_parts.specs.Instructions.{Instruction, InstructionContext, expression, location_by, negate_ra_state, register_and, row_creation, cfa_definition, offset_rules, register_rules, state_and_others, extended_opcodes, primary_opcodes, unknown_opcode, by_opcode, instruction}
 
 -- ---- pointers
 
@@ -104,35 +104,11 @@ onward_both : (rows others : List (ℕ × Read Instruction)) → IsEachOnward ro
 onward_both [] others each rest = rest
 onward_both (row ∷ rows) others each rest = (each.0, onward_both rows others each.1 rest)
 
-onward_frequent : IsEachOnward frequent_opcodes
-onward_frequent = (
-  onward_map (unsigned w8) variant.AdvanceLoc (onward_unsigned w8),
-  (
-    onward_map (unsigned w16) variant.AdvanceLoc (onward_unsigned w16),
-    (
-      onward_map (unsigned w32) variant.AdvanceLoc (onward_unsigned w32),
-      (
-        onward_two unsigned_leb128 variant.DefCfa onward_unsigned_leb128,
-        (
-          onward_map register_leb128 variant.DefCfaRegister onward_register_leb128,
-          (onward_map unsigned_leb128 variant.DefCfaOffset onward_unsigned_leb128, (onward_give variant.Nop, (onward_give variant.RememberState, (onward_give variant.RestoreState, tt)))),
-        ),
-      ),
-    ),
-  ),
-)
+onward_row_creation : (c : InstructionContext) → IsEachOnward (row_creation c)
+onward_row_creation c = (onward_map (location_by c.pointers c.address_encoding) variant.SetLoc (onward_location c.pointers c.address_encoding), (onward_map (unsigned w8) variant.AdvanceLoc (onward_unsigned w8), (onward_map (unsigned w16) variant.AdvanceLoc (onward_unsigned w16), (onward_map (unsigned w32) variant.AdvanceLoc (onward_unsigned w32), tt))))
 
-onward_rare : (c : InstructionContext) → IsEachOnward (rare_opcodes c)
-onward_rare c = (
-  onward_map (location_by c.pointers c.address_encoding) variant.SetLoc (onward_location c.pointers c.address_encoding),
-  (
-    onward_map (expression c.pointers) variant.DefCfaExpression (onward_expression c.pointers),
-    (
-      onward_two signed_leb128 variant.DefCfaSf onward_signed_leb128,
-      (onward_map signed_leb128 variant.DefCfaOffsetSf onward_signed_leb128, (onward_negate c.vendor, (onward_map unsigned_leb128 variant.ArgsSize onward_unsigned_leb128, tt))),
-    ),
-  ),
-)
+onward_cfa_definition : (c : InstructionContext) → IsEachOnward (cfa_definition c)
+onward_cfa_definition c = (onward_two unsigned_leb128 variant.DefCfa onward_unsigned_leb128, (onward_map register_leb128 variant.DefCfaRegister onward_register_leb128, (onward_map unsigned_leb128 variant.DefCfaOffset onward_unsigned_leb128, (onward_map (expression c.pointers) variant.DefCfaExpression (onward_expression c.pointers), (onward_two signed_leb128 variant.DefCfaSf onward_signed_leb128, (onward_map signed_leb128 variant.DefCfaOffsetSf onward_signed_leb128, tt))))))
 
 onward_offset_rules : IsEachOnward offset_rules
 onward_offset_rules = (onward_two unsigned_leb128 variant.Offset onward_unsigned_leb128, (onward_two signed_leb128 variant.OffsetExtendedSf onward_signed_leb128, (onward_two unsigned_leb128 variant.ValOffset onward_unsigned_leb128, (onward_two signed_leb128 variant.ValOffsetSf onward_signed_leb128, (onward_two unsigned_leb128 variant.OffsetExtendedNegative onward_unsigned_leb128, tt)))))
@@ -140,12 +116,17 @@ onward_offset_rules = (onward_two unsigned_leb128 variant.Offset onward_unsigned
 onward_register_rules : (c : InstructionContext) → IsEachOnward (register_rules c)
 onward_register_rules c = (onward_map register_leb128 variant.Restore onward_register_leb128, (onward_map register_leb128 variant.Undefined onward_register_leb128, (onward_map register_leb128 variant.SameValue onward_register_leb128, (onward_two register_leb128 variant.Register onward_register_leb128, (onward_two (expression c.pointers) variant.Expression (onward_expression c.pointers), (onward_two (expression c.pointers) variant.ValExpression (onward_expression c.pointers), tt))))))
 
+onward_state_and_others : (c : InstructionContext) → IsEachOnward (state_and_others c)
+onward_state_and_others c = (onward_give variant.Nop, (onward_give variant.RememberState, (onward_give variant.RestoreState, (onward_negate c.vendor, (onward_map unsigned_leb128 variant.ArgsSize onward_unsigned_leb128, tt)))))
+
 onward_extended : (c : InstructionContext) → IsEachOnward (extended_opcodes c)
 onward_extended c =
     let rules : List (ℕ × Read Instruction) = offset_rules ++ register_rules c in
-    onward_both frequent_opcodes (rare_opcodes c ++ rules) onward_frequent
-    (onward_both (rare_opcodes c) rules (onward_rare c)
-    (onward_both offset_rules (register_rules c) onward_offset_rules (onward_register_rules c)))
+    let others : List (ℕ × Read Instruction) = state_and_others c ++ rules in
+    onward_both (row_creation c) (cfa_definition c ++ others) (onward_row_creation c)
+    (onward_both (cfa_definition c) others (onward_cfa_definition c)
+    (onward_both (state_and_others c) rules (onward_state_and_others c)
+    (onward_both offset_rules (register_rules c) onward_offset_rules (onward_register_rules c))))
 
 -- an instruction that is read takes a byte at least
 pub advances_instruction : (c : InstructionContext) → Advances (instruction c)

@@ -5,14 +5,14 @@ use Rattle.std.specs.Int.{w8}
 use Rattle.cfi_read_core.specs.declared.common.Register.{Register as RegisterNumber}
 use Rattle.cfi_read_core.specs.declared.common.Vendor.TheVariants as vendors
 use Rattle.cfi_read_core.specs.declared.error.Error.TheVariants.{UnknownPointerEncoding, UnknownCallFrameInstruction}
-use Rattle.cfi_read_core.specs.ReadFunctions.{Source, Outcome, ◌>>=◌, carry_on, give}
+use Rattle.cfi_read_core.specs.ReadFunctions.{Source, Outcome, ◌>>=◌, carry_on, give, chosen_from}
 use Rattle.cfi_read_core.specs.Numbers.{unsigned, unsigned_leb128, register_leb128}
 use Rattle.cfi_read_core.specs.Addresses.{wrap}
 use Rattle.cfi_read_core.specs.PointerEncodings.{application_of, is_indirect, is_omitted, is_valid_encoding}
 use Rattle.cfi_instruction.specs.declared.instruction.CallFrameInstruction.TheVariants.{OffsetExtendedNegative}
 use Rattle.cfi_parts.specs.declared.pointer.Pointer.TheVariants.{Direct, Indirect}
 use Rattle.cfi_parts.specs.Pointers.{PointerContext, encoding_byte, encoded_value, unknown_encoding, base_of, pointer_to, pointer}
-use Rattle.cfi_parts.specs.Instructions.{Instruction, InstructionContext, by_rare_opcodes, by_rules}
+use Rattle.cfi_parts.specs.Instructions.{Instruction, InstructionContext, by_rules, extended_opcodes, unknown_opcode}
 
 module _ (source : Source) (place : ℕ) where
   refused_if : (valid : Bool) (b at : ℕ) → valid ≡ false → (if valid then give b else unknown_encoding b) source at ≡ record { value = Err (UnknownPointerEncoding (record { 0 = b })); place = at }
@@ -44,8 +44,8 @@ module _ (source : Source) (place : ℕ) where
 
   -- an opcode that the vendor hasn't
   pub negate_refused : (c : InstructionContext) {opcode : ℕ} → opcode ≡ 0x2d → c.vendor ≡ vendors.Default →
-      by_rare_opcodes c opcode source place ≡ record { value = Err (UnknownCallFrameInstruction (record { 0 = opcode })); place = place }
-  unfolding by_rare_opcodes
+      chosen_from opcode (extended_opcodes c) (unknown_opcode opcode) source place
+      ≡ record { value = Err (UnknownCallFrameInstruction (record { 0 = opcode })); place = place }
   negate_refused c is vendor = rw (is, vendor) refl
 
   -- a register, and an offset that is negated

@@ -1,5 +1,5 @@
 -- Call frame instructions (DWARF 5 sections 6.4.2 and 7.24).
-use Rattle.std.specs.Prelude.{ℕ, ◌-◌, ◌%◌, Option, Some, None, List, [], ◌∷◌, ◌++◌}
+use Rattle.std.specs.Prelude.{◌≢◌, ℕ, ◌-◌, ◌%◌, Option, Some, None, List, [], ◌∷◌, ◌++◌}
 use Rattle.std.specs.Int.{w8, w16, w32}
 use Rattle.cfi_read_core.specs.declared.common.Register.{Register as RegisterNumber}
 use Rattle.cfi_read_core.specs.declared.common.Vendor.{Vendor}
@@ -54,28 +54,32 @@ register_and operand made = do
   n ← operand
   give (made r n)
 
--- the opcodes that compilers write most: moves (DWARF 5 section 6.4.2.1), the definition of the CFA (section 6.4.2.2), the
--- state of a row (section 6.4.2.4), and padding (section 6.4.2.5)
-abbrev pub frequent_opcodes : List (ℕ × Read Instruction)
-frequent_opcodes =
-    (0x02, unsigned w8 >>= advance)
+-- row creation (DWARF 5 section 6.4.2.1)
+abbrev pub row_creation : InstructionContext → List (ℕ × Read Instruction)
+row_creation c =
+    (0x01, location_by c.pointers c.address_encoding >>= λ a. give (variant.SetLoc a))
+    ∷ (0x02, unsigned w8 >>= advance)
     ∷ (0x03, unsigned w16 >>= advance)
     ∷ (0x04, unsigned w32 >>= advance)
-    ∷ (0x0c, register_and unsigned_leb128 variant.DefCfa)
-    ∷ (0x0d, register_leb128 >>= λ r. give (variant.DefCfaRegister r))
-    ∷ (0x0e, unsigned_leb128 >>= λ n. give (variant.DefCfaOffset n))
-    ∷ (0x00, give variant.Nop)
-    ∷ (0x0a, give variant.RememberState)
-    ∷ (0x0b, give variant.RestoreState)
     ∷ []
 
--- the other ones of these sections that set the location or define the CFA, and vendors' opcodes without a register
-abbrev pub rare_opcodes : InstructionContext → List (ℕ × Read Instruction)
-rare_opcodes c =
-    (0x01, location_by c.pointers c.address_encoding >>= λ a. give (variant.SetLoc a))
+-- the definition of the CFA (section 6.4.2.2)
+abbrev pub cfa_definition : InstructionContext → List (ℕ × Read Instruction)
+cfa_definition c =
+    (0x0c, register_and unsigned_leb128 variant.DefCfa)
+    ∷ (0x0d, register_leb128 >>= λ r. give (variant.DefCfaRegister r))
+    ∷ (0x0e, unsigned_leb128 >>= λ n. give (variant.DefCfaOffset n))
     ∷ (0x0f, expression c.pointers >>= λ e. give (variant.DefCfaExpression e))
     ∷ (0x12, register_and signed_leb128 variant.DefCfaSf)
     ∷ (0x13, signed_leb128 >>= λ z. give (variant.DefCfaOffsetSf z))
+    ∷ []
+
+-- the state of a row (section 6.4.2.4), padding (section 6.4.2.5), and the opcodes of vendors
+abbrev pub state_and_others : InstructionContext → List (ℕ × Read Instruction)
+state_and_others c =
+    (0x00, give variant.Nop)
+    ∷ (0x0a, give variant.RememberState)
+    ∷ (0x0b, give variant.RestoreState)
     ∷ (0x2d, negate_ra_state c.vendor)
     ∷ (0x2e, unsigned_leb128 >>= λ n. give (variant.ArgsSize n))
     ∷ []
@@ -102,18 +106,21 @@ register_rules c =
 
 -- the opcodes whose two high bits are 0, with what is read after them
 abbrev pub extended_opcodes : InstructionContext → List (ℕ × Read Instruction)
-extended_opcodes c = frequent_opcodes ++ rare_opcodes c ++ offset_rules ++ register_rules c
+extended_opcodes c = row_creation c ++ cfa_definition c ++ state_and_others c ++ offset_rules ++ register_rules c
 
--- parts of the table, each with those after it: the opcodes that are not written most, of these the rules of registers, and of
--- these the ones without an offset
+-- Not one of the opcodes whose two high bits are 0 that compilers write most: padding, short moves, a new place of the CFA,
+-- and the state of a row.
+abbrev pub IsRare : ℕ → Type 0
+IsRare opcode =
+    (opcode ≢ 0x00) × (opcode ≢ 0x02) × (opcode ≢ 0x03) × (opcode ≢ 0x04) × (opcode ≢ 0x0a) × (opcode ≢ 0x0b)
+    × (opcode ≢ 0x0c) × (opcode ≢ 0x0d) × (opcode ≢ 0x0e)
+
+-- the end of the table, the rules of registers, and of these the ones without an offset
 unfoldable pub by_register_rules : InstructionContext → ℕ → Read Instruction
 by_register_rules c opcode = chosen_from opcode (register_rules c) (unknown_opcode opcode)
 
 unfoldable pub by_rules : InstructionContext → ℕ → Read Instruction
 by_rules c opcode = chosen_from opcode offset_rules (by_register_rules c opcode)
-
-unfoldable pub by_rare_opcodes : InstructionContext → ℕ → Read Instruction
-by_rare_opcodes c opcode = chosen_from opcode (rare_opcodes c) (by_rules c opcode)
 
 -- the primary opcodes, which are the two high bits alone: the low six bits are the first operand
 abbrev pub primary_opcodes : ℕ → List (ℕ × Read Instruction)

@@ -3,7 +3,7 @@ ghost use Rattle.std.specs.Prelude.{◌≡◌, ◌≤◌, ⊤};
 ghost use Rattle.cfi_read_core.specs.ReadFunctions.{chosen_from};
 ghost use Rattle.cfi_read_core.specs.ReaderCalls.{Reads};
 ghost use Rattle.cfi_parts.specs.ReadingParameters.{instruction_context, pointer_context};
-ghost use Rattle.cfi_parts.specs.Instructions.{by_rare_opcodes, by_register_rules, by_rules, expression, extended_opcodes, instruction, location_by, unknown_opcode};
+ghost use Rattle.cfi_parts.specs.Instructions.{IsRare, by_register_rules, by_rules, expression, extended_opcodes, instruction, location_by, unknown_opcode};
 ghost use Rattle.cfi_instruction.specs.MappedInstructions.{map_expression, map_instruction};
 
 use crate::instruction::{CallFrameInstruction, UnwindExpression};
@@ -106,7 +106,6 @@ pub fn parse_instruction<R: Reader>(
 
 /// Reads the operands of an opcode whose two high bits are 0. The opcodes that compilers write most are read here, and the
 /// others apart, since a function clears the room for what each of its arms reads.
-#[tactic(auto, unfolding(crate::specs::Instructions::by_rare_opcodes, crate::specs::Instructions::by_rules, crate::specs::Instructions::by_register_rules))]
 #[inline(always)]
 fn parse_extended<R: Reader>(
     opcode: DwCfa,
@@ -149,15 +148,16 @@ fn parse_extended<R: Reader>(
 }
 
 /// Reads the operands of one of the other opcodes whose two high bits are 0.
-#[tactic(auto, unfolding(crate::specs::Instructions::by_rare_opcodes))]
+#[tactic(auto, unfolding(crate::specs::Instructions::by_rules, crate::specs::Instructions::by_register_rules))]
 fn parse_rare<R: Reader>(
     opcode: DwCfa,
     parameters: &InstructionParameters<'_, R>,
     input: &mut R,
 ) -> Result<CallFrameInstruction<R::Offset>>
-    requires { (R.position parameters.now.pointers.section.now).place ≤ (R.position input.old).place }
+    requires rare { IsRare opcode.0 }
+    requires behind { (R.position parameters.now.pointers.section.now).place ≤ (R.position input.old).place }
     ensures { Reads (map_instruction R.Offset.number)
-        (by_rare_opcodes (instruction_context R.position parameters.now) opcode.0)
+        (chosen_from opcode.0 (extended_opcodes (instruction_context R.position parameters.now)) (unknown_opcode opcode.0))
         (R.position input.old) result (R.position input.new) }
 {
     match opcode {
