@@ -1,5 +1,6 @@
 -- A list that loses an item, and one that gets an item in its midst.
-use Rattle.std.proofs.Common.{◌≡◌, ℕ, ◌<◌, Option, Some, None, List, [], ◌∷◌, ◌++◌, length, get_or, take, drop, suc, ◌≤◌, ◌+◌, ◌-◌, refl, sym, ap, ◌∙◌, arith}
+use Rattle.std.specs.Result.{OnOk, is_ok}
+use Rattle.std.proofs.Common.{Result, Ok, Err, ◌≡◌, ℕ, ◌<◌, Option, Some, None, List, [], ◌∷◌, ◌++◌, length, get_or, take, drop, suc, ◌≤◌, ◌+◌, ◌-◌, refl, sym, ap, ◌∙◌, arith}
 use Rattle.std.proofs.Math.ListN.{drop_of_length-le}
 use Rattle.std.proofs.Math.Numerals.{add-one}
 use Rattle.std.proofs.lemmas.List.{length-append, length-drop, length-take-le, drop_more, take_more, append_assoc, same_from_push}
@@ -67,3 +68,9 @@ one_down (d ∷ others) place item some within =
     ∙ ap (λ k. swap (take below front ++ before ∷ item ∷ drop place front) k (suc k)) (sym count)
     ∙ swap_next (take below front) before item (drop place front)
     ∙ ap (λ l. take below front ++ item ∷ l) (sym whole)
+
+-- what holds where a call is accepted still does once its refusal is turned into another
+pub as_accepted : {X Y E F : Type 0} (call : Result X E) (answer : Result Y F) (P : Type 0) → is_ok answer ≡ is_ok call → OnOk call P → OnOk answer P
+as_accepted (Ok x) (Ok y) P same holds = holds
+as_accepted (Err e) (Ok y) P same holds = absurd (cc)
+as_accepted call (Err e) P same holds = tt

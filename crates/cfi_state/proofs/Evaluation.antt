@@ -1,7 +1,7 @@
 -- An instruction that gives a register a rule changes a context by the machine's step.
 use Rattle.std.proofs.Common.{rules, ap, ◌∙◌, ◌≡◌, ℕ, ℤ, ltb, Bool, true, false, not, cond, Option, Some, None, is_some, IsTrue, refl, sym, subst, Result, Ok, Err, ◌&&◌, inl, inr}
 use Rattle.std.specs.Option.{IfSome}
-use Rattle.std.specs.Result.{IfErr}
+use Rattle.std.specs.Result.{IfOk, IfErr}
 use Rattle.std.specs.FinMap.{insert, len, contains_key}
 use Rattle.cfi_read_core.specs.ReaderCalls.{map_ok}
 use Rattle.cfi_read_core.specs.declared.common.Register.{Register}
@@ -13,7 +13,7 @@ use Rattle.cfi_state.specs.declared.table.rules.CfaRule.TheVariants as cfa
 use Rattle.cfi_state.specs.declared.table.rules.RegisterRule.{RegisterRule}
 use Rattle.cfi_state.specs.declared.table.machine.Parameters.{Parameters}
 use Rattle.cfi_state.specs.AllocatingOperations.{Performs}
-use Rattle.cfi_state.specs.MachineSettings.{Setting, is_at_limit, advanced_location, fits_address}
+use Rattle.cfi_state.specs.MachineSettings.{Setting, is_at_limit, advanced_location, fits_address, moves, is_move}
 use Rattle.cfi_state.specs.Machine.{Rules, State, perform, step}
 use Rattle.cfi_state.specs.Machine as machine
 use Rattle.cfi_state.specs.RulePairs.{map_set_rule, AddsRule}
@@ -37,6 +37,18 @@ refused_if_so false e x y = tt
 refused_unless : {A B : Type 0} (b : Bool) (e : Error) (x : A) (y : B) → IfErr (cond b (Ok x) (Err e)) (λ d. cond b (Ok y) (Err e) ≡ Err d)
 refused_unless true e x y = tt
 refused_unless false e x y = refl
+
+-- a move to n, of which f makes a state
+abbrev IsMove : {A : Type 0} → Bool → (ℕ → A) → Result A Error → Result (Option ℕ) Error → Type 0
+IsMove is_move f due target = IfOk target (λ moved. IfSome moved (λ n. (due ≡ Ok (f n)) × (true ≡ is_move)))
+
+moved_unless : {A : Type 0} (b : Bool) (e : Error) (n : ℕ) (f : ℕ → A) → IsMove true f (cond b (Err e) (Ok (f n))) (cond b (Err e) (Ok (Some n)))
+moved_unless true e n f = tt
+moved_unless false e n f = (refl, refl)
+
+moved_if_so : {A : Type 0} (b : Bool) (e : Error) (n : ℕ) (f : ℕ → A) → IsMove true f (cond b (Ok (f n)) (Err e)) (cond b (Ok (Some n)) (Err e))
+moved_if_so true e n f = (refl, refl)
+moved_if_so false e n f = tt
 
 module _ {T : Type 0} (p : Parameters) (rule_limit stack_limit : Option ℕ) (copies_free : Bool) (location : ℕ) (old new : ContextState T) where
   -- what a context answers that sets a rule
@@ -84,7 +96,7 @@ module _ {T : Type 0} (p : Parameters) (rule_limit stack_limit : Option ℕ) (co
         (subst (λ due. IsRefusal (adds_rule (setting_of p rule_limit stack_limit) (machine_state location old) register.0) due error) (sym is) set.1),
   )
 
-  gives : (i : CallFrameInstruction T) (register : Register) (rule : RegisterRule T) (result : Result (Unit {0}) Error)
+  pub gives : (i : CallFrameInstruction T) (register : Register) (rule : RegisterRule T) (result : Result (Unit {0}) Error)
       → step (setting_of p rule_limit stack_limit) (machine_state location old) i ≡ machine.set_rule (setting_of p rule_limit stack_limit) (machine_state location old) register.0 rule
       → may_allocate_at (setting_of p rule_limit stack_limit) copies_free (machine_state location old) i ≡ adds_rule (setting_of p rule_limit stack_limit) (machine_state location old) register.0
       → old.remembered ≡ remembered_after i old → IsSet register rule result → Changes (setting_of p rule_limit stack_limit) copies_free location i old new result
@@ -122,6 +134,17 @@ module _ {T : Type 0} (p : Parameters) (rule_limit stack_limit : Option ℕ) (co
   move-refused (sets_location address) = refused_if_so (ltb address location) _ _ _
   move-refused (advances_location delta) = refused_unless (fits_address (setting_of p None None) (advanced_location (setting_of p None None) location delta)) _ _ _
   move-refused _ = tt
+
+  moved-by : (a : Action T) → IsMove (moves a) (λ n. machine_state n old) (perform (setting_of p rule_limit stack_limit) (machine_state location old) a) (target (setting_of p None None) location a)
+  moved-by (sets_location address) = moved_unless (ltb address location) _ address (λ n. machine_state n old)
+  moved-by (advances_location delta) =
+      moved_if_so (fits_address (setting_of p None None) (advanced_location (setting_of p None None) location delta)) _ (advanced_location (setting_of p None None) location delta) (λ n. machine_state n old)
+  moved-by _ = tt
+
+  -- an instruction with a target is a move, and its step goes there
+  pub move-told : (i : CallFrameInstruction T) (address : ℕ) → target (setting_of p None None) location (action i) ≡ Ok (Some address)
+      → (step (setting_of p rule_limit stack_limit) (machine_state location old) i ≡ Ok (machine_state address old)) × (true ≡ is_move i)
+  move-told i address is = subst (IsMove (is_move i) (λ n. machine_state n old) (step (setting_of p rule_limit stack_limit) (machine_state location old) i)) is (moved-by (action i))
 
 -- no instruction changes the rules that a CIE's initial instructions ended with
 pub changes-initial : {T : Type 0} (s : Setting) (copies_free : Bool) (location : ℕ) (i : CallFrameInstruction T) (old new : ContextState T) (result : Result (Unit {0}) Error)
