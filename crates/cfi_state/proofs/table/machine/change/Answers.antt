@@ -9,7 +9,7 @@ use Rattle.cfi_state.proofs.table.machine.change.Goals as goal
 
 pub returns-in-Some-rule_given : goal.returns-in-Some-rule_given
 returns-in-Some-rule_given g c =
-    λ location. subst (λ o. IfSome o (λ given. IsSet c.args.parameters.now g.S.Rules.ArrayLike.limit g.S-Stack-ArrayLike.limit g.S.Rules.CopyList.copies_free location c.args.context.now c.set_rule.new.self given.0 given.1 c.set_rule.result
+    λ location. subst (λ o. IfSome o (λ given. IsSet (setting_of c.args.parameters.now g.S.Rules.ArrayLike.limit g.S-Stack-ArrayLike.limit) g.S.Rules.CopyList.copies_free location c.args.context.now c.set_rule.new.self given.0 given.1 c.set_rule.result
     → Changes (setting_of c.args.parameters.now g.S.Rules.ArrayLike.limit g.S-Stack-ArrayLike.limit) g.S.Rules.CopyList.copies_free location c.args.instruction c.args.context.now c.set_rule.new.self c.set_rule.result))
     (sym c.rule_given.ensures ∙ c.in-Some-rule_given.is)
     (sets-given c.args.parameters.now g.S.Rules.ArrayLike.limit g.S-Stack-ArrayLike.limit g.S.Rules.CopyList.copies_free location c.args.context.now c.set_rule.new.self c.args.instruction c.set_rule.result)

@@ -13,6 +13,6 @@ use Rattle.cfi_state.proofs.table.machine.negate_ra_state.Goals as goal
 pub returns-in-Some-Constant : goal.returns-in-Some-Constant
 returns-in-Some-Constant g c =
     let rule = sym (c.register.ensures ∙ ap (λ x. get x.parts.rules 34) c.row.ensures) ∙ c.in-Some-Constant.is ∙ ap Some c.in-Some-Constant.field-0-is in
-    λ p location. gives p g.S.Rules.ArrayLike.limit g.S-Stack-ArrayLike.limit g.S.Rules.CopyList.copies_free location c.args.context.now c.set_rule-in-Some-Constant.new.self
+    λ p location. gives (setting_of p g.S.Rules.ArrayLike.limit g.S-Stack-ArrayLike.limit) g.S.Rules.CopyList.copies_free location c.args.context.now c.set_rule-in-Some-Constant.new.self
     NegateRaState (record { 0 = 34 }) (Constant (bit_xor c.in-Some-Constant.value 1)) c.set_rule-in-Some-Constant.result
     (ap (toggle (setting_of p g.S.Rules.ArrayLike.limit g.S-Stack-ArrayLike.limit) (machine_state location c.args.context.now)) rule) refl refl c.set_rule-in-Some-Constant.ensures
