@@ -3,5 +3,6 @@ pub mod Leb128
 pub mod Onward
 pub mod Repeating
 mod Vectors
+mod Stretches
 pub mod Texts
 pub mod SignedLeb128
