@@ -11,7 +11,7 @@ use Rattle.cfi_state.specs.MachineSettings.{Setting}
 use Rattle.cfi_state.specs.Machine.{Rules, State, step, end_of_cie}
 use Rattle.cfi_state.specs.AllocatingOperations.{IsRefusal}
 use Rattle.cfi_state.specs.MappedStates.{map_rule, map_rules, map_state}
-use Rattle.cfi_state.specs.Allocation.{adds_rule, has_initial_rule, copies_row, may_allocate_for, may_allocate_at, may_allocate_at_end}
+use Rattle.cfi_state.specs.Allocation.{adds_rule, has_initial_rule, may_allocate_for, may_allocate_at, may_allocate_at_end}
 use Rattle.cfi_state.proofs.MappedMaps.{len-map_values, contains-map_values}
 use Rattle.cfi_state.proofs.MappedSteps.{map_action, action-mapped, step-mapped, end_of_cie-mapped}
 

@@ -1,7 +1,7 @@
 -- Lists of registers with their rules, and the maps that they stand for.
-use Rattle.std.proofs.Common.{◌≡◌, ◌≢◌, ℕ, ◌+◌, Bool, true, false, eqb, Option, Some, None, IsNone, IsSomeAnd, is_some, List, [], ◌∷◌, ◌++◌, length, map, get_or, refl, sym, ap, ◌∙◌, subst, cond, Result, Ok, Err, ◌↔◌, arith, inl, inr, ◌<◌, ◌≤◌, take, ◌⊎◌, IfErr, OnOk, OnErr}
+use Rattle.std.proofs.Common.{◌≡◌, ◌≢◌, ℕ, Bool, true, false, eqb, Option, Some, None, IsNone, IsSomeAnd, is_some, List, [], ◌∷◌, length, map, refl, sym, ap, ◌∙◌, subst, cond, Result, Ok, Err, ◌↔◌, arith, inl, inr, ◌<◌, ◌≤◌, take, ◌⊎◌, IfErr, OnOk, OnErr}
 use Rattle.std.proofs.Math.ListN.{set}
-use Rattle.std.proofs.lemmas.List.{map-set, map-append, length-map, length-take-le}
+use Rattle.std.proofs.lemmas.List.{map-set, length-map, length-take-le}
 use Rattle.std.proofs.lemmas.List.Elements.{All-head, All-tail}
 use Rattle.std.proofs.lemmas.List.Sorted.{IsPermutation-sym, IsPermutation-insert, IsPermutation-remove, IsPermutation-map}
 use Rattle.std.proofs.lemmas.Option.{slice_get_within, get_or_from_slice_get, slice_get-map}

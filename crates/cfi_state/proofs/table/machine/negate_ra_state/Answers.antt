@@ -1,5 +1,4 @@
 use Rattle.std.proofs.Common.{Some, refl, sym, ap, ◌∙◌}
-use Rattle.cfi_read_core.specs.declared.common.Register.{Register}
 use Rattle.cfi_state.specs.declared.table.rules.RegisterRule.TheVariants.{Constant}
 use Rattle.cfi_state.specs.ContextEffects.{setting_of}
 use Rattle.cfi_state.specs.UnwindContexts.{machine_state}

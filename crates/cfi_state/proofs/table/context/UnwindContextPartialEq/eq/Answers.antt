@@ -1,4 +1,4 @@
-use Rattle.std.proofs.Common.{◌≡◌, true, false, not, ap, sym, ◌∙◌, rules}
+use Rattle.std.proofs.Common.{◌≡◌, not, ap, sym, ◌∙◌, rules}
 use Rattle.std.specs.Cmp.Lexicographic.{pointwise}
 use Rattle.cfi_state.specs.Equality.{row_eq}
 use Rattle.cfi_state.proofs.ContextEquality.{not_true, not_false, remembered_apart, by_initial_rules}
