@@ -5,6 +5,7 @@ pub mod Agreement
 pub mod Laws
 pub mod Computing
 pub mod HeaderReads
+pub mod HeaderParts
 pub mod RowWalk
 pub mod RowReads
 pub mod PassingRows
