@@ -28,6 +28,11 @@ owed_answer p r input bytes printed e is =
 pub known_of : {A : Type 0} (P : A → Type 0) (o : Option A) (r : A) → o ≡ Some r → IfSome o P → P r
 known_of P o r e h = subst (λ request. IfSome request P) e h
 
+pub owes_memory : (p : Program) (o : Option p.Request) (r : p.Request) (input : List ℕ) → o ≡ Some r → IsOwed p o input out_of_memory
+owes_memory p o r input e =
+    let P : Option p.Request → Type 0 = λ request. IsOwed p request input out_of_memory in
+    subst P (sym e) (inr (refl, inl refl))
+
 pub owes_hexadecimal : (p : Program) (o : Option p.Request) (r : p.Request) (input : List ℕ) → o ≡ Some r → p.meaning r input ≡ None → IsOwed p o input wrong_hexadecimal
 owes_hexadecimal p o r input e wrong =
     let P : Option p.Request → Type 0 = λ request. IsOwed p request input wrong_hexadecimal in
