@@ -1,6 +1,7 @@
-/* Answers the worked rows of worked_rows.py, on standard input, through the C library, and says which differ from the line
- * that is due. Each is answered alone and among many, and the room behind what may be written is checked. Then what no
- * line has: contexts, memory, names and what refusals carry. Linked with --wrap=malloc, --wrap=realloc, --wrap=free. */
+/* Looks up the worked rows that worked_rows.py prints, read from standard input, through the C library, and prints which
+ * differ from the expected line. Each is looked up alone and among many, and the bytes after each array that the library
+ * writes to are checked. Then tests what no line has: contexts, memory, names, and the values that errors carry. Linked
+ * with --wrap=malloc, --wrap=realloc, --wrap=free. */
 #include <inttypes.h>
 #include <stdio.h>
 #include <stdlib.h>

@@ -1,9 +1,9 @@
 #!/usr/bin/env python3
 """Prints the worked rows of the program's tests, a case a line, for worked_rows.c.
 
-A line has the section's kind, byte order, address size and address, the bases of section, text and data, the vendor, the
-address of the header, the bytes of section and header (- for none), and, after a bar, the line that is due. Cases of the
-growing storage and of wrong words have no counterpart in C, and are left out."""
+A line has the section's kind, byte order, address size and address, the bases of section, text and data, the vendor,
+the address of the header, the bytes of section and header (- for none), and, after a bar, the expected line. Cases of
+the growing storage and of wrong arguments have no counterpart in C, and are left out."""
 import re
 import sys
 

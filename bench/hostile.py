@@ -1,9 +1,9 @@
 #!/usr/bin/env python3
-"""Sections of .eh_frame that ask for much: hostile.py FOLDER [NAME..]
+"""Writes hostile .eh_frame sections, which take long to read: hostile.py FOLDER [NAME..]
 
-Each is in the least significant byte first, of 8-byte addresses, and lies at 0. FOLDER gets NAME.eh_frame, and in
-NAME.eh_frame.addresses the one address that a scan looks up. All are written where no NAME is given; a line
-NAME le 0 is printed for each. Each kind comes in four sizes, so that it shows how times grow.
+Each is little-endian, has 8-byte addresses, and lies at 0. FOLDER gets NAME.eh_frame, and NAME.eh_frame.addresses with the
+one address that a scan looks up. Without a NAME all are written. For each a line NAME le 0 is printed. Each kind comes in
+four sizes, which show how times grow.
 """
 import struct
 import sys
@@ -14,7 +14,7 @@ FIRST = 0x1000  # the first address of the first FDE
 
 
 def entry(body):
-    """An entry of a body, with the no-operations that fill it up to 8 bytes, after its length."""
+    """An entry with this body: its length, the body, and no-operations up to a multiple of 8 bytes."""
     body += bytes(-(len(body) + 4) % 8)
     return struct.pack('<I', len(body)) + body
 
@@ -55,19 +55,19 @@ def uleb128(number):
 
 
 def rules_of_192():
-    """A rule for each of the registers 16 to 206: with the CFA's CIE a context of gimli's size is nearly full."""
+    """A rule for each of the registers 16 to 206: with the rule of the CIE a context of gimli's size is nearly full."""
     return b''.join(b'\x05' + uleb128(register) + b'\x01' for register in range(16, 207))
 
 
 def sections():
-    """Each name with the bytes, made when called, and the address that is looked up."""
+    """Each name with a function that makes the bytes, and the address that is looked up."""
     for size in (1, 2, 4, 8):
         n = size * MEGABYTE
         # a state is remembered and restored, 500,000 times a megabyte
         yield f'remember{size}', lambda n=n: one(b'\x0a\x0b' * (n // 2)), FIRST
         # the CFA's offset is set
         yield f'cfa{size}', lambda n=n: one(b'\x0e\x10' * (n // 2)), FIRST
-        # a move of one address, so that each byte is a row; the last one is looked up
+        # an advance by one address, so that each byte is a row; the last one is looked up
         yield f'advance{size}', lambda n=n: one(b'\x41' * n), FIRST + n
         # the last of many rules is set
         yield f'rules{size}', lambda n=n: one(rules_of_192() + b'\x05\xce\x01\x01' * (n // 4)), FIRST
@@ -76,7 +76,7 @@ def sections():
     for n in (12_500, 25_000, 50_000, 100_000):
         yield f'cies{n}', lambda n=n: many(n, cie_each=True), FIRST + 16 * (n - 1)
     for n in (500, 1_000, 2_000, 4_000):
-        # n FDEs of a CIE with n letters of augmentation: a reader of each FDE with its CIE reads n * n letters
+        # n FDEs of a CIE whose augmentation has n letters: reading the CIE for each FDE reads n * n letters
         letters = lambda n=n: many(n, cie(b'z' + b'S' * n, b'\0'), b'\0')
         yield f'letters{n}', letters, FIRST + 16 * (n - 1)
 

@@ -1,8 +1,8 @@
-/* Unwinds its own stack by the rows of cfi_c, and prints its frames beside those of backtrace() of glibc: on x86-64 Linux,
- * and on AArch64 Linux, where it is tried under qemu alone (examples/aarch64).
+/* Unwinds its own stack by the rows of cfi_c, and prints its frames beside those of backtrace() of glibc: on x86-64
+ * Linux, and on AArch64 Linux, where it has only been tested under qemu (examples/aarch64).
  *
- * dl_iterate_phdr finds the program or library that a pc is in, and its .eh_frame_hdr, whose table leads to the row. One
- * context serves all frames. Registers have DWARF's numbers. */
+ * dl_iterate_phdr finds the program or library that a pc is in, and its .eh_frame_hdr, by whose table the row is looked
+ * up. One context is used for all frames. Registers have DWARF's numbers. */
 #define _GNU_SOURCE
 #include <execinfo.h>
 #include <link.h>
@@ -37,10 +37,10 @@ static uint64_t return_address(const uint64_t caller[REGISTERS]) {
 
 #elif defined(__aarch64__)
 
-/* 0 to 30 are x0 to x30, of which x30 has the return address, also without a rule. 34 says whether that is signed. */
+/* 0 to 30 are x0 to x30; x30 has the return address, also without a rule. 34 says whether that is signed. */
 enum { IS_AARCH64 = 1, LINK = 30, SP = 31, PC = 32, IS_SIGNED = 34, ZERO_WITHOUT_RULE = IS_SIGNED, REGISTERS = 35 };
 
-/* Calls keep x19 to x30 and sp; the others are of no use to a caller's frame. */
+/* Calls preserve x19 to x30 and sp; the caller's frame doesn't need the others. */
 __attribute__((always_inline)) static inline void read_registers(uint64_t registers[REGISTERS]) {
     __asm__ volatile(
         "stp x19, x20, [%0, 8 * 19]\n stp x21, x22, [%0, 8 * 21]\n stp x23, x24, [%0, 8 * 23]\n"
@@ -51,7 +51,7 @@ __attribute__((always_inline)) static inline void read_registers(uint64_t regist
         : "x9", "x10", "memory");
 }
 
-/* hint 7 is xpaclri, which takes the signature out of x30; to processors without signatures it is nothing. */
+/* hint 7 is xpaclri, which strips the signature from x30; processors without signatures ignore it. */
 static uint64_t return_address(const uint64_t caller[REGISTERS]) {
     uint64_t address = caller[LINK];
     if (caller[IS_SIGNED])
@@ -69,7 +69,7 @@ typedef struct {
     size_t header_len, eh_frame_len;
 } Module;
 
-/* The end of the file part of the segment that an address is in: it bounds the section. */
+/* The end of the part of a segment that comes from the file: the section ends before it. */
 static const uint8_t *end_of_segment(const struct dl_phdr_info *info, const uint8_t *at) {
     for (int i = 0; i < info->dlpi_phnum; i++) {
         const ElfW(Phdr) *segment = &info->dlpi_phdr[i];
@@ -95,7 +95,7 @@ static int find_module(struct dl_phdr_info *info, size_t size, void *data) {
             module->header_len = segment->p_memsz;
         }
     }
-    /* Linkers write the pointer to .eh_frame as four bytes that count from themselves (encoding 0x1b). */
+    /* Linkers write the pointer to .eh_frame as four bytes, relative to themselves (encoding 0x1b). */
     if (!is_in || !module->header || module->header_len < 8 || module->header[1] != 0x1b)
         return 0;
     int32_t distance;
@@ -106,7 +106,7 @@ static int find_module(struct dl_phdr_info *info, size_t size, void *data) {
     return end != NULL;
 }
 
-/* Goes from a frame to its caller's; 0 at the outermost one, or where a rule is none that is known here. */
+/* Goes from a frame to its caller's; returns 0 at the outermost one, or if this program doesn't know a rule. */
 static int step(CfiContext *context, uint64_t registers[REGISTERS], int is_first) {
     uint64_t pc = registers[PC] - (is_first ? 0 : 1);
     Module module = {.pc = pc};
@@ -165,7 +165,7 @@ static Frames *frames_of_sort;
 
 static int deep(int depth, Frames *frames);
 
-/* Called by the C library, so that its frames lie between. */
+/* Called by the C library, so that the stack has frames of its own. */
 static int compare(const void *left, const void *right) {
     (void)left;
     (void)right;
@@ -190,7 +190,7 @@ __attribute__((noinline)) static int deep(int depth, Frames *frames) {
     return below + 1;
 }
 
-/* The innermost frame differs: unwind and backtrace are called from two places. 0 where all others are the same. */
+/* The innermost frame differs, since unwind and backtrace are called from two places. Returns 0 if all others agree. */
 int main(void) {
     static Frames frames;
     int same = 1;

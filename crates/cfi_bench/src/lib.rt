@@ -1,9 +1,11 @@
-//! Whole passes over a call frame section, for timing beside gimli from one program (`docs/BENCHMARK.md`).
+//! Whole passes over a call frame section, for timing beside gimli from one program
+//! (`docs/BENCHMARK.md`).
 //!
-//! Each export makes one pass over the public calls of `gimli_cfi`. It writes the number of answers to `count` and
-//! returns their checksum, made as the driver in `bench/` makes that of gimli's answers. Where a pass is refused as a
-//! whole, or the measure isn't known, the count is 2^64 - 1 and the checksum 0. No pass keeps anything for the next
-//! one; those with rows make one context, of the fixed storage, and free it at their end.
+//! Each export makes one pass over the public calls of `gimli_cfi`. It writes the number of answers
+//! to `count` and returns their checksum, made as the driver in `bench/` makes that of gimli's
+//! answers. Where a pass is refused as a whole, or the measure isn't known, the count is 2^64 - 1
+//! and the checksum 0. No pass keeps anything for the next one; those with rows make one context,
+//! of the fixed storage, and free it at their end.
 #![tactic(auto)]
 
 #[cfg(test)]
@@ -13,11 +15,13 @@ use cfi_bench_passes::passes::{of_header, of_section};
 use gimli_cfi::{BigEndian, LittleEndian};
 use std::alloc::Global;
 
-/// One pass over `.eh_frame`, the least significant byte first, of 8-byte addresses, that lies at `base`.
+/// One pass over `.eh_frame`, the least significant byte first, of 8-byte addresses, that lies at
+/// `base`.
 ///
-/// The measure is 0 for the entries (the offset of each), 1 for the FDEs with their CIEs (initial address and length of
-/// each), 2 for all rows of all FDEs (addresses and CFA of each), 3 for a scan of the section for each of the addresses
-/// (addresses and CFA of its row), 7 for all rows with every rule.
+/// The measure is 0 for the entries (the offset of each), 1 for the FDEs with their CIEs (initial
+/// address and length of each), 2 for all rows of all FDEs (addresses and CFA of each), 3 for a
+/// scan of the section for each of the addresses (addresses and CFA of its row), 7 for all rows
+/// with every rule.
 #[unsafe(no_mangle)]
 pub extern "C" fn cfi_bench_section_le(
     alloc: Global,
@@ -47,10 +51,12 @@ pub extern "C" fn cfi_bench_section_be(
     done.sum
 }
 
-/// One pass by the table of `.eh_frame_hdr`, the least significant byte first, that lies at `header_base`.
+/// One pass by the table of `.eh_frame_hdr`, the least significant byte first, that lies at
+/// `header_base`.
 ///
-/// The measure is 4 for a lookup of each of the addresses (the pointer to its FDE), 5 for the row of each by the table
-/// (addresses and CFA), 6 for the rows of the table (start and target of each).
+/// The measure is 4 for a lookup of each of the addresses (the pointer to its FDE), 5 for the row
+/// of each by the table (addresses and CFA), 6 for the rows of the table (start and target of
+/// each).
 #[unsafe(no_mangle)]
 pub extern "C" fn cfi_bench_header_le(
     alloc: Global,

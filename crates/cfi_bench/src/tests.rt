@@ -1,9 +1,11 @@
-//! How many answers each pass counts in a small section, and that both byte orders have one checksum.
+//! How many answers each pass counts in a small section, and that both byte orders have one
+//! checksum.
 use cfi_bench_passes::passes::{of_header, of_section};
 use gimli_cfi::{BigEndian, LittleEndian};
 use std::test::Fail;
 
-/// A CIE, an FDE of 16 addresses from 0x1000 with two rows, and the end; the section lies at 0x2000.
+/// A CIE, an FDE of 16 addresses from 0x1000 with two rows, and the end; the section lies at
+/// 0x2000.
 const SECTION: [u8; 48] = [
     0x14, 0, 0, 0, 0, 0, 0, 0, 1, 0x7a, 0x52, 0, 1, 0x78, 0x10, 1, 0x1b, 0x0c, 7, 8, 0x90, 1, 0, 0,
     0x10, 0, 0, 0, 0x1c, 0, 0, 0, 0xe0, 0xef, 0xff, 0xff, 0x10, 0, 0, 0, 0, 0x41, 0x0e, 0x10, 0, 0,

@@ -1,8 +1,9 @@
 //! The passes: each goes over a section or a header once, and counts and sums its answers.
 //!
-//! A driver makes the same passes by gimli, so these take what a user of gimli takes, and no shorter way.
+//! A driver makes the same passes by gimli, so these take what a user of gimli takes, and no
+//! shorter way.
 ghost use Rattle.std.specs.Prelude.{◌≡◌, IfOk};
-ghost use Rattle.cfi_instruction.specs.CallFrameSections.{IsOf};
+ghost use Rattle.cfi_read_core.specs.CallFrameSections.{IsOf};
 
 use crate::sums::{Done, FAILED, REFUSED, RowSums, RulesSums, SumOfRow, row_sum};
 use gimli_cfi::{
@@ -109,14 +110,16 @@ fn entries<R: Reader<Offset = usize>, S: UnwindSection<R>>(
     Ok(done)
 }
 
-/// The whole FDE, with the CIE that stands in the section.
+/// Returns the whole FDE, with its CIE in the section.
 fn whole<'b, R: Reader, S: UnwindSection<R>>(
     section: &S,
     partial: &PartialFrameDescriptionEntry<'b, S, R>,
 ) -> Result<FrameDescriptionEntry<R>>
     requires { partial.now.section ≡ section.now }
-    ensures part { IfOk result (λ fde. IsOf (R.position fde.instructions) (S.view section.now).position) }
-    ensures cie_part { IfOk result (λ fde. IsOf (R.position fde.cie.initial_instructions) (S.view section.now).position) }
+    ensures part { IfOk result (λ fde.
+        IsOf (R.position fde.instructions) (S.view section.now).position) }
+    ensures cie_part { IfOk result (λ fde.
+        IsOf (R.position fde.cie.initial_instructions) (S.view section.now).position) }
 {
     let reader = *section.section();
     partial.parse(|from: &S, bases: &BaseAddresses, offset: S::Offset| {
@@ -156,7 +159,8 @@ fn walk_fde<
     done: &mut Done,
 )
     requires own { IsOf (R.position fde.now.instructions) (Section.view section.now).position }
-    requires cie { IsOf (R.position fde.now.cie.initial_instructions) (Section.view section.now).position }
+    requires cie { IsOf (R.position fde.now.cie.initial_instructions)
+        (Section.view section.now).position }
 {
     let Ok(mut table) = fde.rows(section, bases, context) else {
         return;

@@ -73,7 +73,8 @@ pub fn row_sum<S: UnwindContextStorage<usize>>(row: &UnwindTableRow<usize, S::Ru
     }
 }
 
-/// A row with every rule. The order in which registers are walked is open, so their numbers are added.
+/// A row with every rule. The order in which registers are walked is open, so their numbers are
+/// added.
 pub fn rules_sum<S: UnwindContextStorage<usize>>(row: &UnwindTableRow<usize, S::Rules>) -> u64 {
     let mut sum = mix(row_sum::<S>(row), row.saved_args_size());
     for (register, rule) in row.registers() {

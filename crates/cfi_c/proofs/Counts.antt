@@ -8,7 +8,9 @@ use Rattle.cfi_state.specs.Row.{Row}
 use Rattle.cfi_c.specs.declared.CfiBases.{CfiBases}
 use Rattle.cfi_c.specs.declared.CfiRow.{CfiRow}
 use Rattle.cfi_c.specs.declared.CfiRule.{CfiRule}
-use Rattle.cfi_c.specs.Answers.{AreAnswered, IsAnswerForC, IsAnswered, SameAround, no_row, row_in, rule_in}
+use Rattle.cfi_c.specs.ManyAddresses.{AreAnswered, no_row, row_in}
+use Rattle.cfi_c.specs.AddressRows.{IsAnswerForC, IsAnswered}
+use Rattle.cfi_c.specs.WrittenRows.{SameAround, rule_in}
 
 pub one_more : (i per : ℕ) → (i + 1) * per ≡ i * per + per
 one_more i per = ap (λ n. n * per) (omega arith) ∙ suc-mul i per

@@ -12,7 +12,8 @@ use Rattle.gimli_cfi.proofs.Agreement.{found_as_scan}
 use Rattle.cfi_c.specs.declared.CfiBases.{CfiBases}
 use Rattle.cfi_c.specs.declared.CfiRow.{CfiRow}
 use Rattle.cfi_c.specs.declared.CfiRule.{CfiRule}
-use Rattle.cfi_c.specs.Answers.{eh_frame_of, header_of, IsAnswered, IsAnswerForC, IsFaithfulHeader, IsScanned, IsTableAnswer}
+use Rattle.cfi_c.specs.PassedSections.{eh_frame_of, header_of}
+use Rattle.cfi_c.specs.AddressRows.{IsAnswered, IsAnswerForC, IsFaithfulHeader, IsScanned, IsTableAnswer}
 
 found_scanned : (bases : CfiBases) (bytes header : List ℕ) (a : ℕ) (found : Result Fde Error) → length bytes ≤ 0xffffffffffffffff
     → IsFaithfulHeader bases bytes header → FoundByHeader (eh_frame_of bases bytes) a (header_of bases header) (headers.header_of (header_of bases header)) found

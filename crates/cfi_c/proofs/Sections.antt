@@ -13,7 +13,8 @@ use Rattle.cfi_unwind.proofs.Laws.{row_is_due_where_fixed}
 use Rattle.gimli_cfi.specs.EhFrameHdr.{HeaderSection, header_section}
 use Rattle.gimli_cfi.specs.RowsByHeader.{IsRowByHeader}
 use Rattle.cfi_c.specs.declared.CfiBases.{CfiBases}
-use Rattle.cfi_c.specs.Answers.{header_of, section_as, vendor_of, IsTableAnswer}
+use Rattle.cfi_c.specs.PassedSections.{header_of, section_as, vendor_of}
+use Rattle.cfi_c.specs.AddressRows.{IsTableAnswer}
 
 abbrev pub of_parts : SectionKind → Position → ℕ → Vendor → SectionBaseAddresses → Section
 of_parts kind position size vendor bases = record { kind = kind; source = position.source; first = position.place; address_size = size; vendor = vendor; bases = bases }

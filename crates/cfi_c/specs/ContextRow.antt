@@ -1,4 +1,4 @@
--- The checker's description of `UnwindContext<usize, StoreOnHeap>`. It follows the type; another one is refused by `Kept`.
+-- The checker's description of `UnwindContext<usize, StoreOnHeap>`. It follows the type; another one is refused by `HeldContext`.
 use Rattle.cfi_read_core.specs.contracts.common.Register.{the_row as register}
 use Rattle.cfi_read_core.specs.contracts.common.RegisterDefault.TheImpl as register-default
 use Rattle.cfi_read_core.specs.contracts.common.StoreOnHeap.{the_row as store}

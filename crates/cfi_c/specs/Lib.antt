@@ -1,4 +1,7 @@
 pub mod Refusals
 pub mod ContextRow
-pub mod Kept
-pub mod Answers
+pub mod HeldContexts
+pub mod PassedSections
+pub mod WrittenRows
+pub mod AddressRows
+pub mod ManyAddresses

@@ -1,49 +1,49 @@
-//! A context that C keeps.
+//! A context that C holds.
 ghost use Rattle.std.specs.Prelude.{◌≡◌};
-ghost use Rattle.cfi_c.specs.Answers.{is_live};
+ghost use Rattle.cfi_c.specs.AddressRows.{is_live};
 
-use crate::kept::Kept;
+use crate::held::HeldContext;
 use crate::unboxed::Unboxed;
 use gimli_cfi::{StoreOnHeap, UnwindContext};
 use std::alloc::Global;
 
-/// What an unwind needs beside the bytes. It takes memory when it is made, and then none.
+/// What an unwind needs besides the bytes. Making one allocates; using it does not.
 pub type Context = UnwindContext<usize, StoreOnHeap>;
 
 /// A context, or none: all zero.
 #[repr(C)]
 pub struct CfiContext {
-    kept: Kept,
+    held: HeldContext,
     pub live: bool,
-    ghost ok: { kept.live ≡ live },
+    ghost ok: { held.live ≡ live },
 }
 
 impl CfiContext {
-    /// The context that is held, or none.
+    /// Makes the value that C holds of a context, or of none.
     pub fn of(alloc: Global, held: Option<Box<Context>>) -> CfiContext
         ensures { result.live ≡ is_live held }
     {
         match held {
             Some(context) => CfiContext {
-                kept: Kept::seal(Unboxed::of(context)),
+                held: HeldContext::seal(Unboxed::of(context)),
                 live: true,
             },
             None => CfiContext {
-                kept: Kept::none(alloc),
+                held: HeldContext::none(alloc),
                 live: false,
             },
         }
     }
 
-    /// The context, where there is one.
+    /// Returns the context, where there is one.
     pub fn into_box(self) -> Option<Box<Context>>
         ensures { is_live result ≡ self.live }
     {
-        let CfiContext { kept, live } = self;
+        let CfiContext { held, live } = self;
         if live {
-            return Some(kept.unseal().into_box());
+            return Some(held.unseal().into_box());
         }
-        drop(kept);
+        drop(held);
         None
     }
 }

@@ -1,11 +1,11 @@
-//! The row of an address in what C hands in.
+//! Finds the row of an address in the sections that C passes.
 ghost use Rattle.std.specs.Prelude.{◌≡◌, ◌↔◌, Some, IsTrue, true, false};
 ghost use Rattle.cfi_read_core.specs.ByteOrder.{is_big};
 ghost use Rattle.cfi_read_core.specs.Addresses.{IsAddressSize};
 ghost use Rattle.cfi_read_core.specs.ReaderCalls.{map_ok};
 ghost use Rattle.cfi_unwind.specs.AddressRow.{row_by_scan};
-ghost use Rattle.cfi_c.specs.Answers.{IsSizedAnswer, IsTableAnswer};
-ghost use Rattle.cfi_c.specs.Answers.{section_of, eh_frame_of, header_of, vendor_of, lent};
+ghost use Rattle.cfi_c.specs.AddressRows.{IsSizedAnswer, IsTableAnswer};
+ghost use Rattle.cfi_c.specs.PassedSections.{section_of, eh_frame_of, header_of, vendor_of, lent};
 
 use crate::CfiBases;
 use crate::context::Context;
@@ -16,7 +16,8 @@ use gimli_cfi::{
 
 type FoundRow = UnwindTableRow<usize, <StoreOnHeap as UnwindContextStorage<usize>>::Rules>;
 
-/// The row of the address, by the header's table where there is a header.
+/// Finds the row of the address, by the header's table where there is a header, else by a scan.
+/// Returns `Error::UnsupportedAddressSize` where the size is not 1, 2, 4 or 8.
 pub fn find_row<'ctx>(
     context: &'ctx mut Context,
     section: &[u8],
@@ -24,7 +25,8 @@ pub fn find_row<'ctx>(
     bases: &CfiBases,
     address: u64,
 ) -> Result<&'ctx FoundRow, Error>
-    ensures { IsSizedAnswer bases.now section.now (lent header.entry) address (map_ok (λ row. row.now) result) }
+    ensures { IsSizedAnswer bases.now section.now (lent header.entry) address
+        (map_ok (λ row. row.now) result) }
 {
     if !is_sized(bases.address_size) {
         return Err(Error::UnsupportedAddressSize(bases.address_size));
@@ -35,12 +37,14 @@ pub fn find_row<'ctx>(
     }
 }
 
+/// Returns whether addresses may have this size.
 fn is_sized(size: u8) -> bool
     ensures { IsTrue result ↔ IsAddressSize size }
 {
     size == 1 || size == 2 || size == 4 || size == 8
 }
 
+/// Finds the row by a scan of the section.
 fn by_scan<'ctx>(
     context: &'ctx mut Context,
     section: &[u8],
@@ -58,7 +62,7 @@ fn by_scan<'ctx>(
     }
 }
 
-/// The row by a scan of `.debug_frame`.
+/// Finds the row by a scan of `.debug_frame`.
 fn scan_debug_frame<'ctx>(
     context: &'ctx mut Context,
     section: &[u8],
@@ -76,7 +80,7 @@ fn scan_debug_frame<'ctx>(
     row_by_scan(&frame, &bases_of(bases), context, address)
 }
 
-/// The row by a scan of `.eh_frame`.
+/// Finds the row by a scan of `.eh_frame`.
 fn scan_eh_frame<'ctx>(
     context: &'ctx mut Context,
     section: &[u8],
@@ -94,6 +98,7 @@ fn scan_eh_frame<'ctx>(
     row_by_scan(&frame, &bases_of(bases), context, address)
 }
 
+/// Finds the row by the table of the header.
 fn by_table<'ctx>(
     context: &'ctx mut Context,
     section: &[u8],
@@ -102,8 +107,8 @@ fn by_table<'ctx>(
     address: u64,
 ) -> Result<&'ctx FoundRow, Error>
     requires { IsAddressSize bases.now.address_size }
-    ensures { IsTableAnswer (eh_frame_of bases.now section.now) (header_of bases.now header.now) address
-        (map_ok (λ row. row.now) result) }
+    ensures { IsTableAnswer (eh_frame_of bases.now section.now)
+        (header_of bases.now header.now) address (map_ok (λ row. row.now) result) }
 {
     let known = bases_of(bases);
     let mut frame = EhFrame::new(section, endian_of(bases));
@@ -120,6 +125,7 @@ fn by_table<'ctx>(
     )
 }
 
+/// Returns the byte order of the sections.
 fn endian_of(bases: &CfiBases) -> RunTimeEndian
     ensures { is_big result ≡ bases.now.big_endian }
 {
@@ -130,6 +136,7 @@ fn endian_of(bases: &CfiBases) -> RunTimeEndian
     }
 }
 
+/// Returns the vendor whose opcodes are read.
 fn vendor_of(bases: &CfiBases) -> Vendor
     ensures { result ≡ vendor_of bases.now.aarch64 }
 {
@@ -140,6 +147,7 @@ fn vendor_of(bases: &CfiBases) -> Vendor
     }
 }
 
+/// Returns the bases of the pointers in the section, and of those in its header.
 fn bases_of(bases: &CfiBases) -> BaseAddresses
     ensures section { result.eh_frame ≡ record {
       section = Some bases.now.section;

@@ -1,29 +1,32 @@
 //! Unwind rows of addresses for C programs. `cfi_c.h` says the same in C.
 #![tactic(auto)]
 
-ghost use Rattle.std.specs.Prelude.{◌≡◌, ◌+◌, ◌<◌, ◌≤◌, ◌⊎◌, ℕ, length, pos, true, false, None, Some, slice_index_or};
-ghost use Rattle.cfi_read_core.specs.declared.error.Error.{Error};
+ghost use Rattle.std.specs.Prelude.{◌≡◌, ◌+◌, ◌<◌, ◌≤◌, ◌⊎◌, ℕ, length, pos, true, false, None};
+ghost use Rattle.std.specs.Prelude.{Some, slice_index_or};
 ghost use Rattle.cfi_read_core.specs.Addresses.{IsAddressSize};
 ghost use Rattle.cfi_read_core.specs.RefusalNames.{name_of};
 ghost use Rattle.cfi_c.specs.Refusals.{number, status_name};
-ghost use Rattle.cfi_c.specs.Answers.{IsAnswerForC, IsFaithfulHeader, IsScanned, SameAround};
-ghost use Rattle.cfi_c.specs.Answers.{IsCount, AreAnswered, header_in, is_live, lent};
+ghost use Rattle.cfi_c.specs.AddressRows.{IsAnswerForC, IsFaithfulHeader, IsScanned, is_live};
+ghost use Rattle.cfi_c.specs.WrittenRows.{SameAround};
+ghost use Rattle.cfi_c.specs.ManyAddresses.{IsCount, AreAnswered};
+ghost use Rattle.cfi_c.specs.PassedSections.{header_in, lent};
 
 mod context;
 mod find;
-mod kept;
+mod held;
 mod refusal;
 mod unboxed;
 mod written;
 
 use context::{CfiContext, Context};
 use find::find_row;
-use refusal::name_of;
+use gimli_cfi::Error;
+use refusal::{NO_CONTEXT, name_of, number_of};
 use std::alloc::Global;
 use std::mem;
 use written::write_answer;
 
-/// Where the sections lie, and how their numbers are read.
+/// The addresses of the sections, and how their numbers are read.
 #[repr(C)]
 pub struct CfiBases {
     /// The address of the section, and that of its header.
@@ -41,7 +44,7 @@ pub struct CfiBases {
     pub address_size: u8,
 }
 
-/// A row, but for its rules; or what a refusal carries.
+/// A row without its rules; or an error.
 #[repr(C)]
 #[derive(Clone, Copy)]
 pub struct CfiRow {
@@ -53,12 +56,12 @@ pub struct CfiRow {
     pub cfa_kind: u32,
     pub cfa_register: u32,
     pub cfa_offset: i64,
-    /// Place and length of the expression in the section.
+    /// Offset and length in bytes of the expression in the section.
     pub cfa_place: u64,
     pub cfa_length: u64,
-    /// The number that a refusal carries, else 0.
+    /// The place, byte or number that the error carries, else 0.
     pub refused: u64,
-    /// 0, or the number of the refusal.
+    /// 0, or the number of the error.
     pub status: i32,
 }
 
@@ -66,27 +69,28 @@ pub struct CfiRow {
 #[repr(C)]
 #[derive(Clone, Copy)]
 pub struct CfiRule {
-    /// 0 no rule, 1 undefined, 2 same value, 3 offset, 4 value offset, 5 register, 6 expression, 7 value expression,
-    /// 8 architectural, 9 constant.
+    /// 0: no rule, 1: undefined, 2: same value, 3: offset, 4: value offset, 5: register,
+    /// 6: expression, 7: value expression, 8: architectural, 9: constant.
     pub kind: u64,
     /// The offset, or the register.
     pub value: i64,
-    /// Place and length of the expression in the section; the constant.
+    /// Offset and length in bytes of the expression in the section; or the constant, and 0.
     pub place: u64,
     pub length: u64,
 }
 
-/// Makes a context, and frees the one that was there. 31 where there is no memory for it: then nothing is written.
+/// Makes a context, and frees the one that was there. Returns 0; or the number of `OutOfMemory`
+/// where the allocation fails, and then writes nothing.
 #[unsafe(no_mangle)]
 pub extern "C" fn cfi_context_new(alloc: Global, context: &mut CfiContext) -> i32
     ensures { ((result ≡ pos 0) × (context.new.live ≡ true))
-        ⊎ ((result ≡ pos 31) × (context.new.live ≡ context.old.live)) }
+        ⊎ ((result ≡ number Error.OutOfMemory) × (context.new.live ≡ context.old.live)) }
 {
     let Ok(made) = Context::new(alloc) else {
-        return 31;
+        return number_of(Error::OutOfMemory);
     };
     let Ok(held) = Box::new(alloc, made) else {
-        return 31;
+        return number_of(Error::OutOfMemory);
     };
     *context = CfiContext::of(alloc, Some(held));
     0
@@ -100,11 +104,12 @@ pub extern "C" fn cfi_context_free(alloc: Global, context: &mut CfiContext)
     *context = CfiContext::of(alloc, None);
 }
 
-/// Writes the row of the address, by going through the section, and the rules of the registers from 0 up into as many
-/// as there are in `rules`.
+/// Writes the row of the address, found by a scan of the section, and the rules of the registers
+/// from 0 up, as many as fit in `rules`.
 ///
-/// The status, also in `row`, is 0, or the number of the refusal, with what it carries in `row.refused`: that of
-/// `UnsupportedAddressSize` where the size is none, 32 where there is no context. It takes no memory.
+/// Returns the status, which is also in `row`: 0, or the number of the error, with what it carries
+/// in `row.refused`; that of `UnsupportedAddressSize` where the size is not 1, 2, 4 or 8; and
+/// `NO_CONTEXT` where there is no context. Does not allocate.
 #[unsafe(no_mangle)]
 pub extern "C" fn cfi_row_by_scan(
     alloc: Global,
@@ -129,7 +134,8 @@ pub extern "C" fn cfi_row_by_scan(
     row.status
 }
 
-/// The same for a section with a header, by its table; by going through the section where the header has no rows.
+/// Does the same for `.eh_frame` with a header, by the header's table; by a scan of the section
+/// where the header has no rows.
 #[unsafe(no_mangle)]
 pub extern "C" fn cfi_row_by_table(
     alloc: Global,
@@ -166,11 +172,12 @@ pub extern "C" fn cfi_row_by_table(
     row.status
 }
 
-/// The rows of many addresses, each as `cfi_row_by_table` answers it, or as `cfi_row_by_scan` does where the header is
-/// empty: `rows[i]`, and in `rules` the `per_row` from `i * per_row` on, are those of `addresses[i]`.
+/// Writes the rows of many addresses, each as `cfi_row_by_table` does, or as `cfi_row_by_scan` does
+/// where the header is empty: `rows[i]`, and in `rules` the `per_row` from `i * per_row` on, are
+/// those of `addresses[i]`.
 ///
-/// Returns how many are answered: as many as there are addresses, rows, and rules for each row. Nothing behind them is
-/// written. It takes no memory.
+/// Returns how many rows it has written: as many as there are addresses, rows, and rules for each
+/// row. Writes nothing after them. Does not allocate.
 #[unsafe(no_mangle)]
 pub extern "C" fn cfi_rows(
     alloc: Global,
@@ -183,9 +190,11 @@ pub extern "C" fn cfi_rows(
     rules: &mut [CfiRule],
     per_row: usize,
 ) -> usize
-    ensures count { IsCount (length addresses.now) (length rows.old) (length rules.old) per_row result }
-    ensures answered { AreAnswered context.old.live bases.now section.now (header_in header.now) addresses.now
-        per_row result rows.old rows.new rules.old rules.new }
+    ensures count { IsCount (length addresses.now) (length rows.old) (length rules.old) per_row
+        result }
+    ensures answered { AreAnswered context.old.live bases.now section.now
+        (header_in header.now) addresses.now per_row result
+        rows.old rows.new rules.old rules.new }
     ensures kept { context.new.live ≡ context.old.live }
 {
     let mut held = mem::replace(context, CfiContext::of(alloc, None)).into_box();
@@ -197,8 +206,8 @@ pub extern "C" fn cfi_rows(
     count
 }
 
-/// Writes the name of a status, as far as there is room for it, and returns how long it is: `Ok` for 0, `NoContext` for
-/// 32, `Unknown` for a number that is none.
+/// Writes the name of a status, as much of it as fits, and returns its length in bytes: `Ok` for 0,
+/// `NoContext` for `NO_CONTEXT`, `Unknown` for a number that is not a status.
 #[unsafe(no_mangle)]
 pub extern "C" fn cfi_status_name(status: i32, name: &mut [u8]) -> usize
     ensures length { result ≡ length (status_name status) }
@@ -217,7 +226,7 @@ pub extern "C" fn cfi_status_name(status: i32, name: &mut [u8]) -> usize
     text.len()
 }
 
-/// No bytes are no header.
+/// Returns the header, or `None` where it is empty.
 fn header_in(header: &[u8]) -> Option<&[u8]>
     ensures { lent result ≡ header_in header.now }
 {
@@ -227,7 +236,7 @@ fn header_in(header: &[u8]) -> Option<&[u8]>
     Some(header)
 }
 
-/// Writes the answers to as many addresses as there is room for, and returns how many.
+/// Writes the rows of as many addresses as there is room for, and returns how many.
 fn answer_each(
     held: &mut Option<Box<Context>>,
     section: &[u8],
@@ -238,9 +247,11 @@ fn answer_each(
     rules: &mut [CfiRule],
     per_row: usize,
 ) -> usize
-    ensures count { IsCount (length addresses.now) (length rows.old) (length rules.old) per_row result }
-    ensures answered { AreAnswered (is_live held.old) bases.now section.now (lent header.entry) addresses.now
-        per_row result rows.old rows.new rules.old rules.new }
+    ensures count { IsCount (length addresses.now) (length rows.old) (length rules.old) per_row
+        result }
+    ensures answered { AreAnswered (is_live held.old) bases.now section.now
+        (lent header.entry) addresses.now per_row result
+        rows.old rows.new rules.old rules.new }
     ensures kept { is_live held.new ≡ is_live held.old }
 {
     let mut first = 0;
@@ -266,7 +277,7 @@ fn answer_each(
     addresses.len()
 }
 
-/// Writes the answer to one address, with the context that is held.
+/// Writes the row of one address, with the context that is held.
 fn answer(
     held: &mut Option<Box<Context>>,
     section: &[u8],
@@ -279,8 +290,8 @@ fn answer(
     count: usize,
 )
     requires { first + count ≤ length rules.old }
-    ensures answered { IsAnswerForC (is_live held.old) bases.now section.now (lent header.entry) address
-        row.new rules.new first count }
+    ensures answered { IsAnswerForC (is_live held.old) bases.now section.now
+        (lent header.entry) address row.new rules.new first count }
     ensures around { SameAround first count rules.old rules.new }
     ensures kept { is_live held.new ≡ is_live held.old }
 {
@@ -291,7 +302,7 @@ fn answer(
         }
         None => {
             row.refused = 0;
-            row.status = 32;
+            row.status = NO_CONTEXT;
         }
     }
 }

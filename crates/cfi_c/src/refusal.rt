@@ -1,10 +1,13 @@
-//! Refusals as numbers and names.
+//! Errors as numbers and names.
 ghost use Rattle.std.specs.Prelude.{◌≡◌};
 ghost use Rattle.cfi_c.specs.Refusals.{number, status_name, value};
 
 use gimli_cfi::{DwCfa, DwEhPe, Error, ReaderOffsetId};
 
-/// The number of a refusal.
+/// The status where there is no context.
+pub const NO_CONTEXT: i32 = 32;
+
+/// Returns the number of an error: its status, from 1 to 31.
 pub fn number_of(error: Error) -> i32
     ensures { result ≡ number error }
 {
@@ -43,7 +46,7 @@ pub fn number_of(error: Error) -> i32
     }
 }
 
-/// The place, byte or number that a refusal carries, else 0.
+/// Returns the place, byte or number that an error carries, else 0.
 pub fn value_of(error: Error) -> u64
     ensures { result ≡ value error }
 {
@@ -66,7 +69,8 @@ pub fn value_of(error: Error) -> u64
     }
 }
 
-/// The refusals in the order of their numbers, from 1 on. A name does not show what is carried, so it is 0 here.
+/// The errors in the order of their numbers, from 1 on. A name does not show what an error carries,
+/// so that is 0 here.
 const REFUSALS: [Error; 31] = [
     Error::UnexpectedEof(ReaderOffsetId(0)),
     Error::BadUnsignedLeb128,
@@ -101,7 +105,7 @@ const REFUSALS: [Error; 31] = [
     Error::OutOfMemory,
 ];
 
-/// The name of a status.
+/// Returns the name of a status.
 pub fn name_of(status: i32) -> &'static [u8]
     ensures { result.now ≡ status_name status }
 {

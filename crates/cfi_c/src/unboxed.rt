@@ -1,4 +1,5 @@
-//! A box in two parts, its pointer and its allocator, in sight of the module that keeps the pointer for C.
+//! A box in two parts, its pointer and its allocator, visible to the module that holds the pointer
+//! for C.
 ghost use Rattle.std.specs.Prelude.{◌≡◌};
 ghost use Rattle.std_alloc.specs.Box.Ownership.{box_owns};
 
@@ -17,7 +18,7 @@ impl<T, A: Allocator> Model for Unboxed<T, A> {
 }
 
 impl<T: Drop, A: Allocator> Unboxed<T, A> {
-    /// Takes a box apart.
+    /// Takes a box apart, into its pointer and its allocator.
     pub fn of(whole: Box<T, A>) -> Unboxed<T, A>
         ensures { result.value ≡ whole.value }
     {
@@ -25,7 +26,7 @@ impl<T: Drop, A: Allocator> Unboxed<T, A> {
         Unboxed { at, alloc }
     }
 
-    /// The box again.
+    /// Puts the box together again.
     pub fn into_box(self) -> Box<T, A>
         ensures { result.value ≡ self.value }
     {

@@ -1,13 +1,15 @@
-//! Rows, rules and refusals, written into the caller's memory.
+//! Writes rows, rules and errors into the caller's memory.
 ghost use Rattle.std.specs.Prelude.{◌≡◌, ◌+◌, ◌≤◌, length, pos};
 ghost use Rattle.cfi_read_core.specs.ReaderCalls.{map_ok};
-ghost use Rattle.cfi_c.specs.Answers.{IsAnswered, IsRules, IsWritten, SameAround, written_rule, rule_at};
+ghost use Rattle.cfi_c.specs.AddressRows.{IsAnswered};
+ghost use Rattle.cfi_c.specs.WrittenRows.{IsRules, IsWritten, SameAround, written_rule, rule_at};
 
 use crate::refusal::{number_of, value_of};
 use crate::{CfiRow, CfiRule};
 use gimli_cfi::{ArrayLike, CfaRule, Error, Register, RegisterRule, UnwindTableRow};
 
-/// Writes the answer: the row, and from `first` on the rules of the registers below `count`.
+/// Writes the row, and from `first` on the rules of the registers below `count`; or the number of
+/// the error, with what it carries.
 pub fn write_answer<A: ArrayLike<Item = (Register, RegisterRule<usize>)>>(
     answer: Result<&UnwindTableRow<usize, A>, Error>,
     row: &mut CfiRow,
@@ -16,7 +18,8 @@ pub fn write_answer<A: ArrayLike<Item = (Register, RegisterRule<usize>)>>(
     count: usize,
 )
     requires { first + count ≤ length rules.old }
-    ensures answered { IsAnswered (map_ok (λ row. row.now) answer.entry) row.new rules.new first count }
+    ensures answered { IsAnswered (map_ok (λ row. row.now) answer.entry)
+        row.new rules.new first count }
     ensures around { SameAround first count rules.old rules.new }
 {
     match answer {
@@ -31,6 +34,7 @@ pub fn write_answer<A: ArrayLike<Item = (Register, RegisterRule<usize>)>>(
     }
 }
 
+/// Returns the row as C sees it, with the status 0.
 fn row_of<A: ArrayLike<Item = (Register, RegisterRule<usize>)>>(
     found: &UnwindTableRow<usize, A>,
 ) -> CfiRow
@@ -67,6 +71,7 @@ fn row_of<A: ArrayLike<Item = (Register, RegisterRule<usize>)>>(
     }
 }
 
+/// Writes from `first` on the rules of the registers below `count`.
 fn write_rules<A: ArrayLike<Item = (Register, RegisterRule<usize>)>>(
     found: &UnwindTableRow<usize, A>,
     rules: &mut [CfiRule],
@@ -82,6 +87,7 @@ fn write_rules<A: ArrayLike<Item = (Register, RegisterRule<usize>)>>(
     }
 }
 
+/// Returns the rule of register `i`; `None` also where there is no such register.
 fn found_rule<A: ArrayLike<Item = (Register, RegisterRule<usize>)>>(
     found: &UnwindTableRow<usize, A>,
     i: usize,
@@ -95,6 +101,7 @@ fn found_rule<A: ArrayLike<Item = (Register, RegisterRule<usize>)>>(
     }
 }
 
+/// Returns the rule as C sees it.
 fn rule_of(rule: Option<RegisterRule<usize>>) -> CfiRule
     ensures { result ≡ written_rule rule }
 {
@@ -114,6 +121,7 @@ fn rule_of(rule: Option<RegisterRule<usize>>) -> CfiRule
     }
 }
 
+/// Returns a rule that carries a number or nothing.
 fn plain(kind: u64, value: i64) -> CfiRule
     ensures { result ≡ record { kind = kind; value = value; place = 0; length = 0 } }
 {
@@ -125,6 +133,7 @@ fn plain(kind: u64, value: i64) -> CfiRule
     }
 }
 
+/// Returns a rule that carries an expression or a constant.
 fn placed(kind: u64, place: u64, length: u64) -> CfiRule
     ensures { result ≡ record { kind = kind; value = pos 0; place = place; length = length } }
 {

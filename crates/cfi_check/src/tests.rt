@@ -1,14 +1,16 @@
-//! Whole runs over memory: faithful tables, each fault of others, wrong words and input, failing output.
+//! Whole runs over memory: faithful tables, each fault of others, wrong words and input, failing
+//! output.
 
-use cfi_check_run::run::run;
+use cfi_programs::check::run::run;
 use std::alloc::{AllocError, Global};
 use std::io;
 use std::io::{ErrorKind, Write};
 use std::process::Abort;
 use std::test::Fail;
 
-/// What the words of a table stand for. The section lies at 0x2000, its header at 0x1f00; the FDEs are at 0x18, 0x2c
-/// and 0x40, of 0x1000 to 0x1010, 0x1010 to 0x1020 and 0x1020 to 0x1040. `HEADER` ends before the count.
+/// What the words of a table stand for. The section lies at 0x2000, its header at 0x1f00; the FDEs
+/// are at 0x18, 0x2c and 0x40, of 0x1000 to 0x1010, 0x1010 to 0x1020 and 0x1020 to 0x1040. `HEADER`
+/// ends before the count.
 const NAMES: [(&str, &str); 8] = [
     (
         "CIE",

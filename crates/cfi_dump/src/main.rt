@@ -1,49 +1,36 @@
 //! Prints all entries of a call frame section, and after each FDE its rows.
 //!
-//! The words name the section, its byte order and the size of an address; standard input holds the section, as bytes or
-//! in hexadecimal. `run` says what is printed.
+//! The words name the section, its byte order and the size of an address; standard input is the
+//! section, as bytes or in hexadecimal. `cfi_programs::dump::run::run` says what is printed.
 #![tactic(auto)]
 
-ghost use Rattle.std.specs.Prelude.{ℕ, List, IfSome, option_map};
-ghost use Rattle.std.specs.Io.KnownBytes.{Appends};
+ghost use Rattle.std.specs.Prelude.{ℕ, List, Option};
 ghost use Rattle.std.specs.Process.{exit_status};
-ghost use Rattle.cfi_program.specs.Words.{texts};
-ghost use Rattle.cfi_dump_run.specs.ProgramOutput.{IsRun};
+ghost use Rattle.cfi_programs.specs.DumpProgramOutput.{dump_tool};
+ghost use Rattle.cfi_programs.specs.Runs.{PrintsRun};
 
 #[cfg(test)]
 mod tests;
 
-use cfi_dump_run::run::run;
-use cfi_program::words::{texts_of, words_after_name};
-use std::alloc::Global;
+use cfi_programs::dump::Request;
+use cfi_programs::run::run_process;
+use std::alloc::AllocGlobal;
 use std::io::{BufWriter, Read, Write};
 use std::process::ExitCode;
+use std::rt::Env;
 
 fn main(rt: HostRuntime) -> ExitCode {
-    let alloc = rt.alloc();
     let mut input = rt.stdin();
-    let Ok(mut output) = BufWriter::new(alloc, rt.stdout()) else {
+    let Ok(mut output) = BufWriter::new(rt.alloc(), rt.stdout()) else {
         return ExitCode::from(2);
     };
-    let Ok(words) = words_after_name(&rt) else {
-        return run_for(alloc, None, &mut input, &mut output);
-    };
-    match texts_of(alloc, words.as_slice()) {
-        Ok(texts) => run_for(alloc, Some(texts.as_slice()), &mut input, &mut output),
-        Err(_) => run_for(alloc, None, &mut input, &mut output),
-    }
+    run(&rt, &mut input, &mut output)
 }
 
-/// Runs the program, and ends with its status.
-fn run_for<R: Read, W: Write>(
-    alloc: Global,
-    words: Option<&[&str]>,
-    input: &mut R,
-    output: &mut W,
-) -> ExitCode
-    ensures { IfSome (R.remaining input.old) (λ bytes. (written : List ℕ)
-        × Appends (W.contents output.old) (W.contents output.new) written
-        × IsRun (option_map (λ list. texts list.now) words.entry) bytes written (exit_status result)) }
+/// Runs the program by the words of the process, and returns the status with which it ends.
+fn run<P: Env + AllocGlobal, R: Read, W: Write>(rt: &P, input: &mut R, output: &mut W) -> ExitCode
+    ensures { (words : Option (List (List ℕ))) × PrintsRun dump_tool words (R.remaining input.old)
+        (W.contents output.old) (W.contents output.new) (exit_status result) }
 {
-    ExitCode::from(run(alloc, words, input, output))
+    run_process::<Request, P, R, W>(rt, input, output)
 }

@@ -1,10 +1,11 @@
 //! Whole runs over memory: sections whose rows were worked out by hand, wrong words and input.
-use cfi_dump_run::run::run;
+use cfi_programs::dump::run::run;
 use std::alloc::{AllocError, Global};
 use std::process::Abort;
 use std::test::Fail;
 
-/// Three rows of `.debug_frame` (DWARF 5 section 6.4.2): a function that pushes register 6, then makes it the frame pointer.
+/// Three rows of `.debug_frame` (DWARF 5 section 6.4.2): a function that pushes register 6, then
+/// makes it the frame pointer.
 const THREE_ROWS: &str = "10000000 ffffffff 04000800 017810 0c0708 9001 \
     1c000000 00000000 0010000000000000 2000000000000000 41 0e10 8602 43 0d06";
 

@@ -4,7 +4,7 @@ use Rattle.std.specs.Prelude.{◌==◌, ok_or, if◌then◌else◌}
 use Rattle.cfi_read_core.specs.declared.error.Error.{Error}
 use Rattle.cfi_read_core.specs.declared.error.Error.TheVariants.{NotCieId, NotCiePointer}
 use Rattle.cfi_read_core.specs.ReaderCalls.{map_ok}
-use Rattle.cfi_instruction.specs.CallFrameSections.{SectionKind}
+use Rattle.cfi_read_core.specs.CallFrameSections.{SectionKind}
 use Rattle.cfi_entry.specs.Sections.{Section, cie_id}
 use Rattle.cfi_entry.specs.Prefixes.{Prefix}
 use Rattle.cfi_entry.specs.Cies.{Cie, cie_of}

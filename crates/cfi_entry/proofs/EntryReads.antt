@@ -15,7 +15,7 @@ use Rattle.cfi_read_core.proofs.Given.{Gives, gives_bind, gives_give, gives_refu
 use Rattle.cfi_read_core.proofs.Onward.{IsOnward, onward_give, onward_refuse, onward_refuse_if, onward_if, onward_bind, onward_split, onward_within, onward_unsigned, onward_offset_leb128, onward_register_leb128, onward_address}
 use Rattle.cfi_read_core.proofs.Leb128.{byte_there, no_byte_there}
 use Rattle.cfi_parts.specs.declared.pointer.Pointer.{Pointer}
-use Rattle.cfi_instruction.specs.CallFrameSections.{has_sizes}
+use Rattle.cfi_read_core.specs.CallFrameSections.{has_sizes}
 use Rattle.cfi_parts.specs.Pointers.{PointerContext, encoding_byte, encoded_value, pointer_value, pointer}
 use Rattle.cfi_parts.proofs.InstructionLemmas.{onward_formatted, onward_pointer}
 use Rattle.cfi_entry.specs.Sections.{Section, pointer_context}

@@ -6,7 +6,7 @@ use Rattle.cfi_read_core.specs.declared.error.Error.{Error}
 use Rattle.cfi_read_core.specs.ReadFunctions.{Read, Source, Position, Extent, Outcome, split}
 use Rattle.cfi_read_core.specs.ReaderCalls.{IsPartOf, extent_of}
 use Rattle.cfi_read_core.proofs.Onward.{IsOnward}
-use Rattle.cfi_instruction.specs.CallFrameSections.{IsOf}
+use Rattle.cfi_read_core.specs.CallFrameSections.{IsOf}
 
 -- a reader of the same end that stands no earlier
 pub further_of : {old new section : Position} → old.place ≤ new.place → new.source ≡ old.source → IsOf old section → IsOf new section

@@ -1,7 +1,7 @@
 -- Augmentation strings and their data (LSB Core, "Augmentation String Format").
 use Rattle.std.specs.Prelude.{ℕ, Bool, true, false, not, Option, Some, None, List, [], ◌∷◌, ◌==◌, if◌then◌else◌}
 use Rattle.cfi_read_core.specs.declared.error.Error.TheVariants.{UnknownAugmentation}
-use Rattle.cfi_read_core.specs.ReadFunctions.{Read, ◌>>=◌, ◌>>◌, give, refuse, split, within}
+use Rattle.cfi_read_core.specs.ReadFunctions.{Read, ◌>>=◌, give, refuse, split, within}
 use Rattle.cfi_read_core.specs.Numbers.{offset_leb128}
 use Rattle.cfi_parts.specs.declared.pointer.Pointer.{Pointer}
 use Rattle.cfi_parts.specs.Pointers.{PointerContext, encoding_byte, pointer}

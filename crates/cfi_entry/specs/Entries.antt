@@ -18,7 +18,7 @@ abbrev pub is_cie : Section → Prefix → Bool
 is_cie section found = found.id == cie_id section.kind found.format
 
 abbrev pub partial_fde_of : Section → Prefix → Result PartialFde Error
-partial_fde_of section found = map_ok (λ offset. record { found = found; cie_offset = offset }) (cie_offset_of section found.id_offset found.id)
+partial_fde_of section found = map_ok (λ offset. record { prefix = found; cie_offset = offset }) (cie_offset_of section found.id_offset found.id)
 
 -- a CIE is read whole, an FDE as far as the offset of its CIE
 unfoldable pub entry_of : Section → Prefix → Result Entry Error
@@ -30,7 +30,7 @@ entry_of section found =
 -- where an entry ends: after its initial length and as many bytes as that says
 abbrev pub end_of_entry : Entry → ℕ
 end_of_entry (CieEntry cie) = cie.offset + initial_length_size cie.format + cie.length
-end_of_entry (FdeEntry fde) = fde.found.offset + initial_length_size fde.found.format + fde.found.length
+end_of_entry (FdeEntry fde) = fde.prefix.offset + initial_length_size fde.prefix.format + fde.prefix.length
 
 -- ---- the list of entries
 

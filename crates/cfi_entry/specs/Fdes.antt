@@ -14,7 +14,7 @@ pub use Rattle.cfi_entry.specs.Augmentations.{address_encoding_of}
 
 -- An FDE as far as the offset of its CIE.
 pub record PartialFde : Type 0 where
-  pub found : Prefix
+  pub prefix : Prefix
   pub cie_offset : ℕ
 
 pub record Fde : Type 0 where
@@ -71,7 +71,7 @@ abbrev pub fde_after : Section → Prefix → Cie → Result Fde Error
 fde_after section found cie = (within found.rest (fde_fields section found cie) section.source found.rest.first).value
 
 abbrev pub fde_of : Section → PartialFde → Cie → Result Fde Error
-fde_of section partial cie = fde_after section partial.found cie
+fde_of section partial cie = fde_after section partial.prefix cie
 
 -- ---- what it covers; an end that wraps lies at or below the initial address, and nothing is contained then
 

@@ -5,4 +5,5 @@ pub mod Cies
 pub mod Fdes
 pub mod EntryInstructions
 pub mod Entries
-pub mod CieViews
+pub mod EntryViews
+pub mod SectionViews

@@ -7,8 +7,8 @@ use Rattle.cfi_read_core.specs.ReadFunctions.{Source, Position, Read, unexpected
 use Rattle.cfi_parts.specs.declared.pointer.BaseAddresses.{BaseAddresses}
 use Rattle.cfi_parts.specs.declared.pointer.SectionBaseAddresses.{SectionBaseAddresses}
 use Rattle.cfi_parts.specs.Pointers.{PointerContext}
-use Rattle.cfi_instruction.specs.CallFrameSections.{SectionView, SectionKind, cie_offset_from}
-pub use Rattle.cfi_instruction.specs.CallFrameSections.{SectionKind, DebugFrame, EhFrame, id_width, cie_id, zero_length_ends, has_sizes, cie_offset_from}
+use Rattle.cfi_read_core.specs.CallFrameSections.{SectionView, SectionKind, cie_offset_from}
+pub use Rattle.cfi_read_core.specs.CallFrameSections.{SectionKind, DebugFrame, EhFrame, id_width, cie_id, zero_length_ends, has_sizes, cie_offset_from}
 
 -- A section as its entries are read: its bytes, and what the caller says of them.
 pub record Section : Type 0 where

@@ -1,25 +1,22 @@
-//! Augmentation texts and the data that they announce (LSB Core, "Augmentation String Format").
-ghost use Rattle.std.specs.Prelude.{◌≡◌, ◌≤◌, None};
+//! Augmentation strings and the data that they announce (LSB Core, "Augmentation String Format").
+ghost use Rattle.std.specs.Prelude.{◌≤◌};
 ghost use Rattle.std.specs.Option.{option_map};
-ghost use Rattle.cfi_read_core.specs.ReaderCalls.{Reads, bytes_left};
-ghost use Rattle.cfi_instruction.specs.CallFrameSections.{IsOf};
-ghost use Rattle.cfi_entry.specs.Sections.{pointer_context};
-ghost use Rattle.cfi_entry.specs.Augmentations.{letters_with_data, augmentation, letter, letters};
-ghost use Rattle.cfi_entry.specs.CieViews.{augmentation_view, section_in};
+ghost use Rattle.cfi_read_core.specs.ReaderCalls.{ReadsBy, bytes_left};
+ghost use Rattle.cfi_read_core.specs.CallFrameSections.{IsOf};
+ghost use Rattle.cfi_entry.specs.Augmentations.{augmentation, letter, letters, letters_with_data};
+ghost use Rattle.cfi_entry.specs.EntryViews.{augmentation_view, letter_context, position_in};
 
-use crate::in_section::InSection;
-use cfi_instruction::section_properties::_UnwindSectionPrivate;
-use cfi_parts::pointer::{
-    Pointer, PointerEncodingParameters, parse_encoded_pointer, parse_pointer_encoding,
-};
+use crate::in_section::{InSection, pointers_in};
+use cfi_parts::pointer::{Pointer, parse_encoded_pointer, parse_pointer_encoding};
 use cfi_read_core::address::AddressSize;
 use cfi_read_core::reader::read_offset;
+use cfi_read_core::section_properties::_UnwindSectionPrivate;
 use cfi_read_core::{DwEhPe, Error, Reader, Result};
 
 /// What an augmentation string and its data mean. Of a repeated letter the last counts.
 #[derive(Clone, Copy, Debug, Default, PartialEq, Eq)]
 pub struct Augmentation {
-    // The small fields stand together, which leaves few gaps.
+    // The small fields are together, so that there is little padding.
     pub(crate) has_augmentation_data: bool,
     pub(crate) lsda_encoding: Option<DwEhPe>,
     pub(crate) fde_address_encoding: Option<DwEhPe>,
@@ -28,7 +25,7 @@ pub struct Augmentation {
     pub(crate) personality: Option<(DwEhPe, Pointer)>,
 }
 
-/// Adds what one letter means, read from the augmentation data.
+/// Reads what one letter means from the augmentation data, and adds it to what is known.
 #[tactic(auto, unfolding(crate::specs::Augmentations::letter))]
 #[inline(always)]
 fn read_letter<R: Reader, S: _UnwindSectionPrivate<R>>(
@@ -38,8 +35,10 @@ fn read_letter<R: Reader, S: _UnwindSectionPrivate<R>>(
     known: &mut Augmentation,
     input: &mut R,
 ) -> Result<()>
-    requires { (S.view at.now.section).position.place ≤ (R.position input.old).place }
-    ensures { Reads (λ _. augmentation_view known.new) (letter (pointer_context (section_in S.view at.now) None address_size.bytes) byte (augmentation_view known.old)) (R.position input.old) result (R.position input.new) }
+    requires { (position_in S.view at.now).place ≤ (R.position input.old).place }
+    ensures { ReadsBy R.position (λ _. augmentation_view known.new)
+        (letter (letter_context S.view at.now address_size) byte (augmentation_view known.old))
+        input.old result input.new }
 {
     match byte {
         b'S' => known.is_signal_trampoline = true,
@@ -48,12 +47,7 @@ fn read_letter<R: Reader, S: _UnwindSectionPrivate<R>>(
         b'L' => known.lsda_encoding = Some(parse_pointer_encoding(input)?),
         b'P' => {
             let encoding = parse_pointer_encoding(input)?;
-            let parameters = PointerEncodingParameters {
-                bases: &at.bases.eh_frame,
-                func_base: None,
-                address_size,
-                section: at.section.section(),
-            };
+            let parameters = pointers_in(&at.section, at.bases, None, address_size);
             let personality = parse_encoded_pointer(encoding, &parameters, input)?;
             known.personality = Some((encoding, personality));
         }
@@ -63,7 +57,7 @@ fn read_letter<R: Reader, S: _UnwindSectionPrivate<R>>(
     Ok(())
 }
 
-/// Adds what the letters of a text mean, read from the augmentation data.
+/// Reads what the letters of a text mean from the augmentation data, and adds it to what is known.
 #[inline(always)]
 fn read_letters<R: Reader, S: _UnwindSectionPrivate<R>>(
     at: &InSection<'_, S>,
@@ -72,8 +66,11 @@ fn read_letters<R: Reader, S: _UnwindSectionPrivate<R>>(
     known: &mut Augmentation,
     input: &mut R,
 ) -> Result<()>
-    requires { (S.view at.now.section).position.place ≤ (R.position input.old).place }
-    ensures { Reads (λ _. augmentation_view known.new) (letters (pointer_context (section_in S.view at.now) None address_size.bytes) (bytes_left (R.position text)) (augmentation_view known.old)) (R.position input.old) result (R.position input.new) }
+    requires { (position_in S.view at.now).place ≤ (R.position input.old).place }
+    ensures { ReadsBy R.position (λ _. augmentation_view known.new)
+        (letters (letter_context S.view at.now address_size) (bytes_left (R.position text))
+        (augmentation_view known.old))
+        input.old result input.new }
 {
     let mut text = text;
     while let Ok(byte) = text.read_u8() {
@@ -82,7 +79,8 @@ fn read_letters<R: Reader, S: _UnwindSectionPrivate<R>>(
     Ok(())
 }
 
-/// Reads the augmentation data, by the letters after the `z` that announces them. What the letters leave is dropped.
+/// Reads the augmentation data, by the letters after the `z` that announces it. What the letters
+/// leave of the data is skipped.
 #[tactic(auto, unfolding(crate::specs::Augmentations::letters_with_data))]
 #[inline(always)]
 fn read_letters_with_data<R: Reader, S: _UnwindSectionPrivate<R>>(
@@ -91,8 +89,11 @@ fn read_letters_with_data<R: Reader, S: _UnwindSectionPrivate<R>>(
     letters: R,
     input: &mut R,
 ) -> Result<Option<Augmentation>>
-    requires { IsOf (R.position input.old) (S.view at.now.section).position }
-    ensures { Reads (option_map augmentation_view) (letters_with_data (pointer_context (section_in S.view at.now) None address_size.bytes) (bytes_left (R.position letters))) (R.position input.old) result (R.position input.new) }
+    requires { IsOf (R.position input.old) (position_in S.view at.now) }
+    ensures { ReadsBy R.position (option_map augmentation_view)
+        (letters_with_data (letter_context S.view at.now address_size)
+        (bytes_left (R.position letters)))
+        input.old result input.new }
 {
     let length = read_offset(input)?;
     let mut data = input.split(length)?;
@@ -102,10 +103,11 @@ fn read_letters_with_data<R: Reader, S: _UnwindSectionPrivate<R>>(
     Ok(Some(known))
 }
 
-/// Reads what an augmentation string means, and the data that it announces. An empty text is no augmentation.
+/// Reads what an augmentation string means, and the data that it announces. Returns `None` where
+/// the string is empty.
 ///
-/// Refused with `UnknownAugmentation` for a letter that isn't known, or that wants data where no `z` announces any, and
-/// with the refusal of the first part of the data that can't be read.
+/// Fails with `UnknownAugmentation` for an unknown letter, or one that needs data where no `z`
+/// announces any, and with the error of the first part of the data that can't be read.
 #[inline(always)]
 pub fn read_augmentation<R: Reader, S: _UnwindSectionPrivate<R>>(
     at: &InSection<'_, S>,
@@ -113,8 +115,10 @@ pub fn read_augmentation<R: Reader, S: _UnwindSectionPrivate<R>>(
     text: R,
     input: &mut R,
 ) -> Result<Option<Augmentation>>
-    requires { IsOf (R.position input.old) (S.view at.now.section).position }
-    ensures { Reads (option_map augmentation_view) (augmentation (pointer_context (section_in S.view at.now) None address_size.bytes) (bytes_left (R.position text))) (R.position input.old) result (R.position input.new) }
+    requires { IsOf (R.position input.old) (position_in S.view at.now) }
+    ensures { ReadsBy R.position (option_map augmentation_view)
+        (augmentation (letter_context S.view at.now address_size) (bytes_left (R.position text)))
+        input.old result input.new }
 {
     let mut letters = text;
     let Ok(first) = letters.read_u8() else {

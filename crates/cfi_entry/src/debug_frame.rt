@@ -1,19 +1,24 @@
-//! The section `.debug_frame`.
+//! The section `.debug_frame`, with how it differs from the other one.
 ghost use Rattle.std.specs.Prelude.{◌≡◌, refl, ⊤};
-ghost use Rattle.cfi_read_core.specs.Addresses.{IsAddressSize, sized_by};
+ghost use Rattle.cfi_read_core.specs.Addresses.{IsAddressSize};
+ghost use Rattle.cfi_read_core.specs.AddressSizes.{has_address_size, size_in_bytes};
 ghost use Rattle.cfi_read_core.specs.declared.common.Vendor.TheVariants.{Default as no_vendor};
 ghost use Rattle.cfi_read_core.specs.ReaderCalls.{all_of};
 ghost use Rattle.cfi_read_core.specs.Windows.{slice_position};
-ghost use Rattle.cfi_instruction.specs.CallFrameSections.{DebugFrame as debug_frame, section_id};
+ghost use Rattle.cfi_read_core.specs.CallFrameSections.{DebugFrame as debug_frame, section_id};
+ghost use Rattle.cfi_entry.specs.SectionViews.{IsNewDebugFrame, debug_frame_address_size};
+ghost use Rattle.cfi_entry.specs.SectionViews.{debug_frame_reader, debug_frame_vendor};
+ghost use Rattle.cfi_entry.specs.SectionViews.{debug_frame_view};
 
-use cfi_instruction::section_properties::{_UnwindSectionPrivate, CieOffsetEncoding};
 use cfi_read_core::address::AddressSize;
+use cfi_read_core::section_properties::{_UnwindSectionPrivate, CieOffsetEncoding};
 use cfi_read_core::{EndianSlice, Endianity, Format, Reader, Section, SectionId, Vendor};
 use std::alloc::AllocError;
 
 /// The section `.debug_frame` (DWARF 5 section 6.4.1).
 ///
-/// Made of a reader, its addresses take 8 bytes where a CIE gives no size, and no vendor's opcodes are read.
+/// When made from a reader, addresses take 8 bytes where a CIE gives no size, and no vendor's
+/// opcodes are read.
 ///
 /// # Example
 ///
@@ -41,12 +46,13 @@ impl<R: Copy> Clone for DebugFrame<R> {
 }
 
 impl<'input, E: Endianity> DebugFrame<EndianSlice<'input, E>> {
-    /// The section of these bytes in this byte order. It holds no copy of them.
+    /// Makes the section of these bytes, in this byte order. The bytes are borrowed, not copied.
     #[inline(always)]
     pub fn new(section: &'input [u8], endian: E) -> Self
-        ensures section { slice_position E.big_endian result.section ≡ all_of section.now (E.big_endian endian) 18446744073709551615 }
-        ensures size { result.address_size.bytes ≡ 8 }
-        ensures vendor { result.vendor ≡ no_vendor }
+        ensures section { slice_position E.big_endian (debug_frame_reader result)
+            ≡ all_of section.now (E.big_endian endian) 18446744073709551615 }
+        ensures size { size_in_bytes (debug_frame_address_size result) ≡ 8 }
+        ensures vendor { debug_frame_vendor result ≡ no_vendor }
     {
         Self::from(EndianSlice::new(section, endian))
     }
@@ -57,9 +63,9 @@ impl<R> DebugFrame<R> {
     #[inline(always)]
     pub fn set_address_size(&mut self, size: u8)
         requires { IsAddressSize size }
-        ensures size { self.new.address_size.bytes ≡ size }
-        ensures section { self.new.section ≡ self.old.section }
-        ensures vendor { self.new.vendor ≡ self.old.vendor }
+        ensures size { size_in_bytes (debug_frame_address_size self.new) ≡ size }
+        ensures section { debug_frame_reader self.new ≡ debug_frame_reader self.old }
+        ensures vendor { debug_frame_vendor self.new ≡ debug_frame_vendor self.old }
     {
         self.address_size = AddressSize::new(size);
     }
@@ -67,16 +73,16 @@ impl<R> DebugFrame<R> {
     /// Sets whose vendor opcodes are read.
     #[inline(always)]
     pub fn set_vendor(&mut self, vendor: Vendor)
-        ensures vendor { self.new.vendor ≡ vendor }
-        ensures section { self.new.section ≡ self.old.section }
-        ensures size { self.new.address_size ≡ self.old.address_size }
+        ensures vendor { debug_frame_vendor self.new ≡ vendor }
+        ensures section { debug_frame_reader self.new ≡ debug_frame_reader self.old }
+        ensures size { debug_frame_address_size self.new ≡ debug_frame_address_size self.old }
     {
         self.vendor = vendor;
     }
 }
 
 impl<R> From<R> for DebugFrame<R> {
-    ghost from_gives = { λ r s. (s.section ≡ r) × ((s.address_size.bytes ≡ 8) × (s.vendor ≡ no_vendor)) };
+    ghost from_gives = { λ r s. IsNewDebugFrame r s };
 
     #[inline(always)]
     fn from(section: R) -> Self {
@@ -89,7 +95,7 @@ impl<R> From<R> for DebugFrame<R> {
 }
 
 impl<R> Section<R> for DebugFrame<R> {
-    ghost bytes = { λ s. s.section };
+    ghost bytes = { λ s. debug_frame_reader s };
 
     ghost ID = { section_id debug_frame };
 
@@ -107,7 +113,7 @@ impl<R> Section<R> for DebugFrame<R> {
 }
 
 impl<R: Reader> _UnwindSectionPrivate<R> for DebugFrame<R> {
-    ghost view = { λ s. record { kind = debug_frame; position = R.position s.section; address_size = s.address_size.bytes; vendor = s.vendor } };
+    ghost view = { λ s. debug_frame_view R.position s };
 
     ghost KIND = { debug_frame };
 
@@ -159,9 +165,9 @@ impl<R: Reader> _UnwindSectionPrivate<R> for DebugFrame<R> {
 
     ghost kind = { λ s. refl };
 
-    ghost sized = { λ s. sized_by s.address_size.bytes s.address_size.sized };
+    ghost sized = { λ s. has_address_size (debug_frame_address_size s) };
 
-    ghost sound = { λ s. R.sound s.section };
+    ghost sound = { λ s. R.sound (debug_frame_reader s) };
 
-    ghost greatest = { λ s. R.greatest s.section };
+    ghost greatest = { λ s. R.greatest (debug_frame_reader s) };
 }

@@ -1,20 +1,23 @@
-//! The section `.eh_frame`.
+//! The section `.eh_frame`, with how it differs from the other one.
 ghost use Rattle.std.specs.Prelude.{◌≡◌, refl};
-ghost use Rattle.cfi_read_core.specs.Addresses.{IsAddressSize, sized_by};
+ghost use Rattle.cfi_read_core.specs.Addresses.{IsAddressSize};
+ghost use Rattle.cfi_read_core.specs.AddressSizes.{has_address_size, size_in_bytes};
 ghost use Rattle.cfi_read_core.specs.declared.common.Vendor.TheVariants.{Default as no_vendor};
 ghost use Rattle.cfi_read_core.specs.ReaderCalls.{all_of};
 ghost use Rattle.cfi_read_core.specs.Windows.{slice_position};
-ghost use Rattle.cfi_instruction.specs.CallFrameSections.{EhFrame as eh_frame, section_id};
+ghost use Rattle.cfi_read_core.specs.CallFrameSections.{EhFrame as eh_frame, section_id};
+ghost use Rattle.cfi_entry.specs.SectionViews.{IsNewEhFrame, eh_frame_address_size};
+ghost use Rattle.cfi_entry.specs.SectionViews.{eh_frame_reader, eh_frame_vendor, eh_frame_view};
 
-use cfi_instruction::section_properties::{_UnwindSectionPrivate, CieOffsetEncoding};
 use cfi_read_core::address::AddressSize;
+use cfi_read_core::section_properties::{_UnwindSectionPrivate, CieOffsetEncoding};
 use cfi_read_core::{
     EndianSlice, Endianity, Format, Reader, ReaderOffset, Section, SectionId, Vendor,
 };
 
 /// The section `.eh_frame` (LSB Core, "The .eh_frame section").
 ///
-/// Made of a reader, its addresses take 8 bytes, and no vendor's opcodes are read.
+/// When made from a reader, addresses take 8 bytes, and no vendor's opcodes are read.
 ///
 /// # Example
 ///
@@ -27,7 +30,9 @@ use cfi_read_core::{
 ///     match entry {
 ///         CieOrFde::Cie(cie) => { /* a CIE, read whole */ }
 ///         CieOrFde::Fde(partial) => {
-///             let fde = partial.parse(|section: &EhFrame<_>, bases, offset| section.cie_from_offset(bases, offset))?;
+///             let fde = partial.parse(|section: &EhFrame<_>, bases, offset| {
+///                 section.cie_from_offset(bases, offset)
+///             })?;
 ///         }
 ///     }
 /// }
@@ -40,12 +45,13 @@ pub struct EhFrame<R> {
 }
 
 impl<'input, E: Endianity> EhFrame<EndianSlice<'input, E>> {
-    /// The section of these bytes in this byte order. It holds no copy of them.
+    /// Makes the section of these bytes, in this byte order. The bytes are borrowed, not copied.
     #[inline(always)]
     pub fn new(section: &'input [u8], endian: E) -> Self
-        ensures section { slice_position E.big_endian result.section ≡ all_of section.now (E.big_endian endian) 18446744073709551615 }
-        ensures size { result.address_size.bytes ≡ 8 }
-        ensures vendor { result.vendor ≡ no_vendor }
+        ensures section { slice_position E.big_endian (eh_frame_reader result)
+            ≡ all_of section.now (E.big_endian endian) 18446744073709551615 }
+        ensures size { size_in_bytes (eh_frame_address_size result) ≡ 8 }
+        ensures vendor { eh_frame_vendor result ≡ no_vendor }
     {
         Self::from(EndianSlice::new(section, endian))
     }
@@ -56,9 +62,9 @@ impl<R> EhFrame<R> {
     #[inline(always)]
     pub fn set_address_size(&mut self, size: u8)
         requires { IsAddressSize size }
-        ensures size { self.new.address_size.bytes ≡ size }
-        ensures section { self.new.section ≡ self.old.section }
-        ensures vendor { self.new.vendor ≡ self.old.vendor }
+        ensures size { size_in_bytes (eh_frame_address_size self.new) ≡ size }
+        ensures section { eh_frame_reader self.new ≡ eh_frame_reader self.old }
+        ensures vendor { eh_frame_vendor self.new ≡ eh_frame_vendor self.old }
     {
         self.address_size = AddressSize::new(size);
     }
@@ -66,16 +72,16 @@ impl<R> EhFrame<R> {
     /// Sets whose vendor opcodes are read.
     #[inline(always)]
     pub fn set_vendor(&mut self, vendor: Vendor)
-        ensures vendor { self.new.vendor ≡ vendor }
-        ensures section { self.new.section ≡ self.old.section }
-        ensures size { self.new.address_size ≡ self.old.address_size }
+        ensures vendor { eh_frame_vendor self.new ≡ vendor }
+        ensures section { eh_frame_reader self.new ≡ eh_frame_reader self.old }
+        ensures size { eh_frame_address_size self.new ≡ eh_frame_address_size self.old }
     {
         self.vendor = vendor;
     }
 }
 
 impl<R> From<R> for EhFrame<R> {
-    ghost from_gives = { λ r s. (s.section ≡ r) × ((s.address_size.bytes ≡ 8) × (s.vendor ≡ no_vendor)) };
+    ghost from_gives = { λ r s. IsNewEhFrame r s };
 
     #[inline(always)]
     fn from(section: R) -> Self {
@@ -88,7 +94,7 @@ impl<R> From<R> for EhFrame<R> {
 }
 
 impl<R> Section<R> for EhFrame<R> {
-    ghost bytes = { λ s. s.section };
+    ghost bytes = { λ s. eh_frame_reader s };
 
     ghost ID = { section_id eh_frame };
 
@@ -106,7 +112,7 @@ impl<R> Section<R> for EhFrame<R> {
 }
 
 impl<R: Reader> _UnwindSectionPrivate<R> for EhFrame<R> {
-    ghost view = { λ s. record { kind = eh_frame; position = R.position s.section; address_size = s.address_size.bytes; vendor = s.vendor } };
+    ghost view = { λ s. eh_frame_view R.position s };
 
     ghost KIND = { eh_frame };
 
@@ -152,9 +158,9 @@ impl<R: Reader> _UnwindSectionPrivate<R> for EhFrame<R> {
 
     ghost kind = { λ s. refl };
 
-    ghost sized = { λ s. sized_by s.address_size.bytes s.address_size.sized };
+    ghost sized = { λ s. has_address_size (eh_frame_address_size s) };
 
-    ghost sound = { λ s. R.sound s.section };
+    ghost sound = { λ s. R.sound (eh_frame_reader s) };
 
-    ghost greatest = { λ s. R.greatest s.section };
+    ghost greatest = { λ s. R.greatest (eh_frame_reader s) };
 }

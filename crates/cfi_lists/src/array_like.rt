@@ -1,5 +1,8 @@
-//! Lists with an optional limit, over arrays and over memory.
-ghost use Rattle.std.specs.Prelude.{◌≡◌, ℕ, ◌+◌, ◌<◌, ◌≤◌, ◌↔◌, List, [], ◌∷◌, ◌++◌, length, take, insert, remove, Option, Some, None, Bool, true, false, IsNone, IsSome, IsOk, IfOk, IfErr, IfSome, IfNone, OnOk, OnErr, IsErrAnd, slice_get, slice_set};
+//! Lists with an optional limit: arrays, boxed arrays and vectors.
+ghost use Rattle.std.specs.Prelude.{◌≡◌, ℕ, ◌+◌, ◌<◌, ◌≤◌, ◌↔◌, List, [], ◌∷◌, ◌++◌, length, take};
+ghost use Rattle.std.specs.Prelude.{insert, remove, Option, Some, None, Bool, true, false, IsNone};
+ghost use Rattle.std.specs.Prelude.{IsSome, IsOk, IfOk, IfErr, IfSome, IfNone, OnOk, OnErr};
+ghost use Rattle.std.specs.Prelude.{IsErrAnd, slice_get, slice_set};
 ghost use Rattle.std.specs.List.{swap_remove, refill};
 ghost use Rattle.std.specs.Borrow.{sem, Lends, Array};
 ghost use Rattle.std.specs.Box.{with_value};
@@ -13,23 +16,23 @@ use arrayvec::ArrayVec;
 use cfi_read_core::{Error, Result};
 use std::alloc::{AllocFailed, Global};
 
-/// A list is as long as its limit allows.
+/// The list is full.
 #[derive(Clone, Copy, Debug, PartialEq, Eq)]
 pub struct CapacityFull;
 
-/// Why an item was not taken.
+/// Why an item was not added.
 #[derive(Clone, Copy, Debug, PartialEq, Eq)]
 pub enum Why {
-    /// The list is as long as its limit allows.
+    /// The list has reached its limit.
     Full(CapacityFull),
-    /// The list has no limit, and the memory to grow could not be allocated.
+    /// The list has no limit, and its memory could not grow.
     Memory,
 }
 
-/// An item that was not taken, and why. It comes back unchanged, and the list is as it was.
+/// An item that was not added, and why. The item and the list are unchanged.
 #[derive(Debug, Drop)]
 pub struct Refused<T> {
-    /// Why it was not taken.
+    /// Why the item was not added.
     pub why: Why,
     /// The item.
     pub item: T,
@@ -37,22 +40,23 @@ pub struct Refused<T> {
 
 /// A list with an optional limit.
 pub trait ArrayLike: Sized + Drop {
+    /// What the list holds.
     type Item: Drop;
 
-    // The items, in order.
+    /// The items, in order.
     ghost items: { Self → List Self.Item };
 
-    // The most items that a list of this type holds; none where nothing but memory bounds it.
+    /// The greatest number of items in a list of this type; none if only memory limits it.
     ghost limit: { Option ℕ };
 
-    // A list after its items were written as a slice, which keeps their number.
+    /// A list after a write to its items as a slice, which keeps their number.
     ghost with_items: { Self → List Self.Item → Self };
 
-    /// The most items that a list of this type holds; `None` where nothing but memory bounds it.
+    /// The greatest number of items in a list of this type, or `None` if only memory limits it.
     fn limit() -> Option<usize>
         ensures { result ≡ limit };
 
-    /// An empty list. `OutOfMemory` where its room cannot be allocated.
+    /// Makes an empty list. Returns `Error::OutOfMemory` if its memory cannot be allocated.
     fn make(alloc: Global) -> Result<Self>
         ensures ok { IfOk result (λ list. items list ≡ []) }
         ensures err { IfErr result (λ error. error ≡ Error.OutOfMemory) };
@@ -62,25 +66,29 @@ pub trait ArrayLike: Sized + Drop {
         ensures value { result.now ≡ items self.now }
         ensures within { IsWithinLimit limit (items self.now) };
 
-    /// The items, to be written over.
+    /// The items, as a slice that can be written.
     fn as_mut_slice(&mut self) -> &mut [Self::Item]
-        ensures* writes_back { sem 𝓛 (Lends Self.row (Array Self.Item.row 0) self.entry result (with_items self.old)) }
+        ensures* writes_back { sem 𝓛
+            (Lends Self.row (Array Self.Item.row 0) self.entry result (with_items self.old)) }
         ensures value { result.now ≡ items self.old };
 
-    /// Empties the list. It takes no memory.
+    /// Removes all items. Does not allocate.
     fn clear(&mut self)
         ensures { items self.new ≡ [] };
 
-    /// Appends `item`, or hands it back: `Full` exactly where the list is as long as its limit, `Memory` only where there is
-    /// no limit and the list couldn't grow. A refusal leaves the list as it is.
+    /// Appends `item`. Returns the item with `Why::Full` if the list has reached its limit, and
+    /// with `Why::Memory` if it has no limit and its memory could not grow. The list is then
+    /// unchanged.
     fn try_push(&mut self, item: Self::Item) -> std::result::Result<(), Refused<Self::Item>>
         ensures ok { OnOk result (items self.new ≡ items self.old ++ item ∷ []) }
         ensures err { OnErr result (items self.new ≡ items self.old) }
         ensures item_returned { IfErr result (λ refused. refused.item ≡ item) }
-        ensures full { IsErrAnd result (λ refused. refused.why ≡ Why.Full (record {})) ↔ IsAtLimit limit (items self.old) }
+        ensures full { IsErrAnd result (λ refused. refused.why ≡ Why.Full (record {}))
+            ↔ IsAtLimit limit (items self.old) }
         ensures memory { IfErr result (λ refused. refused.why ≡ Why.Memory → IsNone limit) };
 
-    /// Puts `item` at `index`, at most the length, and moves the later items up, or hands it back as `try_push` does.
+    /// Inserts `item` at `index`, which is at most the length, and shifts the later items up. Fails
+    /// as `try_push` does.
     fn try_insert(
         &mut self,
         index: usize,
@@ -90,34 +98,37 @@ pub trait ArrayLike: Sized + Drop {
         ensures ok { OnOk result (items self.new ≡ insert (items self.old) index item) }
         ensures err { OnErr result (items self.new ≡ items self.old) }
         ensures item_returned { IfErr result (λ refused. refused.item ≡ item) }
-        ensures full { IsErrAnd result (λ refused. refused.why ≡ Why.Full (record {})) ↔ IsAtLimit limit (items self.old) }
+        ensures full { IsErrAnd result (λ refused. refused.why ≡ Why.Full (record {}))
+            ↔ IsAtLimit limit (items self.old) }
         ensures memory { IfErr result (λ refused. refused.why ≡ Why.Memory → IsNone limit) };
 
-    /// Takes the last item, if there is one.
+    /// Removes the last item and returns it, or returns `None` if the list is empty.
     fn pop(&mut self) -> Option<Self::Item>
         ensures some { IfSome result (λ item. items self.old ≡ items self.new ++ item ∷ []) }
         ensures none { IfNone result ((items self.old ≡ []) × (items self.new ≡ [])) };
 
-    /// Takes the item at `index`, below the length; the last item takes its place.
+    /// Removes the item at `index`, which is below the length, and returns it. The last item takes
+    /// its place.
     fn swap_remove(&mut self, index: usize) -> Self::Item
         requires { index < length (items self.old) }
         ensures value { slice_get (items self.old) index ≡ Some result }
         ensures items { items self.new ≡ swap_remove (items self.old) index result };
 
-    // A write through the slice changes no number of items.
-    ghost items_of_with_items: { (list : Self) (written : List Self.Item) → length written ≡ length (items list) → items (with_items list written) ≡ written };
+    /// After a write of as many items as there are, the list has the items that were written.
+    ghost items_of_with_items: { (list : Self) (written : List Self.Item) →
+        length written ≡ length (items list) → items (with_items list written) ≡ written };
 }
 
 /// A list that can be copied.
 pub trait CopyList: ArrayLike {
-    // A copy takes no memory.
+    /// Whether copies never fail.
     ghost copies_free: { Bool };
 
-    /// Whether a copy takes no memory.
+    /// Whether copies never fail, since they do not allocate.
     fn copies_free() -> bool
         ensures { result ≡ copies_free };
 
-    /// An equal list. `OutOfMemory` only where copies take memory.
+    /// A list with the same items. Returns `Error::OutOfMemory` only if copies allocate.
     fn copy(&self) -> Result<Self>
         ensures ok { IfOk result (λ list. Self.items list ≡ Self.items self.now) }
         ensures err { IfErr result (λ error. (error ≡ Error.OutOfMemory) × (copies_free ≡ false)) };
@@ -178,7 +189,8 @@ impl<T: Default + Drop, const N: usize> ArrayLike for ArrayVec<T, N> {
         self.swap_remove(index)
     }
 
-    ghost items_of_with_items = { λ list written same. refill-same _ list.items written (sym same) };
+    ghost items_of_with_items = { λ list written same.
+        refill-same _ list.items written (sym same) };
 }
 
 impl<T: Copy + Default, const N: usize> CopyList for ArrayVec<T, N> {
@@ -194,6 +206,7 @@ impl<T: Copy + Default, const N: usize> CopyList for ArrayVec<T, N> {
     }
 }
 
+/// An array with the same items.
 fn copy_of<T: Copy + Default, const N: usize>(list: &ArrayVec<T, N>) -> ArrayVec<T, N>
     ensures { result.items ≡ list.now.items }
 {
@@ -209,7 +222,8 @@ impl<T: Default + Drop, const N: usize> ArrayLike for Box<ArrayVec<T, N>> {
 
     ghost limit = { Some N };
 
-    ghost with_items = { λ list written. with_value list (array_vec.with_items list.value written) };
+    ghost with_items = { λ list written.
+        with_value list (array_vec.with_items list.value written) };
 
     #[inline(always)]
     fn limit() -> Option<usize> {
@@ -255,7 +269,8 @@ impl<T: Default + Drop, const N: usize> ArrayLike for Box<ArrayVec<T, N>> {
         ArrayVec::swap_remove(self.as_mut(), index)
     }
 
-    ghost items_of_with_items = { λ list written same. refill-same _ list.value.items written (sym same) };
+    ghost items_of_with_items = { λ list written same.
+        refill-same _ list.value.items written (sym same) };
 }
 
 impl<T: Copy + Default, const N: usize> CopyList for Box<ArrayVec<T, N>> {
@@ -324,7 +339,8 @@ impl<T: Drop> ArrayLike for Vec<T> {
         self.swap_remove(index)
     }
 
-    ghost items_of_with_items = { λ list written same. refill-same _ list.items written (list.ok.0 ∙ sym same) };
+    ghost items_of_with_items = { λ list written same.
+        refill-same _ list.items written (list.ok.0 ∙ sym same) };
 }
 
 impl<T: Copy> CopyList for Vec<T> {
@@ -343,7 +359,7 @@ impl<T: Copy> CopyList for Vec<T> {
     }
 }
 
-/// Writes `item` over the one at `index`, below the length.
+/// Replaces the item at `index`, which is below the length.
 #[inline(always)]
 pub fn write_at<A: ArrayLike>(list: &mut A, index: usize, item: A::Item)
     requires { index < length (A.items list.old) }
@@ -353,7 +369,7 @@ pub fn write_at<A: ArrayLike>(list: &mut A, index: usize, item: A::Item)
     slice[index] = item;
 }
 
-/// Takes out the item at `index`, below the length; the later ones move down.
+/// Removes the item at `index`, which is below the length, and shifts the later items down.
 #[inline(always)]
 pub fn remove_at<A: ArrayLike>(list: &mut A, index: usize)
 where
@@ -366,7 +382,7 @@ where
     let _item = list.pop();
 }
 
-/// Takes out the items from `count` on.
+/// Removes the items from index `count` on.
 #[inline(always)]
 pub fn shorten<A: ArrayLike>(list: &mut A, count: usize)
     ensures { A.items list.new ≡ take count (A.items list.old) }
@@ -376,7 +392,7 @@ pub fn shorten<A: ArrayLike>(list: &mut A, count: usize)
     }
 }
 
-/// Writes the first of these items, at least as many as the list has, over those of the list.
+/// Replaces the items of the list with the first ones of `items`, which has at least as many.
 #[inline(always)]
 pub fn write_over<A: ArrayLike>(list: &mut A, items: &[A::Item])
 where
@@ -389,11 +405,12 @@ where
     written.copy_from_slice(&items[..count]);
 }
 
-// Moves the last item down to `index`, and those from there on up.
+/// Moves the last item to `index`, and shifts the items from there on up.
 #[inline(always)]
 fn last_to<T>(items: &mut [T], index: usize)
     requires { index < length items.old }
-    ensures { (front : List T) (last : T) → items.old ≡ front ++ last ∷ [] → items.new ≡ insert front index last }
+    ensures { (front : List T) (last : T) →
+        items.old ≡ front ++ last ∷ [] → items.new ≡ insert front index last }
 {
     let mut place = items.len() - 1;
     while index < place {
@@ -402,6 +419,7 @@ fn last_to<T>(items: &mut [T], index: usize)
     }
 }
 
+/// The value on the heap. Returns `Error::OutOfMemory` if its memory cannot be allocated.
 #[inline(always)]
 fn boxed<T: Drop>(alloc: Global, value: T) -> Result<Box<T>>
     ensures ok { IfOk result (λ boxed. boxed.value ≡ value) }
@@ -413,6 +431,7 @@ fn boxed<T: Drop>(alloc: Global, value: T) -> Result<Box<T>>
     }
 }
 
+/// The item that a vector did not take, since its memory could not grow.
 #[inline(always)]
 fn refused_growth<T>(e: AllocFailed<T>) -> Refused<T>
     ensures { result ≡ record { why = Why.Memory; item = e.value } }
@@ -424,6 +443,7 @@ fn refused_growth<T>(e: AllocFailed<T>) -> Refused<T>
     }
 }
 
+/// The item that a full array did not take.
 #[inline(always)]
 fn refused_full<T>(item: T) -> Refused<T>
     ensures { result ≡ record { why = Why.Full (record {}); item = item } }

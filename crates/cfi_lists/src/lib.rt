@@ -1,4 +1,4 @@
-//! Lists with an optional limit.
+//! Lists with an optional capacity limit, on the stack or on the heap.
 #![tactic(auto)]
 
 pub mod array_like;

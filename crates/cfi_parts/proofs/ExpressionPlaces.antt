@@ -11,14 +11,14 @@ use Rattle.cfi_read_core.specs.declared.error.Error.{Error}
 use Rattle.cfi_read_core.specs.ReadFunctions.{Read, Source, Position, Outcome, Extent, carry_on, ◌>>=◌, give, refuse, of_result, split, bytes, unexpected_eof, chosen_from, Readings, readings_with, readings_up_to}
 use Rattle.cfi_read_core.specs.Numbers.{unsigned, unsigned_leb128, signed_leb128, offset_leb128, register_leb128, register_of}
 use Rattle.cfi_read_core.proofs.Onward.{IsOnward, onward_unsigned, onward_offset_leb128, onward_register_leb128}
-use Rattle.cfi_instruction.specs.declared.instruction.UnwindExpression.{UnwindExpression}
-use Rattle.cfi_instruction.specs.declared.instruction.CallFrameInstruction.{CallFrameInstruction}
-use Rattle.cfi_instruction.specs.declared.instruction.CallFrameInstruction.TheVariants as variant
+use Rattle.cfi_read_core.specs.declared.instruction.UnwindExpression.{UnwindExpression}
+use Rattle.cfi_read_core.specs.declared.instruction.CallFrameInstruction.{CallFrameInstruction}
+use Rattle.cfi_read_core.specs.declared.instruction.CallFrameInstruction.TheVariants as variant
 use Rattle.cfi_parts.specs.Pointers.{PointerContext}
 use Rattle.cfi_parts.specs.Instructions.{Instruction, InstructionContext, expression, location_by, negate_ra_state, register_and, row_creation, cfa_definition, offset_rules, register_rules, state_and_others, extended_opcodes, primary_opcodes, unknown_opcode, by_opcode, instruction, instructions}
 use Rattle.cfi_parts.specs.InstructionReaders.{InstructionReader}
-use Rattle.cfi_instruction.specs.MappedInstructions.{map_instruction}
-use Rattle.cfi_instruction.specs.ExpressionPlaces.{LiesIn, expression_of, HasExpressionIn}
+use Rattle.cfi_read_core.specs.MappedInstructions.{map_instruction}
+use Rattle.cfi_read_core.specs.ExpressionPlaces.{LiesIn, expression_of, HasExpressionIn}
 use Rattle.cfi_parts.specs.InstructionReaders.{ReadsIn}
 use Rattle.cfi_parts.proofs.InstructionLemmas.{advances_instruction}
 use Rattle.cfi_parts.proofs.Expressions.{IsInside, inside_bind, inside_unsigned_leb128, inside_offset_leb128, passed_at, at_length}

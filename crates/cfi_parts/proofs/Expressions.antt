@@ -7,7 +7,7 @@ use Rattle.cfi_read_core.specs.declared.error.Error.{Error}
 use Rattle.cfi_read_core.specs.declared.error.Error.TheVariants.{BadUnsignedLeb128, UnsupportedOffset}
 use Rattle.cfi_read_core.specs.ReadFunctions.{Read, Source, Extent, Outcome, carry_on, ◌>>=◌, ◌>>◌, split, give, refuse, refuse_if, unexpected_eof, offset, rest}
 use Rattle.cfi_read_core.specs.Numbers.{continuation_count, is_bad_byte, leb128_bytes, leb128_sum, unsigned_leb128, offset_leb128}
-use Rattle.cfi_instruction.specs.declared.instruction.UnwindExpression.{UnwindExpression}
+use Rattle.cfi_read_core.specs.declared.instruction.UnwindExpression.{UnwindExpression}
 
 -- ---- a read that gives a value stays within the bytes
 

@@ -15,8 +15,8 @@ use Rattle.cfi_read_core.specs.PointerEncodings.{format_of, application_of, is_o
 use Rattle.cfi_read_core.proofs.Onward.{IsOnward, onward_give, onward_refuse, onward_bind, onward_here, onward_split, onward_of_result, onward_refuse_if, onward_unsigned, onward_signed, onward_unsigned_leb128, onward_signed_leb128, onward_offset_leb128, onward_register_leb128, onward_address, onward_from}
 use Rattle.cfi_read_core.proofs.Repeating.{Advances, advances_bind, advances_unsigned}
 use Rattle.cfi_parts.specs.declared.pointer.Pointer.{Pointer}
-use Rattle.cfi_instruction.specs.declared.instruction.UnwindExpression.{UnwindExpression}
-use Rattle.cfi_instruction.specs.declared.instruction.CallFrameInstruction.TheVariants as variant
+use Rattle.cfi_read_core.specs.declared.instruction.UnwindExpression.{UnwindExpression}
+use Rattle.cfi_read_core.specs.declared.instruction.CallFrameInstruction.TheVariants as variant
 use Rattle.cfi_parts.specs.Pointers.{PointerContext, unknown_encoding, in_64_bits, format_table, encoded_value, required_base, pc_base, application_table, base_of, pointer, pointer_to, direct}
 use Rattle.cfi_parts.specs.Instructions.{Instruction, InstructionContext, expression, location_by, negate_ra_state, register_and, row_creation, cfa_definition, offset_rules, register_rules, state_and_others, extended_opcodes, primary_opcodes, unknown_opcode, by_opcode, instruction}
 

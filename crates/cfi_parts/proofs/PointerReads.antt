@@ -9,7 +9,7 @@ use Rattle.cfi_read_core.specs.ReadFunctions.{Source, Outcome, ◌>>=◌, carry_
 use Rattle.cfi_read_core.specs.Numbers.{unsigned, unsigned_leb128, register_leb128}
 use Rattle.cfi_read_core.specs.Addresses.{wrap}
 use Rattle.cfi_read_core.specs.PointerEncodings.{application_of, is_indirect, is_omitted, is_valid_encoding}
-use Rattle.cfi_instruction.specs.declared.instruction.CallFrameInstruction.TheVariants.{OffsetExtendedNegative}
+use Rattle.cfi_read_core.specs.declared.instruction.CallFrameInstruction.TheVariants.{OffsetExtendedNegative}
 use Rattle.cfi_parts.specs.declared.pointer.Pointer.TheVariants.{Direct, Indirect}
 use Rattle.cfi_parts.specs.Pointers.{PointerContext, encoding_byte, encoded_value, unknown_encoding, base_of, pointer_to, pointer}
 use Rattle.cfi_parts.specs.Instructions.{Instruction, InstructionContext, by_rules, extended_opcodes, unknown_opcode}

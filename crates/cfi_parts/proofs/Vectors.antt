@@ -5,7 +5,7 @@ use Rattle.cfi_read_core.specs.declared.common.Vendor.TheVariants as vendors
 use Rattle.cfi_read_core.specs.ReadFunctions.{Source, Readings, unexpected_eof}
 use Rattle.cfi_read_core.specs.ReadFunctions.{readings_up_to}
 use Rattle.cfi_read_core.specs.Numbers.{unsigned, signed, leb128_bytes, unsigned_leb128, signed_leb128, register_leb128, offset_leb128}
-use Rattle.cfi_instruction.specs.declared.instruction.CallFrameInstruction.TheVariants.{AdvanceLoc, DefCfaSf, DefCfaOffsetSf, DefCfaExpression, Offset, OffsetExtendedSf, OffsetExtendedNegative, Register, ValExpression, Restore}
+use Rattle.cfi_read_core.specs.declared.instruction.CallFrameInstruction.TheVariants.{AdvanceLoc, DefCfaSf, DefCfaOffsetSf, DefCfaExpression, Offset, OffsetExtendedSf, OffsetExtendedNegative, Register, ValExpression, Restore}
 use Rattle.cfi_parts.specs.declared.pointer.Pointer.TheVariants.{Direct, Indirect}
 use Rattle.cfi_parts.specs.Pointers.{PointerContext, encoded_value, base_of, pointer}
 use Rattle.cfi_parts.specs.Instructions.{Instruction, InstructionContext, expression, instruction, instructions}

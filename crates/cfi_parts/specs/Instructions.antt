@@ -8,12 +8,12 @@ use Rattle.cfi_read_core.specs.declared.error.Error.TheVariants.{UnknownCallFram
 use Rattle.cfi_read_core.specs.ReadFunctions.{Read, Source, Extent, Readings, readings_over, ◌>>=◌, give, refuse, of_result, split, chosen_from}
 use Rattle.cfi_read_core.specs.Numbers.{unsigned, unsigned_leb128, signed_leb128, offset_leb128, register_leb128}
 use Rattle.cfi_read_core.specs.Addresses.{address}
-use Rattle.cfi_instruction.specs.declared.instruction.UnwindExpression.{UnwindExpression}
-use Rattle.cfi_instruction.specs.declared.instruction.CallFrameInstruction.{CallFrameInstruction}
-use Rattle.cfi_instruction.specs.declared.instruction.CallFrameInstruction.TheVariants as variant
+use Rattle.cfi_read_core.specs.declared.instruction.UnwindExpression.{UnwindExpression}
+use Rattle.cfi_read_core.specs.declared.instruction.CallFrameInstruction.{CallFrameInstruction}
+use Rattle.cfi_read_core.specs.declared.instruction.CallFrameInstruction.TheVariants as variant
 use Rattle.cfi_parts.specs.Pointers.{PointerContext, pointer, direct}
 
--- What the instructions of an entry are read with.
+-- The parameters for reading the instructions of an entry.
 pub record InstructionContext : Type 0 where
   pub pointers : PointerContext
   pub address_encoding : Option ℕ  -- in an FDE whose CIE gives one
@@ -24,7 +24,7 @@ Instruction = CallFrameInstruction ℕ
 
 -- ---- operands
 
--- where the expression stands: a length and so many bytes, which are passed
+-- where the expression is: a length and so many bytes, which are skipped
 unfoldable pub expression : PointerContext → Read (UnwindExpression ℕ)
 expression context = do
   length ← offset_leb128
@@ -34,6 +34,10 @@ expression context = do
 abbrev pub location_by : PointerContext → Option ℕ → Read ℕ
 location_by context None = address context.size
 location_by context (Some encoding) = pointer encoding context >>= λ p. of_result (direct p)
+
+-- the address of DW_CFA_set_loc
+abbrev pub set_location : InstructionContext → Read ℕ
+set_location c = location_by c.pointers c.address_encoding
 
 -- ---- opcodes
 
@@ -57,7 +61,7 @@ register_and operand made = do
 -- row creation (DWARF 5 section 6.4.2.1)
 abbrev pub row_creation : InstructionContext → List (ℕ × Read Instruction)
 row_creation c =
-    (0x01, location_by c.pointers c.address_encoding >>= λ a. give (variant.SetLoc a))
+    (0x01, set_location c >>= λ a. give (variant.SetLoc a))
     ∷ (0x02, unsigned w8 >>= advance)
     ∷ (0x03, unsigned w16 >>= advance)
     ∷ (0x04, unsigned w32 >>= advance)
@@ -108,6 +112,9 @@ register_rules c =
 abbrev pub extended_opcodes : InstructionContext → List (ℕ × Read Instruction)
 extended_opcodes c = row_creation c ++ cfa_definition c ++ state_and_others c ++ offset_rules ++ register_rules c
 
+abbrev pub by_extended_opcode : InstructionContext → ℕ → Read Instruction
+by_extended_opcode c opcode = chosen_from opcode (extended_opcodes c) (unknown_opcode opcode)
+
 -- Not one of the opcodes whose two high bits are 0 that compilers write most: padding, short moves, a new place of the CFA,
 -- and the state of a row.
 abbrev pub IsRare : ℕ → Type 0
@@ -133,7 +140,7 @@ primary_opcodes low =
 abbrev pub by_opcode : InstructionContext → ℕ → Read Instruction
 by_opcode c opcode =
     let low = opcode % 64 in
-    chosen_from (opcode - low) (primary_opcodes low) (chosen_from opcode (extended_opcodes c) (unknown_opcode opcode))
+    chosen_from (opcode - low) (primary_opcodes low) (by_extended_opcode c opcode)
 
 unfoldable pub instruction : InstructionContext → Read Instruction
 instruction c = do

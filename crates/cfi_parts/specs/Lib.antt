@@ -1,5 +1,5 @@
 pub mod Pointers
-pub mod ReadingParameters
 pub mod Instructions
 pub mod InstructionReaders
+pub mod ReadingParameters
 pub mod InstructionIterators

@@ -1,23 +1,24 @@
-//! Call frame instructions as they are read (DWARF 5 sections 6.4.2 and 7.24).
-ghost use Rattle.std.specs.Prelude.{◌≡◌, ◌≤◌, ◌<◌, ◌-◌, ℕ, ⊤, IfOk, IfSome};
-ghost use Rattle.cfi_read_core.specs.ReaderCalls.{remaining, map_ok};
-ghost use Rattle.cfi_parts.specs.ReadingParameters.{instruction_context};
-ghost use Rattle.cfi_read_core.specs.ReadFunctions.{Position};
-ghost use Rattle.cfi_instruction.specs.ExpressionPlaces.{HasExpressionIn};
-ghost use Rattle.cfi_instruction.specs.MappedInstructions.{map_instruction};
-ghost use Rattle.cfi_parts.specs.InstructionReaders.{Meets, ReadsIn, instructions_left, items};
+//! Reading call frame instructions (DWARF 5 sections 6.4.2 and 7.24). Their values are those of
+//! `cfi_read_core::instruction`, which this module re-exports.
+ghost use Rattle.std.specs.Prelude.{◌≡◌, ◌≤◌, ⊤};
+ghost use Rattle.cfi_read_core.specs.MappedInstructions.{map_instruction};
+ghost use Rattle.cfi_read_core.specs.ReaderCalls.{map_ok};
+ghost use Rattle.cfi_parts.specs.InstructionReaders.{HasExpressionOf, IfFound, IsShorter};
+ghost use Rattle.cfi_parts.specs.InstructionReaders.{MeetsNext, SameContext, SameSource};
+ghost use Rattle.cfi_parts.specs.InstructionReaders.{StaysWithin};
+ghost use Rattle.cfi_parts.specs.ReadingParameters.{NotBeforeSection, reader_at};
 
 mod parse;
 
 use crate::pointer::PointerEncodingParameters;
-pub use cfi_instruction::instruction::{CallFrameInstruction, UnwindExpression};
+pub use cfi_read_core::instruction::{CallFrameInstruction, UnwindExpression};
 use cfi_read_core::{DwEhPe, Reader, Result, Vendor};
 use parse::{InstructionParameters, parse_instruction};
 use std::alloc::AllocError;
 
-/// The instructions of an entry in order (DWARF 5 sections 6.4.2 and 7.24).
+/// An iterator over the instructions of an entry (DWARF 5 sections 6.4.2 and 7.24).
 ///
-/// Each takes a byte at least, so there are no more than bytes. Nothing is allocated.
+/// Each instruction takes at least a byte, so there are no more than bytes. Does not allocate.
 #[derive(Debug)]
 pub struct CallFrameInstructionIter<'a, R: Reader> {
     input: R,
@@ -44,9 +45,11 @@ impl<R: Reader> Copy for CallFrameInstructionIter<'_, R> {}
 impl<'a, R: Reader> CallFrameInstructionIter<'a, R> {
     ghost use Rattle.cfi_parts.specs.InstructionIterators.{instruction_reader};
 
-    /// The instructions in what is left of the input, which stands in the section of the pointers.
+    /// Iterates over the instructions in the rest of `input`, which is in the section of
+    /// `pointers`.
     ///
-    /// The address of `DW_CFA_set_loc` is a pointer of the encoding, or a plain address where there is none.
+    /// The address of `DW_CFA_set_loc` is a pointer in this encoding, or a plain address if there
+    /// is no encoding.
     #[inline(always)]
     pub fn new(
         input: R,
@@ -54,11 +57,12 @@ impl<'a, R: Reader> CallFrameInstructionIter<'a, R> {
         pointers: PointerEncodingParameters<'a, R>,
         vendor: Vendor,
     ) -> Self
-        requires { (R.position pointers.section.now).place ≤ (R.position input).place }
-        ensures { instruction_reader R.position result ≡ record {
-          context = instruction_context R.position (record { address_encoding = address_encoding; pointers = pointers.entry; vendor = vendor });
-          position = R.position input;
-        } }
+        requires { NotBeforeSection R.position pointers input }
+        ensures { instruction_reader R.position result ≡ reader_at R.position (record {
+          address_encoding = address_encoding;
+          pointers = pointers.entry;
+          vendor = vendor;
+        }) input }
     {
         CallFrameInstructionIter {
             input,
@@ -70,22 +74,30 @@ impl<'a, R: Reader> CallFrameInstructionIter<'a, R> {
         }
     }
 
-    /// The next instruction, or none at the end. After a refusal or the end it is `None` from then on. Its expression
-    /// lies in the section, where `UnwindExpression::get` is not refused.
+    /// Reads the next instruction, or returns `None` at the end. Returns `None` from then on, also
+    /// after an error. The expression of an instruction lies in the section, so that
+    /// `UnwindExpression::get` succeeds for it.
     ///
-    /// Refused with `UnexpectedEof` where the bytes end in an instruction, `UnknownCallFrameInstruction` for an opcode
-    /// that isn't known to the vendor, `BadUnsignedLeb128`, `BadSignedLeb128` or `UnsupportedRegister` for an operand,
-    /// `UnsupportedOffset` for the length of an expression that does not fit the offset type, and for the address of
-    /// `DW_CFA_set_loc` wherever `parse_encoded_pointer` or `Pointer::direct` refuses it.
+    /// Returns `Error::UnexpectedEof` if the bytes end within an instruction,
+    /// `Error::UnknownCallFrameInstruction` for an opcode that is unknown for the vendor,
+    /// `Error::BadUnsignedLeb128`, `Error::BadSignedLeb128` or `Error::UnsupportedRegister` for an
+    /// operand, and `Error::UnsupportedOffset` if the length of an expression does not fit the
+    /// offset type. For the address of `DW_CFA_set_loc` it fails as `parse_encoded_pointer` and
+    /// `Pointer::direct` do.
     #[inline(always)]
     pub fn next(&mut self) -> Result<Option<CallFrameInstruction<R::Offset>>>
-        ensures met { Meets (map_instruction R.Offset.number) result (instructions_left (instruction_reader R.position self.old)) (instructions_left (instruction_reader R.position self.new)) }
-        ensures context { (instruction_reader R.position self.new).context ≡ (instruction_reader R.position self.old).context }
-        ensures source { (instruction_reader R.position self.new).position.source ≡ (instruction_reader R.position self.old).position.source }
-        ensures fewer { IfOk result (λ found. IfSome found (λ _. remaining (instruction_reader R.position self.new).position < remaining (instruction_reader R.position self.old).position)) }
-        ensures expressions { IfOk result (λ found. IfSome found (λ i.
-            (section : Position) → ReadsIn section (instruction_reader R.position self.old) → HasExpressionIn R.Offset.number section i)) }
-        ensures within { (section : Position) → ReadsIn section (instruction_reader R.position self.old) → ReadsIn section (instruction_reader R.position self.new) }
+        ensures met { MeetsNext R.Offset.number result
+            (instruction_reader R.position self.old) (instruction_reader R.position self.new) }
+        ensures context { SameContext
+            (instruction_reader R.position self.old) (instruction_reader R.position self.new) }
+        ensures source { SameSource
+            (instruction_reader R.position self.old) (instruction_reader R.position self.new) }
+        ensures fewer { IfFound result (λ _. IsShorter
+            (instruction_reader R.position self.new) (instruction_reader R.position self.old)) }
+        ensures expressions { IfFound result
+            (HasExpressionOf R.Offset.number (instruction_reader R.position self.old)) }
+        ensures within { StaysWithin
+            (instruction_reader R.position self.old) (instruction_reader R.position self.new) }
     {
         next_instruction(&self.parameters, &mut self.input)
     }
@@ -95,11 +107,12 @@ impl<R: Reader> Iterator for CallFrameInstructionIter<'_, R> {
     type Item = Result<CallFrameInstruction<R::Offset>>;
 
     ghost use Rattle.std.specs.Iterator.{YieldsFirstBy, item_count};
-    ghost use Rattle.cfi_parts.specs.InstructionIterators.{instruction_reader};
+    ghost use Rattle.cfi_parts.specs.InstructionIterators.{instruction_items};
 
-    ghost next_gives = { YieldsFirstBy (map_ok (map_instruction R.Offset.number)) (λ it. items (instructions_left (instruction_reader R.position it))) };
+    ghost next_gives = { YieldsFirstBy (map_ok (map_instruction R.Offset.number))
+        (λ it. instruction_items R.position it) };
 
-    ghost remaining = { item_count (λ it. items (instructions_left (instruction_reader R.position it))) };
+    ghost remaining = { item_count (λ it. instruction_items R.position it) };
 
     #[inline(always)]
     fn next(&mut self) -> Option<Result<CallFrameInstruction<R::Offset>>> {
@@ -107,23 +120,23 @@ impl<R: Reader> Iterator for CallFrameInstructionIter<'_, R> {
     }
 }
 
-/// The next instruction of the input, which a refusal empties.
+/// Reads the next instruction of the input. After an error the input is empty.
 #[inline(always)]
 fn next_instruction<R: Reader>(
     parameters: &InstructionParameters<'_, R>,
     input: &mut R,
 ) -> Result<Option<CallFrameInstruction<R::Offset>>>
-    requires { (R.position parameters.now.pointers.section.now).place ≤ (R.position input.old).place }
-    ensures met { let c = instruction_context R.position parameters.now in
-        Meets (map_instruction R.Offset.number) result
-        (instructions_left (record { context = c; position = R.position input.old }))
-        (instructions_left (record { context = c; position = R.position input.new })) }
+    requires { NotBeforeSection R.position parameters.now.pointers input.old }
+    ensures met { MeetsNext R.Offset.number result
+        (reader_at R.position parameters.now input.old)
+        (reader_at R.position parameters.now input.new) }
     ensures source { (R.position input.new).source ≡ (R.position input.old).source }
-    ensures behind { (R.position parameters.now.pointers.section.now).place ≤ (R.position input.new).place }
-    ensures fewer { IfOk result (λ found. IfSome found (λ _. remaining (R.position input.new) < remaining (R.position input.old))) }
-    ensures expressions { let c = instruction_context R.position parameters.now in
-        IfOk result (λ found. IfSome found (λ i.
-        (section : Position) → ReadsIn section (record { context = c; position = R.position input.old }) → HasExpressionIn R.Offset.number section i)) }
+    ensures behind { NotBeforeSection R.position parameters.now.pointers input.new }
+    ensures fewer { IfFound result (λ _. IsShorter
+        (reader_at R.position parameters.now input.new)
+        (reader_at R.position parameters.now input.old)) }
+    ensures expressions { IfFound result
+        (HasExpressionOf R.Offset.number (reader_at R.position parameters.now input.old)) }
 {
     if input.is_empty() {
         return Ok(None);

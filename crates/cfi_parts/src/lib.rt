@@ -1,5 +1,5 @@
+//! Reading of encoded pointers and of call frame instructions.
 #![tactic(auto)]
-//! Encoded pointers, and call frame instructions as they are read.
 
 pub mod instruction;
 pub mod pointer;

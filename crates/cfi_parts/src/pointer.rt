@@ -1,9 +1,10 @@
 //! Encoded pointers (LSB Core, "DWARF Exception Header Encoding").
 ghost use Rattle.std.specs.Prelude.{◌≡◌, ◌≤◌, ℕ, ⊤};
 ghost use Rattle.cfi_read_core.specs.Numbers.{unsigned_leb128};
-ghost use Rattle.cfi_read_core.specs.ReaderCalls.{Reads};
-ghost use Rattle.cfi_parts.specs.ReadingParameters.{pointer_context};
-ghost use Rattle.cfi_parts.specs.Pointers.{base_of, direct, encoding_byte, encoded_value, pointer_value, pointer};
+ghost use Rattle.cfi_read_core.specs.ReaderCalls.{ReadsBy, ReadsValue};
+ghost use Rattle.cfi_parts.specs.ReadingParameters.{NotBeforeSection, pointer_context};
+ghost use Rattle.cfi_parts.specs.Pointers.{base_of, direct, encoding_byte, encoded_value};
+ghost use Rattle.cfi_parts.specs.Pointers.{pointer_value, pointer};
 
 use cfi_read_core::address::AddressSize;
 use cfi_read_core::constants::{
@@ -14,7 +15,7 @@ use cfi_read_core::constants::{
 use cfi_read_core::{DwEhPe, Error, Reader, ReaderAddress, ReaderOffset, Result};
 use std::alloc::AllocError;
 
-/// A decoded pointer: the value itself, or the address at which the value is found.
+/// A decoded pointer: a value, or the address at which the value is stored.
 #[derive(Clone, Copy, Debug, PartialEq, Eq)]
 pub enum Pointer {
     /// The value.
@@ -35,8 +36,8 @@ impl Default for Pointer {
 }
 
 impl Pointer {
-    /// The value of a direct pointer. An indirect one is refused with `UnsupportedIndirectPointer`, since the
-    /// memory at which it points isn't at hand.
+    /// The value of a direct pointer. Returns `Error::UnsupportedIndirectPointer` for an indirect
+    /// one, since the memory to which it points is not available.
     #[inline(always)]
     pub fn direct(self) -> Result<u64>
         ensures { result ≡ direct self }
@@ -47,7 +48,7 @@ impl Pointer {
         }
     }
 
-    /// The value of a direct pointer, or the address at which that of an indirect one is found.
+    /// The value of a direct pointer, or the address at which that of an indirect one is stored.
     #[inline(always)]
     pub fn pointer(self) -> u64
         ensures { result ≡ pointer_value self }
@@ -62,17 +63,17 @@ impl Pointer {
 /// The bases of the pointers in one section.
 #[derive(Clone, Copy, Debug, Default, PartialEq, Eq)]
 pub struct SectionBaseAddresses {
-    /// The address of the section, to which `DW_EH_PE_pcrel` counts.
+    /// The address of the section, the base of `DW_EH_PE_pcrel`.
     pub section: Option<u64>,
-    /// The address of the code, to which `DW_EH_PE_textrel` counts.
+    /// The address of the code, the base of `DW_EH_PE_textrel`.
     pub text: Option<u64>,
-    /// The address to which `DW_EH_PE_datarel` counts.
+    /// The base of `DW_EH_PE_datarel`.
     pub data_base: Option<u64>,
 }
 
 /// The bases of the pointers in the header and in the entries.
 ///
-/// Where a base is missing, pointers that need it are refused. All are missing by default.
+/// A pointer that needs a base that is not set fails to parse. None is set by default.
 #[derive(Clone, Copy, Debug, Default, PartialEq, Eq)]
 pub struct BaseAddresses {
     /// The bases of the pointers in `.eh_frame_hdr`.
@@ -82,10 +83,12 @@ pub struct BaseAddresses {
 }
 
 impl BaseAddresses {
-    /// Sets the address of `.eh_frame_hdr`, from which the header's data-relative pointers are counted too.
+    /// Sets the address of `.eh_frame_hdr`, which is also the base of its data-relative pointers.
     #[inline(always)]
     pub fn set_eh_frame_hdr(self, addr: u64) -> BaseAddresses
-        ensures { result ≡ record self { eh_frame_hdr = record self.eh_frame_hdr { section = Some addr; data_base = Some addr } } }
+        ensures { result ≡ record self {
+          eh_frame_hdr = record self.eh_frame_hdr { section = Some addr; data_base = Some addr };
+        } }
     {
         let mut bases = self;
         bases.eh_frame_hdr.section = Some(addr);
@@ -103,7 +106,7 @@ impl BaseAddresses {
         bases
     }
 
-    /// Sets the address of the code, for the header and the entries.
+    /// Sets the text base, the address of the code, for the header and the entries.
     #[inline(always)]
     pub fn set_text(self, addr: u64) -> BaseAddresses
         ensures { result ≡ record self {
@@ -117,10 +120,12 @@ impl BaseAddresses {
         bases
     }
 
-    /// Sets the address to which the data-relative pointers of entries count, usually that of `.got`.
+    /// Sets the base of the data-relative pointers of entries, usually the address of `.got`.
     #[inline(always)]
     pub fn set_got(self, addr: u64) -> BaseAddresses
-        ensures { result ≡ record self { eh_frame = record self.eh_frame { data_base = Some addr } } }
+        ensures { result ≡ record self {
+          eh_frame = record self.eh_frame { data_base = Some addr };
+        } }
     {
         let mut bases = self;
         bases.eh_frame.data_base = Some(addr);
@@ -128,16 +133,16 @@ impl BaseAddresses {
     }
 }
 
-/// What the pointers of a section are read with.
+/// The parameters for reading the pointers of a section.
 #[derive(Copy, Debug)]
 pub struct PointerEncodingParameters<'a, R> {
     /// The bases of the section.
     pub bases: &'a SectionBaseAddresses,
-    /// The first address of the function, to which `DW_EH_PE_funcrel` counts.
+    /// The first address of the function, the base of `DW_EH_PE_funcrel`.
     pub func_base: Option<u64>,
-    /// How many bytes an address takes.
+    /// The size of an address.
     pub address_size: AddressSize,
-    /// The section, from whose first place `DW_EH_PE_pcrel` counts.
+    /// The section. `DW_EH_PE_pcrel` adds the distance from its start.
     pub section: &'a R,
 }
 
@@ -152,11 +157,12 @@ impl<R: Copy> Clone for PointerEncodingParameters<'_, R> {
     }
 }
 
-/// Reads a byte that is a pointer encoding. Another one is refused with `UnknownPointerEncoding`, and counts as read.
+/// Reads a byte that is a pointer encoding. Returns `Error::UnknownPointerEncoding` for another
+/// byte; the reader is then after it.
 #[tactic(auto, unfolding(crate::specs::Pointers::encoding_byte))]
 #[inline(always)]
 pub fn parse_pointer_encoding<R: Reader>(input: &mut R) -> Result<DwEhPe>
-    ensures { Reads (λ e. e.0) encoding_byte (R.position input.old) result (R.position input.new) }
+    ensures { ReadsBy R.position (λ e. e.0) encoding_byte input.old result input.new }
 {
     let encoding = DwEhPe(input.read_u8()?);
     if encoding.is_valid_encoding() {
@@ -166,9 +172,12 @@ pub fn parse_pointer_encoding<R: Reader>(input: &mut R) -> Result<DwEhPe>
     }
 }
 
-/// Reads a value by the format of an encoding alone, without base or indirection. A signed value is extended to
-/// 64 bits. A format that isn't known is refused with `UnknownPointerEncoding`, and an address of a size other than
-/// 1, 2, 4 and 8 with `UnsupportedAddressSize`, before any byte is read.
+/// Reads a value by the format of an encoding alone, and ignores its base and its indirection. A
+/// signed value is extended to 64 bits.
+///
+/// Returns `Error::UnknownPointerEncoding` for an unknown format, and
+/// `Error::UnsupportedAddressSize` for an address whose size is not 1, 2, 4 or 8, both before any
+/// byte is read.
 #[tactic(auto, unfolding(crate::specs::Pointers::encoded_value))]
 #[inline(always)]
 pub fn parse_encoded_value<R: Reader>(
@@ -176,7 +185,8 @@ pub fn parse_encoded_value<R: Reader>(
     address_size: u8,
     input: &mut R,
 ) -> Result<u64>
-    ensures { Reads (λ x. x) (encoded_value encoding.0 address_size) (R.position input.old) result (R.position input.new) }
+    ensures { ReadsValue R.position (encoded_value encoding.0 address_size)
+        input.old result input.new }
 {
     match encoding.format() {
         DW_EH_PE_absptr => input.read_address(address_size),
@@ -192,15 +202,16 @@ pub fn parse_encoded_value<R: Reader>(
     }
 }
 
-// Hardly a pointer is a LEB128 number, so that none is read in place.
+/// Reads an unsigned LEB128 number.
+// Not inlined: few pointers are LEB128 numbers.
 #[inline(never)]
 fn read_uleb128_apart<R: Reader>(input: &mut R) -> Result<u64>
-    ensures { Reads (λ x. x) unsigned_leb128 (R.position input.old) result (R.position input.new) }
+    ensures { ReadsValue R.position unsigned_leb128 input.old result input.new }
 {
     input.read_uleb128()
 }
 
-/// What is added to a value at the place of the input.
+/// The base that is added to a value at the place of the input.
 #[tactic(auto, unfolding(crate::specs::Pointers::base_of))]
 #[inline(always)]
 fn pointer_base<R: Reader>(
@@ -208,8 +219,10 @@ fn pointer_base<R: Reader>(
     parameters: &PointerEncodingParameters<'_, R>,
     input: &R,
 ) -> Result<u64>
-    requires { (R.position parameters.now.section.now).place ≤ (R.position input.now).place }
-    ensures { Reads (λ x. x) (base_of encoding.0 (pointer_context R.position parameters.now)) (R.position input.now) result (R.position input.now) }
+    requires { NotBeforeSection R.position parameters.now input.now }
+    ensures { ReadsValue R.position
+        (base_of encoding.0 (pointer_context R.position parameters.now))
+        input.now result input.now }
 {
     let bases = parameters.bases;
     match encoding.application() {
@@ -235,11 +248,13 @@ fn pointer_base<R: Reader>(
     }
 }
 
-/// Reads a pointer: its base and its value, which are added modulo the size of an address.
+/// Reads a pointer: the sum of its base and its value, which wraps at the size of an address.
 ///
-/// Refused with `CannotParseOmitPointerEncoding` where the encoding is omit; then, before any byte is read, where the
-/// base that the encoding names is missing, with `UnsupportedPointerEncoding` for an aligned value, and with
-/// `UnknownPointerEncoding` for an application that isn't known; then as `parse_encoded_value`.
+/// Returns `Error::CannotParseOmitPointerEncoding` if the encoding is `DW_EH_PE_omit`. Then, before
+/// any byte is read, fails if the base that the encoding names is not set (the error says which),
+/// with `Error::UnsupportedPointerEncoding` for an aligned value, and with
+/// `Error::UnknownPointerEncoding` for an unknown application. Then fails as `parse_encoded_value`
+/// does.
 #[tactic(auto, unfolding(crate::specs::Pointers::pointer))]
 #[inline(always)]
 pub fn parse_encoded_pointer<R: Reader>(
@@ -247,8 +262,10 @@ pub fn parse_encoded_pointer<R: Reader>(
     parameters: &PointerEncodingParameters<'_, R>,
     input: &mut R,
 ) -> Result<Pointer>
-    requires { (R.position parameters.now.section.now).place ≤ (R.position input.old).place }
-    ensures { Reads (λ p. p) (pointer encoding.0 (pointer_context R.position parameters.now)) (R.position input.old) result (R.position input.new) }
+    requires { NotBeforeSection R.position parameters.now input.old }
+    ensures { ReadsValue R.position
+        (pointer encoding.0 (pointer_context R.position parameters.now))
+        input.old result input.new }
 {
     if encoding == DW_EH_PE_omit {
         return Err(Error::CannotParseOmitPointerEncoding);

@@ -6,3 +6,4 @@ mod Vectors
 mod Stretches
 pub mod Texts
 pub mod SignedLeb128
+mod ExpressionBytes

@@ -7,3 +7,7 @@ pub mod Offsets
 pub mod ReaderCalls
 pub mod Windows
 pub mod RefusalNames
+pub mod CallFrameSections
+pub mod MappedInstructions
+pub mod ExpressionPlaces
+pub mod AddressSizes

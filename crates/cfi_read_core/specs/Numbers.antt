@@ -97,6 +97,10 @@ pub record InitialLength : Type 0 where
   pub length : ℕ
   pub format : Format
 
+-- a length and a format of the code, as an initial length
+abbrev pub initial_length_view : {O : Type 0} → (O → ℕ) → (O × Format) → InitialLength
+initial_length_view number pair = record { length = number pair.0; format = pair.1 }
+
 -- the bytes of an initial length: the length, or a mark and the length
 abbrev pub initial_length_size : Format → ℕ
 initial_length_size Dwarf32 = 4

@@ -1,4 +1,4 @@
--- What a reader of the code is, and what its calls answer.
+-- What a reader of the code is, and what its calls return.
 use Rattle.std.specs.Prelude.{◌≡◌, ◌≤◌, ◌-◌, ℕ, Bool, List, length, Result, Ok, Err, ok_or, position, ◌==◌, nat_eq}
 use mathlib.Core.Bool.{beq}
 use Rattle.std.specs.Ordering.{on, eq_of_both}
@@ -23,7 +23,7 @@ remaining s = s.source.last - s.place
 abbrev pub bytes_left : Position → List ℕ
 bytes_left s = rest s.source s.place
 
--- where they stand
+-- where they are
 abbrev pub extent_of : Position → Extent
 extent_of s = record { first = s.place; last = s.source.last }
 
@@ -50,12 +50,24 @@ abbrev pub map_ok : {A B E : Type 0} → (A → B) → Result A E → Result B E
 map_ok f (Ok x) = Ok (f x)
 map_ok f (Err e) = Err e
 
--- What a call answered, seen by view, and where the reader then stands, are those of the read. The source stays.
+-- What a call returned, seen by view, and the place of the reader after it are those of the read. The source stays the same.
 abbrev pub Reads : {X A : Type 0} → (X → A) → Read A → Position → Result X Error → Position → Type 0
 Reads view read old answer new =
     (read old.source old.place ≡ record { value = map_ok view answer; place = new.place }) × (new.source ≡ old.source)
 
--- how many bytes stand before the first one of this value
+-- The same for readers of the code, whose position is given by `position`.
+abbrev pub ReadsBy : {R X A : Type 0} → (R → Position) → (X → A) → Read A → R → Result X Error → R → Type 0
+ReadsBy position view read old answer new = Reads view read (position old) answer (position new)
+
+-- The same for a call that returns the very value that is read.
+abbrev pub ReadsValue : {R A : Type 0} → (R → Position) → Read A → R → Result A Error → R → Type 0
+ReadsValue position read old answer new = Reads (λ x. x) read (position old) answer (position new)
+
+-- what a read gives at a position
+abbrev pub read_at : {A : Type 0} → Position → Read A → Result A Error
+read_at position read = (read position.source position.place).value
+
+-- how many bytes are before the first one of this value
 abbrev pub find_byte : ℕ → Position → Result ℕ Error
 find_byte b s = ok_or (position (λ x. x == b) (bytes_left s)) (unexpected_eof s.place)
 

@@ -1,37 +1,66 @@
--- The names of refusals, without what they carry.
-use Rattle.std.specs.Prelude.{ℕ, List, codes}
+-- The errors in order, each with its number and its name.
+--     number_of e, name_of e      the number, from 1 on, and the name, without what it carries
+--     errors      all of them, in the order of their numbers
+use Rattle.std.specs.Prelude.{ℕ, List, [], ◌∷◌, codes}
 use Rattle.cfi_read_core.specs.declared.error.Error.{Error}
 use Rattle.cfi_read_core.specs.declared.error.Error.TheVariants.{UnexpectedEof, BadUnsignedLeb128, BadSignedLeb128, UnknownReservedLength, UnsupportedAddressSize, UnsupportedOffset, UnsupportedRegister, AddressOverflow, UnknownVersion, UnsupportedSegmentSize, UnknownAugmentation, UnknownPointerEncoding, CannotParseOmitPointerEncoding, UnsupportedPointerEncoding, PcRelativePointerButSectionBaseIsUndefined, TextRelativePointerButTextBaseIsUndefined, DataRelativePointerButDataBaseIsUndefined, FuncRelativePointerInBadContext, UnsupportedIndirectPointer, NotCieId, NotCiePointer, NoEntryAtGivenOffset, OffsetOutOfBounds, UnknownCallFrameInstruction, CfiInstructionInInvalidContext, InvalidCfiSetLoc, StackFull, PopWithEmptyStack, TooManyRegisterRules, NoUnwindInfoForAddress, OutOfMemory}
 
+pub record NumberedName : Type 0 where
+  pub number : ℕ
+  pub name : List ℕ
+
+abbrev pub numbered : ℕ → List ℕ → NumberedName
+numbered number name = record { number = number; name = name }
+
+abbrev pub numbered_name : Error → NumberedName
+numbered_name (UnexpectedEof place) = numbered 1 (codes "UnexpectedEof")
+numbered_name BadUnsignedLeb128 = numbered 2 (codes "BadUnsignedLeb128")
+numbered_name BadSignedLeb128 = numbered 3 (codes "BadSignedLeb128")
+numbered_name (UnknownReservedLength n) = numbered 4 (codes "UnknownReservedLength")
+numbered_name (UnsupportedAddressSize n) = numbered 5 (codes "UnsupportedAddressSize")
+numbered_name UnsupportedOffset = numbered 6 (codes "UnsupportedOffset")
+numbered_name (UnsupportedRegister n) = numbered 7 (codes "UnsupportedRegister")
+numbered_name AddressOverflow = numbered 8 (codes "AddressOverflow")
+numbered_name (UnknownVersion n) = numbered 9 (codes "UnknownVersion")
+numbered_name (UnsupportedSegmentSize n) = numbered 10 (codes "UnsupportedSegmentSize")
+numbered_name UnknownAugmentation = numbered 11 (codes "UnknownAugmentation")
+numbered_name (UnknownPointerEncoding e) = numbered 12 (codes "UnknownPointerEncoding")
+numbered_name CannotParseOmitPointerEncoding = numbered 13 (codes "CannotParseOmitPointerEncoding")
+numbered_name (UnsupportedPointerEncoding e) = numbered 14 (codes "UnsupportedPointerEncoding")
+numbered_name PcRelativePointerButSectionBaseIsUndefined = numbered 15 (codes "PcRelativePointerButSectionBaseIsUndefined")
+numbered_name TextRelativePointerButTextBaseIsUndefined = numbered 16 (codes "TextRelativePointerButTextBaseIsUndefined")
+numbered_name DataRelativePointerButDataBaseIsUndefined = numbered 17 (codes "DataRelativePointerButDataBaseIsUndefined")
+numbered_name FuncRelativePointerInBadContext = numbered 18 (codes "FuncRelativePointerInBadContext")
+numbered_name UnsupportedIndirectPointer = numbered 19 (codes "UnsupportedIndirectPointer")
+numbered_name (NotCieId n) = numbered 20 (codes "NotCieId")
+numbered_name (NotCiePointer n) = numbered 21 (codes "NotCiePointer")
+numbered_name (NoEntryAtGivenOffset n) = numbered 22 (codes "NoEntryAtGivenOffset")
+numbered_name (OffsetOutOfBounds n) = numbered 23 (codes "OffsetOutOfBounds")
+numbered_name (UnknownCallFrameInstruction opcode) = numbered 24 (codes "UnknownCallFrameInstruction")
+numbered_name CfiInstructionInInvalidContext = numbered 25 (codes "CfiInstructionInInvalidContext")
+numbered_name (InvalidCfiSetLoc n) = numbered 26 (codes "InvalidCfiSetLoc")
+numbered_name StackFull = numbered 27 (codes "StackFull")
+numbered_name PopWithEmptyStack = numbered 28 (codes "PopWithEmptyStack")
+numbered_name TooManyRegisterRules = numbered 29 (codes "TooManyRegisterRules")
+numbered_name NoUnwindInfoForAddress = numbered 30 (codes "NoUnwindInfoForAddress")
+numbered_name OutOfMemory = numbered 31 (codes "OutOfMemory")
+
+abbrev pub number_of : Error → ℕ
+number_of e = (numbered_name e).number
+
 abbrev pub name_of : Error → List ℕ
-name_of (UnexpectedEof place) = codes "UnexpectedEof"
-name_of BadUnsignedLeb128 = codes "BadUnsignedLeb128"
-name_of BadSignedLeb128 = codes "BadSignedLeb128"
-name_of (UnknownReservedLength n) = codes "UnknownReservedLength"
-name_of (UnsupportedAddressSize n) = codes "UnsupportedAddressSize"
-name_of UnsupportedOffset = codes "UnsupportedOffset"
-name_of (UnsupportedRegister n) = codes "UnsupportedRegister"
-name_of AddressOverflow = codes "AddressOverflow"
-name_of (UnknownVersion n) = codes "UnknownVersion"
-name_of (UnsupportedSegmentSize n) = codes "UnsupportedSegmentSize"
-name_of UnknownAugmentation = codes "UnknownAugmentation"
-name_of (UnknownPointerEncoding e) = codes "UnknownPointerEncoding"
-name_of CannotParseOmitPointerEncoding = codes "CannotParseOmitPointerEncoding"
-name_of (UnsupportedPointerEncoding e) = codes "UnsupportedPointerEncoding"
-name_of PcRelativePointerButSectionBaseIsUndefined = codes "PcRelativePointerButSectionBaseIsUndefined"
-name_of TextRelativePointerButTextBaseIsUndefined = codes "TextRelativePointerButTextBaseIsUndefined"
-name_of DataRelativePointerButDataBaseIsUndefined = codes "DataRelativePointerButDataBaseIsUndefined"
-name_of FuncRelativePointerInBadContext = codes "FuncRelativePointerInBadContext"
-name_of UnsupportedIndirectPointer = codes "UnsupportedIndirectPointer"
-name_of (NotCieId n) = codes "NotCieId"
-name_of (NotCiePointer n) = codes "NotCiePointer"
-name_of (NoEntryAtGivenOffset n) = codes "NoEntryAtGivenOffset"
-name_of (OffsetOutOfBounds n) = codes "OffsetOutOfBounds"
-name_of (UnknownCallFrameInstruction opcode) = codes "UnknownCallFrameInstruction"
-name_of CfiInstructionInInvalidContext = codes "CfiInstructionInInvalidContext"
-name_of (InvalidCfiSetLoc n) = codes "InvalidCfiSetLoc"
-name_of StackFull = codes "StackFull"
-name_of PopWithEmptyStack = codes "PopWithEmptyStack"
-name_of TooManyRegisterRules = codes "TooManyRegisterRules"
-name_of NoUnwindInfoForAddress = codes "NoUnwindInfoForAddress"
-name_of OutOfMemory = codes "OutOfMemory"
+name_of e = (numbered_name e).name
+
+-- a name does not show what an error carries, so it is 0 here
+abbrev pub errors : List Error
+errors =
+    UnexpectedEof (record { 0 = 0 }) ∷ BadUnsignedLeb128 ∷ BadSignedLeb128 ∷
+    UnknownReservedLength 0 ∷ UnsupportedAddressSize 0 ∷ UnsupportedOffset ∷ UnsupportedRegister 0 ∷
+    AddressOverflow ∷ UnknownVersion 0 ∷ UnsupportedSegmentSize 0 ∷ UnknownAugmentation ∷
+    UnknownPointerEncoding (record { 0 = 0 }) ∷ CannotParseOmitPointerEncoding ∷
+    UnsupportedPointerEncoding (record { 0 = 0 }) ∷ PcRelativePointerButSectionBaseIsUndefined ∷
+    TextRelativePointerButTextBaseIsUndefined ∷ DataRelativePointerButDataBaseIsUndefined ∷
+    FuncRelativePointerInBadContext ∷ UnsupportedIndirectPointer ∷ NotCieId 0 ∷ NotCiePointer 0 ∷
+    NoEntryAtGivenOffset 0 ∷ OffsetOutOfBounds 0 ∷ UnknownCallFrameInstruction (record { 0 = 0 }) ∷
+    CfiInstructionInInvalidContext ∷ InvalidCfiSetLoc 0 ∷ StackFull ∷ PopWithEmptyStack ∷
+    TooManyRegisterRules ∷ NoUnwindInfoForAddress ∷ OutOfMemory ∷ []

@@ -6,7 +6,7 @@ ghost use Rattle.cfi_read_core.specs.ReaderCalls.{map_ok};
 use crate::error::{Error, Result};
 use std::alloc::AllocError;
 
-/// The size of an address in bytes: 1, 2, 4 or 8.
+/// The size of an address: 1, 2, 4 or 8 bytes.
 #[derive(Debug, PartialEq, Eq)]
 pub struct AddressSize {
     bytes: u8,
@@ -27,35 +27,38 @@ impl Clone for AddressSize {
 impl Copy for AddressSize {}
 
 impl AddressSize {
-    /// A size that is known to be 1, 2, 4 or 8.
+    ghost use Rattle.cfi_read_core.specs.AddressSizes.{size_in_bytes};
+
+    /// The size of so many bytes: 1, 2, 4 or 8.
     #[inline(always)]
     pub fn new(bytes: u8) -> Self
         requires { IsAddressSize bytes }
-        ensures { result.bytes ≡ bytes }
+        ensures { size_in_bytes result ≡ bytes }
     {
         AddressSize { bytes }
     }
 
-    /// How many bytes an address takes.
+    /// The size in bytes.
     #[inline(always)]
     pub fn bytes(self) -> u8
-        ensures { result ≡ self.bytes }
+        ensures { result ≡ size_in_bytes self }
     {
         self.bytes
     }
 }
 
-/// An address, whose sums are bounded by its size in bytes: 1, 2, 4 or 8.
+/// An address, with sums that respect its size.
 pub trait ReaderAddress: Copy {
     /// The number.
     ghost number: { Self → ℕ };
 
-    /// The sum, or `AddressOverflow` where it is no address of the size.
+    /// Adds `length` to an address of `size` bytes: 1, 2, 4 or 8. Returns
+    /// `Error::AddressOverflow` if the sum does not fit `size` bytes.
     fn add_sized(self, length: u64, size: u8) -> Result<Self>
         requires { IsAddressSize size }
         ensures { map_ok number result ≡ checked_sum (number self) length size };
 
-    /// The sum, which wraps at the size.
+    /// Adds `length` to an address of `size` bytes, 1, 2, 4 or 8, and wraps on overflow.
     fn wrapping_add_sized(self, length: u64, size: u8) -> Self
         requires { IsAddressSize size }
         ensures { number result ≡ wrap (number self) length size };

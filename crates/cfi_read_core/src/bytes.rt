@@ -1,8 +1,9 @@
-//! Numbers at a place of bytes, in either byte order.
+//! Numbers at an index of a slice of bytes, in either byte order.
 ghost use Rattle.std.specs.Prelude.{◌≡◌, ◌+◌, ◌≤◌, length, slice_range};
 ghost use Rattle.std.specs.Int.{w16, w32, w64};
 ghost use Rattle.cfi_read_core.specs.Numbers.{number_of};
 
+/// The two-byte number at index `at`.
 #[inline(always)]
 pub fn u16_at(bytes: &[u8], at: usize, big_endian: bool) -> u16
     requires { at + 2 ≤ length bytes.now }
@@ -16,6 +17,7 @@ pub fn u16_at(bytes: &[u8], at: usize, big_endian: bool) -> u16
     }
 }
 
+/// The four-byte number at index `at`.
 #[inline(always)]
 pub fn u32_at(bytes: &[u8], at: usize, big_endian: bool) -> u32
     requires { at + 4 ≤ length bytes.now }
@@ -29,6 +31,7 @@ pub fn u32_at(bytes: &[u8], at: usize, big_endian: bool) -> u32
     }
 }
 
+/// The eight-byte number at index `at`.
 #[inline(always)]
 pub fn u64_at(bytes: &[u8], at: usize, big_endian: bool) -> u64
     requires { at + 8 ≤ length bytes.now }

@@ -1,4 +1,4 @@
-//! The plain types that every layer names.
+//! Types that every layer uses: formats, encodings, registers, vendors, sections and offsets.
 ghost use Rattle.std.specs.Prelude.{◌≡◌, ◌≤◌, Ok, Err, nat_le, if◌then◌else◌};
 ghost use Rattle.cfi_read_core.specs.Numbers.{initial_length_size, register_of};
 
@@ -14,14 +14,14 @@ pub enum Format {
 }
 
 impl Format {
-    /// How many bytes an initial length takes: 4, or 12 in 64-bit DWARF (DWARF 5 section 7.4).
+    /// The size of an initial length in bytes: 4, or 12 in 64-bit DWARF (DWARF 5 section 7.4).
     #[inline(always)]
     pub fn initial_length_size(self) -> u8
         ensures { result ≡ initial_length_size self }
     {
         match self {
             Format::Dwarf32 => 4,
-            // A mark stands before the length.
+            // Four bytes mark the format; the length follows.
             Format::Dwarf64 => 4 + 8,
         }
     }
@@ -34,16 +34,16 @@ pub struct Encoding {
     pub format: Format,
     /// The version field.
     pub version: u16,
-    /// How many bytes an address takes: 1, 2, 4 or 8.
+    /// The size of an address in bytes: 1, 2, 4 or 8.
     pub address_size: u8,
 }
 
-/// The number of a register, as the processor's ABI gives it (DWARF 5 section 2.6.1.1.3).
+/// A register, by the number that the processor's ABI gives it (DWARF 5 section 2.6.1.1.3).
 #[derive(Clone, Copy, Debug, Default, PartialEq, Eq)]
 pub struct Register(pub u16);
 
 impl Register {
-    /// The register of a number. Numbers above 65535 are refused with `UnsupportedRegister`.
+    /// The register with this number. Returns `Error::UnsupportedRegister` if it is above 65535.
     #[inline(always)]
     pub fn from_u64(number: u64) -> Result<Register>
         ensures { result ≡ register_of number }
@@ -56,12 +56,12 @@ impl Register {
     }
 }
 
-/// Whose vendor opcodes are read (DWARF 5 section 7.24, `DW_CFA_lo_user` to `DW_CFA_hi_user`).
+/// Which vendor opcodes are known (DWARF 5 section 7.24, `DW_CFA_lo_user` to `DW_CFA_hi_user`).
 #[derive(Clone, Copy, Debug, PartialEq, Eq)]
 pub enum Vendor {
-    /// No vendor's but GNU's.
+    /// GNU extensions only.
     Default,
-    /// Those of the AArch64 ABI too.
+    /// GNU extensions and those of the AArch64 ABI.
     AArch64,
 }
 
@@ -102,6 +102,6 @@ impl<T> From<T> for EhFrameOffset<T> {
     }
 }
 
-/// The storage with room for 192 register rules a row and 4 rows, the rows on the heap.
+/// The storage with room for 192 register rules in a row and for 4 rows, which are on the heap.
 #[derive(Clone, Copy, Debug, PartialEq, Eq)]
 pub struct StoreOnHeap;

@@ -1,6 +1,7 @@
-//! The constants of DWARF 5 and of the LSB that the layer names.
+//! Constants of DWARF 5 and of the LSB: pointer encodings and call frame opcodes.
 ghost use Rattle.std.specs.Prelude.{◌≡◌, ◌*◌};
-ghost use Rattle.cfi_read_core.specs.PointerEncodings.{format_of, application_of, is_indirect, is_valid_encoding};
+ghost use Rattle.cfi_read_core.specs.PointerEncodings.{application_of, format_of, is_indirect};
+ghost use Rattle.cfi_read_core.specs.PointerEncodings.{is_valid_encoding};
 
 /// The encoding of a pointer (LSB Core, "DWARF Exception Header Encoding").
 #[derive(Clone, Copy, Debug, PartialEq, Eq)]
@@ -43,15 +44,15 @@ pub const DW_EH_PE_indirect: DwEhPe = DwEhPe(0x80);
 /// There is no value.
 pub const DW_EH_PE_omit: DwEhPe = DwEhPe(0xff);
 
-/// Moves on by the low six bits.
+/// Advances the location by a delta in the low six bits.
 pub const DW_CFA_advance_loc: DwCfa = DwCfa(0x40);
 /// The register of the low six bits is saved at an offset.
 pub const DW_CFA_offset: DwCfa = DwCfa(0x80);
 /// Restores the rule that the initial instructions gave the register of the low six bits.
 pub const DW_CFA_restore: DwCfa = DwCfa(0xc0);
-/// Nothing.
+/// No operation, for padding.
 pub const DW_CFA_nop: DwCfa = DwCfa(0x00);
-/// Moves to an address.
+/// Sets the location to an address.
 pub const DW_CFA_set_loc: DwCfa = DwCfa(0x01);
 /// Advances the location by a one-byte delta.
 pub const DW_CFA_advance_loc1: DwCfa = DwCfa(0x02);
@@ -65,45 +66,45 @@ pub const DW_CFA_offset_extended: DwCfa = DwCfa(0x05);
 pub const DW_CFA_restore_extended: DwCfa = DwCfa(0x06);
 /// The previous value of the register cannot be recovered.
 pub const DW_CFA_undefined: DwCfa = DwCfa(0x07);
-/// A register is as it was.
+/// A register keeps its previous value.
 pub const DW_CFA_same_value: DwCfa = DwCfa(0x08);
-/// A register is saved in another.
+/// A register is saved in another register.
 pub const DW_CFA_register: DwCfa = DwCfa(0x09);
-/// The rules are remembered.
+/// Pushes the current rules.
 pub const DW_CFA_remember_state: DwCfa = DwCfa(0x0a);
-/// The remembered rules come back.
+/// Pops the rules that were pushed last.
 pub const DW_CFA_restore_state: DwCfa = DwCfa(0x0b);
-/// The CFA is a register and an offset.
+/// The CFA is a register plus an offset.
 pub const DW_CFA_def_cfa: DwCfa = DwCfa(0x0c);
-/// The register of the CFA.
+/// Sets the register of the CFA.
 pub const DW_CFA_def_cfa_register: DwCfa = DwCfa(0x0d);
-/// The offset of the CFA.
+/// Sets the offset of the CFA.
 pub const DW_CFA_def_cfa_offset: DwCfa = DwCfa(0x0e);
-/// The CFA is an expression.
+/// The CFA is the value of an expression.
 pub const DW_CFA_def_cfa_expression: DwCfa = DwCfa(0x0f);
 /// A register is saved at the address of an expression.
 pub const DW_CFA_expression: DwCfa = DwCfa(0x10);
 /// A register is saved at a signed offset.
 pub const DW_CFA_offset_extended_sf: DwCfa = DwCfa(0x11);
-/// The CFA is a register and a signed offset.
+/// The CFA is a register plus a signed offset.
 pub const DW_CFA_def_cfa_sf: DwCfa = DwCfa(0x12);
-/// The signed offset of the CFA.
+/// Sets the signed offset of the CFA.
 pub const DW_CFA_def_cfa_offset_sf: DwCfa = DwCfa(0x13);
-/// A register is the CFA and an offset.
+/// A register's value is the CFA plus an offset.
 pub const DW_CFA_val_offset: DwCfa = DwCfa(0x14);
-/// A register is the CFA and a signed offset.
+/// A register's value is the CFA plus a signed offset.
 pub const DW_CFA_val_offset_sf: DwCfa = DwCfa(0x15);
-/// A register is the value of an expression.
+/// A register's value is the value of an expression.
 pub const DW_CFA_val_expression: DwCfa = DwCfa(0x16);
 /// Toggles the signing state of the return address (AArch64).
 pub const DW_CFA_AARCH64_negate_ra_state: DwCfa = DwCfa(0x2d);
 /// The size of the arguments on the stack (GNU).
 pub const DW_CFA_GNU_args_size: DwCfa = DwCfa(0x2e);
-/// `DW_CFA_GNU_negative_offset_extended`.
+/// A register is saved at the CFA minus an offset (GNU).
 pub const DW_CFA_GNU_negative_offset_extended: DwCfa = DwCfa(0x2f);
 
 impl DwEhPe {
-    /// The format alone, the low four bits.
+    /// The format: the low four bits.
     #[inline(always)]
     pub fn format(self) -> DwEhPe
         ensures { result.0 ≡ format_of self.0 }
@@ -111,7 +112,7 @@ impl DwEhPe {
         DwEhPe(self.0 % 16)
     }
 
-    /// The application alone, bits 4 to 6.
+    /// The application: bits 4 to 6.
     #[inline(always)]
     pub fn application(self) -> DwEhPe
         ensures { result.0 ≡ 16 * application_of self.0 }
@@ -127,7 +128,7 @@ impl DwEhPe {
         self.0 >= DW_EH_PE_indirect.0
     }
 
-    /// Whether the encoding is omit, or its format and its application are known.
+    /// Whether the encoding is `DW_EH_PE_omit`, or its format and its application are known.
     #[inline(always)]
     pub fn is_valid_encoding(self) -> bool
         ensures { result ≡ is_valid_encoding self.0 }

@@ -1,4 +1,4 @@
-//! Sections, by the reader that each has, and expressions.
+//! Sections over a reader, and expressions.
 ghost use Rattle.std.specs.Prelude.{◌≡◌};
 ghost use Rattle.cfi_read_core.specs.declared.common.SectionId.{SectionId};
 
@@ -9,10 +9,10 @@ pub trait Section<R>: From<R> {
     /// The section's reader.
     ghost bytes: { Self → R };
 
-    /// Which section it is.
+    /// The section's id.
     ghost ID: { SectionId };
 
-    /// Which section it is.
+    /// The section's id.
     fn id() -> SectionId
         ensures { result ≡ ID };
 
@@ -20,10 +20,10 @@ pub trait Section<R>: From<R> {
     fn reader(&self) -> &R
         ensures { result.now ≡ bytes self.now };
 
-    /// A section made from a reader has that reader.
+    /// A section made from a reader has that reader's bytes.
     ghost of_reader: { (r : R) (s : Self) → Self.from_gives r s → bytes s ≡ r };
 }
 
-/// A DWARF expression (DWARF 5 section 2.5): its bytes alone.
+/// The bytes of a DWARF expression (DWARF 5 section 2.5).
 #[derive(Clone, Copy, Debug, PartialEq, Eq)]
 pub struct Expression<R>(pub R);

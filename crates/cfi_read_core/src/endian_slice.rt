@@ -1,17 +1,17 @@
-//! Readers over a slice.
+//! A reader over a slice.
 ghost use Rattle.std.specs.Prelude.{◌≡◌, refl};
 ghost use Rattle.std.specs.Ordering.{on};
 ghost use Rattle.std.specs.Cmp.{on_per, on_equiv};
-ghost use Rattle.cfi_read_core.specs.ReaderCalls.{all_of, bytes_left};
-ghost use Rattle.cfi_read_core.specs.ReaderCalls.{same_reader, same_reader-per, same_reader-equiv};
-ghost use Rattle.cfi_read_core.specs.Windows.{slice_position};
+ghost use Rattle.cfi_read_core.specs.ReaderCalls.{bytes_left, same_reader, same_reader-equiv};
+ghost use Rattle.cfi_read_core.specs.ReaderCalls.{same_reader-per};
+ghost use Rattle.cfi_read_core.specs.Windows.{slice_over, slice_position};
 
 use crate::endianity::Endianity;
 use crate::error::{Error, ReaderOffsetId, Result};
 use crate::reader::Reader;
 use crate::window::Window;
 
-/// A reader over a slice, with offsets of the machine's word.
+/// A reader over a slice, with offsets of type `usize`.
 #[derive(Clone, Copy, Debug)]
 pub struct EndianSlice<'input, E> {
     window: Window<'input, { usize::MAX }>,
@@ -19,10 +19,10 @@ pub struct EndianSlice<'input, E> {
 }
 
 impl<'input, E: Endianity> EndianSlice<'input, E> {
-    /// A reader over all of the slice.
+    /// A reader over the whole slice.
     #[inline(always)]
     pub fn new(slice: &'input [u8], endian: E) -> Self
-        ensures { slice_position E.big_endian result ≡ all_of slice.now (E.big_endian endian) 18446744073709551615 }
+        ensures { slice_position E.big_endian result ≡ slice_over slice.now (E.big_endian endian) }
     {
         EndianSlice {
             window: Window::new(slice),
@@ -121,7 +121,11 @@ impl<'input, E: Endianity> Reader for EndianSlice<'input, E> {
         self.window.read_u64(big_endian)
     }
 
-    ghost sound = { λ r. record { ordered = r.window.ordered; within = r.window.within; fits = r.window.fits } };
+    ghost sound = { λ r. record {
+      ordered = r.window.ordered;
+      within = r.window.within;
+      fits = r.window.fits;
+    } };
 
     ghost equal = { λ x y. refl };
 

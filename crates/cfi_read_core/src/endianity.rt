@@ -6,28 +6,28 @@ use std::fmt::Debug;
 
 /// The order of the bytes of a number.
 pub trait Endianity: Copy + Debug + Eq {
-    /// Whether the most significant byte stands first.
+    /// Whether the most significant byte comes first.
     ghost big_endian: { Self → Bool };
 
-    /// Whether the most significant byte stands first.
+    /// Whether the most significant byte comes first.
     fn is_big_endian(self) -> bool
         ensures { result ≡ big_endian self };
 }
 
-/// The least significant byte stands first.
+/// The least significant byte comes first.
 #[derive(Clone, Copy, Debug, PartialEq, Eq)]
 pub struct LittleEndian;
 
-/// The most significant byte stands first.
+/// The most significant byte comes first.
 #[derive(Clone, Copy, Debug, PartialEq, Eq)]
 pub struct BigEndian;
 
-/// A byte order that is known when the program runs.
+/// A byte order that is chosen at run time.
 #[derive(Clone, Copy, Debug, PartialEq, Eq)]
 pub enum RunTimeEndian {
-    /// The least significant byte stands first.
+    /// The least significant byte comes first.
     Little,
-    /// The most significant byte stands first.
+    /// The most significant byte comes first.
     Big,
 }
 

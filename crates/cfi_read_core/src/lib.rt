@@ -1,4 +1,5 @@
-//! Readers over bytes, the numbers of DWARF, addresses, constants, and the refusals of the call frame layer.
+//! Readers over bytes, DWARF's numbers, addresses and constants, call frame instructions, the
+//! properties of call frame sections, and the errors of the call frame layer.
 #![tactic(auto)]
 
 pub mod address;
@@ -9,9 +10,11 @@ pub mod dwarf_section;
 pub mod endian_slice;
 pub mod endianity;
 pub mod error;
+pub mod instruction;
 pub mod narrow_slice;
 pub mod offset;
 pub mod reader;
+pub mod section_properties;
 mod window;
 
 pub use address::ReaderAddress;

@@ -1,10 +1,10 @@
-//! Readers over a slice of fewer than 4 GiB.
+//! A reader over a slice of less than 4 GiB.
 ghost use Rattle.std.specs.Prelude.{◌≡◌, refl};
 ghost use Rattle.std.specs.Ordering.{on};
 ghost use Rattle.std.specs.Cmp.{on_per, on_equiv};
-ghost use Rattle.cfi_read_core.specs.ReaderCalls.{same_reader, same_reader-per, same_reader-equiv};
-ghost use Rattle.cfi_read_core.specs.ReaderCalls.{bytes_left, map_ok};
-ghost use Rattle.cfi_read_core.specs.Windows.{narrow_position, narrow_over};
+ghost use Rattle.cfi_read_core.specs.ReaderCalls.{bytes_left, map_ok, same_reader};
+ghost use Rattle.cfi_read_core.specs.ReaderCalls.{same_reader-equiv, same_reader-per};
+ghost use Rattle.cfi_read_core.specs.Windows.{narrow_over, narrow_position};
 
 use crate::endianity::Endianity;
 use crate::error::{Error, ReaderOffsetId, Result};
@@ -13,7 +13,7 @@ use crate::window::Window;
 
 const GREATEST: usize = 4294967295;
 
-/// A reader over a slice, with offsets of four bytes.
+/// A reader over a slice, with offsets of type `u32`.
 #[derive(Clone, Copy, Debug)]
 pub struct NarrowSlice<'input, E> {
     window: Window<'input, GREATEST>,
@@ -21,7 +21,8 @@ pub struct NarrowSlice<'input, E> {
 }
 
 impl<'input, E: Endianity> NarrowSlice<'input, E> {
-    /// A reader over all of the slice, if its places are offsets of four bytes.
+    /// A reader over the whole slice. Returns `Error::UnsupportedOffset` if the slice has 4 GiB or
+    /// more.
     #[inline(always)]
     pub fn new(slice: &'input [u8], endian: E) -> Result<Self>
         ensures made { map_ok (narrow_position E.big_endian) result
@@ -127,7 +128,11 @@ impl<'input, E: Endianity> Reader for NarrowSlice<'input, E> {
         self.window.read_u64(big_endian)
     }
 
-    ghost sound = { λ r. record { ordered = r.window.ordered; within = r.window.within; fits = r.window.fits } };
+    ghost sound = { λ r. record {
+      ordered = r.window.ordered;
+      within = r.window.within;
+      fits = r.window.fits;
+    } };
 
     ghost equal = { λ x y. refl };
 

@@ -1,4 +1,4 @@
-//! Offsets of readers.
+//! The offset types of readers.
 ghost use Rattle.std.specs.Prelude.{◌≡◌, ℕ, ◌≤◌, ◌<◌, ◌^◌, Result, Ok, Err, true, ◌↔◌, refl};
 ghost use Rattle.std.specs.Option.{option_map};
 ghost use Rattle.cfi_read_core.specs.Offsets.{offset_up_to, difference};
@@ -7,7 +7,7 @@ ghost use Rattle.cfi_read_core.specs.ReaderCalls.{map_ok};
 use crate::error::{Error, Result};
 use std::fmt::Debug;
 
-/// A number that counts bytes of a reader.
+/// A type that counts the bytes of a reader.
 pub trait ReaderOffset: Copy + Eq + Ord + Debug {
     /// The number.
     ghost number: { Self → ℕ };
@@ -18,18 +18,20 @@ pub trait ReaderOffset: Copy + Eq + Ord + Debug {
     /// The type's greatest number.
     const GREATEST: u64;
 
-    /// The number as an offset, unless it is above the greatest one.
+    /// The number as an offset. Returns `Error::UnsupportedOffset` if it is above `GREATEST`.
     fn from_u64(value: u64) -> Result<Self>
         ensures { map_ok number result ≡ offset_up_to GREATEST value };
 
+    /// The offset as a number.
     fn into_u64(self) -> u64
         ensures value { result ≡ number self }
         ensures bound { result ≤ GREATEST };
 
+    /// The difference, or `None` if `other` is greater.
     fn checked_sub(self, other: Self) -> Option<Self>
         ensures { option_map number result ≡ difference (number self) (number other) };
 
-    /// Offsets of one number are one.
+    /// Offsets with the same number are equal.
     ghost exact: { (x y : Self) → number x ≡ number y → x ≡ y };
 }
 

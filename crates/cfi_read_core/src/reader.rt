@@ -1,12 +1,14 @@
-//! Readers: places in bytes from which numbers are read.
-ghost use Rattle.std.specs.Prelude.{◌≡◌, ℕ, ◌-◌, ◌≤◌, ◌==◌, IfOk, Ok};
+//! Readers: a place in bytes, from which numbers are read.
+ghost use Rattle.std.specs.Prelude.{◌≡◌, ℕ, ◌-◌, ◌≤◌, ◌<◌, ◌==◌, IfOk, Ok};
 ghost use Rattle.std.specs.Int.{w8, w16, w32, w64};
 ghost use Rattle.cfi_read_core.specs.ReadFunctions.{Position, skip, split};
-ghost use Rattle.cfi_read_core.specs.Numbers.{InitialLength, unsigned, signed, unsigned_leb128, signed_leb128, offset_leb128, register_leb128, initial_length, text};
+ghost use Rattle.cfi_read_core.specs.Numbers.{initial_length, initial_length_view, number_by};
+ghost use Rattle.cfi_read_core.specs.Numbers.{offset_leb128, register_leb128, signed};
+ghost use Rattle.cfi_read_core.specs.Numbers.{signed_leb128, text, unsigned, unsigned_leb128};
 ghost use Rattle.cfi_read_core.specs.Addresses.{address, address_size};
-ghost use Rattle.cfi_read_core.specs.ReaderCalls.{IsSound, IsPartOf, Reads, bytes_left, end_position, extent_of, find_byte, one_back, remaining, map_ok, same_reader};
-ghost use Rattle.std.specs.Prelude.{◌<◌};
-ghost use Rattle.cfi_read_core.specs.Numbers.{number_by};
+ghost use Rattle.cfi_read_core.specs.ReaderCalls.{IsPartOf, IsSound, Reads, ReadsBy, ReadsValue};
+ghost use Rattle.cfi_read_core.specs.ReaderCalls.{bytes_left, end_position, extent_of, find_byte};
+ghost use Rattle.cfi_read_core.specs.ReaderCalls.{map_ok, one_back, remaining, same_reader};
 
 use crate::common::{Format, Register};
 use crate::endianity::Endianity;
@@ -14,11 +16,12 @@ use crate::error::{Error, Result};
 use crate::offset::ReaderOffset;
 use std::fmt::Debug;
 
-/// A place in bytes, and the bytes that are left from there.
+/// A place in bytes, and the bytes that are left from there. A copy reads on its own.
 ///
-/// A refused `skip`, `split`, `find`, fixed-width read, address or text leaves the reader where it was. A read
-/// made of several parts leaves it after the parts that succeeded. `UnexpectedEof` names the place, in the whole
-/// bytes, of the first byte of what couldn't be read.
+/// If `skip`, `split`, `find`, or the read of a fixed-width number, an address or a text fails, the
+/// reader stays where it was. A read of several parts leaves it after the parts that succeeded.
+/// `Error::UnexpectedEof` holds the place of the first byte of what could not be read. Places count
+/// from the start of the bytes over which the reader was made.
 pub trait Reader: Copy + Debug + Eq {
     /// How the reader counts its bytes.
     type Offset: ReaderOffset;
@@ -26,51 +29,54 @@ pub trait Reader: Copy + Debug + Eq {
     /// The order of the bytes of a number.
     type Endian: Endianity;
 
-    /// Where the reader stands.
+    /// The reader's place, and the bytes around it.
     ghost position: { Self → Position };
 
     /// The order of the bytes of a number.
     fn endian(&self) -> Self::Endian
         ensures { Self.Endian.big_endian result ≡ (position self.now).source.big_endian };
 
-    /// How many bytes are left.
+    /// The number of bytes that are left.
     fn len(&self) -> Self::Offset
         ensures { Self.Offset.number result ≡ remaining (position self.now) };
 
-    /// The place in the whole bytes.
+    /// The place, counted from the start of the bytes over which the reader was made.
     fn place(&self) -> Self::Offset
         ensures { Self.Offset.number result ≡ (position self.now).place };
 
-    /// How many bytes stand before the first one of this value.
+    /// The number of bytes before the next one with this value. Returns `Error::UnexpectedEof` if
+    /// there is none.
     fn find(&self, byte: u8) -> Result<Self::Offset>
         ensures { map_ok Self.Offset.number result ≡ find_byte byte (position self.now) };
 
-    /// Skips `len` bytes.
+    /// Skips `len` bytes. Returns `Error::UnexpectedEof` if fewer are left.
     fn skip(&mut self, len: Self::Offset) -> Result<()>
-        ensures { Reads (λ x. x) (skip (Self.Offset.number len)) (position self.old) result (position self.new) };
+        ensures { ReadsValue position (skip (Self.Offset.number len)) self.old result self.new };
 
-    /// Splits off `len` bytes, and answers a reader of them.
+    /// Skips `len` bytes, and returns a reader of them. Returns `Error::UnexpectedEof` if fewer are
+    /// left.
     fn split(&mut self, len: Self::Offset) -> Result<Self>
-        ensures read { Reads (λ r. extent_of (position r)) (split (Self.Offset.number len)) (position self.old) result (position self.new) }
+        ensures read { ReadsBy position (λ r. extent_of (position r))
+            (split (Self.Offset.number len)) self.old result self.new }
         ensures part { IfOk result (λ r. IsPartOf (position r) (position self.old)) };
 
-    /// A byte.
+    /// Reads a byte.
     fn read_u8(&mut self) -> Result<u8>
-        ensures { Reads (λ x. x) (unsigned w8) (position self.old) result (position self.new) };
+        ensures { ReadsValue position (unsigned w8) self.old result self.new };
 
-    /// Two bytes as a number.
+    /// Reads a number of two bytes.
     fn read_u16(&mut self) -> Result<u16>
-        ensures { Reads (λ x. x) (unsigned w16) (position self.old) result (position self.new) };
+        ensures { ReadsValue position (unsigned w16) self.old result self.new };
 
-    /// Four bytes as a number.
+    /// Reads a number of four bytes.
     fn read_u32(&mut self) -> Result<u32>
-        ensures { Reads (λ x. x) (unsigned w32) (position self.old) result (position self.new) };
+        ensures { ReadsValue position (unsigned w32) self.old result self.new };
 
-    /// Eight bytes as a number.
+    /// Reads a number of eight bytes.
     fn read_u64(&mut self) -> Result<u64>
-        ensures { Reads (λ x. x) (unsigned w64) (position self.old) result (position self.new) };
+        ensures { ReadsValue position (unsigned w64) self.old result self.new };
 
-    /// Whether nothing is left.
+    /// Whether no bytes are left.
     #[inline(always)]
     fn is_empty(&self) -> bool
         ensures { result ≡ (remaining (position self.now) == 0) }
@@ -78,7 +84,7 @@ pub trait Reader: Copy + Debug + Eq {
         self.len().into_u64() == 0
     }
 
-    /// Passes all that is left.
+    /// Skips all bytes that are left.
     #[inline(always)]
     fn empty(&mut self)
         ensures { position self.new ≡ end_position (position self.old) }
@@ -86,11 +92,12 @@ pub trait Reader: Copy + Debug + Eq {
         let _ = self.skip(self.len());
     }
 
-    /// How far the place is past that of another reader of the same bytes.
+    /// The distance in bytes from `base`, a reader of the same bytes, to this reader.
     #[inline(always)]
     fn offset_from(&self, base: &Self) -> Self::Offset
         requires { (position base.now).place ≤ (position self.now).place }
-        ensures { Self.Offset.number result ≡ (position self.now).place - (position base.now).place }
+        ensures { Self.Offset.number result
+            ≡ (position self.now).place - (position base.now).place }
     {
         match self.place().checked_sub(base.place()) {
             Some(offset) => offset,
@@ -98,40 +105,41 @@ pub trait Reader: Copy + Debug + Eq {
         }
     }
 
-    /// Two bytes as a number in two's complement.
+    /// Reads a number of two bytes, in two's complement.
     #[tactic(auto, unfolding(crate::specs::Numbers::signed))]
     #[inline(always)]
     fn read_i16(&mut self) -> Result<i16>
-        ensures { Reads (λ x. x) (signed w16) (position self.old) result (position self.new) }
+        ensures { ReadsValue position (signed w16) self.old result self.new }
     {
         Ok(self.read_u16()?.cast_signed())
     }
 
-    /// Four bytes as a number in two's complement.
+    /// Reads a number of four bytes, in two's complement.
     #[tactic(auto, unfolding(crate::specs::Numbers::signed))]
     #[inline(always)]
     fn read_i32(&mut self) -> Result<i32>
-        ensures { Reads (λ x. x) (signed w32) (position self.old) result (position self.new) }
+        ensures { ReadsValue position (signed w32) self.old result self.new }
     {
         Ok(self.read_u32()?.cast_signed())
     }
 
-    /// Eight bytes as a number in two's complement.
+    /// Reads a number of eight bytes, in two's complement.
     #[tactic(auto, unfolding(crate::specs::Numbers::signed))]
     #[inline(always)]
     fn read_i64(&mut self) -> Result<i64>
-        ensures { Reads (λ x. x) (signed w64) (position self.old) result (position self.new) }
+        ensures { ReadsValue position (signed w64) self.old result self.new }
     {
         Ok(self.read_u64()?.cast_signed())
     }
 
-    /// An unsigned LEB128 number of at most ten bytes (DWARF 5 section 7.6). Padding is accepted; a tenth byte
-    /// that doesn't fit 64 bits is refused with `BadUnsignedLeb128`, and counts as read.
+    /// Reads an unsigned LEB128 number of at most ten bytes (DWARF 5 section 7.6). Accepts padding.
+    /// Returns `Error::BadUnsignedLeb128` if the tenth byte does not fit 64 bits; the reader is
+    /// then after that byte.
     #[inline(always)]
     final fn read_uleb128(&mut self) -> Result<u64>
-        ensures { Reads (λ x. x) unsigned_leb128 (position self.old) result (position self.new) }
+        ensures { ReadsValue position unsigned_leb128 self.old result self.new }
     {
-        // most numbers take one byte
+        // Most numbers take one byte.
         let first = self.read_u8()?;
         if first < 128 {
             return Ok(u64::from(first));
@@ -139,12 +147,13 @@ pub trait Reader: Copy + Debug + Eq {
         rest_of_uleb128(self, first)
     }
 
-    /// A signed LEB128 number of at most ten bytes (DWARF 5 section 7.6). Padding is accepted; a tenth byte that
-    /// doesn't repeat the sign is refused with `BadSignedLeb128`, and counts as read.
-    // Few numbers are signed, so that none is read in place.
+    /// Reads a signed LEB128 number of at most ten bytes (DWARF 5 section 7.6). Accepts padding.
+    /// Returns `Error::BadSignedLeb128` if the tenth byte does not repeat the sign; the reader is
+    /// then after that byte.
+    // Not inlined: few numbers are signed.
     #[inline(never)]
     final fn read_sleb128(&mut self) -> Result<i64>
-        ensures { Reads (λ x. x) signed_leb128 (position self.old) result (position self.new) }
+        ensures { ReadsValue position signed_leb128 self.old result self.new }
     {
         let mut value = 0u64;
         let mut weight = 1u64;
@@ -163,11 +172,14 @@ pub trait Reader: Copy + Debug + Eq {
         Ok(with_sign(tenth != 0, value, weight))
     }
 
-    /// The length of a unit, and its format (DWARF 5 section 7.4).
+    /// Reads the initial length of a unit, and returns it with the format (DWARF 5 section 7.4).
+    /// Returns `Error::UnknownReservedLength` for a reserved length, and `Error::UnsupportedOffset`
+    /// if the length does not fit the offset type.
     #[tactic(auto, unfolding(crate::specs::Numbers::initial_length))]
     #[inline(always)]
     fn read_initial_length(&mut self) -> Result<(Self::Offset, Format)>
-        ensures { Reads (λ p. record { length = Self.Offset.number p.0; format = p.1 }) initial_length (position self.old) result (position self.new) }
+        ensures { ReadsBy position (initial_length_view Self.Offset.number) initial_length
+            self.old result self.new }
     {
         let word = self.read_u32()?;
         if word < 0xffff_fff0 {
@@ -180,11 +192,12 @@ pub trait Reader: Copy + Debug + Eq {
         }
     }
 
-    /// An address of 1, 2, 4 or 8 bytes. Other sizes are refused with `UnsupportedAddressSize`.
+    /// Reads an address of `size` bytes. Returns `Error::UnsupportedAddressSize` if the size is not
+    /// 1, 2, 4 or 8.
     #[tactic(auto, unfolding(crate::specs::Addresses::address))]
     #[inline(always)]
     fn read_address(&mut self, size: u8) -> Result<u64>
-        ensures { Reads (λ x. x) (address size) (position self.old) result (position self.new) }
+        ensures { ReadsValue position (address size) self.old result self.new }
     {
         match size {
             1 => Ok(u64::from(self.read_u8()?)),
@@ -195,11 +208,12 @@ pub trait Reader: Copy + Debug + Eq {
         }
     }
 
-    /// A byte that is an address size: 1, 2, 4 or 8. Others are refused with `UnsupportedAddressSize`, and count as read.
+    /// Reads a byte that is an address size: 1, 2, 4 or 8. Returns `Error::UnsupportedAddressSize`
+    /// for another byte; the reader is then after it.
     #[tactic(auto, unfolding(crate::specs::Addresses::address_size))]
     #[inline(always)]
     fn read_address_size(&mut self) -> Result<u8>
-        ensures { Reads (λ x. x) address_size (position self.old) result (position self.new) }
+        ensures { ReadsValue position address_size self.old result self.new }
     {
         let size = self.read_u8()?;
         match size {
@@ -208,11 +222,13 @@ pub trait Reader: Copy + Debug + Eq {
         }
     }
 
-    /// The bytes before the next zero, which is passed.
+    /// Returns a reader of the bytes before the next zero, and skips them and the zero. Returns
+    /// `Error::UnexpectedEof` if there is no zero.
     #[tactic(auto, unfolding(crate::specs::Numbers::text))]
     #[inline(always)]
     fn read_null_terminated_slice(&mut self) -> Result<Self>
-        ensures read { Reads (λ r. bytes_left (position r)) text (position self.old) result (position self.new) }
+        ensures read { ReadsBy position (λ r. bytes_left (position r)) text
+            self.old result self.new }
         ensures part { IfOk result (λ r. IsPartOf (position r) (position self.old)) }
         ensures place { IfOk result (λ r. (position r).place ≡ (position self.old).place) }
     {
@@ -222,44 +238,46 @@ pub trait Reader: Copy + Debug + Eq {
         Ok(text)
     }
 
-    /// A reader's places are in order, within its bytes, and offsets.
+    /// A reader's places are in order, within its bytes, and fit the offset type.
     ghost sound: { (r : Self) → IsSound (position r) };
 
-    /// Readers are equal where what is left and the byte order are.
+    /// Readers are equal if the bytes that are left and the byte order are.
     ghost equal: { (x y : Self) → Self.PartialEq.eq x y ≡ same_reader (position x) (position y) };
 
-    /// The greatest offset is the offset type's.
+    /// The greatest offset is that of the offset type.
     ghost greatest: { (r : Self) → (position r).source.greatest ≡ Self.Offset.GREATEST };
 }
 
-/// A LEB128 number that has to be an offset. One that does not fit the offset type is refused with
-/// `UnsupportedOffset`, and counts as read.
+/// Reads a LEB128 number as an offset. Returns `Error::UnsupportedOffset` if it does not fit the
+/// offset type; the reader is then after the number.
 #[tactic(auto, unfolding(crate::specs::Numbers::offset_leb128))]
 #[inline(always)]
 pub fn read_offset<R: Reader>(input: &mut R) -> Result<R::Offset>
-    ensures { Reads R.Offset.number offset_leb128 (R.position input.old) result (R.position input.new) }
+    ensures { ReadsBy R.position R.Offset.number offset_leb128 input.old result input.new }
 {
     R::Offset::from_u64(input.read_uleb128()?)
 }
 
-/// A LEB128 number that has to be a register's. One above 65535 is refused with `UnsupportedRegister`, and counts as
-/// read.
+/// Reads a LEB128 number as a register. Returns `Error::UnsupportedRegister` if it is above 65535;
+/// the reader is then after the number.
 #[tactic(auto, unfolding(crate::specs::Numbers::register_leb128))]
-// Most registers stand in their opcodes, so that none is read in place.
+// Not inlined: most registers are part of their opcode.
 #[inline(never)]
 pub fn read_register<R: Reader>(input: &mut R) -> Result<Register>
-    ensures { Reads (λ x. x) register_leb128 (R.position input.old) result (R.position input.new) }
+    ensures { ReadsValue R.position register_leb128 input.old result input.new }
 {
     Register::from_u64(input.read_uleb128()?)
 }
 
-// An unsigned LEB128 number of two bytes or more, whose first byte was read last. It stands apart, so that callers hold
-// the path of one byte alone.
+/// The unsigned LEB128 number of two bytes or more whose first byte was just read.
+// Not inlined, so that callers inline only the case of one byte.
 #[inline(never)]
 fn rest_of_uleb128<R: Reader>(input: &mut R, first: u8) -> Result<u64>
     requires goes_on { 128 ≤ first }
-    requires first { Reads (λ x. x) (unsigned w8) (one_back (R.position input.old)) (Ok first) (R.position input.old) }
-    ensures { Reads (λ x. x) unsigned_leb128 (one_back (R.position input.old)) result (R.position input.new) }
+    requires first { Reads (λ x. x) (unsigned w8)
+        (one_back (R.position input.old)) (Ok first) (R.position input.old) }
+    ensures { Reads (λ x. x) unsigned_leb128
+        (one_back (R.position input.old)) result (R.position input.new) }
 {
     let mut value = u64::from(first % 128);
     let mut weight = 128u64;
@@ -277,7 +295,7 @@ fn rest_of_uleb128<R: Reader>(input: &mut R, first: u8) -> Result<u64>
     unreachable!()
 }
 
-/// The number of these bits below the weight, less the weight where the sign is set.
+/// `value`, minus `weight` if the sign is set.
 #[inline(always)]
 fn with_sign(is_negative: bool, value: u64, weight: u64) -> i64
     requires below { value < weight }

@@ -1,11 +1,12 @@
-//! A stretch of a slice, from which the readers over slices read.
+//! A range of a slice, from which the readers over slices read.
 ghost use Rattle.std.specs.Prelude.{◌≡◌, ◌≤◌, ⊤, length};
 
 use crate::bytes::{u16_at, u32_at, u64_at};
 use crate::error::{Error, ReaderOffsetId, Result};
 use std::alloc::AllocError;
 
-/// The bytes from one place of a slice to another, where every place is at most the greatest one.
+/// The bytes of a slice from the place `first` up to `last`. Places count from the start of the
+/// slice, and are at most `GREATEST`.
 #[derive(Debug)]
 pub struct Window<'input, const GREATEST: usize> {
     whole: &'input [u8],
@@ -30,21 +31,19 @@ impl<const GREATEST: usize> Clone for Window<'_, GREATEST> {
 impl<const GREATEST: usize> Copy for Window<'_, GREATEST> {}
 
 impl<'input, const GREATEST: usize> Window<'input, GREATEST> {
-    ghost use Rattle.std.specs.Prelude.{ℕ, Bool, ◌-◌, ◌==◌, ok_or, position, true};
+    ghost use Rattle.std.specs.Prelude.{Bool, IfOk, ◌==◌, position};
     ghost use Rattle.std.specs.Int.{w8, w16, w32, w64};
-    ghost use Rattle.std.specs.Prelude.{IfOk};
     ghost use Rattle.cfi_read_core.specs.ReadFunctions.{skip, split};
     ghost use Rattle.cfi_read_core.specs.Numbers.{unsigned};
-    ghost use Rattle.cfi_read_core.specs.ReaderCalls.{IsPartOf, Reads, extent_of};
-    ghost use Rattle.cfi_read_core.specs.Windows.{position_of, ReadsIn, ReadsWindow, stretch};
+    ghost use Rattle.cfi_read_core.specs.ReaderCalls.{IsPartOf, Reads, all_of, extent_of};
+    ghost use Rattle.cfi_read_core.specs.Windows.{ReadsIn, ReadsWindow, byte_count, first_place};
+    ghost use Rattle.cfi_read_core.specs.Windows.{position_of, stretch};
 
-    /// All of the slice.
+    /// The whole slice.
     #[inline(always)]
     pub fn new(whole: &'input [u8]) -> Self
         requires { length whole.now ≤ GREATEST }
-        ensures whole { result.whole.now ≡ whole.now }
-        ensures first { result.first ≡ 0 }
-        ensures last { result.last ≡ length whole.now }
+        ensures { (big : Bool) → position_of result big ≡ all_of whole.now big GREATEST }
     {
         Window {
             whole,
@@ -53,21 +52,23 @@ impl<'input, const GREATEST: usize> Window<'input, GREATEST> {
         }
     }
 
+    /// The place of the first byte.
     #[inline(always)]
     pub fn place(&self) -> usize
-        ensures { result ≡ self.now.first }
+        ensures { result ≡ first_place self.now }
     {
         self.first
     }
 
+    /// The number of bytes.
     #[inline(always)]
     pub fn len(&self) -> usize
-        ensures { result ≡ self.now.last - self.now.first }
+        ensures { result ≡ byte_count self.now }
     {
         self.last - self.first
     }
 
-    /// The bytes of the stretch.
+    /// The bytes.
     #[inline(always)]
     pub fn slice(&self) -> &'input [u8]
         ensures { result.now ≡ stretch self.now }
@@ -75,7 +76,7 @@ impl<'input, const GREATEST: usize> Window<'input, GREATEST> {
         &self.whole[self.first..self.last]
     }
 
-    /// How many bytes stand before the first one of this value.
+    /// The number of bytes before the first one with this value, or `None` if there is none.
     #[inline(always)]
     pub fn find(&self, byte: u8) -> Option<usize>
         ensures { result ≡ position (λ x. x == byte) (stretch self.now) }
@@ -83,6 +84,7 @@ impl<'input, const GREATEST: usize> Window<'input, GREATEST> {
         self.slice().iter().position(|x| *x == byte)
     }
 
+    /// Skips `len` bytes. Returns `Error::UnexpectedEof` if fewer are left.
     #[inline(always)]
     pub fn skip(&mut self, len: usize) -> Result<()>
         ensures { ReadsWindow (skip len) self.old result self.new }
@@ -94,10 +96,13 @@ impl<'input, const GREATEST: usize> Window<'input, GREATEST> {
         Ok(())
     }
 
+    /// Splits off the first `len` bytes. Returns `Error::UnexpectedEof` if fewer are left.
     #[inline(always)]
     pub fn split(&mut self, len: usize) -> Result<Self>
-        ensures read { (big : Bool) → Reads (λ w. extent_of (position_of w big)) (split len) (position_of self.old big) result (position_of self.new big) }
-        ensures part { (big : Bool) → IfOk result (λ w. IsPartOf (position_of w big) (position_of self.old big)) }
+        ensures read { (big : Bool) → Reads (λ w. extent_of (position_of w big)) (split len)
+            (position_of self.old big) result (position_of self.new big) }
+        ensures part { (big : Bool) →
+            IfOk result (λ w. IsPartOf (position_of w big) (position_of self.old big)) }
     {
         if self.len() < len {
             return Err(Error::UnexpectedEof(ReaderOffsetId(self.first as u64)));
@@ -111,6 +116,7 @@ impl<'input, const GREATEST: usize> Window<'input, GREATEST> {
         Ok(front)
     }
 
+    /// Reads a byte.
     #[tactic(auto, unfolding(crate::specs::Numbers::unsigned))]
     #[inline(always)]
     pub fn read_u8(&mut self) -> Result<u8>
@@ -124,6 +130,7 @@ impl<'input, const GREATEST: usize> Window<'input, GREATEST> {
         Ok(value)
     }
 
+    /// Reads a number of two bytes.
     #[tactic(auto, unfolding(crate::specs::Numbers::unsigned))]
     #[inline(always)]
     pub fn read_u16(&mut self, big_endian: bool) -> Result<u16>
@@ -137,6 +144,7 @@ impl<'input, const GREATEST: usize> Window<'input, GREATEST> {
         Ok(value)
     }
 
+    /// Reads a number of four bytes.
     #[tactic(auto, unfolding(crate::specs::Numbers::unsigned))]
     #[inline(always)]
     pub fn read_u32(&mut self, big_endian: bool) -> Result<u32>
@@ -150,6 +158,7 @@ impl<'input, const GREATEST: usize> Window<'input, GREATEST> {
         Ok(value)
     }
 
+    /// Reads a number of eight bytes.
     #[tactic(auto, unfolding(crate::specs::Numbers::unsigned))]
     #[inline(always)]
     pub fn read_u64(&mut self, big_endian: bool) -> Result<u64>

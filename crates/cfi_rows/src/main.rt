@@ -1,46 +1,33 @@
 //! Prints the unwind row of an address.
 //!
-//! The words name the section, its byte order, the size of an address and the address; standard input holds the
-//! section in hexadecimal, and where a header of `.eh_frame` is asked for, the header after the first line. `run` says
-//! what is printed.
+//! The words name the section, its byte order, the size of an address and the address; standard
+//! input is the section in hexadecimal, and where a header of `.eh_frame` is asked for, the header
+//! after the first line. `cfi_programs::rows::run::run` says what is printed.
 #![tactic(auto)]
 
-ghost use Rattle.std.specs.Prelude.{ℕ, List, IfSome, option_map};
-ghost use Rattle.std.specs.Io.KnownBytes.{Appends};
+ghost use Rattle.std.specs.Prelude.{ℕ, List, Option};
 ghost use Rattle.std.specs.Process.{exit_status};
-ghost use Rattle.cfi_program.specs.Runs.{IsRun};
-ghost use Rattle.cfi_program.specs.Words.{texts};
-ghost use Rattle.cfi_rows_run.specs.ProgramOutput.{answers};
+ghost use Rattle.cfi_programs.specs.RowsProgramOutput.{rows_tool};
+ghost use Rattle.cfi_programs.specs.Runs.{PrintsRun};
 
 #[cfg(test)]
 mod tests;
 
-use cfi_program::words::{texts_of, words_after_name};
-use cfi_rows_run::run::run;
-use std::alloc::Global;
+use cfi_programs::rows::Request;
+use cfi_programs::run::run_process;
+use std::alloc::AllocGlobal;
 use std::io::{Read, Write};
 use std::process::ExitCode;
+use std::rt::Env;
 
 fn main(rt: HostRuntime) -> ExitCode {
-    let alloc = rt.alloc();
-    let words = words_after_name(&rt).ok();
-    let texts = match &words {
-        Some(words) => texts_of(alloc, words.as_slice()).ok(),
-        None => None,
-    };
-    run_for(alloc, texts.as_deref(), &mut rt.stdin(), &mut rt.stdout())
+    run(&rt, &mut rt.stdin(), &mut rt.stdout())
 }
 
-/// Runs the program, and ends with its status.
-fn run_for<R: Read, W: Write>(
-    alloc: Global,
-    words: Option<&[&str]>,
-    input: &mut R,
-    output: &mut W,
-) -> ExitCode
-    ensures { IfSome (R.remaining input.old) (λ bytes. (written : List ℕ)
-        × Appends (W.contents output.old) (W.contents output.new) written
-        × IsRun answers (option_map (λ list. texts list.now) words.entry) bytes written (exit_status result)) }
+/// Runs the program by the words of the process, and returns the status with which it ends.
+fn run<P: Env + AllocGlobal, R: Read, W: Write>(rt: &P, input: &mut R, output: &mut W) -> ExitCode
+    ensures { (words : Option (List (List ℕ))) × PrintsRun rows_tool words (R.remaining input.old)
+        (W.contents output.old) (W.contents output.new) (exit_status result) }
 {
-    ExitCode::from(run(alloc, words, input, output))
+    run_process::<Request, P, R, W>(rt, input, output)
 }

@@ -1,13 +1,14 @@
-//! Whole runs over memory: worked sections, wrong words and input, cut sections, failing input and output.
+//! Whole runs over memory: worked sections, wrong words and input, cut sections, failing input and
+//! output.
 mod cuts;
 mod extensions;
 mod failing;
 mod header;
 
 use cfi_parts::instruction::UnwindExpression;
-use cfi_program::lines::{Address, write_part};
-use cfi_program::row_line::{Cfa, Rule};
-use cfi_rows_run::run::run;
+use cfi_programs::lines::{Address, write_part};
+use cfi_programs::row_line::{Cfa, Rule};
+use cfi_programs::rows::run::run;
 use cfi_state::table::rules::{CfaRule, RegisterRule};
 use std::alloc::{AllocError, Global};
 use std::io;
@@ -15,7 +16,8 @@ use std::io::Write;
 use std::process::Abort;
 use std::test::Fail;
 
-/// In a table it stands as `CIE`: version 4, addresses of 8 bytes, factors 1 and -8, return register 16; r7+8, r16 at -8.
+/// In a table it stands as `CIE`: version 4, addresses of 8 bytes, factors 1 and -8, return
+/// register 16; r7+8, r16 at -8.
 const CIE: &str = "10000000 ffffffff 04000800 017810 0c0708 9001";
 
 /// The same with addresses of 4 bytes, in a table `NARROW`.
@@ -24,7 +26,8 @@ const NARROW: &str = "10000000 ffffffff 04000400 017810 0c0708 9001";
 /// An FDE's CIE pointer 0, start 0x1000 and range 0x20, after its length; in a table `RANGE`.
 const RANGE: &str = "00000000 0010000000000000 2000000000000000";
 
-/// A line a case: its name, the words, the input, and the line that is printed. `same` is the input of the case above.
+/// A line a case: its name, the words, the input, and the line that is printed. `same` is the input
+/// of the case above.
 struct Table {
     /// What stands before each input.
     before: &'static str,
@@ -275,7 +278,8 @@ fn write_many_rules_line(line: &mut String, alloc: Global) -> Result<(), AllocEr
     Ok(())
 }
 
-/// What 193 rules are answered in the fixed storage, in which they have no room in a row, and in the growing one.
+/// What 193 rules are answered in the fixed storage, in which they have no room in a row, and in
+/// the growing one.
 fn check_many_rules(rt: &(impl Abort + AllocGlobal), text: &str, line: &str) -> Result<(), Fail> {
     let name = "193 rules";
     let refused = ("refused TooManyRegisterRules", 1);

@@ -7,8 +7,8 @@ use Rattle.cfi_read_core.specs.ReaderCalls.{map_ok}
 use Rattle.cfi_read_core.specs.declared.common.Register.{Register}
 use Rattle.cfi_read_core.specs.declared.error.Error.{Error}
 use Rattle.cfi_read_core.specs.declared.error.Error.TheVariants.{TooManyRegisterRules}
-use Rattle.cfi_instruction.specs.declared.instruction.CallFrameInstruction.{CallFrameInstruction}
-use Rattle.cfi_instruction.specs.declared.instruction.CallFrameInstruction.TheVariants.{Restore}
+use Rattle.cfi_read_core.specs.declared.instruction.CallFrameInstruction.{CallFrameInstruction}
+use Rattle.cfi_read_core.specs.declared.instruction.CallFrameInstruction.TheVariants.{Restore}
 use Rattle.cfi_state.specs.declared.table.rules.CfaRule.{CfaRule}
 use Rattle.cfi_state.specs.declared.table.rules.CfaRule.TheVariants as cfa
 use Rattle.cfi_state.specs.declared.table.rules.RegisterRule.{RegisterRule}

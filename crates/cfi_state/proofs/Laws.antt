@@ -16,20 +16,20 @@ use Rattle.std.proofs.lemmas.Bool.{false≢true, and_from, and_parts, leb-true, 
 use Rattle.cfi_read_core.specs.ReadFunctions.{Readings}
 use Rattle.cfi_read_core.specs.declared.error.Error.{Error}
 use Rattle.cfi_read_core.specs.declared.error.Error.TheVariants.{OutOfMemory}
-use Rattle.cfi_instruction.specs.declared.instruction.CallFrameInstruction.{CallFrameInstruction}
+use Rattle.cfi_read_core.specs.declared.instruction.CallFrameInstruction.{CallFrameInstruction}
 use Rattle.cfi_state.specs.Row.{Row}
 use Rattle.cfi_state.specs.MachineSettings.{Setting, is_move}
 use Rattle.cfi_state.specs.Machine.{State}
 use Rattle.cfi_state.specs.MachineRuns.{MayAllocate, AreNever, AnswersFde}
-use Rattle.cfi_state.specs.KeptInstructions.{AnswersByKept}
+use Rattle.cfi_state.specs.AcceptedInstructions.{AnswersByAccepted}
 use Rattle.cfi_state.specs.MemoryOnTheWay.{AnswersOrRunsOut}
 use Rattle.cfi_state.specs.Program.{Program, in_fde, followed_by, location_of, refusal}
 use Rattle.cfi_state.specs.FdeAnswers.{or_refused, on_option, on_result, refusals, row_until, answers_of, answers, cie_refusal, run_answers, program_state, IsStateAfter, rows_of, row_contains, AreConsecutive, answer_at, fde_answer, run_fde_answer}
 use Rattle.cfi_state.proofs.Law.{location_push}
 use Rattle.cfi_state.proofs.IsStateAfter.{cie_law, cie_accepted, run_law}
-use Rattle.cfi_state.proofs.KeptAnswers.{answers-other, answers-move, answers-refused, answers_by_kept}
+use Rattle.cfi_state.proofs.AcceptedAnswers.{answers-other, answers-move, answers-refused, answers_by_kept}
 use Rattle.cfi_state.proofs.MemoryOnTheWay.{moves_on, still_there, kept_is_due, due_is_kept, never_out}
-use Rattle.cfi_state.proofs.KeptRuns.{run_of_kept}
+use Rattle.cfi_state.proofs.AcceptedRuns.{run_of_kept}
 
 module _ {T : Type 0} where
   -- ---- consecutive rows
@@ -164,7 +164,7 @@ module _ {T : Type 0} (allocates : MayAllocate T) (s : Setting) (cie fde : Readi
 
   module _ (result : Result (Row T) Error) (answered : AnswersOrRunsOut allocates s cie fde address result) where
     -- It is what the kept instructions give, where an instruction is left out whose memory is refused.
-    pub by_kept : AnswersByKept allocates s cie fde address result
+    pub by_kept : AnswersByAccepted allocates s cie fde address result
     by_kept = due_is_kept allocates s address cie fde result answered
 
     -- It is what a run of the machine gives, where an instruction may be refused for lack of memory.

@@ -15,8 +15,8 @@ pub mod MappedSteps
 pub mod RunSteps
 pub mod MappedRuns
 pub mod RunAnswers
-pub mod KeptAnswers
-pub mod KeptRuns
+pub mod AcceptedAnswers
+pub mod AcceptedRuns
 pub mod MemoryOnTheWay
 pub mod Laws
 pub mod RowExpressions

@@ -4,9 +4,9 @@ use Rattle.std.specs.Option.{option_map}
 use Rattle.std.specs.Result.{IsOk}
 use Rattle.cfi_read_core.specs.ReaderCalls.{map_ok}
 use Rattle.cfi_read_core.specs.declared.error.Error.{Error}
-use Rattle.cfi_instruction.specs.declared.instruction.CallFrameInstruction.{CallFrameInstruction}
+use Rattle.cfi_read_core.specs.declared.instruction.CallFrameInstruction.{CallFrameInstruction}
 use Rattle.cfi_state.specs.Actions.{Action, gives_rule, restores_rule, toggles_sign_state, action}
-use Rattle.cfi_instruction.specs.MappedInstructions.{map_instruction}
+use Rattle.cfi_read_core.specs.MappedInstructions.{map_instruction}
 use Rattle.cfi_state.specs.MachineSettings.{Setting}
 use Rattle.cfi_state.specs.Machine.{Rules, State, step, end_of_cie}
 use Rattle.cfi_state.specs.AllocatingOperations.{IsRefusal}

@@ -7,8 +7,8 @@ use Rattle.cfi_read_core.specs.ReaderCalls.{map_ok}
 use Rattle.cfi_read_core.specs.declared.common.Register.{Register}
 use Rattle.cfi_read_core.specs.declared.error.Error.{Error}
 use Rattle.cfi_read_core.specs.declared.error.Error.TheVariants.{StackFull, TooManyRegisterRules}
-use Rattle.cfi_instruction.specs.declared.instruction.CallFrameInstruction.{CallFrameInstruction}
-use Rattle.cfi_instruction.specs.declared.instruction.CallFrameInstruction.TheVariants as instruction
+use Rattle.cfi_read_core.specs.declared.instruction.CallFrameInstruction.{CallFrameInstruction}
+use Rattle.cfi_read_core.specs.declared.instruction.CallFrameInstruction.TheVariants as instruction
 use Rattle.cfi_state.specs.declared.table.rules.CfaRule.{CfaRule}
 use Rattle.cfi_state.specs.declared.table.rules.CfaRule.TheVariants as cfa
 use Rattle.cfi_state.specs.declared.table.rules.RegisterRule.{RegisterRule}
@@ -16,7 +16,7 @@ use Rattle.cfi_state.specs.declared.table.rules.RegisterRule.TheVariants as rule
 use Rattle.cfi_state.specs.MachineSettings.{Setting, ra_sign_state, is_at_limit, moves, is_move}
 use Rattle.cfi_state.specs.Actions.{Action, sets_location, advances_location, defines_cfa, defines_cfa_register, defines_cfa_offset, defines_cfa_expression, gives_rule, restores_rule, toggles_sign_state, remembers_state, restores_state, sets_args_size, changes_nothing, action}
 use Rattle.cfi_state.specs.Machine.{Rules, Parts, State, fresh_state, copies_held, rows_held, with_rules, set_rule, set_or_remove_rule, restore_rule, set_cfa_register, set_cfa_offset, toggle, restore_state, perform, step, end_of_cie}
-use Rattle.cfi_instruction.specs.MappedInstructions.{map_expression, map_instruction}
+use Rattle.cfi_read_core.specs.MappedInstructions.{map_expression, map_instruction}
 use Rattle.cfi_state.specs.MappedStates.{map_cfa, map_rule, map_rules, map_parts, map_state}
 use Rattle.cfi_state.proofs.MappedMaps.{get-map_values, len-map_values, contains-map_values, insert-map_values, remove-map_values, empty-map_values}
 

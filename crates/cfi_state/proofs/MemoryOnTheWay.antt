@@ -11,7 +11,7 @@ use Rattle.std.proofs.lemmas.List.{append-nil}
 use Rattle.cfi_read_core.specs.ReadFunctions.{Readings, with_first, no_values}
 use Rattle.cfi_read_core.specs.declared.error.Error.{Error}
 use Rattle.cfi_read_core.specs.declared.error.Error.TheVariants.{OutOfMemory, NoUnwindInfoForAddress}
-use Rattle.cfi_instruction.specs.declared.instruction.CallFrameInstruction.{CallFrameInstruction}
+use Rattle.cfi_read_core.specs.declared.instruction.CallFrameInstruction.{CallFrameInstruction}
 use Rattle.cfi_state.specs.Row.{Row}
 use Rattle.cfi_state.specs.Actions.{Action, sets_location, advances_location, action}
 use Rattle.cfi_state.specs.MachineSettings.{Setting, location_after, moves, next_location, is_move}
@@ -19,10 +19,10 @@ use Rattle.cfi_state.specs.Program.{Program, in_cie, in_fde, followed_by, refuse
 use Rattle.cfi_state.specs.FdeAnswers.{or_refused, on_option, row_until, answers_of, answer_at, row_contains, answers, first_refusal, cie_refusal, program_state}
 use Rattle.cfi_state.specs.UnwindTableStates.{TableState, before_last_row, after_last_row, answers_to_come, IsNext}
 use Rattle.cfi_state.specs.MachineRuns.{MayAllocate, AreNever, FindsRow, contains_it, goes_on, is_refused, comes_to_end}
-use Rattle.cfi_state.specs.KeptInstructions.{IsLeftOut, NextKeptAnswer, keeps, keeps_move, leaves_out, finds_unreadable, gives_last_row, gives_no_row, KeepsInitialInstructions, cie_keeps, cie_leaves_out, cie_finds_unreadable, cie_is_kept, cie_end_left_out, AnswersByKept, refused_by_cie, found_in_rows}
+use Rattle.cfi_state.specs.AcceptedInstructions.{IsLeftOut, NextAcceptedAnswer, keeps, keeps_move, leaves_out, finds_unreadable, gives_last_row, gives_no_row, AcceptsInitialInstructions, cie_keeps, cie_leaves_out, cie_finds_unreadable, cie_is_kept, cie_end_left_out, AnswersByAccepted, refused_by_cie, found_in_rows}
 use Rattle.cfi_state.specs.MemoryOnTheWay.{has_passed, reaches_allocation, may_allocate_on_the_way, AnswersOrRunsOut}
 use Rattle.cfi_state.proofs.Law.{location_push}
-use Rattle.cfi_state.proofs.KeptAnswers.{answers-other, answers-move, answers-refused}
+use Rattle.cfi_state.proofs.AcceptedAnswers.{answers-other, answers-move, answers-refused}
 
 -- ---- tests and options
 
@@ -143,7 +143,7 @@ module _ {T : Type 0} (allocates : MayAllocate T) (s : Setting) (address : ℕ) 
   left_out_due p i rest e here (inl is) = inl (answers-refused s p i rest.values rest.refusal e is)
   left_out_due p i rest e here (inr wanting) = inr (still_reached p i rest.values here wanting.1 (inl wanting.0), ap Err wanting.2)
 
-  next_due : (p : TableState (Program T) T) (answer : Result (Option (Row T)) Error) (q : TableState (Program T) T) → NextKeptAnswer allocates s p answer q → has_passed s address p.so_far ≡ false
+  next_due : (p : TableState (Program T) T) (answer : Result (Option (Row T)) Error) (q : TableState (Program T) T) → NextAcceptedAnswer allocates s p answer q → has_passed s address p.so_far ≡ false
       → NextIs p answer q ⊎ OutOf answer (Reached p.so_far p.left.values)
   next_due p answer q (keeps g i rest answer' q' still accepted next) here =
       either (λ is. subst (λ l. IsNext l answer' (answers_to_come s q')) (sym (answers-other s g i rest.values rest.refusal accepted still)) is)
@@ -162,7 +162,7 @@ module _ {T : Type 0} (allocates : MayAllocate T) (s : Setting) (address : ℕ) 
   same_row : (given row : Row T) → ◌≡◌ {A = Result (Option (Row T)) Error} (Ok (Some given)) (Ok (Some row)) → given ≡ row
   same_row given row e = cc
 
-  after_row : (p : TableState (Program T) T) (answer : Result (Option (Row T)) Error) (q : TableState (Program T) T) → NextKeptAnswer allocates s p answer q
+  after_row : (p : TableState (Program T) T) (answer : Result (Option (Row T)) Error) (q : TableState (Program T) T) → NextAcceptedAnswer allocates s p answer q
       → (row : Row T) → answer ≡ Ok (Some row) → row_contains address row ≡ false → has_passed s address p.so_far ≡ false → GoesOn p q
   after_row p answer q (keeps g i rest answer' q' still accepted next) row is outside here =
       let more = after_row (before_last_row (followed_by g i) rest) answer' q' next row is outside (passed_stays g i still ∙ here) in
@@ -187,7 +187,7 @@ module _ {T : Type 0} (allocates : MayAllocate T) (s : Setting) (address : ℕ) 
   same_refusal : (e : Error) → ◌≡◌ {A = Result (Option (Row T)) Error} (Err e) (Err OutOfMemory) → e ≡ OutOfMemory
   same_refusal e is = cc
 
-  finds_due : (p : TableState (Program T) T) (result : Result (Row T) Error) → FindsRow (NextKeptAnswer allocates s) address p result → has_passed s address p.so_far ≡ false
+  finds_due : (p : TableState (Program T) T) (result : Result (Row T) Error) → FindsRow (NextAcceptedAnswer allocates s) address p result → has_passed s address p.so_far ≡ false
       → (answer_at address (answers_to_come s p) ≡ result) ⊎ OutOf result (Reached p.so_far p.left.values)
   finds_due p result (contains_it p' q row next inside) here =
       inl (ap (answer_at address) (due_row p' q row _ (next_due p' (Ok (Some row)) q next here)) ∙ ap (λ b. cond b (Ok row) (answer_at address (answers_to_come s q))) inside)
@@ -253,7 +253,7 @@ module _ {T : Type 0} (allocates : MayAllocate T) (s : Setting) (address : ℕ) 
   keeps_one cie i rest result accepted (inl is) = inl (due_on cie i rest accepted ∙ is)
   keeps_one cie i rest result accepted (inr out) = inr (reached_on cie i rest accepted out.0, out.1)
 
-  keeps_due : (cie : Instructions) (reads : Readings (CallFrameInstruction T)) (result : Result Instructions Error) → KeepsInitialInstructions allocates s cie reads result
+  keeps_due : (cie : Instructions) (reads : Readings (CallFrameInstruction T)) (result : Result Instructions Error) → AcceptsInitialInstructions allocates s cie reads result
       → (cie_due cie reads ≡ result) ⊎ OutOf result (CieReached cie reads)
   keeps_due cie reads result (cie_keeps cie' i rest result' accepted keeps_rest) = keeps_one cie' i rest result' accepted (keeps_due (cie' ++ i ∷ []) rest result' keeps_rest)
   keeps_due cie reads result (cie_leaves_out cie' i rest e out) = left_out_of_cie cie' i rest e out
@@ -297,23 +297,23 @@ module _ {T : Type 0} (allocates : MayAllocate T) (s : Setting) (address : ℕ) 
   by_rows_found cie fde result accepted (inr out) = inr (wanted_in_fde cie fde accepted out.0, out.1)
 
   by_rows_of_all : (cie fde : Readings (CallFrameInstruction T)) (all : Instructions) (result : Result (Row T) Error) → cie_refusal s cie ≡ None → all ≡ cie.values
-      → FindsRow (NextKeptAnswer allocates s) address (before_last_row (in_fde all []) fde) result → AnswersOrRunsOut allocates s cie fde address result
+      → FindsRow (NextAcceptedAnswer allocates s) address (before_last_row (in_fde all []) fde) result → AnswersOrRunsOut allocates s cie fde address result
   by_rows_of_all cie fde all result accepted same finds =
       by_rows_found cie fde result accepted
       (finds_due (before_last_row (in_fde cie.values []) fde) result
-      (subst (λ l. FindsRow (NextKeptAnswer allocates s) address (before_last_row (in_fde l []) fde) result) same finds)
+      (subst (λ l. FindsRow (NextAcceptedAnswer allocates s) address (before_last_row (in_fde l []) fde) result) same finds)
       (not_started s.initial_address address))
 
   ok_is_no_error : (all : Instructions) (e : Error) → ◌≡◌ {A = Result Instructions Error} (Ok all) (Err e) → ⊥
   ok_is_no_error all e is = cc
 
   by_rows_due : (cie fde : Readings (CallFrameInstruction T)) (all : Instructions) (result : Result (Row T) Error) → (cie_due [] cie ≡ Ok all) ⊎ OutOf {A = Instructions} (Ok all) (CieReached [] cie)
-      → FindsRow (NextKeptAnswer allocates s) address (before_last_row (in_fde all []) fde) result → AnswersOrRunsOut allocates s cie fde address result
+      → FindsRow (NextAcceptedAnswer allocates s) address (before_last_row (in_fde all []) fde) result → AnswersOrRunsOut allocates s cie fde address result
   by_rows_due cie fde all result (inl is) finds =
       by_rows_of_all cie fde all result (accepted_of (cie_refusal s cie) cie.values all is).0 (accepted_of (cie_refusal s cie) cie.values all is).1 finds
   by_rows_due cie fde all result (inr out) finds = absurd (ok_is_no_error all OutOfMemory out.1)
 
-  pub kept_is_due : (cie fde : Readings (CallFrameInstruction T)) (result : Result (Row T) Error) → AnswersByKept allocates s cie fde address result → AnswersOrRunsOut allocates s cie fde address result
+  pub kept_is_due : (cie fde : Readings (CallFrameInstruction T)) (result : Result (Row T) Error) → AnswersByAccepted allocates s cie fde address result → AnswersOrRunsOut allocates s cie fde address result
   kept_is_due cie fde result (refused_by_cie e keeps_all) = by_cie_due cie fde e (keeps_due [] cie (Err e) keeps_all)
   kept_is_due cie fde result (found_in_rows all result' keeps_all finds) = by_rows_due cie fde all result' (keeps_due [] cie (Ok all) keeps_all) finds
 
@@ -321,20 +321,20 @@ module _ {T : Type 0} (allocates : MayAllocate T) (s : Setting) (address : ℕ) 
 
   -- an instruction of a CIE, by why it is refused
   cie_first : (cie : Instructions) (i : CallFrameInstruction T) (rest : Readings (CallFrameInstruction T)) (o : Option Error) → refusal s (in_cie cie) i ≡ o
-      → KeepsInitialInstructions allocates s (cie ++ i ∷ []) rest (cie_due (cie ++ i ∷ []) rest) → KeepsInitialInstructions allocates s cie (with_first i rest) (cie_due cie (with_first i rest))
+      → AcceptsInitialInstructions allocates s (cie ++ i ∷ []) rest (cie_due (cie ++ i ∷ []) rest) → AcceptsInitialInstructions allocates s cie (with_first i rest) (cie_due cie (with_first i rest))
   cie_first cie i rest None accepted more =
-      subst (KeepsInitialInstructions allocates s cie (with_first i rest)) (sym (due_on cie i rest accepted)) (cie_keeps cie i rest (cie_due (cie ++ i ∷ []) rest) accepted more)
+      subst (AcceptsInitialInstructions allocates s cie (with_first i rest)) (sym (due_on cie i rest accepted)) (cie_keeps cie i rest (cie_due (cie ++ i ∷ []) rest) accepted more)
   cie_first cie i rest (Some e) refused more =
-      subst (KeepsInitialInstructions allocates s cie (with_first i rest))
+      subst (AcceptsInitialInstructions allocates s cie (with_first i rest))
       (sym (ap (λ o. or_refused (option_or (option_or o (first_refusal s (in_cie (cie ++ i ∷ [])) rest.values)) (option_or rest.refusal (refusal_at_end s (cie ++ i ∷ rest.values)))) (cie ++ i ∷ rest.values)) refused))
       (cie_leaves_out cie i rest e (inl refused))
 
-  cie_last : (cie : Instructions) (o : Option Error) → refusal_at_end s cie ≡ o → KeepsInitialInstructions allocates s cie (no_values None) (or_refused o cie)
+  cie_last : (cie : Instructions) (o : Option Error) → refusal_at_end s cie ≡ o → AcceptsInitialInstructions allocates s cie (no_values None) (or_refused o cie)
   cie_last cie None accepted = cie_is_kept cie accepted
   cie_last cie (Some e) refused = cie_end_left_out cie e (inl refused)
 
-  due_is_kept_from : (xs : Instructions) (unread : Option Error) (cie : Instructions) → KeepsInitialInstructions allocates s cie (record { values = xs; refusal = unread }) (cie_due cie (record { values = xs; refusal = unread }))
-  due_is_kept_from [] None cie = subst (KeepsInitialInstructions allocates s cie (no_values None)) (sym (end_is cie)) (cie_last cie (refusal_at_end s cie) refl)
+  due_is_kept_from : (xs : Instructions) (unread : Option Error) (cie : Instructions) → AcceptsInitialInstructions allocates s cie (record { values = xs; refusal = unread }) (cie_due cie (record { values = xs; refusal = unread }))
+  due_is_kept_from [] None cie = subst (AcceptsInitialInstructions allocates s cie (no_values None)) (sym (end_is cie)) (cie_last cie (refusal_at_end s cie) refl)
   due_is_kept_from [] (Some e) cie = cie_finds_unreadable cie e
   due_is_kept_from (i ∷ xs) unread cie = cie_first cie i (record { values = xs; refusal = unread }) (refusal s (in_cie cie) i) refl (due_is_kept_from xs unread (cie ++ i ∷ []))
 
@@ -344,12 +344,12 @@ module _ {T : Type 0} (allocates : MayAllocate T) (s : Setting) (address : ℕ) 
   accepted_first cie i rest (inr at) = (none_second (refusal s (in_cie cie) i) _ (none_second (first_refusal s (in_cie cie) (i ∷ rest.values)) _ at.0).0).0
 
   out_of_cie_first : (cie : Instructions) (i : CallFrameInstruction T) (rest : Readings (CallFrameInstruction T)) → refusal s (in_cie cie) i ≡ None
-      → (CieReached (cie ++ i ∷ []) rest → KeepsInitialInstructions allocates s (cie ++ i ∷ []) rest (Err OutOfMemory))
-      → IsTrue (allocates.at (program_state s (in_cie cie)) i) ⊎ CieReached (cie ++ i ∷ []) rest → KeepsInitialInstructions allocates s cie (with_first i rest) (Err OutOfMemory)
+      → (CieReached (cie ++ i ∷ []) rest → AcceptsInitialInstructions allocates s (cie ++ i ∷ []) rest (Err OutOfMemory))
+      → IsTrue (allocates.at (program_state s (in_cie cie)) i) ⊎ CieReached (cie ++ i ∷ []) rest → AcceptsInitialInstructions allocates s cie (with_first i rest) (Err OutOfMemory)
   out_of_cie_first cie i rest accepted more (inl at) = cie_leaves_out cie i rest OutOfMemory (inr (at, accepted, refl))
   out_of_cie_first cie i rest accepted more (inr reached) = cie_keeps cie i rest (Err OutOfMemory) accepted (more reached)
 
-  out_of_cie : (xs : Instructions) (unread : Option Error) (cie : Instructions) → CieReached cie (record { values = xs; refusal = unread }) → KeepsInitialInstructions allocates s cie (record { values = xs; refusal = unread }) (Err OutOfMemory)
+  out_of_cie : (xs : Instructions) (unread : Option Error) (cie : Instructions) → CieReached cie (record { values = xs; refusal = unread }) → AcceptsInitialInstructions allocates s cie (record { values = xs; refusal = unread }) (Err OutOfMemory)
   out_of_cie [] unread cie (inl reached) = absurd (false≢true reached)
   out_of_cie [] None cie (inr at) =
       cie_end_left_out cie OutOfMemory (inr (subst (λ l. IsTrue (allocates.at_end (program_state s (in_cie l)))) (append-nil cie) at.1, sym (ap (refusal_at_end s) (append-nil cie)) ∙ at.0, refl))
@@ -360,12 +360,12 @@ module _ {T : Type 0} (allocates : MayAllocate T) (s : Setting) (address : ℕ) 
 
   -- of the rows of an FDE
   abbrev Finds : Program T → Readings (CallFrameInstruction T) → Result (Row T) Error → Type 0
-  Finds p reads result = FindsRow (NextKeptAnswer allocates s) address (before_last_row p reads) result
+  Finds p reads result = FindsRow (NextAcceptedAnswer allocates s) address (before_last_row p reads) result
 
   module _ (p : Program T) (i : CallFrameInstruction T) (rest : Readings (CallFrameInstruction T)) where
     finds_after_still : (result : Result (Row T) Error) → is_move i ≡ false → refusal s p i ≡ None → Finds (followed_by p i) rest result → Finds p (with_first i rest) result
     finds_after_still result still accepted finds =
-        leads_on (NextKeptAnswer allocates s) address (before_last_row p (with_first i rest)) (before_last_row (followed_by p i) rest) result (λ answer q next. keeps p i rest answer q still accepted next) finds
+        leads_on (NextAcceptedAnswer allocates s) address (before_last_row p (with_first i rest)) (before_last_row (followed_by p i) rest) result (λ answer q next. keeps p i rest answer q still accepted next) finds
 
     abbrev row_before : Row T
     row_before = row_until s p (location_of s (followed_by p i))
@@ -430,24 +430,24 @@ module _ {T : Type 0} (allocates : MayAllocate T) (s : Setting) (address : ℕ) 
 
   -- of the FDE
   module _ (cie fde : Readings (CallFrameInstruction T)) where
-    cie_is_kept_whole : cie_refusal s cie ≡ None → KeepsInitialInstructions allocates s [] cie (Ok cie.values)
-    cie_is_kept_whole accepted = subst (λ o. KeepsInitialInstructions allocates s [] cie (or_refused o cie.values)) accepted (due_is_kept_from cie.values cie.refusal [])
+    cie_is_kept_whole : cie_refusal s cie ≡ None → AcceptsInitialInstructions allocates s [] cie (Ok cie.values)
+    cie_is_kept_whole accepted = subst (λ o. AcceptsInitialInstructions allocates s [] cie (or_refused o cie.values)) accepted (due_is_kept_from cie.values cie.refusal [])
 
-    due_by_refusal : (o : Option Error) → cie_refusal s cie ≡ o → AnswersByKept allocates s cie fde address (on_option (answer_at address (answers s (in_fde cie.values []) fde)) (λ e. Err e) o)
+    due_by_refusal : (o : Option Error) → cie_refusal s cie ≡ o → AnswersByAccepted allocates s cie fde address (on_option (answer_at address (answers s (in_fde cie.values []) fde)) (λ e. Err e) o)
     due_by_refusal None accepted = found_in_rows cie.values _ (cie_is_kept_whole accepted) (due_is_found fde.values fde.refusal (in_fde cie.values []))
-    due_by_refusal (Some e) refused = refused_by_cie e (subst (λ o. KeepsInitialInstructions allocates s [] cie (or_refused o cie.values)) refused (due_is_kept_from cie.values cie.refusal []))
+    due_by_refusal (Some e) refused = refused_by_cie e (subst (λ o. AcceptsInitialInstructions allocates s [] cie (or_refused o cie.values)) refused (due_is_kept_from cie.values cie.refusal []))
 
-    out_by : (IsTrue (allocates.at_end (program_state s (in_cie cie.values))) ⊎ Reached (in_fde cie.values []) fde.values) → cie_refusal s cie ≡ None → AnswersByKept allocates s cie fde address (Err OutOfMemory)
+    out_by : (IsTrue (allocates.at_end (program_state s (in_cie cie.values))) ⊎ Reached (in_fde cie.values []) fde.values) → cie_refusal s cie ≡ None → AnswersByAccepted allocates s cie fde address (Err OutOfMemory)
     out_by (inl at) accepted = refused_by_cie OutOfMemory (out_of_cie cie.values cie.refusal [] (inr (accepted, at)))
     out_by (inr reached) accepted = found_in_rows cie.values (Err OutOfMemory) (cie_is_kept_whole accepted) (out_is_found fde.values fde.refusal cie.values [] (omega arith) reached)
 
-    out_by_place : Reached (in_cie []) cie.values ⊎ IsTrue (is_none (cie_refusal s cie) && (allocates.at_end (program_state s (in_cie cie.values)) || reaches (in_fde cie.values []) fde.values)) → AnswersByKept allocates s cie fde address (Err OutOfMemory)
+    out_by_place : Reached (in_cie []) cie.values ⊎ IsTrue (is_none (cie_refusal s cie) && (allocates.at_end (program_state s (in_cie cie.values)) || reaches (in_fde cie.values []) fde.values)) → AnswersByAccepted allocates s cie fde address (Err OutOfMemory)
     out_by_place (inl reached) = refused_by_cie OutOfMemory (out_of_cie cie.values cie.refusal [] (inl reached))
     out_by_place (inr after) = let parts = and_parts _ _ after in out_by (or_cases _ _ parts.1) (none_at (cie_refusal s cie) parts.0)
 
-    pub due_is_kept : (result : Result (Row T) Error) → AnswersOrRunsOut allocates s cie fde address result → AnswersByKept allocates s cie fde address result
-    due_is_kept result (inl is) = subst (AnswersByKept allocates s cie fde address) (sym is) (due_by_refusal (cie_refusal s cie) refl)
-    due_is_kept result (inr out) = subst (AnswersByKept allocates s cie fde address) (sym out.1) (out_by_place (or_cases _ _ out.0))
+    pub due_is_kept : (result : Result (Row T) Error) → AnswersOrRunsOut allocates s cie fde address result → AnswersByAccepted allocates s cie fde address result
+    due_is_kept result (inl is) = subst (AnswersByAccepted allocates s cie fde address) (sym is) (due_by_refusal (cie_refusal s cie) refl)
+    due_is_kept result (inr out) = subst (AnswersByAccepted allocates s cie fde address) (sym out.1) (out_by_place (or_cases _ _ out.0))
 
 -- ---- where nothing allocates
 

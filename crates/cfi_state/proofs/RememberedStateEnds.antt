@@ -4,8 +4,8 @@ use Rattle.std.proofs.Common.{◌≡◌, ℕ, zero, suc, ◌-◌, ◌<◌, ◌�
 use Rattle.std.specs.List.{filter}
 use Rattle.std.proofs.lemmas.List.{append-nil, map-id, map-append, length-append, length-map}
 use Rattle.std.proofs.lemmas.Bool.{false≢true, lt-ltb, ne_eqb, eq-eqb}
-use Rattle.cfi_instruction.specs.declared.instruction.CallFrameInstruction.{CallFrameInstruction}
-use Rattle.cfi_instruction.specs.declared.instruction.CallFrameInstruction.TheVariants as instruction
+use Rattle.cfi_read_core.specs.declared.instruction.CallFrameInstruction.{CallFrameInstruction}
+use Rattle.cfi_read_core.specs.declared.instruction.CallFrameInstruction.TheVariants as instruction
 use Rattle.cfi_state.specs.MachineSettings.{is_move, is_remember, is_restore}
 use Rattle.cfi_state.proofs.RememberedStateCounts.{closing, opening, closings, opens, closings-append, opens-append, last_open}
 

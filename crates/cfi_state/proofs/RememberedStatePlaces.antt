@@ -6,8 +6,8 @@ use Rattle.std.proofs.lemmas.List.{append-nil, map-id, length-map, length-revers
 use Rattle.std.specs.Option.{option_map_or}
 use Rattle.std.proofs.Math.Seq.{drop-append-add}
 use Rattle.std.proofs.lemmas.Bool.{false≢true, and_parts, and_from, or_left, or_right, lt-ltb, ltb-true, le-leb, leb-true, eq-eqb, eqb-true, cases_lt, cases_Bool}
-use Rattle.cfi_instruction.specs.declared.instruction.CallFrameInstruction.{CallFrameInstruction}
-use Rattle.cfi_instruction.specs.declared.instruction.CallFrameInstruction.TheVariants as instruction
+use Rattle.cfi_read_core.specs.declared.instruction.CallFrameInstruction.{CallFrameInstruction}
+use Rattle.cfi_read_core.specs.declared.instruction.CallFrameInstruction.TheVariants as instruction
 use Rattle.cfi_state.specs.MachineSettings.{is_move, is_remember, is_restore}
 use Rattle.cfi_state.specs.RememberedStates.{indices, is_at, is_balanced, matches, is_struck, survivors, is_open, open_indices, before_open}
 use Rattle.cfi_state.proofs.RememberedStateCounts.{closing, opening, closings, opens, closings-append, opens-append, counts_differ, FirstClosing, first_closing, LastOpen, last_open}

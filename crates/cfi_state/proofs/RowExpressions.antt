@@ -9,11 +9,11 @@ use Rattle.std.specs.FinMap as map
 use Rattle.cfi_read_core.specs.ReadFunctions.{Readings}
 use Rattle.cfi_read_core.specs.declared.common.Register.{Register}
 use Rattle.cfi_read_core.specs.declared.error.Error.{Error}
-use Rattle.cfi_instruction.specs.declared.instruction.UnwindExpression.{UnwindExpression}
-use Rattle.cfi_instruction.specs.declared.instruction.CallFrameInstruction.{CallFrameInstruction}
-use Rattle.cfi_instruction.specs.declared.instruction.CallFrameInstruction.TheVariants as instruction
-use Rattle.cfi_instruction.specs.MappedInstructions.{map_expression}
-use Rattle.cfi_instruction.specs.ExpressionPlaces.{expression_of}
+use Rattle.cfi_read_core.specs.declared.instruction.UnwindExpression.{UnwindExpression}
+use Rattle.cfi_read_core.specs.declared.instruction.CallFrameInstruction.{CallFrameInstruction}
+use Rattle.cfi_read_core.specs.declared.instruction.CallFrameInstruction.TheVariants as instruction
+use Rattle.cfi_read_core.specs.MappedInstructions.{map_expression}
+use Rattle.cfi_read_core.specs.ExpressionPlaces.{expression_of}
 use Rattle.cfi_state.specs.declared.table.rules.CfaRule.{CfaRule}
 use Rattle.cfi_state.specs.declared.table.rules.CfaRule.TheVariants as cfa
 use Rattle.cfi_state.specs.declared.table.rules.RegisterRule.{RegisterRule}

@@ -1,9 +1,9 @@
--- Actions by what they change, in the order of the standard.
---     target s location a      where a move goes (DWARF 5 section 6.4.2.1)
---     cfa_given s cfa a      the rule of the CFA, where a defines it and `cfa` is the rule before (section 6.4.2.2)
---     rule_given s a      the register that a gives a rule, and the rule (section 6.4.2.3)
---     is_of_state a      whether a is none of those
-use Rattle.std.specs.Prelude.{ℕ, Bool, true, false, nat_lt, cond, ℤ, Option, Some, None, Result, Ok, Err}
+-- What the actions change, in the order of the standard.
+--     target      where a move goes (DWARF 5 section 6.4.2.1)
+--     cfa_given      the rule that an action gives the CFA (section 6.4.2.2)
+--     rule_given      the register that an action gives a rule, and the rule (section 6.4.2.3)
+--     is_of_state      whether an action does none of these
+use Rattle.std.specs.Prelude.{ℕ, Bool, true, false, nat_lt, if◌then◌else◌, ℤ, Option, Some, None, Result, Ok, Err}
 use Rattle.cfi_read_core.specs.declared.common.Register.{Register}
 use Rattle.cfi_read_core.specs.declared.error.Error.{Error}
 use Rattle.cfi_read_core.specs.declared.error.Error.TheVariants.{AddressOverflow, InvalidCfiSetLoc, CfiInstructionInInvalidContext}
@@ -15,32 +15,40 @@ use Rattle.cfi_state.specs.MachineSettings.{Setting, advanced_location, fits_add
 
 module _ {T : Type 0} where
   abbrev pub target : Setting → ℕ → Action T → Result (Option ℕ) Error
-  target s location (sets_location address) = cond (nat_lt address location) (Err (InvalidCfiSetLoc address)) (Ok (Some address))
-  target s location (advances_location delta) =
-      cond (fits_address s (advanced_location s location delta)) (Ok (Some (advanced_location s location delta))) (Err AddressOverflow)
-  target s location _ = Ok None
+  target setting location (sets_location address) =
+      if nat_lt address location then Err (InvalidCfiSetLoc address) else Ok (Some address)
+  target setting location (advances_location delta) =
+      if fits_address setting (advanced_location setting location delta)
+      then Ok (Some (advanced_location setting location delta))
+      else Err AddressOverflow
+  target setting location _ = Ok None
 
-  -- the CFA's other half stays, unless it is an expression
+  -- the other half of the CFA stays, unless the CFA is an expression
   abbrev pub with_register : CfaRule T → Register → Result (Option (CfaRule T)) Error
-  with_register (cfa.RegisterAndOffset _ offset) r = Ok (Some (cfa.RegisterAndOffset r offset))
-  with_register (cfa.Expression _) r = Err CfiInstructionInInvalidContext
+  with_register (cfa.RegisterAndOffset _ offset) register =
+      Ok (Some (cfa.RegisterAndOffset register offset))
+  with_register (cfa.Expression _) register = Err CfiInstructionInInvalidContext
 
   abbrev pub with_offset : CfaRule T → ℤ → Result (Option (CfaRule T)) Error
-  with_offset (cfa.RegisterAndOffset r _) offset = Ok (Some (cfa.RegisterAndOffset r offset))
+  with_offset (cfa.RegisterAndOffset register _) offset =
+      Ok (Some (cfa.RegisterAndOffset register offset))
   with_offset (cfa.Expression _) offset = Err CfiInstructionInInvalidContext
 
+  -- `None` where the action does not define the CFA; `old` is the CFA's rule before it
   abbrev pub cfa_given : Setting → CfaRule T → Action T → Result (Option (CfaRule T)) Error
-  cfa_given s old (defines_cfa r offset) = Ok (Some (cfa.RegisterAndOffset r (offset s.data_alignment_factor)))
-  cfa_given s old (defines_cfa_register r) = with_register old r
-  cfa_given s old (defines_cfa_offset offset) = with_offset old (offset s.data_alignment_factor)
-  cfa_given s old (defines_cfa_expression e) = Ok (Some (cfa.Expression e))
-  cfa_given s old _ = Ok None
+  cfa_given setting old (defines_cfa register offset) =
+      Ok (Some (cfa.RegisterAndOffset register (offset setting.data_alignment_factor)))
+  cfa_given setting old (defines_cfa_register register) = with_register old register
+  cfa_given setting old (defines_cfa_offset offset) =
+      with_offset old (offset setting.data_alignment_factor)
+  cfa_given setting old (defines_cfa_expression expression) = Ok (Some (cfa.Expression expression))
+  cfa_given setting old _ = Ok None
 
   abbrev pub rule_given : Setting → Action T → Option (Register × RegisterRule T)
-  rule_given s (gives_rule r rule) = Some (r, rule s.data_alignment_factor)
-  rule_given s _ = None
+  rule_given setting (gives_rule register rule) =
+      Some (register, rule setting.data_alignment_factor)
+  rule_given setting _ = None
 
-  -- what neither moves nor gives the CFA or a register a rule
   abbrev pub is_of_state : Action T → Bool
   is_of_state (restores_rule _) = true
   is_of_state toggles_sign_state = true

@@ -1,13 +1,13 @@
--- Equality of rules, rows and contexts is an equivalence, where that of offsets is.
-use Rattle.std.proofs.Common.{◌≡◌, ℕ, Bool, true, false, ◌&&◌, ◌||◌, ◌==◌, ℤ, Option, Some, None, is_some, List, [], ◌∷◌, refl, sym, ap, ◌∙◌}
+-- Equality of rules, rows and contexts is an equivalence relation if that of offsets is.
+use Rattle.std.proofs.Common.{◌≡◌, ℕ, Bool, true, false, ◌&&◌, ◌||◌, ◌==◌, Option, Some, None, is_some, List, [], ◌∷◌, refl, sym, ap, ◌∙◌}
 use Rattle.std.specs.Ordering.{nat_cmp, int_eq, eq_by_cmp}
 use Rattle.std.specs.Option.{option_eq}
 use Rattle.std.specs.List.{list_all, list_any}
 use Rattle.std.specs.Cmp.{IsEquivalence, IsPartialEquivalence, Equal-is, first_so, second_so, equiv, and_equiv, on_equiv, nat_eq_equiv, int_eq_equiv, partial_equiv_from_equiv}
 use Rattle.std.specs.Cmp.Lexicographic.{lists_equiv, options_equiv}
 use Rattle.std.proofs.Math.Bool.{and_comm}
-use Rattle.std.specs.FinMap.{FinMap, nat_cmp-IsAntisymmetric, get, keys, contains_key, contains_key-keys}
-use Rattle.cfi_instruction.specs.declared.instruction.UnwindExpression.{UnwindExpression}
+use Rattle.std.specs.FinMap.{FinMap, nat_cmp-IsAntisymmetric, get, keys, contains_key-keys}
+use Rattle.cfi_read_core.specs.declared.instruction.UnwindExpression.{UnwindExpression}
 use Rattle.cfi_state.specs.declared.table.rules.CfaRule.{CfaRule}
 use Rattle.cfi_state.specs.declared.table.rules.CfaRule.TheVariants as cfa
 use Rattle.cfi_state.specs.declared.table.rules.RegisterRule.{RegisterRule}

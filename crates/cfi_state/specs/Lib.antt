@@ -1,4 +1,5 @@
--- What call frame instructions mean (DWARF 5 section 6.4): the machine that runs them, and the form without a machine.
+-- What call frame instructions mean (DWARF 5 section 6.4): the machine that runs them, and the same
+-- without a machine.
 pub mod Actions
 pub mod MachineSettings
 pub mod Machine
@@ -14,7 +15,7 @@ pub mod MemoryOnTheWay
 pub mod UnwindTableStates
 pub mod RowExpressions
 pub mod MachineRuns
-pub mod KeptInstructions
+pub mod AcceptedInstructions
 pub mod StorageRefusals
 pub mod RulePairs
 pub mod UnwindContexts

@@ -1,12 +1,13 @@
--- What stays fixed while a program of call frame instructions runs (DWARF 5, section 6.4.2), and which instructions move.
+-- What stays fixed while call frame instructions run (DWARF 5, section 6.4.2), which instructions
+-- move the location, and where to.
 --     Setting      the entry's factors and addresses, and the storage's limits
---     next_location s location i      the location after the instruction i
+--     next_location      the location after an instruction
 use Rattle.std.specs.Prelude.{ℕ, ◌+◌, ◌*◌, ◌%◌, ◌^◌, Bool, true, false, ◌==◌, ℤ, Option, Some, None}
 use Rattle.cfi_read_core.specs.Addresses.{fits}
-use Rattle.cfi_instruction.specs.declared.instruction.CallFrameInstruction.{CallFrameInstruction}
+use Rattle.cfi_read_core.specs.declared.instruction.CallFrameInstruction.{CallFrameInstruction}
 use Rattle.cfi_state.specs.Actions.{Action, sets_location, advances_location, remembers_state, restores_state, toggles_sign_state, action}
 
--- What stays fixed while the programs of a CIE and an FDE run. A limit that is `None` is absent.
+-- A limit of `None` is no limit.
 pub record Setting : Type 0 where
   pub address_size : ℕ
   pub code_alignment_factor : ℕ
@@ -16,27 +17,31 @@ pub record Setting : Type 0 where
   pub rule_limit : Option ℕ
   pub stack_limit : Option ℕ
 
--- the register of the return address's sign state (AArch64)
+-- the register that holds whether the return address is signed (AArch64)
 abbrev pub ra_sign_state : ℕ
 ra_sign_state = 34
 
--- whether the count has come to the limit
+-- whether the count has reached the limit
 abbrev pub is_at_limit : Option ℕ → ℕ → Bool
 is_at_limit None count = false
 is_at_limit (Some limit) count = count == limit
 
--- the location `delta` steps of the code alignment factor on; the product wraps
+-- the location moved by `delta` times the code alignment factor; the product wraps
 abbrev pub advanced_location : Setting → ℕ → ℕ → ℕ
-advanced_location s location delta = location + delta * s.code_alignment_factor % 2 ^ 64
+advanced_location setting location delta =
+    location + delta * setting.code_alignment_factor % 2 ^ 64
 
 abbrev pub fits_address : Setting → ℕ → Bool
-fits_address s address = fits s.address_size address
+fits_address setting address = fits setting.address_size address
 
 module _ {T : Type 0} where
+  -- ---- of actions
+
   abbrev pub location_after : Setting → ℕ → Action T → ℕ
-  location_after s location (sets_location address) = address
-  location_after s location (advances_location delta) = advanced_location s location delta
-  location_after s location _ = location
+  location_after setting location (sets_location address) = address
+  location_after setting location (advances_location delta) =
+      advanced_location setting location delta
+  location_after setting location _ = location
 
   -- the moves end a row (DWARF 5, section 6.4.2.1)
   abbrev pub moves : Action T → Bool
@@ -59,13 +64,13 @@ module _ {T : Type 0} where
   -- ---- of instructions
 
   abbrev pub next_location : Setting → ℕ → CallFrameInstruction T → ℕ
-  next_location s location i = location_after s location (action i)
+  next_location setting location instruction = location_after setting location (action instruction)
 
   abbrev pub is_move : CallFrameInstruction T → Bool
-  is_move i = moves (action i)
+  is_move instruction = moves (action instruction)
 
   abbrev pub is_remember : CallFrameInstruction T → Bool
-  is_remember i = remembers (action i)
+  is_remember instruction = remembers (action instruction)
 
   abbrev pub is_restore : CallFrameInstruction T → Bool
-  is_restore i = restores (action i)
+  is_restore instruction = restores (action instruction)

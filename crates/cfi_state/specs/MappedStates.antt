@@ -1,8 +1,8 @@
 -- The same rules, states and rows with their offsets in another type.
--- The code's offsets are of a reader's type and the definitions' are numbers. Offsets stand only in expressions, so a
--- map along `f` changes nothing else.
---     map_rule f, map_rules f, map_parts f, map_state f, map_row f      along f : A → B
---     row_lent f      the answer of a call that lends a row
+-- The code's offsets are of a reader's type, and those of the definitions are numbers. Only
+-- expressions have such offsets, so a map of offsets changes nothing else.
+--     map_rule, map_rules, map_parts, map_state, map_row      by a function of offsets
+--     row_lent      the result of a call that borrows a row
 use Rattle.std.specs.Prelude.{map, Result}
 use Rattle.std.specs.Borrow.{Bor}
 use Rattle.std.specs.Option.{option_map}
@@ -10,7 +10,7 @@ use Rattle.std.specs.Ordering.{nat_cmp}
 use Rattle.std.specs.FinMap.{FinMap, entries, from_sorted}
 use Rattle.cfi_read_core.specs.declared.error.Error.{Error}
 use Rattle.cfi_read_core.specs.ReaderCalls.{map_ok}
-use Rattle.cfi_instruction.specs.MappedInstructions.{map_expression}
+use Rattle.cfi_read_core.specs.MappedInstructions.{map_expression}
 use Rattle.cfi_state.specs.declared.table.rules.CfaRule.{CfaRule}
 use Rattle.cfi_state.specs.declared.table.rules.CfaRule.TheVariants as cfa
 use Rattle.cfi_state.specs.declared.table.rules.RegisterRule.{RegisterRule}
@@ -20,21 +20,21 @@ use Rattle.cfi_state.specs.Machine.{Rules, Parts, State}
 
 -- a map with the same keys
 abbrev pub map_values : {X Y : Type 0} → (X → Y) → FinMap nat_cmp X → FinMap nat_cmp Y
-map_values f m = from_sorted (map (λ e. (e.0, f e.1)) (entries m))
+map_values f values = from_sorted (map (λ entry. (entry.0, f entry.1)) (entries values))
 
 module _ {A B : Type 0} (f : A → B) where
   abbrev pub map_cfa : CfaRule A → CfaRule B
-  map_cfa (cfa.RegisterAndOffset r offset) = cfa.RegisterAndOffset r offset
-  map_cfa (cfa.Expression e) = cfa.Expression (map_expression f e)
+  map_cfa (cfa.RegisterAndOffset register offset) = cfa.RegisterAndOffset register offset
+  map_cfa (cfa.Expression expression) = cfa.Expression (map_expression f expression)
 
   abbrev pub map_rule : RegisterRule A → RegisterRule B
   map_rule rule.Undefined = rule.Undefined
   map_rule rule.SameValue = rule.SameValue
   map_rule (rule.Offset offset) = rule.Offset offset
   map_rule (rule.ValOffset offset) = rule.ValOffset offset
-  map_rule (rule.Register r) = rule.Register r
-  map_rule (rule.Expression e) = rule.Expression (map_expression f e)
-  map_rule (rule.ValExpression e) = rule.ValExpression (map_expression f e)
+  map_rule (rule.Register register) = rule.Register register
+  map_rule (rule.Expression expression) = rule.Expression (map_expression f expression)
+  map_rule (rule.ValExpression expression) = rule.ValExpression (map_expression f expression)
   map_rule rule.Architectural = rule.Architectural
   map_rule (rule.Constant value) = rule.Constant value
 
@@ -42,20 +42,28 @@ module _ {A B : Type 0} (f : A → B) where
   map_rules = map_values map_rule
 
   abbrev pub map_parts : Parts A → Parts B
-  map_parts parts = record { cfa = map_cfa parts.cfa; rules = map_rules parts.rules; args_size = parts.args_size }
+  map_parts parts = record {
+    cfa = map_cfa parts.cfa;
+    rules = map_rules parts.rules;
+    args_size = parts.args_size;
+  }
 
   abbrev pub map_state : State A → State B
-  map_state x = record {
-    location = x.location;
-    parts = map_parts x.parts;
-    remembered = map map_parts x.remembered;
-    initial_rules = option_map map_rules x.initial_rules;
+  map_state state = record {
+    location = state.location;
+    parts = map_parts state.parts;
+    remembered = map map_parts state.remembered;
+    initial_rules = option_map map_rules state.initial_rules;
   }
 
   abbrev pub map_row : Row A → Row B
-  map_row row = record { start_address = row.start_address; end_address = row.end_address; parts = map_parts row.parts }
+  map_row row = record {
+    start_address = row.start_address;
+    end_address = row.end_address;
+    parts = map_parts row.parts;
+  }
 
-  -- a row that is lent, as the answer of a call
+  -- a borrowed row, as the result of a call
   abbrev pub lent_row : Bor (Row A) → Row B
   lent_row row = map_row row.now
 

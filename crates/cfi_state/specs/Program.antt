@@ -1,14 +1,15 @@
--- A program of call frame instructions: those of the CIE, and after its end those of an FDE (DWARF 5, section 6.4.3).
--- What it leaves, and which instruction it refuses next, is said without a machine.
+-- A program of call frame instructions: those of a CIE, and after its end those of an FDE (DWARF 5,
+-- section 6.4.3). What it leaves, and which instruction it refuses next, without a machine.
 --     Program, followed_by      the instructions so far, and one more
---     parts_of s p, location_of s p      the row's parts and the location after the program
---     refusal s p i, refusal_at_end s p      why the next instruction, or the end of the CIE's initial instructions, is refused
---     IsAccepted s p      none of its instructions was refused after those before it
-use Rattle.std.specs.Prelude.{◌≡◌, ℕ, ◌+◌, Bool, true, false, cond, not, ◌&&◌, nat_lt, nat_le, ◌==◌, List, [], ◌∷◌, ◌++◌, length, fold, Option, Some, None, is_some}
+--     parts_of, location_of      the row's parts and the location after a program
+--     refusal, refusal_at_end      why the next instruction, or the end of the CIE's initial
+--         instructions, is refused
+--     IsAccepted      none of a program's instructions was refused after those before it
+use Rattle.std.specs.Prelude.{◌≡◌, ℕ, ◌+◌, Bool, true, false, if◌then◌else◌, not, ◌&&◌, nat_lt, nat_le, ◌==◌, List, [], ◌∷◌, ◌++◌, length, fold, Option, Some, None, is_some}
 use Rattle.std.specs.Option.{option_or}
 use Rattle.cfi_read_core.specs.declared.error.Error.{Error}
 use Rattle.cfi_read_core.specs.declared.error.Error.TheVariants.{AddressOverflow, InvalidCfiSetLoc, CfiInstructionInInvalidContext, StackFull, PopWithEmptyStack, TooManyRegisterRules}
-use Rattle.cfi_instruction.specs.declared.instruction.CallFrameInstruction.{CallFrameInstruction}
+use Rattle.cfi_read_core.specs.declared.instruction.CallFrameInstruction.{CallFrameInstruction}
 use Rattle.cfi_state.specs.Actions.{Action, sets_location, advances_location, defines_cfa, defines_cfa_register, defines_cfa_offset, defines_cfa_expression, gives_rule, restores_rule, toggles_sign_state, remembers_state, restores_state, sets_args_size, changes_nothing, action}
 use Rattle.cfi_state.specs.declared.table.rules.CfaRule.{CfaRule}
 use Rattle.cfi_state.specs.declared.table.rules.CfaRule.TheVariants as cfa
@@ -24,10 +25,9 @@ pub data Program (T : Type 0) : Type 0 where
   in_cie : List (CallFrameInstruction T) → Program T
   in_fde : List (CallFrameInstruction T) → List (CallFrameInstruction T) → Program T
 
--- `Some` where the test fails the instruction
 abbrev pub refused_if : Bool → Error → Option Error
-refused_if true e = Some e
-refused_if false e = None
+refused_if true error = Some error
+refused_if false error = None
 
 module _ {T : Type 0} where
   abbrev pub instructions : Program T → List (CallFrameInstruction T)
@@ -35,51 +35,57 @@ module _ {T : Type 0} where
   instructions (in_fde cie fde) = cie ++ fde
 
   abbrev pub followed_by : Program T → CallFrameInstruction T → Program T
-  followed_by (in_cie cie) i = in_cie (cie ++ i ∷ [])
-  followed_by (in_fde cie fde) i = in_fde cie (fde ++ i ∷ [])
+  followed_by (in_cie cie) instruction = in_cie (cie ++ instruction ∷ [])
+  followed_by (in_fde cie fde) instruction = in_fde cie (fde ++ instruction ∷ [])
 
   abbrev pub location_of : Setting → Program T → ℕ
-  location_of s (in_cie cie) = fold (next_location s) 0 cie
-  location_of s (in_fde cie fde) = fold (next_location s) s.initial_address fde
+  location_of setting (in_cie cie) = fold (next_location setting) 0 cie
+  location_of setting (in_fde cie fde) = fold (next_location setting) setting.initial_address fde
 
   abbrev pub no_rule : ℕ → Option (RegisterRule T)
-  no_rule r = None
+  no_rule register = None
 
-  -- the rules that the CIE's initial instructions left when it ended, whatever the FDE strikes
+  -- the rules that the CIE's initial instructions leave when they end, whatever the FDE strikes
   abbrev pub initial_rule : Setting → Program T → ℕ → Option (RegisterRule T)
-  initial_rule s (in_cie cie) = no_rule
-  initial_rule s (in_fde cie fde) = final_rule s no_rule (survivors cie)
+  initial_rule setting (in_cie cie) = no_rule
+  initial_rule setting (in_fde cie fde) = final_rule setting no_rule (survivors cie)
 
   abbrev pub cfa_of : Setting → Program T → CfaRule T
-  cfa_of s p = final_cfa s (survivors (instructions p))
+  cfa_of setting program = final_cfa setting (survivors (instructions program))
 
   abbrev pub rule_of : Setting → Program T → ℕ → Option (RegisterRule T)
-  rule_of s p = final_rule s (initial_rule s p) (survivors (instructions p))
+  rule_of setting program =
+      final_rule setting (initial_rule setting program) (survivors (instructions program))
 
   abbrev pub parts_of : Setting → Program T → Parts T
-  parts_of s p = final_parts s (initial_rule s p) (survivors (instructions p))
+  parts_of setting program =
+      final_parts setting (initial_rule setting program) (survivors (instructions program))
 
   -- ---- counts
 
   abbrev pub open_count : Program T → ℕ
-  open_count p = length (open_indices (instructions p))
+  open_count program = length (open_indices (instructions program))
 
   abbrev pub rule_count : Setting → Program T → ℕ
-  rule_count s p = length (registers_with_rule s (initial_rule s p) (survivors (instructions p)))
+  rule_count setting program =
+      length (registers_with_rule setting (initial_rule setting program)
+      (survivors (instructions program)))
 
-  -- the copy of the CIE's rules that takes a row of the stack, where they are two or more
+  -- how many rows of the stack the CIE's rules count as: two rules or more count as one
   abbrev pub extra_count : Setting → Program T → ℕ
-  extra_count s (in_cie cie) = 0
-  extra_count s (in_fde cie fde) = cond (nat_le 2 (rule_count s (in_cie cie))) 1 0
+  extra_count setting (in_cie cie) = 0
+  extra_count setting (in_fde cie fde) =
+      if nat_le 2 (rule_count setting (in_cie cie)) then 1 else 0
 
   abbrev pub is_stack_full : Setting → Program T → Bool
-  is_stack_full s p = is_at_limit s.stack_limit (1 + open_count p + extra_count s p)
+  is_stack_full setting program =
+      is_at_limit setting.stack_limit (1 + open_count program + extra_count setting program)
 
   -- ---- refusals
 
   abbrev pub is_expression : CfaRule T → Bool
-  is_expression (cfa.RegisterAndOffset r offset) = false
-  is_expression (cfa.Expression e) = true
+  is_expression (cfa.RegisterAndOffset register offset) = false
+  is_expression (cfa.Expression expression) = true
 
   abbrev pub is_no_constant : Option (RegisterRule T) → Bool
   is_no_constant None = false
@@ -90,35 +96,64 @@ module _ {T : Type 0} where
   is_in_cie (in_cie cie) = true
   is_in_cie (in_fde cie fde) = false
 
-  -- register r has no rule, and no register more may have one
+  -- the register has no rule, and there is no room for one more
   abbrev pub has_no_room : Setting → Program T → ℕ → Bool
-  has_no_room s p r = not (is_some (rule_of s p r)) && is_at_limit s.rule_limit (rule_count s p)
+  has_no_room setting program register =
+      not (is_some (rule_of setting program register))
+      && is_at_limit setting.rule_limit (rule_count setting program)
 
   abbrev pub refusal_of : Setting → Program T → Action T → Option Error
-  refusal_of s p (sets_location address) = refused_if (nat_lt address (location_of s p)) (InvalidCfiSetLoc address)
-  refusal_of s p (advances_location delta) = refused_if (not (fits_address s (advanced_location s (location_of s p) delta))) AddressOverflow
-  refusal_of s p (defines_cfa r offset) = None
-  refusal_of s p (defines_cfa_register r) = refused_if (is_expression (cfa_of s p)) CfiInstructionInInvalidContext
-  refusal_of s p (defines_cfa_offset offset) = refused_if (is_expression (cfa_of s p)) CfiInstructionInInvalidContext
-  refusal_of s p (defines_cfa_expression e) = None
-  refusal_of s p (gives_rule r rule) = refused_if (has_no_room s p r.0) TooManyRegisterRules
-  refusal_of s p (restores_rule r) = option_or (refused_if (is_in_cie p) CfiInstructionInInvalidContext) (refused_if (is_some (initial_rule s p r.0) && has_no_room s p r.0) TooManyRegisterRules)
-  refusal_of s p toggles_sign_state = option_or (refused_if (is_no_constant (rule_of s p ra_sign_state)) CfiInstructionInInvalidContext) (refused_if (has_no_room s p ra_sign_state) TooManyRegisterRules)
-  refusal_of s p remembers_state = refused_if (is_stack_full s p) StackFull
-  refusal_of s p restores_state = refused_if (open_count p == 0) PopWithEmptyStack
-  refusal_of s p (sets_args_size size) = None
-  refusal_of s p changes_nothing = None
+  refusal_of setting program (sets_location address) =
+      refused_if (nat_lt address (location_of setting program)) (InvalidCfiSetLoc address)
+  refusal_of setting program (advances_location delta) =
+      refused_if
+      (not (fits_address setting (advanced_location setting (location_of setting program) delta)))
+      AddressOverflow
+  refusal_of setting program (defines_cfa register offset) = None
+  refusal_of setting program (defines_cfa_register register) =
+      refused_if (is_expression (cfa_of setting program)) CfiInstructionInInvalidContext
+  refusal_of setting program (defines_cfa_offset offset) =
+      refused_if (is_expression (cfa_of setting program)) CfiInstructionInInvalidContext
+  refusal_of setting program (defines_cfa_expression expression) = None
+  refusal_of setting program (gives_rule register rule) =
+      refused_if (has_no_room setting program register.0) TooManyRegisterRules
+  refusal_of setting program (restores_rule register) =
+      option_or
+      (refused_if (is_in_cie program) CfiInstructionInInvalidContext)
+      (refused_if
+      (is_some (initial_rule setting program register.0)
+      && has_no_room setting program register.0)
+      TooManyRegisterRules)
+  refusal_of setting program toggles_sign_state =
+      option_or
+      (refused_if (is_no_constant (rule_of setting program ra_sign_state))
+      CfiInstructionInInvalidContext)
+      (refused_if (has_no_room setting program ra_sign_state) TooManyRegisterRules)
+  refusal_of setting program remembers_state =
+      refused_if (is_stack_full setting program) StackFull
+  refusal_of setting program restores_state =
+      refused_if (open_count program == 0) PopWithEmptyStack
+  refusal_of setting program (sets_args_size size) = None
+  refusal_of setting program changes_nothing = None
 
   abbrev pub refusal : Setting → Program T → CallFrameInstruction T → Option Error
-  refusal s p i = refusal_of s p (action i)
+  refusal setting program instruction = refusal_of setting program (action instruction)
 
   -- the end of the CIE's initial instructions
   abbrev pub refusal_at_end : Setting → List (CallFrameInstruction T) → Option Error
-  refusal_at_end s cie = refused_if (nat_le 2 (rule_count s (in_cie cie)) && is_stack_full s (in_cie cie)) StackFull
+  refusal_at_end setting cie =
+      refused_if (nat_le 2 (rule_count setting (in_cie cie)) && is_stack_full setting (in_cie cie))
+      StackFull
 
   -- ---- accepted
 
-  pub data IsAccepted (s : Setting) : Program T → Type 0 where
-    nothing : IsAccepted s (in_cie [])
-    one_more : (p : Program T) (i : CallFrameInstruction T) → IsAccepted s p → refusal s p i ≡ None → IsAccepted s (followed_by p i)
-    cie_ended : (cie : List (CallFrameInstruction T)) → IsAccepted s (in_cie cie) → refusal_at_end s cie ≡ None → IsAccepted s (in_fde cie [])
+  pub data IsAccepted (setting : Setting) : Program T → Type 0 where
+    nothing : IsAccepted setting (in_cie [])
+    one_more : (program : Program T) (instruction : CallFrameInstruction T)
+        → IsAccepted setting program
+        → refusal setting program instruction ≡ None
+        → IsAccepted setting (followed_by program instruction)
+    cie_ended : (cie : List (CallFrameInstruction T))
+        → IsAccepted setting (in_cie cie)
+        → refusal_at_end setting cie ≡ None
+        → IsAccepted setting (in_fde cie [])

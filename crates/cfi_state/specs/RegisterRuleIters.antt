@@ -1,4 +1,4 @@
--- What an iterator of a row's rules still yields.
+-- What an iterator over a row's rules still yields.
 use Rattle.std.specs.Prelude.{List}
 use Rattle.cfi_read_core.specs.declared.common.Register.{Register}
 use Rattle.cfi_state.specs.declared.table.rules.RegisterRule.{RegisterRule}

@@ -1,7 +1,8 @@
--- A row of an unwind table (DWARF 5 section 6.4.1): the parts of the unwind rules, and the addresses for which they hold.
-use Rattle.std.specs.Prelude.{ℕ}
+-- A row of an unwind table (DWARF 5 section 6.4.1): the unwind rules, and the addresses for which
+-- they hold.
+use Rattle.std.specs.Prelude.{ℕ, ◌<◌, ◌≤◌}
 use Rattle.cfi_state.specs.declared.table.rules.CfaRule.{CfaRule}
-use Rattle.cfi_state.specs.Machine.{Parts, Rules, State, fresh_state}
+use Rattle.cfi_state.specs.Machine.{Parts, Rules, fresh_state}
 
 -- from the start address up to the end address
 pub record Row (T : Type 0) : Type 0 where
@@ -10,17 +11,19 @@ pub record Row (T : Type 0) : Type 0 where
   pub parts : Parts T
 
 module _ {T : Type 0} where
+  -- from the start address up to the end address, without the latter
+  abbrev pub RowContains : ℕ → Row T → Type 0
+  RowContains address row = (row.start_address ≤ address) × (address < row.end_address)
+
   -- the row before the first instruction
   abbrev pub empty_row : Row T
   empty_row = record { start_address = 0; end_address = 0; parts = fresh_state.parts }
 
-  -- the row with another start, end or part
-  abbrev pub at_start : Row T → ℕ → Row T
-  at_start row address = record row { start_address = address }
+  -- the row between two addresses
+  abbrev pub at_addresses : Row T → ℕ → ℕ → Row T
+  at_addresses row start end = record row { start_address = start; end_address = end }
 
-  abbrev pub at_end : Row T → ℕ → Row T
-  at_end row address = record row { end_address = address }
-
+  -- the row with another part
   abbrev pub with_parts : Row T → Parts T → Row T
   with_parts row parts = record row { parts = parts }
 

@@ -18,7 +18,7 @@ use Rattle.cfi_entry.specs.Prefixes.{Prefix, prefix, fields_after_length, of_len
 use Rattle.cfi_entry.specs.Cies.{Cie, cie_of, cie_fields, is_known_version, sizes, return_register}
 use Rattle.cfi_entry.specs.Fdes.{PartialFde}
 use Rattle.cfi_entry.specs.Entries.{Entry, CieEntry, FdeEntry, end_of_entry, entry_of, entries, entries_with, entries_from, partial_fde_of, is_cie}
-use Rattle.cfi_unwind.proofs.EntryLemmas.{onward_prefix, prefix_offset}
+use Rattle.cfi_unwind.proofs.EntryLemmas.{found_kept, onward_prefix, prefix_offset}
 
 -- ---- the place after a read
 
@@ -173,16 +173,12 @@ cie_end section found =
     }) refl)))))))))
 
 entry_end : (section : Section) (found : Prefix) (b : Bool) (cie : Result Cie Error) (fde : Result PartialFde Error) (entry : Entry) →
-    ((c : Cie) → cie ≡ Ok c → EndsWith found c) → ((p : PartialFde) → fde ≡ Ok p → p.found ≡ found) →
+    ((c : Cie) → cie ≡ Ok c → EndsWith found c) → ((p : PartialFde) → fde ≡ Ok p → p.prefix ≡ found) →
     (if b then map_ok CieEntry cie else map_ok FdeEntry fde) ≡ Ok entry → end_of_entry entry ≡ end_of_prefix found
 entry_end section found true (Ok c) fde entry ends keeps is = let same : CieEntry c ≡ entry = cc in ap end_of_entry (sym same) ∙ ends c refl
 entry_end section found true (Err r) fde entry ends keeps is = absurd (cc)
 entry_end section found false cie (Ok p) entry ends keeps is = let same : FdeEntry p ≡ entry = cc in ap end_of_entry (sym same) ∙ ap end_of_prefix (keeps p refl)
 entry_end section found false cie (Err r) entry ends keeps is = absurd (cc)
-
-found_kept : (found : Prefix) (o : Result ℕ Error) (partial : PartialFde) → map_ok (λ n. record { found = found; cie_offset = n }) o ≡ Ok partial → partial.found ≡ found
-found_kept found (Ok n) partial e = let same : record { found = found; cie_offset = n } ≡ partial = cc in sym (ap (λ (p : PartialFde). p.found) same)
-found_kept found (Err r) partial e = absurd (cc)
 
 end_of_read : (section : Section) (found : Prefix) (entry : Entry) → entry_of section found ≡ Ok entry → end_of_entry entry ≡ end_of_prefix found
 unfolding entry_of

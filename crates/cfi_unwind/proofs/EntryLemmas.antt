@@ -74,8 +74,8 @@ prefix_there section place found from before e =
 -- ---- entries
 
 pub record IsAtItsOffset (section : Section) (partial : PartialFde) : Type 0 where
-  pub at_offset : partial_fde_at section partial.found.offset ≡ Ok partial
-  pub inside : partial.found.offset ≤ section.source.last - section.first
+  pub at_offset : partial_fde_at section partial.prefix.offset ≡ Ok partial
+  pub inside : partial.prefix.offset ≤ section.source.last - section.first
 
 abbrev AreAtTheirOffsets : Section → List Entry → Type 0
 AreAtTheirOffsets section es = AllByRecursion (IsAtItsOffset section) (partial_fdes es)
@@ -87,8 +87,8 @@ fde_of_entry true (Err r) fde partial e = absurd (cc)
 fde_of_entry false cie (Ok fde) partial e = (refl, cc)
 fde_of_entry false cie (Err r) partial e = absurd (cc)
 
-found_kept : (found : Prefix) (offset : Result ℕ Error) (partial : PartialFde) → map_ok (λ n. record { found = found; cie_offset = n }) offset ≡ Ok partial → partial.found ≡ found
-found_kept found (Ok n) partial e = let same : record { found = found; cie_offset = n } ≡ partial = cc in sym (ap (λ (p : PartialFde). p.found) same)
+pub found_kept : (found : Prefix) (offset : Result ℕ Error) (partial : PartialFde) → map_ok (λ n. record { prefix = found; cie_offset = n }) offset ≡ Ok partial → partial.prefix ≡ found
+found_kept found (Ok n) partial e = let same : record { prefix = found; cie_offset = n } ≡ partial = cc in sym (ap (λ (p : PartialFde). p.prefix) same)
 found_kept found (Err r) partial e = absurd (cc)
 
 fde_there : (section : Section) (place : ℕ) (found : Prefix) (partial : PartialFde) → section.first ≤ place → place < section.source.last →
@@ -96,7 +96,7 @@ fde_there : (section : Section) (place : ℕ) (found : Prefix) (partial : Partia
 unfolding entry_of partial_fde_at
 fde_there section place found partial from before e is =
     let parts = fde_of_entry (is_cie section found) (cie_of section found) (partial_fde_of section found) partial is in
-    let kept : partial.found ≡ found = found_kept found (cie_offset_of section found.id_offset found.id) partial parts.1 in
+    let kept : partial.prefix ≡ found = found_kept found (cie_offset_of section found.id_offset found.id) partial parts.1 in
     let offset : found.offset ≡ place - section.first = prefix_offset section section.source place found e in
     let there : prefix_at section found.offset ≡ Ok found = prefix_there section place found from before e in
     let read : partial_fde_at section found.offset ≡ Ok partial = rw (there, parts.0) parts.1 in
@@ -148,14 +148,14 @@ fields_offset section found cie =
     gives_bind P remainder _ (λ instructions.
     gives_give P (record { offset = found.offset; length = found.length; cie = cie; initial = range.0; range = range.1; lsda = lsda; instructions = instructions }) refl)))
 
-fde_offset : (section : Section) (partial : PartialFde) (given : Result Cie Error) (fde : Fde) → fde_with section partial given ≡ Ok fde → fde.offset ≡ partial.found.offset
+pub fde_offset : (section : Section) (partial : PartialFde) (given : Result Cie Error) (fde : Fde) → fde_with section partial given ≡ Ok fde → fde.offset ≡ partial.prefix.offset
 fde_offset section partial (Err e) fde is = absurd (cc)
 fde_offset section partial (Ok cie) fde is =
-    (gives_within (λ (f : Fde). f.offset ≡ partial.found.offset) partial.found.rest (fde_fields section partial.found cie) (fields_offset section partial.found cie)).given section.source partial.found.rest.first fde is
+    (gives_within (λ (f : Fde). f.offset ≡ partial.prefix.offset) partial.prefix.rest (fde_fields section partial.prefix cie) (fields_offset section partial.prefix cie)).given section.source partial.prefix.rest.first fde is
 
 read_there : (section : Section) (partial : PartialFde) (fde : Fde) → IsAtItsOffset section partial → read_fde section partial ≡ Ok fde → IsFdeAtItsOffset section fde
 read_there section partial fde there is =
-    let offset : fde.offset ≡ partial.found.offset = fde_offset section partial (cie_at section partial.cie_offset) fde is in
+    let offset : fde.offset ≡ partial.prefix.offset = fde_offset section partial (cie_at section partial.cie_offset) fde is in
     record {
       at_offset = ap (fde_at section) offset ∙ (ap (fde_by section) there.at_offset ∙ is);
       inside = rw offset there.inside;

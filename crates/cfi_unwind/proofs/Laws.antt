@@ -12,7 +12,7 @@ use Rattle.cfi_read_core.specs.declared.error.Error.TheVariants.{OutOfMemory}
 use Rattle.cfi_state.specs.Row.{Row}
 use Rattle.cfi_lists.specs.ListLimits.{IsFixed}
 use Rattle.cfi_state.specs.MachineRuns.{may_allocate, AnswersFde}
-use Rattle.cfi_state.specs.KeptInstructions.{AnswersByKept}
+use Rattle.cfi_state.specs.AcceptedInstructions.{AnswersByAccepted}
 use Rattle.cfi_state.proofs.Laws.{by_kept, by_run, is_due, is_due_where_never, contains_it}
 use Rattle.cfi_state.proofs.FixedStorage.{fixed_never}
 use Rattle.cfi_entry.specs.Sections.{Section}
@@ -35,7 +35,7 @@ module _ (rule_limit stack_limit : Option ℕ) (copies_free : Bool) (section : S
   abbrev pub KeepsToRowOfFde : Fde → Result (Row ℕ) Error → Type 0
   KeepsToRowOfFde fde row =
       let s = setting rule_limit stack_limit fde in
-      AnswersByKept (may_allocate s copies_free) s (cie_instructions section fde.cie) (fde_instructions section fde) a row
+      AnswersByAccepted (may_allocate s copies_free) s (cie_instructions section fde.cie) (fde_instructions section fde) a row
 
   -- by a run of the machine
   abbrev pub RunsToRowOfFde : Fde → Result (Row ℕ) Error → Type 0

@@ -8,3 +8,4 @@ pub mod Laws
 pub mod RowLemmas
 pub mod StartLemmas
 pub mod Answered
+pub mod CachedCalls

@@ -5,7 +5,7 @@ use Rattle.std.specs.Borrow.{Bor}
 use Rattle.cfi_read_core.specs.declared.error.Error.{Error}
 use Rattle.cfi_read_core.specs.ReadFunctions.{Position, Readings}
 use Rattle.cfi_read_core.specs.ReaderCalls.{map_ok}
-use Rattle.cfi_instruction.specs.ExpressionPlaces.{LiesIn}
+use Rattle.cfi_read_core.specs.ExpressionPlaces.{LiesIn}
 use Rattle.cfi_parts.specs.Instructions.{Instruction}
 use Rattle.cfi_state.specs.MachineSettings.{Setting}
 use Rattle.cfi_state.specs.Row.{Row}

@@ -6,7 +6,7 @@ use Rattle.cfi_read_core.specs.declared.error.Error.{Error}
 use Rattle.cfi_read_core.specs.ReadFunctions.{Readings}
 use Rattle.cfi_read_core.specs.ReaderCalls.{map_ok}
 use Rattle.cfi_parts.specs.Instructions.{Instruction}
-use Rattle.cfi_instruction.specs.ExpressionPlaces.{LiesIn, HasExpressionIn}
+use Rattle.cfi_read_core.specs.ExpressionPlaces.{LiesIn, HasExpressionIn}
 use Rattle.cfi_parts.proofs.ExpressionPlaces.{all_read_in}
 use Rattle.cfi_state.specs.MachineSettings.{Setting}
 use Rattle.cfi_state.specs.Machine.{State, fresh_state}
@@ -26,7 +26,7 @@ use Rattle.cfi_entry.specs.Sections.{Section, position_of}
 use Rattle.cfi_entry.specs.Cies.{Cie}
 use Rattle.cfi_entry.specs.Fdes.{Fde}
 use Rattle.cfi_entry.specs.EntryInstructions.{cie_instructions, fde_instructions}
-use Rattle.cfi_unwind.specs.UnwindTableCalls.{KeepsCieProgram, StartsRows}
+use Rattle.cfi_unwind.specs.UnwindTableCalls.{AcceptsCieProgram, StartsRows}
 
 -- each instruction has its expression in the section
 abbrev AllIn : Section → Readings Instruction → Type 0
@@ -45,12 +45,12 @@ module _ {X : Type 0} (place : X → TableState (State ℕ) ℕ) (s : Setting) (
   come : (x : X) → (place x).has_ended ≡ false → rows_to_come s (place x) ≡ rows_of (run_answers s (place x).so_far (place x).left)
   come x going = ap (λ b. rows_of (cond b [] (run_answers s (place x).so_far (place x).left))) going
 
-  rows_follow : (made : Result X Error) → KeepsCieProgram s free cie (State_of made) → IfOk made (λ x. (place x).has_ended ≡ false) → IfOk made (λ x. AreConsecutive s.initial_address (rows_to_come s (place x)) s.end_address)
+  rows_follow : (made : Result X Error) → AcceptsCieProgram s free cie (State_of made) → IfOk made (λ x. (place x).has_ended ≡ false) → IfOk made (λ x. AreConsecutive s.initial_address (rows_to_come s (place x)) s.end_address)
   rows_follow (Ok x) keeps going =
       subst (λ (l : List (Row ℕ)). AreConsecutive s.initial_address l s.end_address) (sym (come x going)) (run_consecutive s (place x).so_far keeps.0 (place x).left keeps.2)
   rows_follow (Err e) keeps going = tt
 
-  in_one : (made : Result X Error) → KeepsCieProgram s free cie (State_of made) → IfOk made (λ x. (place x).has_ended ≡ false) →
+  in_one : (made : Result X Error) → AcceptsCieProgram s free cie (State_of made) → IfOk made (λ x. (place x).has_ended ≡ false) →
       IfOk made (λ x. (address : ℕ) → s.initial_address ≤ address → address < s.end_address → count_by (row_contains address) (rows_to_come s (place x)) ≡ 1)
   in_one (Ok x) keeps going = λ address low high.
       ap (λ (l : List (Row ℕ)). count_by (row_contains address) l) (come x going) ∙ run_in_one_row s (place x).so_far keeps.0 (place x).left keeps.2 address low high
@@ -80,16 +80,16 @@ row_inside number rule_limit stack_limit free section a fde result is begins end
 module _ {X : Type 0} (place : X → TableState (State ℕ) ℕ) (made : Result X Error) (s t : Setting) (setting : s ≡ t) (free : Bool) (section : Section) (fde : Fde)
     (cie : Readings Instruction) (cies : cie ≡ cie_instructions section fde.cie) where
   pub starts_rows : RunsInitialInstructions (may_allocate s free) s fresh_state cie (map_ok (λ x. (place x).so_far) made)
-      → KeepsCieProgram s free cie (map_ok (λ x. (place x).so_far) made)
+      → AcceptsCieProgram s free cie (map_ok (λ x. (place x).so_far) made)
       → IfOk made (λ x. (place x).left ≡ fde_instructions section fde) → IfOk made (λ x. (place x).has_ended ≡ false)
       → section.first ≤ fde.cie.initial_instructions.first → fde.cie.initial_instructions.last ≤ section.source.last
       → section.first ≤ fde.instructions.first → fde.instructions.last ≤ section.source.last → StartsRows place t free section fde made
   starts_rows runs keeps left going begins ends own_begins own_ends =
       let run : RunsInitialInstructions (may_allocate t free) t fresh_state (cie_instructions section fde.cie) (map_ok (λ x. (place x).so_far) made) = subst (λ x. RunsInitialInstructions (may_allocate t free) t fresh_state x (map_ok (λ x. (place x).so_far) made)) cies
       (subst (λ x. RunsInitialInstructions (may_allocate x free) x fresh_state cie (map_ok (λ x. (place x).so_far) made)) setting runs) in
-      let kept : KeepsCieProgram t free (cie_instructions section fde.cie) (map_ok (λ x. (place x).so_far) made) =
-      subst (λ x. KeepsCieProgram t free x (map_ok (λ x. (place x).so_far) made)) cies
-      (subst (λ x. KeepsCieProgram x free cie (map_ok (λ x. (place x).so_far) made)) setting keeps) in
+      let kept : AcceptsCieProgram t free (cie_instructions section fde.cie) (map_ok (λ x. (place x).so_far) made) =
+      subst (λ x. AcceptsCieProgram t free x (map_ok (λ x. (place x).so_far) made)) cies
+      (subst (λ x. AcceptsCieProgram x free cie (map_ok (λ x. (place x).so_far) made)) setting keeps) in
       record {
         run = run;
         kept = kept;

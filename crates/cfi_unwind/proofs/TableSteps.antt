@@ -8,11 +8,11 @@ use Rattle.cfi_read_core.specs.ReadFunctions.{Readings, with_first, no_values}
 use Rattle.cfi_read_core.specs.ReaderCalls.{map_ok}
 use Rattle.cfi_read_core.specs.declared.error.Error.{Error}
 use Rattle.cfi_read_core.specs.declared.error.Error.TheVariants.{NoUnwindInfoForAddress}
-use Rattle.cfi_instruction.specs.declared.instruction.CallFrameInstruction.{CallFrameInstruction}
+use Rattle.cfi_read_core.specs.declared.instruction.CallFrameInstruction.{CallFrameInstruction}
 use Rattle.cfi_parts.specs.Instructions.{Instruction}
 use Rattle.cfi_parts.specs.InstructionReaders.{Meets}
-use Rattle.cfi_instruction.specs.MappedInstructions.{map_instruction}
-use Rattle.cfi_state.specs.Row.{Row, at_start, at_end}
+use Rattle.cfi_read_core.specs.MappedInstructions.{map_instruction}
+use Rattle.cfi_state.specs.Row.{Row, at_addresses}
 use Rattle.cfi_state.specs.MachineSettings.{Setting, is_move}
 use Rattle.cfi_state.specs.Machine.{State, fresh_state, step}
 use Rattle.cfi_state.specs.UnwindContexts.{ContextState, machine_state, with_row, empty_context}
@@ -24,27 +24,21 @@ use Rattle.cfi_state.specs.FdeAnswers.{row_contains}
 use Rattle.cfi_state.proofs.MappedRuns.{step_ok-mapped, end_ok-mapped, step_refusal-mapped, end_refusal-mapped}
 use Rattle.cfi_state.proofs.MappedSteps.{is_move-mapped, fresh-mapped}
 use Rattle.cfi_state.proofs.RunSteps.{LeadsTo, leads-on, next-row, LeadsToCie, cie-leads-on, cie-refused, cie-unreadable, cie-ended, cie-end-refused}
-use Rattle.cfi_state.proofs.KeptAnswers.{keeps_next, keeps_cie}
+use Rattle.cfi_state.proofs.AcceptedAnswers.{keeps_next, keeps_cie}
 use Rattle.cfi_state.proofs.IsStateAfter.{stands_fresh}
 use Rattle.cfi_state.proofs.FixedStorage.{fixed_never}
 use Rattle.cfi_state.proofs.RunAnswers.{next_or_memory, next_is_due}
 use Rattle.cfi_state.proofs.RowExpressions.{next_holds}
-use Rattle.cfi_instruction.specs.ExpressionPlaces.{LiesIn}
-use Rattle.cfi_unwind.specs.UnwindTableCalls.{GivesNextAnswer, AnswersWithoutMachine, IsNextOrMemory, KeepsExpressionsIn, KeepsCieProgram, state_in_numbers, row_due, state_after, LendsNextRow}
+use Rattle.cfi_read_core.specs.ExpressionPlaces.{LiesIn}
+use Rattle.cfi_unwind.specs.UnwindTableCalls.{GivesNextAnswer, AnswersWithoutMachine, IsNextOrMemory, KeepsExpressionsIn, AcceptsCieProgram, state_in_numbers, row_due, state_after, LendsNextRow}
 
 -- what an instruction leaves as it was
 module _ {T : Type 0} (s : Setting) (free : Bool) (location : ℕ) (i : CallFrameInstruction T) (old new : ContextState T) (answer : Result (Option ℕ) Error) (evaluated : Evaluates s free location i old new answer) where
-  pub start-stays : answer ≡ Ok None → new.row.start_address ≡ old.row.start_address
-  start-stays is = (subst (λ r. Evaluates s free location i old new r) is evaluated).start_address
-
   pub initial-stays : answer ≡ Ok None → new.initial_rules ≡ old.initial_rules
   initial-stays is = (subst (λ r. Evaluates s free location i old new r) is evaluated).initial_rules
 
   pub moved-same : (address : ℕ) → answer ≡ Ok (Some address) → new ≡ old
   moved-same address is = (subst (λ r. Evaluates s free location i old new r) is evaluated).1
-
-  pub refused-same : (e : Error) → answer ≡ Err e → new ≡ old
-  refused-same e is = (subst (λ r. Evaluates s free location i old new r) is evaluated).0
 
 module _ {T : Type 0} (number : T → ℕ) where
   abbrev Given : Type 0
@@ -156,34 +150,32 @@ module _ (allocates : MayAllocate ℕ) (s : Setting) where
   pub table-ended : (p : TableState (State ℕ) ℕ) → p.has_ended ≡ true → NextAnswer allocates s p (Ok None) p
   table-ended p is = let same : after_last_row p.so_far p.left ≡ p = λ k. record { so_far = p.so_far; left = p.left; has_ended = sym is k } in subst (λ q. NextAnswer allocates s q (Ok None) q) same (no_row p.so_far p.left)
 
-  module _ {T : Type 0} (number : T → ℕ) (location : ℕ) (old started after : ContextState T) (left rest : Readings Instruction) (has_ended : Bool) (answer : Result (Option ℕ) Error)
-      (runs : has_ended ≡ false) (starts : started ≡ with_row old (at_start old.row location)) (stays : after.row.start_address ≡ started.row.start_address)
-      (next : NextAnswer allocates s (before_last_row (state_in_numbers number location started) left) (row_due number s location after answer) (state_after number location after rest answer)) where
+  module _ {T : Type 0} (number : T → ℕ) (location : ℕ) (old after : ContextState T) (left rest : Readings Instruction) (has_ended : Bool) (answer : Result (Option ℕ) Error)
+      (runs : has_ended ≡ false)
+      (next : NextAnswer allocates s (before_last_row (state_in_numbers number location old) left) (row_due number s location after answer) (state_after number location after rest answer)) where
     abbrev before : TableState (State ℕ) ℕ
     before = record { so_far = state_in_numbers number location old; left = left; has_ended = has_ended }
 
     from_before : (given : Result (Option ℕ) Error) → answer ≡ given → NextAnswer allocates s before (row_due number s location after given) (state_after number location after rest given)
     from_before given is =
-        let same : before_last_row (state_in_numbers number location started) left ≡ before = λ k. record { so_far = state_in_numbers number location (starts k); left = left; has_ended = sym runs k } in
+        let same : before_last_row (state_in_numbers number location old) left ≡ before = λ k. record { so_far = state_in_numbers number location old; left = left; has_ended = sym runs k } in
         subst (λ p. NextAnswer allocates s p (row_due number s location after given) (state_after number location after rest given)) same
-        (subst (λ r. NextAnswer allocates s (before_last_row (state_in_numbers number location started) left) (row_due number s location after r) (state_after number location after rest r)) is next)
+        (subst (λ r. NextAnswer allocates s (before_last_row (state_in_numbers number location old) left) (row_due number s location after r) (state_after number location after rest r)) is next)
 
     pub table-refuses : (e : Error) → answer ≡ Err e → NextAnswer allocates s before (Err e) (record { so_far = state_in_numbers number location after; left = rest; has_ended = has_ended })
     table-refuses e is =
         subst (λ b. NextAnswer allocates s before (Err e) (record { so_far = state_in_numbers number location after; left = rest; has_ended = b })) (sym runs) (from_before (Err e) is)
 
-    row_is : (final : ContextState T) (end : ℕ) → final ≡ with_row after (at_end after.row end) → current_row (state_in_numbers number location after) end ≡ map_row number final.row
-    row_is final end ends =
-        (λ k. record { start_address = sym (stays ∙ ap (λ c. c.row.start_address) starts) k; end_address = end; parts = map_parts number after.row.parts })
-        ∙ ap (λ c. map_row number c.row) (sym ends)
+    row_is : (final : ContextState T) (end : ℕ) → final ≡ with_row after (at_addresses after.row location end) → current_row (state_in_numbers number location after) end ≡ map_row number final.row
+    row_is final end ends = ap (λ c. map_row number c.row) (sym ends)
 
-    pub table-row : (final : ContextState T) (address : ℕ) → answer ≡ Ok (Some address) → final ≡ with_row after (at_end after.row address)
+    pub table-row : (final : ContextState T) (address : ℕ) → answer ≡ Ok (Some address) → final ≡ with_row after (at_addresses after.row location address)
         → NextAnswer allocates s before (Ok (Some (map_row number final.row))) (record { so_far = state_in_numbers number address final; left = rest; has_ended = has_ended })
     table-row final address is ends =
         subst (λ row. NextAnswer allocates s before (Ok (Some row)) (record { so_far = state_in_numbers number address final; left = rest; has_ended = has_ended })) (row_is final address ends)
         (subst (λ p. NextAnswer allocates s before (Ok (Some (current_row (state_in_numbers number location after) address))) p) (λ k. record { so_far = state_in_numbers number address (sym ends k); left = rest; has_ended = sym runs k }) (from_before (Ok (Some address)) is))
 
-    pub table-last : (final : ContextState T) → answer ≡ Ok None → final ≡ with_row after (at_end after.row s.end_address)
+    pub table-last : (final : ContextState T) → answer ≡ Ok None → final ≡ with_row after (at_addresses after.row location s.end_address)
         → NextAnswer allocates s before (Ok (Some (map_row number final.row))) (record { so_far = state_in_numbers number location final; left = rest; has_ended = true })
     table-last final is ends =
         subst (λ row. NextAnswer allocates s before (Ok (Some row)) (after_last_row (state_in_numbers number location final) rest)) (row_is final s.end_address ends)
@@ -217,7 +209,7 @@ pub keeps-expressions : (s : Setting) (free : Bool) (p : TableState (State ℕ) 
 keeps-expressions s free p answer q next section each =
     let held = next_holds (LiesIn section) (may_allocate s free) s p answer q next each in (held.1, held.0)
 
-pub keeps-program : (s : Setting) (free : Bool) (cie : Readings Instruction) (expected : Result (State ℕ) Error) → RunsInitialInstructions (may_allocate s free) s fresh_state cie expected → KeepsCieProgram s free cie expected
+pub keeps-program : (s : Setting) (free : Bool) (cie : Readings Instruction) (expected : Result (State ℕ) Error) → RunsInitialInstructions (may_allocate s free) s fresh_state cie expected → AcceptsCieProgram s free cie expected
 keeps-program s free cie (Ok x) runs = keeps_cie (may_allocate s free) s fresh_state cie (Ok x) runs [] (stands_fresh s)
 keeps-program s free cie (Err e) runs = keeps_cie (may_allocate s free) s fresh_state cie (Err e) runs [] (stands_fresh s)
 

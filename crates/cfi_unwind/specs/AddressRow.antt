@@ -2,6 +2,7 @@
 --     setting rule_limit stack_limit fde      what stays fixed while the programs of an FDE and its CIE run
 --     row_of_fde .. fde      the answer of one FDE: the refusal of its CIE's initial instructions, else its first refusal or row with the address
 --     row_by_scan .. section a      that of the first FDE that covers the address, or the first refusal before it
+--     ScansForRow, ScansForRowFrom asks .. section a      the section is scanned for the FDE of the address, with `get_cie`, for the row
 --     IsRowOfFde, IsRowOfFound, IsRowByScan      over any storage: the answer of an FDE, of the FDE or refusal that was found, and of
 --         the section, or `OutOfMemory` where an instruction that may allocate is reached on the way to it
 use Rattle.std.specs.Prelude.{ℕ, Bool, false, Option, Result, Ok, Err}
@@ -12,9 +13,12 @@ use Rattle.cfi_state.specs.FdeAnswers.{fde_answer}
 use Rattle.cfi_state.specs.MachineRuns.{may_allocate}
 use Rattle.cfi_state.specs.MemoryOnTheWay.{may_allocate_on_the_way, IsDueOrOutOfMemory}
 use Rattle.cfi_entry.specs.Sections.{Section}
+use Rattle.cfi_entry.specs.Cies.{Cie}
 use Rattle.cfi_entry.specs.Fdes.{Fde, end_of}
+use Rattle.cfi_entry.specs.Entries.{entries}
 use Rattle.cfi_entry.specs.EntryInstructions.{cie_instructions, fde_instructions}
 use Rattle.cfi_unwind.specs.Scan.{answer_by, chosen_fde, scan_answer}
+use Rattle.cfi_unwind.specs.GetCieCalls.{Scans}
 
 -- by the limits of a storage: of the rules in a row, and of the rows that are held
 abbrev pub setting : Option ℕ → Option ℕ → Fde → Setting
@@ -63,3 +67,12 @@ IsRowOfFound rule_limit stack_limit copies_free section a found row =
 abbrev pub IsRowByScan : Option ℕ → Option ℕ → Bool → Section → ℕ → Result (Row ℕ) Error → Type 0
 IsRowByScan rule_limit stack_limit copies_free section a row =
     IsDueOrOutOfMemory (row_by_scan rule_limit stack_limit section a) (allocates_in_found rule_limit stack_limit copies_free section a (chosen_fde section a)) row
+
+-- The same where a closure gives the CIEs: from its state f to its state g, or to some state, where it was passed by value.
+abbrev pub ScansForRow : {F : Type 0} → (F → ℕ → Result Cie Error → F → Type 0) → Option ℕ → Option ℕ → Bool → Section → ℕ → F → Result (Row ℕ) Error → F → Type 0
+ScansForRow asks rule_limit stack_limit copies_free section a f row g =
+    (found : Result Fde Error) × Scans asks section a (entries section) f found g × IsRowOfFound rule_limit stack_limit copies_free section a found row
+
+abbrev pub ScansForRowFrom : {F : Type 0} → (F → ℕ → Result Cie Error → F → Type 0) → Option ℕ → Option ℕ → Bool → Section → ℕ → F → Result (Row ℕ) Error → Type 0
+ScansForRowFrom {F} asks rule_limit stack_limit copies_free section a f row =
+    (found : Result Fde Error) × (last : F) × Scans asks section a (entries section) f found last × IsRowOfFound rule_limit stack_limit copies_free section a found row

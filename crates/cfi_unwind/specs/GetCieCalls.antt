@@ -1,15 +1,21 @@
--- Asking for CIEs, whoever answers.
+-- Calls of a closure `get_cie`, which the caller passes, for the CIE of an FDE.
+--     AsksForCie calls position number offset section bases      one such call
+--     ReadsFdeAt, ReadsFdeOf asks view section      one FDE is read: that at an offset, or the rest of one that is read in part
+--     ScansForFde asks view section address      the section is scanned for the FDE of an address
+--     IsAnswered, GivesCiesOf      the CIE is one that the closure returned; each such CIE is of the section
 use Rattle.std.specs.Prelude.{◌≡◌, ℕ, List, [], ◌∷◌, Some, Result, Ok, Err}
 use Rattle.std.specs.Fn.{Called, Mut}
 use Rattle.std.specs.Borrow.{Bor}
 use Rattle.cfi_read_core.specs.ReaderCalls.{map_ok}
-use Rattle.cfi_read_core.specs.ReadFunctions.{Readings}
+use Rattle.cfi_read_core.specs.ReadFunctions.{Position, Readings}
 use Rattle.cfi_read_core.specs.declared.error.Error.{Error}
 use Rattle.cfi_parts.specs.declared.pointer.BaseAddresses.{BaseAddresses}
 use Rattle.cfi_entry.specs.Sections.{Section}
 use Rattle.cfi_entry.specs.Cies.{Cie}
 use Rattle.cfi_entry.specs.Fdes.{PartialFde, Fde}
-use Rattle.cfi_entry.specs.Entries.{Entry, fde_with}
+use Rattle.cfi_entry.specs.Entries.{Entry, entries, fde_with, partial_fde_at}
+use Rattle.cfi_entry.specs.EntryViews.{IsCieOf, cie_view}
+use Rattle.cfi_entry.specs.declared.cie.CieFields.{CieFields}
 use Rattle.cfi_unwind.specs.Scan.{IsGiven, chosen_of_given, partial_fdes}
 
 -- A call of f with the section and the bases, for the CIE at the offset `asked`: its answer, and the state g after it.
@@ -56,3 +62,30 @@ abbrev pub Scans : {F : Type 0} → (F → ℕ → Result Cie Error → F → Ty
 Scans get_cie section a readings f answer g =
     (given : List (Result Cie Error)) × IsGiven get_cie (partial_fdes readings.values) f given g
     × (chosen_of_given a section (partial_fdes readings.values) readings.refusal given ≡ Some answer)
+
+-- ---- as the calls of a section and of a table use them
+
+-- From the state f of the closure, a call for the CIE at an offset gives a result, and leaves the state g. The offset that it gets is
+-- the section's own, whose number is that of the reader's offset in it.
+abbrev pub AsksForCie : {F S P R O : Type 0} → Mut F (Bor S × (Bor BaseAddresses × (P × Unit {0}))) (Result (CieFields R O) Error) →
+    (R → Position) → (O → ℕ) → (P → O) → S → BaseAddresses → F → ℕ → Result Cie Error → F → Type 0
+AsksForCie calls position number offset section bases = GetCieCall calls (λ o. number (offset o)) (cie_view position number) section bases
+
+-- Each CIE that the closure returns is read from the bytes of the section.
+abbrev pub GivesCiesOf : {F S P R O : Type 0} → Mut F (Bor S × (Bor BaseAddresses × (P × Unit {0}))) (Result (CieFields R O) Error) →
+    (R → Position) → Position → S → BaseAddresses → F → Type 0
+GivesCiesOf {R = R} {O = O} calls position own section bases first =
+    (cie : CieFields R O) → IsAnswered calls section bases first cie → IsCieOf position own cie
+
+module _ {F X : Type 0} (asks : F → ℕ → Result Cie Error → F → Type 0) (view : X → Fde) (section : Section) where
+  -- the FDE at an offset
+  abbrev pub ReadsFdeAt : ℕ → F → Result X Error → F → Type 0
+  ReadsFdeAt offset f result g = ReadsWith asks section (partial_fde_at section offset) f (map_ok view result) g
+
+  -- the FDE that is read as far as the offset of its CIE
+  abbrev pub ReadsFdeOf : PartialFde → F → Result X Error → F → Type 0
+  ReadsFdeOf partial f result g = ReadsWith asks section (Ok partial) f (map_ok view result) g
+
+  -- the first FDE that contains the address
+  abbrev pub ScansForFde : ℕ → F → Result X Error → F → Type 0
+  ScansForFde address f result g = Scans asks section address (entries section) f (map_ok view result) g

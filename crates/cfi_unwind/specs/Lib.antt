@@ -1,9 +1,10 @@
 pub mod Scan
 pub mod FdeViews
-pub mod EntryViews
+pub mod WalkViews
+pub mod EntryIterators
 pub mod EntrySteps
 pub mod GetCieCalls
-pub mod KeptCie
+pub mod CachedCie
 pub mod AddressRow
 pub mod UnwindTableCalls
 pub mod UnwindTableViews

@@ -2,7 +2,7 @@
 --     state_in_numbers number location context      the state of the machine
 --     table_state position number table      the state of a table (`UnwindTableViews`)
 --     GivesNextAnswer s copies_free p answer q      over a storage, a table in the state p answers next, and then is in the state q
---     AnswersWithoutMachine, KeepsCieProgram      the same without a machine, and of the program of a CIE
+--     AnswersWithoutMachine, AcceptsCieProgram      the same without a machine, and of the program of a CIE
 --     StartsRows      what making the table of an FDE answers
 --     IsNextOrMemory, KeepsExpressionsIn      what its answer is of those to come, and where the expressions in it lie
 --     LendsNextRow      what a call of `next_row` yields
@@ -14,7 +14,7 @@ use Rattle.cfi_read_core.specs.ReadFunctions.{Position, Readings}
 use Rattle.cfi_read_core.specs.ReaderCalls.{map_ok}
 use Rattle.cfi_read_core.specs.declared.error.Error.{Error}
 use Rattle.cfi_read_core.specs.declared.error.Error.TheVariants.{OutOfMemory}
-use Rattle.cfi_instruction.specs.ExpressionPlaces.{LiesIn}
+use Rattle.cfi_read_core.specs.ExpressionPlaces.{LiesIn}
 use Rattle.cfi_parts.specs.Instructions.{Instruction}
 use Rattle.cfi_state.specs.Row.{Row}
 use Rattle.cfi_state.specs.MachineSettings.{Setting}
@@ -27,7 +27,7 @@ use Rattle.cfi_state.specs.RowExpressions.{EachExpression, EachOfTable}
 use Rattle.cfi_state.specs.Program.{in_fde}
 use Rattle.cfi_state.specs.FdeAnswers.{IsStateAfter, AreConsecutive, row_contains}
 use Rattle.cfi_state.specs.MachineRuns.{current_row, NextAnswer, RunsInitialInstructions, may_allocate}
-use Rattle.cfi_state.specs.KeptInstructions.{AnswersForProgram, KeepsInitialInstructions}
+use Rattle.cfi_state.specs.AcceptedInstructions.{AnswersForProgram, AcceptsInitialInstructions}
 use Rattle.cfi_entry.specs.Sections.{Section, position_of}
 use Rattle.cfi_entry.specs.Fdes.{Fde}
 use Rattle.cfi_entry.specs.EntryInstructions.{cie_instructions, fde_instructions}
@@ -76,9 +76,9 @@ pub record AnswersWithoutMachine (s : Setting) (copies_free : Bool) (p : TableSt
   pub from : AnswersForProgram (may_allocate s copies_free) s p answer q
 
 -- The program of a CIE is kept, and the state stands after it.
-abbrev pub KeepsCieProgram : Setting → Bool → Readings Instruction → Result (State ℕ) Error → Type 0
-KeepsCieProgram s copies_free cie (Ok x) = (kept : List Instruction) × KeepsInitialInstructions (may_allocate s copies_free) s [] cie (Ok kept) × IsStateAfter s x (in_fde kept [])
-KeepsCieProgram s copies_free cie (Err e) = KeepsInitialInstructions (may_allocate s copies_free) s [] cie (Err e)
+abbrev pub AcceptsCieProgram : Setting → Bool → Readings Instruction → Result (State ℕ) Error → Type 0
+AcceptsCieProgram s copies_free cie (Ok x) = (kept : List Instruction) × AcceptsInitialInstructions (may_allocate s copies_free) s [] cie (Ok kept) × IsStateAfter s x (in_fde kept [])
+AcceptsCieProgram s copies_free cie (Err e) = AcceptsInitialInstructions (may_allocate s copies_free) s [] cie (Err e)
 
 -- ---- the table of an FDE
 
@@ -86,7 +86,7 @@ KeepsCieProgram s copies_free cie (Err e) = KeepsInitialInstructions (may_alloca
 -- and before all of the FDE's instructions.
 pub record StartsRows {X : Type 0} (place : X → TableState (State ℕ) ℕ) (s : Setting) (copies_free : Bool) (section : Section) (fde : Fde) (made : Result X Error) : Type 0 where
   pub run : RunsInitialInstructions (may_allocate s copies_free) s fresh_state (cie_instructions section fde.cie) (map_ok (λ x. (place x).so_far) made)
-  pub kept : KeepsCieProgram s copies_free (cie_instructions section fde.cie) (map_ok (λ x. (place x).so_far) made)
+  pub kept : AcceptsCieProgram s copies_free (cie_instructions section fde.cie) (map_ok (λ x. (place x).so_far) made)
   pub left : IfOk made (λ x. (place x).left ≡ fde_instructions section fde)
   pub has_not_ended : IfOk made (λ x. (place x).has_ended ≡ false)
   -- the rows follow each other from the FDE's first address to its end, and each address of it lies in exactly one

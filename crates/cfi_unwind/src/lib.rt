@@ -1,6 +1,10 @@
 #![tactic(auto)]
-//! Call frame sections, their entries, and the FDE for an address.
+//! The entries of call frame sections, the FDE for an address, and the rows of an FDE.
+//!
+//! `entry` has CIEs, FDEs and the iterator over them, `unwind_section` what a section is asked for,
+//! `cie_cache` a cache of the last CIE, and `unwind_table` the rows.
 
+pub mod cie_cache;
 pub mod entry;
 mod fde_rows;
 pub mod unwind_section;

@@ -1,9 +1,8 @@
 //! The rows of an FDE (DWARF 5 section 6.4.1), and the row of an address.
-ghost use Rattle.std.specs.Prelude.{◌≡◌, ℕ, Option, true, false, IfOk, IfSome, IfNone, IsTrue, [], MatchResult};
+ghost use Rattle.std.specs.Prelude.{◌≡◌, [], false, IfNone, IfOk, IfSome, IsTrue, MatchResult};
 ghost use Rattle.std.specs.Borrow.{sem};
 ghost use Rattle.std.specs.Io.BufRead.{Rests};
 ghost use mir.Syntax.{named};
-ghost use Rattle.cfi_instruction.specs.CallFrameSections.{IsOf};
 ghost use Rattle.cfi_parts.specs.InstructionIterators.{instruction_reader};
 ghost use Rattle.cfi_parts.specs.InstructionReaders.{instructions_left};
 ghost use Rattle.cfi_state.specs.UnwindContexts.{empty_context};
@@ -11,12 +10,14 @@ ghost use Rattle.cfi_state.specs.ContextEffects.{setting_of};
 ghost use Rattle.cfi_state.specs.Machine.{fresh_state};
 ghost use Rattle.cfi_state.specs.MappedStates.{row_lent};
 ghost use Rattle.cfi_state.specs.UnwindTableStates.{before_last_row};
-ghost use Rattle.cfi_state.specs.MachineRuns.{may_allocate, RunsInitialInstructions, FindsRow, AnswersFde};
+ghost use Rattle.cfi_state.specs.MachineRuns.{may_allocate, RunsInitialInstructions, AnswersFde};
 ghost use Rattle.cfi_read_core.specs.ReaderCalls.{map_ok};
-ghost use Rattle.cfi_unwind.specs.AddressRow.{setting};
 ghost use Rattle.cfi_entry.specs.Sections.{section_of};
-ghost use Rattle.cfi_unwind.specs.FdeViews.{fde_view};
-ghost use Rattle.cfi_unwind.specs.UnwindTableCalls.{GivesNextAnswer, AnswersWithoutMachine, IsNextOrMemory, KeepsExpressionsIn, KeepsCieProgram, StartsRows, state_in_numbers, row_due, row_given, state_after, LendsNextRow};
+ghost use Rattle.cfi_unwind.specs.FdeViews.{HasCieOf, IsFdeOf, fde_view};
+ghost use Rattle.cfi_unwind.specs.UnwindTableCalls.{GivesNextAnswer, AnswersWithoutMachine};
+ghost use Rattle.cfi_unwind.specs.UnwindTableCalls.{IsNextOrMemory, KeepsExpressionsIn};
+ghost use Rattle.cfi_unwind.specs.UnwindTableCalls.{AcceptsCieProgram, LendsNextRow, row_due};
+ghost use Rattle.cfi_unwind.specs.UnwindTableCalls.{row_given, state_after, state_in_numbers};
 
 use crate::entry::FrameDescriptionEntry;
 use crate::unwind_section::UnwindSection;
@@ -25,15 +26,14 @@ use cfi_parts::pointer::BaseAddresses;
 use cfi_read_core::{Error, Reader, Result, StoreOnHeap};
 use cfi_state::storage::UnwindContextStorage;
 use cfi_state::table::context::UnwindContext;
-use cfi_state::table::machine::{
-    Parameters, current_row, end_cie, evaluate, reset, set_end_address, set_start_address,
-};
+use cfi_state::table::machine::{Parameters, current_row, end_cie, evaluate, reset, set_addresses};
 use cfi_state::table::row::UnwindTableRow;
 
 /// The rows of an FDE, in order (DWARF 5 section 6.4.1).
 ///
-/// The rows are made in an unwind context, from which each is lent until the next call. Nothing is copied, and no memory is
-/// taken but by lists of the context without a limit, and by a storage whose copies of rows take memory.
+/// The rows are made in an unwind context, and each is borrowed from it until the next call.
+/// Nothing is copied. Memory is allocated only by lists of the context without a limit, and by a
+/// storage whose copies of rows allocate.
 #[derive(Drop)]
 #[derive_where(Debug)]
 pub struct UnwindTable<'a, 'ctx, R: Reader, S: UnwindContextStorage<R::Offset> = StoreOnHeap> {
@@ -49,40 +49,45 @@ pub struct UnwindTable<'a, 'ctx, R: Reader, S: UnwindContextStorage<R::Offset> =
 
 impl<'a, 'ctx, R: Reader, S: UnwindContextStorage<R::Offset>> UnwindTable<'a, 'ctx, R, S> {
     ghost use Rattle.cfi_unwind.specs.contracts.unwind_table.UnwindTable.{the_row};
-    ghost use Rattle.cfi_unwind.specs.UnwindTableViews.{table_state};
+    ghost use Rattle.cfi_unwind.specs.UnwindTableViews.{HasSettingOf, IsNewTable, table_parameters};
+    ghost use Rattle.cfi_unwind.specs.UnwindTableViews.{context_name, context_now, context_row};
+    ghost use Rattle.cfi_unwind.specs.UnwindTableViews.{holds_row, table_setting, table_state};
 
-    /// The table of an FDE, whose rows are made in the context.
+    /// Makes the table of an FDE, whose rows are made in the context.
     ///
-    /// The context is emptied, so nothing of its past counts; then the CIE's initial instructions run, whose final rules are kept for
-    /// `DW_CFA_restore`, and the table stands before the FDE's first row. Of the FDE's instructions none is read yet.
+    /// The context is emptied, so its past does not matter. Then the CIE's initial instructions
+    /// run, and their final rules are kept for `DW_CFA_restore`. The table is then before the FDE's
+    /// first row; none of the FDE's instructions is read yet.
     ///
-    /// The rows follow each other from the FDE's first address to its end, so that each address of it lies in exactly one.
+    /// The rows follow each other from the FDE's first address to its end, so that each of its
+    /// addresses is in exactly one row.
     ///
-    /// The FDE and its CIE are of the section; the bases are those of the section's entries. A refusal is the first of the
-    /// CIE's initial instructions: an instruction that can't be read, one that is refused, or `StackFull` where its final rules find no
-    /// room. Over a fixed storage it takes no memory; over another one it may be refused with `OutOfMemory`.
+    /// The FDE and its CIE must be of this section; the bases are those of the section's entries.
+    /// Fails with the first error of the CIE's initial instructions: that one can't be read or run,
+    /// or `StackFull` where there is no room for their final rules. With a fixed storage it never
+    /// fails with `OutOfMemory`; with another one it may.
     pub fn new<Section: UnwindSection<R>>(
         section: &'a Section,
         bases: &'a BaseAddresses,
         ctx: &'ctx mut UnwindContext<R::Offset, S>,
         fde: &FrameDescriptionEntry<R>,
     ) -> Result<Self>
-        requires own { IsOf (R.position fde.now.instructions) (Section.view section.now).position }
-        requires cie { IsOf (R.position fde.now.cie.initial_instructions) (Section.view section.now).position }
-        ensures starts { StartsRows (λ table. table_state R.position R.Offset.number table)
-            (setting S.Rules.limit S.Stack.limit (fde_view R.position R.Offset.number fde.now)) S.Rules.copies_free
-            (section_of (Section.view section.now) bases.now) (fde_view R.position R.Offset.number fde.now) result }
-        ensures setting { IfOk result (λ table. (rules stack : Option ℕ) →
-            setting_of table.parameters rules stack ≡ setting rules stack (fde_view R.position R.Offset.number fde.now)) }
-        ensures holds_row { IfOk result (λ table. table.holds_row ≡ false) }
-        ensures same_reference { IfOk result (λ table. table.context.ghost_name ≡ ctx.entry.ghost_name) }
+        requires own { IsFdeOf R.position (Section.view section.now).position fde.now }
+        requires cie { HasCieOf R.position (Section.view section.now).position fde.now }
+        ensures starts { IsNewTable R.position R.Offset.number
+            S.Rules.limit S.Stack.limit S.Rules.copies_free
+            (section_of (Section.view section.now) bases.now)
+            (fde_view R.position R.Offset.number fde.now) result }
+        ensures setting { IfOk result (HasSettingOf (fde_view R.position R.Offset.number fde.now)) }
+        ensures holds_row { IfOk result (λ table. holds_row table ≡ false) }
+        ensures same_reference { IfOk result (λ table. context_name table ≡ ctx.entry.ghost_name) }
     {
         let initial = fde.cie.instructions(section, bases);
         let instructions = fde.instructions(section, bases);
         Self::with_instructions(fde.parameters(), initial, instructions, ctx)
     }
 
-    // The same over the instructions of the two.
+    /// Makes the table of the instructions of an FDE and its CIE.
     fn with_instructions(
         parameters: Parameters,
         cie_instructions: CallFrameInstructionIter<'_, R>,
@@ -90,15 +95,19 @@ impl<'a, 'ctx, R: Reader, S: UnwindContextStorage<R::Offset>> UnwindTable<'a, 'c
         context: &'ctx mut UnwindContext<R::Offset, S>,
     ) -> Result<Self>
         ensures cie { let s = setting_of parameters S.Rules.limit S.Stack.limit in
-            RunsInitialInstructions (may_allocate s S.Rules.copies_free) s fresh_state (instructions_left (instruction_reader R.position cie_instructions.entry))
+            RunsInitialInstructions (may_allocate s S.Rules.copies_free) s fresh_state
+            (instructions_left (instruction_reader R.position cie_instructions.entry))
             (map_ok (λ table. (table_state R.position R.Offset.number table).so_far) result) }
-        ensures kept { KeepsCieProgram (setting_of parameters S.Rules.limit S.Stack.limit) S.Rules.copies_free (instructions_left (instruction_reader R.position cie_instructions.entry))
+        ensures kept { AcceptsCieProgram
+            (setting_of parameters S.Rules.limit S.Stack.limit) S.Rules.copies_free
+            (instructions_left (instruction_reader R.position cie_instructions.entry))
             (map_ok (λ table. (table_state R.position R.Offset.number table).so_far) result) }
         ensures fde { IfOk result (λ table. table.instructions ≡ fde_instructions.entry) }
         ensures parameters { IfOk result (λ table. table.parameters ≡ parameters) }
         ensures has_ended { IfOk result (λ table. table.has_ended ≡ false) }
-        ensures holds_row { IfOk result (λ table. table.holds_row ≡ false) }
-        ensures same_reference { IfOk result (λ table. table.context.ghost_name ≡ context.entry.ghost_name) }
+        ensures holds_row { IfOk result (λ table. holds_row table ≡ false) }
+        ensures same_reference { IfOk result (λ table.
+            context_name table ≡ context.entry.ghost_name) }
     {
         reset(context);
         run_initial(context, &parameters, cie_instructions)?;
@@ -112,50 +121,53 @@ impl<'a, 'ctx, R: Reader, S: UnwindContextStorage<R::Offset>> UnwindTable<'a, 'c
         })
     }
 
-    // Goes on to the next row, and answers whether there is one.
+    /// Makes the next row in the context. Returns whether there is one.
     #[inline(always)]
     fn advance(&mut self) -> Result<bool>
-        ensures next { GivesNextAnswer (setting_of self.old.parameters S.Rules.limit S.Stack.limit) S.Rules.copies_free
+        ensures next { GivesNextAnswer
+            (table_setting self.old S.Rules.limit S.Stack.limit) S.Rules.copies_free
             (table_state R.position R.Offset.number self.old)
-            (row_given R.Offset.number self.new.context.now result)
+            (row_given R.Offset.number (context_now self.new) result)
             (table_state R.position R.Offset.number self.new) }
-        ensures kept { AnswersWithoutMachine (setting_of self.old.parameters S.Rules.limit S.Stack.limit) S.Rules.copies_free
+        ensures kept { AnswersWithoutMachine
+            (table_setting self.old S.Rules.limit S.Stack.limit) S.Rules.copies_free
             (table_state R.position R.Offset.number self.old)
-            (row_given R.Offset.number self.new.context.now result)
+            (row_given R.Offset.number (context_now self.new) result)
             (table_state R.position R.Offset.number self.new) }
-        ensures due { IsNextOrMemory (setting_of self.old.parameters S.Rules.limit S.Stack.limit) S.Rules.copies_free
+        ensures due { IsNextOrMemory
+            (table_setting self.old S.Rules.limit S.Stack.limit) S.Rules.copies_free
             (table_state R.position R.Offset.number self.old)
-            (row_given R.Offset.number self.new.context.now result)
+            (row_given R.Offset.number (context_now self.new) result)
             (table_state R.position R.Offset.number self.new) }
         ensures expressions { KeepsExpressionsIn
             (table_state R.position R.Offset.number self.old)
-            (row_given R.Offset.number self.new.context.now result)
+            (row_given R.Offset.number (context_now self.new) result)
             (table_state R.position R.Offset.number self.new) }
-        ensures holds_row { MatchResult result (λ found. self.new.holds_row ≡ found) (λ _. self.new.holds_row ≡ false) }
-        ensures parameters { self.new.parameters ≡ self.old.parameters }
-        ensures same_reference { self.new.context.ghost_name ≡ self.old.context.ghost_name }
+        ensures holds_row { MatchResult result
+            (λ found. holds_row self.new ≡ found) (λ _. holds_row self.new ≡ false) }
+        ensures parameters { table_parameters self.new ≡ table_parameters self.old }
+        ensures same_reference { context_name self.new ≡ context_name self.old }
     {
         self.holds_row = false;
         if self.has_ended {
             return Ok(false);
         }
-        let location = self.next_start_address;
-        set_start_address(self.context, location);
+        let start = self.next_start_address;
         let moved = run_to_move(
             self.context,
             &self.parameters,
-            location,
+            start,
             &mut self.instructions,
         )?;
         match moved {
             Some(address) => {
-                set_end_address(self.context, address);
+                set_addresses(self.context, start, address);
                 self.next_start_address = address;
                 self.holds_row = true;
                 Ok(true)
             }
             None => {
-                set_end_address(self.context, self.parameters.end_address);
+                set_addresses(self.context, start, self.parameters.end_address);
                 self.has_ended = true;
                 self.holds_row = true;
                 Ok(true)
@@ -163,28 +175,33 @@ impl<'a, 'ctx, R: Reader, S: UnwindContextStorage<R::Offset>> UnwindTable<'a, 'c
         }
     }
 
-    /// The next row, lent from the context; `None` after the last one, and from then on.
+    /// Returns the next row, borrowed from the context, or `None` after the last one.
     ///
-    /// It runs the FDE's program up to the next instruction that moves the location, or to its end, where the row reaches up to
-    /// the end of the FDE's range. A refused instruction changes nothing, and the next call goes on after it. After one that
-    /// can't be read only the last row is to come. `OutOfMemory` comes only where an instruction allocates.
+    /// Runs the FDE's instructions up to the next one that moves the location, or to their end,
+    /// where the row reaches up to the end of the FDE's range. An instruction that fails changes
+    /// nothing, and the next call goes on after it. After one that can't be read only the last row
+    /// is left. Fails with `OutOfMemory` only where an instruction allocates.
     //
-    // The row is lent out of the context, so the clause speaks of the table once the loan has ended (`Rests`). The lines
-    // after `the_row` name the types of the row's storage and what is known of them, as the checker wants them; what is
-    // promised begins at `LendsNextRow`.
+    // The row is borrowed from the context, so the clause is about the table once that borrow has
+    // ended (`Rests`). The lines after `the_row` name the types of the row's storage and what is
+    // known of them; the promise begins at `LendsNextRow`.
     #[inline(always)]
     pub fn next_row(&mut self) -> Result<Option<&UnwindTableRow<R::Offset, S::Rules>>>
         ensures* after_borrow { sem 𝓛 (Rests
             (the_row (record { mir = named 1; lft = [] }) (record { mir = named 2; lft = [] })
             R.row S.row R.Offset.row R.Endian.row S.Rules.row S.Stack.row
             R.Reader.own R.Debug R.PartialEq
-            R.Offset.ReaderOffset.own R.Offset.PartialEq R.Offset.Ord.own R.Offset.PartialOrd.own R.Offset.Debug
+            R.Offset.ReaderOffset.own R.Offset.PartialEq R.Offset.Ord.own R.Offset.PartialOrd.own
+            R.Offset.Debug
             R.Endian.Endianity.own R.Endian.Debug R.Endian.PartialEq
             S.Rules.ArrayLike S.Rules.CopyList.own S.Stack.ArrayLike)
             self.entry
-            (λ new. LendsNextRow R.Offset.number (setting_of self.old.parameters S.Rules.limit S.Stack.limit) S.Rules.copies_free
-            (table_state R.position R.Offset.number self.old) result (table_state R.position R.Offset.number new) new.context.now new.holds_row
-            × (new.parameters ≡ self.old.parameters) × (new.context.ghost_name ≡ self.old.context.ghost_name))) }
+            (λ new. LendsNextRow R.Offset.number
+            (table_setting self.old S.Rules.limit S.Stack.limit) S.Rules.copies_free
+            (table_state R.position R.Offset.number self.old) result
+            (table_state R.position R.Offset.number new) (context_now new) (holds_row new)
+            × (table_parameters new ≡ table_parameters self.old)
+            × (context_name new ≡ context_name self.old))) }
     {
         if self.advance()? {
             Ok(Some(current_row(self.context)))
@@ -193,12 +210,14 @@ impl<'a, 'ctx, R: Reader, S: UnwindContextStorage<R::Offset>> UnwindTable<'a, 'c
         }
     }
 
-    /// The row that the last call of `next_row` returned, lent from the context for as long as that is. `None` where that call
-    /// answered `None` or a refusal, and where there was no such call.
+    /// Returns the row that the last call of `next_row` returned, borrowed from the context for as
+    /// long as the context is borrowed. Returns `None` where that call returned `None` or an error,
+    /// and where there was no such call.
     #[inline(always)]
     pub fn into_current_row(self) -> Option<&'ctx UnwindTableRow<R::Offset, S::Rules>>
-        ensures some { IfSome result (λ row. (row.now ≡ self.entry.context.now.row) × IsTrue self.entry.holds_row) }
-        ensures none { IfNone result (self.entry.holds_row ≡ false) }
+        ensures some { IfSome result (λ row.
+            (row.now ≡ context_row self.entry) × IsTrue (holds_row self.entry)) }
+        ensures none { IfNone result (holds_row self.entry ≡ false) }
     {
         let UnwindTable {
             context,
@@ -213,8 +232,8 @@ impl<'a, 'ctx, R: Reader, S: UnwindContextStorage<R::Offset>> UnwindTable<'a, 'c
     }
 }
 
-// Runs the instructions up to the first that moves, is refused or can't be read, or to the end. It answers the address
-// of the move.
+/// Runs the instructions up to the first that moves, fails or can't be read, or to the end. Returns
+/// the address of the move, or `None` at the end.
 #[inline(always)]
 fn run_to_move<'a, R: Reader, S: UnwindContextStorage<R::Offset>>(
     context: &mut UnwindContext<R::Offset, S>,
@@ -224,10 +243,11 @@ fn run_to_move<'a, R: Reader, S: UnwindContextStorage<R::Offset>>(
 ) -> Result<Option<u64>>
     ensures next { let s = setting_of parameters.now S.Rules.limit S.Stack.limit in
         GivesNextAnswer s S.Rules.copies_free
-        (before_last_row (state_in_numbers R.Offset.number location context.old) (instructions_left (instruction_reader R.position instructions.old)))
+        (before_last_row (state_in_numbers R.Offset.number location context.old)
+        (instructions_left (instruction_reader R.position instructions.old)))
         (row_due R.Offset.number s location context.new result)
-        (state_after R.Offset.number location context.new (instructions_left (instruction_reader R.position instructions.new)) result) }
-    ensures start { context.new.row.start_address ≡ context.old.row.start_address }
+        (state_after R.Offset.number location context.new
+        (instructions_left (instruction_reader R.position instructions.new)) result) }
 {
     while let Some(instruction) = instructions.next()? {
         if let Some(address) = evaluate(context, parameters, location, instruction)? {
@@ -237,7 +257,7 @@ fn run_to_move<'a, R: Reader, S: UnwindContextStorage<R::Offset>>(
     Ok(None)
 }
 
-// Runs the CIE's initial instructions, whose moves end no rows, in an empty context.
+/// Runs the CIE's initial instructions, whose moves end no rows, in an empty context.
 #[inline(always)]
 fn run_initial<R: Reader, S: UnwindContextStorage<R::Offset>>(
     context: &mut UnwindContext<R::Offset, S>,
@@ -246,7 +266,8 @@ fn run_initial<R: Reader, S: UnwindContextStorage<R::Offset>>(
 ) -> Result<()>
     requires empty { context.old ≡ empty_context }
     ensures { let s = setting_of parameters.now S.Rules.limit S.Stack.limit in
-        RunsInitialInstructions (may_allocate s S.Rules.copies_free) s fresh_state (instructions_left (instruction_reader R.position instructions.entry))
+        RunsInitialInstructions (may_allocate s S.Rules.copies_free) s fresh_state
+        (instructions_left (instruction_reader R.position instructions.entry))
         (map_ok (λ _. state_in_numbers R.Offset.number s.initial_address context.new) result) }
 {
     let mut rest = instructions;
@@ -259,18 +280,15 @@ fn run_initial<R: Reader, S: UnwindContextStorage<R::Offset>>(
     end_cie(context)
 }
 
-/// The row of an address, lent from the context: of nothing but the two programs, the parameters and the storage's limits.
+/// Returns the row of an address, borrowed from the context. It depends only on the two programs,
+/// the parameters and the storage's limits.
 ///
-/// The answer is the CIE's first refusal; else the first refusal or row with the address that the FDE's table gives, also for
-/// an address outside the FDE; else `NoUnwindInfoForAddress`. Rows after the answer are not run. `OutOfMemory` comes only
-/// where an instruction, or the end of the CIE's initial instructions, allocates, so never over a fixed storage.
-pub(crate) fn unwind_info_for_address<
-    'cie,
-    'fde,
-    'ctx,
-    R: Reader,
-    S: UnwindContextStorage<R::Offset>,
->(
+/// Fails with the first error of the CIE's instructions; else returns the first row with the
+/// address or the first error that the FDE's table gives, also for an address outside the FDE; else
+/// fails with `NoUnwindInfoForAddress`. Rows after that are not run. Fails with `OutOfMemory` only
+/// where an instruction, or the end of the CIE's initial instructions, allocates, so never with a
+/// fixed storage.
+pub(crate) fn row_of_programs<'cie, 'fde, 'ctx, R: Reader, S: UnwindContextStorage<R::Offset>>(
     parameters: Parameters,
     cie_instructions: CallFrameInstructionIter<'cie, R>,
     fde_instructions: CallFrameInstructionIter<'fde, R>,
@@ -279,7 +297,8 @@ pub(crate) fn unwind_info_for_address<
 ) -> Result<&'ctx UnwindTableRow<R::Offset, S::Rules>>
     ensures run { let s = setting_of parameters S.Rules.limit S.Stack.limit in
         AnswersFde (may_allocate s S.Rules.copies_free) s
-        (instructions_left (instruction_reader R.position cie_instructions.entry)) (instructions_left (instruction_reader R.position fde_instructions.entry))
+        (instructions_left (instruction_reader R.position cie_instructions.entry))
+        (instructions_left (instruction_reader R.position fde_instructions.entry))
         address (row_lent R.Offset.number result) }
 {
     let mut table = UnwindTable::with_instructions(

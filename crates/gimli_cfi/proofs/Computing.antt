@@ -14,13 +14,13 @@ use Rattle.cfi_entry.specs.Cies.{cie_fields}
 use Rattle.cfi_entry.specs.Fdes.{fde_fields}
 use Rattle.cfi_entry.specs.Entries.{entry_of, entries_from, cie_at, partial_fde_at}
 use Rattle.cfi_unwind.specs.Scan.{first_covering}
-use Rattle.gimli_cfi.specs.EhFrameHdr.{HeaderSection, Table, row_count, header_fields, row_by, start_field, target_field, start_of, target_of}
+use Rattle.gimli_cfi.specs.EhFrameHdr.{HeaderSection, Table, row_count, header_fields, row_by, row_field, start_of, target_of}
 use Rattle.gimli_cfi.specs.HeaderRows.{rows_from}
 use Rattle.gimli_cfi.specs.HalvingSteps.{least_exponent}
 
 -- to name it on an `unfolding` line is to open all these
 unfoldable pub computing : ℕ
-unfolding readings_up_to unsigned signed leb128_bytes unsigned_leb128 signed_leb128 offset_leb128 register_leb128 initial_length text address address_size encoding_byte encoded_value base_of pointer expression instruction prefix letter letters letters_with_data augmentation cie_fields fde_fields entry_of entries_from cie_at partial_fde_at first_covering row_count header_fields row_by rows_from start_field target_field start_of target_of least_exponent
+unfolding readings_up_to unsigned signed leb128_bytes unsigned_leb128 signed_leb128 offset_leb128 register_leb128 initial_length text address address_size encoding_byte encoded_value base_of pointer expression instruction prefix letter letters letters_with_data augmentation cie_fields fde_fields entry_of entries_from cie_at partial_fde_at first_covering row_count header_fields row_by rows_from row_field start_of target_of least_exponent
 computing = 0
 
 -- the bytes of hexadecimal text, whose letters are small; spaces are passed over

@@ -15,13 +15,13 @@ use Rattle.cfi_unwind.proofs.EntryLemmas.{fde_at_its_offset}
 use Rattle.gimli_cfi.specs.BoundaryRows.{AreRising}
 use Rattle.gimli_cfi.specs.TableCheck.{HasRow, IsListed, AreListed}
 use Rattle.gimli_cfi.specs.EhFrameHdr.{HeaderSection, Table, value_size, start_of, target_of}
-use Rattle.gimli_cfi.specs.FaithfulTables.{IsFaithful, IsRowOf, IsFdeOf}
+use Rattle.gimli_cfi.specs.FaithfulTables.{IsFaithful, IsRowOf, IsFdeIn}
 use Rattle.gimli_cfi.proofs.Counting.{at_most_count, all_of_count}
 use Rattle.gimli_cfi.proofs.OffsetsRise.{Rise, fdes_rise}
 use Rattle.gimli_cfi.proofs.Rising.{value_of, ok_same}
 
 -- an FDE of the section is known by its offset
-pub same_fde : (section : Section) (fde other : Fde) → IsFdeOf section fde → IsFdeOf section other → other.offset ≡ fde.offset → other ≡ fde
+pub same_fde : (section : Section) (fde other : Fde) → IsFdeIn section fde → IsFdeIn section other → other.offset ≡ fde.offset → other ≡ fde
 same_fde section fde other is_fde is_other same =
     let there = (fde_at_its_offset section fde is_fde).at_offset in
     let other_there = (fde_at_its_offset section other is_other).at_offset in
@@ -116,7 +116,7 @@ module _ (header : HeaderSection) (table : Table) (eh_frame : ℕ) where
   -- ---- soundness
 
   module _ (section : Section) (rising : AreRising start table.count) (listed : AreListed header table eh_frame section) where
-    no_cover : (fde other : Fde) (j k : ℕ) → IsFdeOf section fde → IsFdeOf section other → fde ≢ other → (first : HasRow header table eh_frame fde) → RowOf k other → k < table.count →
+    no_cover : (fde other : Fde) (j k : ℕ) → IsFdeIn section fde → IsFdeIn section other → fde ≢ other → (first : HasRow header table eh_frame fde) → RowOf k other → k < table.count →
         first.k ≡ j → Covers fde other.initial → ⊥
     no_cover fde other j k is_fde is_other differ first row within is covered =
         let own : RowOf j fde = subst (λ (i : ℕ). RowOf i fde) is first.row in
@@ -176,7 +176,7 @@ module _ (header : HeaderSection) (table : Table) (eh_frame : ℕ) where
       rise = is.starts_increase;
     }
 
-    clear_of : (fde : Fde) (k : ℕ) → IsFdeOf section fde → RowOf k fde → k + 1 < table.count → IsOkAnd (start (k + 1)) (λ s. end_of fde ≤ s)
+    clear_of : (fde : Fde) (k : ℕ) → IsFdeIn section fde → RowOf k fde → k + 1 < table.count → IsOkAnd (start (k + 1)) (λ s. end_of fde ≤ s)
     clear_of fde k is_fde row within =
         let next = is.only_fdes (k + 1) within in
         let above : fde.initial < next.0.initial = is.starts_increase k (k + 1) fde.initial next.0.initial (omega arith) within row.start next.2.start in
@@ -189,7 +189,7 @@ module _ (header : HeaderSection) (table : Table) (eh_frame : ℕ) where
         (cases_lt next.0.initial (end_of fde)) in
         subst (λ (r : Result ℕ Error). IsOkAnd r (λ s. end_of fde ≤ s)) (sym next.2.start) ends
 
-    listed_by : (rs : List (Result Fde Error)) → AllByRecursion IsOk rs → ((fde : Fde) → IsAmong rs fde → IsFdeOf section fde) → Listed rs
+    listed_by : (rs : List (Result Fde Error)) → AllByRecursion IsOk rs → ((fde : Fde) → IsAmong rs fde → IsFdeIn section fde) → Listed rs
     listed_by [] ok each = tt
     listed_by (Ok fde ∷ rs) ok each =
         let is_fde = each fde (inl refl) in

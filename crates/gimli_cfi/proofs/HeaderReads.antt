@@ -7,7 +7,7 @@ use Rattle.cfi_read_core.specs.ReadFunctions.{Position, Read, give, refuse_if}
 use Rattle.cfi_read_core.specs.ReaderCalls.{IsSound, Reads, extent_of, map_ok}
 use Rattle.cfi_read_core.specs.Numbers.{unsigned}
 use Rattle.cfi_read_core.specs.PointerEncodings.{is_omitted}
-use Rattle.cfi_instruction.specs.CallFrameSections.{IsOf}
+use Rattle.cfi_read_core.specs.CallFrameSections.{IsOf}
 use Rattle.cfi_read_core.proofs.Onward.{IsOnward, onward_give, onward_refuse_if, onward_if, onward_bind}
 use Rattle.cfi_parts.specs.declared.pointer.Pointer.{Pointer}
 use Rattle.cfi_parts.specs.declared.pointer.SectionBaseAddresses.{SectionBaseAddresses}

@@ -25,3 +25,4 @@ pub mod StartCounts
 pub mod EntryEnds
 pub mod Passed
 pub mod Certificates
+pub mod Callers

@@ -1,22 +1,21 @@
 -- The FDEs of a section stand in order.
-use Rattle.std.proofs.Common.{◌≡◌, ◌≤◌, ◌<◌, ◌+◌, ◌-◌, ℕ, zero, suc, Bool, true, false, List, [], ◌∷◌, map, Option, Some, None, Result, Ok, Err, refl, sym, ap, ◌∙◌, arith}
+use Rattle.std.proofs.Common.{◌≡◌, ◌≤◌, ◌<◌, ◌+◌, ◌-◌, ℕ, zero, suc, Bool, true, false, List, [], ◌∷◌, map, Option, Some, None, Result, Ok, Err, refl, ap, ◌∙◌, arith}
 use Rattle.std.specs.Prelude.{⊤, nat_le, if◌then◌else◌}
 use Rattle.cfi_read_core.specs.declared.error.Error.{Error}
-use Rattle.cfi_read_core.specs.ReadFunctions.{Readings, remainder, no_values, readings_with}
-use Rattle.cfi_read_core.proofs.Given.{Gives, gives_give, gives_bind, gives_within}
+use Rattle.cfi_read_core.specs.ReadFunctions.{Readings, no_values, readings_with}
 use Rattle.cfi_entry.specs.Sections.{Section, cie_offset_of}
 use Rattle.cfi_entry.specs.Prefixes.{Prefix, prefix}
 use Rattle.cfi_entry.specs.Cies.{Cie, cie_of}
-use Rattle.cfi_entry.specs.Fdes.{PartialFde, Fde, fde_fields, addresses, address_encoding_of, lsda}
+use Rattle.cfi_entry.specs.Fdes.{PartialFde, Fde}
 use Rattle.cfi_unwind.specs.Scan.{partial_fdes, read_fde, fde_readings}
 use Rattle.cfi_read_core.specs.ReaderCalls.{map_ok}
-use Rattle.cfi_entry.specs.Entries.{Entry, CieEntry, FdeEntry, entry_of, entries_with, entries_from, entries, partial_fde_of, is_cie, cie_at, fde_with}
-use Rattle.cfi_unwind.proofs.EntryLemmas.{advances_prefix, onward_prefix, prefix_offset}
+use Rattle.cfi_entry.specs.Entries.{Entry, CieEntry, FdeEntry, entry_of, entries_with, entries_from, entries, partial_fde_of, is_cie, cie_at}
+use Rattle.cfi_unwind.proofs.EntryLemmas.{advances_prefix, fde_offset, found_kept, onward_prefix, prefix_offset}
 
 -- each stands at or after the offset and after those before it
 abbrev pub RisePartial : ℕ → List PartialFde → Type 0
 RisePartial low [] = ⊤
-RisePartial low (p ∷ ps) = (low ≤ p.found.offset) × RisePartial (p.found.offset + 1) ps
+RisePartial low (p ∷ ps) = (low ≤ p.prefix.offset) × RisePartial (p.prefix.offset + 1) ps
 
 abbrev pub Rise : ℕ → List (Result Fde Error) → Type 0
 Rise low [] = ⊤
@@ -34,22 +33,18 @@ fde_of_entry true (Err r) fde partial e = absurd (cc)
 fde_of_entry false cie (Ok fde) partial e = cc
 fde_of_entry false cie (Err r) partial e = absurd (cc)
 
-found_kept : (found : Prefix) (offset : Result ℕ Error) (partial : PartialFde) → map_ok (λ n. record { found = found; cie_offset = n }) offset ≡ Ok partial → partial.found ≡ found
-found_kept found (Ok n) partial e = let same : record { found = found; cie_offset = n } ≡ partial = cc in sym (ap (λ (p : PartialFde). p.found) same)
-found_kept found (Err r) partial e = absurd (cc)
-
-kept : (section : Section) (found : Prefix) (partial : PartialFde) → entry_of section found ≡ Ok (FdeEntry partial) → partial.found ≡ found
+kept : (section : Section) (found : Prefix) (partial : PartialFde) → entry_of section found ≡ Ok (FdeEntry partial) → partial.prefix ≡ found
 unfolding entry_of
 kept section found partial is =
     found_kept found (cie_offset_of section found.id_offset found.id) partial (fde_of_entry (is_cie section found) (cie_of section found) (partial_fde_of section found) partial is)
 
-listed_rise : (section : Section) (low high : ℕ) (r : Result Entry Error) (others : Readings Entry) → low < high → ((partial : PartialFde) → r ≡ Ok (FdeEntry partial) → partial.found.offset ≡ low) →
+listed_rise : (section : Section) (low high : ℕ) (r : Result Entry Error) (others : Readings Entry) → low < high → ((partial : PartialFde) → r ≡ Ok (FdeEntry partial) → partial.prefix.offset ≡ low) →
     RisePartial high (partial_fdes others.values) → RisePartial low (partial_fdes (readings_with false r others).values)
 listed_rise section low high (Err e) others h each behind = tt
 listed_rise section low high (Ok (CieEntry cie)) others h each behind = lower low high (partial_fdes others.values) (omega arith) behind
 listed_rise section low high (Ok (FdeEntry partial)) others h each behind =
-    let at : partial.found.offset ≡ low = each partial refl in
-    (omega arith, lower (partial.found.offset + 1) high (partial_fdes others.values) (omega arith) behind)
+    let at : partial.prefix.offset ≡ low = each partial refl in
+    (omega arith, lower (partial.prefix.offset + 1) high (partial_fdes others.values) (omega arith) behind)
 
 gap_rise : (low high : ℕ) (b : Bool) (others : Readings Entry) → low ≤ high → RisePartial high (partial_fdes others.values) → RisePartial low (partial_fdes (if b then no_values None else others).values)
 gap_rise low high true others h behind = tt
@@ -80,31 +75,17 @@ from_rise (suc n) section place from =
 
 -- ---- FDEs
 
-fields_offset : (section : Section) (found : Prefix) (cie : Cie) → Gives (λ fde. fde.offset ≡ found.offset) (fde_fields section found cie)
-unfolding fde_fields
-fields_offset section found cie =
-    let P : Fde → Type 0 = λ fde. fde.offset ≡ found.offset in
-    gives_bind P (addresses section cie.address_size (address_encoding_of cie.augmentation)) _ (λ range.
-    gives_bind P (lsda section cie.address_size range.0 cie.augmentation) _ (λ lsda.
-    gives_bind P remainder _ (λ instructions.
-    gives_give P (record { offset = found.offset; length = found.length; cie = cie; initial = range.0; range = range.1; lsda = lsda; instructions = instructions }) refl)))
-
-fde_offset : (section : Section) (partial : PartialFde) (given : Result Cie Error) (fde : Fde) → fde_with section partial given ≡ Ok fde → fde.offset ≡ partial.found.offset
-fde_offset section partial (Err e) fde is = absurd (cc)
-fde_offset section partial (Ok cie) fde is =
-    (gives_within (λ (f : Fde). f.offset ≡ partial.found.offset) partial.found.rest (fde_fields section partial.found cie) (fields_offset section partial.found cie)).given section.source partial.found.rest.first fde is
-
-read_rise : (section : Section) (low : ℕ) (partial : PartialFde) (r : Result Fde Error) (ps : List PartialFde) → read_fde section partial ≡ r → low ≤ partial.found.offset →
-    ((m : ℕ) → m ≤ partial.found.offset + 1 → Rise m (map (read_fde section) ps)) → Rise low (r ∷ map (read_fde section) ps)
+read_rise : (section : Section) (low : ℕ) (partial : PartialFde) (r : Result Fde Error) (ps : List PartialFde) → read_fde section partial ≡ r → low ≤ partial.prefix.offset →
+    ((m : ℕ) → m ≤ partial.prefix.offset + 1 → Rise m (map (read_fde section) ps)) → Rise low (r ∷ map (read_fde section) ps)
 read_rise section low partial (Err e) ps is h behind = behind low (omega arith)
 read_rise section low partial (Ok fde) ps is h behind =
-    let at : fde.offset ≡ partial.found.offset = fde_offset section partial (cie_at section partial.cie_offset) fde is in
+    let at : fde.offset ≡ partial.prefix.offset = fde_offset section partial (cie_at section partial.cie_offset) fde is in
     (omega arith, behind (fde.offset + 1) (omega arith))
 
 readings_rise : (section : Section) (low : ℕ) (ps : List PartialFde) → RisePartial low ps → Rise low (map (read_fde section) ps)
 readings_rise section low [] rise = tt
 readings_rise section low (p ∷ ps) rise =
-    read_rise section low p (read_fde section p) ps refl rise.0 (λ m h. readings_rise section m ps (lower m (p.found.offset + 1) ps h rise.1))
+    read_rise section low p (read_fde section p) ps refl rise.0 (λ m h. readings_rise section m ps (lower m (p.prefix.offset + 1) ps h rise.1))
 
 pub fdes_rise : (section : Section) → Rise 0 (fde_readings section)
 fdes_rise section =

@@ -65,8 +65,8 @@ module _ (header : HeaderSection) (table : Table) (eh_frame : ℕ) (section : Se
     here : Passed header table eh_frame section rows_left all (with_first (FdeEntry partial) others)
     here = subst (λ (x : Readings Entry). Passed header table eh_frame section rows_left all x) is passed
 
-    pub refused_fde : (e : Error) → read_fde section partial ≡ Err e → IsRefusedAt section (partial_fdes all.values) partial.found.offset e
-    refused_fde e read = here.refused partial.found.offset e (inl (refl, read))
+    pub refused_fde : (e : Error) → read_fde section partial ≡ Err e → IsRefusedAt section (partial_fdes all.values) partial.prefix.offset e
+    refused_fde e read = here.refused partial.prefix.offset e (inl (refl, read))
 
     module _ (fde : Fde) (read : read_fde section partial ≡ Ok fde) where
       pub is_among : IsAmong (readings_in section all) fde

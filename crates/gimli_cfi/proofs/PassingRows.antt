@@ -7,7 +7,7 @@ use Rattle.cfi_read_core.specs.ReadFunctions.{Position, Source}
 use Rattle.cfi_parts.specs.declared.pointer.Pointer.{Pointer}
 use Rattle.gimli_cfi.specs.EhFrameHdr.{rows_passed, value_size}
 use Rattle.gimli_cfi.specs.HeaderRows.{Walk, next_row}
-use Rattle.gimli_cfi.specs.PassedRows.{walk_by, walk_past_by, walk_past, MeetsBehind}
+use Rattle.gimli_cfi.specs.PassedRows.{walk_by, walk_past_by, walk_past, MeetsAfter}
 
 module _ (walk : Walk) (n : ℕ) where
   unsearchable_by : (size : Option ℕ) (x e : Error) → walk_past_by walk n None ≡ Err x → ok_or size x ≡ Err e → walk_past_by walk n size ≡ Err e
@@ -44,8 +44,8 @@ module _ (walk : Walk) (n : ℕ) where
 
 -- ---- what is met after them
 
-pub meets_by : (past from : Result Walk Error) (before after : Walk) (found : Result (Option (Pointer × Pointer)) Error) → past ≡ from → MeetsBehind from before found after → MeetsBehind past before found after
-meets_by past from before after found same meets = subst (λ (r : Result Walk Error). MeetsBehind r before found after) (sym same) meets
+pub meets_by : (past from : Result Walk Error) (before after : Walk) (found : Result (Option (Pointer × Pointer)) Error) → past ≡ from → MeetsAfter from before found after → MeetsAfter past before found after
+meets_by past from before after found same meets = subst (λ (r : Result Walk Error). MeetsAfter r before found after) (sym same) meets
 
 pub not_refused : {P : Type 0} (past : Result Walk Error) (from : Walk) (e : Error) → past ≡ Ok from → past ≡ Err e → P
 not_refused past from e given refused = absurd (cc)

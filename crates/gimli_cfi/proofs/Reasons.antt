@@ -17,7 +17,7 @@ use Rattle.gimli_cfi.specs.declared.hdr.unfaithful.Unfaithful.TheVariants as rea
 use Rattle.gimli_cfi.specs.BoundaryRows.{IsBoundaryRow, IsRefusalOfRow, AreRising}
 use Rattle.gimli_cfi.specs.TableCheck.{Listing, ListsFaithfully, IsHeaderRefusal, IsRefusalOfHeader, IsRefusalIn, IsRefusedAt, IsRowRefusal, HasNoRow, Overlaps, IsReason, IsReasonOfStarts, IsReasonOfFde, IsReasonOfFdes}
 use Rattle.gimli_cfi.specs.EhFrameHdr.{HeaderSection, Table, value_size, start_of, target_of}
-use Rattle.gimli_cfi.specs.FaithfulTables.{IsFaithful, IsFdeOf}
+use Rattle.gimli_cfi.specs.FaithfulTables.{IsFaithful, IsFdeIn}
 use Rattle.gimli_cfi.proofs.Faithful.{count_of}
 use Rattle.gimli_cfi.proofs.Rising.{boundary_below, above_boundary, ok_same}
 
@@ -45,7 +45,7 @@ module _ (header : HeaderSection) (table : Table) (eh_frame : ℕ) (section : Se
       (λ (refused : direct pointer ≡ Err e). let given : Ok eh_frame ≡ Err e = rw at at refused in absurd (cc))
       why
 
-  no_overlap : (fde : Fde) (end next : ℕ) → IsFdeOf section fde → Overlaps header table fde end next → ⊥
+  no_overlap : (fde : Fde) (end next : ℕ) → IsFdeIn section fde → Overlaps header table fde end next → ⊥
   no_overlap fde end next is_fde over =
       let after = is.only_fdes (over.k + 1) over.inside in
       let same : after.0.initial ≡ next = ok_same after.0.initial next (start_of header table (over.k + 1)) after.2.start over.next_start in

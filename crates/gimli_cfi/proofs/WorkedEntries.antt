@@ -8,7 +8,7 @@ use Rattle.cfi_read_core.specs.declared.common.Format.TheVariants.{Dwarf32, Dwar
 use Rattle.cfi_read_core.specs.ReadFunctions.{Readings, unexpected_eof}
 use Rattle.cfi_parts.specs.declared.pointer.Pointer.{Pointer}
 use Rattle.cfi_parts.specs.declared.pointer.Pointer.TheVariants.{Direct, Indirect}
-use Rattle.cfi_instruction.specs.declared.instruction.CallFrameInstruction.TheVariants.{AdvanceLoc, DefCfa, DefCfaRegister, DefCfaOffset, Offset}
+use Rattle.cfi_read_core.specs.declared.instruction.CallFrameInstruction.TheVariants.{AdvanceLoc, DefCfa, DefCfaRegister, DefCfaOffset, Offset}
 use Rattle.cfi_parts.specs.Instructions.{Instruction}
 use Rattle.cfi_entry.specs.Sections.{Section, EhFrame}
 use Rattle.cfi_entry.specs.Cies.{Cie}
@@ -28,7 +28,7 @@ use Rattle.gimli_cfi.proofs.Computing.{computing, debug_frame, eh_frame, section
 -- a CIE by its offset; an FDE by its offset and that of its CIE
 abbrev shown_entry : Entry → List ℕ
 shown_entry (CieEntry cie) = cie.offset ∷ []
-shown_entry (FdeEntry partial) = partial.found.offset ∷ partial.cie_offset ∷ []
+shown_entry (FdeEntry partial) = partial.prefix.offset ∷ partial.cie_offset ∷ []
 
 abbrev shown_entries : Section → List (List ℕ) × Option Error
 shown_entries s = (map shown_entry (entries s).values, (entries s).refusal)

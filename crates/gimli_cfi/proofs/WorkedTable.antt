@@ -9,7 +9,7 @@ use Rattle.cfi_entry.specs.Fdes.{Fde, Covers, end_of}
 use Rattle.cfi_entry.specs.Entries.{entries}
 use Rattle.cfi_unwind.specs.Scan.{fde_readings, IsAmong}
 use Rattle.gimli_cfi.specs.EhFrameHdr.{start_of}
-use Rattle.gimli_cfi.specs.FaithfulTables.{IsFaithful, IsRowOf, IsFdeOf}
+use Rattle.gimli_cfi.specs.FaithfulTables.{IsFaithful, IsRowOf, IsFdeIn}
 use Rattle.gimli_cfi.specs.TableLookup.{ReachesAll}
 use Rattle.gimli_cfi.proofs.Computing.{computing, three, three_header, three_rows}
 
@@ -53,13 +53,13 @@ the_readings = refl
 IsNth : Fde → Type 0
 IsNth fde = (i : ℕ) × (i < 3) × (nth i ≡ fde)
 
-nth_of : (fde : Fde) → IsFdeOf three fde → IsNth fde
+nth_of : (fde : Fde) → IsFdeIn three fde → IsNth fde
 unfolding IsNth
 nth_of fde is =
     let among : IsAmong (Ok (nth 0) ∷ Ok (nth 1) ∷ Ok (nth 2) ∷ []) fde = subst (λ (rs : List (Result Fde Error)). IsAmong rs fde) the_readings is in
     ⊎_elim (λ e. (0, (omega arith), cc)) (⊎_elim (λ e. (1, (omega arith), cc)) (⊎_elim (λ e. (2, (omega arith), cc)) (λ none. absurd none))) among
 
-of_nth : (i : ℕ) → i < 3 → IsFdeOf three (nth i)
+of_nth : (i : ℕ) → i < 3 → IsFdeIn three (nth i)
 unfolding computing
 of_nth zero h = inl refl
 of_nth (suc zero) h = inr (inl refl)

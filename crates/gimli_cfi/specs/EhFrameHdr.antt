@@ -1,5 +1,5 @@
 -- The header of .eh_frame and its table (LSB Core, "The .eh_frame_hdr section").
-use Rattle.std.specs.Prelude.{ℕ, ◌+◌, ◌-◌, ◌*◌, Bool, not, ◌||◌, Option, Some, None, Result, Ok, Err, nat_le, ◌==◌, if◌then◌else◌}
+use Rattle.std.specs.Prelude.{ℕ, ◌+◌, ◌-◌, ◌*◌, Bool, not, ◌||◌, Option, Some, None, Result, Ok, Err, ok_or, nat_le, ◌==◌, if◌then◌else◌}
 use Rattle.std.specs.Int.{w8}
 use Rattle.cfi_read_core.specs.declared.error.Error.{Error}
 use Rattle.cfi_read_core.specs.declared.error.Error.TheVariants.{UnknownVersion, UnsupportedPointerEncoding, OffsetOutOfBounds, UnsupportedOffset}
@@ -10,7 +10,7 @@ use Rattle.cfi_parts.specs.declared.pointer.Pointer.{Pointer}
 use Rattle.cfi_parts.specs.declared.pointer.SectionBaseAddresses.{SectionBaseAddresses}
 use Rattle.cfi_parts.specs.Pointers.{PointerContext, encoding_byte, encoded_value, pointer, direct}
 
--- A header as it is read: its bytes, and what the caller says of them.
+-- The section of a header: its bytes, and what the caller says of them.
 pub record HeaderSection : Type 0 where
   pub source : Source
   pub first : ℕ  -- the place where it begins
@@ -26,7 +26,7 @@ pub record Header : Type 0 where
   pub eh_frame : Pointer
   pub table : Option Table  -- none where there are no rows
 
--- the section where a reader stands, with the bases of its pointers
+-- the section at a reader's place, with the bases of its pointers
 abbrev pub header_section : Position → ℕ → SectionBaseAddresses → HeaderSection
 header_section position size bases = record { source = position.source; first = position.place; address_size = size; bases = bases }
 
@@ -67,7 +67,7 @@ header_of section = (header_fields section section.source section.first).value
 
 -- ---- the rows
 
--- how many bytes a value takes in a format that can be searched
+-- the size in bytes of a value in a format that can be searched
 abbrev pub value_size : ℕ → Option ℕ
 value_size encoding =
     let format = format_of encoding in
@@ -75,6 +75,10 @@ value_size encoding =
     else if format == 0x03 || format == 0x0b then Some 4
     else if format == 0x04 || format == 0x0c then Some 8
     else None
+
+-- the same, or the error for a format that can't be searched
+abbrev pub searched_size : ℕ → Result ℕ Error
+searched_size encoding = ok_or (value_size encoding) (UnsupportedPointerEncoding (record { 0 = encoding }))
 
 -- a row is a start and a target
 unfoldable pub row_by : PointerContext → ℕ → Read (Pointer × Pointer)
@@ -86,23 +90,25 @@ row_by context encoding = do
 abbrev pub row : HeaderSection → ℕ → Read (Pointer × Pointer)
 row section = row_by (header_context section)
 
--- k rows, passed at once
+-- skips k rows
 abbrev pub rows_passed : ℕ → ℕ → Read Unit
 rows_passed size k = do
   passed ← offset (k * (size + size))
   skip passed
 
--- row k begins after k rows; its target stands after its start
-unfoldable pub start_field : HeaderSection → Table → ℕ → ℕ → Read Pointer
-start_field section table size k = do
+-- a field of row k, from the first row on: the one after the first `before` bytes of row k
+unfoldable pub row_field : HeaderSection → Table → ℕ → ℕ → ℕ → Read Pointer
+row_field section table size k before = do
   rows_passed size k
+  skip before
   pointer table.encoding (header_context section)
 
-unfoldable pub target_field : HeaderSection → Table → ℕ → ℕ → Read Pointer
-target_field section table size k = do
-  rows_passed size k
-  skip size
-  pointer table.encoding (header_context section)
+-- nothing is before the start, and the start is before the target
+abbrev pub start_field : HeaderSection → Table → ℕ → ℕ → Read Pointer
+start_field section table size k = row_field section table size k 0
+
+abbrev pub target_field : HeaderSection → Table → ℕ → ℕ → Read Pointer
+target_field section table size k = row_field section table size k size
 
 abbrev pub field_by : (ℕ → ℕ → Read Pointer) → ℕ → Option ℕ → ℕ → Read Pointer
 field_by field encoding None k = refuse (UnsupportedPointerEncoding (record { 0 = encoding }))
@@ -119,7 +125,8 @@ start_of section table k = in_rows section table (field_by (start_field section 
 unfoldable pub target_of : HeaderSection → Table → ℕ → Result Pointer Error
 target_of section table k = in_rows section table (field_by (target_field section table) table.encoding (value_size table.encoding) k)
 
--- ---- from a pointer to an offset in .eh_frame; the greatest offset is the header's
+-- ---- from a pointer to an offset in .eh_frame, which is at most the greatest of the header's
+-- reader
 
 abbrev pub offset_above : ℕ → ℕ → ℕ → Result ℕ Error
 offset_above greatest base a =

@@ -1,8 +1,9 @@
 -- The row that a section with a header gives for an address.
---     FoundByTable section a header eh_frame table found      the FDE, or the refusal in its place, by the rows of a
---         header; by going through the section where it has none
---     FoundByHeader section a header read found      the same by a header, or the refusal of one that can't be read
---     IsRowByHeader .. section a header answer      the answer of what is found
+--     FoundByTable section a header eh_frame table found      the FDE, or the error in its place, by
+--         the table; by a scan of the section if there is none
+--     FoundByHeader section a header read found      the same by a parsed header, or the error of one
+--         that can't be parsed
+--     IsRowByHeader .. section a header row      the row of what is found
 use Rattle.std.specs.Prelude.{◌≡◌, ℕ, Bool, Option, Some, None, Result, Ok, Err}
 use Rattle.cfi_read_core.specs.declared.error.Error.{Error}
 use Rattle.cfi_parts.specs.declared.pointer.Pointer.{Pointer}

@@ -1,4 +1,4 @@
--- What a check of a table against its section finds.
+-- The check of a table against its section: what it promises, and the reasons against a table.
 use Rattle.std.specs.Prelude.{◌≡◌, ◌⊎◌, ◌≤◌, ◌<◌, ◌+◌, ◌*◌, ℕ, List, [], ◌∷◌, length, Option, Some, None, Result, Ok, Err, IsOkAnd, ok_or}
 use Rattle.std.specs.List.{AllByRecursion, last_or}
 use Rattle.cfi_read_core.specs.declared.error.Error.{Error}
@@ -14,9 +14,9 @@ use Rattle.gimli_cfi.specs.declared.hdr.unfaithful.Unfaithful.{Unfaithful}
 use Rattle.gimli_cfi.specs.declared.hdr.unfaithful.Unfaithful.TheVariants as reasons
 use Rattle.gimli_cfi.specs.EhFrameHdr.{HeaderSection, Table, value_size, start_of, target_of}
 use Rattle.gimli_cfi.specs.HalvingSteps.{steps}
-use Rattle.gimli_cfi.specs.FaithfulTables.{IsFaithful, IsRowOf, IsFdeOf}
+use Rattle.gimli_cfi.specs.FaithfulTables.{IsFaithful, IsRowOf, IsFdeIn}
 
--- A table in its header, and the section whose FDEs it is to list.
+-- The table of a header, and the section whose FDEs it is to list.
 pub record Listing : Type 0 where
   pub header : HeaderSection
   pub table : Table
@@ -54,7 +54,7 @@ abbrev pub IsListed : HeaderSection → Table → ℕ → Result Fde Error → T
 IsListed header table eh_frame (Ok fde) = HasRow header table eh_frame fde
 IsListed header table eh_frame (Err e) = ⊥
 
--- The section is read without a refusal, each FDE has a row, and there are as many FDEs as rows.
+-- Every entry of the section is read, each FDE has a row, and there are as many FDEs as rows.
 pub record AreListed (header : HeaderSection) (table : Table) (eh_frame : ℕ) (section : Section) : Type 0 where
   pub entries_end : (entries section).refusal ≡ None
   pub listed : AllByRecursion (IsListed header table eh_frame) (fde_readings section)
@@ -62,7 +62,7 @@ pub record AreListed (header : HeaderSection) (table : Table) (eh_frame : ℕ) (
 
 -- ---- why a table isn't faithful
 
--- a refusal of what the header gives, and of what row k gives
+-- the error of a value of the header, and of a value of row k
 abbrev pub IsRefusalOfHeader : {A : Type 0} → Result A Error → Unfaithful → Type 0
 IsRefusalOfHeader r reason = (e : Error) × (r ≡ Err e) × (reason ≡ reasons.Header e)
 
@@ -74,7 +74,7 @@ abbrev pub IsHeaderRefusal : Table → Pointer → Error → Type 0
 IsHeaderRefusal table pointer e =
     (ok_or (value_size table.encoding) (UnsupportedPointerEncoding (record { 0 = table.encoding })) ≡ Err e) ⊎ (direct pointer ≡ Err e)
 
--- the row is refused, or its start is indirect
+-- the row can't be read, or its start is indirect
 abbrev pub IsRowRefusal : HeaderSection → Table → ℕ → Error → Type 0
 IsRowRefusal header table k e = (k < table.count) × ((start_of header table k ≡ Err e) ⊎ (target_of header table k ≡ Err e))
 
@@ -124,14 +124,14 @@ abbrev pub end_of_last : Option Entry → ℕ
 end_of_last None = 0
 end_of_last (Some entry) = end_of_entry entry
 
--- the entry at this offset, where the last one that is read ends, is refused
+-- the entry at this offset, where the last one that is read ends, can't be read
 abbrev pub IsEntryRefusal : Section → ℕ → Error → Type 0
 IsEntryRefusal section o e = (o ≡ end_of_last (last_or None (entries section).values)) × ((entries section).refusal ≡ Some e)
 
--- the FDE at this offset is refused, or its CIE
+-- the FDE at this offset can't be read, or its CIE
 abbrev pub IsRefusedAt : Section → List PartialFde → ℕ → Error → Type 0
 IsRefusedAt section [] o e = ⊥
-IsRefusedAt section (partial ∷ partials) o e = ((partial.found.offset ≡ o) × (read_fde section partial ≡ Err e)) ⊎ IsRefusedAt section partials o e
+IsRefusedAt section (partial ∷ partials) o e = ((partial.prefix.offset ≡ o) × (read_fde section partial ≡ Err e)) ⊎ IsRefusedAt section partials o e
 
 -- how many rows and FDEs there are, fewer FDEs than rows
 abbrev pub AreFewer : Table → Section → ℕ → ℕ → Type 0
@@ -144,8 +144,8 @@ IsReasonOfFdes header table eh_frame section (reasons.Row k e) = IsRowRefusal he
 IsReasonOfFdes header table eh_frame section (reasons.Order k s t) = ⊥
 IsReasonOfFdes header table eh_frame section (reasons.Entry o e) = IsEntryRefusal section o e
 IsReasonOfFdes header table eh_frame section (reasons.Fde o e) = IsRefusedAt section (partial_fdes (entries section).values) o e
-IsReasonOfFdes header table eh_frame section (reasons.NoRow o a) = (fde : Fde) × IsFdeOf section fde × (fde.offset ≡ o) × (fde.initial ≡ a) × HasNoRow header table eh_frame fde
-IsReasonOfFdes header table eh_frame section (reasons.Overlap o end next) = (fde : Fde) × IsFdeOf section fde × (fde.offset ≡ o) × Overlaps header table fde end next
+IsReasonOfFdes header table eh_frame section (reasons.NoRow o a) = (fde : Fde) × IsFdeIn section fde × (fde.offset ≡ o) × (fde.initial ≡ a) × HasNoRow header table eh_frame fde
+IsReasonOfFdes header table eh_frame section (reasons.Overlap o end next) = (fde : Fde) × IsFdeIn section fde × (fde.offset ≡ o) × Overlaps header table fde end next
 IsReasonOfFdes header table eh_frame section (reasons.Count rows fdes) = AreFewer table section rows fdes
 
 -- what each reason says
@@ -156,6 +156,6 @@ IsReason l (reasons.Order k s t) = IsNotAbove (start_of l.header l.table) l.tabl
 IsReason l (reasons.Entry o e) = IsEntryRefusal l.section o e
 IsReason l (reasons.Fde o e) = IsRefusedAt l.section (partial_fdes (entries l.section).values) o e
 IsReason l (reasons.NoRow o a) =
-    (fde : Fde) × IsFdeOf l.section fde × (fde.offset ≡ o) × (fde.initial ≡ a) × ((eh_frame : ℕ) → l.eh_frame ≡ Direct eh_frame → HasNoRow l.header l.table eh_frame fde)
-IsReason l (reasons.Overlap o end next) = (fde : Fde) × IsFdeOf l.section fde × (fde.offset ≡ o) × Overlaps l.header l.table fde end next
+    (fde : Fde) × IsFdeIn l.section fde × (fde.offset ≡ o) × (fde.initial ≡ a) × ((eh_frame : ℕ) → l.eh_frame ≡ Direct eh_frame → HasNoRow l.header l.table eh_frame fde)
+IsReason l (reasons.Overlap o end next) = (fde : Fde) × IsFdeIn l.section fde × (fde.offset ≡ o) × Overlaps l.header l.table fde end next
 IsReason l (reasons.Count rows fdes) = AreFewer l.table l.section rows fdes

@@ -1,4 +1,4 @@
--- What a header table answers for an address: the FDE that its rows name, or a refusal.
+-- What a header's table gives for an address: the FDE that its rows name, or an error.
 use Rattle.std.specs.Prelude.{◌≡◌, ◌⊎◌, ◌≤◌, ◌-◌, ℕ, Option, Some, None, Result, Ok, Err, if◌then◌else◌}
 use Rattle.cfi_read_core.specs.declared.error.Error.{Error}
 use Rattle.cfi_read_core.specs.declared.error.Error.TheVariants.{NoUnwindInfoForAddress, UnsupportedPointerEncoding}
@@ -28,8 +28,8 @@ fde_by_target header section eh_frame a (Ok target) = fde_if_covers a (fde_at_po
 abbrev pub fde_by_row : HeaderSection → Table → Pointer → Section → ℕ → ℕ → Result Fde Error
 fde_by_row header table eh_frame section a k = fde_by_target header section eh_frame a (target_of header table k)
 
--- What the rows come to for an address, of_row being what a row gives: the refusal of a format that isn't searchable,
--- a refusal that a row gives as its start, or what a boundary row gives.
+-- What a search in the rows gives for an address, of_row being what a row gives: the error for a
+-- format that can't be searched, the error of the start of a row, or what a boundary row gives.
 abbrev pub SearchedBy : {A : Type 0} → Option ℕ → (ℕ → Result ℕ Error) → Table → ℕ → (ℕ → Result A Error) → Result A Error → Type 0
 SearchedBy None start table a of_row found = found ≡ Err (UnsupportedPointerEncoding (record { 0 = table.encoding }))
 SearchedBy (Some size) start table a of_row found =
@@ -39,13 +39,13 @@ SearchedBy (Some size) start table a of_row found =
 abbrev pub IsFoundBySearch : {A : Type 0} → (ℕ → Result ℕ Error) → Table → ℕ → (ℕ → Result A Error) → Result A Error → Type 0
 IsFoundBySearch start table a of_row found = SearchedBy (value_size table.encoding) start table a of_row found
 
--- the FDE for an address, or the refusal in its place, by the starts that a source answers
+-- the FDE for an address, or the error in its place, by the starts that a source gives
 abbrev pub IsFoundByTable : (ℕ → Result ℕ Error) → HeaderSection → Table → Pointer → Section → ℕ → Result Fde Error → Type 0
 IsFoundByTable start header table eh_frame section a found = IsFoundBySearch start table a (fde_by_row header table eh_frame section a) found
 
--- ---- with any `get_cie` callback
+-- ---- with any `get_cie` closure
 
--- From one state of the callback to another, the FDE at an offset, or the refusal in its place.
+-- From the state f of the closure to the state g, the FDE at an offset, or the error in its place.
 abbrev pub ReadsAt : {F : Type 0} → (F → ℕ → Result Cie Error → F → Type 0) → Section → ℕ → Result ℕ Error → F → Result Fde Error → F → Type 0
 ReadsAt get_cie section a (Err e) f found g = (found ≡ Err e) × (g ≡ f)
 ReadsAt get_cie section a (Ok offset) f found g = (read : Result Fde Error) × ReadsWith get_cie section (partial_fde_at section offset) f read g × (found ≡ fde_if_covers a read)

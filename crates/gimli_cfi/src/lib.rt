@@ -1,9 +1,11 @@
-//! The call frame layer of gimli: from the bytes of `.debug_frame` and `.eh_frame` (DWARF 5 section 6.4; LSB Core,
-//! "Exception Frames") to the unwind row of an address, or a named refusal.
+//! The call frame layer of gimli: from the bytes of `.debug_frame` and `.eh_frame` (DWARF 5 section
+//! 6.4; LSB Core, "Exception Frames") to the unwind row of an address, or an error.
 //!
-//! All that a user needs is here, under gimli's names, as at gimli's root: `use gimli_cfi::{EhFrame, EndianSlice, ..}`.
-//! Each module has what stands under its name in gimli's `read::cfi`. The crates below have the bodies; what they
-//! need of each other alone isn't passed on.
+//! The root has all that a user needs, under gimli's names, as gimli's root has them:
+//! `use gimli_cfi::{EhFrame, EndianSlice, ..}`. The modules are gimli's names by subject: sections,
+//! entries, instructions, pointers, rows and tables, storages, and the header with its table. In
+//! the same way the specs module `Words` has every definition that a contract cites. The crates
+//! below have the bodies; what they need of each other isn't passed on.
 //!
 //! Version 0.1.0, after gimli 0.34.0.
 #![tactic(auto)]
@@ -29,14 +31,14 @@ pub use entry::{
     PartialFrameDescriptionEntry,
 };
 pub use hdr::{
-    EhFrameHdr, EhHdrTable, EhHdrTableIter, ParsedEhFrameHdr, StartSource, TableStarts,
-    row_by_header, row_by_table, search_starts,
+    EhFrameHdr, EhHdrTable, EhHdrTableIter, FaithfulTable, ParsedEhFrameHdr, StartSource,
+    TableStarts, Unfaithful, check_table, row_by_header, row_by_table, search_starts,
 };
 pub use instruction::{CallFrameInstruction, CallFrameInstructionIter, UnwindExpression};
 pub use pointer::{BaseAddresses, Pointer, SectionBaseAddresses};
 pub use section::{
-    _UnwindSectionPrivate, CieOffsetEncoding, DebugFrame, EhFrame, UnwindOffset, UnwindSection,
-    scan_for_fde,
+    _UnwindSectionPrivate, CieCache, CieOffsetEncoding, DebugFrame, EhFrame, UnwindOffset,
+    UnwindSection, scan_for_fde,
 };
 pub use storage::{
     ArrayLike, CapacityFull, CopyList, Refused, StoreGrowing, StoreOnHeap, UnwindContextStorage,

@@ -1,6 +1,7 @@
 //! Unwind contexts, rows and tables, and the row of an address.
-ghost use Rattle.std.specs.Prelude.{◌≤◌, ◌<◌, IfOk};
+ghost use Rattle.std.specs.Prelude.{IfOk};
 ghost use Rattle.cfi_state.specs.MappedStates.{row_lent};
+ghost use Rattle.cfi_state.specs.Row.{RowContains};
 ghost use Rattle.cfi_state.specs.RowExpressions.{HasExpressionsIn};
 ghost use Rattle.cfi_entry.specs.Sections.{section_of};
 ghost use Rattle.cfi_unwind.specs.AddressRow.{IsRowByScan};
@@ -14,18 +15,21 @@ pub use cfi_state::table::rules::{CfaRule, RA_SIGN_STATE, RegisterRule, Register
 use cfi_unwind::unwind_section::{UnwindSection, scan_for_fde};
 pub use cfi_unwind::unwind_table::UnwindTable;
 
-/// The unwind row of the address in the section, lent from the context.
+/// The unwind row of the address in the section, borrowed from the context.
 ///
-/// It is the row of the first FDE, in the order of the entries, that contains the address: each part of it is as its
-/// last writer left it, among the instructions up to the row's end that are left once remembered and restored stretches
-/// are struck out (DWARF 5 section 6.4.2.4). Nothing that the context held before counts. Else it is the first refusal
-/// on the way: of an entry before the FDE, of the FDE or its CIE, of the CIE's initial instructions, or of the FDE's
-/// program before the row; `NoUnwindInfoForAddress` where no FDE contains the address. Nothing after the row is
-/// checked.
+/// It is the row of the first FDE, in the order of the entries, that contains the address. Each
+/// part of the row is what the last instruction that writes it left, among the instructions up to
+/// the row's end, without the stretches that are remembered and restored (DWARF 5 section 6.4.2.4).
+/// What the context held before doesn't matter.
 ///
-/// The bases are those of the pointers in the section's entries. Over a fixed storage it takes no memory; over another
-/// one an instruction that needs more room may be refused with `OutOfMemory`. The expressions of the row's rules lie in
-/// the section, where `UnwindExpression::get` is not refused.
+/// Fails with the first error on the way: of an entry before the FDE, of the FDE or its CIE, of the
+/// CIE's initial instructions, or of the FDE's instructions before the row. Fails with
+/// `NoUnwindInfoForAddress` if no FDE contains the address. Nothing after the row is checked.
+///
+/// The bases are those of the pointers in the section's entries. Over a fixed storage it does not
+/// allocate; over another one an instruction that needs more room may fail with `OutOfMemory`. The
+/// expressions of the row's rules are in the section, so `UnwindExpression::get` does not fail
+/// there.
 ///
 /// # Example
 ///
@@ -46,8 +50,9 @@ pub fn row_by_scan<'ctx, R: Reader, Section: UnwindSection<R>, S: UnwindContextS
     address: u64,
 ) -> Result<&'ctx UnwindTableRow<R::Offset, S::Rules>>
     ensures row { IsRowByScan S.Rules.limit S.Stack.limit S.Rules.copies_free
-        (section_of (Section.view section.now) bases.now) address (row_lent R.Offset.number result) }
-    ensures contains { IfOk result (λ row. (row.now.start_address ≤ address) × (address < row.now.end_address)) }
+        (section_of (Section.view section.now) bases.now) address
+        (row_lent R.Offset.number result) }
+    ensures contains { IfOk result (λ row. RowContains address row.now) }
     ensures expressions { IfOk result (λ row.
         HasExpressionsIn R.Offset.number (Section.view section.now).position row.now.parts) }
 {

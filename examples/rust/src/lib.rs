@@ -1,13 +1,13 @@
 //! Unwind rows in Rust, by the C library of gimli_cfi: a small safe wrapper.
 //!
-//! Safe code can't break what `cfi_c.h` asks for: slices are never null, what is written is borrowed for that alone, and a
-//! context is neither `Clone` nor `Send` and is freed once.
+//! Safe code keeps what `cfi_c.h` requires: slices are never null, what is written is borrowed for
+//! that alone, and a context is neither `Clone` nor `Send` and is freed once.
 
 mod raw;
 
 use std::fmt;
 
-/// The status of an answer that is no row, with the number that it carries.
+/// An error: its status, with the value that it carries.
 #[derive(Clone, Copy, Debug, PartialEq, Eq)]
 pub struct Refusal {
     pub status: i32,
@@ -15,7 +15,7 @@ pub struct Refusal {
 }
 
 impl Refusal {
-    /// As in "NoUnwindInfoForAddress".
+    /// The name of the error, such as "NoUnwindInfoForAddress".
     pub fn name(&self) -> String {
         let mut name = [0; 64];
         let length = unsafe { raw::cfi_status_name(self.status, name.as_mut_ptr(), name.len()) };
@@ -31,11 +31,11 @@ impl fmt::Display for Refusal {
 
 impl std::error::Error for Refusal {}
 
-/// How the CFA is found.
+/// How to compute the CFA.
 #[derive(Clone, Copy, Debug, PartialEq, Eq)]
 pub enum Cfa {
     RegisterAndOffset { register: u32, offset: i64 },
-    /// Place and length in the section.
+    /// By an expression: its offset and length in the section.
     Expression(u64, u64),
 }
 
@@ -49,15 +49,16 @@ pub enum Rule {
     /// Is the CFA plus this.
     ValOffset(i64),
     Register(i64),
-    /// Saved where the expression says: place and length in the section.
+    /// Saved where the expression says: its offset and length in the section.
     Expression(u64, u64),
-    /// Is what the expression says.
+    /// Is the value of the expression.
     ValExpression(u64, u64),
     Architectural,
     Constant(u64),
 }
 
-/// A row, which holds from `start` up to, and without, `end`, with the rules of the first registers by their numbers.
+/// A row for the addresses from `start` up to `end`, without the latter, with the rules of the
+/// first registers by their numbers.
 #[derive(Clone, Copy, Debug, PartialEq, Eq)]
 pub struct Row<const REGISTERS: usize> {
     pub start: u64,
@@ -68,7 +69,7 @@ pub struct Row<const REGISTERS: usize> {
 }
 
 impl<const REGISTERS: usize> fmt::Display for Row<REGISTERS> {
-    /// The line of the program cfi_rows.
+    /// The line that the program cfi_rows prints.
     fn fmt(&self, f: &mut fmt::Formatter<'_>) -> fmt::Result {
         write!(f, "{:#x} {:#x} cfa={} args={}", self.start, self.end, self.cfa, self.args_size)?;
         for (register, rule) in self.rules.iter().enumerate() {
@@ -105,18 +106,20 @@ impl fmt::Display for Rule {
     }
 }
 
-/// A section of a program of this machine in memory, little-endian and with addresses of 8 bytes.
+/// A section of a program of this machine in memory: little-endian, with addresses of 8 bytes.
 #[derive(Clone, Copy)]
 pub enum Section<'a> {
     DebugFrame(&'a [u8]),
-    /// With the address where it lies.
+    /// The bytes, and the address of the section.
     EhFrame(&'a [u8], u64),
-    /// The same, and `.eh_frame_hdr` with its address: rows are found by its table. An empty header is none.
+    /// The same, and `.eh_frame_hdr` with its address: rows are looked up in its table. An empty
+    /// header is no header.
     EhFrameByTable { eh_frame: (&'a [u8], u64), header: (&'a [u8], u64) },
 }
 
 impl<'a> Section<'a> {
-    /// The bytes of section and header, of which a section without one has none, and what the calls ask besides.
+    /// The bytes of the section and the header (empty if there is none), and the other arguments of
+    /// the calls.
     fn parts(self) -> (&'a [u8], &'a [u8], raw::Bases) {
         let ((bytes, at), (header, header_at)) = match self {
             Section::DebugFrame(bytes) => ((bytes, 0), (&[][..], 0)),
@@ -137,7 +140,8 @@ impl<'a> Section<'a> {
     }
 }
 
-/// What an unwind needs beside the bytes; made once, and used for any number of addresses.
+/// The context of an unwind, besides the bytes; make it once, and use it for any number of
+/// addresses.
 pub struct Context(raw::Context);
 
 impl Context {
@@ -149,7 +153,7 @@ impl Context {
         }
     }
 
-    /// The row of the address, with the rules of the first registers. It takes no memory.
+    /// The row of the address, with the rules of the first registers. It does not allocate.
     pub fn row<const REGISTERS: usize>(&mut self, section: Section<'_>, address: u64) -> Result<Row<REGISTERS>, Refusal> {
         let (bytes, header, bases) = section.parts();
         let (from, length) = (bytes.as_ptr(), bytes.len());
@@ -167,7 +171,7 @@ impl Context {
         answer_of(row, rules)
     }
 
-    /// The rows of many addresses, each as `row` answers it, in one call.
+    /// The rows of many addresses in one call, each as `row` returns it.
     pub fn rows<const REGISTERS: usize>(
         &mut self,
         section: Section<'_>,

@@ -1,5 +1,5 @@
-//! The rows of README's example in the words of the program cfi_rows: of `.debug_frame`, and of the same function in
-//! `.eh_frame` by the table of its header. Each address is answered alone and among all.
+//! Prints the rows of a function as the program cfi_rows does: from `.debug_frame`, and from
+//! `.eh_frame` by the table of its header. Each address is looked up alone and among all.
 use cfi::{Context, Refusal, Section};
 
 const ADDRESSES: [u64; 4] = [0x1000, 0x1002, 0x1004, 0x1020];

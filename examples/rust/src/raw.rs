@@ -1,4 +1,4 @@
-//! What `cfi_c.h` says, in Rust.
+//! The declarations of `cfi_c.h`, in Rust.
 
 #[repr(C)]
 pub struct Context {

@@ -1,6 +1,7 @@
 use Rattle.std.proofs.Common.{rules, ◌≡◌, ◌+◌, ◌*◌, ◌<◌, ◌≤◌, length, slice_index_or, slice_set, sym, ap, subst, ◌∙◌}
 use Rattle.std.specs.Option.{option_map}
-use Rattle.cfi_c.specs.Answers.{IsAnswerForC, SameAround, is_live}
+use Rattle.cfi_c.specs.AddressRows.{IsAnswerForC, is_live}
+use Rattle.cfi_c.specs.WrittenRows.{SameAround}
 use Rattle.cfi_c.proofs.Counts.{answered_one_more, one_more}
 use Rattle.cfi_c.proofs.answer_each.Goals as goal
 

@@ -1,6 +1,7 @@
 use Rattle.std.proofs.Common.{◌≡◌, ◌*◌, ◌≤◌, length}
 use Rattle.std.specs.Option.{option_map}
-use Rattle.cfi_c.specs.Answers.{AreAnswered, is_live}
+use Rattle.cfi_c.specs.ManyAddresses.{AreAnswered}
+use Rattle.cfi_c.specs.AddressRows.{is_live}
 use Rattle.cfi_c.proofs.answer_each.Given as goal
 
 abbrev pub invariant-loop-i : goal.invariant-loop-i

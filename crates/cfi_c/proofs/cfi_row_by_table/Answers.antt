@@ -1,5 +1,5 @@
 use Rattle.std.proofs.Common.{rules, ◌≡◌, ◌≤◌, Some, length, true, sym, ap, subst, ◌∙◌}
-use Rattle.cfi_c.specs.Answers.{IsAnswerForC, is_live}
+use Rattle.cfi_c.specs.AddressRows.{IsAnswerForC, is_live}
 use Rattle.cfi_c.proofs.Faithful.{scanned}
 use Rattle.cfi_c.proofs.cfi_row_by_table.Goals as goal
 

@@ -1,10 +1,11 @@
-//! One call frame instruction (DWARF 5 sections 6.4.2 and 7.24).
-ghost use Rattle.std.specs.Prelude.{◌≡◌, ◌≤◌, ⊤};
-ghost use Rattle.cfi_read_core.specs.ReadFunctions.{chosen_from};
-ghost use Rattle.cfi_read_core.specs.ReaderCalls.{Reads};
-ghost use Rattle.cfi_parts.specs.ReadingParameters.{instruction_context, pointer_context};
-ghost use Rattle.cfi_parts.specs.Instructions.{IsRare, by_register_rules, by_rules, expression, extended_opcodes, instruction, location_by, unknown_opcode};
-ghost use Rattle.cfi_instruction.specs.MappedInstructions.{map_expression, map_instruction};
+//! Reading one call frame instruction (DWARF 5 sections 6.4.2 and 7.24).
+ghost use Rattle.std.specs.Prelude.{◌≡◌, ⊤};
+ghost use Rattle.cfi_read_core.specs.MappedInstructions.{map_expression, map_instruction};
+ghost use Rattle.cfi_read_core.specs.ReaderCalls.{ReadsBy, ReadsValue};
+ghost use Rattle.cfi_parts.specs.Instructions.{IsRare, by_extended_opcode, by_register_rules};
+ghost use Rattle.cfi_parts.specs.Instructions.{by_rules, expression, instruction, set_location};
+ghost use Rattle.cfi_parts.specs.ReadingParameters.{NotBeforeSection, instruction_context};
+ghost use Rattle.cfi_parts.specs.ReadingParameters.{pointer_context};
 
 use crate::instruction::{CallFrameInstruction, UnwindExpression};
 use crate::pointer::{PointerEncodingParameters, parse_encoded_pointer};
@@ -22,14 +23,14 @@ use cfi_read_core::reader::{read_offset, read_register};
 use cfi_read_core::{DwCfa, DwEhPe, Error, Reader, ReaderOffset, Register, Result, Vendor};
 use std::alloc::AllocError;
 
-/// What the instructions of an entry are read with.
+/// The parameters for reading the instructions of an entry.
 #[derive(Copy, Debug)]
 pub struct InstructionParameters<'a, R> {
-    /// How the address of `DW_CFA_set_loc` is encoded; a plain address where there is no encoding.
+    /// The pointer encoding of the address of `DW_CFA_set_loc`; a plain address if there is none.
     pub address_encoding: Option<DwEhPe>,
-    /// What pointers are read with.
+    /// The parameters for reading pointers.
     pub pointers: PointerEncodingParameters<'a, R>,
-    /// Whose vendor opcodes are known.
+    /// Which vendor opcodes are known.
     pub vendor: Vendor,
 }
 
@@ -44,15 +45,16 @@ impl<R: Copy> Clone for InstructionParameters<'_, R> {
     }
 }
 
-/// Passes an expression, and answers where it stands in the section.
+/// Skips an expression, and returns its place in the section.
 #[tactic(auto, unfolding(crate::specs::Instructions::expression))]
 #[inline(always)]
 fn parse_expression<R: Reader>(
     pointers: &PointerEncodingParameters<'_, R>,
     input: &mut R,
 ) -> Result<UnwindExpression<R::Offset>>
-    requires { (R.position pointers.now.section.now).place ≤ (R.position input.old).place }
-    ensures { Reads (map_expression R.Offset.number) (expression (pointer_context R.position pointers.now)) (R.position input.old) result (R.position input.new) }
+    requires { NotBeforeSection R.position pointers.now input.old }
+    ensures { ReadsBy R.position (map_expression R.Offset.number)
+        (expression (pointer_context R.position pointers.now)) input.old result input.new }
 {
     let length = read_offset(input)?;
     let offset = input.offset_from(pointers.section);
@@ -66,9 +68,9 @@ fn parse_location<R: Reader>(
     parameters: &InstructionParameters<'_, R>,
     input: &mut R,
 ) -> Result<u64>
-    requires { (R.position parameters.now.pointers.section.now).place ≤ (R.position input.old).place }
-    ensures { let c = instruction_context R.position parameters.now in
-        Reads (λ x. x) (location_by c.pointers c.address_encoding) (R.position input.old) result (R.position input.new) }
+    requires { NotBeforeSection R.position parameters.now.pointers input.old }
+    ensures { ReadsValue R.position (set_location (instruction_context R.position parameters.now))
+        input.old result input.new }
 {
     match parameters.address_encoding {
         Some(encoding) => parse_encoded_pointer(encoding, &parameters.pointers, input)?.direct(),
@@ -83,8 +85,10 @@ pub fn parse_instruction<R: Reader>(
     parameters: &InstructionParameters<'_, R>,
     input: &mut R,
 ) -> Result<CallFrameInstruction<R::Offset>>
-    requires { (R.position parameters.now.pointers.section.now).place ≤ (R.position input.old).place }
-    ensures { Reads (map_instruction R.Offset.number) (instruction (instruction_context R.position parameters.now)) (R.position input.old) result (R.position input.new) }
+    requires { NotBeforeSection R.position parameters.now.pointers input.old }
+    ensures { ReadsBy R.position (map_instruction R.Offset.number)
+        (instruction (instruction_context R.position parameters.now))
+        input.old result input.new }
 {
     let opcode = input.read_u8()?;
     // A primary opcode is the two high bits alone; the low six bits are its first operand.
@@ -104,21 +108,22 @@ pub fn parse_instruction<R: Reader>(
     }
 }
 
-/// Reads the operands of an opcode whose two high bits are 0. The opcodes that compilers write most are read here, and the
-/// others apart, since a function clears the room for what each of its arms reads.
+/// Reads the operands of an opcode whose two high bits are 0.
+// The opcodes that compilers write most are read here and the others in a function of their own,
+// since a function reserves stack space for each of its arms.
 #[inline(always)]
 fn parse_extended<R: Reader>(
     opcode: DwCfa,
     parameters: &InstructionParameters<'_, R>,
     input: &mut R,
 ) -> Result<CallFrameInstruction<R::Offset>>
-    requires { (R.position parameters.now.pointers.section.now).place ≤ (R.position input.old).place }
-    ensures { Reads (map_instruction R.Offset.number)
-        (chosen_from opcode.0 (extended_opcodes (instruction_context R.position parameters.now)) (unknown_opcode opcode.0))
-        (R.position input.old) result (R.position input.new) }
+    requires { NotBeforeSection R.position parameters.now.pointers input.old }
+    ensures { ReadsBy R.position (map_instruction R.Offset.number)
+        (by_extended_opcode (instruction_context R.position parameters.now) opcode.0)
+        input.old result input.new }
 {
     match opcode {
-        // row creation (section 6.4.2.1)
+        // Row creation (section 6.4.2.1).
         DW_CFA_advance_loc1 => Ok(CallFrameInstruction::AdvanceLoc {
             delta: u32::from(input.read_u8()?),
         }),
@@ -128,7 +133,7 @@ fn parse_extended<R: Reader>(
         DW_CFA_advance_loc4 => Ok(CallFrameInstruction::AdvanceLoc {
             delta: input.read_u32()?,
         }),
-        // the CFA's definition (section 6.4.2.2)
+        // The definition of the CFA (section 6.4.2.2).
         DW_CFA_def_cfa => Ok(CallFrameInstruction::DefCfa {
             register: read_register(input)?,
             offset: input.read_uleb128()?,
@@ -139,7 +144,7 @@ fn parse_extended<R: Reader>(
         DW_CFA_def_cfa_offset => Ok(CallFrameInstruction::DefCfaOffset {
             offset: input.read_uleb128()?,
         }),
-        // a row's state (section 6.4.2.4), and padding
+        // Row state (section 6.4.2.4), and padding.
         DW_CFA_nop => Ok(CallFrameInstruction::Nop),
         DW_CFA_remember_state => Ok(CallFrameInstruction::RememberState),
         DW_CFA_restore_state => Ok(CallFrameInstruction::RestoreState),
@@ -148,24 +153,23 @@ fn parse_extended<R: Reader>(
 }
 
 /// Reads the operands of one of the other opcodes whose two high bits are 0.
-#[tactic(auto, unfolding(crate::specs::Instructions::by_rules, crate::specs::Instructions::by_register_rules))]
 fn parse_rare<R: Reader>(
     opcode: DwCfa,
     parameters: &InstructionParameters<'_, R>,
     input: &mut R,
 ) -> Result<CallFrameInstruction<R::Offset>>
     requires rare { IsRare opcode.0 }
-    requires behind { (R.position parameters.now.pointers.section.now).place ≤ (R.position input.old).place }
-    ensures { Reads (map_instruction R.Offset.number)
-        (chosen_from opcode.0 (extended_opcodes (instruction_context R.position parameters.now)) (unknown_opcode opcode.0))
-        (R.position input.old) result (R.position input.new) }
+    requires behind { NotBeforeSection R.position parameters.now.pointers input.old }
+    ensures { ReadsBy R.position (map_instruction R.Offset.number)
+        (by_extended_opcode (instruction_context R.position parameters.now) opcode.0)
+        input.old result input.new }
 {
     match opcode {
-        // row creation (section 6.4.2.1)
+        // Row creation (section 6.4.2.1).
         DW_CFA_set_loc => Ok(CallFrameInstruction::SetLoc {
             address: parse_location(parameters, input)?,
         }),
-        // the CFA's definition (section 6.4.2.2)
+        // The definition of the CFA (section 6.4.2.2).
         DW_CFA_def_cfa_expression => Ok(CallFrameInstruction::DefCfaExpression {
             expression: parse_expression(&parameters.pointers, input)?,
         }),
@@ -176,7 +180,7 @@ fn parse_rare<R: Reader>(
         DW_CFA_def_cfa_offset_sf => Ok(CallFrameInstruction::DefCfaOffsetSf {
             factored_offset: input.read_sleb128()?,
         }),
-        // vendors' opcodes
+        // Vendor opcodes.
         DW_CFA_AARCH64_negate_ra_state => match parameters.vendor {
             Vendor::AArch64 => Ok(CallFrameInstruction::NegateRaState),
             Vendor::Default => Err(Error::UnknownCallFrameInstruction(opcode)),
@@ -188,17 +192,18 @@ fn parse_rare<R: Reader>(
     }
 }
 
-/// Reads the operands of an opcode that gives a register a rule by an offset from the CFA (section 6.4.2.3).
+/// Reads the operands of an opcode that sets a register rule with an offset from the CFA (section
+/// 6.4.2.3).
 #[tactic(auto, unfolding(crate::specs::Instructions::by_rules))]
 fn parse_rule<R: Reader>(
     opcode: DwCfa,
     parameters: &InstructionParameters<'_, R>,
     input: &mut R,
 ) -> Result<CallFrameInstruction<R::Offset>>
-    requires { (R.position parameters.now.pointers.section.now).place ≤ (R.position input.old).place }
-    ensures { Reads (map_instruction R.Offset.number)
+    requires { NotBeforeSection R.position parameters.now.pointers input.old }
+    ensures { ReadsBy R.position (map_instruction R.Offset.number)
         (by_rules (instruction_context R.position parameters.now) opcode.0)
-        (R.position input.old) result (R.position input.new) }
+        input.old result input.new }
 {
     match opcode {
         DW_CFA_offset_extended => Ok(CallFrameInstruction::Offset {
@@ -225,17 +230,17 @@ fn parse_rule<R: Reader>(
     }
 }
 
-/// Reads the operands of an opcode that gives a register another rule (section 6.4.2.3).
+/// Reads the operands of an opcode that sets another register rule (section 6.4.2.3).
 #[tactic(auto, unfolding(crate::specs::Instructions::by_register_rules))]
 fn parse_rule_without_offset<R: Reader>(
     opcode: DwCfa,
     parameters: &InstructionParameters<'_, R>,
     input: &mut R,
 ) -> Result<CallFrameInstruction<R::Offset>>
-    requires { (R.position parameters.now.pointers.section.now).place ≤ (R.position input.old).place }
-    ensures { Reads (map_instruction R.Offset.number)
+    requires { NotBeforeSection R.position parameters.now.pointers input.old }
+    ensures { ReadsBy R.position (map_instruction R.Offset.number)
         (by_register_rules (instruction_context R.position parameters.now) opcode.0)
-        (R.position input.old) result (R.position input.new) }
+        input.old result input.new }
 {
     match opcode {
         DW_CFA_restore_extended => Ok(CallFrameInstruction::Restore {

@@ -71,7 +71,8 @@ fn check_cuts(
     Ok(())
 }
 
-/// Cuts the section of an input, and its header where it has one. `before` is the whole section then.
+/// Cuts the section of an input, and its header where it has one. `before` is the whole section
+/// then.
 fn check_input(
     rt: &(impl Abort + AllocGlobal),
     case: &Case<'_>,

@@ -1,8 +1,10 @@
-//! Runs with letter `B` in an augmentation string, and with the opcode `DW_CFA_GNU_negative_offset_extended`.
+//! Runs with letter `B` in an augmentation string, and with the opcode
+//! `DW_CFA_GNU_negative_offset_extended`.
 use super::expect;
 use std::test::Fail;
 
-/// A run over a section of `.debug_frame`: the address, the section, the line without its line feed, and the status.
+/// A run over a section of `.debug_frame`: the address, the section, the line without its line
+/// feed, and the status.
 struct Case {
     address: &'static str,
     section: &'static str,

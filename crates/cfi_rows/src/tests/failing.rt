@@ -1,5 +1,5 @@
 //! Runs whose words are missing, or whose input or output fails.
-use cfi_rows_run::run::run;
+use cfi_programs::rows::run::run;
 use std::alloc::Global;
 use std::io;
 use std::io::{ErrorKind, Read, Write};
@@ -126,7 +126,8 @@ const NO_HEXADECIMAL: [(&[&str], &[u8]); 2] = [
     (WORDS_WITH_HEADER, b"00000000\n01 1b 03 fg"),
 ];
 
-/// The line of an input of so many bytes that is no hexadecimal, where so many reads come before one that fails.
+/// The line of an input of so many bytes that is no hexadecimal, where so many reads come before
+/// one that fails.
 fn line_after(reads: usize, bytes: usize) -> &'static [u8] {
     if reads <= bytes {
         b"wrong input\n"
@@ -165,7 +166,8 @@ const WRITTEN: [(&[u8], &[u8], u8); 2] = [
     (b"", b"refused NoUnwindInfoForAddress\n", 1),
 ];
 
-/// At each byte of a row's line or of a refusal's, the line feed among them. An interrupted write is tried again.
+/// At each byte of a row's line or of a refusal's, the line feed among them. An interrupted write
+/// is tried again.
 #[test]
 fn a_failed_write(rt: HostRuntime) {
     for (section, line, status) in &WRITTEN {

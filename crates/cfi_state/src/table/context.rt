@@ -1,5 +1,7 @@
-//! The state of an unwind that is kept from one entry to the next.
-ghost use Rattle.std.specs.Prelude.{◌≡◌, ◌≢◌, ◌<◌, ◌≤◌, ◌∷◌, ◌++◌, [], Some, None, IfOk, OnOk, IfErr, OnErr, IsSomeAnd, false, length, reverse, slice_get, slice_set};
+//! The state of an unwind, which can be used for one entry after another.
+ghost use Rattle.std.specs.Prelude.{◌≡◌, ◌≢◌, ◌<◌, ◌≤◌, ◌∷◌, ◌++◌, [], Some, None, false};
+ghost use Rattle.std.specs.Prelude.{IfOk, OnOk, IfErr, OnErr, IsSomeAnd};
+ghost use Rattle.std.specs.Prelude.{length, reverse, slice_get, slice_set};
 ghost use Rattle.std.specs.Option.{option_eq};
 ghost use Rattle.std.specs.Cmp.{partial_equiv_from_equiv};
 ghost use Rattle.cfi_read_core.specs.ReaderCalls.{map_ok};
@@ -14,16 +16,18 @@ use std::alloc::Global;
 use std::fmt::{Debug, Formatter, Write};
 use std::marker::Model;
 
-/// The state of an unwind: the current row, the remembered rows and the CIE's final rules.
+/// The state of an unwind: the current row, the remembered rows and the CIE's initial rules.
 ///
-/// A context is made once and used for any number of unwinds; nothing of one unwind is seen by the next.
+/// One context serves any number of unwinds, one after another: each empties it first.
 #[derive(Drop)]
 pub struct UnwindContext<T: ReaderOffset, S: UnwindContextStorage<T> = StoreOnHeap> {
     row: UnwindTableRow<T, S::Rules>,
-    // The first `depth` rows are the remembered ones, the last one last. The room of those after them is used again.
+    /// The first `depth` rows are the remembered ones, the last one last. The later ones are
+    /// unused, and written over.
     stack: S::Stack,
     depth: usize,
-    // What the CIE's initial instructions ended with, once it has. Two rules or more count as a row of the stack.
+    /// The rules that the CIE's initial instructions ended with, if they have ended. Two rules or
+    /// more count as a row of the stack.
     initial_rules: RegisterRuleMap<T, S::Rules>,
     has_ended_cie: bool,
 }
@@ -48,15 +52,18 @@ impl<T: ReaderOffset, S: UnwindContextStorage<T>> Model for UnwindContext<T, S> 
 
     ghost coded = { Prim.hlevel (codes, T.code, map.code) };
 
-    ghost view = { λ context. context_of context.row (S.Stack.items context.stack) context.depth context.initial_rules context.has_ended_cie };
+    ghost view = { λ context. context_of context.row (S.Stack.items context.stack) context.depth
+        context.initial_rules context.has_ended_cie };
 
-    ghost invariant = { λ context. IsContext S.Stack.limit (S.Stack.items context.stack) context.depth context.initial_rules context.has_ended_cie };
+    ghost invariant = { λ context. IsContext S.Stack.limit (S.Stack.items context.stack)
+        context.depth context.initial_rules context.has_ended_cie };
 }
 
 impl<T: ReaderOffset> UnwindContext<T> {
     ghost use Rattle.cfi_state.specs.UnwindContexts.{empty_context};
 
-    /// A context with room for 192 rules a row and 4 rows. `OutOfMemory` where the room cannot be allocated.
+    /// An empty context with room for 192 rules a row and for 4 rows. Fails with `OutOfMemory` if
+    /// they cannot be allocated.
     pub fn new(alloc: Global) -> Result<Self>
         ensures ok { IfOk result (λ context. context ≡ empty_context) }
         ensures err { IfErr result (λ error. error ≡ Error.OutOfMemory) }
@@ -71,24 +78,29 @@ impl<T: ReaderOffset, S: UnwindContextStorage<T>> UnwindContext<T, S> {
     ghost use Rattle.cfi_state.specs.Machine.{copies_held};
     ghost use Rattle.cfi_state.specs.AllocatingOperations.{Performs};
     ghost use Rattle.cfi_state.specs.RulePairs.{map_set_rule, AddsRule, AddsRules};
-    ghost use Rattle.cfi_state.specs.Row.{at_start, at_end, row_with_cfa, with_args_size, row_with_rules};
-    ghost use Rattle.cfi_state.specs.UnwindContexts.{empty_context, with_row, context_rows_held, context_remember, context_restore, context_end_of_cie, initial_rule};
+    ghost use Rattle.cfi_state.specs.Row.{at_addresses, row_with_cfa, row_with_rules};
+    ghost use Rattle.cfi_state.specs.Row.{with_args_size};
+    ghost use Rattle.cfi_state.specs.UnwindContexts.{empty_context, with_row, context_rows_held};
+    ghost use Rattle.cfi_state.specs.UnwindContexts.{context_remember, context_restore};
+    ghost use Rattle.cfi_state.specs.UnwindContexts.{context_end_of_cie, initial_rule};
 
-    /// A context over the lists of `S`. `OutOfMemory` where their room cannot be allocated.
+    /// An empty context over the lists of `S`. Fails with `OutOfMemory` if they cannot be
+    /// allocated.
     pub fn new_in(alloc: Global) -> Result<Self>
         ensures ok { IfOk result (λ context. context ≡ empty_context) }
         ensures err { IfErr result (λ error. error ≡ Error.OutOfMemory) }
     {
         Ok(UnwindContext {
-            row: UnwindTableRow::make(alloc)?,
+            row: UnwindTableRow::new_in(alloc)?,
             stack: S::Stack::make(alloc)?,
             depth: 0,
-            initial_rules: RegisterRuleMap::make(alloc)?,
+            initial_rules: RegisterRuleMap::new_in(alloc)?,
             has_ended_cie: false,
         })
     }
 
-    /// An equal context, with room of its own. `OutOfMemory` where that cannot be allocated.
+    /// An equal context with lists of its own. Fails with `OutOfMemory` if they cannot be
+    /// allocated.
     pub fn try_clone(&self, alloc: Global) -> Result<Self>
         ensures ok { IfOk result (λ context. context ≡ self.now) }
         ensures err { IfErr result (λ error. error ≡ Error.OutOfMemory) }
@@ -103,7 +115,7 @@ impl<T: ReaderOffset, S: UnwindContextStorage<T>> UnwindContext<T, S> {
         })
     }
 
-    // Makes the context what it was when it was new. It takes no memory.
+    /// Empties the context. Does not allocate.
     #[inline(always)]
     pub(crate) fn reset(&mut self)
         ensures { self.new ≡ empty_context }
@@ -113,6 +125,7 @@ impl<T: ReaderOffset, S: UnwindContextStorage<T>> UnwindContext<T, S> {
         self.has_ended_cie = false;
     }
 
+    /// The current row.
     #[inline(always)]
     pub(crate) fn row(&self) -> &UnwindTableRow<T, S::Rules>
         ensures { result.now ≡ self.now.row }
@@ -120,18 +133,12 @@ impl<T: ReaderOffset, S: UnwindContextStorage<T>> UnwindContext<T, S> {
         &self.row
     }
 
+    /// Writes both addresses of the current row.
     #[inline(always)]
-    pub(crate) fn set_start_address(&mut self, address: u64)
-        ensures { self.new ≡ with_row self.old (at_start self.old.row address) }
+    pub(crate) fn set_addresses(&mut self, start: u64, end: u64)
+        ensures { self.new ≡ with_row self.old (at_addresses self.old.row start end) }
     {
-        self.row.set_start_address(address);
-    }
-
-    #[inline(always)]
-    pub(crate) fn set_end_address(&mut self, address: u64)
-        ensures { self.new ≡ with_row self.old (at_end self.old.row address) }
-    {
-        self.row.set_end_address(address);
+        self.row.set_addresses(start, end);
     }
 
     #[inline(always)]
@@ -148,6 +155,8 @@ impl<T: ReaderOffset, S: UnwindContextStorage<T>> UnwindContext<T, S> {
         self.row.set_saved_args_size(size);
     }
 
+    /// Sets the register's rule in the current row. Fails with `TooManyRegisterRules` or
+    /// `OutOfMemory` if there is no room for a new one.
     #[inline(always)]
     pub(crate) fn set_rule(&mut self, register: Register, rule: RegisterRule<T>) -> Result<()>
         ensures { Performs (AddsRule S.Rules.limit self.old.row.parts.rules register.0)
@@ -160,12 +169,13 @@ impl<T: ReaderOffset, S: UnwindContextStorage<T>> UnwindContext<T, S> {
 
     #[inline(always)]
     pub(crate) fn clear_rule(&mut self, register: Register)
-        ensures { self.new ≡ with_row self.old (row_with_rules self.old.row (map.remove self.old.row.parts.rules register.0)) }
+        ensures { self.new ≡ with_row self.old
+            (row_with_rules self.old.row (map.remove self.old.row.parts.rules register.0)) }
     {
         self.row.clear_rule(register);
     }
 
-    // How many rows of the stack the initial rules count as.
+    /// How many rows of the stack the initial rules count as.
     #[inline(always)]
     fn copies_held(&self) -> usize
         ensures { result ≡ copies_held self.now.initial_rules }
@@ -176,7 +186,7 @@ impl<T: ReaderOffset, S: UnwindContextStorage<T>> UnwindContext<T, S> {
         0
     }
 
-    // Whether the stack has no room for another row.
+    /// Whether the stack has no room for another row.
     #[inline(always)]
     fn is_full(&self) -> bool
         ensures { result ≡ is_at_limit S.Stack.limit (context_rows_held self.now) }
@@ -187,7 +197,8 @@ impl<T: ReaderOffset, S: UnwindContextStorage<T>> UnwindContext<T, S> {
         }
     }
 
-    // Remembers the current row (DWARF 5 section 6.4.2.4).
+    /// Remembers the current row (DWARF 5 section 6.4.2.4). Fails with `StackFull` if there is no
+    /// room, and with `OutOfMemory` if a copy cannot be allocated.
     pub(crate) fn remember(&mut self) -> Result<()>
         ensures { Performs (AddsRow S.Stack.limit S.Rules.copies_free)
             (context_remember S.Stack.limit self.old) self.old self.new result }
@@ -199,7 +210,8 @@ impl<T: ReaderOffset, S: UnwindContextStorage<T>> UnwindContext<T, S> {
         Ok(())
     }
 
-    // Brings the last remembered row back, but for its addresses (DWARF 5 section 6.4.2.4).
+    /// Restores the last remembered row, except for its addresses (DWARF 5 section 6.4.2.4). Fails
+    /// with `PopWithEmptyStack` if none is remembered. Does not allocate.
     pub(crate) fn restore(&mut self) -> Result<()>
         ensures { Performs ⊥ (context_restore self.old) self.old self.new result }
     {
@@ -212,10 +224,13 @@ impl<T: ReaderOffset, S: UnwindContextStorage<T>> UnwindContext<T, S> {
         Ok(())
     }
 
-    // Keeps the rules that the CIE's initial instructions ended with.
+    /// Saves the current rules, with which the CIE's initial instructions end. Fails with
+    /// `StackFull` if two rules or more would be one row too many, and with `OutOfMemory` if a copy
+    /// cannot be allocated.
     pub(crate) fn save_initial_rules(&mut self) -> Result<()>
         requires { self.old.initial_rules ≡ None }
-        ensures { Performs (AddsRules S.Rules.limit S.Rules.copies_free self.old.row.parts.rules)
+        ensures { Performs
+            (AddsRules S.Rules.limit S.Rules.copies_free self.old.row.parts.rules)
             (context_end_of_cie S.Stack.limit self.old) self.old self.new result }
     {
         if 2 <= self.row.rules().pairs().len() && self.is_full() {
@@ -226,7 +241,8 @@ impl<T: ReaderOffset, S: UnwindContextStorage<T>> UnwindContext<T, S> {
         Ok(())
     }
 
-    // The rule that the register had when the CIE's initial instructions ended.
+    /// The rule that the register had when the CIE's initial instructions ended. Fails with
+    /// `CfiInstructionInInvalidContext` while they run.
     #[inline(always)]
     pub(crate) fn initial_rule(&self, register: Register) -> Result<Option<RegisterRule<T>>>
         ensures { result ≡ initial_rule self.now register.0 }
@@ -238,7 +254,8 @@ impl<T: ReaderOffset, S: UnwindContextStorage<T>> UnwindContext<T, S> {
     }
 }
 
-/// Contexts are equal whose rows are equal one by one, and of which both or neither have ended a CIE, with equal rules.
+/// Contexts are equal if their rows are equal one by one, and if both or neither have ended a CIE,
+/// with equal rules.
 impl<T: ReaderOffset, S: UnwindContextStorage<T>> PartialEq for UnwindContext<T, S> {
     ghost use Rattle.cfi_state.specs.Equality.{context_eq};
     ghost use Rattle.cfi_state.specs.EqualityLaws.{context_equiv};
@@ -268,7 +285,7 @@ impl<T: ReaderOffset, S: UnwindContextStorage<T>> Eq for UnwindContext<T, S> {
 impl<T: ReaderOffset, S: UnwindContextStorage<T>> UnwindContext<T, S> {
     ghost use Rattle.cfi_state.specs.Equality.{rules_eq};
 
-    // The remembered rows, the last one last.
+    /// The remembered rows, the last one last.
     #[inline(always)]
     fn remembered(&self) -> &[UnwindTableRow<T, S::Rules>]
         ensures { reverse result.now ≡ self.now.remembered }
@@ -276,10 +293,11 @@ impl<T: ReaderOffset, S: UnwindContextStorage<T>> UnwindContext<T, S> {
         &self.stack.as_slice()[..self.depth]
     }
 
-    // Whether both or neither have ended a CIE, with equal rules.
+    /// Whether both or neither have ended a CIE, with equal rules.
     #[inline(always)]
     fn has_initial_rules_of(&self, other: &Self) -> bool
-        ensures { result ≡ option_eq (rules_eq T.eq) self.now.initial_rules other.now.initial_rules }
+        ensures { result
+            ≡ option_eq (rules_eq T.eq) self.now.initial_rules other.now.initial_rules }
     {
         if self.has_ended_cie && other.has_ended_cie {
             return self.initial_rules == other.initial_rules;
@@ -288,7 +306,7 @@ impl<T: ReaderOffset, S: UnwindContextStorage<T>> UnwindContext<T, S> {
     }
 }
 
-// Writes a copy of the row to the stack at the depth, and returns the depth that it then has.
+/// Writes a copy of the row to the stack at the depth, and returns the new depth.
 fn keep_row<T: ReaderOffset, S: UnwindContextStorage<T>>(
     stack: &mut S::Stack,
     depth: usize,
@@ -296,9 +314,12 @@ fn keep_row<T: ReaderOffset, S: UnwindContextStorage<T>>(
 ) -> Result<usize>
     requires within { depth ≤ length (S.Stack.items stack.old) }
     requires room { S.Stack.limit ≢ Some depth }
-    ensures ok { IfOk result (λ deeper. IsKept (S.Stack.items stack.old) depth row.now (S.Stack.items stack.new) deeper) }
-    ensures err { OnErr result (IsSameBelow depth (S.Stack.items stack.old) (S.Stack.items stack.new)) }
-    ensures memory { IfErr result (λ error. (error ≡ Error.OutOfMemory) × AddsRow S.Stack.limit S.Rules.copies_free) }
+    ensures ok { IfOk result (λ deeper.
+        IsKept (S.Stack.items stack.old) depth row.now (S.Stack.items stack.new) deeper) }
+    ensures err { OnErr result
+        (IsSameBelow depth (S.Stack.items stack.old) (S.Stack.items stack.new)) }
+    ensures memory { IfErr result (λ error.
+        (error ≡ Error.OutOfMemory) × AddsRow S.Stack.limit S.Rules.copies_free) }
 {
     if depth < stack.as_slice().len() {
         copy_over::<T, S>(stack, depth, row)?;
@@ -308,22 +329,26 @@ fn keep_row<T: ReaderOffset, S: UnwindContextStorage<T>>(
     Ok(stack.as_slice().len())
 }
 
-// Writes a copy of the row over the one at the place, in the room that it has.
+/// Writes a copy of the row over the one at the index, in its list of rules.
 fn copy_over<T: ReaderOffset, S: UnwindContextStorage<T>>(
     stack: &mut S::Stack,
-    place: usize,
+    index: usize,
     row: &UnwindTableRow<T, S::Rules>,
 ) -> Result<()>
-    requires { place < length (S.Stack.items stack.old) }
-    ensures ok { OnOk result (S.Stack.items stack.new ≡ slice_set (S.Stack.items stack.old) place row.now) }
-    ensures err { OnErr result (IsSameBelow place (S.Stack.items stack.old) (S.Stack.items stack.new)) }
-    ensures memory { IfErr result (λ error. (error ≡ Error.OutOfMemory) × (S.Rules.copies_free ≡ false)) }
+    requires { index < length (S.Stack.items stack.old) }
+    ensures ok { OnOk result
+        (S.Stack.items stack.new ≡ slice_set (S.Stack.items stack.old) index row.now) }
+    ensures err { OnErr result
+        (IsSameBelow index (S.Stack.items stack.old) (S.Stack.items stack.new)) }
+    ensures memory { IfErr result (λ error.
+        (error ≡ Error.OutOfMemory) × (S.Rules.copies_free ≡ false)) }
 {
     let rows = stack.as_mut_slice();
-    rows[place].copy_from(row)
+    rows[index].copy_from(row)
 }
 
-// Appends a copy of the row. A function of its own, as each call fills its local of a row's size.
+/// Appends a copy of the row. It is a function of its own because each call fills a local of a
+/// row's size.
 #[inline(never)]
 fn append_copy<T: ReaderOffset, S: UnwindContextStorage<T>>(
     stack: &mut S::Stack,
@@ -332,7 +357,8 @@ fn append_copy<T: ReaderOffset, S: UnwindContextStorage<T>>(
     requires { S.Stack.limit ≢ Some (length (S.Stack.items stack.old)) }
     ensures ok { OnOk result (S.Stack.items stack.new ≡ S.Stack.items stack.old ++ row.now ∷ []) }
     ensures err { OnErr result (S.Stack.items stack.new ≡ S.Stack.items stack.old) }
-    ensures memory { IfErr result (λ error. (error ≡ Error.OutOfMemory) × AddsRow S.Stack.limit S.Rules.copies_free) }
+    ensures memory { IfErr result (λ error.
+        (error ≡ Error.OutOfMemory) × AddsRow S.Stack.limit S.Rules.copies_free) }
 {
     let copy = row.try_clone()?;
     let Err(refused) = stack.try_push(copy) else {
@@ -341,21 +367,22 @@ fn append_copy<T: ReaderOffset, S: UnwindContextStorage<T>>(
     Err(refusal_of(refused, Error::StackFull))
 }
 
-// Gives the row the parts of the one at the place.
+/// Gives the row the parts of the one at the index.
 fn bring_back<T: ReaderOffset, S: UnwindContextStorage<T>>(
     row: &mut UnwindTableRow<T, S::Rules>,
     stack: &mut S::Stack,
-    place: usize,
+    index: usize,
 )
-    requires { place < length (S.Stack.items stack.old) }
-    ensures row { IsSomeAnd (slice_get (S.Stack.items stack.old) place) (λ last. row.new ≡ with_parts row.old last.parts) }
-    ensures stack { IsSameBelow place (S.Stack.items stack.old) (S.Stack.items stack.new) }
+    requires { index < length (S.Stack.items stack.old) }
+    ensures row { IsSomeAnd (slice_get (S.Stack.items stack.old) index)
+        (λ last. row.new ≡ with_parts row.old last.parts) }
+    ensures stack { IsSameBelow index (S.Stack.items stack.old) (S.Stack.items stack.new) }
 {
     let rows = stack.as_mut_slice();
-    row.take_parts(&mut rows[place]);
+    row.take_parts(&mut rows[index]);
 }
 
-// A list of equal rows.
+/// A new list of copies of the rows.
 fn copy_of<T: ReaderOffset, S: UnwindContextStorage<T>>(
     rows: &[UnwindTableRow<T, S::Rules>],
     alloc: Global,

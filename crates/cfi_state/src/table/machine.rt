@@ -1,24 +1,25 @@
 //! The machine of call frame instructions (DWARF 5 section 6.4.2): one step for each instruction.
 //!
-//! What the crates above this one do to a context stands here, as free functions: a user of an unwind context has
-//! no business with them.
+//! What the crates above this one do to a context is here, as free functions. They are not methods,
+//! so users of an unwind context do not see them.
 ghost use Rattle.std.specs.Prelude.{◌≡◌, ℕ, None, IfOk, is_some, true, false};
 ghost use Rattle.std.specs.Int.{w64, int_wrapping_mul};
 ghost use Rattle.cfi_state.specs.MachineSettings.{Setting, is_move};
-ghost use Rattle.cfi_instruction.specs.declared.instruction.CallFrameInstruction.TheVariants as instruction;
-ghost use Rattle.cfi_state.specs.Row.{at_start, at_end};
+ghost use Rattle.cfi_read_core.specs.declared.instruction.CallFrameInstruction.TheVariants
+    as instruction;
+ghost use Rattle.cfi_state.specs.Row.{at_addresses};
 ghost use Rattle.cfi_state.specs.UnwindContexts.{empty_context, machine_state, with_row};
 ghost use Rattle.cfi_state.specs.declared.table.machine.Parameters.{Parameters};
 ghost use Rattle.cfi_state.specs.ContextEffects.{setting_of, Changes, Evaluates, EndsCie};
 ghost use Rattle.cfi_state.specs.Actions.{action};
-ghost use Rattle.cfi_state.specs.ActionEffects as groups;
+ghost use Rattle.cfi_state.specs.ActionEffects as effects;
 
 use super::context::UnwindContext;
 use super::row::UnwindTableRow;
 use super::rules::{CfaRule, RA_SIGN_STATE, RegisterRule};
 use crate::storage::UnwindContextStorage;
-use cfi_instruction::instruction::CallFrameInstruction;
 use cfi_read_core::address::AddressSize;
+use cfi_read_core::instruction::CallFrameInstruction;
 use cfi_read_core::{Error, ReaderAddress, ReaderOffset, Register, Result};
 
 /// What stays fixed while the programs of a CIE and an FDE run.
@@ -37,7 +38,7 @@ pub struct Parameters {
 }
 
 impl Parameters {
-    // The product wraps.
+    /// The operand times the data alignment factor. The product wraps.
     #[inline(always)]
     fn factored(&self, operand: i64) -> i64
         ensures { result ≡ int_wrapping_mul w64 operand self.now.data_alignment_factor }
@@ -46,7 +47,8 @@ impl Parameters {
     }
 }
 
-/// Empties the context for the next unwind: no rule, no remembered row, and no CIE that has ended. It takes no memory.
+/// Empties the context for the next unwind: no rule, no remembered row, and no CIE that has ended.
+/// Does not allocate.
 #[inline(always)]
 pub fn reset<T: ReaderOffset, S: UnwindContextStorage<T>>(context: &mut UnwindContext<T, S>)
     ensures { context.new ≡ empty_context }
@@ -54,7 +56,7 @@ pub fn reset<T: ReaderOffset, S: UnwindContextStorage<T>>(context: &mut UnwindCo
     context.reset();
 }
 
-/// The current row, lent from the context.
+/// The current row, borrowed from the context.
 #[inline(always)]
 pub fn current_row<T: ReaderOffset, S: UnwindContextStorage<T>>(
     context: &UnwindContext<T, S>,
@@ -64,35 +66,31 @@ pub fn current_row<T: ReaderOffset, S: UnwindContextStorage<T>>(
     context.row()
 }
 
-/// Writes the current row's start address.
+/// Writes the current row's start address and its end address.
 #[inline(always)]
-pub fn set_start_address<T: ReaderOffset, S: UnwindContextStorage<T>>(
+pub fn set_addresses<T: ReaderOffset, S: UnwindContextStorage<T>>(
     context: &mut UnwindContext<T, S>,
-    address: u64,
+    start: u64,
+    end: u64,
 )
-    ensures { context.new ≡ with_row context.old (at_start context.old.row address) }
+    ensures { context.new ≡ with_row context.old (at_addresses context.old.row start end) }
 {
-    context.set_start_address(address);
+    context.set_addresses(start, end);
 }
 
-/// Writes the current row's end address.
-#[inline(always)]
-pub fn set_end_address<T: ReaderOffset, S: UnwindContextStorage<T>>(
-    context: &mut UnwindContext<T, S>,
-    address: u64,
-)
-    ensures { context.new ≡ with_row context.old (at_end context.old.row address) }
-{
-    context.set_end_address(address);
-}
-
-/// Runs one instruction at a location (DWARF 5 section 6.4.2), and answers the address that it moves to, if it does.
+/// Runs one instruction at a location (DWARF 5 section 6.4.2). Returns the address that it moves
+/// to, or `None` if it is not a move.
 ///
-/// A move leaves the context as it is. So does every refusal: `InvalidCfiSetLoc` of an address below the location,
-/// `AddressOverflow` of a location past the address size, `CfiInstructionInInvalidContext` of half a CFA where the CFA is an
-/// expression, of a rule to restore in a CIE, and of a sign state that is no constant, `TooManyRegisterRules`, `StackFull`
-/// and `PopWithEmptyStack`. `OutOfMemory` comes only where a list without a limit grows, or where a row is remembered
-/// whose copy takes memory.
+/// A move leaves the context as it is. So does every error:
+///
+/// - `InvalidCfiSetLoc`: the address is below the location.
+/// - `AddressOverflow`: the new location does not fit the address size.
+/// - `CfiInstructionInInvalidContext`: the instruction sets the register or the offset of a CFA
+///   that is an expression, restores a rule in a CIE, or toggles a sign state that is not a
+///   constant.
+/// - `TooManyRegisterRules`, `StackFull`: the storage's rules or rows are at their limit.
+/// - `PopWithEmptyStack`: no row is remembered.
+/// - `OutOfMemory`: a list without a limit grows, or a row is remembered whose copy allocates.
 #[inline(always)]
 pub fn evaluate<T: ReaderOffset, S: UnwindContextStorage<T>>(
     context: &mut UnwindContext<T, S>,
@@ -100,8 +98,8 @@ pub fn evaluate<T: ReaderOffset, S: UnwindContextStorage<T>>(
     location: u64,
     instruction: CallFrameInstruction<T>,
 ) -> Result<Option<u64>>
-    ensures step { Evaluates (setting_of parameters.now S.Rules.limit S.Stack.limit) S.Rules.copies_free
-        location instruction context.old context.new result }
+    ensures step { Evaluates (setting_of parameters.now S.Rules.limit S.Stack.limit)
+        S.Rules.copies_free location instruction context.old context.new result }
     ensures moves { IfOk result (λ moved. is_some moved ≡ is_move instruction) }
     ensures initial_rules { context.new.initial_rules ≡ context.old.initial_rules }
 {
@@ -112,7 +110,7 @@ pub fn evaluate<T: ReaderOffset, S: UnwindContextStorage<T>>(
     Ok(None)
 }
 
-// Runs an instruction that is no move.
+/// Runs an instruction that is not a move.
 #[inline(always)]
 fn change<T: ReaderOffset, S: UnwindContextStorage<T>>(
     context: &mut UnwindContext<T, S>,
@@ -120,7 +118,8 @@ fn change<T: ReaderOffset, S: UnwindContextStorage<T>>(
     instruction: CallFrameInstruction<T>,
 ) -> Result<()>
     requires { is_move instruction ≡ false }
-    ensures { (location : ℕ) → Changes (setting_of parameters.now S.Rules.limit S.Stack.limit) S.Rules.copies_free
+    ensures { (location : ℕ) →
+        Changes (setting_of parameters.now S.Rules.limit S.Stack.limit) S.Rules.copies_free
         location instruction context.old context.new result }
 {
     if let Some(cfa) = cfa_given(parameters, *context.row().cfa(), instruction)? {
@@ -133,14 +132,15 @@ fn change<T: ReaderOffset, S: UnwindContextStorage<T>>(
     change_state(context, instruction)
 }
 
-// Runs an instruction that neither moves nor gives the CFA or a register a rule.
+/// Runs an instruction that neither moves nor gives the CFA or a register a rule.
 #[inline(always)]
 fn change_state<T: ReaderOffset, S: UnwindContextStorage<T>>(
     context: &mut UnwindContext<T, S>,
     instruction: CallFrameInstruction<T>,
 ) -> Result<()>
-    requires { groups.is_of_state (action instruction) ≡ true }
-    ensures { (p : Parameters) (location : ℕ) → Changes (setting_of p S.Rules.limit S.Stack.limit) S.Rules.copies_free
+    requires { effects.is_of_state (action instruction) ≡ true }
+    ensures { (parameters : Parameters) (location : ℕ) →
+        Changes (setting_of parameters S.Rules.limit S.Stack.limit) S.Rules.copies_free
         location instruction context.old context.new result }
 {
     match instruction {
@@ -156,28 +156,33 @@ fn change_state<T: ReaderOffset, S: UnwindContextStorage<T>>(
     }
 }
 
-/// Keeps the rules with which the CIE's initial instructions ended, for `DW_CFA_restore` in the FDE's. `StackFull` where two rules or more
-/// would take one row too many; `OutOfMemory` only where there is a rule, in a list that memory alone bounds. A refusal
-/// leaves the context as it is.
+/// Saves the rules that the CIE's initial instructions end with, for `DW_CFA_restore` in the FDE's.
+///
+/// Fails with `StackFull` if two rules or more would be one row too many, and with `OutOfMemory`
+/// only if there is a rule, its list has no limit and copies of rules allocate. An error leaves
+/// the context as it is.
 #[inline(always)]
 pub fn end_cie<T: ReaderOffset, S: UnwindContextStorage<T>>(
     context: &mut UnwindContext<T, S>,
 ) -> Result<()>
     requires { context.old.initial_rules ≡ None }
-    ensures { (p : Parameters) (location : ℕ) → EndsCie (setting_of p S.Rules.limit S.Stack.limit) S.Rules.copies_free
+    ensures { (parameters : Parameters) (location : ℕ) →
+        EndsCie (setting_of parameters S.Rules.limit S.Stack.limit) S.Rules.copies_free
         location context.old context.new result }
 {
     context.save_initial_rules()
 }
 
-// Where a move goes (DWARF 5 section 6.4.2.1), `None` where the instruction is no move.
+/// The address that a move goes to (DWARF 5 section 6.4.2.1), `None` if the instruction is not a
+/// move. Fails with `InvalidCfiSetLoc` or `AddressOverflow`.
 #[inline(always)]
 fn target<T: ReaderOffset>(
     parameters: &Parameters,
     location: u64,
     instruction: CallFrameInstruction<T>,
 ) -> Result<Option<u64>>
-    ensures { result ≡ groups.target (setting_of parameters.now None None) location (action instruction) }
+    ensures { result
+        ≡ effects.target (setting_of parameters.now None None) location (action instruction) }
 {
     match instruction {
         CallFrameInstruction::SetLoc { address } => {
@@ -195,14 +200,16 @@ fn target<T: ReaderOffset>(
     }
 }
 
-// The rule of the CFA that the instruction gives (DWARF 5 section 6.4.2.2), `None` where it gives none.
+/// The CFA that the instruction defines (DWARF 5 section 6.4.2.2), `None` if it defines none. Fails
+/// with `CfiInstructionInInvalidContext` if it defines half of a CFA that is an expression.
 #[inline(always)]
 fn cfa_given<T: ReaderOffset>(
     parameters: &Parameters,
     old: CfaRule<T>,
     instruction: CallFrameInstruction<T>,
 ) -> Result<Option<CfaRule<T>>>
-    ensures { result ≡ groups.cfa_given (setting_of parameters.now None None) old (action instruction) }
+    ensures { result
+        ≡ effects.cfa_given (setting_of parameters.now None None) old (action instruction) }
 {
     match instruction {
         CallFrameInstruction::DefCfa { register, offset } => {
@@ -228,10 +235,10 @@ fn cfa_given<T: ReaderOffset>(
     }
 }
 
-// The offset stays; an expression has none.
+/// The CFA with another register and the same offset; an expression has neither.
 #[inline(always)]
 fn with_register<T: ReaderOffset>(old: CfaRule<T>, register: Register) -> Result<Option<CfaRule<T>>>
-    ensures { result ≡ groups.with_register old register }
+    ensures { result ≡ effects.with_register old register }
 {
     match old {
         CfaRule::RegisterAndOffset { offset, .. } => {
@@ -241,10 +248,10 @@ fn with_register<T: ReaderOffset>(old: CfaRule<T>, register: Register) -> Result
     }
 }
 
-// The register stays; an expression has none.
+/// The CFA with another offset and the same register; an expression has neither.
 #[inline(always)]
 fn with_offset<T: ReaderOffset>(old: CfaRule<T>, offset: i64) -> Result<Option<CfaRule<T>>>
-    ensures { result ≡ groups.with_offset old offset }
+    ensures { result ≡ effects.with_offset old offset }
 {
     match old {
         CfaRule::RegisterAndOffset { register, .. } => {
@@ -254,13 +261,14 @@ fn with_offset<T: ReaderOffset>(old: CfaRule<T>, offset: i64) -> Result<Option<C
     }
 }
 
-// The register that the instruction gives a rule, and the rule (DWARF 5 section 6.4.2.3).
+/// The register that the instruction gives a rule, and the rule (DWARF 5 section 6.4.2.3).
 #[inline(always)]
 fn rule_given<T: ReaderOffset>(
     parameters: &Parameters,
     instruction: CallFrameInstruction<T>,
 ) -> Option<(Register, RegisterRule<T>)>
-    ensures { result ≡ groups.rule_given (setting_of parameters.now None None) (action instruction) }
+    ensures { result
+        ≡ effects.rule_given (setting_of parameters.now None None) (action instruction) }
 {
     match instruction {
         CallFrameInstruction::Undefined { register } => Some((register, RegisterRule::Undefined)),
@@ -316,13 +324,15 @@ fn rule_given<T: ReaderOffset>(
     }
 }
 
-// Gives the register the rule that it had when the CIE's initial instructions ended, which may be none (DWARF 5 section 6.4.2.3).
+/// Gives the register the rule that it had when the CIE's initial instructions ended, which may be
+/// none (DWARF 5 section 6.4.2.3).
 fn restore_rule<T: ReaderOffset, S: UnwindContextStorage<T>>(
     context: &mut UnwindContext<T, S>,
     register: Register,
 ) -> Result<()>
-    ensures { (s : Setting) (location : ℕ) → Changes (record s { rule_limit = S.Rules.limit; stack_limit = S.Stack.limit }) S.Rules.copies_free
-        location (instruction.Restore register) context.old context.new result }
+    ensures { (setting : Setting) (location : ℕ) →
+        Changes (record setting { rule_limit = S.Rules.limit; stack_limit = S.Stack.limit })
+        S.Rules.copies_free location (instruction.Restore register) context.old context.new result }
 {
     match context.initial_rule(register)? {
         Some(rule) => context.set_rule(register, rule),
@@ -333,11 +343,12 @@ fn restore_rule<T: ReaderOffset, S: UnwindContextStorage<T>>(
     }
 }
 
-// Toggles whether the return address is signed ("DWARF for the Arm 64-bit Architecture").
+/// Toggles whether the return address is signed ("DWARF for the Arm 64-bit Architecture").
 fn negate_ra_state<T: ReaderOffset, S: UnwindContextStorage<T>>(
     context: &mut UnwindContext<T, S>,
 ) -> Result<()>
-    ensures { (p : Parameters) (location : ℕ) → Changes (setting_of p S.Rules.limit S.Stack.limit) S.Rules.copies_free
+    ensures { (parameters : Parameters) (location : ℕ) →
+        Changes (setting_of parameters S.Rules.limit S.Stack.limit) S.Rules.copies_free
         location instruction.NegateRaState context.old context.new result }
 {
     match context.row().register(RA_SIGN_STATE) {

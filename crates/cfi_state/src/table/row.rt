@@ -42,10 +42,14 @@ impl<T: ReaderOffset, A: ArrayLike<Item = (Register, RegisterRule<T>)>> Model
 impl<T: ReaderOffset, A: ArrayLike<Item = (Register, RegisterRule<T>)>> UnwindTableRow<T, A> {
     ghost use Rattle.std.specs.FinMap as map;
     ghost use Rattle.cfi_state.specs.AllocatingOperations.{Performs};
-    ghost use Rattle.cfi_state.specs.RulePairs.{rules_of, map_set_rule, AddsRule, IsDistinctRegisters};
-    ghost use Rattle.cfi_state.specs.Row.{empty_row, row_with_cfa, with_args_size, with_parts, row_with_rules, at_start, at_end};
+    ghost use Rattle.cfi_state.specs.RulePairs.{rules_of, IsDistinctRegisters};
+    ghost use Rattle.cfi_state.specs.RulePairs.{map_set_rule, AddsRule};
+    ghost use Rattle.cfi_state.specs.Row.{RowContains, empty_row, at_addresses};
+    ghost use Rattle.cfi_state.specs.Row.{with_parts, row_with_cfa, row_with_rules, with_args_size};
 
-    pub(crate) fn make(alloc: Global) -> Result<Self>
+    /// The row before the first instruction. Fails with `OutOfMemory` if the list of rules cannot
+    /// be allocated.
+    pub(crate) fn new_in(alloc: Global) -> Result<Self>
         ensures ok { IfOk result (λ row. row ≡ empty_row) }
         ensures err { IfErr result (λ error. error ≡ Error.OutOfMemory) }
     {
@@ -54,11 +58,11 @@ impl<T: ReaderOffset, A: ArrayLike<Item = (Register, RegisterRule<T>)>> UnwindTa
             end_address: 0,
             saved_args_size: 0,
             cfa: CfaRule::default(),
-            registers: RegisterRuleMap::make(alloc)?,
+            registers: RegisterRuleMap::new_in(alloc)?,
         })
     }
 
-    /// The first address for which the row holds.
+    /// The first address of the row.
     #[inline(always)]
     pub fn start_address(&self) -> u64
         ensures { result ≡ self.now.start_address }
@@ -66,7 +70,7 @@ impl<T: ReaderOffset, A: ArrayLike<Item = (Register, RegisterRule<T>)>> UnwindTa
         self.start_address
     }
 
-    /// The first address after those for which the row holds.
+    /// The first address after those of the row.
     #[inline(always)]
     pub fn end_address(&self) -> u64
         ensures { result ≡ self.now.end_address }
@@ -74,10 +78,10 @@ impl<T: ReaderOffset, A: ArrayLike<Item = (Register, RegisterRule<T>)>> UnwindTa
         self.end_address
     }
 
-    /// Whether the row holds for the address: from the start address up to, and without, the end address.
+    /// Whether the row holds for the address: `start_address() <= address < end_address()`.
     #[inline(always)]
     pub fn contains(&self, address: u64) -> bool
-        ensures { IsTrue result ↔ ((self.now.start_address ≤ address) × (address < self.now.end_address)) }
+        ensures { IsTrue result ↔ RowContains address self.now }
     {
         self.start_address <= address && address < self.end_address
     }
@@ -98,7 +102,7 @@ impl<T: ReaderOffset, A: ArrayLike<Item = (Register, RegisterRule<T>)>> UnwindTa
         &self.cfa
     }
 
-    /// The rule of the register, `None` where it has none.
+    /// The register's rule, `None` if it has none.
     #[inline(always)]
     pub fn register(&self, register: Register) -> Option<RegisterRule<T>>
         ensures { result ≡ map.get self.now.parts.rules register.0 }
@@ -106,9 +110,11 @@ impl<T: ReaderOffset, A: ArrayLike<Item = (Register, RegisterRule<T>)>> UnwindTa
         self.registers.get(register)
     }
 
-    /// The registers that have a rule, each once with its rule. The order is open.
+    /// Iterates over the registers that have a rule, each once with its rule. The order is not
+    /// specified.
     //
-    // `RegisterRuleIter` is `Copy`, so that it can have no `Model`: `rules_left` names the list that it yields.
+    // `RegisterRuleIter` is `Copy`, so it cannot have a `Model`: `rules_left` is the list that it
+    // yields.
     #[inline(always)]
     pub fn registers(&self) -> RegisterRuleIter<'_, T>
         ensures rules { rules_of (rules_left result) ≡ self.now.parts.rules }
@@ -117,7 +123,7 @@ impl<T: ReaderOffset, A: ArrayLike<Item = (Register, RegisterRule<T>)>> UnwindTa
         self.registers.iter()
     }
 
-    // Makes the row what it was before the first instruction. It takes no memory.
+    /// Makes the row what it is before the first instruction. Does not allocate.
     #[inline(always)]
     pub(crate) fn reset(&mut self)
         ensures { self.new ≡ empty_row }
@@ -129,21 +135,16 @@ impl<T: ReaderOffset, A: ArrayLike<Item = (Register, RegisterRule<T>)>> UnwindTa
         self.registers.clear();
     }
 
+    /// Writes both addresses.
     #[inline(always)]
-    pub(crate) fn set_start_address(&mut self, address: u64)
-        ensures { self.new ≡ at_start self.old address }
+    pub(crate) fn set_addresses(&mut self, start: u64, end: u64)
+        ensures { self.new ≡ at_addresses self.old start end }
     {
-        self.start_address = address;
+        self.start_address = start;
+        self.end_address = end;
     }
 
-    #[inline(always)]
-    pub(crate) fn set_end_address(&mut self, address: u64)
-        ensures { self.new ≡ at_end self.old address }
-    {
-        self.end_address = address;
-    }
-
-    // Takes the parts of another row, and leaves it some rules. It takes no memory.
+    /// Takes the parts of another row, which is left with unspecified rules. Does not allocate.
     pub(crate) fn take_parts(&mut self, other: &mut Self)
         ensures { self.new ≡ with_parts self.old other.old.parts }
     {
@@ -169,7 +170,8 @@ impl<T: ReaderOffset, A: ArrayLike<Item = (Register, RegisterRule<T>)>> UnwindTa
     #[inline(always)]
     pub(crate) fn set_rule(&mut self, register: Register, rule: RegisterRule<T>) -> Result<()>
         ensures { Performs (AddsRule A.limit self.old.parts.rules register.0)
-            (map_ok (row_with_rules self.old) (map_set_rule A.limit self.old.parts.rules register.0 rule))
+            (map_ok (row_with_rules self.old)
+            (map_set_rule A.limit self.old.parts.rules register.0 rule))
             self.old self.new result }
     {
         self.registers.set(register, rule)
@@ -190,7 +192,7 @@ impl<T: ReaderOffset, A: ArrayLike<Item = (Register, RegisterRule<T>)>> UnwindTa
     }
 }
 
-/// Rows are equal that have both addresses, the argument size, the CFA and the rules alike, whatever order keeps the rules.
+/// Rows are equal if their addresses, argument sizes, CFAs and rules are.
 impl<T: ReaderOffset, A: ArrayLike<Item = (Register, RegisterRule<T>)>> PartialEq
     for UnwindTableRow<T, A> {
     ghost use Rattle.cfi_state.specs.Equality.{row_eq};
@@ -221,10 +223,11 @@ impl<T: ReaderOffset, A: ArrayLike<Item = (Register, RegisterRule<T>)> + CopyLis
     T,
     A,
 > {
-    /// An equal row. `OutOfMemory` only where a copy of the rules takes memory.
+    /// An equal row. Fails with `OutOfMemory` only if a copy of the rules allocates.
     pub fn try_clone(&self) -> Result<Self>
         ensures ok { IfOk result (λ row. row ≡ self.now) }
-        ensures err { IfErr result (λ error. (error ≡ Error.OutOfMemory) × (A.copies_free ≡ false)) }
+        ensures err { IfErr result (λ error.
+            (error ≡ Error.OutOfMemory) × (A.copies_free ≡ false)) }
     {
         Ok(UnwindTableRow {
             start_address: self.start_address,
@@ -235,10 +238,12 @@ impl<T: ReaderOffset, A: ArrayLike<Item = (Register, RegisterRule<T>)> + CopyLis
         })
     }
 
-    // Becomes equal to another row, in its own room. `OutOfMemory` only where a copy of the rules takes memory.
+    /// Becomes equal to another row, in its own list of rules. Fails with `OutOfMemory` only if a
+    /// copy of the rules allocates.
     pub(crate) fn copy_from(&mut self, other: &Self) -> Result<()>
         ensures ok { OnOk result (self.new ≡ other.now) }
-        ensures err { IfErr result (λ error. (error ≡ Error.OutOfMemory) × (A.copies_free ≡ false)) }
+        ensures err { IfErr result (λ error.
+            (error ≡ Error.OutOfMemory) × (A.copies_free ≡ false)) }
     {
         self.registers.copy_from(&other.registers)?;
         self.start_address = other.start_address;
@@ -249,7 +254,7 @@ impl<T: ReaderOffset, A: ArrayLike<Item = (Register, RegisterRule<T>)> + CopyLis
     }
 }
 
-// What fills the unused places of an `ArrayVec` of rows.
+/// What fills the unused part of an `ArrayVec` of rows.
 impl<T: ReaderOffset, const N: usize> Default
     for UnwindTableRow<T, ArrayVec<(Register, RegisterRule<T>), N>> {
     ghost use Rattle.cfi_state.specs.Row.{empty_row};

@@ -1,5 +1,6 @@
 //! The rules of a row.
-ghost use Rattle.std.specs.Prelude.{◌≡◌, ◌<◌, ◌≤◌, [], false, IfOk, OnOk, IfErr, OnErr, IsNone, IsSomeAnd, slice_get, length, pos, ⊤};
+ghost use Rattle.std.specs.Prelude.{◌≡◌, ◌<◌, ◌≤◌, [], false, slice_get, length, pos, ⊤};
+ghost use Rattle.std.specs.Prelude.{IfOk, OnOk, IfErr, OnErr, IsNone, IsSomeAnd};
 ghost use Rattle.cfi_state.specs.declared.table.rules.CfaRule.TheVariants.{RegisterAndOffset};
 ghost use Rattle.cfi_state.specs.declared.table.rules.RegisterRule.TheVariants.{Undefined};
 ghost use Rattle.std.specs.Iterator.{YieldsFirstRef, item_count};
@@ -8,24 +9,25 @@ ghost use Rattle.std.specs.FinMap.{get};
 ghost use Rattle.cfi_lists.specs.ListLimits.{IsWithinLimit};
 ghost use Rattle.cfi_state.specs.StorageRefusals.{refusal_for};
 ghost use Rattle.cfi_state.specs.RegisterRuleIters.{rules_left};
-ghost use Rattle.cfi_state.specs.RulePairs.{rules_of, IsDistinctRegisters, IsRising, BelongsAt, AddsRules};
+ghost use Rattle.cfi_state.specs.RulePairs.{rules_of, IsDistinctRegisters, IsRising};
+ghost use Rattle.cfi_state.specs.RulePairs.{BelongsAt, AddsRules};
 ghost use Rattle.cfi_state.specs.Equality.{is_within, rule_eq, rules_eq};
 ghost use Rattle.cfi_state.specs.EqualityLaws.{rules_equiv};
 
 use crate::storage::{ArrayLike, CopyList, Refused, Why};
 use arrayvec::ArrayVec;
-use cfi_instruction::instruction::UnwindExpression;
 use cfi_lists::array_like::{remove_at, shorten, write_at, write_over};
+use cfi_read_core::instruction::UnwindExpression;
 use cfi_read_core::{Error, ReaderOffset, Register, Result};
 use std::alloc::{AllocError, Global};
 use std::fmt::{Debug, Formatter, Write};
 use std::marker::Model;
 
-/// The register that holds whether the return address is signed (AArch64 ABI, "DWARF for the Arm 64-bit
-/// Architecture").
+/// The register that holds whether the return address is signed (AArch64 ABI, "DWARF for the Arm
+/// 64-bit Architecture").
 pub const RA_SIGN_STATE: Register = Register(34);
 
-/// How the canonical frame address is found (DWARF 5 section 6.4.1).
+/// How to find the canonical frame address (DWARF 5 section 6.4.1).
 #[derive(Copy, Debug, PartialEq, Eq)]
 pub enum CfaRule<T> {
     /// The value of a register plus an offset.
@@ -62,12 +64,12 @@ impl<T> Default for CfaRule<T> {
     }
 }
 
-/// How the value that a register had in the caller's frame is found (DWARF 5 section 6.4.1).
+/// How to find the value that a register had in the caller's frame (DWARF 5 section 6.4.1).
 #[derive(Clone, Copy, Debug, PartialEq, Eq)]
 pub enum RegisterRule<T> {
     /// It is lost.
     Undefined,
-    /// It is the register's own.
+    /// It is the register's current value.
     SameValue,
     /// It is saved at the CFA plus this offset.
     Offset(i64),
@@ -79,7 +81,7 @@ pub enum RegisterRule<T> {
     Expression(UnwindExpression<T>),
     /// It is the value of the expression.
     ValExpression(UnwindExpression<T>),
-    /// An architecture's own rule; never made here.
+    /// An architecture's own rule; no instruction here gives it.
     Architectural,
     /// It is this constant.
     Constant(u64),
@@ -129,9 +131,11 @@ impl<T: ReaderOffset, A: ArrayLike<Item = (Register, RegisterRule<T>)>> Model
 impl<T: ReaderOffset, A: ArrayLike<Item = (Register, RegisterRule<T>)>> RegisterRuleMap<T, A> {
     ghost use Rattle.std.specs.FinMap as map;
     ghost use Rattle.cfi_state.specs.AllocatingOperations.{Performs};
-    ghost use Rattle.cfi_state.specs.RulePairs.{rules_of, map_set_rule, IsDistinctRegisters, IsRising, AddsRule};
+    ghost use Rattle.cfi_state.specs.RulePairs.{rules_of, IsDistinctRegisters, IsRising};
+    ghost use Rattle.cfi_state.specs.RulePairs.{map_set_rule, AddsRule};
 
-    pub(crate) fn make(alloc: Global) -> Result<Self>
+    /// A map without rules. Fails with `OutOfMemory` if its list cannot be allocated.
+    pub(crate) fn new_in(alloc: Global) -> Result<Self>
         ensures ok { IfOk result (λ rules. rules ≡ map.empty) }
         ensures err { IfErr result (λ error. error ≡ Error.OutOfMemory) }
     {
@@ -150,6 +154,7 @@ impl<T: ReaderOffset, A: ArrayLike<Item = (Register, RegisterRule<T>)>> Register
         self.pairs.as_slice()
     }
 
+    /// Iterates over the registers with their rules, each once.
     #[inline(always)]
     pub(crate) fn iter(&self) -> RegisterRuleIter<'_, T>
         ensures rules { rules_of (rules_left result) ≡ self.now }
@@ -160,6 +165,7 @@ impl<T: ReaderOffset, A: ArrayLike<Item = (Register, RegisterRule<T>)>> Register
         }
     }
 
+    /// The register's rule, `None` if it has none.
     #[inline(always)]
     pub(crate) fn get(&self, register: Register) -> Option<RegisterRule<T>>
         ensures { result ≡ map.get self.now register.0 }
@@ -167,18 +173,21 @@ impl<T: ReaderOffset, A: ArrayLike<Item = (Register, RegisterRule<T>)>> Register
         rule_of(self.pairs(), register)
     }
 
+    /// Sets the register's rule. Fails with `TooManyRegisterRules` or `OutOfMemory` if there is no
+    /// room for a new one.
     #[inline(always)]
     pub(crate) fn set(&mut self, register: Register, rule: RegisterRule<T>) -> Result<()>
-        ensures { Performs (AddsRule A.limit self.old register.0) (map_set_rule A.limit self.old register.0 rule) self.old self.new result }
+        ensures { Performs (AddsRule A.limit self.old register.0)
+            (map_set_rule A.limit self.old register.0 rule) self.old self.new result }
     {
-        let place = match index_of(self.pairs.as_slice(), register) {
-            Ok(place) => {
-                write_at(&mut self.pairs, place, (register, rule));
+        let index = match index_of(self.pairs.as_slice(), register) {
+            Ok(index) => {
+                write_at(&mut self.pairs, index, (register, rule));
                 return Ok(());
             }
-            Err(place) => place,
+            Err(index) => index,
         };
-        let Err(refused) = self.pairs.try_insert(place, (register, rule)) else {
+        let Err(refused) = self.pairs.try_insert(index, (register, rule)) else {
             return Ok(());
         };
         Err(refusal_of(refused, Error::TooManyRegisterRules))
@@ -188,8 +197,8 @@ impl<T: ReaderOffset, A: ArrayLike<Item = (Register, RegisterRule<T>)>> Register
     pub(crate) fn remove(&mut self, register: Register)
         ensures { self.new ≡ map.remove self.old register.0 }
     {
-        if let Ok(place) = index_of(self.pairs.as_slice(), register) {
-            remove_at(&mut self.pairs, place);
+        if let Ok(index) = index_of(self.pairs.as_slice(), register) {
+            remove_at(&mut self.pairs, index);
         }
     }
 
@@ -200,8 +209,8 @@ impl<T: ReaderOffset, A: ArrayLike<Item = (Register, RegisterRule<T>)>> Register
         self.pairs.clear();
     }
 
-    // Takes the rules of another map, and leaves it some. It takes no memory: lists that grow are exchanged, others
-    // written over.
+    /// Takes the rules of another map, which is left with unspecified ones. Does not allocate:
+    /// lists without a limit are swapped, others written over.
     pub(crate) fn take_from(&mut self, other: &mut Self)
         ensures { self.new ≡ other.old }
     {
@@ -217,22 +226,25 @@ impl<T: ReaderOffset, A: ArrayLike<Item = (Register, RegisterRule<T>)> + CopyLis
     T,
     A,
 > {
+    /// An equal map. Fails with `OutOfMemory` only if a copy of the list allocates.
     pub(crate) fn copy(&self) -> Result<Self>
         ensures ok { IfOk result (λ rules. rules ≡ self.now) }
-        ensures err { IfErr result (λ error. (error ≡ Error.OutOfMemory) × (A.copies_free ≡ false)) }
+        ensures err { IfErr result (λ error.
+            (error ≡ Error.OutOfMemory) × (A.copies_free ≡ false)) }
     {
         Ok(RegisterRuleMap {
             pairs: self.pairs.copy()?,
         })
     }
 
-    // Takes the rules of another map in place of its own, in its own room. `OutOfMemory` only where memory alone bounds the
-    // list, copies take memory and there is a rule.
+    /// Becomes equal to another map, in its own list. Fails with `OutOfMemory` only if the list has
+    /// no limit, copies allocate and there is a rule.
     pub(crate) fn copy_from(&mut self, other: &Self) -> Result<()>
         ensures ok { OnOk result (self.new ≡ other.now) }
-        ensures err { IfErr result (λ error. (error ≡ Error.OutOfMemory) × AddsRules A.limit A.copies_free other.now) }
+        ensures err { IfErr result (λ error.
+            (error ≡ Error.OutOfMemory) × AddsRules A.limit A.copies_free other.now) }
     {
-        // a push may allocate where a copy takes none
+        // a push may allocate where a copy does not
         if A::copies_free() && A::limit().is_none() {
             self.pairs = other.pairs.copy()?;
             return Ok(());
@@ -241,7 +253,7 @@ impl<T: ReaderOffset, A: ArrayLike<Item = (Register, RegisterRule<T>)> + CopyLis
     }
 }
 
-// Writes the pairs over those of a list. A refusal leaves the list empty.
+/// Makes the list hold these pairs. An error leaves it empty.
 fn fill<T: ReaderOffset, A: ArrayLike<Item = (Register, RegisterRule<T>)>>(
     list: &mut A,
     pairs: &[(Register, RegisterRule<T>)],
@@ -249,12 +261,13 @@ fn fill<T: ReaderOffset, A: ArrayLike<Item = (Register, RegisterRule<T>)>>(
     requires { IsWithinLimit A.limit pairs.now }
     ensures ok { OnOk result (A.items list.new ≡ pairs.now) }
     ensures err { OnErr result (A.items list.new ≡ []) }
-    ensures memory { IfErr result (λ error. (error ≡ Error.OutOfMemory) × IsNone A.limit × (1 ≤ length pairs.now)) }
+    ensures memory { IfErr result (λ error.
+        (error ≡ Error.OutOfMemory) × IsNone A.limit × (1 ≤ length pairs.now)) }
 {
     shorten(list, pairs.len());
     write_over(list, pairs);
-    for place in list.as_slice().len()..pairs.len() {
-        let Err(refused) = list.try_push(pairs[place]) else {
+    for index in list.as_slice().len()..pairs.len() {
+        let Err(refused) = list.try_push(pairs[index]) else {
             continue;
         };
         list.clear();
@@ -263,7 +276,8 @@ fn fill<T: ReaderOffset, A: ArrayLike<Item = (Register, RegisterRule<T>)>>(
     Ok(())
 }
 
-/// The registers that have a rule, each once with its rule. The order is open.
+/// Iterates over the registers that have a rule, each once with its rule. The order is not
+/// specified.
 #[derive(Clone, Copy, Debug)]
 pub struct RegisterRuleIter<'iter, T: ReaderOffset> {
     rules: &'iter [(Register, RegisterRule<T>)],
@@ -301,7 +315,7 @@ impl<T: ReaderOffset, A: ArrayLike<Item = (Register, RegisterRule<T>)>> Eq
     ghost laws = { rules_equiv T.Eq.laws };
 }
 
-// Whether two lists stand for equal maps.
+/// Whether two lists are of equal maps.
 #[inline(always)]
 pub(crate) fn is_same_rules<T: ReaderOffset>(
     a: &[(Register, RegisterRule<T>)],
@@ -314,7 +328,7 @@ pub(crate) fn is_same_rules<T: ReaderOffset>(
     has_same_rules(a, b) && has_same_rules(b, a)
 }
 
-// Whether each register of `pairs` has an equal rule in `others`.
+/// Whether each register of `pairs` has an equal rule in `others`.
 #[inline(always)]
 fn has_same_rules<T: ReaderOffset>(
     pairs: &[(Register, RegisterRule<T>)],
@@ -335,7 +349,7 @@ fn has_same_rules<T: ReaderOffset>(
     true
 }
 
-// The rule of the register in a list of pairs.
+/// The rule of the register in a list of pairs, `None` if it has none.
 #[inline(always)]
 pub(crate) fn rule_of<T: ReaderOffset>(
     pairs: &[(Register, RegisterRule<T>)],
@@ -345,21 +359,23 @@ pub(crate) fn rule_of<T: ReaderOffset>(
     ensures { result ≡ get (rules_of pairs.now) register.0 }
 {
     match index_of(pairs, register) {
-        Ok(place) => Some(pairs[place].1),
+        Ok(index) => Some(pairs[index].1),
         Err(_) => None,
     }
 }
 
-// Where the register stands in a list of pairs, by halving, and else where it belongs.
+/// The index of the register in a list of pairs by binary search, or, as the error, the index at
+/// which it belongs.
 #[inline(always)]
 fn index_of<T: ReaderOffset>(
     pairs: &[(Register, RegisterRule<T>)],
     register: Register,
 ) -> std::result::Result<usize, usize>
     requires { IsRising pairs.now }
-    ensures bound { IfOk result (λ place. place < length pairs.now) }
-    ensures found { IfOk result (λ place. IsSomeAnd (slice_get pairs.now place) (λ pair. pair.0 ≡ register)) }
-    ensures absent { IfErr result (λ place. BelongsAt pairs.now place register) }
+    ensures bound { IfOk result (λ index. index < length pairs.now) }
+    ensures found { IfOk result (λ index.
+        IsSomeAnd (slice_get pairs.now index) (λ pair. pair.0 ≡ register)) }
+    ensures absent { IfErr result (λ index. BelongsAt pairs.now index register) }
 {
     let mut low = 0;
     let mut high = pairs.len();
@@ -378,7 +394,7 @@ fn index_of<T: ReaderOffset>(
     Err(low)
 }
 
-/// The refusal that stands for an item that a list didn't take.
+/// The error for an item that a list did not take: `full`, or `OutOfMemory`.
 #[inline(always)]
 pub(crate) fn refusal_of<T: Drop>(refused: Refused<T>, full: Error) -> Error
     ensures { result ≡ refusal_for refused.why full }

@@ -1,15 +1,16 @@
-//! The unwind row of an address, by a header that isn't read yet.
-ghost use Rattle.std.specs.Prelude.{◌≤◌, ◌<◌, IfOk};
+//! The unwind row of an address, by a header that isn't parsed yet.
+ghost use Rattle.std.specs.Prelude.{IfOk};
 ghost use Rattle.cfi_read_core.specs.Addresses.{IsAddressSize};
+ghost use Rattle.cfi_entry.specs.SectionViews.{eh_frame_view};
 ghost use Rattle.cfi_state.specs.MappedStates.{row_lent};
+ghost use Rattle.cfi_state.specs.Row.{RowContains};
 ghost use Rattle.cfi_state.specs.RowExpressions.{HasExpressionsIn};
-ghost use Rattle.gimli_cfi.specs.EhFrameHdr.{header_section};
-ghost use Rattle.gimli_cfi.specs.HeaderViews.{section_view};
+ghost use Rattle.gimli_cfi.specs.HeaderViews.{section_view, unparsed_view};
 ghost use Rattle.gimli_cfi.specs.RowsByHeader.{IsRowByHeader};
 
+use crate::hdr::by_table::row_by_table;
 use crate::hdr::header::EhFrameHdr;
 use crate::hdr::starts::TableStarts;
-use crate::hdr::unwind_info::row_by_table;
 use crate::table::row_by_scan;
 use cfi_parts::pointer::BaseAddresses;
 use cfi_read_core::{Reader, Result};
@@ -18,11 +19,12 @@ use cfi_state::table::context::UnwindContext;
 use cfi_state::table::row::UnwindTableRow;
 use cfi_unwind::unwind_section::EhFrame;
 
-/// The unwind row of the address in the section, lent from the context, by the header's table.
+/// The unwind row of the address in the section, borrowed from the context, by the header's table.
 ///
-/// Where the header has no rows it is what `row_by_scan` answers. Refused as `EhFrameHdr::parse`, then as
-/// `TableStarts::new` and `row_by_table`. The address size is 1, 2, 4 or 8, that of the header's pointers. Over a fixed
-/// storage it takes no memory (LSB Core, "The .eh_frame_hdr section").
+/// If the header has no rows, returns what `row_by_scan` returns. Fails as `EhFrameHdr::parse`,
+/// then as `TableStarts::new` and `row_by_table`. The address size is that of the header's
+/// pointers, 1, 2, 4 or 8. Over a fixed storage it does not allocate (LSB Core, "The .eh_frame_hdr
+/// section").
 pub fn row_by_header<'ctx, R: Reader, S: UnwindContextStorage<R::Offset>>(
     header: &EhFrameHdr<R>,
     address_size: u8,
@@ -34,11 +36,11 @@ pub fn row_by_header<'ctx, R: Reader, S: UnwindContextStorage<R::Offset>>(
     requires { IsAddressSize address_size }
     ensures row { IsRowByHeader S.Rules.limit S.Stack.limit S.Rules.copies_free
         (section_view R.position frame.now bases.now) address
-        (header_section (R.position header.now.0) address_size bases.now.eh_frame_hdr)
+        (unparsed_view R.position header.now address_size bases.now)
         (row_lent R.Offset.number result) }
-    ensures contains { IfOk result (λ row. (row.now.start_address ≤ address) × (address < row.now.end_address)) }
-    ensures expressions { IfOk result (λ row.
-        HasExpressionsIn R.Offset.number (R.position frame.now.section) row.now.parts) }
+    ensures contains { IfOk result (λ row. RowContains address row.now) }
+    ensures expressions { IfOk result (λ row. HasExpressionsIn R.Offset.number
+        (eh_frame_view R.position frame.now).position row.now.parts) }
 {
     let header = header.parse(bases, address_size)?;
     let Some(table) = header.table() else {

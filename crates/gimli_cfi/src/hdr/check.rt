@@ -3,20 +3,21 @@ ghost use Rattle.std.specs.Prelude.{◌≡◌, ◌≢◌, ◌+◌, ◌≤◌, �
 ghost use Rattle.cfi_read_core.specs.ReaderCalls.{map_ok};
 ghost use Rattle.cfi_parts.specs.declared.pointer.Pointer.TheVariants.{Direct};
 ghost use Rattle.cfi_entry.specs.Entries.{end_of_entry};
-ghost use Rattle.cfi_unwind.specs.EntryViews.{entry_view, partial_of};
-ghost use Rattle.cfi_unwind.specs.Scan.{read_fde};
-ghost use Rattle.cfi_entry.specs.CieViews.{cie_view};
 ghost use Rattle.cfi_unwind.specs.FdeViews.{fde_view};
+ghost use Rattle.cfi_unwind.specs.Scan.{read_fde};
+ghost use Rattle.cfi_unwind.specs.WalkViews.{cie_or_fde_view, partial_bases};
+ghost use Rattle.cfi_unwind.specs.WalkViews.{partial_section, partial_view};
 ghost use Rattle.gimli_cfi.specs.BoundaryRows.{AreRising};
-ghost use Rattle.gimli_cfi.specs.TableCheck.{AreListed, HasRow, IsRefusalIn, IsRefusalOfHeader, ListsFaithfully};
-ghost use Rattle.gimli_cfi.specs.TableCheck.{IsReason, IsReasonOfFde, IsReasonOfFdes, IsReasonOfStarts};
-ghost use Rattle.gimli_cfi.specs.TableCheck.{most_starts, starts_for_fde, starts_for_fdes};
 ghost use Rattle.gimli_cfi.specs.EhFrameHdr.{value_size};
-ghost use Rattle.gimli_cfi.specs.HeaderViews.{header_section_view, listing_view, section_view};
-ghost use Rattle.gimli_cfi.specs.HeaderViews.{starts_view, table_view, targets_view};
+ghost use Rattle.gimli_cfi.specs.HeaderViews.{listing_view, section_view, table_section_view};
+ghost use Rattle.gimli_cfi.specs.HeaderViews.{table_starts, table_targets, table_view};
+ghost use Rattle.gimli_cfi.specs.TableCheck.{AreListed, HasRow, IsReason, IsReasonOfFde};
+ghost use Rattle.gimli_cfi.specs.TableCheck.{IsReasonOfFdes, IsReasonOfStarts, IsRefusalIn};
+ghost use Rattle.gimli_cfi.specs.TableCheck.{IsRefusalOfHeader, ListsFaithfully};
+ghost use Rattle.gimli_cfi.specs.TableCheck.{most_starts, starts_for_fde, starts_for_fdes};
 
 use crate::hdr::row_fields::{searchable_size, target_of_row};
-use crate::hdr::search::{StartSource, search_starts};
+use crate::hdr::starts::{StartSource, search_starts};
 use crate::hdr::table::EhHdrTable;
 use crate::hdr::unfaithful::Unfaithful;
 use cfi_parts::pointer::{BaseAddresses, Pointer};
@@ -24,30 +25,34 @@ use cfi_read_core::{EhFrameOffset, Error, Reader, ReaderOffset};
 use cfi_unwind::entry::{CieOrFde, FrameDescriptionEntry, PartialFrameDescriptionEntry};
 use cfi_unwind::unwind_section::{EhFrame, UnwindSection};
 
-/// Whether the table lists the FDEs of the section faithfully, by a source that answers the starts of its rows, as
-/// `TableStarts` does.
+/// Checks whether the table lists the FDEs of the section faithfully, by a source of the starts of
+/// its rows, as `TableStarts` is.
 ///
-/// It does where the rows start at the first addresses of the FDEs, rising, each with its FDE as target and each FDE
-/// with a row, where no FDE contains the first address of another, and where all entries of the section are read. Then
-/// a search in the rows answers for every address what going through the section answers. Else the answer is a reason
-/// against it.
+/// It does if the header's pointer to `.eh_frame` is direct and the encoding of the table can be
+/// searched; if the rows start at the first addresses of the FDEs, rising, each with its FDE as
+/// target and each FDE with a row; if no FDE contains the first address of another; and if every
+/// entry of the section can be read. Then a search in the rows returns for every address what a
+/// scan of the section returns. Otherwise the error is a reason why the table doesn't.
 ///
-/// The bases of the header are those in `BaseAddresses::eh_frame_hdr`, those of the section's entries in
-/// `BaseAddresses::eh_frame`. Each start is read once in order, then each FDE is searched for: of `n` rows at most
-/// `n + (n + 1) * (b + 2)` starts are read, `b` being the least number with `n <= 2^b`. It takes no memory (LSB Core,
-/// "The .eh_frame_hdr section").
+/// The bases of the header are those in `BaseAddresses::eh_frame_hdr`, those of the section's
+/// entries in `BaseAddresses::eh_frame`. Each start is read once in order, then each FDE is
+/// searched for: of `n` rows at most `n + (n + 1) * (b + 2)` starts are read, `b` being the least
+/// number with `n <= 2^b`. It does not allocate (LSB Core, "The .eh_frame_hdr section").
 pub fn check_table<R: Reader, St: StartSource>(
     table: &EhHdrTable<'_, R>,
     starts: &mut St,
     frame: &EhFrame<R>,
     bases: &BaseAddresses,
 ) -> Result<(), Unfaithful>
-    requires { St.answer starts.old ≡ starts_view R.position table.now.hdr.now bases.now }
-    ensures faithful { IfOk result (λ done. ListsFaithfully (listing_view R.position table.now frame.now bases.now)) }
-    ensures reason { IfErr result (IsReason (listing_view R.position table.now frame.now bases.now)) }
+    requires { St.answer starts.old ≡ table_starts R.position table.now bases.now }
+    ensures faithful { IfOk result (λ done.
+        ListsFaithfully (listing_view R.position table.now frame.now bases.now)) }
+    ensures reason { IfErr result
+        (IsReason (listing_view R.position table.now frame.now bases.now)) }
     ensures unfaithful { IfErr result (λ reason.
         ListsFaithfully (listing_view R.position table.now frame.now bases.now) → ⊥) }
-    ensures calls { St.calls starts.new ≤ St.calls starts.old + most_starts (table_view R.position table.now).count }
+    ensures calls { St.calls starts.new
+        ≤ St.calls starts.old + most_starts (table_view R.position table.now).count }
     ensures same { St.answer starts.new ≡ St.answer starts.old }
 {
     let eh_frame = in_header(table.hdr.eh_frame_ptr.direct())?;
@@ -56,7 +61,7 @@ pub fn check_table<R: Reader, St: StartSource>(
     check_fdes(table, starts, frame, bases, size, eh_frame)
 }
 
-/// What the header gives, or the reason.
+/// The header's value, or the reason why it can't be had.
 #[inline(always)]
 fn in_header(value: cfi_read_core::Result<u64>) -> Result<u64, Unfaithful>
     ensures given { IfOk result (λ number. value ≡ Ok number) }
@@ -68,7 +73,7 @@ fn in_header(value: cfi_read_core::Result<u64>) -> Result<u64, Unfaithful>
     }
 }
 
-/// The start of a row, or the reason.
+/// The start of a row, or the reason why it can't be had.
 #[inline(always)]
 fn start_at<St: StartSource>(starts: &mut St, row: u64) -> Result<u64, Unfaithful>
     ensures given { IfOk result (λ start. St.answer starts.old row ≡ Ok start) }
@@ -82,7 +87,7 @@ fn start_at<St: StartSource>(starts: &mut St, row: u64) -> Result<u64, Unfaithfu
     }
 }
 
-/// The target of a row, or the reason.
+/// The target of a row, or the reason why it can't be had.
 #[inline(always)]
 fn target_at<R: Reader>(
     table: &EhHdrTable<'_, R>,
@@ -90,9 +95,11 @@ fn target_at<R: Reader>(
     size: u64,
     row: u64,
 ) -> Result<Pointer, Unfaithful>
-    requires { value_size table.now.hdr.now.table_enc.0 ≡ Some size }
-    ensures given { IfOk result (λ target. targets_view R.position table.now.hdr.now bases.now row ≡ Ok target) }
-    ensures refused { IfErr result (IsRefusalIn (targets_view R.position table.now.hdr.now bases.now row) row) }
+    requires { value_size (table_view R.position table.now).encoding ≡ Some size }
+    ensures given { IfOk result (λ target.
+        table_targets R.position table.now bases.now row ≡ Ok target) }
+    ensures refused { IfErr result
+        (IsRefusalIn (table_targets R.position table.now bases.now row) row) }
 {
     match target_of_row(table.hdr, bases, size, row) {
         Ok(target) => Ok(target),
@@ -100,7 +107,7 @@ fn target_at<R: Reader>(
     }
 }
 
-/// Whether each row has a start, above that of the row before it.
+/// Checks that each row has a start, above that of the row before it.
 #[inline(always)]
 fn check_starts<St: StartSource>(starts: &mut St, count: u64) -> Result<(), Unfaithful>
     requires { 1 ≤ count }
@@ -122,7 +129,7 @@ fn check_starts<St: StartSource>(starts: &mut St, count: u64) -> Result<(), Unfa
     Ok(())
 }
 
-/// Whether each FDE has a row of its own, and each row an FDE.
+/// Checks that each FDE has a row of its own, and each row an FDE.
 #[inline(always)]
 fn check_fdes<R: Reader, St: StartSource>(
     table: &EhHdrTable<'_, R>,
@@ -132,13 +139,13 @@ fn check_fdes<R: Reader, St: StartSource>(
     size: u64,
     eh_frame: u64,
 ) -> Result<(), Unfaithful>
-    requires answers { St.answer starts.old ≡ starts_view R.position table.now.hdr.now bases.now }
-    requires size { value_size table.now.hdr.now.table_enc.0 ≡ Some size }
+    requires answers { St.answer starts.old ≡ table_starts R.position table.now bases.now }
+    requires size { value_size (table_view R.position table.now).encoding ≡ Some size }
     requires rising { AreRising (St.answer starts.old) (table_view R.position table.now).count }
-    ensures listed { let l = listing_view R.position table.now frame.now bases.now in
-        IfOk result (λ done. AreListed l.header l.table eh_frame l.section) }
-    ensures reason { let l = listing_view R.position table.now frame.now bases.now in
-        IfErr result (IsReasonOfFdes l.header l.table eh_frame l.section) }
+    ensures listed { let listing = listing_view R.position table.now frame.now bases.now in
+        IfOk result (λ done. AreListed listing.header listing.table eh_frame listing.section) }
+    ensures reason { let listing = listing_view R.position table.now frame.now bases.now in
+        IfErr result (IsReasonOfFdes listing.header listing.table eh_frame listing.section) }
     ensures calls { let count = (table_view R.position table.now).count in
         St.calls starts.new ≤ St.calls starts.old + starts_for_fdes count }
     ensures same { St.answer starts.new ≡ St.answer starts.old }
@@ -151,7 +158,7 @@ fn check_fdes<R: Reader, St: StartSource>(
         let entry = match entries.next() {
             Ok(Some(entry)) => entry,
             Ok(None) => break,
-            // It begins where the entry before it ends.
+            // It begins where the previous entry ends.
             Err(refusal) => return Err(Unfaithful::Entry {
                 offset: end,
                 refusal,
@@ -167,7 +174,7 @@ fn check_fdes<R: Reader, St: StartSource>(
                 }
             };
             check_fde(table, starts, bases, size, eh_frame, &fde)?;
-            // Each FDE before has a row of its own, so this one's row was left.
+            // Each earlier FDE has a row of its own, so this one's row was left.
             left -= 1;
         }
     }
@@ -179,13 +186,12 @@ fn check_fdes<R: Reader, St: StartSource>(
     }
 }
 
-/// Where the entry ends in its section.
+/// The offset in its section at which the entry ends.
 #[inline(always)]
 fn end_of_entry<R: Reader>(entry: &CieOrFde<'_, EhFrame<R>, R>) -> u64
-    requires { end_of_entry (entry_view (cie_view R.position R.Offset.number)
-        (λ p. partial_of R.position R.Offset.number p.found p.cie_offset) entry.now) ≤ R.Offset.GREATEST }
-    ensures { result ≡ end_of_entry (entry_view (cie_view R.position R.Offset.number)
-        (λ p. partial_of R.position R.Offset.number p.found p.cie_offset) entry.now) }
+    requires { end_of_entry (cie_or_fde_view R.position R.Offset.number entry.now)
+        ≤ R.Offset.GREATEST }
+    ensures { result ≡ end_of_entry (cie_or_fde_view R.position R.Offset.number entry.now) }
 {
     // The end is an offset, so that the sums are of 64 bits.
     let _greatest = R::Offset::GREATEST;
@@ -201,23 +207,24 @@ fn end_of_entry<R: Reader>(entry: &CieOrFde<'_, EhFrame<R>, R>) -> u64
     }
 }
 
-/// The FDE with the CIE to which it points.
+/// The FDE with the CIE that it points to.
 #[inline(always)]
 fn read_whole<R: Reader>(
     partial: &PartialFrameDescriptionEntry<'_, EhFrame<R>, R>,
 ) -> cfi_read_core::Result<FrameDescriptionEntry<R>>
     ensures { map_ok (fde_view R.position R.Offset.number) result
-        ≡ read_fde (section_view R.position partial.now.section partial.now.bases.now)
-        (partial_of R.position R.Offset.number partial.now.found partial.now.cie_offset) }
+        ≡ read_fde (section_view R.position (partial_section partial.now)
+        (partial_bases partial.now)) (partial_view R.position R.Offset.number partial.now) }
 {
     let reader = partial.offset();
     partial.parse(|from: &EhFrame<R>, bases: &BaseAddresses, offset: EhFrameOffset<R::Offset>| {
+        // The checker takes the closure only if it captures a value of a type with the reader's.
         let _reader = reader;
         from.cie_from_offset(bases, offset)
     })
 }
 
-/// Whether the FDE has a row, and doesn't contain the start of the row after it.
+/// Checks that the FDE has a row, and doesn't contain the start of the row after it.
 #[inline(always)]
 fn check_fde<R: Reader, St: StartSource>(
     table: &EhHdrTable<'_, R>,
@@ -227,23 +234,24 @@ fn check_fde<R: Reader, St: StartSource>(
     eh_frame: u64,
     fde: &FrameDescriptionEntry<R>,
 ) -> Result<(), Unfaithful>
-    requires answers { St.answer starts.old ≡ starts_view R.position table.now.hdr.now bases.now }
-    requires size { value_size table.now.hdr.now.table_enc.0 ≡ Some size }
+    requires answers { St.answer starts.old ≡ table_starts R.position table.now bases.now }
+    requires size { value_size (table_view R.position table.now).encoding ≡ Some size }
     requires rising { AreRising (St.answer starts.old) (table_view R.position table.now).count }
-    ensures row { let header = header_section_view R.position table.now.hdr.now bases.now in
+    ensures row { let header = table_section_view R.position table.now bases.now in
         IfOk result (λ done. HasRow header (table_view R.position table.now) eh_frame
         (fde_view R.position R.Offset.number fde.now)) }
-    ensures reason { let header = header_section_view R.position table.now.hdr.now bases.now in
+    ensures reason { let header = table_section_view R.position table.now bases.now in
         IfErr result (IsReasonOfFde header (table_view R.position table.now) eh_frame
         (fde_view R.position R.Offset.number fde.now)) }
-    ensures calls { St.calls starts.new ≤ St.calls starts.old + starts_for_fde (table_view R.position table.now).count }
+    ensures calls { St.calls starts.new
+        ≤ St.calls starts.old + starts_for_fde (table_view R.position table.now).count }
     ensures same { St.answer starts.new ≡ St.answer starts.old }
 {
     let offset = fde.offset().into_u64();
     let address = fde.initial_address();
     let row = match search_starts(starts, table.hdr.fde_count, address) {
         Ok(row) => row,
-        // Each start was read before, so that none is refused here.
+        // Each start was read before, so none fails here.
         Err(_) => return Err(Unfaithful::NoRow { offset, address }),
     };
     let start = start_at(starts, row)?;

@@ -1,16 +1,18 @@
 //! A table that was checked against its section.
-ghost use Rattle.std.specs.Prelude.{◌≡◌, ◌≤◌, ◌<◌, ⊤, IfOk, IfErr};
+ghost use Rattle.std.specs.Prelude.{◌≡◌, ⊤, IfOk, IfErr};
+ghost use Rattle.cfi_entry.specs.SectionViews.{eh_frame_view};
 ghost use Rattle.cfi_state.specs.MappedStates.{row_lent};
+ghost use Rattle.cfi_state.specs.Row.{RowContains};
 ghost use Rattle.cfi_state.specs.RowExpressions.{HasExpressionsIn};
 ghost use Rattle.cfi_unwind.specs.AddressRow.{IsRowByScan};
+ghost use Rattle.gimli_cfi.specs.HeaderViews.{listing_view};
 ghost use Rattle.gimli_cfi.specs.TableCheck.{IsReason, ListsFaithfully};
-ghost use Rattle.gimli_cfi.specs.HeaderViews.{section_view, listing_view};
 
+use crate::hdr::by_table::row_by_table;
 use crate::hdr::check::check_table;
 use crate::hdr::starts::TableStarts;
 use crate::hdr::table::EhHdrTable;
 use crate::hdr::unfaithful::Unfaithful;
-use crate::hdr::unwind_info::row_by_table;
 use cfi_parts::pointer::BaseAddresses;
 use cfi_read_core::{Error, Reader};
 use cfi_state::storage::UnwindContextStorage;
@@ -19,10 +21,12 @@ use cfi_state::table::row::UnwindTableRow;
 use cfi_unwind::unwind_section::EhFrame;
 use std::alloc::AllocError;
 
-/// A header's table that lists the FDEs of its section faithfully, with the section and the bases of both.
+/// A header's table that lists the FDEs of its section faithfully, with the section and the bases
+/// of both.
 ///
-/// Only `new` makes one, by `check_table`. So a row by it is what going through the section answers, whatever the
-/// address: the table of a loaded module is checked once and kept.
+/// Only `new` makes one, by `check_table`. So a row looked up in it is the row that a scan of the
+/// section returns, for every address: check the table of a loaded module once, and keep the
+/// result.
 #[derive(Debug)]
 pub struct FaithfulTable<'a, R: Reader> {
     table: EhHdrTable<'a, R>,
@@ -45,12 +49,17 @@ impl<R: Reader> Clone for FaithfulTable<'_, R> {
 impl<R: Reader> Copy for FaithfulTable<'_, R> {}
 
 impl<'a, R: Reader> FaithfulTable<'a, R> {
-    /// Checks the table against the section, as `check_table` with the starts of the table's own rows.
+    ghost use Rattle.gimli_cfi.specs.FaithfulViews.{IsCheckOf, checked_frame, faithful_view};
+
+    /// Checks the table against the section, as `check_table` does with the starts of the table's
+    /// own rows.
     ///
-    /// Where the table doesn't list the FDEs of the section faithfully, the answer is a reason why it doesn't.
+    /// If the table doesn't list the FDEs of the section faithfully, the error is a reason why it
+    /// doesn't.
     ///
-    /// The bases of the header are those in `BaseAddresses::eh_frame_hdr`, those of the section's entries in
-    /// `BaseAddresses::eh_frame`. It takes no memory (LSB Core, "The .eh_frame_hdr section").
+    /// The bases of the header are those in `BaseAddresses::eh_frame_hdr`, those of the section's
+    /// entries in `BaseAddresses::eh_frame`. It does not allocate (LSB Core, "The .eh_frame_hdr
+    /// section").
     #[inline(always)]
     pub fn new(
         table: &EhHdrTable<'a, R>,
@@ -58,10 +67,11 @@ impl<'a, R: Reader> FaithfulTable<'a, R> {
         bases: &'a BaseAddresses,
     ) -> Result<Self, Unfaithful>
         ensures kept { IfOk result (λ checked.
-            (checked.table ≡ table.now) × ((checked.frame.now ≡ frame.now) × (checked.bases.now ≡ bases.now))) }
+            IsCheckOf checked table.now frame.now bases.now) }
         ensures faithful { IfOk result (λ checked.
             ListsFaithfully (listing_view R.position table.now frame.now bases.now)) }
-        ensures reason { IfErr result (IsReason (listing_view R.position table.now frame.now bases.now)) }
+        ensures reason { IfErr result
+            (IsReason (listing_view R.position table.now frame.now bases.now)) }
         ensures unfaithful { IfErr result (λ reason.
             ListsFaithfully (listing_view R.position table.now frame.now bases.now) → ⊥) }
     {
@@ -78,21 +88,23 @@ impl<'a, R: Reader> FaithfulTable<'a, R> {
         })
     }
 
-    /// The unwind row of the address in the section, lent from the context: what `row_by_scan` answers, row or refusal,
-    /// by a search in the table.
+    /// The unwind row of the address in the section, borrowed from the context: what `row_by_scan`
+    /// returns, row or error, by a search in the table.
     ///
-    /// It reads as many starts as halving the rows takes. Over a fixed storage it takes no memory; over another one it
-    /// may be refused with `OutOfMemory` (LSB Core, "The .eh_frame_hdr section").
+    /// It reads at most as many starts as halving the rows takes. Over a fixed storage it does not
+    /// allocate; over another one it may fail with `OutOfMemory` (LSB Core, "The .eh_frame_hdr
+    /// section").
     pub fn row<'ctx, S: UnwindContextStorage<R::Offset>>(
         &self,
         ctx: &'ctx mut UnwindContext<R::Offset, S>,
         address: u64,
     ) -> Result<&'ctx UnwindTableRow<R::Offset, S::Rules>, Error>
         ensures row { IsRowByScan S.Rules.limit S.Stack.limit S.Rules.copies_free
-            (section_view R.position self.now.frame.now self.now.bases.now) address (row_lent R.Offset.number result) }
-        ensures contains { IfOk result (λ row. (row.now.start_address ≤ address) × (address < row.now.end_address)) }
-        ensures expressions { IfOk result (λ row.
-            HasExpressionsIn R.Offset.number (R.position self.now.frame.now.section) row.now.parts) }
+            (faithful_view R.position self.now).section address
+            (row_lent R.Offset.number result) }
+        ensures contains { IfOk result (λ row. RowContains address row.now) }
+        ensures expressions { IfOk result (λ row. HasExpressionsIn R.Offset.number
+            (eh_frame_view R.position (checked_frame self.now)).position row.now.parts) }
     {
         let mut starts = TableStarts::new(&self.table, self.bases)?;
         row_by_table(

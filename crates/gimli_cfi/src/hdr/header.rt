@@ -1,12 +1,12 @@
-//! The section `.eh_frame_hdr` and its header, as far as the rows.
+//! The section `.eh_frame_hdr` and its header, up to the rows of its table.
 ghost use Rattle.std.specs.Prelude.{◌≡◌, ⊤, IfOk, IfSome};
 ghost use Rattle.std.specs.Option.{option_map};
 ghost use Rattle.cfi_read_core.specs.Addresses.{IsAddressSize};
-ghost use Rattle.cfi_read_core.specs.ReaderCalls.{Reads, all_of, map_ok};
+ghost use Rattle.cfi_read_core.specs.CallFrameSections.{IsOf, IsOf_prop};
+ghost use Rattle.cfi_read_core.specs.ReaderCalls.{ReadsValue, all_of, map_ok};
 ghost use Rattle.cfi_read_core.specs.Windows.{slice_position};
-ghost use Rattle.cfi_read_core.specs.declared.common.SectionId.TheVariants.{EhFrameHdr as eh_frame_hdr_id};
-ghost use Rattle.cfi_instruction.specs.CallFrameSections.{IsOf, IsOf_prop};
-ghost use Rattle.gimli_cfi.specs.EhFrameHdr.{header_of, header_section, row_count};
+ghost use Rattle.cfi_read_core.specs.declared.common.SectionId.TheVariants.{EhFrameHdr as hdr_id};
+ghost use Rattle.gimli_cfi.specs.EhFrameHdr.{header_of, row_count};
 
 use crate::hdr::table::EhHdrTable;
 use cfi_parts::pointer::{
@@ -20,15 +20,19 @@ use std::alloc::AllocError;
 
 /// The section `.eh_frame_hdr` (LSB Core, "The .eh_frame_hdr section").
 ///
-/// It points to `.eh_frame`, and may have a table of rows by which an FDE is found without going through that section.
+/// It points to `.eh_frame`, and may have a table of rows by which an FDE is found without scanning
+/// that section.
 #[derive(Clone, Copy, Debug, PartialEq, Eq)]
 pub struct EhFrameHdr<R>(R);
 
 impl<'input, E: Endianity> EhFrameHdr<EndianSlice<'input, E>> {
-    /// The section of these bytes in this byte order. It holds no copy of them.
+    ghost use Rattle.gimli_cfi.specs.HeaderViews.{header_reader};
+
+    /// The section of these bytes in this byte order. The bytes are borrowed.
     #[inline(always)]
     pub fn new(section: &'input [u8], endian: E) -> Self
-        ensures { slice_position E.big_endian result.0 ≡ all_of section.now (E.big_endian endian) 18446744073709551615 }
+        ensures { slice_position E.big_endian (header_reader result)
+            ≡ all_of section.now (E.big_endian endian) 18446744073709551615 }
     {
         Self::from(EndianSlice::new(section, endian))
     }
@@ -46,7 +50,7 @@ impl<R> From<R> for EhFrameHdr<R> {
 impl<R> Section<R> for EhFrameHdr<R> {
     ghost bytes = { λ s. s.0 };
 
-    ghost ID = { eh_frame_hdr_id };
+    ghost ID = { hdr_id };
 
     #[inline(always)]
     fn id() -> SectionId {
@@ -62,25 +66,27 @@ impl<R> Section<R> for EhFrameHdr<R> {
 }
 
 impl<R: Reader> EhFrameHdr<R> {
-    ghost use Rattle.gimli_cfi.specs.HeaderViews.{header_view};
+    ghost use Rattle.gimli_cfi.specs.HeaderViews.{header_address_size, header_bytes};
+    ghost use Rattle.gimli_cfi.specs.HeaderViews.{header_reader, header_view, unparsed_view};
 
-    /// Reads the header as far as the rows of its table, of which none is read yet.
+    /// Parses the header up to the rows of its table, of which none is read yet.
     ///
-    /// The bases are those in `BaseAddresses::eh_frame_hdr`. The address size is 1, 2, 4 or 8, that of the section's
-    /// pointers: the section doesn't give it.
+    /// The bases are those in `BaseAddresses::eh_frame_hdr`. The address size is that of the
+    /// section's pointers, 1, 2, 4 or 8: the section doesn't give it.
     ///
-    /// Refused, in the order of the bytes, with `UnknownVersion` for a version other than 1; with
-    /// `UnknownPointerEncoding` for an encoding that isn't known, of the pointer to `.eh_frame`, of the count or of the
-    /// rows; as any pointer of the section for the pointer to `.eh_frame`; and, where neither the count nor the rows
-    /// are omitted, with `UnsupportedPointerEncoding` for a count that is relative or indirect, then as the value of
-    /// any pointer for the count. `UnexpectedEof` is answered where the bytes of a part end. It takes no memory.
+    /// Fails, in the order of the bytes, with `UnknownVersion` for a version other than 1; with
+    /// `UnknownPointerEncoding` for an unknown encoding of the pointer to `.eh_frame`, of the count
+    /// or of the rows; as any pointer of the section does for the pointer to `.eh_frame`; and, if
+    /// neither the count nor the rows are omitted, with `UnsupportedPointerEncoding` for a count
+    /// that is relative or indirect, then as the value of any pointer does for the count. It fails
+    /// with `UnexpectedEof` if the bytes end before a part. It does not allocate.
     #[tactic(auto, unfolding(crate::specs::EhFrameHdr::header_fields))]
     pub fn parse(&self, bases: &BaseAddresses, address_size: u8) -> Result<ParsedEhFrameHdr<R>>
         requires { IsAddressSize address_size }
         ensures read { map_ok (header_view R.position) result
-            ≡ header_of (header_section (R.position self.now.0) address_size bases.now.eh_frame_hdr) }
-        ensures section { IfOk result (λ header. header.section ≡ self.now.0) }
-        ensures size { IfOk result (λ header. header.address_size.bytes ≡ address_size) }
+            ≡ header_of (unparsed_view R.position self.now address_size bases.now) }
+        ensures section { IfOk result (λ header. header_bytes header ≡ header_reader self.now) }
+        ensures size { IfOk result (λ header. header_address_size header ≡ address_size) }
     {
         let mut reader = self.0;
         let version = reader.read_u8()?;
@@ -110,7 +116,7 @@ impl<R: Reader> EhFrameHdr<R> {
     }
 }
 
-/// How many rows the table has: none where the count or the rows are omitted.
+/// How many rows the table has: none if the count or the rows are omitted.
 #[tactic(auto, unfolding(crate::specs::EhFrameHdr::row_count))]
 #[inline(always)]
 fn read_row_count<R: Reader>(
@@ -119,8 +125,8 @@ fn read_row_count<R: Reader>(
     address_size: u8,
     input: &mut R,
 ) -> Result<u64>
-    ensures { Reads (λ x. x) (row_count address_size count_encoding.0 table_encoding.0)
-        (R.position input.old) result (R.position input.new) }
+    ensures { ReadsValue R.position (row_count address_size count_encoding.0 table_encoding.0)
+        input.old result input.new }
 {
     if count_encoding == DW_EH_PE_omit || table_encoding == DW_EH_PE_omit {
         return Ok(0);
@@ -131,7 +137,7 @@ fn read_row_count<R: Reader>(
     parse_encoded_value(count_encoding, address_size, input)
 }
 
-/// A header as it was read: where `.eh_frame` is, and the rows of its table.
+/// A parsed header: where `.eh_frame` is, and the rows of its table.
 #[derive(Debug)]
 pub struct ParsedEhFrameHdr<R: Reader> {
     pub(crate) address_size: AddressSize,
@@ -140,7 +146,8 @@ pub struct ParsedEhFrameHdr<R: Reader> {
     pub(crate) fde_count: u64,
     pub(crate) table_enc: DwEhPe,
     pub(crate) table: R,
-    ghost of_section: { IsOf (R.position table) (R.position section) } by { IsOf_prop (R.position table) (R.position section) },
+    ghost of_section: { IsOf (R.position table)
+        (R.position section) } by { IsOf_prop (R.position table) (R.position section) },
 }
 
 impl<R: Reader> Clone for ParsedEhFrameHdr<R> {
@@ -157,7 +164,7 @@ impl<R: Reader> Clone for ParsedEhFrameHdr<R> {
 impl<R: Reader> Copy for ParsedEhFrameHdr<R> {}
 
 impl<R: Reader> ParsedEhFrameHdr<R> {
-    ghost use Rattle.gimli_cfi.specs.HeaderViews.{header_view, table_view};
+    ghost use Rattle.gimli_cfi.specs.HeaderViews.{header_view, table_header, table_view};
 
     /// Where `.eh_frame` is.
     #[inline(always)]
@@ -167,11 +174,12 @@ impl<R: Reader> ParsedEhFrameHdr<R> {
         self.eh_frame_ptr
     }
 
-    /// The table, `None` where it has no rows: the count is 0 or omitted, or the rows are omitted.
+    /// The table. `None` if it has no rows: the count is 0 or omitted, or the rows are omitted.
     #[inline(always)]
     pub fn table(&self) -> Option<EhHdrTable<'_, R>>
-        ensures rows { option_map (table_view R.position) result ≡ (header_view R.position self.now).table }
-        ensures header { IfSome result (λ table. table.hdr.now ≡ self.now) }
+        ensures rows { option_map (table_view R.position) result
+            ≡ (header_view R.position self.now).table }
+        ensures header { IfSome result (λ table. table_header table ≡ self.now) }
     {
         if self.fde_count == 0 {
             None

@@ -1,40 +1,47 @@
 //! The rows of a table in order.
-ghost use Rattle.std.specs.Prelude.{◌≡◌, ◌≤◌, IfSome, Some};
+ghost use Rattle.std.specs.Prelude.{◌≡◌, ◌≤◌, Err, IfSome, Some};
 ghost use Rattle.std.specs.Option.{option_transpose};
 ghost use Rattle.std.specs.Iterator.{UpTo, YieldsFirst, at_most};
 ghost use Rattle.std.specs.Iterator.SizeHint.{IsWithinCount};
-ghost use Rattle.cfi_read_core.specs.ReaderCalls.{Reads};
+ghost use Rattle.cfi_read_core.specs.CallFrameSections.{IsOf, IsOf_prop};
+ghost use Rattle.cfi_read_core.specs.ReaderCalls.{ReadsValue};
+ghost use Rattle.cfi_read_core.specs.declared.error.Error.{Error as Refusal};
 ghost use Rattle.cfi_parts.specs.ReadingParameters.{pointer_context};
-ghost use Rattle.cfi_instruction.specs.CallFrameSections.{IsOf, IsOf_prop};
 ghost use Rattle.gimli_cfi.specs.EhFrameHdr.{row_by};
-ghost use Rattle.gimli_cfi.specs.HeaderRows.{Meets, next_row, rows_left, walk_after, walk_of};
+ghost use Rattle.gimli_cfi.specs.HeaderRows.{IsStep, MeetsRow, ReadsNextRow, rows_left, walk_of};
+ghost use Rattle.gimli_cfi.specs.PassedRows.{MeetsAfter, walk_past};
 
 use crate::hdr::header::ParsedEhFrameHdr;
+use crate::hdr::row_fields::{pass_rows, row_parameters, searchable_size};
 use cfi_parts::pointer::{
     BaseAddresses, Pointer, PointerEncodingParameters, parse_encoded_pointer,
 };
 use cfi_read_core::{DwEhPe, Reader, Result};
 
-/// The rows of a table in order: start and target of each.
+/// An iterator over the rows of a table, in order: the start and the target of each.
 ///
-/// It ends after as many rows as the count, refused ones among them.
+/// It ends after as many rows as the header's count. Rows that can't be read count too.
 #[derive(Debug, Drop)]
 pub struct EhHdrTableIter<'a, 'bases, R: Reader> {
-    pub(crate) hdr: &'a ParsedEhFrameHdr<R>,
-    pub(crate) table: R,
-    pub(crate) bases: &'bases BaseAddresses,
-    pub(crate) remain: u64,
-    ghost of_section: { IsOf (R.position table) (R.position hdr.now.section) } by { IsOf_prop (R.position table) (R.position hdr.now.section) },
+    hdr: &'a ParsedEhFrameHdr<R>,
+    table: R,
+    bases: &'bases BaseAddresses,
+    remain: u64,
+    ghost of_section: { IsOf (R.position table)
+        (R.position hdr.now.section) } by { IsOf_prop (R.position table)
+            (R.position hdr.now.section) },
 }
 
 impl<'a, 'bases, R: Reader> EhHdrTableIter<'a, 'bases, R> {
-    ghost use Rattle.gimli_cfi.specs.HeaderViews.{rows_view, header_section_view, walk_view};
+    ghost use Rattle.gimli_cfi.specs.HeaderViews.{IsSameTable, header_section_view, rows_view};
+    ghost use Rattle.gimli_cfi.specs.HeaderViews.{walk_view};
 
     /// All rows of the header's table.
     #[inline(always)]
     pub(crate) fn new(hdr: &'a ParsedEhFrameHdr<R>, bases: &'bases BaseAddresses) -> Self
         ensures all { walk_view R.position result
-            ≡ walk_of (header_section_view R.position hdr.now bases.now) (rows_view R.position hdr.now) }
+            ≡ walk_of (header_section_view R.position hdr.now bases.now)
+            (rows_view R.position hdr.now) }
     {
         EhHdrTableIter {
             hdr,
@@ -44,62 +51,88 @@ impl<'a, 'bases, R: Reader> EhHdrTableIter<'a, 'bases, R> {
         }
     }
 
-    /// The next row: its start and its target. Once there have been as many as the count it is `None` from then on.
+    /// The next row: its start and its target. `None` once as many rows as the count were
+    /// returned, and from then on.
     ///
-    /// A row is refused as any pointer of the section, for its start and then for its target. It counts as a row: one
-    /// fewer remains, and the next is read from where the refused read stood. It takes no memory.
+    /// Fails as any pointer of the section does, for the start and then for the target. Such a row
+    /// counts: one fewer remains, and the next is read from where the failed read stopped. It does
+    /// not allocate.
     #[tactic(auto, unfolding(crate::specs::HeaderRows::next_row))]
     #[inline(always)]
     pub fn next(&mut self) -> Result<Option<(Pointer, Pointer)>>
-        ensures read { Reads (λ found. found) (next_row (walk_view R.position self.old))
-            (R.position self.old.table) result (R.position self.new.table) }
-        ensures met { Meets result (walk_view R.position self.old) (walk_view R.position self.new) }
-        ensures after { walk_view R.position self.new
-            ≡ walk_after (walk_view R.position self.old) (R.position self.new.table) }
-        ensures same_section_and_bases { (self.new.hdr.now ≡ self.old.hdr.now)
-            × (self.new.bases.now ≡ self.old.bases.now) }
+        ensures read { ReadsNextRow (walk_view R.position self.old) result
+            (walk_view R.position self.new) }
+        ensures met { MeetsRow result (walk_view R.position self.old)
+            (walk_view R.position self.new) }
+        ensures after { IsStep (walk_view R.position self.old) (walk_view R.position self.new) }
+        ensures same_section_and_bases { IsSameTable self.old self.new }
     {
         if self.remain == 0 {
             return Ok(None);
         }
         self.remain -= 1;
-        let parameters = PointerEncodingParameters {
-            bases: &self.bases.eh_frame_hdr,
-            func_base: None,
-            address_size: self.hdr.address_size,
-            section: &self.hdr.section,
-        };
-        let mut table = self.table;
-        let found = read_row(self.hdr.table_enc, &parameters, &mut table);
-        self.table = table;
+        let mut rows = self.table;
+        let parameters = row_parameters(self.hdr, self.bases);
+        let found = read_row(self.hdr.table_enc, &parameters, &mut rows);
+        self.table = rows;
         Ok(Some(found?))
+    }
+
+    /// Skips the next `n` rows without reading them, and returns the row after them. `None`, and no
+    /// rows left, if no more than `n` remain.
+    ///
+    /// Fails with `UnsupportedPointerEncoding` of the table's encoding if its format is not
+    /// `udata2`, `sdata2`, `udata4`, `sdata4`, `udata8` or `sdata8`, whatever remains; with
+    /// `UnsupportedOffset` if the size of `n` rows does not fit a `u64` or the reader's offset
+    /// type; and with `UnexpectedEof` if fewer bytes are left. These leave the iterator unchanged.
+    /// Then as `next`. It does not allocate.
+    #[inline(always)]
+    pub fn nth(&mut self, n: usize) -> Result<Option<(Pointer, Pointer)>>
+        ensures met { MeetsAfter (walk_past (walk_view R.position self.old) n)
+            (walk_view R.position self.old) result (walk_view R.position self.new) }
+        ensures unchanged { (e : Refusal) →
+            walk_past (walk_view R.position self.old) n ≡ Err e → self.new ≡ self.old }
+        ensures same_section_and_bases { IsSameTable self.old self.new }
+    {
+        let size = searchable_size(self.hdr.table_enc)?;
+        let rows = n as u64;
+        if self.remain <= rows {
+            self.remain = 0;
+            return Ok(None);
+        }
+        let mut table = self.table;
+        pass_rows(&mut table, size, rows)?;
+        self.table = table;
+        self.remain -= rows;
+        self.next()
     }
 }
 
 impl<R: Reader> Iterator for EhHdrTableIter<'_, '_, R> {
     type Item = Result<(Pointer, Pointer)>;
 
-    ghost use Rattle.gimli_cfi.specs.HeaderViews.{walk_view};
+    ghost use Rattle.gimli_cfi.specs.HeaderViews.{IsSameTable, walk_view};
 
-    ghost next_gives = { λ s r t. YieldsFirst (λ it. rows_left (walk_view R.position it)) s r t
-        × Reads (λ found. found) (next_row (walk_view R.position s))
-        (R.position s.table) (option_transpose r) (R.position t.table)
-        × (walk_view R.position t ≡ walk_after (walk_view R.position s) (R.position t.table))
-        × ((t.hdr.now ≡ s.hdr.now) × (t.bases.now ≡ s.bases.now)) };
+    ghost next_gives = { λ it row after.
+        YieldsFirst (λ walk. rows_left (walk_view R.position walk)) it row after
+        × ReadsNextRow (walk_view R.position it) (option_transpose row) (walk_view R.position after)
+        × IsStep (walk_view R.position it) (walk_view R.position after)
+        × IsSameTable it after };
 
-    ghost remaining = { λ it. at_most it.remain };
+    ghost remaining = { λ it. at_most (walk_view R.position it).count };
 
     #[inline(always)]
     fn next(&mut self) -> Option<Result<(Pointer, Pointer)>> {
         EhHdrTableIter::next(self).transpose()
     }
 
-    /// The count of the rows that remain, for both bounds: refused rows count too.
+    /// How many rows remain, for both bounds. Rows that can't be read count too.
     #[inline(always)]
     fn size_hint(&self) -> (usize, Option<usize>)
-        ensures lower { IsWithinCount result.0 (at_most self.now.remain) }
-        ensures upper { IfSome result.1 (UpTo (at_most self.now.remain)) }
-        ensures exact { result ≡ (self.now.remain, Some self.now.remain) }
+        ensures lower { IsWithinCount result.0 (at_most (walk_view R.position self.now).count) }
+        ensures upper { IfSome result.1 (UpTo (at_most (walk_view R.position self.now).count)) }
+        ensures exact { let rows = (walk_view R.position self.now).count in
+            result ≡ (rows, Some rows) }
     {
         let rows = self.remain as usize;
         (rows, Some(rows))
@@ -115,8 +148,8 @@ fn read_row<R: Reader>(
     input: &mut R,
 ) -> Result<(Pointer, Pointer)>
     requires { (R.position parameters.now.section.now).place ≤ (R.position input.old).place }
-    ensures { Reads (λ found. found) (row_by (pointer_context R.position parameters.now) encoding.0)
-        (R.position input.old) result (R.position input.new) }
+    ensures { ReadsValue R.position (row_by (pointer_context R.position parameters.now) encoding.0)
+        input.old result input.new }
 {
     let start = parse_encoded_pointer(encoding, parameters, input)?;
     let target = parse_encoded_pointer(encoding, parameters, input)?;

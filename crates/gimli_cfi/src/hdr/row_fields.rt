@@ -1,11 +1,12 @@
-//! The start and the target of a row, each read at its own place.
-ghost use Rattle.std.specs.Prelude.{◌≡◌, ◌≤◌, Some, ok_or};
-ghost use Rattle.cfi_read_core.specs.ReaderCalls.{Reads};
+//! The start and the target of a row, each read where it is in the table.
+ghost use Rattle.std.specs.Prelude.{◌≡◌, ◌≤◌, Some};
 ghost use Rattle.cfi_read_core.specs.ReadFunctions.{skip};
-ghost use Rattle.cfi_read_core.specs.declared.error.Error.TheVariants.{UnsupportedPointerEncoding};
+ghost use Rattle.cfi_read_core.specs.ReaderCalls.{ReadsValue};
 ghost use Rattle.cfi_parts.specs.ReadingParameters.{pointer_context};
-ghost use Rattle.gimli_cfi.specs.EhFrameHdr.{header_context, rows_passed, start_field, target_field, value_size};
-ghost use Rattle.gimli_cfi.specs.HeaderViews.{rows_view, header_section_view, starts_view, targets_view};
+ghost use Rattle.gimli_cfi.specs.EhFrameHdr.{header_context, row_field, rows_passed};
+ghost use Rattle.gimli_cfi.specs.EhFrameHdr.{searched_size, value_size};
+ghost use Rattle.gimli_cfi.specs.HeaderViews.{header_section_view, rows_view, starts_view};
+ghost use Rattle.gimli_cfi.specs.HeaderViews.{targets_view};
 
 use crate::hdr::header::ParsedEhFrameHdr;
 use cfi_parts::pointer::{
@@ -17,11 +18,11 @@ use cfi_read_core::constants::{
 };
 use cfi_read_core::{DwEhPe, Error, Reader, ReaderOffset, ReaderOffsetId, Result};
 
-/// How many bytes a value takes in a format that can be searched. Others are refused with
-/// `UnsupportedPointerEncoding`.
+/// The size in bytes of a value in a format that can be searched. Fails with
+/// `UnsupportedPointerEncoding` for other formats.
 #[inline(always)]
 pub(crate) fn searchable_size(encoding: DwEhPe) -> Result<u64>
-    ensures { result ≡ ok_or (value_size encoding.0) (UnsupportedPointerEncoding encoding) }
+    ensures { result ≡ searched_size encoding.0 }
 {
     match encoding.format() {
         DW_EH_PE_udata2 => Ok(2),
@@ -34,11 +35,11 @@ pub(crate) fn searchable_size(encoding: DwEhPe) -> Result<u64>
     }
 }
 
-/// Passes so many rows of two values of this size at once.
+/// Skips `count` rows of two values of this size.
 #[inline(always)]
 pub(crate) fn pass_rows<R: Reader>(input: &mut R, size: u64, count: u64) -> Result<()>
     requires { size ≤ 8 }
-    ensures { Reads (λ x. x) (rows_passed size count) (R.position input.old) result (R.position input.new) }
+    ensures { ReadsValue R.position (rows_passed size count) input.old result input.new }
 {
     // It is read for the checker alone, which then knows that each offset is a `u64`.
     let _greatest = R::Offset::GREATEST;
@@ -48,10 +49,10 @@ pub(crate) fn pass_rows<R: Reader>(input: &mut R, size: u64, count: u64) -> Resu
     input.skip(R::Offset::from_u64(bytes)?)
 }
 
-/// Passes a value of this size. A number that does not fit the offset type is more than is left.
+/// Skips a value of this size. A size that does not fit the offset type is more than is left.
 #[inline(always)]
 fn pass_value<R: Reader>(input: &mut R, size: u64) -> Result<()>
-    ensures { Reads (λ x. x) (skip size) (R.position input.old) result (R.position input.new) }
+    ensures { ReadsValue R.position (skip size) input.old result input.new }
 {
     match R::Offset::from_u64(size) {
         Ok(bytes) => input.skip(bytes),
@@ -61,7 +62,7 @@ fn pass_value<R: Reader>(input: &mut R, size: u64) -> Result<()>
 
 /// What the pointers in the rows are read with.
 #[inline(always)]
-fn row_parameters<'a, R: Reader>(
+pub(crate) fn row_parameters<'a, R: Reader>(
     hdr: &'a ParsedEhFrameHdr<R>,
     bases: &'a BaseAddresses,
 ) -> PointerEncodingParameters<'a, R>
@@ -77,44 +78,26 @@ fn row_parameters<'a, R: Reader>(
     }
 }
 
-/// Reads the start of a row from the place of the first one.
-#[tactic(auto, unfolding(crate::specs::EhFrameHdr::start_field))]
+/// Reads a field of the row with this index: the one after the first `before` bytes of the row. The
+/// reader is at the first row.
+#[tactic(auto, unfolding(crate::specs::EhFrameHdr::row_field))]
 #[inline(always)]
-fn read_start_field<R: Reader>(
+fn read_field<R: Reader>(
     hdr: &ParsedEhFrameHdr<R>,
     bases: &BaseAddresses,
     size: u64,
     index: u64,
+    before: u64,
     input: &mut R,
 ) -> Result<Pointer>
     requires small { size ≤ 8 }
     requires behind { (R.position hdr.now.section).place ≤ (R.position input.old).place }
     ensures { let header = header_section_view R.position hdr.now bases.now in
-        Reads (λ p. p) (start_field header (rows_view R.position hdr.now) size index)
-        (R.position input.old) result (R.position input.new) }
+        ReadsValue R.position (row_field header (rows_view R.position hdr.now) size index before)
+        input.old result input.new }
 {
     pass_rows(input, size, index)?;
-    parse_encoded_pointer(hdr.table_enc, &row_parameters(hdr, bases), input)
-}
-
-/// Reads the target of a row from the place of the first one.
-#[tactic(auto, unfolding(crate::specs::EhFrameHdr::target_field))]
-#[inline(always)]
-fn read_target_field<R: Reader>(
-    hdr: &ParsedEhFrameHdr<R>,
-    bases: &BaseAddresses,
-    size: u64,
-    index: u64,
-    input: &mut R,
-) -> Result<Pointer>
-    requires small { size ≤ 8 }
-    requires behind { (R.position hdr.now.section).place ≤ (R.position input.old).place }
-    ensures { let header = header_section_view R.position hdr.now bases.now in
-        Reads (λ p. p) (target_field header (rows_view R.position hdr.now) size index)
-        (R.position input.old) result (R.position input.new) }
-{
-    pass_rows(input, size, index)?;
-    pass_value(input, size)?;
+    pass_value(input, before)?;
     parse_encoded_pointer(hdr.table_enc, &row_parameters(hdr, bases), input)
 }
 
@@ -130,7 +113,7 @@ pub(crate) fn start_of_row<R: Reader>(
     ensures { result ≡ starts_view R.position hdr.now bases.now index }
 {
     let mut rows = hdr.table;
-    read_start_field(hdr, bases, size, index, &mut rows)?.direct()
+    read_field(hdr, bases, size, index, 0, &mut rows)?.direct()
 }
 
 /// The target of a row.
@@ -145,5 +128,5 @@ pub(crate) fn target_of_row<R: Reader>(
     ensures { result ≡ targets_view R.position hdr.now bases.now index }
 {
     let mut rows = hdr.table;
-    read_target_field(hdr, bases, size, index, &mut rows)
+    read_field(hdr, bases, size, index, size, &mut rows)
 }

@@ -1,23 +1,43 @@
-//! The starts in the rows of a table.
-ghost use Rattle.std.specs.Prelude.{◌≡◌, IfOk, Some, ok_or};
+//! Where the rows of a table start, and the search in the starts.
+ghost use Rattle.std.specs.Prelude.{◌≡◌, ℕ, ◌+◌, ◌≤◌, ◌<◌, IfOk, IfErr, Result, Some};
 ghost use Rattle.cfi_read_core.specs.ReaderCalls.{map_ok};
-ghost use Rattle.cfi_read_core.specs.declared.error.Error.TheVariants.{UnsupportedPointerEncoding};
-ghost use Rattle.gimli_cfi.specs.EhFrameHdr.{value_size};
+ghost use Rattle.cfi_read_core.specs.declared.error.Error.{Error};
+ghost use Rattle.gimli_cfi.specs.BoundaryRows.{IsBoundaryRow, IsRefusalOfRow};
+ghost use Rattle.gimli_cfi.specs.EhFrameHdr.{searched_size, value_size};
+ghost use Rattle.gimli_cfi.specs.HalvingSteps.{steps};
 
 use crate::call_count::CallCount;
 use crate::hdr::header::ParsedEhFrameHdr;
 use crate::hdr::row_fields::{searchable_size, start_of_row};
-use crate::hdr::search::StartSource;
 use crate::hdr::table::EhHdrTable;
 use cfi_parts::pointer::BaseAddresses;
 use cfi_read_core::{Reader, Result};
 
-/// The starts in the rows of a header's table. A call reads that of one row at the row's own place, and no other row.
+/// A source of the starts of rows: one start a call, by the row's index.
 ///
-/// A start is refused with `UnsupportedOffset` where the row's distance from the first one does not fit a `u64` or the
-/// offset type of the reader, with `UnexpectedEof` of the first row's place where the table ends before the row, as a
-/// pointer of the section, and with `UnsupportedIndirectPointer` where it is indirect. It takes no memory (LSB Core,
-/// "The .eh_frame_hdr section").
+/// Each index below 2^64 has an answer, a start or an error, which no call changes. The calls are
+/// counted for the contracts alone, as by a `CallCount` in the source.
+pub trait StartSource {
+    /// The answer for each index, whenever it is asked for.
+    ghost answer: { Self → ℕ → Result ℕ Error };
+
+    /// How many calls were made, failed ones too.
+    ghost calls: { Self → ℕ };
+
+    /// The start of the row with this index, or why it can't be had.
+    fn start(&mut self, index: u64) -> Result<u64>
+        ensures answered { result ≡ answer self.old index }
+        ensures same { answer self.new ≡ answer self.old }
+        ensures counted { calls self.new ≡ calls self.old + 1 };
+}
+
+/// The starts in the rows of a header's table. A call reads the start of one row where that row is,
+/// and no other row.
+///
+/// A start fails with `UnsupportedOffset` if the row's distance from the first one does not fit a
+/// `u64` or the reader's offset type, with `UnexpectedEof` at the first row if the table ends
+/// before the row, as any pointer of the section does, and with `UnsupportedIndirectPointer` if it
+/// is indirect. It does not allocate (LSB Core, "The .eh_frame_hdr section").
 #[derive(Drop)]
 pub struct TableStarts<'a, 'bases, R: Reader> {
     hdr: &'a ParsedEhFrameHdr<R>,
@@ -28,18 +48,21 @@ pub struct TableStarts<'a, 'bases, R: Reader> {
 }
 
 impl<'a, 'bases, R: Reader> TableStarts<'a, 'bases, R> {
-    /// The starts of a table whose format can be searched: `udata2`, `sdata2`, `udata4`, `sdata4`, `udata8` or
-    /// `sdata8`. Another format is refused with `UnsupportedPointerEncoding` of the table's encoding.
+    ghost use Rattle.gimli_cfi.specs.HeaderViews.{AreStartsOf, calls_made, start_size, table_view};
+
+    /// The starts of a table whose format can be searched: `udata2`, `sdata2`, `udata4`, `sdata4`,
+    /// `udata8` or `sdata8`. Fails with `UnsupportedPointerEncoding` of the table's encoding for
+    /// another format.
     ///
-    /// The bases are those in `BaseAddresses::eh_frame_hdr`. No start is read yet. It takes no memory.
+    /// The bases are those in `BaseAddresses::eh_frame_hdr`. No start is read yet. It does not
+    /// allocate.
     #[inline(always)]
     pub fn new(table: &EhHdrTable<'a, R>, bases: &'bases BaseAddresses) -> Result<Self>
-        ensures searchable { let encoding = table.now.hdr.now.table_enc in
-            map_ok (λ starts. starts.size) result
-            ≡ ok_or (value_size encoding.0) (UnsupportedPointerEncoding encoding) }
+        ensures searchable { map_ok start_size result
+            ≡ searched_size (table_view R.position table.now).encoding }
         ensures same_section_and_bases { IfOk result (λ starts.
-            (starts.hdr.now ≡ table.now.hdr.now) × (starts.bases.now ≡ bases.now)) }
-        ensures fresh { IfOk result (λ starts. starts.calls.calls ≡ 0) }
+            AreStartsOf starts table.now bases.now) }
+        ensures fresh { IfOk result (λ starts. calls_made starts ≡ 0) }
     {
         let size = searchable_size(table.hdr.table_enc)?;
         Ok(TableStarts {
@@ -52,15 +75,51 @@ impl<'a, 'bases, R: Reader> TableStarts<'a, 'bases, R> {
 }
 
 impl<R: Reader> StartSource for TableStarts<'_, '_, R> {
-    ghost use Rattle.gimli_cfi.specs.HeaderViews.{starts_view};
+    ghost use Rattle.gimli_cfi.specs.HeaderViews.{answers_of, calls_made};
 
-    ghost answer = { λ s. starts_view R.position s.hdr.now s.bases.now };
+    ghost answer = { answers_of R.position };
 
-    ghost calls = { λ s. s.calls.calls };
+    ghost calls = { calls_made };
 
     #[inline(always)]
     fn start(&mut self, index: u64) -> Result<u64> {
         self.calls = self.calls.next();
         start_of_row(self.hdr, self.bases, self.size, index)
     }
+}
+
+/// The index of a boundary row for the address, found by halving the first `count` rows, of which
+/// there is at least one.
+///
+/// A boundary row is the first one or starts at or below the address; and it is the last one, or
+/// starts at the address, or the next one starts above it. It is one by the answers of the source,
+/// whatever their order.
+///
+/// Fails as the source does, for an index below the count. The source is called at most `b` times,
+/// `b` being the least number with `count <= 2^b`. It does not allocate.
+#[inline(always)]
+pub fn search_starts<S: StartSource>(source: &mut S, count: u64, address: u64) -> Result<u64>
+    requires { 1 ≤ count }
+    ensures found { IfOk result (IsBoundaryRow (S.answer source.old) count address) }
+    ensures refused { IfErr result (IsRefusalOfRow (S.answer source.old) count) }
+    ensures calls { S.calls source.new ≤ S.calls source.old + steps count }
+    ensures same { S.answer source.new ≡ S.answer source.old }
+{
+    let mut first = 0;
+    let mut len = count;
+    while len > 1 {
+        let half = len / 2;
+        let middle = first + half;
+        let start = source.start(middle)?;
+        if start == address {
+            return Ok(middle);
+        }
+        if start < address {
+            first = middle;
+            len -= half;
+        } else {
+            len = half;
+        }
+    }
+    Ok(first)
 }

@@ -2,42 +2,43 @@
 
 use cfi_read_core::Error;
 
-/// A reason against a table. Where one holds, the table isn't faithful to its section.
+/// A reason why a table isn't faithful to its section. A faithful table has none.
 ///
-/// Rows are counted from 0; offsets count from the beginning of `.eh_frame`.
+/// Rows are counted from 0. Offsets count from the beginning of `.eh_frame`.
 #[derive(Clone, Copy, Debug, PartialEq, Eq)]
 pub enum Unfaithful {
-    /// The header's pointer to `.eh_frame` is indirect (`UnsupportedIndirectPointer`), or its table has a format that
-    /// can't be searched (`UnsupportedPointerEncoding`).
+    /// The header's pointer to `.eh_frame` is indirect (`UnsupportedIndirectPointer`), or its table
+    /// has a format that can't be searched (`UnsupportedPointerEncoding`).
     Header(Error),
-    /// The start or the target of a row is refused; an indirect start with `UnsupportedIndirectPointer`.
+    /// The start or the target of a row can't be read; `UnsupportedIndirectPointer` if the start is
+    /// indirect.
     Row {
         /// The index of the row.
         row: u64,
-        /// Why it is refused.
+        /// Why it can't be read.
         refusal: Error,
     },
-    /// A row doesn't start above the row before it.
+    /// A row doesn't start above the previous row.
     Order {
         /// The index of the row.
         row: u64,
-        /// The start of the row before it.
+        /// The start of the previous row.
         before: u64,
         /// Its own start.
         start: u64,
     },
-    /// An entry can't be read, as going through the section reads it: a CIE whole, an FDE as far as its CIE's offset.
+    /// A scan of the section can't read an entry: a CIE whole, an FDE up to its CIE's offset.
     Entry {
-        /// The offset of the entry, where the one before it ends.
+        /// The offset of the entry, where the previous one ends.
         offset: u64,
-        /// Why it is refused.
+        /// Why it can't be read.
         refusal: Error,
     },
-    /// An FDE is refused, or the CIE to which it points.
+    /// An FDE can't be read, or the CIE that it points to.
     Fde {
         /// The offset of the FDE.
         offset: u64,
-        /// Why it is refused.
+        /// Why it can't be read.
         refusal: Error,
     },
     /// An FDE has no row: none has its first address as start and the FDE as target.

@@ -5,7 +5,7 @@ use Rattle.cfi_read_core.specs.Windows.{slice_position}
 use Rattle.cfi_entry.specs.Sections.{DebugFrame}
 use Rattle.cfi_unwind.specs.AddressRow.{row_by_scan}
 use Rattle.cfi_unwind.proofs.Laws.{scan_is_due_where_fixed}
-use Rattle.cfi_c.specs.Answers.{kind_of, section_as}
+use Rattle.cfi_c.specs.PassedSections.{kind_of, section_as}
 use Rattle.cfi_c.proofs.Sections.{same_rows, same_section}
 use Rattle.cfi_c.proofs.find.scan_debug_frame.Goals as goal
 

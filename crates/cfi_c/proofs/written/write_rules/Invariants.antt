@@ -1,5 +1,5 @@
 use Rattle.std.proofs.Common.{◌≡◌, ◌⊎◌, ℕ, ◌<◌, ◌≤◌, ◌+◌, length}
-use Rattle.cfi_c.specs.Answers.{written_rule, rule_at, rule_in}
+use Rattle.cfi_c.specs.WrittenRows.{written_rule, rule_at, rule_in}
 use Rattle.cfi_c.proofs.written.write_rules.Given as goal
 
 abbrev pub invariant-loop-k : goal.invariant-loop-k

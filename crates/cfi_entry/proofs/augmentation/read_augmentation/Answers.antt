@@ -1,7 +1,7 @@
 use Rattle.std.proofs.Common.{◌≡◌, ◌∙◌, Err, ne_eqb, rules}
 use Rattle.cfi_entry.proofs.EntryReads.{augmentation_announced, augmentation_none, augmentation_plain, byte_taken, none_taken}
 use Rattle.cfi_entry.specs.Augmentations.{no_letters}
-use Rattle.cfi_entry.specs.CieViews.{augmentation_view}
+use Rattle.cfi_entry.specs.EntryViews.{augmentation_view}
 use Rattle.cfi_entry.proofs.augmentation.read_augmentation.Goals as goal
 
 pub returns-in_default : goal.returns-in_default

@@ -1,15 +1,13 @@
 use Rattle.std.proofs.Common.{◌≡◌, ◌∙◌, Err, List, ap, arith, rules, sym, ℕ}
-use Rattle.std.specs.Prelude.{None}
 use Rattle.cfi_entry.proofs.EntryReads.{byte_taken, none_taken, fewer_left, letters_end, letters_on, letters_refused, onward_letter}
 use Rattle.cfi_entry.proofs.Within.{not_before}
 use Rattle.cfi_entry.specs.Augmentations.{letters}
-use Rattle.cfi_entry.specs.Sections.{pointer_context}
-use Rattle.cfi_entry.specs.CieViews.{augmentation_view, section_in}
+use Rattle.cfi_entry.specs.EntryViews.{augmentation_view, letter_context}
 use Rattle.cfi_entry.proofs.augmentation.read_letters.Goals as goal
 
 pub returns-in_err-read_letter : goal.returns-in_err-read_letter
 returns-in_err-read_letter g c =
-    let pointers = pointer_context (section_in g.S._UnwindSectionPrivate.view c.args.at.now) None c.args.address_size.bytes in
+    let pointers = letter_context g.S._UnwindSectionPrivate.view c.args.at.now c.args.address_size in
     let stands = g.R.Reader.position c.loop-byte.input in
     let gives : c.from_residual.result ≡ Err c.in_err-read_letter.field-0.0 = search rules in
     let taken = byte_taken (g.met.R.Reader.sound c.loop-byte.text) c.in-Ok.ensures in
@@ -23,7 +21,7 @@ loop-byte-smaller g c = fewer_left _ _ (g.met.R.Reader.sound c.loop-byte.text) c
 
 pub loop-byte-preserved : goal.loop-byte-preserved
 loop-byte-preserved g c =
-    let pointers = pointer_context (section_in g.S._UnwindSectionPrivate.view c.args.at.now) None c.args.address_size.bytes in
+    let pointers = letter_context g.S._UnwindSectionPrivate.view c.args.at.now c.args.address_size in
     let stands = g.R.Reader.position c.loop-byte.input in
     let taken = byte_taken (g.met.R.Reader.sound c.loop-byte.text) c.in-Ok.ensures in
     let behind = not_before (onward_letter pointers c.in-Ok.byte (augmentation_view c.loop-byte.known)) c.in_ok-read_letter.ensures in
@@ -37,7 +35,7 @@ loop-byte-preserved g c =
 
 pub returns : goal.returns
 returns g c =
-    let pointers = pointer_context (section_in g.S._UnwindSectionPrivate.view c.args.at.now) None c.args.address_size.bytes in (
+    let pointers = letter_context g.S._UnwindSectionPrivate.view c.args.at.now c.args.address_size in (
       sym c.loop-byte.invariant.same ∙ letters_end pointers _ (g.R.Reader.position c.loop-byte.text) _ _ (none_taken _ _ c.in_default.ensures),
       c.loop-byte.invariant.source,
     )

@@ -3,7 +3,7 @@ use Rattle.cfi_read_core.proofs.Onward.{onward_offset_leb128}
 use Rattle.cfi_entry.proofs.Announced.{letters_announced}
 use Rattle.cfi_entry.proofs.Within.{behind_of, split_of}
 use Rattle.cfi_entry.specs.Augmentations.{Augmentation, no_letters}
-use Rattle.cfi_entry.specs.CieViews.{augmentation_view}
+use Rattle.cfi_entry.specs.EntryViews.{augmentation_view}
 use Rattle.cfi_entry.proofs.augmentation.read_letters_with_data.Goals as goal
 
 pub read_letters-requires : goal.read_letters-requires

@@ -1,7 +1,7 @@
 use Rattle.std.proofs.Common.{◌∙◌, Err, ap}
 use Rattle.cfi_read_core.specs.declared.error.Error.TheVariants.{NotCieId}
 use Rattle.cfi_entry.proofs.EntryKinds.{by_kind, cie_found, no_cie_found}
-use Rattle.cfi_entry.specs.CieViews.{prefix_view, section_in}
+use Rattle.cfi_entry.specs.EntryViews.{prefix_view, section_in}
 use Rattle.cfi_entry.proofs.cie.cie_at.Goals as goal
 
 pub returns-then-is_cie : goal.returns-then-is_cie

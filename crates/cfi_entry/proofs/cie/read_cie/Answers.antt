@@ -1,7 +1,7 @@
 use Rattle.cfi_read_core.proofs.Onward.{onward_unsigned, onward_unsigned_leb128, onward_signed_leb128}
 use Rattle.cfi_entry.proofs.EntryReads.{onward_augmentation, onward_return_register, onward_sizes, onward_text}
 use Rattle.cfi_entry.proofs.Within.{behind_of}
-use Rattle.cfi_entry.specs.CieViews.{section_in}
+use Rattle.cfi_entry.specs.EntryViews.{section_in}
 use Rattle.cfi_entry.proofs.cie.read_cie.Goals as goal
 
 pub read_augmentation-requires : goal.read_augmentation-requires

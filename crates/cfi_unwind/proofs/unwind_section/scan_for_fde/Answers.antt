@@ -1,18 +1,23 @@
-use Rattle.std.proofs.Common.{rules}
-use Rattle.cfi_instruction.specs.CallFrameSections.{IsOf}
-use Rattle.cfi_unwind.specs.KeptCie.{KeepsCie}
+use Rattle.cfi_entry.specs.EntryViews.{IsCieOf}
+use Rattle.cfi_unwind.specs.CachedCie.{IsCacheOf}
 use Rattle.cfi_unwind.proofs.Answered.{chosen_by, ok_answered_by}
+use Rattle.cfi_unwind.proofs.CachedCalls.{own, part}
 use Rattle.cfi_unwind.proofs.unwind_section.scan_for_fde.Goals as goal
 
 pub returns-clause-scan : goal.returns-clause-scan
 returns-clause-scan g c =
-    chosen_by _ _ _ _ _ _ (λ kept. KeepsCie g.R.Reader.position g.R.Offset.ReaderOffset.number (g.S._UnwindSectionPrivate.view c.args.section.now) c.args.bases.now kept.0.now)
-    _ _ _ _ tt c.fde_for_address.ensures.scan.1
-    (λ f asked answer h holds call. let met = rw (call.at_section, call.at_bases) at call.call.met in (search rules, search rules))
+    let position = g.R.Reader.position in
+    let number = g.R.Offset.ReaderOffset.number in
+    let view = g.S._UnwindSectionPrivate.view in
+    chosen_by _ _ _ _ _ _ (λ cache. IsCacheOf position number (view c.args.section.now) c.args.bases.now cache.0.now)
+    _ _ _ _ (c.new-cache.ensures (view c.args.section.now) c.args.bases.now) c.fde_for_address.ensures.scan.1
+    (λ f asked answer h holds call. own position number view c.args.section.now call.shown_section.now c.args.bases.now call.shown_bases.now call.at_section call.at_bases f.0.now h.0.now (number (g.S.Offset.UnwindOffset.offset asked)) answer call.call.met.1 holds)
 
 pub returns-clause-cie_part : goal.returns-clause-cie_part
 returns-clause-cie_part g c =
-    ok_answered_by _ _ _ (λ fde. fde.cie)
-    (λ kept. KeepsCie g.R.Reader.position g.R.Offset.ReaderOffset.number (g.S._UnwindSectionPrivate.view c.args.section.now) c.args.bases.now kept.0.now)
-    (λ cie. IsOf (g.R.Reader.position cie.initial_instructions) (g.S._UnwindSectionPrivate.view c.args.section.now).position) _ tt _ c.fde_for_address.ensures.cie
-    (λ f asked answer h holds call. let met = rw (call.at_section, call.at_bases) at call.call.met in (search rules, search rules))
+    let position = g.R.Reader.position in
+    let number = g.R.Offset.ReaderOffset.number in
+    let view = g.S._UnwindSectionPrivate.view in
+    ok_answered_by _ _ _ (λ fde. fde.cie) (λ cache. IsCacheOf position number (view c.args.section.now) c.args.bases.now cache.0.now)
+    (IsCieOf position (view c.args.section.now).position) _ (c.new-cache.ensures (view c.args.section.now) c.args.bases.now) _ c.fde_for_address.ensures.cie
+    (λ f asked answer h holds call. part position number view c.args.section.now call.shown_section.now c.args.bases.now call.shown_bases.now call.at_section call.at_bases f.0.now h.0.now (number (g.S.Offset.UnwindOffset.offset asked)) answer call.call.met.1 holds)

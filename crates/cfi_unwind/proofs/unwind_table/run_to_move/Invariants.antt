@@ -1,4 +1,4 @@
-use Rattle.std.proofs.Common.{◌≡◌, length}
+use Rattle.std.proofs.Common.{length}
 use Rattle.cfi_parts.specs.InstructionIterators.{instruction_reader}
 use Rattle.cfi_parts.specs.InstructionReaders.{instructions_left}
 use Rattle.cfi_state.specs.ContextEffects.{setting_of}
@@ -14,7 +14,6 @@ invariant-loop-instruction g l =
     LeadsTo (may_allocate s g.S.Rules.CopyList.copies_free) s
     (before_last_row (state_in_numbers g.R.Offset.ReaderOffset.number l.location l.fn.context) (instructions_left (instruction_reader g.R.Reader.position l.fn.instructions)))
     (before_last_row (state_in_numbers g.R.Offset.ReaderOffset.number l.location l.context) (instructions_left (instruction_reader g.R.Reader.position l.instructions)))
-    × (l.context.row.start_address ≡ l.fn.context.row.start_address)
 
 abbrev pub decreases-loop-instruction : goal.decreases-loop-instruction
 decreases-loop-instruction g l = length (instructions_left (instruction_reader g.R.Reader.position l.instructions)).values

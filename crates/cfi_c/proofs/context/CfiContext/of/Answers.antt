@@ -1,5 +1,5 @@
 use Rattle.std.proofs.Common.{◌∙◌, sym, ap}
-use Rattle.cfi_c.specs.Answers.{is_live}
+use Rattle.cfi_c.specs.AddressRows.{is_live}
 use Rattle.cfi_c.proofs.context.CfiContext.of.Goals as goal
 use Rattle.cfi_c.proofs.context.CfiContext.of.Goals.{in-Some, in-None}
 

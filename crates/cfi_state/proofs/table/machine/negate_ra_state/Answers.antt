@@ -4,7 +4,7 @@ use Rattle.cfi_state.specs.ContextEffects.{setting_of}
 use Rattle.cfi_state.specs.UnwindContexts.{machine_state}
 use Rattle.cfi_state.specs.Machine.{toggle}
 use Rattle.std.specs.FinMap.{get}
-use Rattle.cfi_instruction.specs.declared.instruction.CallFrameInstruction.TheVariants.{NegateRaState}
+use Rattle.cfi_read_core.specs.declared.instruction.CallFrameInstruction.TheVariants.{NegateRaState}
 use Rattle.cfi_state.proofs.Evaluation.{gives}
 use Rattle.std.specs.Prelude.{bit_xor}
 use Rattle.cfi_state.proofs.table.machine.negate_ra_state.Goals as goal

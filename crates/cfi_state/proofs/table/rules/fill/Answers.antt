@@ -4,23 +4,23 @@ use Rattle.cfi_state.proofs.Lists.{one_more, as_far_as}
 use Rattle.cfi_state.proofs.Registers.{fill-refused}
 use Rattle.cfi_state.proofs.table.rules.fill.Goals as goal
 
-pub returns-in-loop-place-clause-memory : goal.returns-in-loop-place-clause-memory
-returns-in-loop-place-clause-memory g c =
+pub returns-in-loop-index-clause-memory : goal.returns-in-loop-index-clause-memory
+returns-in-loop-index-clause-memory g c =
     rw c.refusal_of.ensures
-    (fill-refused g.A.ArrayLike.limit _ _ c.loop-place.place c.in-Err.refused.why c.requires c.loop-place.invariant c.loop-place-test.true c.in-Err.ensures.full c.in-Err.ensures.memory)
+    (fill-refused g.A.ArrayLike.limit _ _ c.loop-index.index c.in-Err.refused.why c.requires c.loop-index.invariant c.loop-index-test.true c.in-Err.ensures.full c.in-Err.ensures.memory)
 
-pub loop-place-preserved : goal.loop-place-preserved
-loop-place-preserved g c =
-    one_more c.args.pairs.now (g.A.ArrayLike.items c.loop-place.list) (g.A.ArrayLike.items c.try_push.new.self) c.loop-place.place c.index-pairs-place.result c.loop-place-test.true c.index-pairs-place.is c.loop-place.invariant
+pub loop-index-preserved : goal.loop-index-preserved
+loop-index-preserved g c =
+    one_more c.args.pairs.now (g.A.ArrayLike.items c.loop-index.list) (g.A.ArrayLike.items c.try_push.new.self) c.loop-index.index c.index-pairs-index.result c.loop-index-test.true c.index-pairs-index.is c.loop-index.invariant
     c.in_default.ensures.ok
 
 pub returns-clause-ok : goal.returns-clause-ok
-returns-clause-ok g c = c.loop-place.invariant ∙ take_all c.loop-place.place c.args.pairs.now (omega arith)
+returns-clause-ok g c = c.loop-index.invariant ∙ take_all c.loop-index.index c.args.pairs.now (omega arith)
 
 pub write_over-requires : goal.write_over-requires
 write_over-requires g c = omega (arith, ap length c.shorten.ensures, length-take (length c.args.pairs.now) (g.A.ArrayLike.items c.args.list.now))
 
-pub loop-place-init : goal.loop-place-init
-loop-place-init g c =
+pub loop-index-init : goal.loop-index-init
+loop-index-init g c =
     let within : length (g.A.ArrayLike.items c.shorten.new.list) ≤ length c.args.pairs.now = omega (arith, ap length c.shorten.ensures, length-take (length c.args.pairs.now) (g.A.ArrayLike.items c.args.list.now)) in
-    rw c.as_slice-place.ensures.value (as_far_as c.args.pairs.now (g.A.ArrayLike.items c.write_over.new.list) _ within c.write_over.ensures)
+    rw c.as_slice-index.ensures.value (as_far_as c.args.pairs.now (g.A.ArrayLike.items c.write_over.new.list) _ within c.write_over.ensures)

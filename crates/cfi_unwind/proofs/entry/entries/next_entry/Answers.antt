@@ -1,6 +1,6 @@
 use Rattle.std.proofs.Common.{◌∙◌, ap, arith, subst, sym}
 use Rattle.cfi_entry.specs.Sections.{zero_length_ends}
-use Rattle.cfi_entry.specs.CieViews.{section_in}
+use Rattle.cfi_entry.specs.EntryViews.{section_in}
 use Rattle.cfi_unwind.specs.EntrySteps.{GoesThrough}
 use Rattle.cfi_unwind.proofs.WalkLemmas.{exhausted_left, exhausted_through, none_left, step_entry, step_fewer, step_gap, step_refusal, step_terminator, step_through}
 use Rattle.cfi_unwind.proofs.entry.entries.next_entry.Goals as goal

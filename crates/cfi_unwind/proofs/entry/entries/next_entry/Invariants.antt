@@ -1,7 +1,7 @@
 use Rattle.std.proofs.Common.{◌≡◌, ◌≤◌}
 use Rattle.cfi_read_core.specs.ReaderCalls.{remaining}
 use Rattle.cfi_entry.specs.Entries.{entries_left}
-use Rattle.cfi_entry.specs.CieViews.{section_in}
+use Rattle.cfi_entry.specs.EntryViews.{section_in}
 use Rattle.cfi_unwind.specs.EntrySteps.{GoesThrough}
 use Rattle.cfi_unwind.proofs.entry.entries.next_entry.Given as goal
 

@@ -1,5 +1,5 @@
 use Rattle.cfi_entry.proofs.EntryKinds.{by_kind, cie_entry, fde_entry}
-use Rattle.cfi_entry.specs.CieViews.{prefix_view, section_in}
+use Rattle.cfi_entry.specs.EntryViews.{prefix_view, section_in}
 use Rattle.cfi_unwind.proofs.entry.entries.read_entry_after.Goals as goal
 
 pub returns-in_ok-read_cie : goal.returns-in_ok-read_cie

@@ -1,6 +1,7 @@
 use Rattle.std.proofs.Common.{◌≡◌, ◌∙◌, ℕ, Option, Err, ap, refl, rules}
 use Rattle.std.specs.Option.{option_map}
 use Rattle.cfi_read_core.specs.declared.error.Error.{Error}
+use Rattle.cfi_read_core.specs.AddressSizes.{size_in_bytes}
 use Rattle.cfi_read_core.specs.ReadFunctions.{Source}
 use Rattle.cfi_read_core.specs.ReaderCalls.{map_ok}
 use Rattle.cfi_entry.specs.Sections.{Section}
@@ -9,7 +10,7 @@ use Rattle.cfi_entry.specs.Cies.{Cie}
 use Rattle.cfi_entry.specs.Fdes.{address_encoding_of, addresses, fde_after, fde_fields}
 use Rattle.cfi_entry.proofs.EntryReads.{onward_addresses, onward_lsda}
 use Rattle.cfi_entry.proofs.Within.{behind_of}
-use Rattle.cfi_entry.specs.CieViews.{section_in, augmentation_view, cie_view, prefix_view}
+use Rattle.cfi_entry.specs.EntryViews.{section_in, augmentation_view, cie_view, prefix_view}
 use Rattle.cfi_unwind.specs.FdeViews.{fde_view}
 use Rattle.cfi_unwind.proofs.entry.fde.read_fde.Goals as goal
 
@@ -23,21 +24,20 @@ addresses_refused section found cie sized encoded part gives = rw (rw (sized, en
 pub read_lsda-requires : goal.read_lsda-requires
 read_lsda-requires g c =
     let section = section_in g.S._UnwindSectionPrivate.view c.args.at.now in
-    behind_of (onward_addresses section c.new-address_size.result.bytes (option_map (λ e. e.0) c.fde_address_encoding-encoding.result)) c.read_addresses.ensures c.requires
+    behind_of (onward_addresses section (size_in_bytes c.address_size_of-address_size.result) (option_map (λ e. e.0) c.fde_address_encoding-encoding.result)) c.read_addresses.ensures c.requires
 
 pub returns-clause-part : goal.returns-clause-part
 returns-clause-part g c =
     let section = section_in g.S._UnwindSectionPrivate.view c.args.at.now in
-    let range = behind_of (onward_addresses section c.new-address_size.result.bytes (option_map (λ e. e.0) c.fde_address_encoding-encoding.result)) c.read_addresses.ensures c.requires in
+    let range = behind_of (onward_addresses section (size_in_bytes c.address_size_of-address_size.result) (option_map (λ e. e.0) c.fde_address_encoding-encoding.result)) c.read_addresses.ensures c.requires in
     behind_of (onward_lsda section c.args.cie.now.address_size.bytes c.in_ok-initial_address.initial_address (option_map augmentation_view c.args.cie.now.augmentation)) c.read_lsda.ensures range
 
 pub returns-in_err-initial_address-clause-read : goal.returns-in_err-initial_address-clause-read
 returns-in_err-initial_address-clause-read g c =
     let gives : c.from_residual.result ≡ Err c.in_err-initial_address.field-0.0 = search rules in
-    let sized : c.address_size.result ≡ c.args.cie.now.address_size.bytes = search rules in
     let position = g.R.Reader.position in
     let number = g.R.Offset.ReaderOffset.number in
     ap (map_ok (fde_view position number)) gives
     ∙ addresses_refused (section_in g.S._UnwindSectionPrivate.view c.args.at.now) (prefix_view position number c.args.found.now) (cie_view position number c.args.cie.now)
-    (c.new-address_size.ensures ∙ sized) c.fde_address_encoding-encoding.ensures c.requires.source
+    c.address_size_of-address_size.ensures c.fde_address_encoding-encoding.ensures c.requires.source
     (rw c.in_err-initial_address.was at c.read_addresses.ensures.0)

@@ -11,17 +11,17 @@ use Rattle.cfi_unwind.proofs.fde_rows.FrameDescriptionEntry+R.unwind_info_for_ad
 pub returns-clause-row : goal.returns-clause-row
 returns-clause-row g c =
     run_is_due _ _ _ _ _ _
-    (same_run _ _ (c.parameters.ensures.setting _ _) _ _ c.instructions-initial.ensures.left _ _ c.instructions-instructions.ensures.left _ _ _ c.unwind_info_for_address.ensures.run)
+    (same_run _ _ (c.parameters.ensures.setting _ _) _ _ c.instructions-initial.ensures.left _ _ c.instructions-instructions.ensures.left _ _ _ c.row_of_programs.ensures.run)
 
 pub returns-clause-contains : goal.returns-clause-contains
 returns-clause-contains g c =
     let number = g.R.Offset.ReaderOffset.number in
-    lent_contains number _ c.unwind_info_for_address.result
+    lent_contains number _ c.row_of_programs.result
     (row_contains _ _ _ (section_of (g.Section._UnwindSectionPrivate.view c.args.section.now) c.args.bases.now) _ (Ok (fde_view g.R.Reader.position number c.args.self.now))
-    (row_lent number c.unwind_info_for_address.result) (returns-clause-row g c))
+    (row_lent number c.row_of_programs.result) (returns-clause-row g c))
 
 pub returns-clause-expressions : goal.returns-clause-expressions
 returns-clause-expressions g c =
     row_inside g.R.Offset.ReaderOffset.number _ _ _ (section_of (g.Section._UnwindSectionPrivate.view c.args.section.now) c.args.bases.now) _ (fde_view g.R.Reader.position g.R.Offset.ReaderOffset.number c.args.self.now)
-    c.unwind_info_for_address.result (returns-clause-row g c)
+    c.row_of_programs.result (returns-clause-row g c)
     c.requires.cie.first c.requires.cie.last c.requires.own.first c.requires.own.last

@@ -3,7 +3,7 @@ use Rattle.std.specs.Prelude.{IfSome}
 use Rattle.cfi_read_core.specs.declared.error.Error.{Error}
 use Rattle.cfi_read_core.specs.ReadFunctions.{Readings, no_values, with_first}
 use Rattle.cfi_read_core.specs.ReaderCalls.{map_ok}
-use Rattle.cfi_instruction.specs.CallFrameSections.{SectionView}
+use Rattle.cfi_read_core.specs.CallFrameSections.{SectionView}
 use Rattle.cfi_parts.specs.InstructionReaders.{Meets}
 use Rattle.cfi_parts.specs.declared.pointer.BaseAddresses.{BaseAddresses}
 use Rattle.cfi_entry.specs.Cies.{Cie}
@@ -12,9 +12,9 @@ use Rattle.cfi_unwind.specs.declared.entry.entries.EntryFields.{EntryFields}
 use Rattle.cfi_unwind.specs.declared.entry.entries.EntryFields.TheVariants as code
 use Rattle.cfi_unwind.specs.GetCieCalls.{GetCieCall}
 use Rattle.cfi_entry.specs.Entries.{Entry, entries_left}
-use Rattle.cfi_unwind.specs.EntryViews.{OfEither, partial_of}
+use Rattle.cfi_unwind.specs.WalkViews.{OfEither, partial_of}
 use Rattle.cfi_entry.specs.Sections.{section_of}
-use Rattle.cfi_entry.specs.CieViews.{cie_view}
+use Rattle.cfi_entry.specs.EntryViews.{cie_view}
 use Rattle.cfi_unwind.specs.FdeViews.{fde_view}
 use Rattle.cfi_unwind.proofs.ScanSteps.{scans_at, scans_cie_at, scans_end, scans_found, scans_passed, scans_refusal, scans_refused_fde}
 use Rattle.cfi_unwind.proofs.unwind_section.by_ref.fde_for_address_by_ref.Goals as goal
@@ -67,7 +67,7 @@ returns-in_err-cie-clause-scan g c =
     let others = entries_left section (g.R.Reader.position c.next.new.self.input).place in
     let met = met_entry g.S._UnwindSectionPrivate.view c.loop-entry.invariant.same_section c.loop-entry.invariant.same_bases _ _ _ c.in-Some.is c.in-Fde.is c.next.ensures.section c.next.ensures.bases c.in_ok-entry.ensures.met in
     c.loop-entry.invariant.leads_back _ _
-    (scans_refused_fde asks section c.args.address (partial_of g.R.Reader.position g.R.Offset.ReaderOffset.number c.in-Fde.partial.found c.in-Fde.partial.cie_offset) others met (Err c.in_err-cie.field-0.0) _ _ (record {
+    (scans_refused_fde asks section c.args.address (partial_of g.R.Reader.position g.R.Offset.ReaderOffset.number c.in-Fde.partial.prefix c.in-Fde.partial.cie_offset) others met (Err c.in_err-cie.field-0.0) _ _ (record {
       asked = _;
       answer = c.get_cie.result;
       at_offset = ap g.R.Offset.ReaderOffset.number (g.met.S.Offset.UnwindOffset.inverse _ _ c.from.ensures);
@@ -83,9 +83,9 @@ returns-in_err-fde-clause-scan g c =
     let others = entries_left section (g.R.Reader.position c.next.new.self.input).place in
     let met = met_entry g.S._UnwindSectionPrivate.view c.loop-entry.invariant.same_section c.loop-entry.invariant.same_bases _ _ _ c.in-Some.is c.in-Fde.is c.next.ensures.section c.next.ensures.bases c.in_ok-entry.ensures.met in
     let same_section_and_bases = of_fde _ _ c.in-Some.is c.in-Fde.is c.in_ok-entry.ensures.same_section_and_bases in
-    let read = read_same g.S._UnwindSectionPrivate.view (Err c.in_err-fde.field-0.0) (partial_of g.R.Reader.position g.R.Offset.ReaderOffset.number c.in-Fde.partial.found c.in-Fde.partial.cie_offset) (cie_view g.R.Reader.position g.R.Offset.ReaderOffset.number c.in_ok-cie.cie) (same_section_and_bases.0 ∙ c.loop-entry.invariant.same_section) (same_section_and_bases.1 ∙ c.loop-entry.invariant.same_bases) c.in_err-fde.ensures.read in
+    let read = read_same g.S._UnwindSectionPrivate.view (Err c.in_err-fde.field-0.0) (partial_of g.R.Reader.position g.R.Offset.ReaderOffset.number c.in-Fde.partial.prefix c.in-Fde.partial.cie_offset) (cie_view g.R.Reader.position g.R.Offset.ReaderOffset.number c.in_ok-cie.cie) (same_section_and_bases.0 ∙ c.loop-entry.invariant.same_section) (same_section_and_bases.1 ∙ c.loop-entry.invariant.same_bases) c.in_err-fde.ensures.read in
     c.loop-entry.invariant.leads_back _ _
-    (scans_refused_fde asks section c.args.address (partial_of g.R.Reader.position g.R.Offset.ReaderOffset.number c.in-Fde.partial.found c.in-Fde.partial.cie_offset) others met (Ok (cie_view g.R.Reader.position g.R.Offset.ReaderOffset.number c.in_ok-cie.cie)) _ _ (record {
+    (scans_refused_fde asks section c.args.address (partial_of g.R.Reader.position g.R.Offset.ReaderOffset.number c.in-Fde.partial.prefix c.in-Fde.partial.cie_offset) others met (Ok (cie_view g.R.Reader.position g.R.Offset.ReaderOffset.number c.in_ok-cie.cie)) _ _ (record {
       asked = _;
       answer = c.get_cie.result;
       at_offset = ap g.R.Offset.ReaderOffset.number (g.met.S.Offset.UnwindOffset.inverse _ _ c.from.ensures);
@@ -100,9 +100,9 @@ returns-then-contains-clause-scan g c =
     let others = entries_left section (g.R.Reader.position c.next.new.self.input).place in
     let met = met_entry g.S._UnwindSectionPrivate.view c.loop-entry.invariant.same_section c.loop-entry.invariant.same_bases _ _ _ c.in-Some.is c.in-Fde.is c.next.ensures.section c.next.ensures.bases c.in_ok-entry.ensures.met in
     let same_section_and_bases = of_fde _ _ c.in-Some.is c.in-Fde.is c.in_ok-entry.ensures.same_section_and_bases in
-    let read = read_same g.S._UnwindSectionPrivate.view (Ok (fde_view g.R.Reader.position g.R.Offset.ReaderOffset.number c.in_ok-fde.fde)) (partial_of g.R.Reader.position g.R.Offset.ReaderOffset.number c.in-Fde.partial.found c.in-Fde.partial.cie_offset) (cie_view g.R.Reader.position g.R.Offset.ReaderOffset.number c.in_ok-cie.cie) (same_section_and_bases.0 ∙ c.loop-entry.invariant.same_section) (same_section_and_bases.1 ∙ c.loop-entry.invariant.same_bases) c.in_ok-fde.ensures.read in
+    let read = read_same g.S._UnwindSectionPrivate.view (Ok (fde_view g.R.Reader.position g.R.Offset.ReaderOffset.number c.in_ok-fde.fde)) (partial_of g.R.Reader.position g.R.Offset.ReaderOffset.number c.in-Fde.partial.prefix c.in-Fde.partial.cie_offset) (cie_view g.R.Reader.position g.R.Offset.ReaderOffset.number c.in_ok-cie.cie) (same_section_and_bases.0 ∙ c.loop-entry.invariant.same_section) (same_section_and_bases.1 ∙ c.loop-entry.invariant.same_bases) c.in_ok-fde.ensures.read in
     c.loop-entry.invariant.leads_back _ _
-    (scans_found asks section c.args.address (partial_of g.R.Reader.position g.R.Offset.ReaderOffset.number c.in-Fde.partial.found c.in-Fde.partial.cie_offset) others met (Ok (cie_view g.R.Reader.position g.R.Offset.ReaderOffset.number c.in_ok-cie.cie)) _ _ (record {
+    (scans_found asks section c.args.address (partial_of g.R.Reader.position g.R.Offset.ReaderOffset.number c.in-Fde.partial.prefix c.in-Fde.partial.cie_offset) others met (Ok (cie_view g.R.Reader.position g.R.Offset.ReaderOffset.number c.in_ok-cie.cie)) _ _ (record {
       asked = _;
       answer = c.get_cie.result;
       at_offset = ap g.R.Offset.ReaderOffset.number (g.met.S.Offset.UnwindOffset.inverse _ _ c.from.ensures);
@@ -128,7 +128,7 @@ loop-entry-preserved-else-contains g c =
     let others = entries_left section (g.R.Reader.position c.next.new.self.input).place in
     let met = met_entry g.S._UnwindSectionPrivate.view c.loop-entry.invariant.same_section c.loop-entry.invariant.same_bases _ _ _ c.in-Some.is c.in-Fde.is c.next.ensures.section c.next.ensures.bases c.in_ok-entry.ensures.met in
     let same_section_and_bases = of_fde _ _ c.in-Some.is c.in-Fde.is c.in_ok-entry.ensures.same_section_and_bases in
-    let read = read_same g.S._UnwindSectionPrivate.view (Ok (fde_view g.R.Reader.position g.R.Offset.ReaderOffset.number c.in_ok-fde.fde)) (partial_of g.R.Reader.position g.R.Offset.ReaderOffset.number c.in-Fde.partial.found c.in-Fde.partial.cie_offset) (cie_view g.R.Reader.position g.R.Offset.ReaderOffset.number c.in_ok-cie.cie) (same_section_and_bases.0 ∙ c.loop-entry.invariant.same_section) (same_section_and_bases.1 ∙ c.loop-entry.invariant.same_bases) c.in_ok-fde.ensures.read in
+    let read = read_same g.S._UnwindSectionPrivate.view (Ok (fde_view g.R.Reader.position g.R.Offset.ReaderOffset.number c.in_ok-fde.fde)) (partial_of g.R.Reader.position g.R.Offset.ReaderOffset.number c.in-Fde.partial.prefix c.in-Fde.partial.cie_offset) (cie_view g.R.Reader.position g.R.Offset.ReaderOffset.number c.in_ok-cie.cie) (same_section_and_bases.0 ∙ c.loop-entry.invariant.same_section) (same_section_and_bases.1 ∙ c.loop-entry.invariant.same_bases) c.in_ok-fde.ensures.read in
     record {
       callable = search of_calls;
       led = (
@@ -142,7 +142,7 @@ loop-entry-preserved-else-contains g c =
       same_section = c.next.ensures.section ∙ c.loop-entry.invariant.same_section;
       same_bases = c.next.ensures.bases ∙ c.loop-entry.invariant.same_bases;
       leads_back = λ r last behind. c.loop-entry.invariant.leads_back r last
-          (scans_passed asks section c.args.address (partial_of g.R.Reader.position g.R.Offset.ReaderOffset.number c.in-Fde.partial.found c.in-Fde.partial.cie_offset) others met (Ok (cie_view g.R.Reader.position g.R.Offset.ReaderOffset.number c.in_ok-cie.cie)) _ _ (record {
+          (scans_passed asks section c.args.address (partial_of g.R.Reader.position g.R.Offset.ReaderOffset.number c.in-Fde.partial.prefix c.in-Fde.partial.cie_offset) others met (Ok (cie_view g.R.Reader.position g.R.Offset.ReaderOffset.number c.in_ok-cie.cie)) _ _ (record {
             asked = _;
             answer = c.get_cie.result;
             at_offset = ap g.R.Offset.ReaderOffset.number (g.met.S.Offset.UnwindOffset.inverse _ _ c.from.ensures);

@@ -4,7 +4,7 @@ use Rattle.cfi_entry.specs.Sections.{section_of}
 use Rattle.cfi_entry.specs.Entries.{entries, entries_left}
 use Rattle.cfi_parts.specs.InstructionReaders.{items}
 use Rattle.cfi_unwind.specs.GetCieCalls.{GetCieCall, CallsLead, Scans}
-use Rattle.cfi_entry.specs.CieViews.{cie_view}
+use Rattle.cfi_entry.specs.EntryViews.{cie_view}
 use Rattle.cfi_unwind.proofs.unwind_section.by_ref.fde_for_address_by_ref.Given as goal
 
 -- the entries that are left make the answer of all

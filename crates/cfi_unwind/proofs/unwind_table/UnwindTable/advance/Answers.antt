@@ -9,18 +9,18 @@ returns-then-self-clause-next g c = table-ended _ _ _ c.if-self.true
 pub returns-in_err-moved-clause-next : goal.returns-in_err-moved-clause-next
 returns-in_err-moved-clause-next g c =
     let p = err_from_is_err_and c.from_residual.result c.from_residual.ensures.1 in
-    rw (p.1, p.2) (table-refuses _ _ _ _ c.args.self.now.context.now c.set_start_address.new.context c.run_to_move.new.context _ _ _ c.run_to_move.result
-    c.if-self.false c.set_start_address.ensures c.run_to_move.ensures.start c.run_to_move.ensures.next _ c.in_err-moved.was)
+    rw (p.1, p.2) (table-refuses _ _ _ _ c.args.self.now.context.now c.run_to_move.new.context _ _ _ c.run_to_move.result
+    c.if-self.false c.run_to_move.ensures.next _ c.in_err-moved.was)
 
 pub returns-in-Some-clause-next : goal.returns-in-Some-clause-next
 returns-in-Some-clause-next g c =
-    table-row _ _ _ _ c.args.self.now.context.now c.set_start_address.new.context c.run_to_move.new.context _ _ _ c.run_to_move.result
-    c.if-self.false c.set_start_address.ensures c.run_to_move.ensures.start c.run_to_move.ensures.next c.set_end_address.new.context c.in-Some.address (c.in_ok-moved.was ∙ ap Ok c.in-Some.is) c.set_end_address.ensures
+    table-row _ _ _ _ c.args.self.now.context.now c.run_to_move.new.context _ _ _ c.run_to_move.result
+    c.if-self.false c.run_to_move.ensures.next c.set_addresses.new.context c.in-Some.address (c.in_ok-moved.was ∙ ap Ok c.in-Some.is) c.set_addresses.ensures
 
 pub returns-in-None-clause-next : goal.returns-in-None-clause-next
 returns-in-None-clause-next g c =
-    table-last _ _ _ _ c.args.self.now.context.now c.set_start_address.new.context c.run_to_move.new.context _ _ _ c.run_to_move.result
-    c.if-self.false c.set_start_address.ensures c.run_to_move.ensures.start c.run_to_move.ensures.next c.set_end_address-in-None.new.context (c.in_ok-moved.was ∙ ap Ok c.in-None.is) c.set_end_address-in-None.ensures
+    table-last _ _ _ _ c.args.self.now.context.now c.run_to_move.new.context _ _ _ c.run_to_move.result
+    c.if-self.false c.run_to_move.ensures.next c.set_addresses-in-None.new.context (c.in_ok-moved.was ∙ ap Ok c.in-None.is) c.set_addresses-in-None.ensures
 
 pub returns-then-self-clause-kept : goal.returns-then-self-clause-kept
 returns-then-self-clause-kept g c = keeps-on _ _ _ _ _ (returns-then-self-clause-next g c)

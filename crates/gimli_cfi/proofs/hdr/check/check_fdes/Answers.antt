@@ -1,7 +1,8 @@
-use Rattle.std.proofs.Common.{◌≡◌, ◌-◌, ◌*◌, ℕ, Ok, Err, sym, subst, refl, ◌∙◌, rules}
+use Rattle.std.proofs.Common.{◌≡◌, ◌-◌, ◌*◌, ℕ, Ok, Err, ap, sym, subst, refl, ◌∙◌, rules}
 use Rattle.gimli_cfi.specs.BoundaryRows.{AreRising}
+use Rattle.cfi_entry.specs.SectionViews.{eh_frame_view}
 use Rattle.cfi_entry.specs.Entries.{FdeEntry, end_of_entry, entries, entries_left}
-use Rattle.cfi_unwind.specs.EntryViews.{partial_of}
+use Rattle.cfi_unwind.specs.WalkViews.{partial_of}
 use Rattle.cfi_unwind.specs.Scan.{read_fde}
 use Rattle.cfi_unwind.specs.FdeViews.{fde_view}
 use Rattle.cfi_read_core.specs.ReadFunctions.{Position}
@@ -17,13 +18,14 @@ loop-entry-init g c =
     let header = header_section_view g.R.Reader.position c.args.table.now.hdr.now c.args.bases.now in
     let table = table_view g.R.Reader.position c.args.table.now in
     let section = section_view g.R.Reader.position c.args.frame.now c.args.bases.now in
+    let at_start = c.entries-entries.ensures.all ∙ ap (λ frame. (eh_frame_view g.R.Reader.position frame).position) c.entries-entries.ensures.section in
     record {
       same_section = c.entries-entries.ensures.section;
       same_bases = c.entries-entries.ensures.bases;
       passed =
-          subst (λ (s : Position). Passed header table c.args.eh_frame section table.count (entries section) (entries_left section s.place)) (sym c.entries-entries.ensures.all)
+          subst (λ (s : Position). Passed header table c.args.eh_frame section table.count (entries section) (entries_left section s.place)) (sym at_start)
           (passed_none header table c.args.eh_frame section);
-      stands = subst (λ (s : Position). StandsAt section 0 (entries_left section s.place)) (sym c.entries-entries.ensures.all) (stands_first section);
+      stands = subst (λ (s : Position). StandsAt section 0 (entries_left section s.place)) (sym at_start) (stands_first section);
       answers = refl;
       calls = none_yet (g.St.StartSource.calls c.args.starts.now) ((table.count - table.count) * starts_for_fde table.count);
     }
@@ -64,7 +66,7 @@ returns-in_err-check_fde-clause-reason g c =
     let table = table_view g.R.Reader.position c.args.table.now in
     let section = section_view g.R.Reader.position c.args.frame.now c.args.bases.now in
     let fde = fde_view g.R.Reader.position g.R.Offset.ReaderOffset.number c.in-Ok.fde in
-    let partial = partial_of g.R.Reader.position g.R.Offset.ReaderOffset.number c.in-Fde.partial.found c.in-Fde.partial.cie_offset in
+    let partial = partial_of g.R.Reader.position g.R.Offset.ReaderOffset.number c.in-Fde.partial.prefix c.in-Fde.partial.cie_offset in
     let met = rw (c.loop-entry.invariant.same_section, c.loop-entry.invariant.same_bases, c.in-Ok-Some.field-0-is, c.in-Fde.is) at c.in-Ok-Some.ensures.met in
     let same_section_and_bases = rw (c.in-Ok-Some.field-0-is, c.in-Fde.is) at c.in-Ok-Some.ensures.same_section_and_bases in
     let read : Ok fde ≡ read_fde section partial = rw (same_section_and_bases.0 ∙ c.loop-entry.invariant.same_section, same_section_and_bases.1 ∙ c.loop-entry.invariant.same_bases) at c.in-Ok.ensures in
@@ -85,7 +87,7 @@ overflow_sub-left g c =
     let table = table_view g.R.Reader.position c.args.table.now in
     let section = section_view g.R.Reader.position c.args.frame.now c.args.bases.now in
     let fde = fde_view g.R.Reader.position g.R.Offset.ReaderOffset.number c.in-Ok.fde in
-    let partial = partial_of g.R.Reader.position g.R.Offset.ReaderOffset.number c.in-Fde.partial.found c.in-Fde.partial.cie_offset in
+    let partial = partial_of g.R.Reader.position g.R.Offset.ReaderOffset.number c.in-Fde.partial.prefix c.in-Fde.partial.cie_offset in
     let met = rw (c.loop-entry.invariant.same_section, c.loop-entry.invariant.same_bases, c.in-Ok-Some.field-0-is, c.in-Fde.is) at c.in-Ok-Some.ensures.met in
     let same_section_and_bases = rw (c.in-Ok-Some.field-0-is, c.in-Fde.is) at c.in-Ok-Some.ensures.same_section_and_bases in
     let read : Ok fde ≡ read_fde section partial = rw (same_section_and_bases.0 ∙ c.loop-entry.invariant.same_section, same_section_and_bases.1 ∙ c.loop-entry.invariant.same_bases) at c.in-Ok.ensures in
@@ -97,7 +99,7 @@ loop-entry-preserved-in-Fde g c =
     let table = table_view g.R.Reader.position c.args.table.now in
     let section = section_view g.R.Reader.position c.args.frame.now c.args.bases.now in
     let fde = fde_view g.R.Reader.position g.R.Offset.ReaderOffset.number c.in-Ok.fde in
-    let partial = partial_of g.R.Reader.position g.R.Offset.ReaderOffset.number c.in-Fde.partial.found c.in-Fde.partial.cie_offset in
+    let partial = partial_of g.R.Reader.position g.R.Offset.ReaderOffset.number c.in-Fde.partial.prefix c.in-Fde.partial.cie_offset in
     let others = entries_left section (g.R.Reader.position c.next.new.self.input).place in
     let met = rw (c.next.ensures.section, c.next.ensures.bases, c.loop-entry.invariant.same_section, c.loop-entry.invariant.same_bases, c.in-Ok-Some.field-0-is, c.in-Fde.is) at c.in-Ok-Some.ensures.met in
     let same_section_and_bases = rw (c.in-Ok-Some.field-0-is, c.in-Fde.is) at c.in-Ok-Some.ensures.same_section_and_bases in

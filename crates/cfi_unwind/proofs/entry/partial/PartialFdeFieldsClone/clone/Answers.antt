@@ -1,5 +1,5 @@
 use Rattle.std.proofs.Common.{ap}
-use Rattle.cfi_instruction.specs.CallFrameSections.{IsOf_prop}
+use Rattle.cfi_read_core.specs.CallFrameSections.{IsOf_prop}
 use Rattle.cfi_unwind.proofs.entry.partial.PartialFdeFieldsClone.clone.Goals as goal
 
 pub returns : goal.returns

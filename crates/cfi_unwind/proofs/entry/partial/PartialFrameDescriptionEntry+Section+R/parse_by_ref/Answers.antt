@@ -1,6 +1,6 @@
 use Rattle.std.proofs.Common.{◌≡◌, [], Err, Ok, ap, refl, rules}
 use Rattle.cfi_read_core.specs.ReaderCalls.{map_ok}
-use Rattle.cfi_entry.specs.CieViews.{cie_view}
+use Rattle.cfi_entry.specs.EntryViews.{cie_view}
 use Rattle.cfi_unwind.specs.FdeViews.{fde_view}
 use Rattle.cfi_unwind.proofs.ScanSteps.{if_ok}
 use Rattle.cfi_unwind.proofs.entry.partial.PartialFrameDescriptionEntry+Section+R.parse_by_ref.Goals as goal

@@ -1,0 +1,44 @@
+# Builds of cfi_c that rt has no command for: by the compiler that rt calls, with the words that rt would give it. It is
+# sourced, at the top of the repository.
+
+kit=$(dirname "$(rt doc)")
+mapfile -t crates_of_c < <(awk -v crate=cfi_c -f tools/crates_below.awk crates.txt)
+
+# is_newer FILE CRATE..: whether the file exists and no source of these crates is newer.
+is_newer() {
+    local file=$1 crate
+    shift
+    [ -e "$file" ] || return 1
+    for crate in "$@"; do
+        [ -z "$(find "crates/$crate"/{src,specs,proofs} -newer "$file" -print -quit 2> /dev/null)" ] || return 1
+    done
+}
+
+# build_cfi_c LIBRARY OPTION..: proves and builds cfi_c as the static library LIBRARY, over the crates below it as they
+# were last built.
+build_cfi_c() {
+    local library=$1 crate named
+    shift
+    local words=(--crate-name cfi_c src/lib.rt --crate-type staticlib --links cfi_c= "$@")
+    read -r -a named <<< "$(sed -n 's/^cfi_c staticlib: *//p' crates.txt)"
+    for crate in std "${named[@]}"; do
+        if [ -d "crates/$crate" ]; then
+            words+=(--extern "$crate=../$crate/out/rlib/$crate.rlib")
+        else
+            words+=(--extern "$crate=$kit/rlibs/$crate.rlib")
+        fi
+    done
+    words+=(-L "dependency=$kit/rlibs")
+    for crate in "${crates_of_c[@]:1}"; do
+        words+=(-L "dependency=../$crate/out/rlib")
+    done
+    words+=(--antt-project "$kit/rattle/logic/antt-project.json" --logic-built "$kit/logic_built")
+    words+=(--backend llvm --toolchain "$kit/toolchain" -o "$library")
+    mkdir -p "${library%/*}"
+    (cd crates/cfi_c && "$kit/bin/rattle" build "${words[@]}")
+}
+
+# worked_rows: the worked rows of the program's tests, a case a line.
+worked_rows() {
+    .ci/worked_rows.py crates/cfi_rows/src/tests.rt crates/cfi_rows/src/tests/header.rt
+}

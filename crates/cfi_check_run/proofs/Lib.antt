@@ -1,5 +1,0 @@
-mod Computing
-pub mod CommandLineLemmas
-mod Printed
-pub mod RequestLemmas
-pub mod VerdictLemmas

@@ -1,5 +1,0 @@
-pub mod CommandLine
-pub mod Verdicts
-pub mod Lines
-pub mod ProgramOutput
-pub mod PlainLines

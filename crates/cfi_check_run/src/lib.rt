@@ -1,7 +1,0 @@
-//! The whole run of the program `cfi_check`, over any reader and writer: its words, its answer and what it prints.
-#![tactic(auto)]
-
-mod command_line;
-mod output_line;
-pub mod run;
-mod table_check;

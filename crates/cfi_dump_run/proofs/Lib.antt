@@ -1,4 +1,0 @@
-pub mod RowsWritten
-pub mod SectionWritten
-pub mod CommandLineLemmas
-pub mod RunLemmas

@@ -1,4 +1,0 @@
-pub mod EntryLines
-pub mod SectionTexts
-pub mod CommandLine
-pub mod ProgramOutput

@@ -1,0 +1,2 @@
+pub mod FoundRow
+pub mod CachedCalls

@@ -1,0 +1,15 @@
+use Rattle.gimli_cfi.specs.Words.{IsCacheOf, IsOf}
+use Rattle.gimli_cfi.proofs.Callers.{ok_answered_by, read_by}
+use Rattle.cfi_guide.proofs.CachedCalls.{own, part}
+use Rattle.cfi_guide.proofs.cached_cies.fde_at_offset.Goals as goal
+
+pub returns-clause-read : goal.returns-clause-read
+returns-clause-read g c =
+    read_by _ _ _ _ _ _ (λ cache. IsCacheOf g.R.Reader.position g.R.Offset.ReaderOffset.number (g.S._UnwindSectionPrivate.view c.args.section.now) c.args.bases.now cache.0.now) _ _ _ (c.new-cache.ensures (g.S._UnwindSectionPrivate.view c.args.section.now) c.args.bases.now) c.fde_from_offset.ensures.read
+    (λ f asked answer h holds call. own g.R.Reader.position g.R.Offset.ReaderOffset.number g.S._UnwindSectionPrivate.view c.args.section.now call.shown_section.now c.args.bases.now call.shown_bases.now call.at_section call.at_bases f.0.now h.0.now (g.R.Offset.ReaderOffset.number (g.S.Offset.UnwindOffset.offset asked)) answer call.call.met.1 holds)
+
+pub returns-clause-cie_part : goal.returns-clause-cie_part
+returns-clause-cie_part g c =
+    ok_answered_by _ _ _ (λ fde. fde.cie) (λ cache. IsCacheOf g.R.Reader.position g.R.Offset.ReaderOffset.number (g.S._UnwindSectionPrivate.view c.args.section.now) c.args.bases.now cache.0.now)
+    (λ cie. IsOf (g.R.Reader.position cie.initial_instructions) (g.S._UnwindSectionPrivate.view c.args.section.now).position) _ (c.new-cache.ensures (g.S._UnwindSectionPrivate.view c.args.section.now) c.args.bases.now) _ c.fde_from_offset.ensures.cie
+    (λ f asked answer h holds call. part g.R.Reader.position g.R.Offset.ReaderOffset.number g.S._UnwindSectionPrivate.view c.args.section.now call.shown_section.now c.args.bases.now call.shown_bases.now call.at_section call.at_bases f.0.now h.0.now (g.R.Offset.ReaderOffset.number (g.S.Offset.UnwindOffset.offset asked)) answer call.call.met.1 holds)

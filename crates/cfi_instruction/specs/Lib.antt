@@ -1,3 +1,0 @@
-pub mod CallFrameSections
-pub mod MappedInstructions
-pub mod ExpressionPlaces

@@ -1,2 +1,0 @@
-pub mod FoundRow
-pub mod KeptCalls

@@ -1,0 +1,48 @@
+-- Words, input and lines, by computation.
+use Rattle.std.proofs.Common.{◌≡◌, [], ◌∷◌, ◌++◌, Some, None, refl, codes}
+use Rattle.cfi_read_core.specs.declared.error.Error.TheVariants.{NoUnwindInfoForAddress}
+use Rattle.cfi_programs.specs.Input.{bytes_by}
+use Rattle.cfi_programs.specs.Lines.{address_text, refusal_line}
+use Rattle.cfi_programs.specs.Words.{number}
+use Rattle.cfi_programs.proofs.Computing.{computing}
+
+-- ---- numbers
+
+of_ten : number (codes "4096") ≡ Some 4096
+unfolding computing
+of_ten = refl
+
+of_sixteen : number (codes "0x1F0a") ≡ Some 0x1f0a
+unfolding computing
+of_sixteen = refl
+
+signed : number (codes "-1") ≡ None
+unfolding computing
+signed = refl
+
+-- ---- input
+
+spaces_are_ignored : bytes_by None (codes "0a 0B" ++ 13 ∷ 10 ∷ 9 ∷ codes "c" ++ codes " d") ≡ Some (record { section = 10 ∷ 11 ∷ 0xcd ∷ []; header = [] })
+unfolding computing
+spaces_are_ignored = refl
+
+no_digit : bytes_by None (codes "0g") ≡ None
+unfolding computing
+no_digit = refl
+
+header_behind_the_line : bytes_by (Some 0) (codes "0102" ++ 10 ∷ codes "03" ++ 10 ∷ codes "04") ≡ Some (record { section = 1 ∷ 2 ∷ []; header = 3 ∷ 4 ∷ [] })
+unfolding computing
+header_behind_the_line = refl
+
+no_header : bytes_by (Some 0) (codes "0102") ≡ Some (record { section = 1 ∷ 2 ∷ []; header = [] })
+unfolding computing
+no_header = refl
+
+-- ---- lines
+
+address : address_text 0x1F0a ≡ codes "0x1f0a"
+unfolding computing
+address = refl
+
+refused : refusal_line NoUnwindInfoForAddress ≡ record { text = codes "refused NoUnwindInfoForAddress" ++ 10 ∷ []; status = 1 }
+refused = refl

@@ -1,0 +1,19 @@
+use Rattle.std.proofs.Common.{◌≡◌}
+use Rattle.cfi_entry.specs.Entries.{entries_left}
+use Rattle.cfi_entry.specs.Sections.{section_of}
+use Rattle.cfi_programs.proofs.WrittenLemmas.{IsGiven}
+use Rattle.cfi_programs.specs.DumpSectionTexts.{entries_text, section_text}
+use Rattle.cfi_programs.proofs.dump.section.write_section.Given as goal
+
+-- the entries are those of the section, and what is left of its text is that of the entries that are left
+abbrev pub invariant-loop-entry : goal.invariant-loop-entry
+invariant-loop-entry g l =
+    let section = section_of (g.S._UnwindSectionPrivate.view l.section) l.bases in
+    record {
+      can_next : (goal.iterator-loop-entry g).can_next l.entry-iterator;
+      is_finite : (goal.iterator-loop-entry g).is_finite l.entry-iterator;
+      same_section : l.entry-iterator.section ≡ l.section;
+      same_bases : l.entry-iterator.bases.now ≡ l.bases;
+      given : IsGiven (g.W.Write.contents l.initial.output) (g.W.Write.contents l.output)
+          (entries_text section (entries_left section (g.R.Reader.position l.entry-iterator.input).place)) (section_text section);
+    }

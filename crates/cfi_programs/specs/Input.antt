@@ -1,0 +1,75 @@
+-- The input: a section in hexadecimal, and after its first line the header where one is asked for.
+use Rattle.std.specs.Prelude.{◌≡◌, ◌<◌, ◌+◌, ◌*◌, slice_index, unwrap_or, ℕ, Bool, not, ◌||◌, Option, Some, None, List, [], ◌∷◌, Result, IsErr, IfSome, Ok, Err, ◌==◌, filter}
+use Rattle.std.specs.List.{before_first, after_first}
+use Rattle.cfi_read_core.specs.ReaderCalls.{map_ok}
+use Rattle.hex.specs.Hex.{decode_of, decode_pairs, hex_digit_value}
+use Rattle.cfi_programs.specs.declared.input.InputError.{InputError}
+use Rattle.cfi_programs.specs.declared.input.InputError.TheVariants.{Unreadable, NotHexadecimal, OutOfMemory}
+use Rattle.cfi_programs.specs.declared.input.Sections.{Sections}
+use Rattle.hex.specs.declared.error.FromHexError.{FromHexError}
+
+-- a space, a tab, a carriage return or a line feed
+abbrev pub is_space : ℕ → Bool
+is_space c = c == 32 || (c == 9 || (c == 13 || c == 10))
+
+abbrev pub is_line_feed : ℕ → Bool
+is_line_feed c = c == 10
+
+abbrev pub without_spaces : List ℕ → List ℕ
+without_spaces input = filter (λ c. not (is_space c)) input
+
+abbrev pub decoded_bytes : List ℕ → Result (List ℕ) FromHexError
+decoded_bytes input = decode_of (without_spaces input)
+
+-- the list has each digit's value at the place that is its byte, and 255 at the others
+abbrev pub AreDigitValues : List ℕ → Type 0
+AreDigitValues values = (byte : ℕ) → byte < 256 → slice_index values byte ≡ unwrap_or (hex_digit_value byte) 255
+
+-- spaces left out, the text is a digit of this value and the rest
+abbrev pub BeginsWithDigit : ℕ → List ℕ → List ℕ → Type 0
+BeginsWithDigit value rest text = (digit : ℕ) × ((without_spaces text ≡ digit ∷ without_spaces rest) × (hex_digit_value digit ≡ Some value))
+
+-- spaces left out, the text begins with a byte that is not a digit
+abbrev pub BeginsWithNoDigit : List ℕ → Type 0
+BeginsWithNoDigit text = (other : ℕ) × ((rest : List ℕ) × ((without_spaces text ≡ other ∷ rest) × (hex_digit_value other ≡ None)))
+
+-- spaces left out, the text is the two digits of this byte and the rest
+abbrev pub BeginsWithByte : ℕ → List ℕ → List ℕ → Type 0
+BeginsWithByte byte rest text =
+    (high : ℕ) × ((low : ℕ) × ((without_spaces text ≡ high ∷ low ∷ without_spaces rest)
+    × ((a : ℕ) × ((b : ℕ) × ((hex_digit_value high ≡ Some a) × ((hex_digit_value low ≡ Some b) × (byte ≡ a * 16 + b)))))))
+
+-- spaces left out, the text is refused, from whatever index its digits are counted
+abbrev pub BeginsWithNoByte : List ℕ → Type 0
+BeginsWithNoByte text = (index : ℕ) → IsErr (decode_pairs index (without_spaces text))
+
+pub record Bytes : Type 0 where
+  pub section : List ℕ
+  pub header : List ℕ  -- empty where none is asked for
+
+abbrev pub with_header : Result (List ℕ) FromHexError → Result (List ℕ) FromHexError → Option Bytes
+with_header (Ok section) (Ok header) = Some (record { section = section; header = header })
+with_header (Ok section) (Err e) = None
+with_header (Err e) header = None
+
+-- none where the input is not hexadecimal
+abbrev pub bytes_by : Option ℕ → List ℕ → Option Bytes
+bytes_by None input = with_header (decoded_bytes input) (Ok [])
+bytes_by (Some base) input = with_header (decoded_bytes (before_first is_line_feed input)) (decoded_bytes (after_first is_line_feed input))
+
+-- what comes of the input, for the bytes that it means; lack of memory and a failed read are no fault of its bytes
+abbrev pub IsReading : Option Bytes → Result Bytes InputError → Type 0
+IsReading meant (Ok bytes) = meant ≡ Some bytes
+IsReading meant (Err NotHexadecimal) = meant ≡ None
+IsReading meant (Err Unreadable) = Unit {0}
+IsReading meant (Err OutOfMemory) = Unit {0}
+
+abbrev pub IsDecoded : Option ℕ → List ℕ → Result Bytes InputError → Type 0
+IsDecoded header input result = IsReading (bytes_by header input) result
+
+abbrev pub bytes_of : Sections → Bytes
+bytes_of sections = record { section = sections.section.items; header = sections.header.items }
+
+-- what comes of an input whose bytes are known, by what they mean
+abbrev pub ReadsSections : (List ℕ → Option Bytes) → Option (List ℕ) → Result Sections InputError → Type 0
+ReadsSections meaning input result = IfSome input (λ bytes. IsReading (meaning bytes) (map_ok bytes_of result))

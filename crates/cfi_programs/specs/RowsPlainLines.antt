@@ -1,0 +1,18 @@
+-- No line of an answer begins as those that say that words or input are wrong.
+use Rattle.std.specs.Prelude.{ℕ, Ok, Err, Result, refl}
+use Rattle.std.proofs.Common.{lit≤, subst, sym}
+use Rattle.cfi_read_core.specs.declared.error.Error.{Error}
+use Rattle.cfi_state.specs.Row.{Row}
+use Rattle.cfi_programs.specs.Input.{Bytes}
+use Rattle.cfi_programs.specs.Lines.{Line}
+use Rattle.cfi_programs.specs.RowLines.{answer_line}
+use Rattle.cfi_programs.specs.Runs.{IsPlain}
+use Rattle.cfi_programs.specs.declared.rows.command_line.Request.{Request}
+use Rattle.cfi_programs.specs.RowsProgramOutput.{rows_tool}
+
+plain_answer : (answer : Result (Row ℕ) Error) → IsPlain (answer_line answer)
+plain_answer (Ok row) = record { beginning = refl; low = lit≤ tt }
+plain_answer (Err e) = record { beginning = refl; low = lit≤ tt }
+
+pub plain : (request : Request) (bytes : Bytes) (printed : Line) → rows_tool.IsLine request bytes printed → IsPlain printed
+plain request bytes printed (answer, is, e) = subst (λ line. IsPlain line) (sym e) (plain_answer answer)

@@ -1,0 +1,61 @@
+-- Which line is right for words and input.
+use Rattle.std.specs.Prelude.{◌≡◌, ℕ, Bool, true, false, Option, Some, None, Result}
+use Rattle.cfi_read_core.specs.declared.error.Error.{Error}
+use Rattle.cfi_state.specs.Row.{Row}
+use Rattle.cfi_entry.specs.Fdes.{Fde}
+use Rattle.cfi_unwind.specs.Scan.{chosen_fde}
+use Rattle.gimli_cfi.specs.EhFrameHdr.{header_of}
+use Rattle.gimli_cfi.specs.RowsByHeader.{FoundByHeader}
+use Rattle.cfi_unwind.specs.AddressRow.{IsRowOfFound}
+use Rattle.cfi_programs.specs.declared.rows.command_line.Storage.{Storage}
+use Rattle.cfi_programs.specs.declared.rows.command_line.Storage.TheVariants.{OnHeap, Growing}
+use Rattle.cfi_programs.specs.declared.rows.command_line.Request.{Request}
+use Rattle.cfi_programs.specs.RowsCommandLine.{request_of}
+use Rattle.cfi_programs.specs.Input.{Bytes, bytes_by}
+use Rattle.cfi_programs.specs.Runs.{Tool}
+use Rattle.cfi_programs.specs.SectionOfWords.{header_section_of, section_of}
+use Rattle.cfi_programs.specs.RowLines.{answer_line}
+
+-- ---- the room for an unwind
+
+pub record Room : Type 0 where
+  pub rule_limit : Option ℕ  -- the most rules of a row; none where only memory bounds them
+  pub stack_limit : Option ℕ  -- the most rows at once, likewise
+  pub copies_free : Bool  -- a row's rules are copied without taking memory
+
+abbrev pub room : Option ℕ → Option ℕ → Bool → Room
+room rule_limit stack_limit copies_free = record { rule_limit = rule_limit; stack_limit = stack_limit; copies_free = copies_free }
+
+abbrev pub room_of : Storage → Room
+room_of OnHeap = room (Some 192) (Some 4) true
+room_of Growing = room None None false
+
+-- ---- the answer
+
+-- the FDE for the address, or the refusal in its place; the base is that of the header, where there is one
+abbrev pub FoundByBase : Request → Bytes → Option ℕ → Result Fde Error → Type 0
+FoundByBase request bytes None found = found ≡ chosen_fde (section_of request.words bytes.section) request.address
+FoundByBase request bytes (Some base) found =
+    FoundByHeader (section_of request.words bytes.section) request.address (header_section_of request.words base bytes.header) (header_of (header_section_of request.words base bytes.header)) found
+
+-- What may be answered to a request: the row of the FDE that is found, or the first refusal on the way. Only an
+-- instruction that may allocate may be refused for lack of it; where the room is fixed none is.
+pub record IsAnswer (room : Room) (request : Request) (bytes : Bytes) (answer : Result (Row ℕ) Error) : Type 0 where
+  pub found : Result Fde Error
+  pub finds : FoundByBase request bytes request.words.header found
+  pub answers : IsRowOfFound room.rule_limit room.stack_limit room.copies_free (section_of request.words bytes.section) request.address found answer
+
+-- ---- the line
+
+-- the rows of sections, where the unwind of a request has so much room
+abbrev pub rows_in : (Request → Room) → Tool
+rows_in room_for = record {
+  Request = Request;
+  request_of = request_of;
+  meaning = λ request input. bytes_by request.words.header input;
+  IsLine = λ request bytes printed. (answer : Result (Row ℕ) Error) × IsAnswer (room_for request) request bytes answer × (printed ≡ answer_line answer);
+}
+
+-- the program
+abbrev pub rows_tool : Tool
+rows_tool = rows_in (λ request. room_of request.storage)

@@ -1,0 +1,144 @@
+-- The words of the command line that say of what kind a section is, and where it lies.
+use Rattle.std.specs.Prelude.{◌≡◌, ℕ, ◌^◌, Bool, ◌&&◌, Option, Some, None, List, [], ◌∷◌, length, take, drop, map, nat_le, nat_lt, codes, if◌then◌else◌}
+use Rattle.std.specs.Borrow.{Bor}
+use Rattle.std.specs.Char.{is_ascii_digit, is_ascii_hexdigit}
+use Rattle.std.specs.List.{list_all}
+use Rattle.std.specs.Option.{option_and_then, option_map, IsSome}
+use Rattle.std.specs.Str.{bytes_eq}
+use Rattle.std.specs.Str.Parse.{digits_value}
+use Rattle.cfi_read_core.specs.Addresses.{IsAddressSize}
+use Rattle.cfi_read_core.specs.declared.common.Vendor.{Vendor}
+use Rattle.cfi_read_core.specs.declared.common.Vendor.TheVariants as vendors
+use Rattle.cfi_read_core.specs.declared.endianity.RunTimeEndian.{RunTimeEndian}
+use Rattle.cfi_read_core.specs.declared.endianity.RunTimeEndian.TheVariants.{Little, Big}
+use Rattle.cfi_programs.specs.declared.words.Kind.{Kind}
+use Rattle.cfi_programs.specs.declared.words.Kind.TheVariants.{DebugFrame, EhFrame}
+use Rattle.cfi_programs.specs.declared.words.SectionWords.{SectionWords}
+
+-- ---- texts
+
+-- the bytes of each word
+abbrev pub texts : List (Bor (List ℕ)) → List (List ℕ)
+texts words = map (λ word. word.now) words
+
+-- the same of words that may not be readable
+abbrev pub texts_given : Option (Bor (List (Bor (List ℕ)))) → Option (List (List ℕ))
+texts_given words = option_map (λ list. texts list.now) words
+
+-- what comes after the start of a word that begins with it
+abbrev pub after_prefix : List ℕ → List ℕ → Option (List ℕ)
+after_prefix start word = if bytes_eq (take (length start) word) start then Some (drop (length start) word) else None
+
+-- ---- numbers
+
+abbrev pub has_length : ℕ → List ℕ → Bool
+has_length most digits = nat_le 1 (length digits) && nat_le (length digits) most
+
+abbrev pub below_2_64 : ℕ → Option ℕ
+below_2_64 n = if nat_lt n (2 ^ 64) then Some n else None
+
+-- 1 to 16 digits of either case, after 0x
+abbrev pub hexadecimal_number : List ℕ → Option ℕ
+hexadecimal_number digits = if has_length 16 digits && list_all is_ascii_hexdigit digits then Some (digits_value 16 digits) else None
+
+-- 1 to 20 digits
+abbrev pub decimal_number : List ℕ → Option ℕ
+decimal_number digits = if has_length 20 digits && list_all is_ascii_digit digits then below_2_64 (digits_value 10 digits) else None
+
+abbrev pub number_after : List ℕ → Option (List ℕ) → Option ℕ
+number_after word (Some digits) = hexadecimal_number digits
+number_after word None = decimal_number word
+
+abbrev pub number : List ℕ → Option ℕ
+number word = number_after word (after_prefix (codes "0x") word)
+
+-- ---- the words after the first ones, each at most once
+
+-- the given number, where none was given before
+abbrev pub once_given : Option ℕ → Option ℕ → Option ℕ
+once_given None given = given
+once_given (Some n) given = None
+
+abbrev pub set_vendor : SectionWords → Vendor → Option SectionWords
+set_vendor words vendors.Default = Some (record words { vendor = vendors.AArch64 })
+set_vendor words vendors.AArch64 = None
+
+abbrev pub set_section : SectionWords → List ℕ → Option SectionWords
+set_section words digits = option_map (λ n. record words { section = Some n }) (once_given words.section (number digits))
+
+abbrev pub set_text : SectionWords → List ℕ → Option SectionWords
+set_text words digits = option_map (λ n. record words { text = Some n }) (once_given words.text (number digits))
+
+abbrev pub set_data_base : SectionWords → List ℕ → Option SectionWords
+set_data_base words digits = option_map (λ n. record words { data_base = Some n }) (once_given words.data_base (number digits))
+
+-- only .eh_frame has a header
+abbrev pub set_header : SectionWords → List ℕ → Kind → Option SectionWords
+set_header words digits DebugFrame = None
+set_header words digits EhFrame = option_map (λ n. record words { header = Some n }) (once_given words.header (number digits))
+
+-- the first that fits: set by what comes after the start, or else what is otherwise asked for
+abbrev pub either : {A : Type 0} → Option (List ℕ) → (List ℕ → Option A) → Option A → Option A
+either (Some digits) set otherwise = set digits
+either None set otherwise = otherwise
+
+abbrev pub section_word : List ℕ → SectionWords → Option SectionWords
+section_word word words =
+    if bytes_eq word (codes "vendor=aarch64") then set_vendor words words.vendor
+    else either (after_prefix (codes "section=") word) (set_section words)
+    (either (after_prefix (codes "text=") word) (set_text words)
+    (either (after_prefix (codes "data=") word) (set_data_base words)
+    (either (after_prefix (codes "header=") word) (λ digits. set_header words digits words.kind) None)))
+
+-- each word in turn, where none is wrong
+unfoldable pub each_word : {A : Type 0} → (List ℕ → A → Option A) → List (List ℕ) → A → Option A
+each_word read [] value = Some value
+each_word read (word ∷ words) value = option_and_then (each_word read words) (read word value)
+
+abbrev pub section_words : List (List ℕ) → SectionWords → Option SectionWords
+section_words options words = each_word section_word options words
+
+-- ---- the first words
+
+abbrev pub kind_of : List ℕ → Option Kind
+kind_of word = if bytes_eq word (codes "debug_frame") then Some DebugFrame else if bytes_eq word (codes "eh_frame") then Some EhFrame else None
+
+abbrev pub order_of : List ℕ → Option RunTimeEndian
+order_of word = if bytes_eq word (codes "le") then Some Little else if bytes_eq word (codes "be") then Some Big else None
+
+abbrev pub size_of : List ℕ → Option ℕ
+size_of word =
+    if bytes_eq word (codes "1") then Some 1
+    else if bytes_eq word (codes "2") then Some 2
+    else if bytes_eq word (codes "4") then Some 4
+    else if bytes_eq word (codes "8") then Some 8
+    else None
+
+infixl 10 ◌>>=◌
+abbrev pub ◌>>=◌ : {A B : Type 0} → Option A → (A → Option B) → Option B
+given >>= next = option_and_then next given
+
+abbrev pub first_words : List ℕ → List ℕ → List ℕ → Option SectionWords
+first_words kind order size = do
+  section ← kind_of kind
+  endian ← order_of order
+  address_size ← size_of size
+  Some (record {
+    kind = section;
+    endian = endian;
+    address_size = address_size;
+    section = None;
+    text = None;
+    data_base = None;
+    vendor = vendors.Default;
+    header = None;
+  })
+
+-- what the first three words and those after them ask for, or none where there are fewer
+unfoldable pub after_first_words : {A : Type 0} → (SectionWords → List (List ℕ) → Option A) → List (List ℕ) → Option A
+after_first_words asked_by (kind ∷ order ∷ size ∷ options) = option_and_then (λ first. asked_by first options) (first_words kind order size)
+after_first_words asked_by words = None
+
+-- What holds of the words of each section: the size of an address is known, and only .eh_frame has a header.
+abbrev pub AreRead : SectionWords → Type 0
+AreRead words = IsAddressSize words.address_size × (IsSome words.header → words.kind ≡ EhFrame)

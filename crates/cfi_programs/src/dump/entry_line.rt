@@ -1,0 +1,242 @@
+//! The lines of entries.
+ghost use Rattle.std.specs.Prelude.{◌≡◌, ◌++◌, [], ◌∷◌, Some, IfSome};
+ghost use Rattle.std.specs.Option.{option_map};
+ghost use Rattle.cfi_entry.specs.EntryViews.{cie_view};
+ghost use Rattle.cfi_unwind.specs.FdeViews.{fde_view};
+ghost use Rattle.cfi_programs.specs.WriterOutput.{Writes};
+ghost use Rattle.cfi_programs.specs.DumpEntryLines.{addresses_text, b_key_text, lsda_encoding_text};
+ghost use Rattle.cfi_programs.specs.DumpEntryLines.{lsda_text};
+ghost use Rattle.cfi_programs.specs.DumpEntryLines.{cie_augmentation, cie_factors, cie_head};
+ghost use Rattle.cfi_programs.specs.DumpEntryLines.{cie_line};
+ghost use Rattle.cfi_programs.specs.DumpEntryLines.{fde_addresses, fde_head, fde_line};
+ghost use Rattle.cfi_programs.specs.DumpEntryLines.{partial_fde_line};
+ghost use Rattle.cfi_programs.specs.DumpEntryLines.{personality_text, signal_text, target_text};
+
+use crate::lines::{Address, write_part};
+use gimli_cfi::{CommonInformationEntry, DwEhPe, FrameDescriptionEntry, Pointer, Reader};
+use std::fmt::{Display, Formatter};
+use std::io::Write;
+use std::{fmt, io};
+
+/// The address of a pointer; after a `*`, the place of the address.
+#[derive(Clone, Copy)]
+struct Target(Pointer);
+
+impl Display for Target {
+    ghost output = { λ target. Some (target_text target.0) };
+
+    fn fmt<W: fmt::Write>(&self, f: &mut Formatter<W>) -> fmt::Result {
+        match self.0 {
+            Pointer::Direct(address) => write!(f, "0x{address:x}"),
+            Pointer::Indirect(address) => write!(f, "*0x{address:x}"),
+        }
+    }
+}
+
+/// How the addresses of a CIE's FDEs are encoded, where its letters say.
+#[derive(Clone, Copy)]
+struct Addresses(Option<DwEhPe>);
+
+impl Display for Addresses {
+    ghost output = { λ it. Some (addresses_text (option_map (λ e. e.0) it.0)) };
+
+    fn fmt<W: fmt::Write>(&self, f: &mut Formatter<W>) -> fmt::Result {
+        match self.0 {
+            Some(encoding) => write!(f, " addresses=0x{:x}", encoding.0),
+            None => Ok(()),
+        }
+    }
+}
+
+/// How the pointers to language-specific data are encoded, where there are any.
+#[derive(Clone, Copy)]
+struct LsdaEncoding(Option<DwEhPe>);
+
+impl Display for LsdaEncoding {
+    ghost output = { λ it. Some (lsda_encoding_text (option_map (λ e. e.0) it.0)) };
+
+    fn fmt<W: fmt::Write>(&self, f: &mut Formatter<W>) -> fmt::Result {
+        match self.0 {
+            Some(encoding) => write!(f, " lsda=0x{:x}", encoding.0),
+            None => Ok(()),
+        }
+    }
+}
+
+/// The encoding of the pointer to the personality routine and the pointer, where there is one.
+#[derive(Clone, Copy)]
+struct Personality(Option<(DwEhPe, Pointer)>);
+
+impl Display for Personality {
+    ghost output = { λ it. Some (personality_text (option_map (λ p. (p.0.0, p.1)) it.0)) };
+
+    fn fmt<W: fmt::Write>(&self, f: &mut Formatter<W>) -> fmt::Result {
+        match self.0 {
+            Some((encoding, pointer)) => {
+                let target = Target(pointer);
+                write!(f, " personality=0x{:x}:{target}", encoding.0)
+            }
+            None => Ok(()),
+        }
+    }
+}
+
+/// Whether the FDEs are signal trampolines.
+#[derive(Clone, Copy)]
+struct Signal(bool);
+
+impl Display for Signal {
+    ghost output = { λ it. Some (signal_text it.0) };
+
+    fn fmt<W: fmt::Write>(&self, f: &mut Formatter<W>) -> fmt::Result {
+        match self.0 {
+            true => write!(f, " signal"),
+            false => Ok(()),
+        }
+    }
+}
+
+/// Whether return addresses are signed with the B key.
+#[derive(Clone, Copy)]
+struct BKey(bool);
+
+impl Display for BKey {
+    ghost output = { λ it. Some (b_key_text it.0) };
+
+    fn fmt<W: fmt::Write>(&self, f: &mut Formatter<W>) -> fmt::Result {
+        match self.0 {
+            true => write!(f, " bkey"),
+            false => Ok(()),
+        }
+    }
+}
+
+/// The pointer to an FDE's language-specific data, where there is one.
+#[derive(Clone, Copy)]
+struct Lsda(Option<Pointer>);
+
+impl Display for Lsda {
+    ghost output = { λ it. Some (lsda_text it.0) };
+
+    fn fmt<W: fmt::Write>(&self, f: &mut Formatter<W>) -> fmt::Result {
+        match self.0 {
+            Some(pointer) => {
+                let target = Target(pointer);
+                write!(f, " lsda={target}")
+            }
+            None => Ok(()),
+        }
+    }
+}
+
+/// Writes the line of a CIE: its fields, and what its augmentation means.
+pub fn write_cie<R: Reader<Offset = usize>, W: Write>(
+    output: &mut W,
+    cie: &CommonInformationEntry<R>,
+) -> io::Result<()>
+    ensures { Writes (W.contents output.old) (W.contents output.new) result
+        (cie_line (cie_view R.position (λ n. n) cie.now)) }
+{
+    write_cie_head(output, cie)?;
+    write_cie_factors(output, cie)?;
+    write_cie_augmentation(output, cie)
+}
+
+fn write_cie_head<R: Reader<Offset = usize>, W: Write>(
+    output: &mut W,
+    cie: &CommonInformationEntry<R>,
+) -> io::Result<()>
+    ensures { Writes (W.contents output.old) (W.contents output.new) result
+        (cie_head (cie_view R.position (λ n. n) cie.now)) }
+{
+    let offset = Address(cie.offset() as u64);
+    let length = cie.entry_len();
+    let version = cie.version();
+    let size = cie.address_size();
+    write_part(
+        output,
+        format_args!("cie {offset} length={length} version={version} size={size}"),
+    )
+}
+
+fn write_cie_factors<R: Reader<Offset = usize>, W: Write>(
+    output: &mut W,
+    cie: &CommonInformationEntry<R>,
+) -> io::Result<()>
+    ensures { Writes (W.contents output.old) (W.contents output.new) result
+        (cie_factors (cie_view R.position (λ n. n) cie.now)) }
+{
+    let code = cie.code_alignment_factor();
+    let data = cie.data_alignment_factor();
+    let register = cie.return_address_register().0;
+    write_part(
+        output,
+        format_args!(" code={code} data={data} return=r{register}"),
+    )
+}
+
+fn write_cie_augmentation<R: Reader<Offset = usize>, W: Write>(
+    output: &mut W,
+    cie: &CommonInformationEntry<R>,
+) -> io::Result<()>
+    ensures { Writes (W.contents output.old) (W.contents output.new) result
+        (cie_augmentation (cie_view R.position (λ n. n) cie.now)) }
+{
+    let addresses = Addresses(cie.fde_address_encoding());
+    let lsda = LsdaEncoding(cie.lsda_encoding());
+    let personality = Personality(cie.personality_with_encoding());
+    let signal = Signal(cie.is_signal_trampoline());
+    let b_key = BKey(cie.uses_b_key());
+    write_part(
+        output,
+        format_args!("{addresses}{lsda}{personality}{signal}{b_key}\n"),
+    )
+}
+
+/// Writes the line of an FDE: its fields, its addresses from the first up to the end, and its LSDA.
+pub fn write_fde<R: Reader<Offset = usize>, W: Write>(
+    output: &mut W,
+    fde: &FrameDescriptionEntry<R>,
+) -> io::Result<()>
+    ensures { Writes (W.contents output.old) (W.contents output.new) result
+        (fde_line (fde_view R.position (λ n. n) fde.now)) }
+{
+    write_fde_head(output, fde)?;
+    write_fde_addresses(output, fde)?;
+    let lsda = Lsda(fde.lsda());
+    write_part(output, format_args!("{lsda}\n"))
+}
+
+fn write_fde_head<R: Reader<Offset = usize>, W: Write>(
+    output: &mut W,
+    fde: &FrameDescriptionEntry<R>,
+) -> io::Result<()>
+    ensures { let f = fde_view R.position (λ n. n) fde.now in
+        Writes (W.contents output.old) (W.contents output.new) result (fde_head f.offset f.length) }
+{
+    let offset = Address(fde.offset() as u64);
+    let length = fde.entry_len();
+    write_part(output, format_args!("fde {offset} length={length}"))
+}
+
+fn write_fde_addresses<R: Reader<Offset = usize>, W: Write>(
+    output: &mut W,
+    fde: &FrameDescriptionEntry<R>,
+) -> io::Result<()>
+    ensures { Writes (W.contents output.old) (W.contents output.new) result
+        (fde_addresses (fde_view R.position (λ n. n) fde.now)) }
+{
+    let cie = Address(fde.cie().offset() as u64);
+    let start = Address(fde.initial_address());
+    let end = Address(fde.end_address());
+    write_part(output, format_args!(" cie={cie} {start} {end}"))
+}
+
+/// Writes the line of an FDE of which no more could be read.
+pub fn write_partial_fde<W: Write>(output: &mut W, offset: usize, length: usize) -> io::Result<()>
+    ensures { Writes (W.contents output.old) (W.contents output.new) result
+        (partial_fde_line offset length) }
+{
+    let offset = Address(offset as u64);
+    write_part(output, format_args!("fde {offset} length={length}\n"))
+}

@@ -1,0 +1,193 @@
+//! The entries of a section in order, and the rows of each FDE.
+ghost use Rattle.std.specs.Prelude.{◌≡◌, ◌++◌, ℕ, ⊤, Some, IfOk};
+ghost use Rattle.cfi_read_core.specs.ReaderCalls.{map_ok};
+ghost use Rattle.cfi_read_core.specs.CallFrameSections.{IsOf};
+ghost use Rattle.cfi_state.specs.ContextEffects.{setting_of};
+ghost use Rattle.cfi_state.specs.FdeAnswers.{IsStateAfter};
+ghost use Rattle.cfi_state.specs.AcceptedInstructions.{at_program};
+ghost use Rattle.cfi_state.specs.Program.{Program};
+ghost use Rattle.cfi_state.specs.UnwindTableStates.{answers_to_come};
+ghost use Rattle.cfi_entry.specs.EntryViews.{cie_view};
+ghost use Rattle.cfi_entry.specs.Sections.{section_of};
+ghost use Rattle.cfi_unwind.specs.FdeViews.{fde_view};
+ghost use Rattle.cfi_unwind.specs.WalkViews.{OfEither, entry_view, partial_of};
+ghost use Rattle.cfi_unwind.specs.Scan.{read_fde};
+ghost use Rattle.cfi_unwind.specs.UnwindTableViews.{table_state};
+ghost use Rattle.cfi_programs.specs.Lines.{refusal_line};
+ghost use Rattle.cfi_programs.specs.WriterOutput.{Writes};
+ghost use Rattle.cfi_programs.specs.DumpEntryLines.{fde_line, partial_fde_line};
+ghost use Rattle.cfi_programs.specs.DumpSectionTexts.{fde_rows, fde_text, item_text, lines};
+ghost use Rattle.cfi_programs.specs.DumpSectionTexts.{section_text};
+
+use crate::dump::entry_line::{write_cie, write_fde, write_partial_fde};
+use crate::lines::write_refusal;
+use crate::row_line::write_answer;
+use gimli_cfi::{
+    _UnwindSectionPrivate, BaseAddresses, CieOrFde, Error, FrameDescriptionEntry,
+    PartialFrameDescriptionEntry, Reader, Result, UnwindContext, UnwindSection, UnwindTable,
+};
+use std::io;
+use std::io::Write;
+
+/// Writes the line of each entry, and after that of an FDE the lines of its rows.
+///
+/// An error has a line of its own: in place of an entry that can't be read, after which there are
+/// no more; after the line of an FDE that can't be read whole, or whose CIE's instructions fail;
+/// and among the rows, which then continue as `next_row` does.
+pub fn write_section<R: Reader<Offset = usize>, S: UnwindSection<R>, W: Write>(
+    output: &mut W,
+    section: &S,
+    bases: &BaseAddresses,
+    context: &mut UnwindContext<usize>,
+) -> io::Result<()>
+    ensures { Writes (W.contents output.old) (W.contents output.new) result
+        (section_text (section_of (S.view section.now) bases.now)) }
+{
+    for entry in section.entries(bases) {
+        write_entry(output, section, bases, context, entry)?;
+    }
+    Ok(())
+}
+
+/// Writes the lines of an entry, or of the error in its place.
+fn write_entry<R: Reader<Offset = usize>, S: UnwindSection<R>, W: Write>(
+    output: &mut W,
+    section: &S,
+    bases: &BaseAddresses,
+    context: &mut UnwindContext<usize>,
+    entry: Result<CieOrFde<'_, S, R>>,
+) -> io::Result<()>
+    requires { IfOk entry (OfEither (λ _. ⊤)
+        (λ p. (p.section ≡ section.now) × (p.bases.now ≡ bases.now))) }
+    ensures { let found = map_ok (entry_view (cie_view R.position (λ n. n))
+        (λ p. partial_of R.position (λ n. n) p.prefix p.cie_offset)) entry.entry in
+        Writes (W.contents output.old) (W.contents output.new) result
+        (item_text (section_of (S.view section.now) bases.now) found) }
+{
+    match entry {
+        Ok(CieOrFde::Cie(cie)) => write_cie(output, &cie),
+        Ok(CieOrFde::Fde(partial)) => write_fde_and_rows(output, section, bases, context, &partial),
+        Err(error) => write_refused(output, error),
+    }
+}
+
+/// Writes the line of an error.
+fn write_refused<W: Write>(output: &mut W, error: Error) -> io::Result<()>
+    ensures { Writes (W.contents output.old) (W.contents output.new) result
+        (refusal_line error).text }
+{
+    write_refusal(output, error)?;
+    Ok(())
+}
+
+/// Writes the line of the FDE and the lines of its rows; or, where it can't be read whole, what is
+/// known of it and why.
+fn write_fde_and_rows<R: Reader<Offset = usize>, S: UnwindSection<R>, W: Write>(
+    output: &mut W,
+    section: &S,
+    bases: &BaseAddresses,
+    context: &mut UnwindContext<usize>,
+    partial: &PartialFrameDescriptionEntry<'_, S, R>,
+) -> io::Result<()>
+    requires section { partial.now.section ≡ section.now }
+    requires bases { partial.now.bases.now ≡ bases.now }
+    ensures { let from = section_of (S.view section.now) bases.now in
+        let found = partial_of R.position (λ n. n) partial.now.prefix partial.now.cie_offset in
+        Writes (W.contents output.old) (W.contents output.new) result
+        (fde_text from found (read_fde from found)) }
+{
+    match whole(partial) {
+        Ok(fde) => write_whole_fde(output, section, bases, context, &fde),
+        Err(error) => write_refused_fde(output, partial.offset(), partial.entry_len(), error),
+    }
+}
+
+/// Writes the line of an FDE and the lines of its rows.
+fn write_whole_fde<R: Reader<Offset = usize>, S: UnwindSection<R>, W: Write>(
+    output: &mut W,
+    section: &S,
+    bases: &BaseAddresses,
+    context: &mut UnwindContext<usize>,
+    fde: &FrameDescriptionEntry<R>,
+) -> io::Result<()>
+    requires own { IsOf (R.position fde.now.instructions) (S.view section.now).position }
+    requires cie { IsOf (R.position fde.now.cie.initial_instructions)
+        (S.view section.now).position }
+    ensures { let read = fde_view R.position (λ n. n) fde.now in
+        Writes (W.contents output.old) (W.contents output.new) result
+        (fde_line read ++ lines (fde_rows (section_of (S.view section.now) bases.now) read)) }
+{
+    write_fde(output, fde)?;
+    write_rows(output, section, bases, context, fde)
+}
+
+/// Writes what is known of an FDE that can't be read whole, and why it can't.
+fn write_refused_fde<W: Write>(
+    output: &mut W,
+    offset: usize,
+    length: usize,
+    error: Error,
+) -> io::Result<()>
+    ensures { Writes (W.contents output.old) (W.contents output.new) result
+        (partial_fde_line offset length ++ (refusal_line error).text) }
+{
+    write_partial_fde(output, offset, length)?;
+    write_refused(output, error)
+}
+
+/// Returns the whole FDE, with its CIE in the section.
+fn whole<R: Reader, S: UnwindSection<R>>(
+    partial: &PartialFrameDescriptionEntry<'_, S, R>,
+) -> Result<FrameDescriptionEntry<R>>
+    ensures read { map_ok (fde_view R.position R.Offset.number) result
+        ≡ read_fde (section_of (S.view partial.now.section) partial.now.bases.now)
+        (partial_of R.position R.Offset.number partial.now.prefix partial.now.cie_offset) }
+    ensures part { IfOk result (λ fde.
+        IsOf (R.position fde.instructions) (S.view partial.now.section).position) }
+    ensures cie_part { IfOk result (λ fde.
+        IsOf (R.position fde.cie.initial_instructions) (S.view partial.now.section).position) }
+{
+    let reader = partial.offset();
+    partial.parse(|from: &S, bases: &BaseAddresses, offset: S::Offset| {
+        let _reader = reader;
+        from.cie_from_offset(bases, offset)
+    })
+}
+
+/// Writes a line for each row of the FDE, and for each error among them.
+fn write_rows<R: Reader<Offset = usize>, S: UnwindSection<R>, W: Write>(
+    output: &mut W,
+    section: &S,
+    bases: &BaseAddresses,
+    context: &mut UnwindContext<usize>,
+    fde: &FrameDescriptionEntry<R>,
+) -> io::Result<()>
+    requires own { IsOf (R.position fde.now.instructions) (S.view section.now).position }
+    requires cie { IsOf (R.position fde.now.cie.initial_instructions)
+        (S.view section.now).position }
+    ensures { Writes (W.contents output.old) (W.contents output.new) result
+        (lines (fde_rows (section_of (S.view section.now) bases.now)
+        (fde_view R.position (λ n. n) fde.now))) }
+{
+    match fde.rows(section, bases, context) {
+        Ok(mut table) => write_table(output, &mut table),
+        Err(error) => write_refused(output, error),
+    }
+}
+
+/// Writes a line for each row that is left in the table, and for each error among them.
+fn write_table<R: Reader<Offset = usize>, W: Write>(
+    output: &mut W,
+    table: &mut UnwindTable<'_, '_, R>,
+) -> io::Result<()>
+    ensures { let setting = setting_of table.old.parameters (Some 192) (Some 4) in
+        let state = table_state R.position (λ n. n) table.old in
+        (program : Program ℕ) → IsStateAfter setting state.so_far program
+        → Writes (W.contents output.old) (W.contents output.new) result
+        (lines (answers_to_come setting (at_program state program))) }
+{
+    while let Some(answer) = table.next_row().transpose() {
+        write_answer(output, answer)?;
+    }
+    Ok(())
+}

@@ -1,0 +1,93 @@
+//! Writes lines, and the lines that say why there is no answer.
+ghost use Rattle.std.specs.Prelude.{◌≡◌, Some, IfSome};
+ghost use Rattle.cfi_programs.specs.Lines.{address_text, refusal_line};
+ghost use Rattle.cfi_programs.specs.Lines.{wrong_hexadecimal, wrong_input, wrong_words};
+ghost use Rattle.cfi_programs.specs.WriterOutput.{Writes, Prints};
+
+use arrayvec::ArrayString;
+use gimli_cfi::Error;
+use std::fmt::{Display, Formatter, Write as _};
+use std::io::{ErrorKind, Write};
+use std::{fmt, io};
+
+/// More bytes than the longest part of a line that is written at once: two addresses, an expression
+/// and the argument size of a row.
+const PART: usize = 128;
+
+/// Writes the text. Where the writer fails, a beginning of the text has been written. Retries
+/// interrupted writes.
+pub fn write_text<W: Write>(output: &mut W, text: &[u8]) -> io::Result<()>
+    ensures { Writes (W.contents output.old) (W.contents output.new) result text.now }
+{
+    let mut rest = text;
+    for _ in 0..u64::MAX {
+        if rest.is_empty() {
+            return Ok(());
+        }
+        match output.write(rest) {
+            Ok(0) => return Err(io::Error::from(ErrorKind::WriteZero)),
+            Ok(n) => rest = &rest[n..],
+            Err(e) => {
+                if e.kind() != ErrorKind::Interrupted {
+                    return Err(e);
+                }
+            }
+        }
+    }
+    Err(io::Error::from(ErrorKind::Interrupted))
+}
+
+/// Writes what `part` displays, of at most 128 bytes. Does not allocate.
+pub fn write_part<W: Write, D: Display + Drop>(output: &mut W, part: D) -> io::Result<()>
+    ensures { IfSome (D.output part)
+        (Writes (W.contents output.old) (W.contents output.new) result) }
+{
+    let mut text = ArrayString::<PART>::new();
+    write!(text, "{part}")?;
+    write_text(output, text.as_bytes())
+}
+
+/// An address, as `0x` and lower-case digits.
+#[derive(Clone, Copy)]
+pub struct Address(pub u64);
+
+impl Display for Address {
+    ghost output = { λ address. Some (address_text address.0) };
+
+    fn fmt<W: fmt::Write>(&self, f: &mut Formatter<W>) -> fmt::Result {
+        write!(f, "0x{:x}", self.0)
+    }
+}
+
+/// Prints that the words are wrong, and returns the status 2.
+pub fn write_wrong_words<W: Write>(output: &mut W) -> io::Result<u8>
+    ensures { Prints wrong_words (W.contents output.old) (W.contents output.new) result }
+{
+    write_text(output, b"wrong words\n")?;
+    Ok(2)
+}
+
+/// Prints that the input is not hexadecimal, and returns the status 2.
+pub fn write_wrong_hexadecimal<W: Write>(output: &mut W) -> io::Result<u8>
+    ensures { Prints wrong_hexadecimal (W.contents output.old) (W.contents output.new) result }
+{
+    write_text(output, b"wrong hexadecimal\n")?;
+    Ok(2)
+}
+
+/// Prints that the input can't be read, and returns the status 2.
+pub fn write_wrong_input<W: Write>(output: &mut W) -> io::Result<u8>
+    ensures { Prints wrong_input (W.contents output.old) (W.contents output.new) result }
+{
+    write_text(output, b"wrong input\n")?;
+    Ok(2)
+}
+
+/// Prints `refused` and the name of the error, and returns the status 1.
+pub fn write_refusal<W: Write>(output: &mut W, error: Error) -> io::Result<u8>
+    ensures { Prints (refusal_line error) (W.contents output.old) (W.contents output.new) result }
+{
+    let name = error.name();
+    write_part(output, format_args!("refused {name}\n"))?;
+    Ok(1)
+}

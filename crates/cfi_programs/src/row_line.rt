@@ -1,0 +1,153 @@
+//! The line of a row.
+ghost use Rattle.std.specs.Prelude.{◌≡◌, ◌≤◌, ◌+◌, ◌++◌, ℕ, [], ◌∷◌, Some, None, Err, IfSome};
+ghost use Rattle.std.specs.FinMap as map;
+ghost use Rattle.cfi_read_core.specs.ReaderCalls.{map_ok};
+ghost use Rattle.cfi_programs.specs.WriterOutput.{Writes, Prints};
+ghost use Rattle.cfi_programs.specs.RowLines.{answer_line, cfa_text, row_head, row_rules};
+ghost use Rattle.cfi_programs.specs.RowLines.{row_text, rule_text};
+
+use crate::lines::{Address, write_part, write_refusal, write_text};
+use gimli_cfi::{
+    ArrayLike, CfaRule, Error, Register, RegisterRule, UnwindExpression, UnwindTableRow,
+};
+use std::fmt::{Display, Formatter};
+use std::io::Write;
+use std::{fmt, io};
+
+/// The rule of the canonical frame address.
+#[derive(Clone, Copy)]
+pub struct Cfa(pub CfaRule<usize>);
+
+impl Display for Cfa {
+    ghost output = { λ cfa. Some (cfa_text cfa.0) };
+
+    fn fmt<W: fmt::Write>(&self, f: &mut Formatter<W>) -> fmt::Result {
+        match self.0 {
+            CfaRule::RegisterAndOffset { register, offset } => {
+                if offset < 0 {
+                    write!(f, "r{}{}", register.0, offset)
+                } else {
+                    write!(f, "r{}+{}", register.0, offset)
+                }
+            }
+            CfaRule::Expression(UnwindExpression { offset, length }) => write!(
+                f,
+                "expr@{offset}:{length}"
+            ),
+        }
+    }
+}
+
+/// The rule of a register.
+#[derive(Clone, Copy)]
+pub struct Rule(pub RegisterRule<usize>);
+
+impl Display for Rule {
+    ghost output = { λ rule. Some (rule_text rule.0) };
+
+    fn fmt<W: fmt::Write>(&self, f: &mut Formatter<W>) -> fmt::Result {
+        match self.0 {
+            RegisterRule::Undefined => write!(f, "undefined"),
+            RegisterRule::SameValue => write!(f, "same"),
+            RegisterRule::Offset(offset) => write!(f, "offset({offset})"),
+            RegisterRule::ValOffset(offset) => write!(f, "val_offset({offset})"),
+            RegisterRule::Register(register) => write!(f, "r{}", register.0),
+            RegisterRule::Expression(UnwindExpression { offset, length }) => write!(
+                f,
+                "expr@{offset}:{length}"
+            ),
+            RegisterRule::ValExpression(UnwindExpression { offset, length }) => {
+                write!(f, "val_expr@{offset}:{length}")
+            }
+            RegisterRule::Architectural => write!(f, "architectural"),
+            RegisterRule::Constant(value) => write!(f, "constant({value})"),
+        }
+    }
+}
+
+/// Prints the line of an answer, and returns the status: 0 for a row, 1 for an error.
+pub fn write_answer<W: Write, A: ArrayLike<Item = (Register, RegisterRule<usize>)>>(
+    output: &mut W,
+    answer: Result<&UnwindTableRow<usize, A>, Error>,
+) -> io::Result<u8>
+    ensures { Prints (answer_line (map_ok (λ row. row.now) answer.entry))
+        (W.contents output.old) (W.contents output.new) result }
+{
+    match answer {
+        Ok(row) => {
+            write_row(output, row)?;
+            Ok(0)
+        }
+        Err(error) => write_refusal(output, error),
+    }
+}
+
+/// Writes the line of a row, its registers in ascending order.
+pub fn write_row<W: Write, A: ArrayLike<Item = (Register, RegisterRule<usize>)>>(
+    output: &mut W,
+    row: &UnwindTableRow<usize, A>,
+) -> io::Result<()>
+    ensures { Writes (W.contents output.old) (W.contents output.new) result
+        (row_text row.now ++ 10 ∷ []) }
+{
+    write_head(output, row)?;
+    write_rules(output, row)?;
+    write_text(output, b"\n")
+}
+
+/// Writes what comes before the rules: the addresses, the CFA and the argument size.
+fn write_head<W: Write, A: ArrayLike<Item = (Register, RegisterRule<usize>)>>(
+    output: &mut W,
+    row: &UnwindTableRow<usize, A>,
+) -> io::Result<()>
+    ensures { Writes (W.contents output.old) (W.contents output.new) result (row_head row.now) }
+{
+    let start = Address(row.start_address());
+    let end = Address(row.end_address());
+    let cfa = Cfa(*row.cfa());
+    let args_size = row.saved_args_size();
+    write_part(
+        output,
+        format_args!("{start} {end} cfa={cfa} args={args_size}"),
+    )
+}
+
+/// Writes the rules, in ascending order of the registers.
+fn write_rules<W: Write, A: ArrayLike<Item = (Register, RegisterRule<usize>)>>(
+    output: &mut W,
+    row: &UnwindTableRow<usize, A>,
+) -> io::Result<()>
+    ensures { Writes (W.contents output.old) (W.contents output.new) result (row_rules row.now) }
+{
+    let end = end_of_rules(row);
+    for number in 0..end {
+        if let Some(rule) = row.register(Register(number as u16)) {
+            let rule = Rule(rule);
+            write_part(output, format_args!(" r{number}={rule}"))?;
+        }
+    }
+    Ok(())
+}
+
+/// Returns a number above that of each register with a rule.
+fn end_of_rules<A: ArrayLike<Item = (Register, RegisterRule<usize>)>>(
+    row: &UnwindTableRow<usize, A>,
+) -> u32
+    ensures within { result ≤ 65536 }
+    ensures above { (register : ℕ) → result ≤ register →
+        map.get row.now.parts.rules register ≡ None }
+{
+    let mut end = 0u32;
+    for (register, _) in row.registers() {
+        end = end.max(number_behind(*register));
+    }
+    end
+}
+
+/// Returns the number after that of the register.
+fn number_behind(register: Register) -> u32
+    ensures number { result ≡ register.0 + 1 }
+    ensures within { result ≤ 65536 }
+{
+    u32::from(register.0) + 1
+}

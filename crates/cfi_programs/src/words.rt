@@ -1,0 +1,296 @@
+//! The words of the command line that say what a section is and which addresses it has.
+ghost use Rattle.std.specs.Prelude.{◌≡◌, IfOk, map, option_map, string_bytes};
+ghost use Rattle.std.specs.Char.{is_ascii_digit, is_ascii_hexdigit};
+ghost use Rattle.std.specs.List.{list_all};
+ghost use Rattle.cfi_programs.specs.Words.{after_prefix, texts};
+ghost use Rattle.cfi_programs.specs.Words.{decimal_number, hexadecimal_number, number};
+ghost use Rattle.cfi_programs.specs.Words.{first_words, kind_of, order_of, size_of};
+ghost use Rattle.cfi_programs.specs.Words.{once_given, section_word, section_words};
+ghost use Rattle.cfi_programs.specs.Words.{set_data_base, set_header, set_section};
+ghost use Rattle.cfi_programs.specs.Words.{set_text, set_vendor};
+
+use gimli_cfi::{BaseAddresses, RunTimeEndian, SectionBaseAddresses, Vendor};
+use std::alloc::{AllocError, Global};
+use std::rt::Env;
+use std::{env, io};
+
+/// The section that the input holds.
+#[derive(Clone, Copy, Debug, PartialEq, Eq)]
+pub enum Kind {
+    /// `.debug_frame` (DWARF 5 section 6.4).
+    DebugFrame,
+    /// `.eh_frame` (LSB Core, "The .eh_frame section").
+    EhFrame,
+}
+
+/// What the words say of the section.
+#[derive(Clone, Copy, Debug, PartialEq, Eq)]
+pub struct SectionWords {
+    /// The section that the input holds.
+    pub kind: Kind,
+    /// Its byte order.
+    pub endian: RunTimeEndian,
+    /// The size of an address in bytes: 1, 2, 4 or 8.
+    pub address_size: u8,
+    /// The address of the section.
+    pub section: Option<u64>,
+    /// The base of text.
+    pub text: Option<u64>,
+    /// The base of data.
+    pub data_base: Option<u64>,
+    /// The vendor whose opcodes are read.
+    pub vendor: Vendor,
+    /// The address of the header of `.eh_frame`, where the input has one after its first line.
+    pub header: Option<u64>,
+}
+
+impl SectionWords {
+    /// Returns the bases of the pointers in the section's entries, and of those in its header.
+    pub fn bases(&self) -> BaseAddresses
+        ensures section { result.eh_frame ≡ record {
+          section = self.now.section;
+          text = self.now.text;
+          data_base = self.now.data_base;
+        } }
+        ensures header { result.eh_frame_hdr ≡ record {
+          section = self.now.header;
+          text = self.now.text;
+          data_base = self.now.header;
+        } }
+    {
+        BaseAddresses {
+            eh_frame_hdr: SectionBaseAddresses {
+                section: self.header,
+                text: self.text,
+                data_base: self.header,
+            },
+            eh_frame: SectionBaseAddresses {
+                section: self.section,
+                text: self.text,
+                data_base: self.data_base,
+            },
+        }
+    }
+}
+
+/// Returns the words after the program's name. An error where they can't be read, or memory is
+/// refused.
+pub fn words_after_name(rt: &(impl Env + AllocGlobal)) -> io::Result<Vec<String>> {
+    let words = env::args(rt)?.skip(1).collect(rt.alloc())?;
+    Ok(words)
+}
+
+/// Returns the words as texts, in their order.
+pub fn texts_of(alloc: Global, words: &[String]) -> Result<Vec<&str>, AllocError>
+    ensures { IfOk result (λ list. texts list.items ≡ map string_bytes words.now) }
+{
+    words.iter().map(|word| word.as_str()).collect(alloc)
+}
+
+/// Returns what the first three words say: `debug_frame` or `eh_frame`, `le` or `be`, and 1, 2, 4
+/// or 8; `None` where one is wrong.
+pub fn first(kind: &str, order: &str, size: &str) -> Option<SectionWords>
+    ensures { result ≡ first_words kind.now order.now size.now }
+{
+    Some(SectionWords {
+        kind: kind_named(kind)?,
+        endian: order_named(order)?,
+        address_size: size_named(size)?,
+        section: None,
+        text: None,
+        data_base: None,
+        vendor: Vendor::Default,
+        header: None,
+    })
+}
+
+fn kind_named(word: &str) -> Option<Kind>
+    ensures { result ≡ kind_of word.now }
+{
+    if word == "debug_frame" {
+        Some(Kind::DebugFrame)
+    } else if word == "eh_frame" {
+        Some(Kind::EhFrame)
+    } else {
+        None
+    }
+}
+
+fn order_named(word: &str) -> Option<RunTimeEndian>
+    ensures { result ≡ order_of word.now }
+{
+    if word == "le" {
+        Some(RunTimeEndian::Little)
+    } else if word == "be" {
+        Some(RunTimeEndian::Big)
+    } else {
+        None
+    }
+}
+
+fn size_named(word: &str) -> Option<u8>
+    ensures { result ≡ size_of word.now }
+{
+    if word == "1" {
+        Some(1)
+    } else if word == "2" {
+        Some(2)
+    } else if word == "4" {
+        Some(4)
+    } else if word == "8" {
+        Some(8)
+    } else {
+        None
+    }
+}
+
+/// Returns what the words say with each of the options in turn; `None` where one is wrong, or asks
+/// for what an earlier one asked for.
+pub fn with_options(words: SectionWords, options: &[&str]) -> Option<SectionWords>
+    ensures { result ≡ section_words (texts options.now) words }
+{
+    let mut words = words;
+    for word in options {
+        words = with_option(words, word)?;
+    }
+    Some(words)
+}
+
+/// Returns what the words say with one more: `vendor=aarch64`, or `section=`, `text=`, `data=` or
+/// `header=` and a number. `None` where the word is another, where the number is wrong, or where it
+/// asks for what an earlier one asked for; and for `header=` of `.debug_frame`, which has none.
+pub fn with_option(words: SectionWords, word: &str) -> Option<SectionWords>
+    ensures { result ≡ section_word word.now words }
+{
+    if word == "vendor=aarch64" {
+        return with_vendor(words);
+    }
+    if let Some(digits) = after_prefix(word, "section=") {
+        return with_section(words, digits);
+    }
+    if let Some(digits) = after_prefix(word, "text=") {
+        return with_text(words, digits);
+    }
+    if let Some(digits) = after_prefix(word, "data=") {
+        return with_data_base(words, digits);
+    }
+    if let Some(digits) = after_prefix(word, "header=") {
+        return with_header(words, digits);
+    }
+    None
+}
+
+fn with_vendor(words: SectionWords) -> Option<SectionWords>
+    ensures { result ≡ set_vendor words words.vendor }
+{
+    match words.vendor {
+        Vendor::Default => Some(SectionWords {
+            vendor: Vendor::AArch64,
+            ..words
+        }),
+        Vendor::AArch64 => None,
+    }
+}
+
+fn with_section(words: SectionWords, digits: &str) -> Option<SectionWords>
+    ensures { result ≡ set_section words digits.now }
+{
+    let section = once(words.section, digits)?;
+    Some(SectionWords {
+        section: Some(section),
+        ..words
+    })
+}
+
+fn with_text(words: SectionWords, digits: &str) -> Option<SectionWords>
+    ensures { result ≡ set_text words digits.now }
+{
+    let text = once(words.text, digits)?;
+    Some(SectionWords {
+        text: Some(text),
+        ..words
+    })
+}
+
+fn with_data_base(words: SectionWords, digits: &str) -> Option<SectionWords>
+    ensures { result ≡ set_data_base words digits.now }
+{
+    let data_base = once(words.data_base, digits)?;
+    Some(SectionWords {
+        data_base: Some(data_base),
+        ..words
+    })
+}
+
+fn with_header(words: SectionWords, digits: &str) -> Option<SectionWords>
+    ensures { result ≡ set_header words digits.now words.kind }
+{
+    match words.kind {
+        Kind::DebugFrame => None,
+        Kind::EhFrame => {
+            let header = once(words.header, digits)?;
+            Some(SectionWords {
+                header: Some(header),
+                ..words
+            })
+        }
+    }
+}
+
+/// Parses the number of a word; `None` where one was given before.
+fn once(before: Option<u64>, digits: &str) -> Option<u64>
+    ensures { result ≡ once_given before (number digits.now) }
+{
+    match before {
+        None => number_in(digits),
+        Some(_) => None,
+    }
+}
+
+/// Returns what comes after `start` in a word that begins with it.
+pub fn after_prefix<'w>(word: &'w str, start: &str) -> Option<&'w str>
+    ensures { option_map (λ rest. rest.now) result ≡ after_prefix start.now word.now }
+{
+    word.strip_prefix(start)
+}
+
+/// Parses a number: `0x` and 1 to 16 hexadecimal digits, or 1 to 20 decimal digits of a value below
+/// 2^64. `None` for other words.
+pub fn number_in(word: &str) -> Option<u64>
+    ensures { result ≡ number word.now }
+{
+    match after_prefix(word, "0x") {
+        Some(digits) => hexadecimal(digits),
+        None => decimal(word),
+    }
+}
+
+fn hexadecimal(digits: &str) -> Option<u64>
+    ensures { result ≡ hexadecimal_number digits.now }
+{
+    if digits.is_empty() || digits.len() > 16 || !all_hexadecimal(digits.as_bytes()) {
+        return None;
+    }
+    u64::from_str_radix(digits, 16).ok()
+}
+
+fn decimal(digits: &str) -> Option<u64>
+    ensures { result ≡ decimal_number digits.now }
+{
+    if digits.is_empty() || digits.len() > 20 || !all_decimal(digits.as_bytes()) {
+        return None;
+    }
+    u64::from_str_radix(digits, 10).ok()
+}
+
+fn all_hexadecimal(digits: &[u8]) -> bool
+    ensures { result ≡ list_all is_ascii_hexdigit digits.now }
+{
+    digits.iter().all(|digit| digit.is_ascii_hexdigit())
+}
+
+fn all_decimal(digits: &[u8]) -> bool
+    ensures { result ≡ list_all is_ascii_digit digits.now }
+{
+    digits.iter().all(|digit| digit.is_ascii_digit())
+}

@@ -1,6 +1,0 @@
-mod Computing
-mod Printed
-pub mod RequestLemmas
-pub mod CommandLineLemmas
-pub mod AnswerLemmas
-mod OnHeap

@@ -1,7 +1,0 @@
-use Rattle.std.proofs.Common.{◌≡◌, drop}
-use Rattle.cfi_program.specs.Words.{texts}
-use Rattle.cfi_rows_run.specs.CommandLine.{option_words}
-use Rattle.cfi_rows_run.proofs.command_line.with_options.Given as goal
-
-abbrev pub invariant-loop-word : goal.invariant-loop-word
-invariant-loop-word l = option_words (texts (drop l.word-index l.options)) l.request ≡ option_words (texts l.options) l.initial.request

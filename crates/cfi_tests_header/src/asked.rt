@@ -1,0 +1,306 @@
+//! How often each of the six calls with a `get_cie` calls it, on every exit path.
+//!
+//! The contracts of calls that take the closure by value say nothing of its last state, so the
+//! counts are tested here.
+use crate::searches::{HEADER, SECTION, bases, read_header, second_target, start_of, table_of};
+use cfi_tests_bytes::ended;
+use gimli_cfi::{
+    BaseAddresses, CommonInformationEntry, DebugFrame, DebugFrameOffset, EhFrame, EhHdrTable,
+    Error, FrameDescriptionEntry, LittleEndian, Reader, ReaderOffsetId, UnwindContext,
+    UnwindSection,
+};
+use std::test::Fail;
+
+/// A CIE of `.debug_frame`; FDEs at 20 and 44 for 0x1000 and 0x2000, of 0x20 addresses each; at 68
+/// an FDE that ends after its first address.
+const FDES: [u8; 84] = [
+    0x10, 0, 0, 0, 0xff, 0xff, 0xff, 0xff, 4, 0, 8, 0, 1, 0x78, 0x10, 0x0c, 7, 8, 0x90, 1, 0x14, 0,
+    0, 0, 0, 0, 0, 0, 0, 0x10, 0, 0, 0, 0, 0, 0, 0x20, 0, 0, 0, 0, 0, 0, 0, 0x14, 0, 0, 0, 0, 0, 0,
+    0, 0, 0x20, 0, 0, 0, 0, 0, 0, 0x20, 0, 0, 0, 0, 0, 0, 0, 0x0c, 0, 0, 0, 0, 0, 0, 0, 0, 0x30, 0,
+    0, 0, 0, 0, 0,
+];
+
+/// What a call returns, as a number that tells which entry or row it is, and how often it called
+/// the closure.
+type Asked<T> = (Result<T, Error>, u32);
+
+/// The results of a call for an FDE and of one for a row.
+type Both = (Asked<usize>, Asked<u64>);
+
+fn offset_of<R: Reader<Offset = usize>>(
+    found: Result<FrameDescriptionEntry<R>, Error>,
+) -> Result<usize, Error> {
+    match found {
+        Ok(fde) => Ok(fde.offset()),
+        Err(refusal) => Err(refusal),
+    }
+}
+
+/// What the closures for FDEs return. Those for rows call the section themselves, since a CIE has
+/// to be of the section there, which only that call promises.
+fn debug_frame_cie<R: Reader<Offset = usize>>(
+    from: &DebugFrame<R>,
+    bases: &BaseAddresses,
+    offset: DebugFrameOffset<usize>,
+    refuses: bool,
+) -> Result<CommonInformationEntry<R>, Error> {
+    if refuses {
+        return Err(Error::UnknownAugmentation);
+    }
+    from.cie_from_offset(bases, offset)
+}
+
+/// `PartialFrameDescriptionEntry::parse` of the FDE at an offset.
+fn parsed<R: Reader<Offset = usize>>(
+    section: &DebugFrame<R>,
+    offset: usize,
+    refuses: bool,
+) -> Asked<usize> {
+    let bases = BaseAddresses::default();
+    let mut asked = 0u32;
+    let read = match section.partial_fde_from_offset(&bases, DebugFrameOffset(offset)) {
+        Ok(partial) => partial.parse(|from, bases, offset| {
+            asked = asked.saturating_add(1);
+            debug_frame_cie(from, bases, offset, refuses)
+        }),
+        Err(refusal) => Err(refusal),
+    };
+    (offset_of(read), asked)
+}
+
+/// `UnwindSection::fde_from_offset`.
+fn at_offset<R: Reader<Offset = usize>>(
+    section: &DebugFrame<R>,
+    offset: usize,
+    refuses: bool,
+) -> Asked<usize> {
+    let bases = BaseAddresses::default();
+    let mut asked = 0u32;
+    let read = section.fde_from_offset(&bases, DebugFrameOffset(offset), |from, bases, offset| {
+        asked = asked.saturating_add(1);
+        debug_frame_cie(from, bases, offset, refuses)
+    });
+    (offset_of(read), asked)
+}
+
+/// `UnwindSection::fde_for_address`.
+fn for_address<R: Reader<Offset = usize>>(
+    section: &DebugFrame<R>,
+    address: u64,
+    refuses: bool,
+) -> Asked<usize> {
+    let bases = BaseAddresses::default();
+    let mut asked = 0u32;
+    let found = section.fde_for_address(&bases, address, |from, bases, offset| {
+        asked = asked.saturating_add(1);
+        debug_frame_cie(from, bases, offset, refuses)
+    });
+    (offset_of(found), asked)
+}
+
+/// `UnwindSection::unwind_info_for_address`: the start address of the row.
+fn row_for_address<R: Reader<Offset = usize>>(
+    context: &mut UnwindContext<usize>,
+    section: &DebugFrame<R>,
+    address: u64,
+    refuses: bool,
+) -> Asked<u64> {
+    let bases = BaseAddresses::default();
+    let mut asked = 0u32;
+    let found = section.unwind_info_for_address(&bases, context, address, |from, bases, offset| {
+        asked = asked.saturating_add(1);
+        if refuses {
+            return Err(Error::UnknownAugmentation);
+        }
+        from.cie_from_offset(bases, offset)
+    });
+    (start_of(found), asked)
+}
+
+/// Both calls for an address, over the section up to the given length.
+fn by_scan(context: &mut UnwindContext<usize>, bytes: &[u8], address: u64, refuses: bool) -> Both {
+    let section = DebugFrame::new(bytes, LittleEndian);
+    let fde = for_address(&section, address, refuses);
+    (fde, row_for_address(context, &section, address, refuses))
+}
+
+/// `EhHdrTable::fde_for_address`.
+pub(crate) fn fde_by_table<R: Reader<Offset = usize>>(
+    table: &EhHdrTable<'_, R>,
+    frame: &EhFrame<R>,
+    address: u64,
+    refuses: bool,
+) -> Asked<usize> {
+    let mut asked = 0u32;
+    let found = table.fde_for_address(frame, &bases(), address, |from, bases, offset| {
+        asked = asked.saturating_add(1);
+        if refuses {
+            return Err(Error::UnknownAugmentation);
+        }
+        from.cie_from_offset(bases, offset)
+    });
+    (offset_of(found), asked)
+}
+
+/// `EhHdrTable::unwind_info_for_address`: the start address of the row.
+fn row_by_table<R: Reader<Offset = usize>>(
+    context: &mut UnwindContext<usize>,
+    table: &EhHdrTable<'_, R>,
+    frame: &EhFrame<R>,
+    address: u64,
+    refuses: bool,
+) -> Asked<u64> {
+    let mut asked = 0u32;
+    let bases = bases();
+    let found = table.unwind_info_for_address(
+        frame,
+        &bases,
+        context,
+        address,
+        |from, bases, offset| {
+            asked = asked.saturating_add(1);
+            if refuses {
+                return Err(Error::UnknownAugmentation);
+            }
+            from.cie_from_offset(bases, offset)
+        },
+    );
+    (start_of(found), asked)
+}
+
+/// Both calls for an address, by a table.
+fn both_by_table<R: Reader<Offset = usize>>(
+    context: &mut UnwindContext<usize>,
+    table: &EhHdrTable<'_, R>,
+    frame: &EhFrame<R>,
+    address: u64,
+    refuses: bool,
+) -> Both {
+    let fde = fde_by_table(table, frame, address, refuses);
+    (fde, row_by_table(context, table, frame, address, refuses))
+}
+
+/// The same from the bytes of a header.
+fn by_table(
+    context: &mut UnwindContext<usize>,
+    section: &[u8],
+    header: &[u8],
+    address: u64,
+    refuses: bool,
+) -> Result<Both, Error> {
+    let frame = EhFrame::new(section, LittleEndian);
+    let parsed = read_header(header, &bases())?;
+    let table = table_of(&parsed)?;
+    Ok(both_by_table(context, &table, &frame, address, refuses))
+}
+
+/// The offset of the FDE and the start address of the row, or an error.
+type Found = Result<(usize, u64), Error>;
+
+/// The results of both calls.
+fn both(found: Found, asked: u32) -> Both {
+    match found {
+        Ok((offset, start)) => ((Ok(offset), asked), (Ok(start), asked)),
+        Err(refusal) => ((Err(refusal), asked), (Err(refusal), asked)),
+    }
+}
+
+/// Both calls for the FDE at an offset.
+fn read_at(offset: usize, refuses: bool) -> [Asked<usize>; 2] {
+    let section = DebugFrame::new(&FDES, LittleEndian);
+    [
+        at_offset(&section, offset, refuses),
+        parsed(&section, offset, refuses),
+    ]
+}
+
+#[test]
+fn one_fde_asks_once(rt: HostRuntime) {
+    let found = [
+        read_at(20, false),
+        read_at(44, false),
+        read_at(68, false),
+        read_at(0, false),
+        read_at(84, false),
+        read_at(44, true),
+    ];
+    let expected = [
+        [(Ok(20), 1); 2],
+        [(Ok(44), 1); 2],
+        [(Err(ended(84)), 1); 2],
+        [(Err(Error::NotCiePointer(0)), 0); 2],
+        [(Err(ended(84)), 0); 2],
+        [(Err(Error::UnknownAugmentation), 1); 2],
+    ];
+    assert_eq!(rt; found, expected);
+}
+
+/// The length of the section, an address, and whether `get_cie` fails; the result, and how often
+/// the closure was called.
+const SCANS: [(usize, u64, bool, Found, u32); 6] = [
+    (84, 0x1008, false, Ok((20, 0x1000)), 1),
+    (84, 0x201f, false, Ok((44, 0x2000)), 2),
+    (68, 0x3000, false, Err(Error::NoUnwindInfoForAddress), 2),
+    (
+        66,
+        0x2008,
+        false,
+        Err(Error::UnexpectedEof(ReaderOffsetId(48))),
+        1,
+    ),
+    (
+        84,
+        0x3000,
+        false,
+        Err(Error::UnexpectedEof(ReaderOffsetId(84))),
+        3,
+    ),
+    (84, 0x2008, true, Err(Error::UnknownAugmentation), 1),
+];
+
+#[test]
+fn a_scan_asks_once_an_fde(rt: HostRuntime) -> Result<(), Fail> {
+    let mut context: UnwindContext<usize> = UnwindContext::new(rt.alloc())?;
+    for (count, address, refuses, found, asked) in &SCANS {
+        let bytes = FDES.get(..*count).unwrap_or_default();
+        let by_scan = by_scan(&mut context, bytes, *address, *refuses);
+        assert_eq!(rt; by_scan, both(*found, *asked), "for {address}");
+    }
+    Ok(())
+}
+
+#[test]
+fn a_table_asks_once(rt: HostRuntime) -> Result<(), Fail> {
+    let mut context: UnwindContext<usize> = UnwindContext::new(rt.alloc())?;
+    let mut cut = SECTION;
+    cut[60] = 0x20;
+    let before = second_target([0, 1, 0, 0]);
+    let none = Err(Error::NoUnwindInfoForAddress);
+    let cases: [(&[u8], &[u8], u64, bool, Found, u32); 6] = [
+        (&SECTION, &HEADER, 0x1018, false, Ok((44, 0x1011)), 1),
+        (&SECTION, &HEADER, 0xff0, false, none, 1),
+        (&SECTION, &HEADER, 0x1040, false, none, 1),
+        (
+            &SECTION,
+            &before,
+            0x1018,
+            false,
+            Err(Error::NotCiePointer(0)),
+            0,
+        ),
+        (&cut, &HEADER, 0x1018, false, Err(ended(61)), 1),
+        (
+            &SECTION,
+            &HEADER,
+            0x1018,
+            true,
+            Err(Error::UnknownAugmentation),
+            1,
+        ),
+    ];
+    for (section, header, address, refuses, found, asked) in cases {
+        let by_table = by_table(&mut context, section, header, address, refuses);
+        assert_eq!(rt; by_table, Ok(both(found, asked)), "for {address}");
+    }
+    Ok(())
+}

@@ -1,0 +1,246 @@
+//! Tables of `.eh_frame_hdr` that list the FDEs of their section faithfully, and the faults of
+//! others.
+use crate::searches::{HEADER, SECTION, Shown, bases, by_scan, read_header, shown, table_of};
+use cfi_tests_bytes::ended;
+use gimli_cfi::{
+    DwEhPe, EhFrame, Error, FaithfulTable, LittleEndian, ParsedEhFrameHdr, Reader, Unfaithful,
+    UnwindContext,
+};
+use std::test::Fail;
+
+/// What is wrong with a header's table; `None` if it is faithful.
+type Reason = Result<Option<Unfaithful>, Error>;
+
+fn reason_in<R: Reader>(parsed: &ParsedEhFrameHdr<R>, frame: &EhFrame<R>) -> Reason {
+    match FaithfulTable::new(&table_of(parsed)?, frame, &bases()) {
+        Ok(_) => Ok(None),
+        Err(reason) => Ok(Some(reason)),
+    }
+}
+
+/// The same from the bytes of a header and of a section.
+fn reason(header: &[u8], section: &[u8]) -> Reason {
+    let frame = EhFrame::new(section, LittleEndian);
+    reason_in(&read_header(header, &bases())?, &frame)
+}
+
+/// The bytes, with some of them replaced from an index on.
+fn with<const N: usize>(bytes: [u8; N], at: usize, new: &[u8]) -> [u8; N] {
+    let mut changed = bytes;
+    for (to, from) in changed.iter_mut().skip(at).zip(new.iter()) {
+        *to = *from;
+    }
+    changed
+}
+
+/// What is wrong if the header has these bytes from an index on.
+fn with_header(at: usize, new: &[u8]) -> Reason {
+    reason(&with(HEADER, at, new), &SECTION)
+}
+
+/// What is wrong if the section has these bytes from an index on.
+fn with_section(at: usize, new: &[u8]) -> Reason {
+    reason(&HEADER, &with(SECTION, at, new))
+}
+
+/// The header with another row, which leads to no FDE.
+fn four_rows() -> [u8; 44] {
+    let mut header = [0u8; 44];
+    for (to, from) in header.iter_mut().zip(HEADER) {
+        *to = from;
+    }
+    with(
+        with(header, 8, &[4]),
+        36,
+        &[0x40, 0xf1, 0xff, 0xff, 0x40, 1, 0, 0],
+    )
+}
+
+/// The section, in which the instructions of the last FDE have at 84 what looks like an FDE of the
+/// same addresses.
+fn fde_within_an_fde() -> [u8; 108] {
+    let mut section = [0u8; 108];
+    for (to, from) in section.iter_mut().zip(SECTION) {
+        *to = from;
+    }
+    let inner = [
+        0x10, 0, 0, 0, 0x58, 0, 0, 0, 0xc4, 0xef, 0xff, 0xff, 0x20, 0, 0, 0, 0, 0, 0, 0,
+    ];
+    with(with(section, 64, &[0x24]), 84, &inner)
+}
+
+#[test]
+fn faithful_tables(rt: HostRuntime) {
+    let found = [
+        reason(&HEADER, &SECTION),
+        // One row and one FDE.
+        reason(&with(HEADER, 8, &[1]), &SECTION[..44]),
+        // The first FDE has no addresses; then its end wraps around, so that it contains none.
+        with_section(36, &[0]),
+        with_section(36, &[0xff, 0xff, 0xff, 0xff]),
+        reason(&HEADER, &fde_within_an_fde()),
+    ];
+    assert_eq!(rt; found, [Ok(None); 5]);
+}
+
+/// The header without its second row.
+fn without_second_row() -> [u8; 36] {
+    let first_and_third = [0x20, 0xf1, 0xff, 0xff, 0x40, 1, 0, 0];
+    with(with(HEADER, 8, &[2]), 20, &first_and_third)
+}
+
+#[test]
+fn rows_that_list_no_fde(rt: HostRuntime) {
+    let found = [
+        // The second row is missing, and the third.
+        reason(&without_second_row(), &SECTION),
+        with_header(8, &[2]),
+        // A start is off by one, and a target; a target is that of another FDE.
+        with_header(20, &[0x11]),
+        with_header(24, &[0x2d]),
+        with_header(24, &[0x18]),
+        // A target is inside an entry, at what looks like the FDE.
+        reason(&with(HEADER, 32, &[0x54]), &fde_within_an_fde()),
+    ];
+    let second = Ok(Some(Unfaithful::NoRow {
+        offset: 44,
+        address: 0x1010,
+    }));
+    let third = Ok(Some(Unfaithful::NoRow {
+        offset: 64,
+        address: 0x1020,
+    }));
+    assert_eq!(rt; found, [second, third, second, second, second, third]);
+}
+
+/// What is wrong if a row starts at or below the one before it.
+fn order(row: u64, before: u64, start: u64) -> Reason {
+    Ok(Some(Unfaithful::Order { row, before, start }))
+}
+
+#[test]
+fn rows_out_of_order(rt: HostRuntime) {
+    // The first two rows are swapped.
+    let swapped = [
+        0x10, 0xf1, 0xff, 0xff, 0x2c, 1, 0, 0, 0, 0xf1, 0xff, 0xff, 0x18, 1, 0, 0,
+    ];
+    // The first row is listed twice.
+    let first = [0, 0xf1, 0xff, 0xff, 0x18, 1, 0, 0];
+    let found = [
+        with_header(12, &swapped),
+        with_header(20, &first),
+        // The last row starts below the one before it.
+        with_header(28, &[8]),
+    ];
+    let expected = [
+        order(1, 0x1010, 0x1000),
+        order(1, 0x1000, 0x1000),
+        order(2, 0x1010, 0x1008),
+    ];
+    assert_eq!(rt; found, expected);
+}
+
+#[test]
+fn overlapping_fdes(rt: HostRuntime) {
+    assert_eq!(rt;
+        with_section(36, &[0x11]),
+        Ok(Some(Unfaithful::Overlap {
+            offset: 24,
+            end: 0x1011,
+            next: 0x1010,
+        }))
+    );
+}
+
+#[test]
+fn counts_that_differ(rt: HostRuntime) {
+    let found = [
+        reason(&four_rows(), &SECTION),
+        reason(&HEADER, &SECTION[..24]),
+        // The fourth row is missing.
+        with_header(8, &[4]),
+    ];
+    let expected = [
+        Ok(Some(Unfaithful::Count { rows: 4, fdes: 3 })),
+        Ok(Some(Unfaithful::Count { rows: 3, fdes: 0 })),
+        Ok(Some(Unfaithful::Row {
+            row: 3,
+            refusal: ended(36),
+        })),
+    ];
+    assert_eq!(rt; found, expected);
+}
+
+#[test]
+fn refused_parts(rt: HostRuntime) {
+    let found = [
+        // The starts are indirect, and the pointer to the section; the rows are in a format that
+        // can't be searched.
+        with_header(3, &[0xbb]),
+        with_header(1, &[0x9b]),
+        with_header(3, &[0x31]),
+        // The CIE of the second FDE is an FDE; the last FDE is cut off.
+        with_section(48, &[0x18]),
+        reason(&HEADER, &SECTION[..80]),
+    ];
+    let expected = [
+        Ok(Some(Unfaithful::Row {
+            row: 0,
+            refusal: Error::UnsupportedIndirectPointer,
+        })),
+        Ok(Some(Unfaithful::Header(Error::UnsupportedIndirectPointer))),
+        Ok(Some(Unfaithful::Header(Error::UnsupportedPointerEncoding(DwEhPe(0x31))))),
+        Ok(Some(Unfaithful::Fde {
+            offset: 44,
+            refusal: Error::NotCieId(24),
+        })),
+        Ok(Some(Unfaithful::Entry {
+            offset: 64,
+            refusal: ended(68),
+        })),
+    ];
+    assert_eq!(rt; found, expected);
+}
+
+/// The row for an address by a checked table.
+fn by_checked_table<R: Reader<Offset = usize>>(
+    parsed: &ParsedEhFrameHdr<R>,
+    frame: &EhFrame<R>,
+    context: &mut UnwindContext<usize>,
+    address: u64,
+) -> Result<Result<Shown, Error>, Error> {
+    match FaithfulTable::new(&table_of(parsed)?, frame, &bases()) {
+        Ok(checked) => Ok(shown(checked.row(context, address))),
+        Err(_) => Err(Error::NoUnwindInfoForAddress),
+    }
+}
+
+/// The same, and then by a scan of the section.
+fn both_ways(
+    context: &mut UnwindContext<usize>,
+    address: u64,
+) -> Result<[Result<Shown, Error>; 2], Error> {
+    let frame = EhFrame::new(&SECTION, LittleEndian);
+    let parsed = read_header(&HEADER, &bases())?;
+    let by_table = by_checked_table(&parsed, &frame, context, address)?;
+    Ok([by_table, by_scan(&frame, context, address)])
+}
+
+/// Addresses and their rows.
+const ROWS: [(u64, Result<Shown, Error>); 5] = [
+    (0xfff, Err(Error::NoUnwindInfoForAddress)),
+    (0x1000, Ok((0x1000, 0x1010, Some(8)))),
+    (0x1011, Ok((0x1011, 0x1020, Some(16)))),
+    (0x103f, Ok((0x1020, 0x1040, Some(8)))),
+    (0x1040, Err(Error::NoUnwindInfoForAddress)),
+];
+
+#[test]
+fn rows_by_a_checked_table(rt: HostRuntime) -> Result<(), Fail> {
+    let mut context: UnwindContext<usize> = UnwindContext::new(rt.alloc())?;
+    for (address, row) in &ROWS {
+        let found = both_ways(&mut context, *address);
+        assert_eq!(rt; found, Ok([*row; 2]), "for {address}");
+    }
+    Ok(())
+}

@@ -1,0 +1,259 @@
+//! Call frame instructions of an FDE, one by one, spelled as in the tests of gimli.
+use cfi_parts::instruction::{CallFrameInstruction, UnwindExpression};
+use cfi_parts::pointer::BaseAddresses;
+use cfi_read_core::constants::DwCfa;
+use cfi_read_core::{
+    DebugFrameOffset, Error, LittleEndian, Reader, ReaderOffsetId, Register, Vendor,
+};
+use cfi_tests_bytes::{bytes_of, joined};
+use cfi_unwind::unwind_section::{DebugFrame, UnwindSection};
+use std::alloc::Global;
+use std::test::Fail;
+
+type Instruction = CallFrameInstruction<usize>;
+
+/// The first instruction of an FDE, and the next.
+type FirstTwo = (
+    Result<Option<Instruction>, Error>,
+    Result<Option<Instruction>, Error>,
+);
+
+/// A CIE at 0.
+const CIE: &str = "10000000 ffffffff 04000800 017810 0c0708 9001";
+
+/// A CIE at 0 whose FDEs have signed addresses of four bytes.
+const ENCODED_CIE: &str = "0d000000 ffffffff 01 7a5200 017810 01 0b";
+
+/// The first instruction of the FDE at the offset, and the one after it.
+fn first_two<R: Reader<Offset = usize>>(
+    section: &DebugFrame<R>,
+    offset: usize,
+) -> Result<FirstTwo, Error> {
+    let bases = BaseAddresses::default();
+    let offset = DebugFrameOffset(offset);
+    let fde = section.fde_from_offset(&bases, offset, DebugFrame::cie_from_offset)?;
+    let mut instructions = fde.instructions(section, &bases);
+    let first = instructions.next();
+    let second = instructions.next();
+    Ok((first, second))
+}
+
+/// Addresses from 0x1000 up to 0x1020, for the CIE at 0.
+const RANGE: [u8; 20] = [
+    0, 0, 0, 0, 0, 0x10, 0, 0, 0, 0, 0, 0, 0x20, 0, 0, 0, 0, 0, 0, 0,
+];
+
+/// A CIE of 20 bytes, and an FDE whose instructions begin at 44.
+fn with_program(alloc: Global, program: &[u8]) -> Result<Vec<u8>, Fail> {
+    let mut bytes = bytes_of(alloc, CIE)?;
+    let size = u32::try_from(program.len()).unwrap_or(u32::MAX);
+    let length = 20u32.saturating_add(size);
+    bytes.extend_from_slice(&length.to_le_bytes())?;
+    bytes.extend_from_slice(&RANGE)?;
+    bytes.extend_from_slice(program)?;
+    Ok(bytes)
+}
+
+/// The first two instructions of that FDE.
+fn of_program(alloc: Global, program: &[u8], vendor: Vendor) -> Result<FirstTwo, Fail> {
+    let bytes = with_program(alloc, program)?;
+    let mut section = DebugFrame::new(bytes.as_slice(), LittleEndian);
+    section.set_vendor(vendor);
+    Ok(first_two(&section, 20)?)
+}
+
+/// Instructions, one for each FDE.
+const VECTORS: [(&[u8], Instruction); 15] = [
+    (&[0x6a], CallFrameInstruction::AdvanceLoc { delta: 42 }),
+    (
+        &[0x83, 0xcd, 0x0f],
+        CallFrameInstruction::Offset {
+            register: Register(3),
+            factored_offset: 1997,
+        },
+    ),
+    (
+        &[0xc3],
+        CallFrameInstruction::Restore {
+            register: Register(3),
+        },
+    ),
+    (&[2, 8], CallFrameInstruction::AdvanceLoc { delta: 8 }),
+    (
+        &[3, 0xf4, 1],
+        CallFrameInstruction::AdvanceLoc { delta: 500 },
+    ),
+    (
+        &[4, 0, 0, 0x10, 0],
+        CallFrameInstruction::AdvanceLoc { delta: 1048576 },
+    ),
+    (
+        &[9, 7, 8],
+        CallFrameInstruction::Register {
+            dest_register: Register(7),
+            src_register: Register(8),
+        },
+    ),
+    (
+        &[0x12, 2, 0xf1, 0xb1, 0x7f],
+        CallFrameInstruction::DefCfaSf {
+            register: Register(2),
+            factored_offset: -9999,
+        },
+    ),
+    (
+        &[0x13, 0x85, 0x7f],
+        CallFrameInstruction::DefCfaOffsetSf {
+            factored_offset: -123,
+        },
+    ),
+    (
+        &[0x11, 7, 0x5f],
+        CallFrameInstruction::OffsetExtendedSf {
+            register: Register(7),
+            factored_offset: -33,
+        },
+    ),
+    (
+        &[0x0f, 0x0a, 0x0a, 9, 8, 7, 6, 5, 4, 3, 2, 1],
+        CallFrameInstruction::DefCfaExpression {
+            expression: UnwindExpression {
+                offset: 46,
+                length: 10,
+            },
+        },
+    ),
+    (
+        &[0x16, 0x32, 6, 2, 2, 1, 1, 5, 5],
+        CallFrameInstruction::ValExpression {
+            register: Register(50),
+            expression: UnwindExpression {
+                offset: 47,
+                length: 6,
+            },
+        },
+    ),
+    (&[0x2e, 0x10], CallFrameInstruction::ArgsSize { size: 16 }),
+    (
+        &[0x2f, 6, 2],
+        CallFrameInstruction::OffsetExtendedNegative {
+            register: Register(6),
+            factored_offset: 2,
+        },
+    ),
+    (
+        &[1, 8, 7, 6, 5, 4, 3, 2, 1],
+        CallFrameInstruction::SetLoc {
+            address: 0x0102030405060708,
+        },
+    ),
+];
+
+#[test]
+fn one_by_one(rt: HostRuntime) -> Result<(), Fail> {
+    for (bytes, instruction) in &VECTORS {
+        let read = of_program(rt.alloc(), bytes, Vendor::Default)?;
+        assert_eq!(rt; read, (Ok(Some(*instruction)), Ok(None)));
+    }
+    Ok(())
+}
+
+/// Instructions that are errors, but for one vendor.
+const PROGRAMS: [(&[u8], Vendor, FirstTwo); 6] = [
+    (
+        &[0x3f, 0],
+        Vendor::Default,
+        (
+            Err(Error::UnknownCallFrameInstruction(DwCfa(0x3f))),
+            Ok(None),
+        ),
+    ),
+    (
+        &[2],
+        Vendor::Default,
+        (Err(Error::UnexpectedEof(ReaderOffsetId(45))), Ok(None)),
+    ),
+    (
+        &[0x2f, 6],
+        Vendor::Default,
+        (Err(Error::UnexpectedEof(ReaderOffsetId(46))), Ok(None)),
+    ),
+    (
+        &[0x2d, 0],
+        Vendor::Default,
+        (
+            Err(Error::UnknownCallFrameInstruction(DwCfa(0x2d))),
+            Ok(None),
+        ),
+    ),
+    (
+        &[7, 0x80, 0x80, 4, 0],
+        Vendor::Default,
+        (Err(Error::UnsupportedRegister(65536)), Ok(None)),
+    ),
+    (
+        &[0x2d, 0],
+        Vendor::AArch64,
+        (
+            Ok(Some(CallFrameInstruction::NegateRaState)),
+            Ok(Some(CallFrameInstruction::Nop)),
+        ),
+    ),
+];
+
+/// The first two instructions of an FDE that sets its location, after a CIE of encoded addresses.
+fn of_encoded(alloc: Global) -> Result<FirstTwo, Fail> {
+    let fde = "12000000 00000000 00100000 20000000 00 01 f0ffffff";
+    let bytes = joined(alloc, ENCODED_CIE, fde)?;
+    let section = DebugFrame::new(bytes.as_slice(), LittleEndian);
+    Ok(first_two(&section, 17)?)
+}
+
+const SET_LOC: FirstTwo = (
+    Ok(Some(CallFrameInstruction::SetLoc {
+        address: 0xffff_ffff_ffff_fff0,
+    })),
+    Ok(None),
+);
+
+#[test]
+fn refusals_end_the_instructions(rt: HostRuntime) -> Result<(), Fail> {
+    for (program, vendor, read) in &PROGRAMS {
+        assert_eq!(rt; of_program(rt.alloc(), program, *vendor)?, *read);
+    }
+    assert_eq!(rt; of_encoded(rt.alloc())?, SET_LOC);
+    Ok(())
+}
+
+/// The first three results of reading the instructions of the CIE at 0.
+fn first_three<R: Reader<Offset = usize>>(
+    section: &DebugFrame<R>,
+) -> Result<[Result<Option<Instruction>, Error>; 3], Error> {
+    let bases = BaseAddresses::default();
+    let cie = section.cie_from_offset(&bases, DebugFrameOffset(0))?;
+    let mut instructions = cie.instructions(section, &bases);
+    Ok([
+        instructions.next(),
+        instructions.next(),
+        instructions.next(),
+    ])
+}
+
+#[test]
+fn of_a_cie(rt: HostRuntime) -> Result<(), Fail> {
+    let bytes = bytes_of(rt.alloc(), CIE)?;
+    let section = DebugFrame::new(bytes.as_slice(), LittleEndian);
+    let cfa = CallFrameInstruction::DefCfa {
+        register: Register(7),
+        offset: 8,
+    };
+    let saved = CallFrameInstruction::Offset {
+        register: Register(16),
+        factored_offset: 1,
+    };
+    assert_eq!(rt;
+        first_three(&section),
+        Ok([Ok(Some(cfa)), Ok(Some(saved)), Ok(None)])
+    );
+    Ok(())
+}

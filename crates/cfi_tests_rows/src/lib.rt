@@ -1,0 +1,20 @@
+//! Tests of rows, over both readers and both storages, and runs of the programs of CALLING.md. The
+//! expected values are those of the standards, or were worked out by hand.
+#![tactic(auto)]
+
+#[cfg(test)]
+mod cuts;
+#[cfg(test)]
+mod derives;
+#[cfg(test)]
+mod guide;
+#[cfg(test)]
+mod readers_and_storages;
+#[cfg(test)]
+mod refused_growth;
+#[cfg(test)]
+mod register_order;
+#[cfg(test)]
+mod reuse;
+#[cfg(test)]
+mod rows;

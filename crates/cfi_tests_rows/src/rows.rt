@@ -1,0 +1,314 @@
+//! The rows of an FDE in order, and the row of an address with any `get_cie`.
+use cfi_tests_bytes::THREE_ROWS;
+use gimli_cfi::{
+    ArrayLike, BaseAddresses, CfaRule, DebugFrame, DebugFrameOffset, EndianSlice, Error,
+    Expression, LittleEndian, Reader, ReaderOffsetId, Register, RegisterRule, UnwindContext,
+    UnwindContextStorage, UnwindExpression, UnwindSection, UnwindTable, UnwindTableRow,
+    scan_for_fde,
+};
+use std::test::Fail;
+
+/// The CIE; an FDE that remembers a row, sets the CFA, advances and restores.
+const REMEMBERED: [u8; 49] = [
+    0x10, 0, 0, 0, 0xff, 0xff, 0xff, 0xff, 4, 0, 8, 0, 1, 0x78, 0x10, 0x0c, 7, 8, 0x90, 1, 0x19, 0,
+    0, 0, 0, 0, 0, 0, 0, 0x10, 0, 0, 0, 0, 0, 0, 0x20, 0, 0, 0, 0, 0, 0, 0, 0x0a, 0x0e, 0x20, 0x42,
+    0x0b,
+];
+
+/// A CIE whose instructions advance, and an FDE without instructions.
+const CIE_MOVES: [u8; 45] = [
+    0x11, 0, 0, 0, 0xff, 0xff, 0xff, 0xff, 4, 0, 8, 0, 1, 0x78, 0x10, 0x0c, 7, 8, 0x90, 1, 0x41,
+    0x14, 0, 0, 0, 0, 0, 0, 0, 0, 0x10, 0, 0, 0, 0, 0, 0, 0x20, 0, 0, 0, 0, 0, 0, 0,
+];
+
+/// The CIE; an FDE whose CFA is an expression, whose register is set after it.
+const EXPRESSION: [u8; 51] = [
+    0x10, 0, 0, 0, 0xff, 0xff, 0xff, 0xff, 4, 0, 8, 0, 1, 0x78, 0x10, 0x0c, 7, 8, 0x90, 1, 0x1b, 0,
+    0, 0, 0, 0, 0, 0, 0, 0x10, 0, 0, 0, 0, 0, 0, 0x20, 0, 0, 0, 0, 0, 0, 0, 0x86, 2, 0x0f, 1, 0x30,
+    0x0d, 6,
+];
+
+/// Two CIEs at 0 and 20, whose CFAs are r7+8 and r7+16; FDEs of the first for 0x1000 and 0x2000.
+const TWO_CIES: [u8; 88] = [
+    0x10, 0, 0, 0, 0xff, 0xff, 0xff, 0xff, 4, 0, 8, 0, 1, 0x78, 0x10, 0x0c, 7, 8, 0x90, 1, 0x10, 0,
+    0, 0, 0xff, 0xff, 0xff, 0xff, 4, 0, 8, 0, 1, 0x78, 0x10, 0x0c, 7, 0x10, 0x90, 1, 0x14, 0, 0, 0,
+    0, 0, 0, 0, 0, 0x10, 0, 0, 0, 0, 0, 0, 0x20, 0, 0, 0, 0, 0, 0, 0, 0x14, 0, 0, 0, 0, 0, 0, 0, 0,
+    0x20, 0, 0, 0, 0, 0, 0, 0x20, 0, 0, 0, 0, 0, 0, 0,
+];
+
+/// A CIE whose code alignment factor is 2^63, and an FDE that advances by two of it.
+const LARGE_FACTOR: [u8; 54] = [
+    0x19, 0, 0, 0, 0xff, 0xff, 0xff, 0xff, 4, 0, 8, 0, 0x80, 0x80, 0x80, 0x80, 0x80, 0x80, 0x80,
+    0x80, 0x80, 1, 0x78, 0x10, 0xc, 7, 8, 0x90, 1, 0x15, 0, 0, 0, 0, 0, 0, 0, 0, 0x10, 0, 0, 0, 0,
+    0, 0, 0x20, 0, 0, 0, 0, 0, 0, 0, 0x42,
+];
+
+/// An FDE that sets the location to its first address.
+const SET_LOC: [u8; 53] = [
+    0x10, 0, 0, 0, 0xff, 0xff, 0xff, 0xff, 4, 0, 8, 0, 1, 0x78, 0x10, 0xc, 7, 8, 0x90, 1, 0x1d, 0,
+    0, 0, 0, 0, 0, 0, 0, 0x10, 0, 0, 0, 0, 0, 0, 0x20, 0, 0, 0, 0, 0, 0, 0, 1, 0, 0x10, 0, 0, 0, 0,
+    0, 0,
+];
+
+/// A row: its addresses, its CFA, and the rules of registers 6 and 16.
+pub(crate) type Shown = (
+    u64,
+    u64,
+    CfaRule<usize>,
+    Option<RegisterRule<usize>>,
+    Option<RegisterRule<usize>>,
+);
+
+pub(crate) fn shown<A: ArrayLike<Item = (Register, RegisterRule<usize>)>>(
+    row: &UnwindTableRow<usize, A>,
+) -> Shown {
+    (
+        row.start_address(),
+        row.end_address(),
+        *row.cfa(),
+        row.register(Register(6)),
+        row.register(Register(16)),
+    )
+}
+
+/// The next row of a table.
+fn next_shown<R: Reader<Offset = usize>, S: UnwindContextStorage<usize>>(
+    table: &mut UnwindTable<'_, '_, R, S>,
+) -> Result<Option<Shown>, Error> {
+    match table.next_row()? {
+        Some(row) => Ok(Some(shown(row))),
+        None => Ok(None),
+    }
+}
+
+/// Whether a table returns these rows in order.
+fn yields<R: Reader<Offset = usize>, S: UnwindContextStorage<usize>>(
+    table: &mut UnwindTable<'_, '_, R, S>,
+    answers: Answers<'_>,
+) -> bool {
+    for answer in answers {
+        if next_shown(table) != *answer {
+            return false;
+        }
+    }
+    true
+}
+
+/// Whether the FDE for 0x1000 has these rows in order, and no current row after the last.
+pub(crate) fn hands_out<R: Reader<Offset = usize>, S: UnwindContextStorage<usize>>(
+    section: &DebugFrame<R>,
+    context: &mut UnwindContext<usize, S>,
+    answers: Answers<'_>,
+) -> Result<bool, Error> {
+    let bases = BaseAddresses::default();
+    let fde = scan_for_fde(section, &bases, 0x1000)?;
+    let mut table = fde.rows(section, &bases, context)?;
+    Ok(yields(&mut table, answers) && table.into_current_row().is_none())
+}
+
+/// Where the first row of the FDE for 0x1000 ends, by the row that the table leaves.
+fn first_end<R: Reader<Offset = usize>, S: UnwindContextStorage<usize>>(
+    section: &DebugFrame<R>,
+    context: &mut UnwindContext<usize, S>,
+) -> Result<Option<u64>, Error> {
+    let bases = BaseAddresses::default();
+    let fde = scan_for_fde(section, &bases, 0x1000)?;
+    let mut table = UnwindTable::new(section, &bases, context, &fde)?;
+    let _first = table.next_row()?;
+    match table.into_current_row() {
+        Some(row) => Ok(Some(row.end_address())),
+        None => Ok(None),
+    }
+}
+
+/// The CFA r7+8.
+pub(crate) const R7_8: CfaRule<usize> = CfaRule::RegisterAndOffset {
+    register: Register(7),
+    offset: 8,
+};
+
+/// The CFA r7+16.
+pub(crate) const R7_16: CfaRule<usize> = CfaRule::RegisterAndOffset {
+    register: Register(7),
+    offset: 16,
+};
+
+/// The CFA r7+32.
+const R7_32: CfaRule<usize> = CfaRule::RegisterAndOffset {
+    register: Register(7),
+    offset: 32,
+};
+
+/// The CFA r6+16.
+pub(crate) const R6_16: CfaRule<usize> = CfaRule::RegisterAndOffset {
+    register: Register(6),
+    offset: 16,
+};
+
+const BY_EXPRESSION: CfaRule<usize> = CfaRule::Expression(UnwindExpression {
+    offset: 48,
+    length: 1,
+});
+
+/// The rule of register 6 if it has one.
+pub(crate) const SAVED: Option<RegisterRule<usize>> = Some(RegisterRule::Offset(-16));
+
+/// The rule of register 16.
+pub(crate) const RETURNS: Option<RegisterRule<usize>> = Some(RegisterRule::Offset(-8));
+
+/// What a table returns in order.
+type Answers<'a> = &'a [Result<Option<Shown>, Error>];
+
+/// An advance to the same address ends a row of no addresses.
+const AT_ONCE: Answers<'static> = &[
+    Ok(Some((0x1000, 0x1000, R7_8, None, RETURNS))),
+    Ok(Some((0x1000, 0x1020, R7_8, None, RETURNS))),
+    Ok(None),
+];
+
+const TABLES: [(&[u8], Answers<'static>); 6] = [
+    (&LARGE_FACTOR, AT_ONCE),
+    (&SET_LOC, AT_ONCE),
+    (
+        &THREE_ROWS,
+        &[
+            Ok(Some((0x1000, 0x1001, R7_8, None, RETURNS))),
+            Ok(Some((0x1001, 0x1004, R7_16, SAVED, RETURNS))),
+            Ok(Some((0x1004, 0x1020, R6_16, SAVED, RETURNS))),
+            Ok(None),
+            Ok(None),
+        ],
+    ),
+    (
+        &REMEMBERED,
+        &[
+            Ok(Some((0x1000, 0x1002, R7_32, None, RETURNS))),
+            Ok(Some((0x1002, 0x1020, R7_8, None, RETURNS))),
+            Ok(None),
+        ],
+    ),
+    (
+        &CIE_MOVES,
+        &[Ok(Some((0x1000, 0x1020, R7_8, None, RETURNS))), Ok(None)],
+    ),
+    (
+        &EXPRESSION,
+        &[
+            Err(Error::CfiInstructionInInvalidContext),
+            Ok(Some((0x1000, 0x1020, BY_EXPRESSION, SAVED, RETURNS))),
+            Ok(None),
+        ],
+    ),
+];
+
+#[test]
+fn rows_one_by_one(rt: HostRuntime) -> Result<(), Fail> {
+    let mut context: UnwindContext<usize> = UnwindContext::new(rt.alloc())?;
+    for (bytes, answers) in &TABLES {
+        let section = DebugFrame::new(bytes, LittleEndian);
+        assert_eq!(rt; hands_out(&section, &mut context, answers), Ok(true));
+    }
+    Ok(())
+}
+
+#[test]
+fn the_current_row_outlives_the_table(rt: HostRuntime) -> Result<(), Fail> {
+    let section = DebugFrame::new(&THREE_ROWS, LittleEndian);
+    let mut context: UnwindContext<usize> = UnwindContext::new(rt.alloc())?;
+    assert_eq!(rt; first_end(&section, &mut context), Ok(Some(0x1001)));
+    Ok(())
+}
+
+/// The bytes of an expression in the section whose CFA is one.
+fn bytes_at(offset: usize, length: usize) -> Result<&'static [u8], Error> {
+    let section = DebugFrame::new(&EXPRESSION, LittleEndian);
+    let Expression(read) = UnwindExpression { offset, length }.get(&section)?;
+    Ok(read.slice())
+}
+
+const EXPRESSIONS: [(usize, usize, Result<&[u8], Error>); 4] = [
+    (48, 1, Ok(&[0x30])),
+    (52, 0, Err(Error::UnexpectedEof(ReaderOffsetId(0)))),
+    (48, 4, Err(Error::UnexpectedEof(ReaderOffsetId(48)))),
+    (51, 1, Err(Error::UnexpectedEof(ReaderOffsetId(51)))),
+];
+
+#[test]
+fn the_bytes_of_an_expression(rt: HostRuntime) -> Result<(), Fail> {
+    for (offset, length, bytes) in &EXPRESSIONS {
+        assert_eq!(rt; bytes_at(*offset, *length), *bytes);
+    }
+    Ok(())
+}
+
+/// A reader of the section of two CIEs.
+fn two_cies() -> EndianSlice<'static, LittleEndian> {
+    EndianSlice::new(&TWO_CIES, LittleEndian)
+}
+
+/// The row that the two CIEs give for an address, if the first call of `get_cie` returns the CIE at
+/// 0 and each further one that at 20; and how many calls there were.
+fn with_changing_cies<R: Reader<Offset = usize>, S: UnwindContextStorage<usize>>(
+    reader: R,
+    context: &mut UnwindContext<usize, S>,
+    address: u64,
+) -> (Result<Shown, Error>, u32) {
+    let section = DebugFrame::from(reader);
+    let bases = BaseAddresses::default();
+    let mut asked = 0u32;
+    let found = section.unwind_info_for_address(&bases, context, address, |from, bases, _| {
+        let offset = if asked == 0 { 0 } else { 20 };
+        asked = asked.saturating_add(1);
+        from.cie_from_offset(bases, DebugFrameOffset(offset))
+    });
+    let answer = match found {
+        Ok(row) => Ok(shown(row)),
+        Err(refusal) => Err(refusal),
+    };
+    (answer, asked)
+}
+
+const WITH_CHANGING_CIES: [(u64, Result<Shown, Error>, u32); 3] = [
+    (0x1000, Ok((0x1000, 0x1020, R7_8, None, RETURNS)), 1),
+    (0x2000, Ok((0x2000, 0x2020, R7_16, None, RETURNS)), 2),
+    (0x3000, Err(Error::NoUnwindInfoForAddress), 2),
+];
+
+#[test]
+fn a_get_cie_that_changes(rt: HostRuntime) -> Result<(), Fail> {
+    let mut context: UnwindContext<usize> = UnwindContext::new(rt.alloc())?;
+    for (address, row, asked) in &WITH_CHANGING_CIES {
+        let found = with_changing_cies(two_cies(), &mut context, *address);
+        assert_eq!(rt; found, (*row, *asked));
+    }
+    Ok(())
+}
+
+/// The error of looking up an address if the first call of `get_cie` fails.
+fn refused_at_first<R: Reader<Offset = usize>, S: UnwindContextStorage<usize>>(
+    reader: R,
+    context: &mut UnwindContext<usize, S>,
+    address: u64,
+) -> Option<Error> {
+    let section = DebugFrame::from(reader);
+    let bases = BaseAddresses::default();
+    let mut asked = 0u32;
+    let found = section.unwind_info_for_address(&bases, context, address, |from, bases, offset| {
+        if asked == 0 {
+            asked = 1;
+            return Err(Error::UnknownAugmentation);
+        }
+        from.cie_from_offset(bases, offset)
+    });
+    found.err()
+}
+
+#[test]
+fn a_get_cie_that_refuses(rt: HostRuntime) -> Result<(), Fail> {
+    let mut context: UnwindContext<usize> = UnwindContext::new(rt.alloc())?;
+    for address in [0x1000, 0x2000] {
+        let refused = refused_at_first(two_cies(), &mut context, address);
+        assert_eq!(rt; refused, Some(Error::UnknownAugmentation));
+    }
+    Ok(())
+}

@@ -1,0 +1,44 @@
+//! What was compared, printed when the process ends.
+use comparison::departure::Departure;
+use std::sync::atomic::{AtomicU64, Ordering::Relaxed};
+
+/// Rows and errors, by a scan and by a table.
+static COMPARED: [[AtomicU64; 2]; 2] = [const { [const { AtomicU64::new(0) }; 2] }; 2];
+/// Passes over whole sections and headers.
+static PASSES: AtomicU64 = AtomicU64::new(0);
+static DEPARTED: [AtomicU64; Departure::ALL.len()] =
+    [const { AtomicU64::new(0) }; Departure::ALL.len()];
+
+unsafe extern "C" {
+    fn atexit(call: extern "C" fn()) -> i32;
+}
+
+pub fn print_at_exit() {
+    // SAFETY: `print` may be called at any time.
+    unsafe { atexit(print) };
+}
+
+pub fn compared(by_table: bool, is_row: bool) {
+    COMPARED[usize::from(by_table)][usize::from(!is_row)].fetch_add(1, Relaxed);
+}
+
+pub fn compared_passes(number: u64) {
+    PASSES.fetch_add(number, Relaxed);
+}
+
+pub fn departed(departure: Departure) {
+    DEPARTED[departure as usize].fetch_add(1, Relaxed);
+}
+
+/// `run` adds these lines up over all processes.
+extern "C" fn print() {
+    for (how, counts) in ["by scan", "by table"].iter().zip(&COMPARED) {
+        eprintln!("count: rows {how}: {}", counts[0].load(Relaxed));
+        eprintln!("count: errors {how}: {}", counts[1].load(Relaxed));
+    }
+    eprintln!("count: passes: {}", PASSES.load(Relaxed));
+    for departure in Departure::ALL {
+        let count = DEPARTED[departure as usize].load(Relaxed);
+        eprintln!("count: departures on purpose, {departure:?}: {count}");
+    }
+}
