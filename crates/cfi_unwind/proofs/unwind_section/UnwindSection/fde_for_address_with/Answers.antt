@@ -17,7 +17,7 @@ use Rattle.cfi_entry.specs.Sections.{section_of}
 use Rattle.cfi_entry.specs.EntryViews.{cie_view}
 use Rattle.cfi_unwind.specs.FdeViews.{fde_view}
 use Rattle.cfi_unwind.proofs.ScanSteps.{scans_at, scans_cie_at, scans_end, scans_found, scans_passed, scans_refusal, scans_refused_fde}
-use Rattle.cfi_unwind.proofs.unwind_section.by_ref.fde_for_address_by_ref.Goals as goal
+use Rattle.cfi_unwind.proofs.unwind_section.UnwindSection.fde_for_address_with.Goals as goal
 
 -- What `next` met is so of the section at the start.
 module _ {S : Type 0} (view : S → SectionView) {before start : S} {old given : BaseAddresses} (same_section : before ≡ start) (same_bases : old ≡ given) where
@@ -56,21 +56,21 @@ loop-entry-init g c =
 pub returns-in_err-entry-clause-scan : goal.returns-in_err-entry-clause-scan
 returns-in_err-entry-clause-scan g c =
     let gives : c.from_residual.result ≡ Err c.in_err-entry.field-0.0 = search rules in
-    let met = met_same g.S._UnwindSectionPrivate.view c.loop-entry.invariant.same_section c.loop-entry.invariant.same_bases (g.R.Reader.position c.loop-entry.entries.input).place c.in_err-entry.ensures.met.0 in
+    let met = met_same g.Self._UnwindSectionPrivate.view c.loop-entry.invariant.same_section c.loop-entry.invariant.same_bases (g.R.Reader.position c.loop-entry.entries.input).place c.in_err-entry.ensures.met.0 in
     c.loop-entry.invariant.leads_back _ _ (scans_at _ _ _ met (ap (map_ok (fde_view g.R.Reader.position g.R.Offset.ReaderOffset.number)) gives) (scans_refusal _ _ _ _ _))
 
 pub returns-in_err-cie-clause-scan : goal.returns-in_err-cie-clause-scan
 returns-in_err-cie-clause-scan g c =
     let gives : c.from_residual-in_err-cie.result ≡ Err c.in_err-cie.field-0.0 = search rules in
-    let section = section_of (g.S._UnwindSectionPrivate.view c.args.section.now) c.args.bases.now in
-    let asks = GetCieCall g.F.FnMut (λ o. g.R.Offset.ReaderOffset.number (g.S.Offset.UnwindOffset.offset o)) (cie_view g.R.Reader.position g.R.Offset.ReaderOffset.number) c.args.section.now c.args.bases.now in
+    let section = section_of (g.Self._UnwindSectionPrivate.view c.args.self.now) c.args.bases.now in
+    let asks = GetCieCall g.F.FnMut (λ o. g.R.Offset.ReaderOffset.number (g.Self.Offset.UnwindOffset.offset o)) (cie_view g.R.Reader.position g.R.Offset.ReaderOffset.number) c.args.self.now c.args.bases.now in
     let others = entries_left section (g.R.Reader.position c.next.new.self.input).place in
-    let met = met_entry g.S._UnwindSectionPrivate.view c.loop-entry.invariant.same_section c.loop-entry.invariant.same_bases _ _ _ c.in-Some.is c.in-Fde.is c.next.ensures.section c.next.ensures.bases c.in_ok-entry.ensures.met in
+    let met = met_entry g.Self._UnwindSectionPrivate.view c.loop-entry.invariant.same_section c.loop-entry.invariant.same_bases _ _ _ c.in-Some.is c.in-Fde.is c.next.ensures.section c.next.ensures.bases c.in_ok-entry.ensures.met in
     c.loop-entry.invariant.leads_back _ _
     (scans_refused_fde asks section c.args.address (partial_of g.R.Reader.position g.R.Offset.ReaderOffset.number c.in-Fde.partial.prefix c.in-Fde.partial.cie_offset) others met (Err c.in_err-cie.field-0.0) _ _ (record {
       asked = _;
       answer = c.get_cie.result;
-      at_offset = ap g.R.Offset.ReaderOffset.number (g.met.S.Offset.UnwindOffset.inverse _ _ c.from.ensures);
+      at_offset = ap g.R.Offset.ReaderOffset.number (g.met.Self.Offset.UnwindOffset.inverse _ _ c.from.ensures);
       seen = ap (map_ok (cie_view g.R.Reader.position g.R.Offset.ReaderOffset.number)) c.in_err-cie.was;
       call = record { shown_section = _; shown_bases = _; at_section = refl; at_bases = refl; call = c.get_cie.ensures };
     }) _ _ (ap (map_ok (fde_view g.R.Reader.position g.R.Offset.ReaderOffset.number)) gives) refl)
@@ -78,34 +78,34 @@ returns-in_err-cie-clause-scan g c =
 pub returns-in_err-fde-clause-scan : goal.returns-in_err-fde-clause-scan
 returns-in_err-fde-clause-scan g c =
     let gives : c.from_residual-in_err-fde.result ≡ Err c.in_err-fde.field-0.0 = search rules in
-    let section = section_of (g.S._UnwindSectionPrivate.view c.args.section.now) c.args.bases.now in
-    let asks = GetCieCall g.F.FnMut (λ o. g.R.Offset.ReaderOffset.number (g.S.Offset.UnwindOffset.offset o)) (cie_view g.R.Reader.position g.R.Offset.ReaderOffset.number) c.args.section.now c.args.bases.now in
+    let section = section_of (g.Self._UnwindSectionPrivate.view c.args.self.now) c.args.bases.now in
+    let asks = GetCieCall g.F.FnMut (λ o. g.R.Offset.ReaderOffset.number (g.Self.Offset.UnwindOffset.offset o)) (cie_view g.R.Reader.position g.R.Offset.ReaderOffset.number) c.args.self.now c.args.bases.now in
     let others = entries_left section (g.R.Reader.position c.next.new.self.input).place in
-    let met = met_entry g.S._UnwindSectionPrivate.view c.loop-entry.invariant.same_section c.loop-entry.invariant.same_bases _ _ _ c.in-Some.is c.in-Fde.is c.next.ensures.section c.next.ensures.bases c.in_ok-entry.ensures.met in
+    let met = met_entry g.Self._UnwindSectionPrivate.view c.loop-entry.invariant.same_section c.loop-entry.invariant.same_bases _ _ _ c.in-Some.is c.in-Fde.is c.next.ensures.section c.next.ensures.bases c.in_ok-entry.ensures.met in
     let same_section_and_bases = of_fde _ _ c.in-Some.is c.in-Fde.is c.in_ok-entry.ensures.same_section_and_bases in
-    let read = read_same g.S._UnwindSectionPrivate.view (Err c.in_err-fde.field-0.0) (partial_of g.R.Reader.position g.R.Offset.ReaderOffset.number c.in-Fde.partial.prefix c.in-Fde.partial.cie_offset) (cie_view g.R.Reader.position g.R.Offset.ReaderOffset.number c.in_ok-cie.cie) (same_section_and_bases.0 ∙ c.loop-entry.invariant.same_section) (same_section_and_bases.1 ∙ c.loop-entry.invariant.same_bases) c.in_err-fde.ensures.read in
+    let read = read_same g.Self._UnwindSectionPrivate.view (Err c.in_err-fde.field-0.0) (partial_of g.R.Reader.position g.R.Offset.ReaderOffset.number c.in-Fde.partial.prefix c.in-Fde.partial.cie_offset) (cie_view g.R.Reader.position g.R.Offset.ReaderOffset.number c.in_ok-cie.cie) (same_section_and_bases.0 ∙ c.loop-entry.invariant.same_section) (same_section_and_bases.1 ∙ c.loop-entry.invariant.same_bases) c.in_err-fde.ensures.read in
     c.loop-entry.invariant.leads_back _ _
     (scans_refused_fde asks section c.args.address (partial_of g.R.Reader.position g.R.Offset.ReaderOffset.number c.in-Fde.partial.prefix c.in-Fde.partial.cie_offset) others met (Ok (cie_view g.R.Reader.position g.R.Offset.ReaderOffset.number c.in_ok-cie.cie)) _ _ (record {
       asked = _;
       answer = c.get_cie.result;
-      at_offset = ap g.R.Offset.ReaderOffset.number (g.met.S.Offset.UnwindOffset.inverse _ _ c.from.ensures);
+      at_offset = ap g.R.Offset.ReaderOffset.number (g.met.Self.Offset.UnwindOffset.inverse _ _ c.from.ensures);
       seen = ap (map_ok (cie_view g.R.Reader.position g.R.Offset.ReaderOffset.number)) c.in_ok-cie.was;
       call = record { shown_section = _; shown_bases = _; at_section = refl; at_bases = refl; call = c.get_cie.ensures };
     }) _ _ (ap (map_ok (fde_view g.R.Reader.position g.R.Offset.ReaderOffset.number)) gives) read)
 
 pub returns-then-contains-clause-scan : goal.returns-then-contains-clause-scan
 returns-then-contains-clause-scan g c =
-    let section = section_of (g.S._UnwindSectionPrivate.view c.args.section.now) c.args.bases.now in
-    let asks = GetCieCall g.F.FnMut (λ o. g.R.Offset.ReaderOffset.number (g.S.Offset.UnwindOffset.offset o)) (cie_view g.R.Reader.position g.R.Offset.ReaderOffset.number) c.args.section.now c.args.bases.now in
+    let section = section_of (g.Self._UnwindSectionPrivate.view c.args.self.now) c.args.bases.now in
+    let asks = GetCieCall g.F.FnMut (λ o. g.R.Offset.ReaderOffset.number (g.Self.Offset.UnwindOffset.offset o)) (cie_view g.R.Reader.position g.R.Offset.ReaderOffset.number) c.args.self.now c.args.bases.now in
     let others = entries_left section (g.R.Reader.position c.next.new.self.input).place in
-    let met = met_entry g.S._UnwindSectionPrivate.view c.loop-entry.invariant.same_section c.loop-entry.invariant.same_bases _ _ _ c.in-Some.is c.in-Fde.is c.next.ensures.section c.next.ensures.bases c.in_ok-entry.ensures.met in
+    let met = met_entry g.Self._UnwindSectionPrivate.view c.loop-entry.invariant.same_section c.loop-entry.invariant.same_bases _ _ _ c.in-Some.is c.in-Fde.is c.next.ensures.section c.next.ensures.bases c.in_ok-entry.ensures.met in
     let same_section_and_bases = of_fde _ _ c.in-Some.is c.in-Fde.is c.in_ok-entry.ensures.same_section_and_bases in
-    let read = read_same g.S._UnwindSectionPrivate.view (Ok (fde_view g.R.Reader.position g.R.Offset.ReaderOffset.number c.in_ok-fde.fde)) (partial_of g.R.Reader.position g.R.Offset.ReaderOffset.number c.in-Fde.partial.prefix c.in-Fde.partial.cie_offset) (cie_view g.R.Reader.position g.R.Offset.ReaderOffset.number c.in_ok-cie.cie) (same_section_and_bases.0 ∙ c.loop-entry.invariant.same_section) (same_section_and_bases.1 ∙ c.loop-entry.invariant.same_bases) c.in_ok-fde.ensures.read in
+    let read = read_same g.Self._UnwindSectionPrivate.view (Ok (fde_view g.R.Reader.position g.R.Offset.ReaderOffset.number c.in_ok-fde.fde)) (partial_of g.R.Reader.position g.R.Offset.ReaderOffset.number c.in-Fde.partial.prefix c.in-Fde.partial.cie_offset) (cie_view g.R.Reader.position g.R.Offset.ReaderOffset.number c.in_ok-cie.cie) (same_section_and_bases.0 ∙ c.loop-entry.invariant.same_section) (same_section_and_bases.1 ∙ c.loop-entry.invariant.same_bases) c.in_ok-fde.ensures.read in
     c.loop-entry.invariant.leads_back _ _
     (scans_found asks section c.args.address (partial_of g.R.Reader.position g.R.Offset.ReaderOffset.number c.in-Fde.partial.prefix c.in-Fde.partial.cie_offset) others met (Ok (cie_view g.R.Reader.position g.R.Offset.ReaderOffset.number c.in_ok-cie.cie)) _ _ (record {
       asked = _;
       answer = c.get_cie.result;
-      at_offset = ap g.R.Offset.ReaderOffset.number (g.met.S.Offset.UnwindOffset.inverse _ _ c.from.ensures);
+      at_offset = ap g.R.Offset.ReaderOffset.number (g.met.Self.Offset.UnwindOffset.inverse _ _ c.from.ensures);
       seen = ap (map_ok (cie_view g.R.Reader.position g.R.Offset.ReaderOffset.number)) c.in_ok-cie.was;
       call = record { shown_section = _; shown_bases = _; at_section = refl; at_bases = refl; call = c.get_cie.ensures };
     }) (fde_view g.R.Reader.position g.R.Offset.ReaderOffset.number c.in_ok-fde.fde) read _ c.contains.ensures c.if-contains.true)
@@ -123,12 +123,12 @@ returns-then-contains-clause-cie g c =
 
 pub loop-entry-preserved-else-contains : goal.loop-entry-preserved-else-contains
 loop-entry-preserved-else-contains g c =
-    let section = section_of (g.S._UnwindSectionPrivate.view c.args.section.now) c.args.bases.now in
-    let asks = GetCieCall g.F.FnMut (λ o. g.R.Offset.ReaderOffset.number (g.S.Offset.UnwindOffset.offset o)) (cie_view g.R.Reader.position g.R.Offset.ReaderOffset.number) c.args.section.now c.args.bases.now in
+    let section = section_of (g.Self._UnwindSectionPrivate.view c.args.self.now) c.args.bases.now in
+    let asks = GetCieCall g.F.FnMut (λ o. g.R.Offset.ReaderOffset.number (g.Self.Offset.UnwindOffset.offset o)) (cie_view g.R.Reader.position g.R.Offset.ReaderOffset.number) c.args.self.now c.args.bases.now in
     let others = entries_left section (g.R.Reader.position c.next.new.self.input).place in
-    let met = met_entry g.S._UnwindSectionPrivate.view c.loop-entry.invariant.same_section c.loop-entry.invariant.same_bases _ _ _ c.in-Some.is c.in-Fde.is c.next.ensures.section c.next.ensures.bases c.in_ok-entry.ensures.met in
+    let met = met_entry g.Self._UnwindSectionPrivate.view c.loop-entry.invariant.same_section c.loop-entry.invariant.same_bases _ _ _ c.in-Some.is c.in-Fde.is c.next.ensures.section c.next.ensures.bases c.in_ok-entry.ensures.met in
     let same_section_and_bases = of_fde _ _ c.in-Some.is c.in-Fde.is c.in_ok-entry.ensures.same_section_and_bases in
-    let read = read_same g.S._UnwindSectionPrivate.view (Ok (fde_view g.R.Reader.position g.R.Offset.ReaderOffset.number c.in_ok-fde.fde)) (partial_of g.R.Reader.position g.R.Offset.ReaderOffset.number c.in-Fde.partial.prefix c.in-Fde.partial.cie_offset) (cie_view g.R.Reader.position g.R.Offset.ReaderOffset.number c.in_ok-cie.cie) (same_section_and_bases.0 ∙ c.loop-entry.invariant.same_section) (same_section_and_bases.1 ∙ c.loop-entry.invariant.same_bases) c.in_ok-fde.ensures.read in
+    let read = read_same g.Self._UnwindSectionPrivate.view (Ok (fde_view g.R.Reader.position g.R.Offset.ReaderOffset.number c.in_ok-fde.fde)) (partial_of g.R.Reader.position g.R.Offset.ReaderOffset.number c.in-Fde.partial.prefix c.in-Fde.partial.cie_offset) (cie_view g.R.Reader.position g.R.Offset.ReaderOffset.number c.in_ok-cie.cie) (same_section_and_bases.0 ∙ c.loop-entry.invariant.same_section) (same_section_and_bases.1 ∙ c.loop-entry.invariant.same_bases) c.in_ok-fde.ensures.read in
     record {
       callable = search of_calls;
       led = (
@@ -145,7 +145,7 @@ loop-entry-preserved-else-contains g c =
           (scans_passed asks section c.args.address (partial_of g.R.Reader.position g.R.Offset.ReaderOffset.number c.in-Fde.partial.prefix c.in-Fde.partial.cie_offset) others met (Ok (cie_view g.R.Reader.position g.R.Offset.ReaderOffset.number c.in_ok-cie.cie)) _ _ (record {
             asked = _;
             answer = c.get_cie.result;
-            at_offset = ap g.R.Offset.ReaderOffset.number (g.met.S.Offset.UnwindOffset.inverse _ _ c.from.ensures);
+            at_offset = ap g.R.Offset.ReaderOffset.number (g.met.Self.Offset.UnwindOffset.inverse _ _ c.from.ensures);
             seen = ap (map_ok (cie_view g.R.Reader.position g.R.Offset.ReaderOffset.number)) c.in_ok-cie.was;
             call = record { shown_section = _; shown_bases = _; at_section = refl; at_bases = refl; call = c.get_cie.ensures };
           }) (fde_view g.R.Reader.position g.R.Offset.ReaderOffset.number c.in_ok-fde.fde) r last read _ c.contains.ensures c.if-contains.false behind);
@@ -153,10 +153,10 @@ loop-entry-preserved-else-contains g c =
 
 pub loop-entry-preserved : goal.loop-entry-preserved
 loop-entry-preserved g c =
-    let section = section_of (g.S._UnwindSectionPrivate.view c.args.section.now) c.args.bases.now in
-    let asks = GetCieCall g.F.FnMut (λ o. g.R.Offset.ReaderOffset.number (g.S.Offset.UnwindOffset.offset o)) (cie_view g.R.Reader.position g.R.Offset.ReaderOffset.number) c.args.section.now c.args.bases.now in
+    let section = section_of (g.Self._UnwindSectionPrivate.view c.args.self.now) c.args.bases.now in
+    let asks = GetCieCall g.F.FnMut (λ o. g.R.Offset.ReaderOffset.number (g.Self.Offset.UnwindOffset.offset o)) (cie_view g.R.Reader.position g.R.Offset.ReaderOffset.number) c.args.self.now c.args.bases.now in
     let others = entries_left section (g.R.Reader.position c.next.new.self.input).place in
-    let met = met_entry g.S._UnwindSectionPrivate.view c.loop-entry.invariant.same_section c.loop-entry.invariant.same_bases _ _ _ c.in-Some.is c.in_default-entry.is c.next.ensures.section c.next.ensures.bases c.in_ok-entry.ensures.met in
+    let met = met_entry g.Self._UnwindSectionPrivate.view c.loop-entry.invariant.same_section c.loop-entry.invariant.same_bases _ _ _ c.in-Some.is c.in_default-entry.is c.next.ensures.section c.next.ensures.bases c.in_ok-entry.ensures.met in
     record {
       callable = c.loop-entry.invariant.callable;
       led = c.loop-entry.invariant.led;
@@ -168,5 +168,5 @@ loop-entry-preserved g c =
 
 pub returns-clause-scan : goal.returns-clause-scan
 returns-clause-scan g c =
-    let met = met_none g.S._UnwindSectionPrivate.view c.loop-entry.invariant.same_section c.loop-entry.invariant.same_bases _ (g.R.Reader.position c.loop-entry.entries.input).place _ c.in_default.is c.in_ok-entry.ensures.met in
+    let met = met_none g.Self._UnwindSectionPrivate.view c.loop-entry.invariant.same_section c.loop-entry.invariant.same_bases _ (g.R.Reader.position c.loop-entry.entries.input).place _ c.in_default.is c.in_ok-entry.ensures.met in
     c.loop-entry.invariant.leads_back _ _ (scans_at _ _ _ met refl (scans_end _ _ _ _))

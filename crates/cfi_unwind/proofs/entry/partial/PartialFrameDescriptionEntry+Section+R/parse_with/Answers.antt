@@ -3,7 +3,7 @@ use Rattle.cfi_read_core.specs.ReaderCalls.{map_ok}
 use Rattle.cfi_entry.specs.EntryViews.{cie_view}
 use Rattle.cfi_unwind.specs.FdeViews.{fde_view}
 use Rattle.cfi_unwind.proofs.ScanSteps.{if_ok}
-use Rattle.cfi_unwind.proofs.entry.partial.PartialFrameDescriptionEntry+Section+R.parse_by_ref.Goals as goal
+use Rattle.cfi_unwind.proofs.entry.partial.PartialFrameDescriptionEntry+Section+R.parse_with.Goals as goal
 
 pub returns-in_err-cie-clause-read : goal.returns-in_err-cie-clause-read
 returns-in_err-cie-clause-read g c =

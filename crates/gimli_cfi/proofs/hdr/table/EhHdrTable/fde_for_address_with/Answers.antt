@@ -1,7 +1,7 @@
 use Rattle.std.proofs.Common.{◌≡◌, Err, ap, refl, rules}
 use Rattle.cfi_read_core.specs.ReaderCalls.{map_ok}
 use Rattle.cfi_unwind.specs.FdeViews.{fde_view}
-use Rattle.gimli_cfi.proofs.hdr.by_table.fde_for_address_by_ref.Goals as goal
+use Rattle.gimli_cfi.proofs.hdr.table.EhHdrTable.fde_for_address_with.Goals as goal
 
 pub returns-in_err-target-clause-found : goal.returns-in_err-target-clause-found
 returns-in_err-target-clause-found g c =

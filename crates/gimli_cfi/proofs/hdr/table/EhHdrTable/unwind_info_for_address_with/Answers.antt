@@ -1,4 +1,4 @@
-use Rattle.gimli_cfi.proofs.hdr.by_table.unwind_info_for_address_by_ref.Goals as goal
+use Rattle.gimli_cfi.proofs.hdr.table.EhHdrTable.unwind_info_for_address_with.Goals as goal
 
 pub returns-clause-row : goal.returns-clause-row
 returns-clause-row g c = (_, c.in_ok-fde.ensures.found, c.unwind_info_for_address.ensures.row)

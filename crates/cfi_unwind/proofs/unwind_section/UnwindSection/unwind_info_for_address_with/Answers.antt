@@ -1,6 +1,6 @@
 use Rattle.std.proofs.Common.{◌≡◌, Err, Ok, refl, inl, rules}
 use Rattle.cfi_unwind.specs.FdeViews.{fde_view}
-use Rattle.cfi_unwind.proofs.unwind_section.by_ref.unwind_info_for_address_by_ref.Goals as goal
+use Rattle.cfi_unwind.proofs.unwind_section.UnwindSection.unwind_info_for_address_with.Goals as goal
 
 pub returns-in_err-fde : goal.returns-in_err-fde
 returns-in_err-fde g c =
