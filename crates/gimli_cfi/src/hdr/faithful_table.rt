@@ -137,13 +137,6 @@ impl<'a, R: Reader> FaithfulTable<'a, R> {
             ≤ St.calls starts.old + steps (faithful_view R.position self.now).table.count }
         ensures same { St.answer starts.new ≡ St.answer starts.old }
     {
-        row_by_table(
-            &self.table,
-            starts,
-            self.frame,
-            self.bases,
-            ctx,
-            address,
-        )
+        row_by_table(&self.table, starts, self.frame, self.bases, ctx, address)
     }
 }
