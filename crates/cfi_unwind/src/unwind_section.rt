@@ -8,7 +8,7 @@ ghost use Rattle.cfi_entry.specs.Sections.{section_of};
 ghost use Rattle.cfi_state.specs.MappedStates.{row_lent};
 ghost use Rattle.cfi_state.specs.Row.{RowContains};
 ghost use Rattle.cfi_state.specs.RowExpressions.{HasExpressionsIn};
-ghost use Rattle.cfi_unwind.specs.AddressRow.{ScansForRowFrom};
+ghost use Rattle.cfi_unwind.specs.AddressRow.{ScansForRow, ScansForRowFrom};
 ghost use Rattle.cfi_unwind.specs.CachedCie.{GetsCie};
 ghost use Rattle.cfi_unwind.specs.EntryIterators.{IsAtStart, walk_bases, walk_section};
 ghost use Rattle.cfi_unwind.specs.FdeViews.{HasCieOf, IsFdeOf, fde_cie, fde_view};
@@ -17,22 +17,19 @@ ghost use Rattle.cfi_unwind.specs.GetCieCalls.{ReadsFdeAt, ScansForFde};
 ghost use Rattle.cfi_unwind.specs.Scan.{chosen_fde};
 ghost use Rattle.cfi_unwind.specs.WalkViews.{IsPartialOf, partial_view};
 
-mod by_ref;
-
 use crate::cie_cache::CieCache;
 use crate::entry::entries::partial_fde_at;
 use crate::entry::{
-    CfiEntriesIter, CommonInformationEntry, FrameDescriptionEntry, PartialFrameDescriptionEntry,
+    CfiEntriesIter, CieOrFde, CommonInformationEntry, FrameDescriptionEntry,
+    PartialFrameDescriptionEntry,
 };
-pub use by_ref::fde_from_offset_by_ref;
-use by_ref::{fde_for_address_by_ref, unwind_info_for_address_by_ref};
 use cfi_entry::cie::cie_at;
 pub use cfi_entry::debug_frame::DebugFrame;
 pub use cfi_entry::eh_frame::EhFrame;
 use cfi_entry::in_section::InSection;
 use cfi_parts::pointer::BaseAddresses;
 use cfi_read_core::section_properties::{_UnwindSectionPrivate, UnwindOffset};
-use cfi_read_core::{DebugFrameOffset, EhFrameOffset, Reader, Result};
+use cfi_read_core::{DebugFrameOffset, EhFrameOffset, Error, Reader, Result};
 use cfi_state::storage::UnwindContextStorage;
 use cfi_state::table::context::UnwindContext;
 use cfi_state::table::row::UnwindTableRow;
@@ -124,7 +121,34 @@ pub trait UnwindSection<R: Reader>: Copy + Debug + _UnwindSectionPrivate<R> {
             IsAnswered F.FnMut self.now bases.now get_cie (fde_cie fde)) }
         ensures part { IfOk result (IsFdeOf R.position (Self.view self.now).position) }
     {
-        fde_from_offset_by_ref(self, bases, offset, &mut get_cie)
+        self.fde_from_offset_with(bases, offset, &mut get_cie)
+    }
+
+    /// Reads the FDE at an offset of the section, as `fde_from_offset`, and borrows `get_cie`, so
+    /// that the caller can use what it keeps.
+    ///
+    /// `get_cie` is called once, or not at all where the way to the offset of the CIE fails. The
+    /// contract names the state in which it is left.
+    #[inline(always)]
+    final fn fde_from_offset_with<F>(
+        &self,
+        bases: &BaseAddresses,
+        offset: Self::Offset,
+        get_cie: &mut F,
+    ) -> Result<FrameDescriptionEntry<R>>
+    where
+        F: FnMut(&Self, &BaseAddresses, Self::Offset) -> Result<CommonInformationEntry<R>>,
+        requires { F.IsAlwaysCallable get_cie.old }
+        ensures read { ReadsFdeAt
+            (AsksForCie F.FnMut R.position R.Offset.number Self.Offset.offset self.now bases.now)
+            (fde_view R.position R.Offset.number) (section_of (Self.view self.now) bases.now)
+            (R.Offset.number (Self.Offset.offset offset)) get_cie.old result get_cie.new }
+        ensures cie { IfOk result (λ fde.
+            IsAnswered F.FnMut self.now bases.now get_cie.old (fde_cie fde)) }
+        ensures part { IfOk result (IsFdeOf R.position (Self.view self.now).position) }
+    {
+        let partial = self.partial_fde_from_offset(bases, offset)?;
+        partial.parse_with(get_cie)
     }
 
     /// Returns the first FDE, in the order of the entries, that contains the address, with the CIEs
@@ -151,7 +175,44 @@ pub trait UnwindSection<R: Reader>: Copy + Debug + _UnwindSectionPrivate<R> {
         ensures contains { IfOk result (λ fde.
             Covers (fde_view R.position R.Offset.number fde) address) }
     {
-        fde_for_address_by_ref(self, bases, address, &mut get_cie)
+        self.fde_for_address_with(bases, address, &mut get_cie)
+    }
+
+    /// Returns that FDE, as `fde_for_address`, and borrows `get_cie`, so that the caller can use
+    /// what it keeps.
+    ///
+    /// `get_cie` is called once for each FDE up to the one that contains the address, in their
+    /// order, and no more. The contract names the state in which it is left.
+    final fn fde_for_address_with<F>(
+        &self,
+        bases: &BaseAddresses,
+        address: u64,
+        get_cie: &mut F,
+    ) -> Result<FrameDescriptionEntry<R>>
+    where
+        F: FnMut(&Self, &BaseAddresses, Self::Offset) -> Result<CommonInformationEntry<R>>,
+        requires { F.IsAlwaysCallable get_cie.old }
+        ensures scan { ScansForFde
+            (AsksForCie F.FnMut R.position R.Offset.number Self.Offset.offset self.now bases.now)
+            (fde_view R.position R.Offset.number) (section_of (Self.view self.now) bases.now)
+            address get_cie.old result get_cie.new }
+        ensures cie { IfOk result (λ fde.
+            IsAnswered F.FnMut self.now bases.now get_cie.old (fde_cie fde)) }
+        ensures part { IfOk result (IsFdeOf R.position (Self.view self.now).position) }
+        ensures contains { IfOk result (λ fde.
+            Covers (fde_view R.position R.Offset.number fde) address) }
+    {
+        let mut entries = self.entries(bases);
+        while let Some(entry) = entries.next()? {
+            if let CieOrFde::Fde(partial) = entry {
+                let cie = get_cie(self, bases, Self::Offset::from(partial.cie_offset))?;
+                let fde = partial.with_cie(&cie)?;
+                if fde.contains(address) {
+                    return Ok(fde);
+                }
+            }
+        }
+        Err(Error::NoUnwindInfoForAddress)
     }
 
     /// Returns the row of that FDE for the address, borrowed from the context.
@@ -182,7 +243,38 @@ pub trait UnwindSection<R: Reader>: Copy + Debug + _UnwindSectionPrivate<R> {
         ensures expressions { IfOk result (λ row.
             HasExpressionsIn R.Offset.number (Self.view self.now).position row.now.parts) }
     {
-        unwind_info_for_address_by_ref(self, bases, ctx, address, &mut get_cie)
+        self.unwind_info_for_address_with(bases, ctx, address, &mut get_cie)
+    }
+
+    /// Returns that row, as `unwind_info_for_address`, and borrows `get_cie`, so that the caller
+    /// can use what it keeps.
+    ///
+    /// `get_cie` is called as by `fde_for_address_with`, and the contract names the state in which
+    /// it is left.
+    final fn unwind_info_for_address_with<'ctx, S, F>(
+        &self,
+        bases: &BaseAddresses,
+        ctx: &'ctx mut UnwindContext<R::Offset, S>,
+        address: u64,
+        get_cie: &mut F,
+    ) -> Result<&'ctx UnwindTableRow<R::Offset, S::Rules>>
+    where
+        S: UnwindContextStorage<R::Offset>,
+        F: FnMut(&Self, &BaseAddresses, Self::Offset) -> Result<CommonInformationEntry<R>>,
+        requires callable { F.IsAlwaysCallable get_cie.old }
+        requires of_section { GivesCiesOf F.FnMut R.position (Self.view self.now).position
+            self.now bases.now get_cie.old }
+        ensures row { ScansForRow
+            (AsksForCie F.FnMut R.position R.Offset.number Self.Offset.offset self.now bases.now)
+            S.Rules.limit S.Stack.limit S.Rules.copies_free
+            (section_of (Self.view self.now) bases.now)
+            address get_cie.old (row_lent R.Offset.number result) get_cie.new }
+        ensures contains { IfOk result (λ row. RowContains address row.now) }
+        ensures expressions { IfOk result (λ row.
+            HasExpressionsIn R.Offset.number (Self.view self.now).position row.now.parts) }
+    {
+        let fde = self.fde_for_address_with(bases, address, get_cie)?;
+        fde.unwind_info_for_address(self, bases, ctx, address)
     }
 }
 

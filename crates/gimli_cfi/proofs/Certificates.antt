@@ -1,5 +1,5 @@
 -- What follows where a table is known to be faithful, but not by which proof.
-use Rattle.std.proofs.Common.{◌≡◌, ℕ, Bool, Option, Some, None, Result, Err, subst}
+use Rattle.std.proofs.Common.{◌≡◌, ◌<◌, ℕ, Bool, Option, Some, None, Result, Err, subst}
 use Rattle.std.proofs.Math.Logic.{∥∥₁_elim}
 use Rattle.std.specs.Prelude.{IsSome, ok_or}
 use Rattle.std.specs.Coded.{Coded, Coded-set, codes}
@@ -22,15 +22,15 @@ found_code = Prim.hlevel codes
 
 -- what the table finds is what going through the section finds
 pub scanned : (l : Listing) → ∥ ListsFaithfully l ∥₁ → ReachesAll l.header l.section → (a : ℕ) (source : ℕ → Result ℕ Error) (found : Result Fde Error) →
-    source ≡ start_of l.header l.table → IsFoundByTable source l.header l.table l.eh_frame l.section a found → found ≡ chosen_fde l.section a
+    ((k : ℕ) → k < l.table.count → source k ≡ start_of l.header l.table k) → IsFoundByTable source l.header l.table l.eh_frame l.section a found → found ≡ chosen_fde l.section a
 scanned l faithful reaches a source found same searched =
     ∥∥₁_elim faithful (Coded-set found_code found (chosen_fde l.section a))
     (λ is.
     let searched' : IsFoundByTable source l.header l.table (Direct is.0) l.section a found = subst (λ (p : Pointer). IsFoundByTable source l.header l.table p l.section a found) is.1 searched in
-    found_as_scan l.header l.table is.0 l.section is.2 a source found reaches (λ k within. λ i. same i k) searched')
+    found_as_scan l.header l.table is.0 l.section is.2 a source found reaches same searched')
 
 pub row_by_scan : (rule_limit stack_limit : Option ℕ) (copies_free : Bool) (l : Listing) → ∥ ListsFaithfully l ∥₁ → ReachesAll l.header l.section → (a : ℕ) (source : ℕ → Result ℕ Error) (row : Result (Row ℕ) Error) →
-    source ≡ start_of l.header l.table →
+    ((k : ℕ) → k < l.table.count → source k ≡ start_of l.header l.table k) →
     ((found : Result Fde Error) × IsFoundByTable source l.header l.table l.eh_frame l.section a found × IsRowOfFound rule_limit stack_limit copies_free l.section a found row) →
     IsRowByScan rule_limit stack_limit copies_free l.section a row
 row_by_scan rule_limit stack_limit copies_free l faithful reaches a source row same found =

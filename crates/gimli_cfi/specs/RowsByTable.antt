@@ -2,7 +2,8 @@
 -- source of starts.
 --     IsFdeFound start listing address found      the FDE that the table names for it, or the error in its place
 --     IsRowByTable .. start listing address row      the row of what is found
---     IfFaithful start listing P      P, if the table lists the FDEs faithfully and the source gives its starts
+--     IfStartsOf listing start P      P, if the source gives the starts of the table's rows
+--     IfFaithful start listing P      P, if it does and the table lists the FDEs faithfully
 -- With any `get_cie` closure, from its state f to its state g, and by the table's own starts:
 --     FindsFde asks listing address f found g      the FDE, or the error in its place
 --     LeadsToRow asks .. listing address f row g, FindsRow asks .. listing address f row      its row
@@ -26,10 +27,13 @@ IsRowByTable rule_limit stack_limit copies_free start l address row =
     (found : Result Fde Error) × IsFdeFound start l address found
     × IsRowOfFound rule_limit stack_limit copies_free l.section address found row
 
+abbrev pub IfStartsOf : Listing → (ℕ → Result ℕ Error) → Type 0 → Type 0
+IfStartsOf l start P = ((k : ℕ) → k < l.table.count → start k ≡ start_of l.header l.table k) → P
+
 abbrev pub IfFaithful : (ℕ → Result ℕ Error) → Listing → Type 0 → Type 0
 IfFaithful start l P =
     (eh_frame : ℕ) → l.eh_frame ≡ Direct eh_frame → IsFaithful l.header l.table eh_frame l.section →
-    ((k : ℕ) → k < l.table.count → start k ≡ start_of l.header l.table k) → P
+    IfStartsOf l start P
 
 -- ---- with any `get_cie` closure
 

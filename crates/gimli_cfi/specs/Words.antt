@@ -140,7 +140,7 @@ unfoldable pub use Rattle.gimli_cfi.specs.PassedRows.{walk_past}
 pub use Rattle.gimli_cfi.specs.BoundaryRows.{IsBoundaryRow, IsRefusalOfRow, AreRising, IsLastUpTo}
 pub use Rattle.gimli_cfi.specs.HalvingSteps.{steps}
 pub use Rattle.gimli_cfi.specs.TableLookup.{IsFoundBySearch, IsFoundByTable, FindsByTable}
-pub use Rattle.gimli_cfi.specs.RowsByTable.{IsFdeFound, IsRowByTable, IfFaithful, FindsFde, FindsRow}
+pub use Rattle.gimli_cfi.specs.RowsByTable.{IsFdeFound, IsRowByTable, IfFaithful, IfStartsOf, FindsFde, FindsRow, LeadsToRow}
 pub use Rattle.gimli_cfi.specs.RowsByHeader.{IsRowByHeader}
 -- ---- whether a table is faithful to its section
 

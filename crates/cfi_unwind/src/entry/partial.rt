@@ -155,13 +155,13 @@ impl<'bases, Section: UnwindSection<R>, R: Reader> PartialFrameDescriptionEntry<
         ensures part { IfOk result
             (IsFdeOf R.position (Section.view (partial_section self.now)).position) }
     {
-        self.parse_by_ref(&mut get_cie)
+        self.parse_with(&mut get_cie)
     }
 
-    /// `parse` with `get_cie` borrowed: the contract names the state in which the one call leaves
-    /// it.
+    /// Reads the rest of the entry, as `parse`, and borrows `get_cie`, so that the caller can use
+    /// what it keeps. The contract names the state in which its one call leaves it.
     #[inline(always)]
-    pub(crate) fn parse_by_ref<F>(&self, get_cie: &mut F) -> Result<FrameDescriptionEntry<R>>
+    pub fn parse_with<F>(&self, get_cie: &mut F) -> Result<FrameDescriptionEntry<R>>
     where
         F: FnMut(&Section, &BaseAddresses, Section::Offset) -> Result<CommonInformationEntry<R>>,
         requires { F.IsAlwaysCallable get_cie.old }

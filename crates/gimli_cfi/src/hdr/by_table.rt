@@ -26,7 +26,7 @@ use cfi_state::storage::UnwindContextStorage;
 use cfi_state::table::context::UnwindContext;
 use cfi_state::table::row::UnwindTableRow;
 use cfi_unwind::entry::{CommonInformationEntry, FrameDescriptionEntry};
-use cfi_unwind::unwind_section::{EhFrame, UnwindSection, fde_from_offset_by_ref};
+use cfi_unwind::unwind_section::{EhFrame, UnwindSection};
 
 /// The unwind row of the address in the section, borrowed from the context, by a header's table.
 ///
@@ -147,73 +147,12 @@ where
         Covers (fde_view R.position R.Offset.number fde) address) }
 {
     let offset = table.pointer_to_offset(target)?;
-    let fde = fde_from_offset_by_ref(frame, bases, offset, get_cie)?;
+    let fde = frame.fde_from_offset_with(bases, offset, get_cie)?;
     if fde.contains(address) {
         Ok(fde)
     } else {
         Err(Error::NoUnwindInfoForAddress)
     }
-}
-
-/// `EhHdrTable::fde_for_address` with `get_cie` borrowed.
-fn fde_for_address_by_ref<R: Reader, F>(
-    table: &EhHdrTable<'_, R>,
-    frame: &EhFrame<R>,
-    bases: &BaseAddresses,
-    address: u64,
-    get_cie: &mut F,
-) -> Result<FrameDescriptionEntry<R>>
-where
-    F: FnMut(
-        &EhFrame<R>,
-        &BaseAddresses,
-        EhFrameOffset<R::Offset>,
-    ) -> Result<CommonInformationEntry<R>>,
-    requires { F.IsAlwaysCallable get_cie.old }
-    ensures found { FindsFde
-        (AsksForCie F.FnMut R.position R.Offset.number (λ o. o.0) frame.now bases.now)
-        (listing_view R.position table.now frame.now bases.now) address
-        get_cie.old (map_ok (fde_view R.position R.Offset.number) result) get_cie.new }
-    ensures cie { IfOk result (λ fde.
-        IsAnswered F.FnMut frame.now bases.now get_cie.old (fde_cie fde)) }
-    ensures part { IfOk result (IsFdeOf R.position (eh_frame_view R.position frame.now).position) }
-    ensures contains { IfOk result (λ fde.
-        Covers (fde_view R.position R.Offset.number fde) address) }
-{
-    let target = table.lookup(address, bases)?;
-    fde_at_target(table, target, frame, bases, address, get_cie)
-}
-
-/// `EhHdrTable::unwind_info_for_address` with `get_cie` borrowed.
-fn unwind_info_for_address_by_ref<'ctx, R: Reader, S, F>(
-    table: &EhHdrTable<'_, R>,
-    frame: &EhFrame<R>,
-    bases: &BaseAddresses,
-    ctx: &'ctx mut UnwindContext<R::Offset, S>,
-    address: u64,
-    get_cie: &mut F,
-) -> Result<&'ctx UnwindTableRow<R::Offset, S::Rules>>
-where
-    S: UnwindContextStorage<R::Offset>,
-    F: FnMut(
-        &EhFrame<R>,
-        &BaseAddresses,
-        EhFrameOffset<R::Offset>,
-    ) -> Result<CommonInformationEntry<R>>,
-    requires callable { F.IsAlwaysCallable get_cie.old }
-    requires of_section { GivesCiesOf F.FnMut R.position
-        (eh_frame_view R.position frame.now).position frame.now bases.now get_cie.old }
-    ensures row { LeadsToRow
-        (AsksForCie F.FnMut R.position R.Offset.number (λ o. o.0) frame.now bases.now)
-        S.Rules.limit S.Stack.limit S.Rules.copies_free
-        (listing_view R.position table.now frame.now bases.now) address
-        get_cie.old (row_lent R.Offset.number result) get_cie.new }
-    ensures contains { IfOk result (λ row. RowContains address row.now) }
-    ensures expressions { IfOk result (λ row. HasExpressionsIn R.Offset.number
-        (eh_frame_view R.position frame.now).position row.now.parts) }
-{
-    let fde = fde_for_address_by_ref(table, frame, bases, address, get_cie)?;
-    fde.unwind_info_for_address(frame, bases, ctx, address)
 }
 
 impl<R: Reader> EhHdrTable<'_, R> {
@@ -250,7 +189,41 @@ impl<R: Reader> EhHdrTable<'_, R> {
         ensures contains { IfOk result (λ fde.
             Covers (fde_view R.position R.Offset.number fde) address) }
     {
-        fde_for_address_by_ref(self, frame, bases, address, &mut get_cie)
+        self.fde_for_address_with(frame, bases, address, &mut get_cie)
+    }
+
+    /// That FDE, as by `fde_for_address`, with `get_cie` borrowed, so that the caller can use what
+    /// it keeps.
+    ///
+    /// `get_cie` is called once, or not at all if the way to the offset of the CIE fails. The
+    /// contract names the state in which it is left.
+    pub fn fde_for_address_with<F>(
+        &self,
+        frame: &EhFrame<R>,
+        bases: &BaseAddresses,
+        address: u64,
+        get_cie: &mut F,
+    ) -> Result<FrameDescriptionEntry<R>>
+    where
+        F: FnMut(
+            &EhFrame<R>,
+            &BaseAddresses,
+            EhFrameOffset<R::Offset>,
+        ) -> Result<CommonInformationEntry<R>>,
+        requires { F.IsAlwaysCallable get_cie.old }
+        ensures found { FindsFde
+            (AsksForCie F.FnMut R.position R.Offset.number (λ o. o.0) frame.now bases.now)
+            (listing_view R.position self.now frame.now bases.now) address
+            get_cie.old (map_ok (fde_view R.position R.Offset.number) result) get_cie.new }
+        ensures cie { IfOk result (λ fde.
+            IsAnswered F.FnMut frame.now bases.now get_cie.old (fde_cie fde)) }
+        ensures part { IfOk result
+            (IsFdeOf R.position (eh_frame_view R.position frame.now).position) }
+        ensures contains { IfOk result (λ fde.
+            Covers (fde_view R.position R.Offset.number fde) address) }
+    {
+        let target = self.lookup(address, bases)?;
+        fde_at_target(self, target, frame, bases, address, get_cie)
     }
 
     /// The row of that FDE for the address, borrowed from the context.
@@ -285,6 +258,42 @@ impl<R: Reader> EhHdrTable<'_, R> {
         ensures expressions { IfOk result (λ row. HasExpressionsIn R.Offset.number
             (eh_frame_view R.position frame.now).position row.now.parts) }
     {
-        unwind_info_for_address_by_ref(self, frame, bases, ctx, address, &mut get_cie)
+        self.unwind_info_for_address_with(frame, bases, ctx, address, &mut get_cie)
+    }
+
+    /// That row, as by `unwind_info_for_address`, with `get_cie` borrowed, so that the caller can
+    /// use what it keeps.
+    ///
+    /// `get_cie` is called as by `fde_for_address_with`, and the contract names the state in which
+    /// it is left.
+    pub fn unwind_info_for_address_with<'ctx, S, F>(
+        &self,
+        frame: &EhFrame<R>,
+        bases: &BaseAddresses,
+        ctx: &'ctx mut UnwindContext<R::Offset, S>,
+        address: u64,
+        get_cie: &mut F,
+    ) -> Result<&'ctx UnwindTableRow<R::Offset, S::Rules>>
+    where
+        S: UnwindContextStorage<R::Offset>,
+        F: FnMut(
+            &EhFrame<R>,
+            &BaseAddresses,
+            EhFrameOffset<R::Offset>,
+        ) -> Result<CommonInformationEntry<R>>,
+        requires callable { F.IsAlwaysCallable get_cie.old }
+        requires of_section { GivesCiesOf F.FnMut R.position
+            (eh_frame_view R.position frame.now).position frame.now bases.now get_cie.old }
+        ensures row { LeadsToRow
+            (AsksForCie F.FnMut R.position R.Offset.number (λ o. o.0) frame.now bases.now)
+            S.Rules.limit S.Stack.limit S.Rules.copies_free
+            (listing_view R.position self.now frame.now bases.now) address
+            get_cie.old (row_lent R.Offset.number result) get_cie.new }
+        ensures contains { IfOk result (λ row. RowContains address row.now) }
+        ensures expressions { IfOk result (λ row. HasExpressionsIn R.Offset.number
+            (eh_frame_view R.position frame.now).position row.now.parts) }
+    {
+        let fde = self.fde_for_address_with(frame, bases, address, get_cie)?;
+        fde.unwind_info_for_address(frame, bases, ctx, address)
     }
 }

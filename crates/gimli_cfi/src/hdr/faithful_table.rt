@@ -1,16 +1,18 @@
 //! A table that was checked against its section.
-ghost use Rattle.std.specs.Prelude.{◌≡◌, ⊤, IfOk, IfErr};
+ghost use Rattle.std.specs.Prelude.{◌≡◌, ◌+◌, ◌≤◌, ⊤, IfOk, IfErr};
 ghost use Rattle.cfi_entry.specs.SectionViews.{eh_frame_view};
 ghost use Rattle.cfi_state.specs.MappedStates.{row_lent};
 ghost use Rattle.cfi_state.specs.Row.{RowContains};
 ghost use Rattle.cfi_state.specs.RowExpressions.{HasExpressionsIn};
 ghost use Rattle.cfi_unwind.specs.AddressRow.{IsRowByScan};
+ghost use Rattle.gimli_cfi.specs.HalvingSteps.{steps};
 ghost use Rattle.gimli_cfi.specs.HeaderViews.{listing_view};
+ghost use Rattle.gimli_cfi.specs.RowsByTable.{IfStartsOf, IsRowByTable};
 ghost use Rattle.gimli_cfi.specs.TableCheck.{IsReason, ListsFaithfully};
 
 use crate::hdr::by_table::row_by_table;
 use crate::hdr::check::check_table;
-use crate::hdr::starts::TableStarts;
+use crate::hdr::starts::{StartSource, TableStarts};
 use crate::hdr::table::EhHdrTable;
 use crate::hdr::unfaithful::Unfaithful;
 use cfi_parts::pointer::BaseAddresses;
@@ -91,9 +93,9 @@ impl<'a, R: Reader> FaithfulTable<'a, R> {
     /// The unwind row of the address in the section, borrowed from the context: what `row_by_scan`
     /// returns, row or error, by a search in the table.
     ///
-    /// It reads at most as many starts as halving the rows takes. Over a fixed storage it does not
-    /// allocate; over another one it may fail with `OutOfMemory` (LSB Core, "The .eh_frame_hdr
-    /// section").
+    /// It reads at most as many starts as halving the rows takes, by `row_in`. Over a fixed storage
+    /// it does not allocate; over another one it may fail with `OutOfMemory` (LSB Core, "The
+    /// .eh_frame_hdr section").
     pub fn row<'ctx, S: UnwindContextStorage<R::Offset>>(
         &self,
         ctx: &'ctx mut UnwindContext<R::Offset, S>,
@@ -107,13 +109,34 @@ impl<'a, R: Reader> FaithfulTable<'a, R> {
             (eh_frame_view R.position (checked_frame self.now)).position row.now.parts) }
     {
         let mut starts = TableStarts::new(&self.table, self.bases)?;
-        row_by_table(
-            &self.table,
-            &mut starts,
-            self.frame,
-            self.bases,
-            ctx,
-            address,
-        )
+        self.row_in(&mut starts, ctx, address)
+    }
+
+    /// The same with a source of starts in place of the table's own.
+    ///
+    /// It is what `row_by_table` returns, whatever the source answers; and what `row_by_scan`
+    /// returns if the source answers the starts of the table's rows. The source is called at most
+    /// as often as halving the rows takes. It allocates as `row` does.
+    pub fn row_in<'ctx, St: StartSource, S: UnwindContextStorage<R::Offset>>(
+        &self,
+        starts: &mut St,
+        ctx: &'ctx mut UnwindContext<R::Offset, S>,
+        address: u64,
+    ) -> Result<&'ctx UnwindTableRow<R::Offset, S::Rules>, Error>
+        ensures found { IsRowByTable S.Rules.limit S.Stack.limit S.Rules.copies_free
+            (St.answer starts.old) (faithful_view R.position self.now) address
+            (row_lent R.Offset.number result) }
+        ensures row { let listing = faithful_view R.position self.now in
+            IfStartsOf listing (St.answer starts.old)
+            (IsRowByScan S.Rules.limit S.Stack.limit S.Rules.copies_free listing.section address
+            (row_lent R.Offset.number result)) }
+        ensures contains { IfOk result (λ row. RowContains address row.now) }
+        ensures expressions { IfOk result (λ row. HasExpressionsIn R.Offset.number
+            (eh_frame_view R.position (checked_frame self.now)).position row.now.parts) }
+        ensures calls { St.calls starts.new
+            ≤ St.calls starts.old + steps (faithful_view R.position self.now).table.count }
+        ensures same { St.answer starts.new ≡ St.answer starts.old }
+    {
+        row_by_table(&self.table, starts, self.frame, self.bases, ctx, address)
     }
 }

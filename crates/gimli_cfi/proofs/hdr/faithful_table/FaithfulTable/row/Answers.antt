@@ -1,7 +1,6 @@
 use Rattle.std.proofs.Common.{sym}
 use Rattle.gimli_cfi.specs.HeaderViews.{listing_view, starts_view}
-use Rattle.gimli_cfi.proofs.Certificates.{never_unsearchable, row_by_scan}
-use Rattle.gimli_cfi.proofs.TableRows.{reaches_all}
+use Rattle.gimli_cfi.proofs.Certificates.{never_unsearchable}
 use Rattle.gimli_cfi.proofs.hdr.faithful_table.FaithfulTable.row.Goals as goal
 
 pub returns-in_err-starts-clause-row : goal.returns-in_err-starts-clause-row
@@ -10,9 +9,5 @@ returns-in_err-starts-clause-row g c =
 
 pub returns-clause-row : goal.returns-clause-row
 returns-clause-row g c =
-    let l = listing_view g.R.Reader.position c.args.self.now.table c.args.self.now.frame.now c.args.self.now.bases.now in
     let same_section_and_bases = c.in_ok-starts.ensures.same_section_and_bases in
-    row_by_scan _ _ _ l c.args.self.now.faithful
-    (reaches_all (g.R.Reader.position c.args.self.now.frame.now.section) (g.R.Reader.position c.args.self.now.table.hdr.now.section) g.R.Offset.ReaderOffset.GREATEST
-    (g.met.R.Reader.sound c.args.self.now.frame.now.section) (g.met.R.Reader.greatest c.args.self.now.frame.now.section) (g.met.R.Reader.greatest c.args.self.now.table.hdr.now.section))
-    c.args.address _ _ (λ i. starts_view g.R.Reader.position (same_section_and_bases.0 i) (same_section_and_bases.1 i)) c.row_by_table.ensures.found
+    c.row_in.ensures.row (λ k within i. starts_view g.R.Reader.position (same_section_and_bases.0 i) (same_section_and_bases.1 i) k)

@@ -1,7 +1,0 @@
-use Rattle.gimli_cfi.proofs.hdr.by_table.unwind_info_for_address_by_ref.Goals as goal
-
-pub returns-clause-row : goal.returns-clause-row
-returns-clause-row g c = (_, c.in_ok-fde.ensures.found, c.unwind_info_for_address.ensures.row)
-
-pub returns-clause-contains : goal.returns-clause-contains
-returns-clause-contains g c = c.unwind_info_for_address.ensures.contains
