@@ -15,11 +15,6 @@ is_newer() {
     done
 }
 
-# build_cfi_c LIBRARY OPTION..: does that for cfi_c.
-build_cfi_c() {
-    build_static cfi_c "$@"
-}
-
 # build_static NAME LIBRARY OPTION..: proves and builds the crate NAME as the static library LIBRARY, over the crates below
 # it as they were last built, with the compiler of the folder $toolchain.
 build_static() {
@@ -43,6 +38,11 @@ build_static() {
     words+=(--backend llvm --toolchain "$toolchain" -o "$library")
     mkdir -p "${library%/*}"
     (cd "crates/$name" && "$kit/bin/rattle" build "${words[@]}")
+}
+
+# build_cfi_c LIBRARY OPTION..: the same for cfi_c.
+build_cfi_c() {
+    build_static cfi_c "$@"
 }
 
 # worked_rows: the worked rows of the program's tests, a case a line.

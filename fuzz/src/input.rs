@@ -50,7 +50,7 @@ impl Input {
 
 const FIXED: usize = 44;
 /// Bytes of a section that is put together of pieces.
-const LONGEST: usize = 1 << 17;
+const LONGEST: usize = 80_000;
 const SEPARATOR: [u8; 2] = [0x5c, 0xff];
 
 /// Returns `None` for too few bytes.

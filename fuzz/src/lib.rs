@@ -39,7 +39,7 @@ const ADDRESSES: usize = 20;
 const FDES: usize = 6;
 /// In a section of more bytes only the first few addresses are asked for.
 const LARGE: usize = 8192;
-const FEW_ADDRESSES: usize = 4;
+const FEW_ADDRESSES: usize = 2;
 /// So many registers are asked for at least, and at most unless an input asks for all of them: each
 /// costs a search of the row.
 const FEW_REGISTERS: usize = 24;
