@@ -1,7 +1,8 @@
-# Builds of cfi_c that rt has no command for: by the compiler that rt calls, with the words that rt would give it. It is
-# sourced, at the top of the repository.
+# Builds of static libraries that rt has no command for: by the compiler that rt calls, with the words that rt would give
+# it. It is sourced, at the top of the repository.
 
 kit=$(dirname "$(rt doc)")
+toolchain=$kit/toolchain
 mapfile -t crates_of_c < <(awk -v crate=cfi_c -f tools/crates_below.awk crates.txt)
 
 # is_newer FILE CRATE..: whether the file exists and no source of these crates is newer.
@@ -14,13 +15,14 @@ is_newer() {
     done
 }
 
-# build_cfi_c LIBRARY OPTION..: proves and builds cfi_c as the static library LIBRARY, over the crates below it as they
-# were last built.
-build_cfi_c() {
-    local library=$1 crate named
-    shift
-    local words=(--crate-name cfi_c src/lib.rt --crate-type staticlib --links cfi_c= "$@")
-    read -r -a named <<< "$(sed -n 's/^cfi_c staticlib: *//p' crates.txt)"
+# build_static NAME LIBRARY OPTION..: proves and builds the crate NAME as the static library LIBRARY, over the crates below
+# it as they were last built, with the compiler of the folder $toolchain.
+build_static() {
+    local name=$1 library=$2 crate named below
+    shift 2
+    local words=(--crate-name "$name" src/lib.rt --crate-type staticlib --links "$name=" "$@")
+    read -r -a named <<< "$(sed -n "s/^$name staticlib: *//p" crates.txt)"
+    mapfile -t below < <(awk -v crate="$name" -f tools/crates_below.awk crates.txt)
     for crate in std "${named[@]}"; do
         if [ -d "crates/$crate" ]; then
             words+=(--extern "$crate=../$crate/out/rlib/$crate.rlib")
@@ -29,13 +31,18 @@ build_cfi_c() {
         fi
     done
     words+=(-L "dependency=$kit/rlibs")
-    for crate in "${crates_of_c[@]:1}"; do
+    for crate in "${below[@]:1}"; do
         words+=(-L "dependency=../$crate/out/rlib")
     done
     words+=(--antt-project "$kit/rattle/logic/antt-project.json" --logic-built "$kit/logic_built")
-    words+=(--backend llvm --toolchain "$kit/toolchain" -o "$library")
+    words+=(--backend llvm --toolchain "$toolchain" -o "$library")
     mkdir -p "${library%/*}"
-    (cd crates/cfi_c && "$kit/bin/rattle" build "${words[@]}")
+    (cd "crates/$name" && "$kit/bin/rattle" build "${words[@]}")
+}
+
+# build_cfi_c LIBRARY OPTION..: the same for cfi_c.
+build_cfi_c() {
+    build_static cfi_c "$@"
 }
 
 # worked_rows: the worked rows of the program's tests, a case a line.

@@ -69,6 +69,31 @@ FAULTS = [
         AFTER_ERROR + "self.input.empty();",
         AFTER_ERROR + "let _ = self.input.read_u8();",
     ),
+    # Of calls that only cfi_fuzz makes.
+    ("nth skips a row too few", "n * row_size", "n.saturating_sub(1) * row_size"),
+    (
+        "an absent base of the section is 0",
+        "return Err(Error::PcRelativePointerButSectionBaseIsUndefined);",
+        "0",
+    ),
+    (
+        "a list without a limit has room for 192 rules",
+        "        self.rules\n            .try_push((register, rule))\n",
+        "        if self.rules.len() == 192 {\n"
+        "            return Err(Error::TooManyRegisterRules);\n"
+        "        }\n"
+        "        self.rules\n            .try_push((register, rule))\n",
+    ),
+    (
+        "no CIE is of signal trampolines",
+        "self.augmentation.is_some_and(|a| a.is_signal_trampoline)",
+        "false",
+    ),
+    (
+        "the targets of a table are direct",
+        "Ok(Some((from, to)))",
+        "Ok(Some((from, Pointer::Direct(to.pointer()))))",
+    ),
 ]
 
 

@@ -17,6 +17,7 @@ PER_FILE = 40  # seeds of an ELF file
 SEPARATOR = b"\x5c\xff"
 BIG, EH_FRAME, AARCH64, TABLE, PIECES = (1 << bit for bit in range(2, 7))
 SIZES = {1: 0, 2: 1, 4: 2, 8: 3}
+HEAP, GROWING, SMALL = 0, 64, 192
 
 
 class Seeds:
@@ -26,9 +27,10 @@ class Seeds:
         self.folder, self.count = folder, 0
         os.makedirs(folder, exist_ok=True)
 
-    def write(self, flags, numbers, header, rest):
+    def write(self, flags, numbers, header, rest, unset=0, storage=GROWING, refused=0):
         numbers = [number % (1 << 64) for number in numbers]
-        data = bytes([flags, len(header)]) + struct.pack("<5Q", *numbers) + header + rest
+        data = bytes([flags, len(header)]) + struct.pack("<5Q", *numbers)
+        data += bytes([unset | storage, refused]) + header + rest
         with open(os.path.join(self.folder, hashlib.sha1(data).hexdigest()[:20]), "wb") as file:
             file.write(data)
         self.count += 1
@@ -103,17 +105,68 @@ def write_limits(seeds):
             seeds.write(flags, [0] * 5, b"", cie + SEPARATOR + fde + program + more)
 
 
-def write_encodings(seeds):
-    """A CIE with one letter in each encoding, and an FDE that has what the letter asks for."""
+def write_storages(seeds):
+    """Sections at the limits of the small storage, and such that need much memory."""
+    flags = PIECES | SIZES[8]
+    cie, fde = b"\0\4\0\x08\0\1\x78\x10", b"\1" + struct.pack("<QQ", 0, 9)
+    kinds = ((HEAP, 1), (GROWING, 0), (GROWING, 3), (GROWING, 130), (SMALL, 0))
+    for rules in (0, 1, 2, 3, 4, 200):
+        numbers = [bytes([r]) if r < 128 else bytes([r & 127 | 128, r >> 7]) for r in range(rules)]
+        program = b"".join(b"\x07" + number for number in numbers)
+        for remembered in (0, 1, 2, 3, 9):
+            more = b"\x0a" * remembered + b"\x41" + b"\x0b" * remembered + b"\x42"
+            for storage, refused in kinds:
+                for entries in (
+                    cie + program + SEPARATOR + fde + more,
+                    cie + SEPARATOR + fde + program + more,
+                ):
+                    seeds.write(flags, [0] * 5, b"", entries, 0, storage, refused)
+
+
+def write_large(seeds):
+    """Sections of many entries, whose FDEs follow each other, or all begin at one address."""
+    absolute = b"\0\4\0\x08\0\1\x78\x10" + SEPARATOR
+    absolute += b"\1" + struct.pack("<QQ", 64, 9) + b"\x41"
+    relative = b"\0\1zR\0\1\x78\x10\1\x1b\x0c\7\x08" + SEPARATOR
+    relative += b"\1" + struct.pack("<iI", -4096, 8) + b"\0\x41\x0e\x10"
+    kinds = (PIECES, PIECES | EH_FRAME, PIECES | EH_FRAME | TABLE)
+    addresses = ([64, 0x2000, 0x100, 0x0205030100, 8], [0x1020, 0x2000, 0x101, 0, 1])
+    for times in (3, 40, 700, 9000):
+        again = SEPARATOR + b"\7" + struct.pack("<H", times)
+        for kind in kinds:
+            for entries in (absolute, relative):
+                for numbers in addresses:
+                    seeds.write(kind | SIZES[8], numbers, b"", entries + again)
+
+
+def all_encodings():
+    """Each pointer encoding, with the bytes that a small value has in it."""
     sizes = {0: 8, 1: 1, 2: 2, 3: 4, 4: 8, 9: 1, 10: 2, 11: 4, 12: 8}
-    encodings = [
+    return [
         (form | base << 4 | indirect, size)
         for form, size in sizes.items()
         for base in range(6)
         for indirect in (0, 128)
     ]
+
+
+def write_headers(seeds):
+    """Headers whose tables have four rows in each encoding, by their count or by another one."""
+    flags = EH_FRAME | TABLE | PIECES | SIZES[8]
+    cie, fde = b"\0\4\0\x08\0\1\x78\x10", b"\1" + struct.pack("<QQ", 6, 9) + b"\x41"
+    for encoding, size in all_encodings():
+        rows = b"".join(n.to_bytes(size, "little") for n in (6, 16, 20, 16, 30, 16, 40, 16))
+        for count in (4, 5, 1 << 40):
+            header = bytes([1, 3, 4, encoding]) + struct.pack("<IQ", 0, count) + rows
+            for steps in (0x0105040003020100, 0x0000000000010806):
+                numbers = [steps, 0, 0, 7, 1 << 63]
+                seeds.write(flags, numbers, header, cie + SEPARATOR + fde)
+
+
+def write_encodings(seeds):
+    """A CIE with one letter in each encoding, and an FDE that has what the letter asks for."""
     kinds = (0, BIG, EH_FRAME, EH_FRAME | BIG, EH_FRAME | TABLE)
-    for encoding, size in encodings:
+    for encoding, size in all_encodings():
         for kind in kinds:
             order = "big" if kind & BIG else "little"
             value, last = (5).to_bytes(size, order), (9).to_bytes(size, order)
@@ -127,7 +180,10 @@ def write_encodings(seeds):
                 entries = cie + b"\x0c\7\x08\x90\1" + SEPARATOR
                 entries += b"\1" + rest + b"\x41\x0e\x10\1" + value
                 flags = kind | PIECES | SIZES[8]
-                seeds.write(flags, [5, 0x100, 0x80, 0x40, 0x20], b"", entries)
+                numbers = [5, 0x100, 0x80, 0x40, 0x20]
+                seeds.write(flags, numbers, b"", entries)
+                if kind == EH_FRAME | TABLE:
+                    seeds.write(flags, numbers, b"", entries, 63, HEAP)
 
 
 def eh_frame_of(data):
@@ -168,6 +224,9 @@ def main(folder, files):
     seeds = Seeds(folder)
     write_cases(seeds, os.path.join(os.path.dirname(os.path.abspath(__file__)), "seeds.txt"))
     write_limits(seeds)
+    write_storages(seeds)
+    write_large(seeds)
+    write_headers(seeds)
     write_encodings(seeds)
     for path in files:
         with open(path, "rb") as file:

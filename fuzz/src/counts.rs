@@ -6,6 +6,10 @@ use std::sync::atomic::{AtomicU64, Ordering::Relaxed};
 static COMPARED: [[AtomicU64; 2]; 2] = [const { [const { AtomicU64::new(0) }; 2] }; 2];
 /// Passes over whole sections and headers.
 static PASSES: AtomicU64 = AtomicU64::new(0);
+/// Tables that are faithful, and others.
+static CHECKED: [AtomicU64; 2] = [const { AtomicU64::new(0) }; 2];
+/// Requests of memory that were refused.
+static REFUSED: AtomicU64 = AtomicU64::new(0);
 static DEPARTED: [AtomicU64; Departure::ALL.len()] =
     [const { AtomicU64::new(0) }; Departure::ALL.len()];
 
@@ -26,6 +30,14 @@ pub fn compared_passes(number: u64) {
     PASSES.fetch_add(number, Relaxed);
 }
 
+pub fn checked(is_faithful: bool) {
+    CHECKED[usize::from(!is_faithful)].fetch_add(1, Relaxed);
+}
+
+pub fn refused(requests: u64) {
+    REFUSED.fetch_add(requests, Relaxed);
+}
+
 pub fn departed(departure: Departure) {
     DEPARTED[departure as usize].fetch_add(1, Relaxed);
 }
@@ -37,6 +49,9 @@ extern "C" fn print() {
         eprintln!("count: errors {how}: {}", counts[1].load(Relaxed));
     }
     eprintln!("count: passes: {}", PASSES.load(Relaxed));
+    eprintln!("count: faithful tables: {}", CHECKED[0].load(Relaxed));
+    eprintln!("count: other tables: {}", CHECKED[1].load(Relaxed));
+    eprintln!("count: refused requests: {}", REFUSED.load(Relaxed));
     for departure in Departure::ALL {
         let count = DEPARTED[departure as usize].load(Relaxed);
         eprintln!("count: departures on purpose, {departure:?}: {count}");

@@ -1,8 +1,12 @@
 //! A fuzz target: gimli and gimli_cfi are asked the same questions, and the process stops where
 //! what they return differs. [`input`] tells what is asked, README.md which differences are meant.
 mod counts;
+mod deep;
+mod event;
 mod guarded;
 mod input;
+mod memory;
+mod our_answers;
 
 use answer::{Answer, Fde, text, truncated};
 use comparison::{answer, c_library, departure, gimli_side, passes, question, sums};
@@ -12,17 +16,30 @@ use input::Input;
 use question::Question;
 use std::cell::RefCell;
 
+/// gimli, asked what crates/cfi_fuzz is asked.
+mod plain {
+    use comparison::gimli_side;
+    include!("gimli_answers.rs");
+}
+
 /// gimli with the extensions of gimli_cfi: letter `B` and opcode 0x2f (`extend.py`).
 #[allow(dead_code)]
 mod extended {
+    pub mod gimli_side {
+        use gimli_extended as gimli;
+        include!("../../tools/comparison/src/gimli_side.rs");
+    }
     use gimli_extended as gimli;
-    include!("../../tools/comparison/src/gimli_side.rs");
+    include!("gimli_answers.rs");
 }
 
 /// At most so many addresses are asked for in a section.
 const ADDRESSES: usize = 20;
 /// Addresses are those of so many FDEs.
 const FDES: usize = 6;
+/// In a section of more bytes only the first few addresses are asked for.
+const LARGE: usize = 8192;
+const FEW_ADDRESSES: usize = 2;
 /// So many registers are asked for at least, and at most unless an input asks for all of them: each
 /// costs a search of the row.
 const FEW_REGISTERS: usize = 24;
@@ -34,6 +51,7 @@ const PER_ROW: usize = 20;
 /// What is used for all inputs. Contexts are, since what an input left in them must not matter.
 struct State {
     contexts: Contexts,
+    deep: deep::Contexts,
     section: Guarded,
     header: Guarded,
 }
@@ -41,7 +59,7 @@ struct State {
 struct Contexts {
     ours: c_library::Context,
     gimli: gimli_side::Context,
-    extended: extended::Context,
+    extended: extended::gimli_side::Context,
 }
 
 impl State {
@@ -49,10 +67,11 @@ impl State {
         let contexts = Contexts {
             ours: c_library::Context::new(),
             gimli: gimli_side::context(),
-            extended: extended::context(),
+            extended: extended::gimli_side::context(),
         };
         State {
             contexts,
+            deep: deep::Contexts::new(),
             section: Guarded::new(),
             header: Guarded::new(),
         }
@@ -89,6 +108,7 @@ pub unsafe extern "C" fn LLVMFuzzerTestOneInput(data: *const u8, length: usize) 
 fn compare(state: &mut State, input: Input) {
     let State {
         contexts,
+        deep,
         section,
         header,
     } = state;
@@ -99,15 +119,21 @@ fn compare(state: &mut State, input: Input) {
         header: None,
     };
     // The first FDEs that can be read, also those that gimli alone can't read.
-    let fdes = extended::entries(&question).fdes.into_iter().flatten();
-    let fdes: Vec<_> = fdes.take(FDES).collect();
-    if let Some(mut bytes) = input.header {
-        if bytes.is_empty() {
-            bytes = input::build_header(&question, &fdes);
-        }
-        question.header = Some(header.hold(&bytes));
+    let fdes = extended::gimli_side::entries(&question).fdes;
+    let mut fdes: Vec<_> = fdes.into_iter().flatten().collect();
+    if let Some(bytes) = &input.header {
+        let built = bytes
+            .is_empty()
+            .then(|| input::build_header(&question, &fdes));
+        question.header = Some(header.hold(built.as_ref().unwrap_or(bytes)));
     }
-    let mut addresses = Addresses::new(input.address, &fdes);
+    fdes.truncate(FDES);
+    let most = if section.len() > LARGE {
+        FEW_ADDRESSES
+    } else {
+        ADDRESSES
+    };
+    let mut addresses = Addresses::new(input.address, &fdes, most);
     let mut answers: Vec<Answer> = Vec::new();
     while let Some(&address) = addresses.0.get(answers.len()) {
         let all = input.all && answers.is_empty();
@@ -121,15 +147,36 @@ fn compare(state: &mut State, input: Input) {
     if passes::are_possible(&question) {
         compare_passes(contexts, &question, &addresses.0);
     }
+    let steps = steps(&input);
+    let settings = input.settings_without();
+    let mut comparison = deep::Comparison {
+        contexts: deep,
+        question: Question {
+            settings,
+            ..question
+        },
+        storage: input.storage,
+        refusal: input.refusal,
+        addresses: &addresses.0,
+        steps: &steps,
+    };
+    comparison.all();
+}
+
+/// Calls of `next` and `nth`: by each byte of two numbers of the input, and by a whole one.
+fn steps(input: &Input) -> Vec<u64> {
+    let [first, second] = [input.address, input.settings.text].map(u64::to_le_bytes);
+    let bytes = first.into_iter().chain(second).map(u64::from);
+    bytes.chain([input.settings.data, 1]).collect()
 }
 
 /// Different addresses, up to a number.
-struct Addresses(Vec<u64>);
+struct Addresses(Vec<u64>, usize);
 
 impl Addresses {
     /// An address, and the first, the last and the end of each FDE.
-    fn new(address: u64, fdes: &[Fde]) -> Addresses {
-        let mut addresses = Addresses(vec![address]);
+    fn new(address: u64, fdes: &[Fde], most: usize) -> Addresses {
+        let mut addresses = Addresses(vec![address], most);
         for fde in fdes {
             for address in [fde.start, fde.end.wrapping_sub(1), fde.end] {
                 addresses.add(address);
@@ -139,7 +186,7 @@ impl Addresses {
     }
 
     fn add(&mut self, address: u64) {
-        if self.0.len() < ADDRESSES && !self.0.contains(&address) {
+        if self.0.len() < self.1 && !self.0.contains(&address) {
             self.0.push(address);
         }
     }
@@ -157,7 +204,7 @@ fn compare_row(contexts: &mut Contexts, question: &Question, address: u64, all: 
             .as_ref()
             .is_err_and(|error| error.is_avoided_by_extension())
     {
-        expected = extended::answer(question, address, &mut contexts.extended);
+        expected = extended::gimli_side::answer(question, address, &mut contexts.extended);
         expected.departure = Some(Departure::Extension);
         // The first call may have asked for the rules of too few registers.
         ours = contexts
@@ -221,7 +268,7 @@ fn compare_passes(contexts: &mut Contexts, question: &Question, addresses: &[u64
     let ours = passes::of_section(&question);
     let gimli = gimli_side::section_passes(&question, &mut contexts.gimli);
     if ours != gimli {
-        if ours != extended::section_passes(&question, &mut contexts.extended) {
+        if ours != extended::gimli_side::section_passes(&question, &mut contexts.extended) {
             stop_at_pass(&question, &format!("{gimli:?}"), &format!("{ours:?}"));
         }
         counts::departed(Departure::Extension);

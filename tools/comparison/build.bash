@@ -1,17 +1,18 @@
 # What fuzz/run and tools/compare_with_gimli build with. It is sourced.
 repository=$(cd "$(dirname "${BASH_SOURCE[0]}")/../.." && pwd)
 
-# find_libraries: exports CFI_LIBRARIES, the folders of the static libraries with a colon between
-# them, unless it is set. A library that isn't there is built, which proves it and takes long.
+# find_libraries CRATE..: exports CFI_LIBRARIES, the folders of the crates' static libraries and of
+# liblibc_c.a with a colon between them, unless it is set. A library that isn't there is built,
+# which proves it and takes long.
 find_libraries() {
-    local crate
+    local crate folders=
     [ -z "${CFI_LIBRARIES:-}" ] || return 0
-    for crate in cfi_c cfi_bench; do
+    for crate in "$@"; do
         [ -f "$repository/crates/$crate/out/lib$crate.a" ] ||
             (cd "$repository/crates/$crate" && rt lib) >&2
+        folders+=$repository/crates/$crate/out:
     done
-    CFI_LIBRARIES=$repository/crates/cfi_c/out:$repository/crates/cfi_bench/out
-    CFI_LIBRARIES+=:$(dirname "$(rt doc)")/c
+    CFI_LIBRARIES=$folders$(dirname "$(rt doc)")/c
     export CFI_LIBRARIES
 }
 

@@ -8,11 +8,13 @@
 //! of the fixed storage, and free it at their end.
 #![tactic(auto)]
 
+mod passes;
+mod sums;
 #[cfg(test)]
 mod tests;
 
-use cfi_bench_passes::passes::{of_header, of_section};
 use gimli_cfi::{BigEndian, LittleEndian};
+use passes::{of_header, of_section};
 use std::alloc::Global;
 
 /// One pass over `.eh_frame`, the least significant byte first, of 8-byte addresses, that lies at

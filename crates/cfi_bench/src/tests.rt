@@ -1,6 +1,6 @@
 //! How many answers each pass counts in a small section, and that both byte orders have one
 //! checksum.
-use cfi_bench_passes::passes::{of_header, of_section};
+use crate::passes::{of_header, of_section};
 use gimli_cfi::{BigEndian, LittleEndian};
 use std::test::Fail;
 

@@ -239,11 +239,12 @@ impl Drop for Context {
 
 fn bases_of(question: &Question) -> RawBases {
     let settings = &question.settings;
+    assert_eq!(settings.unset, 0, "the C library has no absent bases");
     RawBases {
         section: settings.section,
         header: settings.header,
-        text: settings.text.expect("the C library has no absent bases"),
-        data_base: settings.data.expect("the C library has no absent bases"),
+        text: settings.text,
+        data_base: settings.data,
         big_endian: settings.big_endian,
         debug_frame: settings.debug_frame,
         aarch64: settings.aarch64,

@@ -12,14 +12,20 @@ pub enum Departure {
     Place,
     /// `pointer_to_offset` of a pointer below the section is `OffsetOutOfBounds`.
     Below,
+    /// `nth` at or past the number of rows that remain is `None`, and no rows are left.
+    PastTheRows,
+    /// An error of the format or of the skip in `nth` leaves the iterator unchanged.
+    Unchanged,
 }
 
 impl Departure {
-    pub const ALL: [Departure; 4] = [
+    pub const ALL: [Departure; 6] = [
         Departure::Extension,
         Departure::Product,
         Departure::Place,
         Departure::Below,
+        Departure::PastTheRows,
+        Departure::Unchanged,
     ];
 }
 

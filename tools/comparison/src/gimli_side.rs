@@ -2,16 +2,15 @@
 // the extensions of gimli_cfi under the name `gimli`.
 use crate::answer::{Answer, Cfa, Entries, Error, Fde, Row, Rule};
 use crate::departure::{Departure, Expected};
-use crate::question::Question;
+use crate::question::{self, Question};
 use crate::sums::Done;
 use gimli::{
     BaseAddresses, CfaRule, CieOrFde, DebugFrame, EhFrame, EhFrameHdr, EhHdrTable, EndianSlice,
-    ParsedEhFrameHdr, Pointer, RegisterRule, RunTimeEndian, StoreOnHeap, UnwindContext,
-    UnwindOffset, UnwindSection, UnwindTableRow, Vendor,
+    ParsedEhFrameHdr, Pointer, RegisterRule, RunTimeEndian, SectionBaseAddresses, StoreOnHeap,
+    UnwindContext, UnwindContextStorage, UnwindOffset, UnwindSection, UnwindTableRow, Vendor,
 };
 
-type Slice<'a> = EndianSlice<'a, RunTimeEndian>;
-type GimliRow = UnwindTableRow<usize, StoreOnHeap>;
+pub type Slice<'a> = EndianSlice<'a, RunTimeEndian>;
 pub type Context = UnwindContext<usize, StoreOnHeap>;
 
 /// A fresh context of gimli.
@@ -106,7 +105,11 @@ pub fn section_passes(question: &Question, context: &mut Context) -> [Done; 3] {
 }
 
 /// The row of an address. Where gimli_cfi departs from gimli on purpose, what it has to return.
-pub fn answer(question: &Question, address: u64, context: &mut Context) -> Expected {
+pub fn answer<S: UnwindContextStorage<usize>>(
+    question: &Question,
+    address: u64,
+    context: &mut UnwindContext<usize, S>,
+) -> Expected {
     let bases = bases(question);
     if question.header.is_some() {
         return by_header(question, &bases, address, context);
@@ -118,22 +121,23 @@ pub fn answer(question: &Question, address: u64, context: &mut Context) -> Expec
     })
 }
 
-fn scan<'a, S: UnwindSection<Slice<'a>>>(
+fn scan<'a, Section: UnwindSection<Slice<'a>>, S: UnwindContextStorage<usize>>(
     question: &Question<'a>,
-    section: &S,
+    section: &Section,
     bases: &BaseAddresses,
     address: u64,
-    context: &mut Context,
+    context: &mut UnwindContext<usize, S>,
 ) -> Answer {
-    let row = section.unwind_info_for_address(bases, context, address, S::cie_from_offset);
+    let get_cie = Section::cie_from_offset;
+    let row = section.unwind_info_for_address(bases, context, address, get_cie);
     row.map(row_of).map_err(|error| error_of(question, error))
 }
 
-fn by_header(
+fn by_header<S: UnwindContextStorage<usize>>(
     question: &Question,
     bases: &BaseAddresses,
     address: u64,
-    context: &mut Context,
+    context: &mut UnwindContext<usize, S>,
 ) -> Expected {
     let frame = eh_frame(question);
     let header = match parse_header(question, bases) {
@@ -166,7 +170,7 @@ fn by_header(
 
 /// What `UnexpectedEof` of a lookup carries: the table's first place where the way to a row fails,
 /// which is where there is room for a value at gimli's place; otherwise either of the two.
-fn end_of_table(question: &Question, error: Error) -> Expected {
+pub fn end_of_table(question: &Question, error: Error) -> Expected {
     let (header, start) = (header_of(question), table_place(question));
     let mut expected = Expected::same(Err(error));
     if error.value != start {
@@ -213,7 +217,7 @@ pub fn header_passes(question: &Question, addresses: &[u64]) -> (Option<Done>, D
     (comparable.then_some(lookups), rows)
 }
 
-fn parse_header<'a>(
+pub fn parse_header<'a>(
     question: &Question<'a>,
     bases: &BaseAddresses,
 ) -> gimli::Result<ParsedEhFrameHdr<Slice<'a>>> {
@@ -226,14 +230,14 @@ fn header_of<'a>(question: &Question<'a>) -> &'a [u8] {
 }
 
 /// Whether half the number of rows times the size of one is not a `u64`.
-fn has_product(question: &Question, table: &EhHdrTable<Slice>, bases: &BaseAddresses) -> bool {
+pub fn has_product(question: &Question, table: &EhHdrTable<Slice>, bases: &BaseAddresses) -> bool {
     let count = table.iter(bases).size_hint().0 as u64;
     let size = row_size(header_of(question)[3]);
     size.is_some_and(|size| (count / 2).checked_mul(size).is_none())
 }
 
 /// The size of a row of the table in an encoding that can be searched.
-fn row_size(encoding: u8) -> Option<u64> {
+pub fn row_size(encoding: u8) -> Option<u64> {
     match encoding & 15 {
         2 | 10 => Some(4),
         3 | 11 => Some(8),
@@ -279,35 +283,37 @@ fn vendor(question: &Question) -> Vendor {
     }
 }
 
-fn bases(question: &Question) -> BaseAddresses {
-    let settings = &question.settings;
-    let mut bases = BaseAddresses::default()
-        .set_eh_frame(settings.section)
-        .set_eh_frame_hdr(settings.header);
-    if let Some(text) = settings.text {
-        bases = bases.set_text(text);
+pub fn bases(question: &Question) -> BaseAddresses {
+    let base = |base| question.settings.base(base);
+    BaseAddresses {
+        eh_frame_hdr: SectionBaseAddresses {
+            section: base(question::HEADER),
+            text: base(question::HEADER_TEXT),
+            data: base(question::HEADER_DATA),
+        },
+        eh_frame: SectionBaseAddresses {
+            section: base(question::SECTION),
+            text: base(question::TEXT),
+            data: base(question::DATA),
+        },
     }
-    if let Some(data) = settings.data {
-        bases = bases.set_got(data);
-    }
-    bases
 }
 
-fn eh_frame<'a>(question: &Question<'a>) -> EhFrame<Slice<'a>> {
+pub fn eh_frame<'a>(question: &Question<'a>) -> EhFrame<Slice<'a>> {
     let mut section = EhFrame::new(question.section, endian(question));
     section.set_address_size(question.settings.address_size);
     section.set_vendor(vendor(question));
     section
 }
 
-fn debug_frame<'a>(question: &Question<'a>) -> DebugFrame<Slice<'a>> {
+pub fn debug_frame<'a>(question: &Question<'a>) -> DebugFrame<Slice<'a>> {
     let mut section = DebugFrame::new(question.section, endian(question));
     section.set_address_size(question.settings.address_size);
     section.set_vendor(vendor(question));
     section
 }
 
-fn row_of(row: &GimliRow) -> Row {
+pub fn row_of<S: UnwindContextStorage<usize>>(row: &UnwindTableRow<usize, S>) -> Row {
     let rules = row
         .registers()
         .map(|(register, rule)| (register.0, rule_of(rule)));
@@ -342,7 +348,7 @@ fn rule_of(rule: &RegisterRule<usize>) -> Rule {
 }
 
 /// The error's number in `cfi_c.h`, and the value that it carries.
-fn error_of(question: &Question, error: gimli::Error) -> Error {
+pub fn error_of(question: &Question, error: gimli::Error) -> Error {
     use gimli::Error::*;
     let (status, value) = match error {
         UnexpectedEof(id) => (1, place_of(question, id.0)),

@@ -15,20 +15,41 @@ pub struct Settings {
     pub section: u64,
     /// The address of `.eh_frame_hdr`.
     pub header: u64,
-    /// The bases of text and data, or none. The C library is asked only with both.
-    pub text: Option<u64>,
-    pub data: Option<u64>,
+    /// The bases of text and data.
+    pub text: u64,
+    pub data: u64,
+    /// Which bases are not set, as `TEXT` and the others say. The C library is asked with all.
+    pub unset: u8,
 }
+
+/// The section's address, text and data, for its entries.
+pub const SECTION: u8 = 1;
+pub const TEXT: u8 = 2;
+pub const DATA: u8 = 4;
+/// The header's address, text and data, for its own pointers. Its data is at its address.
+pub const HEADER: u8 = 8;
+pub const HEADER_TEXT: u8 = 16;
+pub const HEADER_DATA: u8 = 32;
 
 impl Settings {
     /// Those of the passes of crates/cfi_bench: no bases of text and data, and no vendor.
     pub fn of_passes(self) -> Settings {
         Settings {
             aarch64: false,
-            text: None,
-            data: None,
+            unset: TEXT | DATA | HEADER_TEXT,
             ..self
         }
+    }
+
+    /// The base, unless it is not set.
+    pub fn base(&self, base: u8) -> Option<u64> {
+        let value = match base {
+            SECTION => self.section,
+            TEXT | HEADER_TEXT => self.text,
+            DATA => self.data,
+            _ => self.header,
+        };
+        (self.unset & base == 0).then_some(value)
     }
 }
 
@@ -46,7 +67,7 @@ impl Question<'_> {
     pub fn command(&self, address: u64) -> String {
         let settings = &self.settings;
         let mut line = format!(
-            "{} {} {} {address:#x} section={:#x}",
+            "{} {} {} {address:#x}",
             if settings.debug_frame {
                 "debug_frame"
             } else {
@@ -54,17 +75,14 @@ impl Question<'_> {
             },
             if settings.big_endian { "be" } else { "le" },
             settings.address_size,
-            settings.section,
         );
-        let header = self.header.map(|_| settings.header);
-        for (name, base) in [
-            ("text", settings.text),
-            ("data", settings.data),
-            ("header", header),
-        ] {
-            if let Some(base) = base {
+        for (name, base) in [("section", SECTION), ("text", TEXT), ("data", DATA)] {
+            if let Some(base) = settings.base(base) {
                 let _ = write!(line, " {name}={base:#x}");
             }
+        }
+        if self.header.is_some() {
+            let _ = write!(line, " header={:#x}", settings.header);
         }
         if settings.aarch64 {
             line.push_str(" vendor=aarch64");

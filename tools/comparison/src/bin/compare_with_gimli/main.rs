@@ -246,8 +246,9 @@ fn questions<'a>(elf: &Elf<'a>) -> Vec<(&'static str, Question<'a>)> {
         aarch64: elf.aarch64,
         section: 0,
         header: header.map_or(0, |header| header.address),
-        text: Some(elf.address(".text")),
-        data: Some(elf.address(".got")),
+        text: elf.address(".text"),
+        data: elf.address(".got"),
+        unset: 0,
     };
     let find = |name, debug_frame| {
         let section = elf

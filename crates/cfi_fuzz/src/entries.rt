@@ -1,0 +1,51 @@
+//! The entries of a section.
+ghost use Rattle.std.specs.Prelude.{◌≡◌, IfOk};
+ghost use Rattle.cfi_read_core.specs.CallFrameSections.{IsOf};
+
+use crate::answers::Answers;
+use gimli_cfi::{
+    BaseAddresses, CieOrFde, FrameDescriptionEntry, PartialFrameDescriptionEntry, Reader,
+    ReaderOffset, Result, UnwindSection,
+};
+
+/// Each entry, and each FDE with its CIE. After an error the entries are asked once more.
+pub fn put_entries<R: Reader, S: UnwindSection<R>>(
+    section: &S,
+    bases: &BaseAddresses,
+    answers: &mut Answers<'_>,
+) {
+    let mut entries = section.entries(bases);
+    for _ in 0..u64::MAX {
+        match entries.next() {
+            Ok(None) => break,
+            Ok(Some(CieOrFde::Cie(cie))) => answers.put_cie(&cie),
+            Ok(Some(CieOrFde::Fde(partial))) => {
+                answers.put_partial(partial.offset().into_u64(), partial.entry_len().into_u64());
+                match whole(section, &partial) {
+                    Ok(fde) => answers.put_fde(&fde),
+                    Err(error) => answers.put_error(error),
+                }
+            }
+            Err(error) => answers.put_error(error),
+        }
+    }
+    answers.put_end();
+}
+
+/// The whole FDE, with its CIE in the section.
+pub fn whole<'b, R: Reader, S: UnwindSection<R>>(
+    section: &S,
+    partial: &PartialFrameDescriptionEntry<'b, S, R>,
+) -> Result<FrameDescriptionEntry<R>>
+    requires { partial.now.section ≡ section.now }
+    ensures part { IfOk result (λ fde.
+        IsOf (R.position fde.instructions) (S.view section.now).position) }
+    ensures cie_part { IfOk result (λ fde.
+        IsOf (R.position fde.cie.initial_instructions) (S.view section.now).position) }
+{
+    let reader = *section.section();
+    partial.parse(|from: &S, bases: &BaseAddresses, offset: S::Offset| {
+        let _reader = reader;
+        from.cie_from_offset(bases, offset)
+    })
+}
