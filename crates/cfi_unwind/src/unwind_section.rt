@@ -42,6 +42,9 @@ use std::fmt::Debug;
 ///
 /// The bases are those of the pointers in the section's entries, in `BaseAddresses::eh_frame` for
 /// both sections. Only the making of rows may allocate.
+///
+/// An implementation may replace `entries`, `cie_from_offset` and `partial_fde_from_offset`; its
+/// own bodies owe the same contracts.
 pub trait UnwindSection<R: Reader>: Copy + Debug + _UnwindSectionPrivate<R> {
     /// An offset in the section.
     type Offset: UnwindOffset<R::Offset>;
