@@ -143,7 +143,7 @@ pub(crate) fn fde_by_table<R: Reader<Offset = usize>>(
 }
 
 /// `EhHdrTable::unwind_info_for_address`: the start address of the row.
-fn row_by_table<R: Reader<Offset = usize>>(
+pub(crate) fn row_by_cies<R: Reader<Offset = usize>>(
     context: &mut UnwindContext<usize>,
     table: &EhHdrTable<'_, R>,
     frame: &EhFrame<R>,
@@ -177,7 +177,7 @@ fn both_by_table<R: Reader<Offset = usize>>(
     refuses: bool,
 ) -> Both {
     let fde = fde_by_table(table, frame, address, refuses);
-    (fde, row_by_table(context, table, frame, address, refuses))
+    (fde, row_by_cies(context, table, frame, address, refuses))
 }
 
 /// The same from the bytes of a header.

@@ -1,11 +1,13 @@
-//! How many numbers a search in a table reads.
+//! How many numbers the calls by a header's table read, of the header and of the section.
 ghost use Rattle.std.specs.Ordering.{on};
 ghost use Rattle.std.specs.Cmp.{on_per, on_equiv};
 
-use crate::searches::{HEADER, Slice};
+use crate::asked::{fde_by_table, row_by_cies};
+use crate::searches::{HEADER, Listed, SECTION, Slice, bases, table_of};
 use gimli_cfi::{
-    BaseAddresses, EhFrame, EhFrameHdr, EndianSlice, Error, LittleEndian, Reader, TableStarts,
-    UnwindContext, row_by_table,
+    BaseAddresses, EhFrame, EhFrameHdr, EhFrameOffset, EhHdrTable, EndianSlice, Error,
+    FaithfulTable, LittleEndian, Reader, StartSource, TableStarts, UnwindContext, UnwindSection,
+    row_by_header, row_by_table,
 };
 use std::alloc::{AllocError, Global};
 use std::cell::Cell;
@@ -198,5 +200,204 @@ fn starts_are_read_by_halving(rt: HostRuntime) -> Result<(), Fail> {
         (few, many),
         ([Ok(Some((1, 1))), Ok(Some((3, 3)))], [true; 2])
     );
+    Ok(())
+}
+
+/// How many numbers were read, of the header and of the section.
+type Reads = (u32, u32);
+
+/// The counts of the header's reader and of the section's.
+#[derive(Drop)]
+struct Counts<'a> {
+    of_header: &'a Cell<u32>,
+    of_section: &'a Cell<u32>,
+}
+
+impl Counts<'_> {
+    /// How many numbers were read since the last call.
+    fn since(&self) -> Reads {
+        let reads = (self.of_header.get(), self.of_section.get());
+        self.of_header.set(0);
+        self.of_section.set(0);
+        reads
+    }
+}
+
+/// A header's table, with its section and their counts.
+#[derive(Drop)]
+struct Listing<'a, R: Reader> {
+    table: EhHdrTable<'a, R>,
+    frame: &'a EhFrame<R>,
+    counts: &'a Counts<'a>,
+}
+
+/// By the calls that take no source: `lookup`, `fde_for_address`, `unwind_info_for_address`.
+fn by_table<R: Reader<Offset = usize>>(
+    of: &Listing<'_, R>,
+    context: &mut UnwindContext<usize>,
+    address: u64,
+) -> [Reads; 3] {
+    let _before = of.counts.since();
+    let _target = of.table.lookup(address, &bases());
+    let looked_up = of.counts.since();
+    let _fde = fde_by_table(&of.table, of.frame, address, false);
+    let found = of.counts.since();
+    let _row = row_by_cies(context, &of.table, of.frame, address, false);
+    [looked_up, found, of.counts.since()]
+}
+
+/// By the table's own starts: `TableStarts::new`, the start of row 1, `lookup_in`, `row_by_table`.
+fn by_starts<R: Reader<Offset = usize>>(
+    of: &Listing<'_, R>,
+    context: &mut UnwindContext<usize>,
+    address: u64,
+) -> Result<[Reads; 4], Error> {
+    let bases = bases();
+    let _before = of.counts.since();
+    let mut starts = TableStarts::new(&of.table, &bases)?;
+    let made = of.counts.since();
+    let _start = starts.start(1);
+    let started = of.counts.since();
+    let _target = of.table.lookup_in(&mut starts, address, &bases);
+    let looked_up = of.counts.since();
+    let _row = row_by_table(&of.table, &mut starts, of.frame, &bases, context, address);
+    Ok([made, started, looked_up, of.counts.since()])
+}
+
+/// By starts that aren't read from the header: `lookup_in` and `row_by_table`; and how many starts
+/// both asked for.
+fn by_list<R: Reader<Offset = usize>>(
+    of: &Listing<'_, R>,
+    context: &mut UnwindContext<usize>,
+    address: u64,
+) -> ([Reads; 2], u32) {
+    let bases = bases();
+    let mut starts = Listed::new(&[0x1000, 0x1010, 0x1020]);
+    let _before = of.counts.since();
+    let _target = of.table.lookup_in(&mut starts, address, &bases);
+    let looked_up = of.counts.since();
+    let _row = row_by_table(&of.table, &mut starts, of.frame, &bases, context, address);
+    ([looked_up, of.counts.since()], starts.made)
+}
+
+/// By a table that was checked.
+fn by_checked_table<R: Reader<Offset = usize>>(
+    of: &Listing<'_, R>,
+    context: &mut UnwindContext<usize>,
+    address: u64,
+) -> Result<Reads, Error> {
+    let bases = bases();
+    let Ok(checked) = FaithfulTable::new(&of.table, of.frame, &bases) else {
+        return Err(Error::NoUnwindInfoForAddress);
+    };
+    let _before = of.counts.since();
+    let _row = checked.row(context, address);
+    Ok(of.counts.since())
+}
+
+/// By the FDE at an offset of the section, and then its row.
+fn by_offset<R: Reader<Offset = usize>>(
+    of: &Listing<'_, R>,
+    context: &mut UnwindContext<usize>,
+    offset: usize,
+    address: u64,
+) -> Result<[Reads; 2], Error> {
+    let bases = bases();
+    let _before = of.counts.since();
+    let get_cie = EhFrame::cie_from_offset;
+    let fde = of
+        .frame
+        .fde_from_offset(&bases, EhFrameOffset(offset), get_cie)?;
+    let read = of.counts.since();
+    let _row = fde.unwind_info_for_address(of.frame, &bases, context, address);
+    Ok([read, of.counts.since()])
+}
+
+/// By a header that isn't parsed yet.
+fn by_header<R: Reader<Offset = usize>>(
+    header: &EhFrameHdr<R>,
+    frame: &EhFrame<R>,
+    counts: &Counts<'_>,
+    context: &mut UnwindContext<usize>,
+    address: u64,
+) -> Reads {
+    let _before = counts.since();
+    let _row = row_by_header(header, 8, frame, &bases(), context, address);
+    counts.since()
+}
+
+/// What each call reads for 0x1018, whose row is the second of the FDE at 44.
+#[derive(Debug, Drop, PartialEq, Eq)]
+struct AllReads {
+    by_header: Reads,
+    by_table: [Reads; 3],
+    by_starts: [Reads; 4],
+    by_list: ([Reads; 2], u32),
+    by_checked_table: Reads,
+    by_offset: [Reads; 2],
+}
+
+fn all_reads<R: Reader<Offset = usize>>(
+    header: EhFrameHdr<R>,
+    frame: &EhFrame<R>,
+    counts: &Counts<'_>,
+    context: &mut UnwindContext<usize>,
+) -> Result<AllReads, Error> {
+    let by_header = by_header(&header, frame, counts, context, 0x1018);
+    let parsed = header.parse(&bases(), 8)?;
+    let of = Listing {
+        table: table_of(&parsed)?,
+        frame,
+        counts,
+    };
+    Ok(AllReads {
+        by_header,
+        by_table: by_table(&of, context, 0x1018),
+        by_starts: by_starts(&of, context, 0x1018)?,
+        by_list: by_list(&of, context, 0x1018),
+        by_checked_table: by_checked_table(&of, context, 0x1018)?,
+        by_offset: by_offset(&of, context, 44, 0x1018)?,
+    })
+}
+
+/// The same over the section of three FDEs and its header.
+fn all_reads_of_three(context: &mut UnwindContext<usize>) -> Result<AllReads, Error> {
+    let of_header = Cell::new(0u32);
+    let of_section = Cell::new(0u32);
+    let counts = Counts {
+        of_header: &of_header,
+        of_section: &of_section,
+    };
+    let frame = EhFrame::from(counting(&SECTION, counts.of_section));
+    let header = EhFrameHdr::from(counting(&HEADER, counts.of_header));
+    all_reads(header, &frame, &counts, context)
+}
+
+/// The FDE's length and id; its CIE's length, id and version, two letters with the zero after them
+/// and the read that finds no third one, two factors and the register, the length of the letters'
+/// data and an encoding; the FDE's two addresses and the length of its data.
+const FDE: u32 = 2 + 12 + 3;
+
+/// The seven bytes of the CIE's instructions, and the three of the FDE's.
+const ROWS: u32 = 7 + 3;
+
+/// The version and three encodings, the pointer and the count.
+const HEAD: u32 = 6;
+
+/// Two starts, which is as many as halving three rows takes, and a target.
+const SEARCH: u32 = 2 + 1;
+
+#[test]
+fn what_each_call_reads(rt: HostRuntime) -> Result<(), Fail> {
+    let mut context: UnwindContext<usize> = UnwindContext::new(rt.alloc())?;
+    let expected = AllReads {
+        by_header: (HEAD + SEARCH, FDE + ROWS),
+        by_table: [(SEARCH, 0), (SEARCH, FDE), (SEARCH, FDE + ROWS)],
+        by_starts: [(0, 0), (1, 0), (SEARCH, 0), (SEARCH, FDE + ROWS)],
+        by_list: ([(1, 0), (1, FDE + ROWS)], 4),
+        by_checked_table: (SEARCH, FDE + ROWS),
+        by_offset: [(0, FDE), (0, ROWS)],
+    };
+    assert_eq!(rt; all_reads_of_three(&mut context), Ok(expected));
     Ok(())
 }

@@ -7,6 +7,8 @@ mod asked;
 #[cfg(test)]
 mod counted;
 #[cfg(test)]
+mod cuts;
+#[cfg(test)]
 mod faithful;
 #[cfg(test)]
 mod headers;

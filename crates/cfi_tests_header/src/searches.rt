@@ -412,10 +412,20 @@ fn rows_that_are_not_there(rt: HostRuntime) {
 
 /// Starts in a list, and how many calls were made.
 #[derive(Drop)]
-struct Listed<'a> {
+pub(crate) struct Listed<'a> {
     starts: &'a [u64],
-    made: u32,
+    pub(crate) made: u32,
     calls: CallCount,
+}
+
+impl<'a> Listed<'a> {
+    pub(crate) fn new(starts: &'a [u64]) -> Self {
+        Listed {
+            starts,
+            made: 0,
+            calls: CallCount::none(),
+        }
+    }
 }
 
 impl StartSource for Listed<'_> {
@@ -461,11 +471,7 @@ fn searched(starts: &[u64], address: u64) -> Searched {
     if count == 0 {
         return (Err(Error::NoUnwindInfoForAddress), 0);
     }
-    let mut source = Listed {
-        starts,
-        made: 0,
-        calls: CallCount::none(),
-    };
+    let mut source = Listed::new(starts);
     let row = search_starts(&mut source, count, address);
     (row, source.made)
 }

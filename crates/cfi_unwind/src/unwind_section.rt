@@ -39,6 +39,9 @@ use std::fmt::Debug;
 ///
 /// The bases are those of the pointers in the section's entries, in `BaseAddresses::eh_frame` for
 /// both sections. Only the making of rows may allocate.
+///
+/// An implementation may replace `entries`, `cie_from_offset` and `partial_fde_from_offset`; its
+/// own bodies owe the same contracts.
 pub trait UnwindSection<R: Reader>: Copy + Debug + _UnwindSectionPrivate<R> {
     /// An offset in the section.
     type Offset: UnwindOffset<R::Offset>;
@@ -59,7 +62,7 @@ pub trait UnwindSection<R: Reader>: Copy + Debug + _UnwindSectionPrivate<R> {
     /// section's end, with `NoEntryAtGivenOffset` at a length of zero, with `NotCieId` where the id
     /// there is not a CIE's, and as the bytes of the CIE show.
     #[inline(always)]
-    final fn cie_from_offset(
+    fn cie_from_offset(
         &self,
         bases: &BaseAddresses,
         offset: Self::Offset,
@@ -82,7 +85,7 @@ pub trait UnwindSection<R: Reader>: Copy + Debug + _UnwindSectionPrivate<R> {
     /// with `UnsupportedOffset` where the id does not fit the offset type, and with
     /// `OffsetOutOfBounds` where the CIE would be before the section.
     #[inline(always)]
-    final fn partial_fde_from_offset<'bases>(
+    fn partial_fde_from_offset<'bases>(
         &self,
         bases: &'bases BaseAddresses,
         offset: Self::Offset,
@@ -280,10 +283,50 @@ pub trait UnwindSection<R: Reader>: Copy + Debug + _UnwindSectionPrivate<R> {
 
 impl<R: Reader> UnwindSection<R> for DebugFrame<R> {
     type Offset = DebugFrameOffset<R::Offset>;
+
+    #[inline(always)]
+    fn cie_from_offset(
+        &self,
+        bases: &BaseAddresses,
+        offset: DebugFrameOffset<R::Offset>,
+    ) -> Result<CommonInformationEntry<R>> {
+        let section = *self;
+        cie_at(&InSection { section, bases }, offset.0)
+    }
+
+    #[inline(always)]
+    fn partial_fde_from_offset<'bases>(
+        &self,
+        bases: &'bases BaseAddresses,
+        offset: DebugFrameOffset<R::Offset>,
+    ) -> Result<PartialFrameDescriptionEntry<'bases, Self, R>> {
+        let section = *self;
+        partial_fde_at(&InSection { section, bases }, offset.0)
+    }
 }
 
 impl<R: Reader> UnwindSection<R> for EhFrame<R> {
     type Offset = EhFrameOffset<R::Offset>;
+
+    #[inline(always)]
+    fn cie_from_offset(
+        &self,
+        bases: &BaseAddresses,
+        offset: EhFrameOffset<R::Offset>,
+    ) -> Result<CommonInformationEntry<R>> {
+        let section = *self;
+        cie_at(&InSection { section, bases }, offset.0)
+    }
+
+    #[inline(always)]
+    fn partial_fde_from_offset<'bases>(
+        &self,
+        bases: &'bases BaseAddresses,
+        offset: EhFrameOffset<R::Offset>,
+    ) -> Result<PartialFrameDescriptionEntry<'bases, Self, R>> {
+        let section = *self;
+        partial_fde_at(&InSection { section, bases }, offset.0)
+    }
 }
 
 /// Returns the section's first FDE that contains the address, with the CIE to which it points.
