@@ -1,14 +1,17 @@
 //! Where the rows of a table start, and the search in the starts.
 ghost use Rattle.std.specs.Prelude.{◌≡◌, ℕ, ◌+◌, ◌≤◌, ◌<◌, IfOk, IfErr, Result, Some};
+ghost use Rattle.cfi_read_core.specs.AddressSizes.{size_in_bytes};
 ghost use Rattle.cfi_read_core.specs.ReaderCalls.{map_ok};
 ghost use Rattle.cfi_read_core.specs.declared.error.Error.{Error};
 ghost use Rattle.gimli_cfi.specs.BoundaryRows.{IsBoundaryRow, IsRefusalOfRow};
-ghost use Rattle.gimli_cfi.specs.EhFrameHdr.{searched_size, value_size};
+ghost use Rattle.gimli_cfi.specs.EhFrameHdr.{header_context, header_section, searched_size};
+ghost use Rattle.gimli_cfi.specs.EhFrameHdr.{value_size};
 ghost use Rattle.gimli_cfi.specs.HalvingSteps.{steps};
+ghost use Rattle.gimli_cfi.specs.RowReadings.{ReadsPointers};
 
 use crate::call_count::CallCount;
 use crate::hdr::header::ParsedEhFrameHdr;
-use crate::hdr::row_fields::{searchable_size, start_of_row};
+use crate::hdr::row_fields::{RowReading, searchable_size, start_of_row};
 use crate::hdr::table::EhHdrTable;
 use cfi_parts::pointer::BaseAddresses;
 use cfi_read_core::{Reader, Result};
@@ -43,8 +46,12 @@ pub struct TableStarts<'a, 'bases, R: Reader> {
     hdr: &'a ParsedEhFrameHdr<R>,
     bases: &'bases BaseAddresses,
     size: u64,
+    reading: RowReading,
     calls: CallCount,
     ghost searchable: { value_size hdr.now.table_enc.0 ≡ Some size },
+    ghost chosen: { ReadsPointers reading hdr.now.table_enc.0
+        (header_context (header_section (R.position hdr.now.section)
+        (size_in_bytes hdr.now.address_size) bases.now.eh_frame_hdr)) },
 }
 
 impl<'a, 'bases, R: Reader> TableStarts<'a, 'bases, R> {
@@ -69,6 +76,7 @@ impl<'a, 'bases, R: Reader> TableStarts<'a, 'bases, R> {
             hdr: table.hdr,
             bases,
             size,
+            reading: RowReading::of(table.hdr, bases),
             calls: CallCount::none(),
         })
     }
@@ -84,7 +92,7 @@ impl<R: Reader> StartSource for TableStarts<'_, '_, R> {
     #[inline(always)]
     fn start(&mut self, index: u64) -> Result<u64> {
         self.calls = self.calls.next();
-        start_of_row(self.hdr, self.bases, self.size, index)
+        start_of_row(self.hdr, self.bases, self.reading, self.size, index)
     }
 }
 
