@@ -7,10 +7,10 @@ ghost use Rattle.cfi_read_core.specs.AddressSizes.{size_in_bytes};
 ghost use Rattle.cfi_read_core.specs.CallFrameSections.{IsOf, IsOf_prop};
 ghost use Rattle.cfi_read_core.specs.ReaderCalls.{ReadsValue};
 ghost use Rattle.cfi_read_core.specs.declared.error.Error.{Error as Refusal};
-ghost use Rattle.gimli_cfi.specs.EhFrameHdr.{header_context, header_section, row};
+ghost use Rattle.gimli_cfi.specs.EhFrameHdr.{header_section, row};
 ghost use Rattle.gimli_cfi.specs.HeaderRows.{IsStep, MeetsRow, ReadsNextRow, rows_left, walk_of};
 ghost use Rattle.gimli_cfi.specs.PassedRows.{MeetsAfter, walk_past};
-ghost use Rattle.gimli_cfi.specs.RowReadings.{ReadsPointers};
+ghost use Rattle.gimli_cfi.specs.RowReadings.{ReadsRows};
 
 use crate::hdr::header::ParsedEhFrameHdr;
 use crate::hdr::row_fields::{RowReading, pass_rows, read_pointer, searchable_size};
@@ -27,9 +27,7 @@ pub struct EhHdrTableIter<'a, 'bases, R: Reader> {
     bases: &'bases BaseAddresses,
     reading: RowReading,
     remain: u64,
-    ghost chosen: { ReadsPointers reading hdr.now.table_enc.0
-        (header_context (header_section (R.position hdr.now.section)
-        (size_in_bytes hdr.now.address_size) bases.now.eh_frame_hdr)) },
+    ghost chosen: { ReadsRows R.position reading hdr.now bases.now },
     ghost of_section: { IsOf (R.position table)
         (R.position hdr.now.section) } by { IsOf_prop (R.position table)
             (R.position hdr.now.section) },
@@ -151,9 +149,7 @@ fn read_row<R: Reader>(
     reading: RowReading,
     input: &mut R,
 ) -> Result<(Pointer, Pointer)>
-    requires chosen { ReadsPointers reading hdr.now.table_enc.0
-        (header_context (header_section (R.position hdr.now.section)
-        (size_in_bytes hdr.now.address_size) bases.now.eh_frame_hdr)) }
+    requires chosen { ReadsRows R.position reading hdr.now bases.now }
     requires behind { (R.position hdr.now.section).place ≤ (R.position input.old).place }
     ensures { let section = header_section (R.position hdr.now.section)
         (size_in_bytes hdr.now.address_size) bases.now.eh_frame_hdr in

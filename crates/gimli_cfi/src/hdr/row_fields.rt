@@ -1,19 +1,22 @@
 //! The start and the target of a row, each read where it is in the table.
 ghost use Rattle.std.specs.Prelude.{◌≡◌, ◌≤◌, IfSome, Some};
+ghost use Rattle.std.specs.Int.{w32, w64};
+ghost use Rattle.cfi_read_core.specs.Addresses.{wrap};
+ghost use Rattle.cfi_read_core.specs.Numbers.{signed, unsigned};
 ghost use Rattle.cfi_read_core.specs.ReadFunctions.{skip};
 ghost use Rattle.cfi_read_core.specs.ReaderCalls.{ReadsValue};
-ghost use Rattle.cfi_parts.specs.Pointers.{pointer};
+ghost use Rattle.cfi_parts.specs.Pointers.{in_64_bits, pointer};
+ghost use Rattle.cfi_parts.specs.declared.pointer.Pointer.TheVariants.{Direct};
 ghost use Rattle.cfi_parts.specs.ReadingParameters.{pointer_context};
 ghost use Rattle.gimli_cfi.specs.EhFrameHdr.{header_context, row_field, rows_passed};
 ghost use Rattle.gimli_cfi.specs.EhFrameHdr.{searched_size, value_size};
 ghost use Rattle.gimli_cfi.specs.HeaderViews.{header_section_view, rows_view, starts_view};
 ghost use Rattle.gimli_cfi.specs.HeaderViews.{targets_view};
-ghost use Rattle.gimli_cfi.specs.RowReadings.{HasBase, ReadsPointers, plain_pointer};
+ghost use Rattle.gimli_cfi.specs.RowReadings.{HasBase, ReadsRows, added_to};
 
 use crate::hdr::header::ParsedEhFrameHdr;
 use cfi_parts::pointer::{
     BaseAddresses, Pointer, PointerEncodingParameters, SectionBaseAddresses, parse_encoded_pointer,
-    parse_encoded_value,
 };
 use cfi_read_core::constants::{
     DW_EH_PE_absptr, DW_EH_PE_datarel, DW_EH_PE_sdata2, DW_EH_PE_sdata4, DW_EH_PE_sdata8,
@@ -83,8 +86,7 @@ impl RowReading {
     /// for all rows have their own ways.
     #[inline(always)]
     pub(crate) fn of<R: Reader>(hdr: &ParsedEhFrameHdr<R>, bases: &BaseAddresses) -> Self
-        ensures { ReadsPointers result hdr.now.table_enc.0
-            (header_context (header_section_view R.position hdr.now bases.now)) }
+        ensures { ReadsRows R.position result hdr.now bases.now }
     {
         let encoding = hdr.table_enc;
         let Some(base) = base_of_rows(encoding, &bases.eh_frame_hdr) else {
@@ -141,8 +143,7 @@ pub(crate) fn read_pointer<R: Reader>(
     reading: RowReading,
     input: &mut R,
 ) -> Result<Pointer>
-    requires chosen { ReadsPointers reading hdr.now.table_enc.0
-        (header_context (header_section_view R.position hdr.now bases.now)) }
+    requires chosen { ReadsRows R.position reading hdr.now bases.now }
     requires behind { (R.position hdr.now.section).place ≤ (R.position input.old).place }
     ensures { ReadsValue R.position
         (pointer hdr.now.table_enc.0
@@ -150,23 +151,72 @@ pub(crate) fn read_pointer<R: Reader>(
         input.old result input.new }
 {
     match reading {
-        RowReading::Unsigned4(base) => read_sum(base, DW_EH_PE_udata4, input),
-        RowReading::Signed4(base) => read_sum(base, DW_EH_PE_sdata4, input),
-        RowReading::Unsigned8(base) => read_sum(base, DW_EH_PE_udata8, input),
-        RowReading::Signed8(base) => read_sum(base, DW_EH_PE_sdata8, input),
-        RowReading::ByEncoding => {
-            parse_encoded_pointer(hdr.table_enc, &row_parameters(hdr, bases), input)
-        }
+        RowReading::Unsigned4(base) => read_unsigned_4(base, input),
+        RowReading::Signed4(base) => read_signed_4(base, input),
+        RowReading::Unsigned8(base) => read_unsigned_8(base, input),
+        RowReading::Signed8(base) => read_signed_8(base, input),
+        RowReading::ByEncoding => read_by_encoding(hdr, bases, input),
     }
 }
 
-/// Reads a value of this format, and adds it to the base.
+/// Reads four bytes, and adds them to the base.
 #[inline(always)]
-fn read_sum<R: Reader>(base: u64, format: DwEhPe, input: &mut R) -> Result<Pointer>
-    ensures { ReadsValue R.position (plain_pointer format.0 base) input.old result input.new }
+fn read_unsigned_4<R: Reader>(base: u64, input: &mut R) -> Result<Pointer>
+    ensures { ReadsValue R.position (added_to base (unsigned w32)) input.old result input.new }
 {
-    let value = parse_encoded_value(format, 8, input)?;
-    Ok(Pointer::Direct(base.wrapping_add_sized(value, 8)))
+    Ok(sum(base, u64::from(input.read_u32()?)))
+}
+
+/// Reads four bytes with a sign, and adds them to the base.
+#[inline(always)]
+fn read_signed_4<R: Reader>(base: u64, input: &mut R) -> Result<Pointer>
+    ensures { ReadsValue R.position (added_to base (in_64_bits (signed w32)))
+        input.old result input.new }
+{
+    Ok(sum(base, i64::from(input.read_i32()?).cast_unsigned()))
+}
+
+/// Reads eight bytes, and adds them to the base.
+#[inline(always)]
+fn read_unsigned_8<R: Reader>(base: u64, input: &mut R) -> Result<Pointer>
+    ensures { ReadsValue R.position (added_to base (unsigned w64)) input.old result input.new }
+{
+    Ok(sum(base, input.read_u64()?))
+}
+
+/// Reads eight bytes with a sign, and adds them to the base.
+#[inline(always)]
+fn read_signed_8<R: Reader>(base: u64, input: &mut R) -> Result<Pointer>
+    ensures { ReadsValue R.position (added_to base (in_64_bits (signed w64)))
+        input.old result input.new }
+{
+    Ok(sum(base, input.read_i64()?.cast_unsigned()))
+}
+
+/// The sum of a base and a value.
+#[inline(always)]
+fn sum(base: u64, value: u64) -> Pointer
+    ensures { result ≡ Direct (wrap base value 8) }
+{
+    Pointer::Direct(base.wrapping_add_sized(value, 8))
+}
+
+/// Reads a pointer of a row by the table's encoding.
+// Not inlined: linkers write tables of four bytes. With it the functions around get so large that
+// their own hints are dropped.
+#[inline(never)]
+fn read_by_encoding<R: Reader>(
+    hdr: &ParsedEhFrameHdr<R>,
+    bases: &BaseAddresses,
+    input: &mut R,
+) -> Result<Pointer>
+    requires { (R.position hdr.now.section).place ≤ (R.position input.old).place }
+    ensures { ReadsValue R.position
+        (pointer hdr.now.table_enc.0
+        (header_context (header_section_view R.position hdr.now bases.now)))
+        input.old result input.new }
+{
+    parse_encoded_pointer(hdr.table_enc, &row_parameters(hdr, bases), input)
 }
 
 /// Reads a field of the row with this index: the one after the first `before` bytes of the row. The
@@ -182,8 +232,7 @@ fn read_field<R: Reader>(
     before: u64,
     input: &mut R,
 ) -> Result<Pointer>
-    requires chosen { ReadsPointers reading hdr.now.table_enc.0
-        (header_context (header_section_view R.position hdr.now bases.now)) }
+    requires chosen { ReadsRows R.position reading hdr.now bases.now }
     requires small { size ≤ 8 }
     requires behind { (R.position hdr.now.section).place ≤ (R.position input.old).place }
     ensures { let header = header_section_view R.position hdr.now bases.now in
@@ -204,8 +253,7 @@ pub(crate) fn start_of_row<R: Reader>(
     size: u64,
     index: u64,
 ) -> Result<u64>
-    requires chosen { ReadsPointers reading hdr.now.table_enc.0
-        (header_context (header_section_view R.position hdr.now bases.now)) }
+    requires chosen { ReadsRows R.position reading hdr.now bases.now }
     requires searchable { value_size hdr.now.table_enc.0 ≡ Some size }
     ensures { result ≡ starts_view R.position hdr.now bases.now index }
 {
@@ -224,14 +272,7 @@ pub(crate) fn target_of_row<R: Reader>(
     requires { value_size hdr.now.table_enc.0 ≡ Some size }
     ensures { result ≡ targets_view R.position hdr.now bases.now index }
 {
+    let reading = RowReading::of(hdr, bases);
     let mut rows = hdr.table;
-    read_field(
-        hdr,
-        bases,
-        RowReading::of(hdr, bases),
-        size,
-        index,
-        size,
-        &mut rows,
-    )
+    read_field(hdr, bases, reading, size, index, size, &mut rows)
 }

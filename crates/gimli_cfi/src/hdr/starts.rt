@@ -1,13 +1,11 @@
 //! Where the rows of a table start, and the search in the starts.
 ghost use Rattle.std.specs.Prelude.{◌≡◌, ℕ, ◌+◌, ◌≤◌, ◌<◌, IfOk, IfErr, Result, Some};
-ghost use Rattle.cfi_read_core.specs.AddressSizes.{size_in_bytes};
 ghost use Rattle.cfi_read_core.specs.ReaderCalls.{map_ok};
 ghost use Rattle.cfi_read_core.specs.declared.error.Error.{Error};
 ghost use Rattle.gimli_cfi.specs.BoundaryRows.{IsBoundaryRow, IsRefusalOfRow};
-ghost use Rattle.gimli_cfi.specs.EhFrameHdr.{header_context, header_section, searched_size};
-ghost use Rattle.gimli_cfi.specs.EhFrameHdr.{value_size};
+ghost use Rattle.gimli_cfi.specs.EhFrameHdr.{searched_size, value_size};
 ghost use Rattle.gimli_cfi.specs.HalvingSteps.{steps};
-ghost use Rattle.gimli_cfi.specs.RowReadings.{ReadsPointers};
+ghost use Rattle.gimli_cfi.specs.RowReadings.{ReadsRows};
 
 use crate::call_count::CallCount;
 use crate::hdr::header::ParsedEhFrameHdr;
@@ -49,9 +47,7 @@ pub struct TableStarts<'a, 'bases, R: Reader> {
     reading: RowReading,
     calls: CallCount,
     ghost searchable: { value_size hdr.now.table_enc.0 ≡ Some size },
-    ghost chosen: { ReadsPointers reading hdr.now.table_enc.0
-        (header_context (header_section (R.position hdr.now.section)
-        (size_in_bytes hdr.now.address_size) bases.now.eh_frame_hdr)) },
+    ghost chosen: { ReadsRows R.position reading hdr.now bases.now },
 }
 
 impl<'a, 'bases, R: Reader> TableStarts<'a, 'bases, R> {
