@@ -155,7 +155,13 @@ pub(crate) fn read_pointer<R: Reader>(
         RowReading::Signed4(base) => read_signed_4(base, input),
         RowReading::Unsigned8(base) => read_unsigned_8(base, input),
         RowReading::Signed8(base) => read_signed_8(base, input),
-        RowReading::ByEncoding => read_by_encoding(hdr, bases, input),
+        RowReading::ByEncoding => {
+            // A copy is lent to the call, so that only it has to be in memory.
+            let mut apart = *input;
+            let found = read_by_encoding(hdr, bases, &mut apart);
+            *input = apart;
+            found
+        }
     }
 }
 
@@ -202,8 +208,8 @@ fn sum(base: u64, value: u64) -> Pointer
 }
 
 /// Reads a pointer of a row by the table's encoding.
-// Not inlined: linkers write tables of four bytes. With it the functions around get so large that
-// their own hints are dropped.
+// Not inlined: linkers write four bytes with a sign. With it the functions around would get so large
+// that their own hints are dropped.
 #[inline(never)]
 fn read_by_encoding<R: Reader>(
     hdr: &ParsedEhFrameHdr<R>,
