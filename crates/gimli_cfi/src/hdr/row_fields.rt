@@ -155,13 +155,7 @@ pub(crate) fn read_pointer<R: Reader>(
         RowReading::Signed4(base) => read_signed_4(base, input),
         RowReading::Unsigned8(base) => read_unsigned_8(base, input),
         RowReading::Signed8(base) => read_signed_8(base, input),
-        RowReading::ByEncoding => {
-            // A copy is lent to the call, so that only it has to be in memory.
-            let mut apart = *input;
-            let found = read_by_encoding(hdr, bases, &mut apart);
-            *input = apart;
-            found
-        }
+        RowReading::ByEncoding => read_by_encoding(hdr, bases, input),
     }
 }
 
@@ -208,10 +202,30 @@ fn sum(base: u64, value: u64) -> Pointer
 }
 
 /// Reads a pointer of a row by the table's encoding.
-// Not inlined: linkers write four bytes with a sign. With it the functions around would get so large
-// that their own hints are dropped.
-#[inline(never)]
+#[inline(always)]
 fn read_by_encoding<R: Reader>(
+    hdr: &ParsedEhFrameHdr<R>,
+    bases: &BaseAddresses,
+    input: &mut R,
+) -> Result<Pointer>
+    requires { (R.position hdr.now.section).place ≤ (R.position input.old).place }
+    ensures { ReadsValue R.position
+        (pointer hdr.now.table_enc.0
+        (header_context (header_section_view R.position hdr.now bases.now)))
+        input.old result input.new }
+{
+    // A copy is lent to the call, so that only it has to be in memory.
+    let mut apart = *input;
+    let found = read_apart(hdr, bases, &mut apart);
+    *input = apart;
+    found
+}
+
+/// The same by a call.
+// Not inlined: linkers write four bytes with a sign. With this read the functions around would get
+// so large that their own hints are dropped.
+#[inline(never)]
+fn read_apart<R: Reader>(
     hdr: &ParsedEhFrameHdr<R>,
     bases: &BaseAddresses,
     input: &mut R,
