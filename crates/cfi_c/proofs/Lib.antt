@@ -2,4 +2,5 @@ mod Counts
 mod Faithful
 mod Names
 mod PointerPairs
+mod RuleWrites
 mod Sections

@@ -2,7 +2,7 @@
 ghost use Rattle.std.specs.Prelude.{◌≡◌, ◌+◌, ◌≤◌, length, pos};
 ghost use Rattle.cfi_read_core.specs.ReaderCalls.{map_ok};
 ghost use Rattle.cfi_c.specs.AddressRows.{IsAnswered};
-ghost use Rattle.cfi_c.specs.WrittenRows.{IsRules, IsWritten, SameAround, written_rule, rule_at};
+ghost use Rattle.cfi_c.specs.WrittenRows.{IsRules, IsWritten, SameAround, written_rule};
 
 use crate::refusal::{number_of, value_of};
 use crate::{CfiRow, CfiRule};
@@ -83,22 +83,22 @@ fn write_rules<A: ArrayLike<Item = (Register, RegisterRule<usize>)>>(
     ensures around { SameAround first count rules.old rules.new }
 {
     for k in 0..count {
-        rules[first + k] = rule_of(found_rule(found, k));
+        rules[first + k] = rule_of(None);
+    }
+    for (register, rule) in found.registers() {
+        let k = number_in(*register);
+        if k < count {
+            rules[first + k] = rule_of(Some(*rule));
+        }
     }
 }
 
-/// Returns the rule of register `i`; `None` also where there is no such register.
-fn found_rule<A: ArrayLike<Item = (Register, RegisterRule<usize>)>>(
-    found: &UnwindTableRow<usize, A>,
-    i: usize,
-) -> Option<RegisterRule<usize>>
-    ensures { result ≡ rule_at found.now i }
+/// Returns the register's number, which is at most 65535.
+fn number_in(register: Register) -> usize
+    ensures number { result ≡ register.0 }
+    ensures small { result ≤ 65535 }
 {
-    if i <= 0xffff {
-        found.register(Register(i as u16))
-    } else {
-        None
-    }
+    usize::from(register.0)
 }
 
 /// Returns the rule as C sees it.

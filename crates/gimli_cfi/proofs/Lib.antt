@@ -8,6 +8,7 @@ pub mod HeaderReads
 pub mod HeaderParts
 pub mod RowWalk
 pub mod RowReads
+pub mod RowPointers
 pub mod PassingRows
 pub mod Searches
 pub mod TableFinds

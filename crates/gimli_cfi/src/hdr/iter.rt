@@ -3,20 +3,19 @@ ghost use Rattle.std.specs.Prelude.{◌≡◌, ◌≤◌, Err, IfSome, Some};
 ghost use Rattle.std.specs.Option.{option_transpose};
 ghost use Rattle.std.specs.Iterator.{UpTo, YieldsFirst, at_most};
 ghost use Rattle.std.specs.Iterator.SizeHint.{IsWithinCount};
+ghost use Rattle.cfi_read_core.specs.AddressSizes.{size_in_bytes};
 ghost use Rattle.cfi_read_core.specs.CallFrameSections.{IsOf, IsOf_prop};
 ghost use Rattle.cfi_read_core.specs.ReaderCalls.{ReadsValue};
 ghost use Rattle.cfi_read_core.specs.declared.error.Error.{Error as Refusal};
-ghost use Rattle.cfi_parts.specs.ReadingParameters.{pointer_context};
-ghost use Rattle.gimli_cfi.specs.EhFrameHdr.{row_by};
+ghost use Rattle.gimli_cfi.specs.EhFrameHdr.{header_section, row};
 ghost use Rattle.gimli_cfi.specs.HeaderRows.{IsStep, MeetsRow, ReadsNextRow, rows_left, walk_of};
 ghost use Rattle.gimli_cfi.specs.PassedRows.{MeetsAfter, walk_past};
+ghost use Rattle.gimli_cfi.specs.RowReadings.{ReadsRows};
 
 use crate::hdr::header::ParsedEhFrameHdr;
-use crate::hdr::row_fields::{pass_rows, row_parameters, searchable_size};
-use cfi_parts::pointer::{
-    BaseAddresses, Pointer, PointerEncodingParameters, parse_encoded_pointer,
-};
-use cfi_read_core::{DwEhPe, Reader, Result};
+use crate::hdr::row_fields::{RowReading, pass_rows, read_pointer, searchable_size};
+use cfi_parts::pointer::{BaseAddresses, Pointer};
+use cfi_read_core::{Reader, Result};
 
 /// An iterator over the rows of a table, in order: the start and the target of each.
 ///
@@ -26,7 +25,9 @@ pub struct EhHdrTableIter<'a, 'bases, R: Reader> {
     hdr: &'a ParsedEhFrameHdr<R>,
     table: R,
     bases: &'bases BaseAddresses,
+    reading: RowReading,
     remain: u64,
+    ghost chosen: { ReadsRows R.position reading hdr.now bases.now },
     ghost of_section: { IsOf (R.position table)
         (R.position hdr.now.section) } by { IsOf_prop (R.position table)
             (R.position hdr.now.section) },
@@ -47,6 +48,7 @@ impl<'a, 'bases, R: Reader> EhHdrTableIter<'a, 'bases, R> {
             hdr,
             table: hdr.table,
             bases,
+            reading: RowReading::of(hdr, bases),
             remain: hdr.fde_count,
         }
     }
@@ -72,8 +74,7 @@ impl<'a, 'bases, R: Reader> EhHdrTableIter<'a, 'bases, R> {
         }
         self.remain -= 1;
         let mut rows = self.table;
-        let parameters = row_parameters(self.hdr, self.bases);
-        let found = read_row(self.hdr.table_enc, &parameters, &mut rows);
+        let found = read_row(self.hdr, self.bases, self.reading, &mut rows);
         self.table = rows;
         Ok(Some(found?))
     }
@@ -143,15 +144,18 @@ impl<R: Reader> Iterator for EhHdrTableIter<'_, '_, R> {
 #[tactic(auto, unfolding(crate::specs::EhFrameHdr::row_by))]
 #[inline(always)]
 fn read_row<R: Reader>(
-    encoding: DwEhPe,
-    parameters: &PointerEncodingParameters<'_, R>,
+    hdr: &ParsedEhFrameHdr<R>,
+    bases: &BaseAddresses,
+    reading: RowReading,
     input: &mut R,
 ) -> Result<(Pointer, Pointer)>
-    requires { (R.position parameters.now.section.now).place ≤ (R.position input.old).place }
-    ensures { ReadsValue R.position (row_by (pointer_context R.position parameters.now) encoding.0)
-        input.old result input.new }
+    requires chosen { ReadsRows R.position reading hdr.now bases.now }
+    requires behind { (R.position hdr.now.section).place ≤ (R.position input.old).place }
+    ensures { let section = header_section (R.position hdr.now.section)
+        (size_in_bytes hdr.now.address_size) bases.now.eh_frame_hdr in
+        ReadsValue R.position (row section hdr.now.table_enc.0) input.old result input.new }
 {
-    let start = parse_encoded_pointer(encoding, parameters, input)?;
-    let target = parse_encoded_pointer(encoding, parameters, input)?;
+    let start = read_pointer(hdr, bases, reading, input)?;
+    let target = read_pointer(hdr, bases, reading, input)?;
     Ok((start, target))
 }

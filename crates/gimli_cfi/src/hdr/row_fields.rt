@@ -1,22 +1,28 @@
 //! The start and the target of a row, each read where it is in the table.
-ghost use Rattle.std.specs.Prelude.{◌≡◌, ◌≤◌, Some};
+ghost use Rattle.std.specs.Prelude.{◌≡◌, ◌≤◌, IfSome, Some};
+ghost use Rattle.std.specs.Int.{w32, w64};
+ghost use Rattle.cfi_read_core.specs.Addresses.{wrap};
+ghost use Rattle.cfi_read_core.specs.Numbers.{signed, unsigned};
 ghost use Rattle.cfi_read_core.specs.ReadFunctions.{skip};
 ghost use Rattle.cfi_read_core.specs.ReaderCalls.{ReadsValue};
+ghost use Rattle.cfi_parts.specs.Pointers.{in_64_bits, pointer};
+ghost use Rattle.cfi_parts.specs.declared.pointer.Pointer.TheVariants.{Direct};
 ghost use Rattle.cfi_parts.specs.ReadingParameters.{pointer_context};
 ghost use Rattle.gimli_cfi.specs.EhFrameHdr.{header_context, row_field, rows_passed};
 ghost use Rattle.gimli_cfi.specs.EhFrameHdr.{searched_size, value_size};
 ghost use Rattle.gimli_cfi.specs.HeaderViews.{header_section_view, rows_view, starts_view};
 ghost use Rattle.gimli_cfi.specs.HeaderViews.{targets_view};
+ghost use Rattle.gimli_cfi.specs.RowReadings.{HasBase, ReadsRows, added_to};
 
 use crate::hdr::header::ParsedEhFrameHdr;
 use cfi_parts::pointer::{
-    BaseAddresses, Pointer, PointerEncodingParameters, parse_encoded_pointer,
+    BaseAddresses, Pointer, PointerEncodingParameters, SectionBaseAddresses, parse_encoded_pointer,
 };
 use cfi_read_core::constants::{
-    DW_EH_PE_sdata2, DW_EH_PE_sdata4, DW_EH_PE_sdata8, DW_EH_PE_udata2, DW_EH_PE_udata4,
-    DW_EH_PE_udata8,
+    DW_EH_PE_absptr, DW_EH_PE_datarel, DW_EH_PE_sdata2, DW_EH_PE_sdata4, DW_EH_PE_sdata8,
+    DW_EH_PE_udata2, DW_EH_PE_udata4, DW_EH_PE_udata8,
 };
-use cfi_read_core::{DwEhPe, Error, Reader, ReaderOffset, ReaderOffsetId, Result};
+use cfi_read_core::{DwEhPe, Error, Reader, ReaderAddress, ReaderOffset, ReaderOffsetId, Result};
 
 /// The size in bytes of a value in a format that can be searched. Fails with
 /// `UnsupportedPointerEncoding` for other formats.
@@ -60,9 +66,60 @@ fn pass_value<R: Reader>(input: &mut R, size: u64) -> Result<()>
     }
 }
 
+/// How the pointers in the rows of a table are read, chosen once for all of them.
+#[derive(Clone, Copy, Debug)]
+pub(crate) enum RowReading {
+    /// Four bytes, which are added to this base.
+    Unsigned4(u64),
+    /// Four bytes with a sign, which are added to this base.
+    Signed4(u64),
+    /// Eight bytes, which are added to this base.
+    Unsigned8(u64),
+    /// Eight bytes with a sign, which are added to this base.
+    Signed8(u64),
+    /// As the table's encoding says.
+    ByEncoding,
+}
+
+impl RowReading {
+    /// How the pointers in the rows of this header are read. Addresses of eight bytes and one base
+    /// for all rows have their own ways.
+    #[inline(always)]
+    pub(crate) fn of<R: Reader>(hdr: &ParsedEhFrameHdr<R>, bases: &BaseAddresses) -> Self
+        ensures { ReadsRows R.position result hdr.now bases.now }
+    {
+        let encoding = hdr.table_enc;
+        let Some(base) = base_of_rows(encoding, &bases.eh_frame_hdr) else {
+            return RowReading::ByEncoding;
+        };
+        if encoding.is_indirect() || hdr.address_size.bytes() != 8 {
+            return RowReading::ByEncoding;
+        }
+        match encoding.format() {
+            DW_EH_PE_udata4 => RowReading::Unsigned4(base),
+            DW_EH_PE_sdata4 => RowReading::Signed4(base),
+            DW_EH_PE_udata8 => RowReading::Unsigned8(base),
+            DW_EH_PE_sdata8 => RowReading::Signed8(base),
+            _ => RowReading::ByEncoding,
+        }
+    }
+}
+
+/// The base of the pointers in the rows, if it is set and the same in each row.
+#[inline(always)]
+fn base_of_rows(encoding: DwEhPe, bases: &SectionBaseAddresses) -> Option<u64>
+    ensures { IfSome result (λ base. HasBase encoding.0 bases.now base) }
+{
+    match encoding.application() {
+        DW_EH_PE_absptr => Some(0),
+        DW_EH_PE_datarel => bases.data_base,
+        _ => None,
+    }
+}
+
 /// What the pointers in the rows are read with.
 #[inline(always)]
-pub(crate) fn row_parameters<'a, R: Reader>(
+fn row_parameters<'a, R: Reader>(
     hdr: &'a ParsedEhFrameHdr<R>,
     bases: &'a BaseAddresses,
 ) -> PointerEncodingParameters<'a, R>
@@ -78,6 +135,110 @@ pub(crate) fn row_parameters<'a, R: Reader>(
     }
 }
 
+/// Reads a pointer of a row. The reader is at the first row or past it.
+#[inline(always)]
+pub(crate) fn read_pointer<R: Reader>(
+    hdr: &ParsedEhFrameHdr<R>,
+    bases: &BaseAddresses,
+    reading: RowReading,
+    input: &mut R,
+) -> Result<Pointer>
+    requires chosen { ReadsRows R.position reading hdr.now bases.now }
+    requires behind { (R.position hdr.now.section).place ≤ (R.position input.old).place }
+    ensures { ReadsValue R.position
+        (pointer hdr.now.table_enc.0
+        (header_context (header_section_view R.position hdr.now bases.now)))
+        input.old result input.new }
+{
+    match reading {
+        RowReading::Unsigned4(base) => read_unsigned_4(base, input),
+        RowReading::Signed4(base) => read_signed_4(base, input),
+        RowReading::Unsigned8(base) => read_unsigned_8(base, input),
+        RowReading::Signed8(base) => read_signed_8(base, input),
+        RowReading::ByEncoding => read_by_encoding(hdr, bases, input),
+    }
+}
+
+/// Reads four bytes, and adds them to the base.
+#[inline(always)]
+fn read_unsigned_4<R: Reader>(base: u64, input: &mut R) -> Result<Pointer>
+    ensures { ReadsValue R.position (added_to base (unsigned w32)) input.old result input.new }
+{
+    Ok(sum(base, u64::from(input.read_u32()?)))
+}
+
+/// Reads four bytes with a sign, and adds them to the base.
+#[inline(always)]
+fn read_signed_4<R: Reader>(base: u64, input: &mut R) -> Result<Pointer>
+    ensures { ReadsValue R.position (added_to base (in_64_bits (signed w32)))
+        input.old result input.new }
+{
+    Ok(sum(base, i64::from(input.read_i32()?).cast_unsigned()))
+}
+
+/// Reads eight bytes, and adds them to the base.
+#[inline(always)]
+fn read_unsigned_8<R: Reader>(base: u64, input: &mut R) -> Result<Pointer>
+    ensures { ReadsValue R.position (added_to base (unsigned w64)) input.old result input.new }
+{
+    Ok(sum(base, input.read_u64()?))
+}
+
+/// Reads eight bytes with a sign, and adds them to the base.
+#[inline(always)]
+fn read_signed_8<R: Reader>(base: u64, input: &mut R) -> Result<Pointer>
+    ensures { ReadsValue R.position (added_to base (in_64_bits (signed w64)))
+        input.old result input.new }
+{
+    Ok(sum(base, input.read_i64()?.cast_unsigned()))
+}
+
+/// The sum of a base and a value.
+#[inline(always)]
+fn sum(base: u64, value: u64) -> Pointer
+    ensures { result ≡ Direct (wrap base value 8) }
+{
+    Pointer::Direct(base.wrapping_add_sized(value, 8))
+}
+
+/// Reads a pointer of a row by the table's encoding.
+#[inline(always)]
+fn read_by_encoding<R: Reader>(
+    hdr: &ParsedEhFrameHdr<R>,
+    bases: &BaseAddresses,
+    input: &mut R,
+) -> Result<Pointer>
+    requires { (R.position hdr.now.section).place ≤ (R.position input.old).place }
+    ensures { ReadsValue R.position
+        (pointer hdr.now.table_enc.0
+        (header_context (header_section_view R.position hdr.now bases.now)))
+        input.old result input.new }
+{
+    // A copy is lent to the call, so that only it has to be in memory.
+    let mut apart = *input;
+    let found = read_apart(hdr, bases, &mut apart);
+    *input = apart;
+    found
+}
+
+/// The same by a call.
+// Not inlined: linkers write four bytes with a sign. With this read the functions around would get
+// so large that their own hints are dropped.
+#[inline(never)]
+fn read_apart<R: Reader>(
+    hdr: &ParsedEhFrameHdr<R>,
+    bases: &BaseAddresses,
+    input: &mut R,
+) -> Result<Pointer>
+    requires { (R.position hdr.now.section).place ≤ (R.position input.old).place }
+    ensures { ReadsValue R.position
+        (pointer hdr.now.table_enc.0
+        (header_context (header_section_view R.position hdr.now bases.now)))
+        input.old result input.new }
+{
+    parse_encoded_pointer(hdr.table_enc, &row_parameters(hdr, bases), input)
+}
+
 /// Reads a field of the row with this index: the one after the first `before` bytes of the row. The
 /// reader is at the first row.
 #[tactic(auto, unfolding(crate::specs::EhFrameHdr::row_field))]
@@ -85,11 +246,13 @@ pub(crate) fn row_parameters<'a, R: Reader>(
 fn read_field<R: Reader>(
     hdr: &ParsedEhFrameHdr<R>,
     bases: &BaseAddresses,
+    reading: RowReading,
     size: u64,
     index: u64,
     before: u64,
     input: &mut R,
 ) -> Result<Pointer>
+    requires chosen { ReadsRows R.position reading hdr.now bases.now }
     requires small { size ≤ 8 }
     requires behind { (R.position hdr.now.section).place ≤ (R.position input.old).place }
     ensures { let header = header_section_view R.position hdr.now bases.now in
@@ -98,7 +261,7 @@ fn read_field<R: Reader>(
 {
     pass_rows(input, size, index)?;
     pass_value(input, before)?;
-    parse_encoded_pointer(hdr.table_enc, &row_parameters(hdr, bases), input)
+    read_pointer(hdr, bases, reading, input)
 }
 
 /// The start of a row, which has to be direct.
@@ -106,14 +269,16 @@ fn read_field<R: Reader>(
 pub(crate) fn start_of_row<R: Reader>(
     hdr: &ParsedEhFrameHdr<R>,
     bases: &BaseAddresses,
+    reading: RowReading,
     size: u64,
     index: u64,
 ) -> Result<u64>
-    requires { value_size hdr.now.table_enc.0 ≡ Some size }
+    requires chosen { ReadsRows R.position reading hdr.now bases.now }
+    requires searchable { value_size hdr.now.table_enc.0 ≡ Some size }
     ensures { result ≡ starts_view R.position hdr.now bases.now index }
 {
     let mut rows = hdr.table;
-    read_field(hdr, bases, size, index, 0, &mut rows)?.direct()
+    read_field(hdr, bases, reading, size, index, 0, &mut rows)?.direct()
 }
 
 /// The target of a row.
@@ -127,6 +292,7 @@ pub(crate) fn target_of_row<R: Reader>(
     requires { value_size hdr.now.table_enc.0 ≡ Some size }
     ensures { result ≡ targets_view R.position hdr.now bases.now index }
 {
+    let reading = RowReading::of(hdr, bases);
     let mut rows = hdr.table;
-    read_field(hdr, bases, size, index, size, &mut rows)
+    read_field(hdr, bases, reading, size, index, size, &mut rows)
 }

@@ -5,10 +5,11 @@ ghost use Rattle.cfi_read_core.specs.declared.error.Error.{Error};
 ghost use Rattle.gimli_cfi.specs.BoundaryRows.{IsBoundaryRow, IsRefusalOfRow};
 ghost use Rattle.gimli_cfi.specs.EhFrameHdr.{searched_size, value_size};
 ghost use Rattle.gimli_cfi.specs.HalvingSteps.{steps};
+ghost use Rattle.gimli_cfi.specs.RowReadings.{ReadsRows};
 
 use crate::call_count::CallCount;
 use crate::hdr::header::ParsedEhFrameHdr;
-use crate::hdr::row_fields::{searchable_size, start_of_row};
+use crate::hdr::row_fields::{RowReading, searchable_size, start_of_row};
 use crate::hdr::table::EhHdrTable;
 use cfi_parts::pointer::BaseAddresses;
 use cfi_read_core::{Reader, Result};
@@ -43,8 +44,10 @@ pub struct TableStarts<'a, 'bases, R: Reader> {
     hdr: &'a ParsedEhFrameHdr<R>,
     bases: &'bases BaseAddresses,
     size: u64,
+    reading: RowReading,
     calls: CallCount,
     ghost searchable: { value_size hdr.now.table_enc.0 ≡ Some size },
+    ghost chosen: { ReadsRows R.position reading hdr.now bases.now },
 }
 
 impl<'a, 'bases, R: Reader> TableStarts<'a, 'bases, R> {
@@ -69,6 +72,7 @@ impl<'a, 'bases, R: Reader> TableStarts<'a, 'bases, R> {
             hdr: table.hdr,
             bases,
             size,
+            reading: RowReading::of(table.hdr, bases),
             calls: CallCount::none(),
         })
     }
@@ -84,7 +88,7 @@ impl<R: Reader> StartSource for TableStarts<'_, '_, R> {
     #[inline(always)]
     fn start(&mut self, index: u64) -> Result<u64> {
         self.calls = self.calls.next();
-        start_of_row(self.hdr, self.bases, self.size, index)
+        start_of_row(self.hdr, self.bases, self.reading, self.size, index)
     }
 }
 
