@@ -1,6 +1,7 @@
 -- Numbers of results go on to mean the same when results are added.
 use Rattle.std.proofs.Common.{◌≡◌, ℕ, zero, suc, ◌+◌, ◌<◌, ◌≤◌, List, [], ◌∷◌, ◌++◌, map, length, get_or, Result, Err, refl, sym, ap, subst, ◌∙◌, arith}
-use Rattle.std.proofs.lemmas.List.{map_push}
+use Rattle.std.proofs.lemmas.List.{map_push, get_or-map}
+use Rattle.std.proofs.Math.ListN.{length-map}
 use Rattle.std.proofs.lemmas.List.Elements.{All-push}
 use Rattle.cfi_read_core.specs.declared.error.Error.{Error}
 use Rattle.cfi_read_core.specs.declared.error.Error.TheVariants.{NoUnwindInfoForAddress}
@@ -8,9 +9,9 @@ use Rattle.cfi_read_core.specs.ReaderCalls.{map_ok}
 use Rattle.cfi_compiled.specs.declared.row.CompiledRow.{CompiledRow}
 use Rattle.cfi_compiled.specs.declared.table.NumberedStep.{NumberedStep}
 use Rattle.cfi_compiled.specs.CompiledRows.{parts_kept}
-use Rattle.cfi_compiled.specs.CompiledTables.{AreNumbersOf, Extends, parts_numbered, step_named}
+use Rattle.cfi_compiled.specs.CompiledTables.{AreNumbersOf, EndsWith, Extends, parts_numbered, step_named}
 use Rattle.cfi_compiled.specs.Steps.{Step, Rise, free_from, parts_by_steps}
-use Rattle.cfi_compiled.proofs.StepFunctions.{below_more, from_more, rise_more, free_more}
+use Rattle.cfi_compiled.proofs.StepFunctions.{below_more, from_more, rise_more, free_more, last_decides}
 
 abbrev Results : Type 0
 Results = List (Result CompiledRow Error)
@@ -73,3 +74,21 @@ module _ (old new : Results) (extends : Extends old new) where
 
       pub free_pushed : free_from 0 (map (step_named new) (numbers ++ step ∷ [])) ≡ step.start + 1
       free_pushed = ap (λ (l : List Step). free_from 0 l) pushed ∙ free_more (map (step_named old) numbers) 0 (step_named new step)
+
+    -- where the last step has this number already
+    pub repeated : (a number : ℕ) → EndsWith number numbers → free_from 0 (map (step_named old) numbers) ≤ a
+        → parts_by_steps (map (step_named new) numbers) a ≡ parts_numbered new number
+    repeated a number (d, k, last, there, is) free =
+        let rise_new = rise_kept.0 in
+        let free_new = subst (λ (l : List Step). free_from 0 l ≤ a) (sym (steps_remain numbers all)) free in
+        let long : k + 1 ≡ length (map (step_named new) numbers) = simp length-map last in
+        last_decides (map (step_named new) numbers) (Err NoUnwindInfoForAddress) a k (step_named new d) rise_new long free_new
+        ∙ ap (λ (s : Step). s.parts) (get_or-map (step_named new) numbers k d (step_named new d) (omega (arith, last)))
+        ∙ ap (λ (s : NumberedStep). parts_numbered new s.number) there
+        ∙ ap (parts_numbered new) is
+
+    pub same_before : (a : ℕ) → parts_by_steps (map (step_named new) numbers) a ≡ parts_by_steps (map (step_named old) numbers) a
+    same_before a = ap (λ (l : List Step). parts_by_steps l a) (steps_remain numbers all)
+
+    pub same_free : free_from 0 (map (step_named new) numbers) ≡ free_from 0 (map (step_named old) numbers)
+    same_free = ap (λ (l : List Step). free_from 0 l) (steps_remain numbers all)

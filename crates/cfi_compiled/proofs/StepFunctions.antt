@@ -62,3 +62,16 @@ answered_at (first ∷ steps) low before a (suc k) d rise inside from next =
 pub answered_before : (steps : List Step) (before : Result (Parts ℕ) Error) (a : ℕ) → ((d : Step) → 0 < length steps → a < (get_or steps 0 d).start) → parts_after before steps a ≡ before
 answered_before [] before a above = refl
 answered_before (first ∷ steps) before a above = ap (λ b. cond b before (parts_after first.parts steps a)) (lt-ltb a first.start (above first (omega arith)))
+
+-- ---- the last step
+
+below_free : (steps : List Step) (low k : ℕ) (d : Step) → Rise low steps → k < length steps → (get_or steps k d).start < free_from low steps
+below_free [] low k d rise inside = absurd (omega arith)
+below_free (first ∷ steps) low zero d rise inside = let up = free_above steps (first.start + 1) rise.1 in omega (arith, up)
+below_free (first ∷ steps) low (suc k) d rise inside = below_free steps (first.start + 1) k d rise.1 (omega (arith, inside))
+
+-- from where the next step may be on, the last one decides
+pub last_decides : (steps : List Step) (before : Result (Parts ℕ) Error) (a k : ℕ) (d : Step) → Rise 0 steps → k + 1 ≡ length steps → free_from 0 steps ≤ a → parts_after before steps a ≡ (get_or steps k d).parts
+last_decides steps before a k d rise last free =
+    let under = below_free steps 0 k d rise (omega (arith, last)) in
+    answered_at steps 0 before a k d rise (omega (arith, last)) (omega (arith, under, free)) (λ j is more. absurd (omega (arith, is, more, last)))

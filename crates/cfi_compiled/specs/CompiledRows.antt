@@ -5,7 +5,8 @@
 --     parts_by_scan      what is kept of the result of the scan, over a storage with these limits
 use Rattle.std.specs.Prelude.{ℕ, Option, Result}
 use Rattle.std.specs.Borrow.{Bor}
-use Rattle.gimli_cfi.specs.Words.{Error, Section, Row, Parts, map_ok, row_by_scan, rules_of}
+use Rattle.gimli_cfi.specs.Words.{Error, Section, Row, Parts}
+use Rattle.gimli_cfi.specs.Words.{map_ok, row_by_scan, rules_of}
 use Rattle.cfi_compiled.specs.declared.row.CompiledRow.{CompiledRow}
 
 abbrev pub parts_kept : CompiledRow → Parts ℕ

@@ -1,6 +1,6 @@
 //! The compiled table of a section.
-ghost use Rattle.std.specs.Prelude.{◌≡◌, ℕ, Some, IfOk, IfErr};
-ghost use Rattle.gimli_cfi.specs.Words.{Error as TheError, OutOfMemory, section_of};
+ghost use Rattle.std.specs.Prelude.{◌≡◌, Some, IfOk, IfErr};
+ghost use Rattle.gimli_cfi.specs.Words.{OutOfMemory, section_of};
 ghost use Rattle.cfi_compiled.specs.CompiledTables.{IsCompiled};
 
 use crate::fdes::covering_fdes;
@@ -14,7 +14,15 @@ use gimli_cfi::{
 use std::alloc::Global;
 
 impl CompiledTable {
-    /// The table of a section.
+    /// The table of a section, within the limits of `StoreOnHeap`: 192 rules a row and 4 rows.
+    ///
+    /// The bases are those of the pointers in the section's entries. FDEs may be in any order, be
+    /// empty, overlap, and have errors: an address belongs to the first FDE that contains it, in
+    /// the order of the entries, and an error is kept for the addresses for which `row_by_scan`
+    /// returns it. Where `n` FDEs overlap, it takes time in proportion to `n log n`, and memory in
+    /// proportion to the rows.
+    ///
+    /// Fails with `OutOfMemory` only where the context or a list of the table was refused memory.
     pub fn new<R: Reader<Offset = usize>, S: UnwindSection<R>>(
         alloc: Global,
         section: &S,
@@ -28,7 +36,11 @@ impl CompiledTable {
         Self::with_context(alloc, section, bases, &mut context)
     }
 
-    /// The table of a section, within the limits of the context's storage.
+    /// The table of a section, within the limits of the context's storage, as `new`. What the
+    /// context held before doesn't matter.
+    ///
+    /// Fails with `OutOfMemory` only where a list of the table was refused memory or, over a storage
+    /// that isn't fixed, an instruction was.
     pub fn with_context<
         R: Reader<Offset = usize>,
         S: UnwindSection<R>,
@@ -75,5 +87,6 @@ fn compile<R: Reader<Offset = usize>, S: UnwindSection<R>, C: UnwindContextStora
         pieces.as_slice(),
         outside,
     )?;
+    table.finish();
     Ok(table)
 }

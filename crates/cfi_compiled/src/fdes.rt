@@ -1,13 +1,11 @@
 //! The FDEs of a section that contain an address.
-ghost use Rattle.std.specs.Prelude.{◌≡◌, ◌<◌, IfOk, map};
+ghost use Rattle.std.specs.Prelude.{◌≡◌, IfOk, map};
 ghost use Rattle.std.specs.List.{All};
 ghost use Rattle.cfi_read_core.specs.ReaderCalls.{map_ok};
-ghost use Rattle.cfi_read_core.specs.CallFrameSections.{IsOf};
 ghost use Rattle.cfi_entry.specs.Entries.{entries};
-ghost use Rattle.cfi_entry.specs.Fdes.{end_of};
 ghost use Rattle.cfi_entry.specs.Sections.{section_of};
-ghost use Rattle.cfi_unwind.specs.WalkViews.{partial_of};
-ghost use Rattle.cfi_unwind.specs.FdeViews.{fde_view};
+ghost use Rattle.cfi_unwind.specs.WalkViews.{partial_bases, partial_section, partial_view};
+ghost use Rattle.cfi_unwind.specs.FdeViews.{HasCieOf, IsFdeOf, fde_view};
 ghost use Rattle.cfi_unwind.specs.Scan.{fde_readings, read_fde};
 ghost use Rattle.cfi_compiled.specs.CoveringFdes.{covering, outside};
 
@@ -17,8 +15,8 @@ use gimli_cfi::{
 };
 use std::alloc::{AllocError, Global};
 
-/// The FDEs before the first refusal that contain an address, and the refusal for an address that none of them
-/// contains.
+/// The FDEs before the first error that contain an address, and the error for an address that none
+/// of them contains.
 #[derive(Drop)]
 pub(crate) struct CoveringFdes<R: Reader> {
     pub(crate) fdes: Vec<FrameDescriptionEntry<R>>,
@@ -35,8 +33,10 @@ pub(crate) fn covering_fdes<R: Reader<Offset = usize>, S: UnwindSection<R>>(
         ≡ covering (fde_readings (section_of (S.view section.now) bases.now))) }
     ensures outside { let from = section_of (S.view section.now) bases.now in
         IfOk result (λ found. found.outside ≡ outside (fde_readings from) (entries from).refusal) }
-    ensures own { IfOk result (λ found. All (λ fde. IsOf (R.position fde.instructions) (S.view section.now).position) found.fdes.items) }
-    ensures cie { IfOk result (λ found. All (λ fde. IsOf (R.position fde.cie.initial_instructions) (S.view section.now).position) found.fdes.items) }
+    ensures own { IfOk result (λ found.
+        All (IsFdeOf R.position (S.view section.now).position) found.fdes.items) }
+    ensures cie { IfOk result (λ found.
+        All (HasCieOf R.position (S.view section.now).position) found.fdes.items) }
 {
     let mut fdes = Vec::new(alloc);
     let mut entries = section.entries(bases);
@@ -65,9 +65,12 @@ fn whole<R: Reader, S: UnwindSection<R>>(
     partial: &PartialFrameDescriptionEntry<'_, S, R>,
 ) -> Result<FrameDescriptionEntry<R>, Error>
     ensures read { map_ok (fde_view R.position R.Offset.number) result
-        ≡ read_fde (section_of (S.view partial.now.section) partial.now.bases.now) (partial_of R.position R.Offset.number partial.now.prefix partial.now.cie_offset) }
-    ensures part { IfOk result (λ fde. IsOf (R.position fde.instructions) (S.view partial.now.section).position) }
-    ensures cie_part { IfOk result (λ fde. IsOf (R.position fde.cie.initial_instructions) (S.view partial.now.section).position) }
+        ≡ read_fde (section_of (S.view (partial_section partial.now)) (partial_bases partial.now))
+        (partial_view R.position R.Offset.number partial.now) }
+    ensures part { IfOk result
+        (IsFdeOf R.position (S.view (partial_section partial.now)).position) }
+    ensures cie_part { IfOk result
+        (HasCieOf R.position (S.view (partial_section partial.now)).position) }
 {
     let reader = partial.offset();
     partial.parse(|from: &S, bases: &BaseAddresses, offset: S::Offset| {

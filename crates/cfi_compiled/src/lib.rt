@@ -7,8 +7,10 @@
 
 mod compile;
 mod fdes;
+mod numbers;
 mod pieces;
 mod row;
+mod same;
 mod steps;
 mod table;
 mod walk;

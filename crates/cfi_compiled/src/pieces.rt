@@ -38,7 +38,8 @@ pub(crate) fn overlay(
     requires above { Ascend 0 above.now }
     requires below { Ascend 0 below.now }
     ensures ascend { IfOk result (λ laid. Ascend 0 laid.items) }
-    ensures owner { IfOk result (λ laid. (a : ℕ) → owner a laid.items ≡ option_or (owner a above.now) (owner a below.now)) }
+    ensures owner { IfOk result (λ laid. (a : ℕ) →
+        owner a laid.items ≡ option_or (owner a above.now) (owner a below.now)) }
 {
     let mut laid = Vec::new(alloc);
     let mut i = 0;
@@ -109,7 +110,8 @@ pub(crate) fn spans_of<R: Reader<Offset = usize>>(
     alloc: Global,
     fdes: &[FrameDescriptionEntry<R>],
 ) -> Result<Vec<Piece>, AllocError>
-    ensures { IfOk result (λ spans. spans.items ≡ spans_from 0 (map (fde_view R.position (λ n. n)) fdes.now)) }
+    ensures { IfOk result (λ spans.
+        spans.items ≡ spans_from 0 (map (fde_view R.position (λ n. n)) fdes.now)) }
 {
     let mut spans = Vec::new(alloc);
     let mut of = 0;
@@ -128,7 +130,8 @@ pub(crate) fn spans_of<R: Reader<Offset = usize>>(
 pub(crate) fn resolve(alloc: Global, spans: &[Piece]) -> Result<Vec<Piece>, AllocError>
     requires { All (λ span. span.from < span.to) spans.now }
     ensures ascend { IfOk result (λ pieces. Ascend 0 pieces.items) }
-    ensures owner { IfOk result (λ pieces. (a : ℕ) → owner a pieces.items ≡ owner a spans.now) }
+    ensures owner { IfOk result (λ pieces. (a : ℕ) →
+        owner a pieces.items ≡ owner a spans.now) }
 {
     if spans.len() <= 1 {
         let pieces = Vec::from_slice(alloc, spans)?;

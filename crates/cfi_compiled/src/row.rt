@@ -1,9 +1,11 @@
 //! Rows as a compiled table keeps them.
-ghost use Rattle.std.specs.Prelude.{◌≡◌, IfOk};
+ghost use Rattle.std.specs.Prelude.{◌≡◌, IfOk, IsTrue};
 ghost use Rattle.std.specs.FinMap.{get};
 ghost use Rattle.gimli_cfi.specs.Words.{rules_of};
 ghost use Rattle.cfi_compiled.specs.CompiledRows.{parts_kept};
 
+use crate::numbers::{hash_of_cfa, hash_of_rule, mix};
+use crate::same::{is_same_cfa, is_same_rules};
 use gimli_cfi::{ArrayLike, CfaRule, Register, RegisterRule, UnwindTableRow};
 use std::alloc::{AllocError, Global};
 
@@ -33,6 +35,24 @@ impl CompiledRow {
             saved_args_size: row.saved_args_size(),
             rules,
         })
+    }
+
+    /// Whether the two say the same, in the same order.
+    pub(crate) fn is_same(&self, other: &CompiledRow) -> bool
+        ensures { IsTrue result → parts_kept self.now ≡ parts_kept other.now }
+    {
+        self.saved_args_size == other.saved_args_size
+            && is_same_cfa(self.cfa, other.cfa)
+            && is_same_rules(self.rules.as_slice(), other.rules.as_slice())
+    }
+
+    /// A number that is equal where the two say the same in the same order.
+    pub(crate) fn hash(&self) -> u64 {
+        let mut hash = mix(hash_of_cfa(self.cfa), self.saved_args_size);
+        for pair in self.rules.as_slice() {
+            hash = mix(hash, hash_of_rule(pair.0, pair.1));
+        }
+        hash
     }
 
     /// How the canonical frame address is found.

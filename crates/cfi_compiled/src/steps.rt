@@ -1,6 +1,7 @@
 //! What takes the results of addresses step by step.
-ghost use Rattle.std.specs.Prelude.{◌≡◌, ◌<◌, ◌≤◌, ◌+◌, ℕ, Result, Ok, Err, OnOk};
+ghost use Rattle.std.specs.Prelude.{◌≤◌, ◌+◌, ℕ, Result, Ok, Err, OnOk};
 ghost use Rattle.gimli_cfi.specs.Words.{Error as TheError, Parts};
+ghost use Rattle.cfi_compiled.specs.Steps.{IsFrom, SameBelow};
 
 use gimli_cfi::{ArrayLike, Error, Register, RegisterRule, UnwindTableRow};
 use std::alloc::{AllocError, AllocFailed};
@@ -36,14 +37,14 @@ pub(crate) trait StepSink {
         row: &UnwindTableRow<usize, A>,
     ) -> std::result::Result<(), NoMemory>
         requires { free self.old ≤ from }
-        ensures before { OnOk result ((a : ℕ) → a < from → answer self.new a ≡ answer self.old a) }
-        ensures after { OnOk result ((a : ℕ) → from ≤ a → answer self.new a ≡ Ok row.now.parts) }
+        ensures before { OnOk result (SameBelow from (answer self.new) (answer self.old)) }
+        ensures after { OnOk result (IsFrom from (answer self.new) (Ok row.now.parts)) }
         ensures free { OnOk result (free self.new ≤ from + 1) };
 
     /// From this address on the result is this error.
     fn error(&mut self, from: u64, error: Error) -> std::result::Result<(), NoMemory>
         requires { free self.old ≤ from }
-        ensures before { OnOk result ((a : ℕ) → a < from → answer self.new a ≡ answer self.old a) }
-        ensures after { OnOk result ((a : ℕ) → from ≤ a → answer self.new a ≡ Err error) }
+        ensures before { OnOk result (SameBelow from (answer self.new) (answer self.old)) }
+        ensures after { OnOk result (IsFrom from (answer self.new) (Err error)) }
         ensures free { OnOk result (free self.new ≤ from + 1) };
 }

@@ -1,11 +1,12 @@
 //! Compiled tables.
-ghost use Rattle.std.specs.Prelude.{◌≡◌, ◌<◌, ◌≤◌, ◌+◌, ℕ, [], length, IfOk, OnOk};
+ghost use Rattle.std.specs.Prelude.{◌≡◌, ◌≤◌, ◌+◌, [], length, IfOk, IsTrue, OnOk};
 ghost use Rattle.gimli_cfi.specs.Words.{map_ok};
 ghost use Rattle.cfi_compiled.specs.CompiledRows.{parts_kept, parts_lent};
-ghost use Rattle.cfi_compiled.specs.CompiledTables.{Extends, parts_at, parts_numbered, steps_of};
-ghost use Rattle.cfi_compiled.specs.CompiledTables.{step_view, steps_left};
-ghost use Rattle.cfi_compiled.specs.Steps.{free_from};
+ghost use Rattle.cfi_compiled.specs.CompiledTables.{EndsWith, parts_at, parts_numbered, steps_of};
+ghost use Rattle.cfi_compiled.specs.CompiledTables.{results_of, step_view, steps_left};
+ghost use Rattle.cfi_compiled.specs.Steps.{IsFrom, Rise, SameBelow, free_from};
 
+use crate::numbers::number_of;
 use crate::row::CompiledRow;
 use crate::steps::{NoMemory, StepSink};
 use gimli_cfi::{ArrayLike, Error, Register, RegisterRule, Result, UnwindTableRow};
@@ -19,21 +20,45 @@ pub(crate) struct NumberedStep {
     pub(crate) number: usize,
 }
 
-/// The unwind rows of a section for all addresses.
+/// The unwind rows of a section for all addresses, or the errors in their place.
+///
+/// A table is made once, by `new` or `with_context`. It then has for every address what
+/// `row_by_scan` returns for the section: what the row says but its two addresses, or the error.
+/// The section isn't needed any more. An expression of a rule is its place in the section, so its
+/// bytes are read there.
+///
+/// The table has a step for each address at which the row changes, and each distinct row once; a
+/// step names its row by number. So a lookup is a binary search in the steps.
+///
+/// # Example
+///
+/// ```
+/// let section = EhFrame::new(bytes, LittleEndian);
+/// let bases = BaseAddresses::default().set_eh_frame(0x2040);
+/// let table = CompiledTable::new(alloc, &section, &bases)?;
+/// for pc in addresses {
+///     let row = table.row(*pc)?;
+///     let return_address = row.register(Register(16));
+/// }
+/// ```
 #[derive(Drop)]
 pub struct CompiledTable {
     alloc: Global,
     results: Vec<Result<CompiledRow>>,
     numbers: Vec<NumberedStep>,
+    slots: Vec<usize>,
 }
 
 impl Model for CompiledTable {
-    ghost use Rattle.cfi_compiled.specs.CompiledTables.{CompiledSteps, AreNumbersOf, steps_of};
+    ghost use Rattle.cfi_compiled.specs.CompiledTables.{NumberedSteps, AreNumbersOf, steps_of};
     ghost use Rattle.cfi_compiled.specs.Steps.{Rise};
 
-    ghost Value = { CompiledSteps };
+    ghost Value = { NumberedSteps };
 
-    ghost view = { λ table. record { results = table.results.items; numbers = table.numbers.items } };
+    ghost view = { λ table. record {
+      results = table.results.items;
+      numbers = table.numbers.items;
+    } };
 
     ghost invariant = { λ table.
         Rise 0 (steps_of (record { results = table.results.items; numbers = table.numbers.items }))
@@ -49,10 +74,20 @@ impl CompiledTable {
             alloc,
             results: Vec::new(alloc),
             numbers: Vec::new(alloc),
+            slots: Vec::new(alloc),
         }
     }
 
-    /// What the row of the address says, or the error that `row_by_scan` returns.
+    /// Gives back what only making the table takes.
+    pub(crate) fn finish(&mut self)
+        ensures { self.new ≡ self.old }
+    {
+        self.slots = Vec::new(self.alloc);
+    }
+
+    /// What the row of the address says, or the error that `row_by_scan` returns for it:
+    /// `NoUnwindInfoForAddress` if no FDE contains the address, else the first error on the way to
+    /// the row. A binary search; does not allocate.
     pub fn row(&self, address: u64) -> Result<&CompiledRow>
         ensures { parts_lent result ≡ parts_at self.now address }
     {
@@ -77,7 +112,8 @@ impl CompiledTable {
         result_at(self.results.as_slice(), steps[first - 1].number)
     }
 
-    /// The number of steps.
+    /// The number of steps: how often the row, or the error in its place, changes from one address
+    /// to the next, and one.
     #[inline(always)]
     pub fn len(&self) -> usize
         ensures { result ≡ length (steps_of self.now) }
@@ -85,10 +121,20 @@ impl CompiledTable {
         self.numbers.len()
     }
 
-    /// Iterates over the steps, in the order of their addresses.
+    /// The number of rows and errors that are stored. Equal rows are stored once.
+    #[inline(always)]
+    pub fn results_len(&self) -> usize
+        ensures { result ≡ length (results_of self.now) }
+    {
+        self.results.len()
+    }
+
+    /// Iterates over the steps, in the order of their addresses. For an address the table has what
+    /// the last step at or below it has.
     #[inline(always)]
     pub fn iter(&self) -> CompiledSteps<'_>
-        ensures { steps_left result ≡ steps_of self.now }
+        ensures steps { steps_left result ≡ steps_of self.now }
+        ensures order { Rise 0 (steps_of self.now) }
     {
         CompiledSteps {
             results: self.results.as_slice(),
@@ -99,11 +145,15 @@ impl CompiledTable {
     /// From this address on the result is this one.
     fn push(&mut self, from: u64, answer: Result<CompiledRow>) -> std::result::Result<(), NoMemory>
         requires { free_from 0 (steps_of self.old) ≤ from }
-        ensures before { OnOk result ((a : ℕ) → a < from → parts_at self.new a ≡ parts_at self.old a) }
-        ensures after { OnOk result ((a : ℕ) → from ≤ a → parts_at self.new a ≡ map_ok parts_kept answer) }
+        ensures before { OnOk result (SameBelow from (parts_at self.new) (parts_at self.old)) }
+        ensures after { OnOk result
+            (IsFrom from (parts_at self.new) (map_ok parts_kept answer)) }
         ensures free { OnOk result (free_from 0 (steps_of self.new) ≤ from + 1) }
     {
-        let number = number_of(&mut self.results, answer)?;
+        let number = number_of(&mut self.results, &mut self.slots, answer)?;
+        if ends_with(self.numbers.as_slice(), number) {
+            return Ok(());
+        }
         self.numbers.push(NumberedStep {
             start: from,
             number,
@@ -113,7 +163,7 @@ impl CompiledTable {
 }
 
 impl StepSink for CompiledTable {
-    ghost use Rattle.cfi_compiled.specs.CompiledTables.{parts_at, steps_of};
+    ghost use Rattle.cfi_compiled.specs.CompiledTables.{EndsWith, parts_at, steps_of};
     ghost use Rattle.cfi_compiled.specs.Steps.{free_from};
 
     ghost answer = { parts_at };
@@ -134,18 +184,15 @@ impl StepSink for CompiledTable {
     }
 }
 
-/// The number of the result, which is added where it has none.
-fn number_of(
-    results: &mut Vec<Result<CompiledRow>>,
-    answer: Result<CompiledRow>,
-) -> std::result::Result<usize, NoMemory>
-    ensures extends { Extends results.old.items results.new.items }
-    ensures number { IfOk result (λ number. number < length results.new.items) }
-    ensures means { IfOk result (λ number. parts_numbered results.new.items number ≡ map_ok parts_kept answer) }
+/// Whether the last step has this number.
+fn ends_with(steps: &[NumberedStep], number: usize) -> bool
+    ensures { IsTrue result → EndsWith number steps.now }
 {
-    let number = results.len();
-    results.push(answer)?;
-    Ok(number)
+    if steps.is_empty() {
+        return false;
+    }
+    let last = steps[steps.len() - 1];
+    last.number == number
 }
 
 /// The result with a number.
