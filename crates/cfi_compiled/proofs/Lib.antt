@@ -11,3 +11,4 @@ mod Compiled
 mod Searched
 mod Grown
 mod RuleLists
+pub mod Laws

@@ -19,8 +19,9 @@ impl CompiledTable {
     /// The bases are those of the pointers in the section's entries. FDEs may be in any order, be
     /// empty, overlap, and have errors: an address belongs to the first FDE that contains it, in
     /// the order of the entries, and an error is kept for the addresses for which `row_by_scan`
-    /// returns it. Where `n` FDEs overlap, it takes time in proportion to `n log n`, and memory in
-    /// proportion to the rows.
+    /// returns it. Which of `n` FDEs has an address is sorted out in time in proportion to
+    /// `n log n`; the instructions of an FDE that earlier ones cut into pieces run once for each
+    /// piece, up to its end.
     ///
     /// Fails with `OutOfMemory` only where the context or a list of the table was refused memory.
     pub fn new<R: Reader<Offset = usize>, S: UnwindSection<R>>(
@@ -39,8 +40,8 @@ impl CompiledTable {
     /// The table of a section, within the limits of the context's storage, as `new`. What the
     /// context held before doesn't matter.
     ///
-    /// Fails with `OutOfMemory` only where a list of the table was refused memory or, over a storage
-    /// that isn't fixed, an instruction was.
+    /// Fails with `OutOfMemory` only where a list of the table was refused memory or, over a
+    /// storage that isn't fixed, an instruction was.
     pub fn with_context<
         R: Reader<Offset = usize>,
         S: UnwindSection<R>,
