@@ -1,0 +1,42 @@
+use Rattle.std.proofs.Common.{◌≡◌, ℕ, ◌+◌, [], List, Some, drop, get_or, sym, ap, ◌∙◌, arith}
+use Rattle.std.proofs.lemmas.List.{drop_all, drop_more}
+use Rattle.std.specs.FinMap.{get}
+use Rattle.cfi_read_core.specs.declared.common.Register.{Register}
+use Rattle.cfi_state.specs.RulePairs.{rules_of}
+use Rattle.cfi_state.specs.declared.table.rules.RegisterRule.{RegisterRule}
+use Rattle.cfi_state.specs.declared.table.rules.RegisterRule.TheVariants.{Undefined}
+use Rattle.cfi_compiled.proofs.RuleLists.{rule_first, rule_later, rule_none}
+use Rattle.cfi_compiled.proofs.row.CompiledRow.register.Goals as goal
+
+abbrev nothing : Register × RegisterRule ℕ
+nothing = (record { 0 = 0 }, Undefined)
+
+pub returns-then-eq : goal.returns-then-eq
+returns-then-eq c =
+    let items = c.args.self.now.rules.items in
+    let same = c.as_slice-pair-items.ensures.value in
+    let pair = get_or items c.loop-pair.pair-index nothing in
+    let there = drop_more items c.loop-pair.pair-index nothing (rw same at c.loop-pair-test.true) in
+    ap (λ (l : List (Register × RegisterRule ℕ)). Some (get_or l c.loop-pair.pair-index nothing).1) same
+    ∙ sym (rule_first pair (drop (c.loop-pair.pair-index + 1) items) c.args.register.0 (rw same at (sym c.eq.ensures ∙ c.if-eq.true)))
+    ∙ ap (λ (l : List (Register × RegisterRule ℕ)). get (rules_of l) c.args.register.0) (sym there)
+    ∙ c.loop-pair.invariant
+
+pub loop-pair-preserved : goal.loop-pair-preserved
+loop-pair-preserved c =
+    let items = c.args.self.now.rules.items in
+    let same = c.as_slice-pair-items.ensures.value in
+    let pair = get_or items c.loop-pair.pair-index nothing in
+    let there = drop_more items c.loop-pair.pair-index nothing (rw same at c.loop-pair-test.true) in
+    sym (rule_later pair (drop (c.loop-pair.pair-index + 1) items) c.args.register.0 (rw same at (sym c.eq.ensures ∙ c.if-eq.false)))
+    ∙ ap (λ (l : List (Register × RegisterRule ℕ)). get (rules_of l) c.args.register.0) (sym there)
+    ∙ c.loop-pair.invariant
+
+pub returns : goal.returns
+returns c =
+    let items = c.args.self.now.rules.items in
+    let same = c.as_slice-pair-items.ensures.value in
+    let none : drop c.loop-pair.pair-index items ≡ [] = let past = rw same at c.loop-pair-test.false in drop_all c.loop-pair.pair-index items (omega (arith, past)) in
+    sym (rule_none c.args.register.0)
+    ∙ ap (λ (l : List (Register × RegisterRule ℕ)). get (rules_of l) c.args.register.0) (sym none)
+    ∙ c.loop-pair.invariant

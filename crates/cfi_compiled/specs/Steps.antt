@@ -1,0 +1,40 @@
+-- Results that change at few addresses.
+--     Step      from an address on, up to the next step, the result is this
+--     parts_by_steps      the result of the last step at or below an address, else
+--         `NoUnwindInfoForAddress`
+--     Rise low steps      each step is above the one before it, the first at or above `low`
+--     free_from low steps      the least address above all steps
+--     SameBelow, IsFrom, IsWithin      what is known of the results of addresses below one, from
+--         one on, and between two
+use Rattle.std.specs.Prelude.{◌≡◌, ℕ, ◌<◌, ◌≤◌, ◌+◌, List, [], ◌∷◌, nat_lt, cond}
+use Rattle.std.specs.Prelude.{Result, Err, ⊤}
+use Rattle.gimli_cfi.specs.Words.{Error, NoUnwindInfoForAddress, Parts}
+
+pub record Step : Type 0 where
+  pub start : ℕ
+  pub parts : Result (Parts ℕ) Error
+
+abbrev pub parts_after : Result (Parts ℕ) Error → List Step → ℕ → Result (Parts ℕ) Error
+parts_after before [] address = before
+parts_after before (step ∷ steps) address =
+    cond (nat_lt address step.start) before (parts_after step.parts steps address)
+
+abbrev pub parts_by_steps : List Step → ℕ → Result (Parts ℕ) Error
+parts_by_steps steps address = parts_after (Err NoUnwindInfoForAddress) steps address
+
+abbrev pub Rise : ℕ → List Step → Type 0
+Rise low [] = ⊤
+Rise low (step ∷ steps) = (low ≤ step.start) × Rise (step.start + 1) steps
+
+abbrev pub SameBelow : {X : Type 0} → ℕ → (ℕ → X) → (ℕ → X) → Type 0
+SameBelow bound new old = (a : ℕ) → a < bound → new a ≡ old a
+
+abbrev pub IsFrom : {X : Type 0} → ℕ → (ℕ → X) → X → Type 0
+IsFrom start results result = (a : ℕ) → start ≤ a → results a ≡ result
+
+abbrev pub IsWithin : {X : Type 0} → ℕ → ℕ → (ℕ → X) → (ℕ → X) → Type 0
+IsWithin start end results due = (a : ℕ) → start ≤ a → a < end → results a ≡ due a
+
+abbrev pub free_from : ℕ → List Step → ℕ
+free_from low [] = low
+free_from low (step ∷ steps) = free_from (step.start + 1) steps

@@ -1,0 +1,19 @@
+//! Compiled unwind tables: the rows of a call frame section for all addresses, made once, and then
+//! found by a binary search.
+//!
+//! For every address a table returns what `row_by_scan` returns for its section: all that the row
+//! says but its two addresses, or the error. Nothing is read from the section any more.
+#![tactic(auto)]
+
+mod compile;
+mod fdes;
+mod numbers;
+mod pieces;
+mod row;
+mod same;
+mod steps;
+mod table;
+mod walk;
+
+pub use row::CompiledRow;
+pub use table::{CompiledStep, CompiledSteps, CompiledTable};

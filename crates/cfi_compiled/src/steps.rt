@@ -1,0 +1,50 @@
+//! What takes the results of addresses step by step.
+ghost use Rattle.std.specs.Prelude.{◌≤◌, ◌+◌, ℕ, Result, Ok, Err, OnOk};
+ghost use Rattle.gimli_cfi.specs.Words.{Error as TheError, Parts};
+ghost use Rattle.cfi_compiled.specs.Steps.{IsFrom, SameBelow};
+
+use gimli_cfi::{ArrayLike, Error, Register, RegisterRule, UnwindTableRow};
+use std::alloc::{AllocError, AllocFailed};
+
+/// Memory was refused.
+#[derive(Clone, Copy, Debug)]
+pub(crate) struct NoMemory;
+
+impl From<AllocError> for NoMemory {
+    fn from(_error: AllocError) -> NoMemory {
+        NoMemory
+    }
+}
+
+impl<T: Drop> From<AllocFailed<T>> for NoMemory {
+    fn from(_error: AllocFailed<T>) -> NoMemory {
+        NoMemory
+    }
+}
+
+/// What takes steps one by one, each above the one before.
+pub(crate) trait StepSink {
+    /// The result for each address, by the steps so far.
+    ghost answer: { Self → ℕ → Result (Parts ℕ) TheError };
+
+    /// The least address from which the next step may be.
+    ghost free: { Self → ℕ };
+
+    /// From this address on the result is what the row says.
+    fn row<A: ArrayLike<Item = (Register, RegisterRule<usize>)>>(
+        &mut self,
+        from: u64,
+        row: &UnwindTableRow<usize, A>,
+    ) -> std::result::Result<(), NoMemory>
+        requires { free self.old ≤ from }
+        ensures before { OnOk result (SameBelow from (answer self.new) (answer self.old)) }
+        ensures after { OnOk result (IsFrom from (answer self.new) (Ok row.now.parts)) }
+        ensures free { OnOk result (free self.new ≤ from + 1) };
+
+    /// From this address on the result is this error.
+    fn error(&mut self, from: u64, error: Error) -> std::result::Result<(), NoMemory>
+        requires { free self.old ≤ from }
+        ensures before { OnOk result (SameBelow from (answer self.new) (answer self.old)) }
+        ensures after { OnOk result (IsFrom from (answer self.new) (Err error)) }
+        ensures free { OnOk result (free self.new ≤ from + 1) };
+}

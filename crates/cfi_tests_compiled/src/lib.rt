@@ -1,0 +1,7 @@
+//! Tests of compiled tables: beside `row_by_scan`, address by address, and by hand.
+#![tactic(auto)]
+
+#[cfg(test)]
+mod by_hand;
+#[cfg(test)]
+mod by_scan;
