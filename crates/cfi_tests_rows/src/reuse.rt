@@ -1,13 +1,15 @@
 //! Contexts that are used again after an error, and what is equal to what.
 ghost use Rattle.std.proofs.Common.{lit≤};
+ghost use Rattle.std.specs.Prelude.{IfOk};
+ghost use Rattle.gimli_cfi.specs.Words.{IsCieOf};
 
 use crate::rows::{R7_8, RETURNS, Shown, hands_out, shown};
 use arrayvec::ArrayVec;
 use cfi_tests_bytes::{THREE_ROWS, bytes_of, joined};
 use gimli_cfi::{
-    ArrayLike, BaseAddresses, CopyList, DebugFrame, Error, LittleEndian, Reader, ReaderOffset,
-    ReaderOffsetId, Register, RegisterRule, Section, StoreGrowing, StoreOnHeap, UnwindContext,
-    UnwindContextStorage, UnwindSection, UnwindTableRow, row_by_scan,
+    ArrayLike, BaseAddresses, CopyList, DebugFrame, DebugFrameOffset, Error, LittleEndian, Reader,
+    ReaderOffset, ReaderOffsetId, Register, RegisterRule, Section, StoreGrowing, StoreOnHeap,
+    UnwindContext, UnwindContextStorage, UnwindSection, UnwindTableRow, row_by_scan,
 };
 use std::alloc::Global;
 use std::process::Abort;
@@ -64,7 +66,8 @@ pub(crate) fn row_of<R: Reader<Offset = usize>, S: UnwindContextStorage<usize>>(
     Ok(shown(row))
 }
 
-/// The row of the FDE for 0x1000 for another address. The closure captures a value.
+/// The row of the FDE for 0x1000 for another address. The closure captures a value, and says that
+/// the CIE is of the section that it is given.
 fn row_of_the_fde<R: Reader<Offset = usize>, S: UnwindContextStorage<usize>>(
     section: &DebugFrame<R>,
     context: &mut UnwindContext<usize, S>,
@@ -72,10 +75,16 @@ fn row_of_the_fde<R: Reader<Offset = usize>, S: UnwindContextStorage<usize>>(
 ) -> Result<Shown, Error> {
     let bases = BaseAddresses::default();
     let reader = *section.reader();
-    let fde = section.fde_for_address(&bases, 0x1000, |from, bases, offset| {
-        let _reader = reader;
-        from.cie_from_offset(bases, offset)
-    })?;
+    let fde = section.fde_for_address(
+        &bases,
+        0x1000,
+        |from: &DebugFrame<R>, bases: &BaseAddresses, offset: DebugFrameOffset<usize>|
+            ensures { IfOk result (IsCieOf R.position (R.position from.now.section)) }
+        {
+            let _reader = reader;
+            from.cie_from_offset(bases, offset)
+        },
+    )?;
     let row = fde.unwind_info_for_address(section, &bases, context, address)?;
     Ok(shown(row))
 }
