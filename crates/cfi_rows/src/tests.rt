@@ -102,6 +102,35 @@ version 1: a move past 1 byte | debug_frame le 1 0xf1 | 0e000000 ffffffff 01 00 
 ",
 };
 
+/// Entries with other fields, of which most give no row.
+const ENTRIES: Table = Table {
+    before: "",
+    cases: "
+rule given twice | debug_frame le 8 0x1000 | 0e000000 ffffffff 04000800 017810 0c0708 1a000000 RANGE 8602 8603 8701 | 0x1000 0x1020 cfa=r7+8 args=0 r6=offset(-24) r7=offset(-8)
+two CIEs | debug_frame le 8 0x2000 | CIE 10000000 ffffffff 04000800 017810 0c0710 9001 14000000 RANGE 14000000 00000000 0020000000000000 2000000000000000 | 0x2000 0x2020 cfa=r7+8 args=0 r16=offset(-8)
+personality | eh_frame le 8 0x1000 section=0x2000 | 11000000 00000000 01 7a5000 017810 05 9b 10000000 | refused NoUnwindInfoForAddress
+personality without its base | eh_frame le 8 0x1000 | same | refused PcRelativePointerButSectionBaseIsUndefined
+language-specific data | eh_frame le 8 0x1000 section=0x2000 | 0f000000 00000000 01 7a4c5200 017810 02 43 1b 11000000 17000000 e5efffff 20000000 04 10000000 | 0x1000 0x1020 cfa=r0+0 args=0
+language-specific data at the function | eh_frame le 8 0x1000 section=0x2000 | 0f000000 00000000 01 7a4c5200 017810 02 43 1b 11000000 17000000 e5efffff 20000000 04 00000000 | 0x1000 0x1020 cfa=r0+0 args=0
+address relative to a function | eh_frame le 8 0x1000 section=0x2000 | 0f000000 00000000 01 7a4c5200 017810 02 43 43 11000000 17000000 e5efffff 20000000 04 10000000 | refused FuncRelativePointerInBadContext
+letter S: .debug_frame | debug_frame le 8 0x1000 | 0d000000 ffffffff 04 5300 0800 017810 00 | refused NoUnwindInfoForAddress
+letter S: .eh_frame | eh_frame le 8 0x1000 | 0a000000 00000000 01 5300 017810 | refused NoUnwindInfoForAddress
+letter R without z: .debug_frame | debug_frame le 8 0x1000 | 0d000000 ffffffff 04 5200 0800 017810 00 | refused UnknownAugmentation
+letter R without z: .eh_frame | eh_frame le 8 0x1000 | 0a000000 00000000 01 5200 017810 | refused UnknownAugmentation
+z after another letter: .debug_frame | debug_frame le 8 0x1000 | 0e000000 ffffffff 04 537a00 0800 017810 00 | refused UnknownAugmentation
+z after another letter: .eh_frame | eh_frame le 8 0x1000 | 0b000000 00000000 01 537a00 017810 | refused UnknownAugmentation
+64-bit format: .eh_frame | eh_frame le 8 0x1000 | ffffffff 0900000000000000 00000000 01 00 017810 | refused NoUnwindInfoForAddress
+FDE that is its own CIE: .debug_frame | debug_frame le 8 0x1002 | 04000000 00000000 | refused NotCieId
+CIE at the end | debug_frame le 8 0x1002 | 04000000 08000000 | refused UnexpectedEof
+CIE after the end | debug_frame le 8 0x1002 | 04000000 09000000 | refused UnexpectedEof
+CIE at a gap | debug_frame le 8 0x1002 | 00000000 04000000 00000000 | refused NoEntryAtGivenOffset
+greatest length of 32 bits | debug_frame le 8 0x1002 | efffffff | refused UnexpectedEof
+greatest length of 64 bits | debug_frame le 8 0x1002 | ffffffff ffffffffffffffff | refused UnexpectedEof
+length of 2^32 | debug_frame le 8 0x1002 | ffffffff 0000000001000000 | refused UnexpectedEof
+augmentation data of 2^32 bytes | eh_frame le 8 0x1002 | 0f000000 00000000 01 7a00 017810 8080808010 | refused UnexpectedEof
+",
+};
+
 /// Sections that are answered otherwise where the room for rows grows.
 const LIMITS: Table = Table {
     before: "",
@@ -251,6 +280,7 @@ fn check_case(
 fn worked_sections(rt: HostRuntime) -> Result<(), Fail> {
     check(&rt, &WORKED, "")?;
     check(&rt, &WORKED, " store=vec")?;
+    check(&rt, &ENTRIES, "")?;
     check(&rt, &LIMITS, "")?;
     check(&rt, &WRONG, "")
 }

@@ -9,6 +9,8 @@ mod derives;
 #[cfg(test)]
 mod guide;
 #[cfg(test)]
+mod own_section;
+#[cfg(test)]
 mod readers_and_storages;
 #[cfg(test)]
 mod refused_growth;

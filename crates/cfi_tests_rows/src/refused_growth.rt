@@ -208,12 +208,18 @@ fn tell<S: UnwindContextStorage<usize>>(
     Ok(())
 }
 
-/// Sections with remembered states, in a CIE, in an FDE and in both; the address of the last row.
-const SECTIONS: [(&str, u64); 7] = [
+/// Sections with remembered states, in a CIE, in an FDE and in both, and one whose CIE moves; the
+/// address of the last row.
+const SECTIONS: [(&str, u64); 8] = [
     (
         "10000000 ffffffff 04000800 017810 0c0708 9001 \
         19000000 00000000 0010000000000000 2000000000000000 0a 0e20 42 0b",
         0x1002,
+    ),
+    (
+        "11000000 ffffffff 04000800 017810 0c0708 9001 41 \
+        14000000 00000000 0010000000000000 2000000000000000",
+        0x1000,
     ),
     (
         "12000000 ffffffff 04000800 017810 0c0708 9001 8602 \

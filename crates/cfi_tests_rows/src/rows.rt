@@ -50,6 +50,12 @@ const SET_LOC: [u8; 53] = [
     0, 0,
 ];
 
+/// An FDE that restores a state though none is remembered, and then sets the CFA's offset.
+const NOTHING_REMEMBERED: [u8; 47] = [
+    0x10, 0, 0, 0, 0xff, 0xff, 0xff, 0xff, 4, 0, 8, 0, 1, 0x78, 0x10, 0x0c, 7, 8, 0x90, 1, 0x17, 0,
+    0, 0, 0, 0, 0, 0, 0, 0x10, 0, 0, 0, 0, 0, 0, 0x20, 0, 0, 0, 0, 0, 0, 0, 0x0b, 0x0e, 0x10,
+];
+
 /// A row: its addresses, its CFA, and the rules of registers 6 and 16.
 pub(crate) type Shown = (
     u64,
@@ -166,7 +172,7 @@ const AT_ONCE: Answers<'static> = &[
     Ok(None),
 ];
 
-const TABLES: [(&[u8], Answers<'static>); 6] = [
+const TABLES: [(&[u8], Answers<'static>); 7] = [
     (&LARGE_FACTOR, AT_ONCE),
     (&SET_LOC, AT_ONCE),
     (
@@ -196,6 +202,14 @@ const TABLES: [(&[u8], Answers<'static>); 6] = [
         &[
             Err(Error::CfiInstructionInInvalidContext),
             Ok(Some((0x1000, 0x1020, BY_EXPRESSION, SAVED, RETURNS))),
+            Ok(None),
+        ],
+    ),
+    (
+        &NOTHING_REMEMBERED,
+        &[
+            Err(Error::PopWithEmptyStack),
+            Ok(Some((0x1000, 0x1020, R7_16, None, RETURNS))),
             Ok(None),
         ],
     ),
@@ -242,7 +256,7 @@ fn the_bytes_of_an_expression(rt: HostRuntime) -> Result<(), Fail> {
 }
 
 /// A reader of the section of two CIEs.
-fn two_cies() -> EndianSlice<'static, LittleEndian> {
+pub(crate) fn two_cies() -> EndianSlice<'static, LittleEndian> {
     EndianSlice::new(&TWO_CIES, LittleEndian)
 }
 

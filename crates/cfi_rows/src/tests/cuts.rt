@@ -1,6 +1,10 @@
 //! Inputs that are cut off at every length: each run prints one line, of a row or of a refusal.
-use super::header::LISTED;
-use super::{Case, LIMITS, Table, WORKED, case_of, expect, run_text, status_of, written_out};
+use super::extensions::EXTENSIONS;
+use super::header::{BIG_ENDIAN, DISHONEST, HEADERS, LISTED};
+use super::{
+    Case, ENTRIES, LIMITS, Table, WORKED, case_of, expect, run_text, status_of, write_many_rules,
+    written_out,
+};
 use std::alloc::{AllocError, Global};
 use std::process::Abort;
 use std::test::Fail;
@@ -104,9 +108,26 @@ fn check_table(rt: &(impl Abort + AllocGlobal), table: &Table) -> Result<(), Fai
 
 #[test]
 fn each_cut_of_each_input(rt: HostRuntime) -> Result<(), Fail> {
-    check_table(&rt, &WORKED)?;
-    check_table(&rt, &LIMITS)?;
-    check_table(&rt, &LISTED)
+    for table in [&WORKED, &ENTRIES, &LIMITS, &EXTENSIONS] {
+        check_table(&rt, table)?;
+    }
+    for table in [&LISTED, &DISHONEST, &HEADERS, &BIG_ENDIAN] {
+        check_table(&rt, table)?;
+    }
+    Ok(())
+}
+
+#[test]
+fn each_cut_of_many_rules(rt: HostRuntime) -> Result<(), Fail> {
+    let mut text = String::new(rt.alloc());
+    write_many_rules(&mut text, rt.alloc())?;
+    let case = Case {
+        name: "193 rules",
+        words: "debug_frame le 8 0x1000 store=vec",
+        input: "",
+        line: "",
+    };
+    check_cuts(&rt, &case, "", text.as_str(), "")
 }
 
 /// The line of the first bytes of the section.

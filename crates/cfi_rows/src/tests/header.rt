@@ -20,8 +20,8 @@ no table | eh_frame le 8 0x1018 section=0x2000 header=0x1f00 | 01 1b 03 ff fc000
 ",
 };
 
-/// By a header that is no header of the section, or is none at all.
-const DISHONEST: Table = Table {
+/// By a header that is no header of the section.
+pub(super) const DISHONEST: Table = Table {
     before: THREE_FDES,
     cases: "
 target: another FDE | eh_frame le 8 0x1018 section=0x2000 header=0x1f00 | 01 1b 03 3b fc000000 03000000 00f1ffff 18010000 10f1ffff 18010000 20f1ffff 40010000 | refused NoUnwindInfoForAddress
@@ -35,13 +35,40 @@ third row cut off: the first FDE | eh_frame le 8 0x1008 section=0x2000 header=0x
 rows of no fixed length | eh_frame le 8 0x1018 section=0x2000 header=0x1f00 | 01 1b 03 31 fc000000 03000000 00f1ffff 18010000 10f1ffff 2c010000 20f1ffff 40010000 | refused UnsupportedPointerEncoding
 version 2 | eh_frame le 8 0x1018 section=0x2000 header=0x1f00 | 02 1b 03 3b fc000000 00000000 | refused UnknownVersion
 empty header | eh_frame le 8 0x1018 section=0x2000 header=0x1f00 | | refused UnexpectedEof
+one indirect row | eh_frame le 8 0x1018 section=0x2000 header=0x1f00 | 01 1b 03 bb fc000000 01000000 00f1ffff 18010000 | refused UnsupportedIndirectPointer
+",
+};
+
+/// Headers without a table, and headers whose table is too long.
+pub(super) const HEADERS: Table = Table {
+    before: THREE_FDES,
+    cases: "
+pointer relative to itself | eh_frame le 8 0x1018 section=0x2000 header=0x1f00 | 01 1b ff ff 10000000 | 0x1011 0x1020 cfa=r7+16 args=0 r16=offset(-8)
+indirect pointer | eh_frame le 8 0x1018 section=0x2000 header=0x1f00 | 01 9b ff ff f0ffffff | 0x1011 0x1020 cfa=r7+16 args=0 r16=offset(-8)
+pointer that wraps | eh_frame le 4 0x1018 section=0x2000 header=0xfffffff0 | 01 1b ff ff 20000000 | 0x1011 0x1020 cfa=r7+16 args=0 r16=offset(-8)
+pointer of two bytes | eh_frame le 8 0x1018 section=0x2000 header=0x1f00 | 01 01 ff ff 8001 | 0x1011 0x1020 cfa=r7+16 args=0 r16=offset(-8)
+signed pointer | eh_frame le 2 0x1018 section=0x2000 header=0x1f00 | 01 09 ff ff 7f | 0x1011 0x1020 cfa=r7+16 args=0 r16=offset(-8)
+unknown encoding | eh_frame le 8 0x1018 section=0x2000 header=0x1f00 | 01 05 ff ff | refused UnknownPointerEncoding
+relative to a function | eh_frame le 8 0x1018 section=0x2000 header=0x1f00 | 01 40 ff ff | refused FuncRelativePointerInBadContext
+aligned pointer | eh_frame le 8 0x1018 section=0x2000 header=0x1f00 | 01 50 ff ff | refused UnsupportedPointerEncoding
+no pointer | eh_frame le 8 0x1018 section=0x2000 header=0x1f00 | 01 ff 03 3b | refused CannotParseOmitPointerEncoding
+relative count | eh_frame le 8 0x1018 section=0x2000 header=0x1f00 | 01 1b 13 3b fc000000 03000000 | refused UnsupportedPointerEncoding
+2^63 rows | eh_frame le 8 0x1018 section=0x2000 header=0x1f00 | 01 00 04 04 0020000000000000 0000000000000080 | refused UnsupportedOffset
+2^29 rows | eh_frame le 8 0x1018 section=0x2000 header=0x1f00 | 01 00 04 04 0020000000000000 0000002000000000 | refused UnexpectedEof
+",
+};
+
+/// A header that is no hexadecimal, and words that are wrong.
+const WRONG: Table = Table {
+    before: THREE_FDES,
+    cases: "
 no hexadecimal | eh_frame le 8 0x1018 section=0x2000 header=0x1f00 | 0g | wrong hexadecimal
 odd number of digits | eh_frame le 8 0x1018 section=0x2000 header=0x1f00 | 01 1 | wrong hexadecimal
 header given twice | eh_frame le 8 0x1018 header=1 header=1 | 01 1b 03 ff fc000000 | wrong words
 ",
 };
 
-const BIG_ENDIAN: Table = Table {
+pub(super) const BIG_ENDIAN: Table = Table {
     before: "00000014 00000000 01 7a5200 01 78 10 01 1b 0c0708 9001 0000 00000010 0000001c ffffefe0 00000010 00 000000 00000010 00000030 ffffefdc 00000010 00 410e10 00000000\n",
     cases: "
 big-endian | eh_frame be 8 0x1018 section=0x2000 header=0x1f00 | 01 1b 03 3b 000000fc 00000002 fffff100 00000118 fffff110 0000012c | 0x1011 0x1020 cfa=r7+16 args=0 r16=offset(-8)
@@ -52,6 +79,8 @@ big-endian | eh_frame be 8 0x1018 section=0x2000 header=0x1f00 | 01 1b 03 3b 000
 fn by_a_header(rt: HostRuntime) -> Result<(), Fail> {
     check(&rt, &LISTED, "")?;
     check(&rt, &DISHONEST, "")?;
+    check(&rt, &HEADERS, "")?;
+    check(&rt, &WRONG, "")?;
     check(&rt, &BIG_ENDIAN, "")
 }
 
