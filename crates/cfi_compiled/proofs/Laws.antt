@@ -3,7 +3,7 @@
 --         ran out of memory
 --     agrees_where_fixed      over a fixed storage it is what `row_by_scan` returned
 use Rattle.std.proofs.Common.{◌≡◌, ℕ, Bool, Option, Result, Err, sym, ap, ◌∙◌, inl, inr, ⊎_elim}
-use Rattle.std.specs.Prelude.{◌⊎◌, IsTrue}
+use Rattle.std.specs.Prelude.{◌⊎◌}
 use Rattle.cfi_unwind.proofs.Laws.{scan_is_due_where_fixed}
 use Rattle.gimli_cfi.specs.Words.{Error, IsFixed, IsRowByScan, OutOfMemory, Row, Section, row_by_scan}
 use Rattle.cfi_compiled.specs.CompiledRows.{parts_of_row}
