@@ -14,16 +14,18 @@ use gimli_cfi::{
 use std::alloc::Global;
 
 impl CompiledTable {
-    /// The table of a section, within the limits of `StoreOnHeap`: 192 rules a row and 4 rows.
+    /// Returns the table of a section, within the limits of `StoreOnHeap`: 192 rules a row and 4
+    /// rows (DWARF 5 section 6.4).
     ///
     /// The bases are those of the pointers in the section's entries. FDEs may be in any order, be
     /// empty, overlap, and have errors: an address belongs to the first FDE that contains it, in
     /// the order of the entries, and an error is kept for the addresses for which `row_by_scan`
     /// returns it. Which of `n` FDEs has an address is sorted out in time in proportion to
     /// `n log n`; the instructions of an FDE that earlier ones cut into pieces run once for each
-    /// piece, up to its end.
+    /// piece, up to its end. Memory is in proportion to the number of FDEs and steps.
     ///
     /// Fails with `OutOfMemory` only where the context or a list of the table was refused memory.
+    /// The error of an entry, a CIE or an instruction isn't returned here, but by `row`.
     pub fn new<R: Reader<Offset = usize>, S: UnwindSection<R>>(
         alloc: Global,
         section: &S,
@@ -37,7 +39,7 @@ impl CompiledTable {
         Self::with_context(alloc, section, bases, &mut context)
     }
 
-    /// The table of a section, within the limits of the context's storage, as `new`. What the
+    /// Returns the table of a section as `new`, within the limits of the context's storage. What the
     /// context held before doesn't matter.
     ///
     /// Fails with `OutOfMemory` only where a list of the table was refused memory or, over a

@@ -7,13 +7,13 @@ ghost use Rattle.cfi_compiled.specs.CompiledTables.{Extends, parts_numbered};
 use crate::row::CompiledRow;
 use crate::same::is_same;
 use crate::steps::NoMemory;
-use gimli_cfi::{CfaRule, Register, RegisterRule, Result};
+use gimli_cfi::{CfaRule, Error, Register, RegisterRule, Result};
 
-/// The number of the result: that of the same one if it is found among the results, else a new
-/// number, with which it is added.
+/// The number of the result: that of an equal one among the results, else a new number, with which
+/// it is added.
 ///
 /// A slot has a number and one, or zero. A result is searched for from the slot of its hash on, up
-/// to the first slot with zero.
+/// to the first slot with zero. An error other than `NoUnwindInfoForAddress` has no slot.
 pub(crate) fn number_of(
     results: &mut Vec<Result<CompiledRow>>,
     slots: &mut Vec<usize>,
@@ -24,6 +24,11 @@ pub(crate) fn number_of(
     ensures means { IfOk result (λ number.
         parts_numbered results.new.items number ≡ map_ok parts_kept answer) }
 {
+    if !has_slot(&answer) {
+        let number = results.len();
+        results.push(answer)?;
+        return Ok(number);
+    }
     if slots.len() / 2 <= results.len() {
         grow(slots, results.as_slice())?;
     }
@@ -66,6 +71,15 @@ fn find(
     Err(place)
 }
 
+/// Whether a result is looked for among those before it: a row, and the error for an address that
+/// no FDE contains.
+fn has_slot(answer: &Result<CompiledRow>) -> bool {
+    match answer {
+        Ok(_) => true,
+        Err(error) => matches!(error, Error::NoUnwindInfoForAddress),
+    }
+}
+
 /// Makes more slots, and writes the numbers of the results again.
 fn grow(
     slots: &mut Vec<usize>,
@@ -75,6 +89,9 @@ fn grow(
     slots.clear();
     slots.resize(count, 0)?;
     for number in 0..results.len() {
+        if !has_slot(&results[number]) {
+            continue;
+        }
         let place = first_free(slots.as_slice(), hash_of(&results[number]));
         write(slots.as_mut_slice(), place, number);
     }

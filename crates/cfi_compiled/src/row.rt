@@ -55,7 +55,7 @@ impl CompiledRow {
         hash
     }
 
-    /// How the canonical frame address is found.
+    /// The rule for the canonical frame address.
     #[inline(always)]
     pub fn cfa(&self) -> &CfaRule<usize>
         ensures { result.now ≡ (parts_kept self.now).cfa }
@@ -63,7 +63,7 @@ impl CompiledRow {
         &self.cfa
     }
 
-    /// How many bytes of arguments have been pushed (`DW_CFA_GNU_args_size`).
+    /// The bytes of arguments that have been pushed (`DW_CFA_GNU_args_size`), 0 if not set.
     #[inline(always)]
     pub fn saved_args_size(&self) -> u64
         ensures { result ≡ (parts_kept self.now).args_size }
@@ -71,7 +71,7 @@ impl CompiledRow {
         self.saved_args_size
     }
 
-    /// The register's rule, `None` if it has none.
+    /// Returns the register's rule, `None` if it has none. Compares the row's registers one by one.
     #[inline(always)]
     pub fn register(&self, register: Register) -> Option<RegisterRule<usize>>
         ensures { result ≡ get (parts_kept self.now).rules register.0 }

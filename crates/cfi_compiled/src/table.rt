@@ -85,9 +85,10 @@ impl CompiledTable {
         self.slots = Vec::new(self.alloc);
     }
 
-    /// What the row of the address says, or the error that `row_by_scan` returns for it:
-    /// `NoUnwindInfoForAddress` if no FDE contains the address, else the first error on the way to
-    /// the row. A binary search; does not allocate.
+    /// Returns what the row of the address says, or the error that `row_by_scan` returns for it with
+    /// enough memory: `NoUnwindInfoForAddress` if no FDE contains the address, else the first error
+    /// on the way to the row (DWARF 5 section 6.4.3). A binary search among the steps; does not
+    /// allocate.
     pub fn row(&self, address: u64) -> Result<&CompiledRow>
         ensures { parts_lent result ≡ parts_at self.now address }
     {
@@ -112,8 +113,8 @@ impl CompiledTable {
         result_at(self.results.as_slice(), steps[first - 1].number)
     }
 
-    /// The number of steps: how often the row, or the error in its place, changes from one address
-    /// to the next, and one.
+    /// The number of steps. Neighbours with equal rows are one step; those with equal errors may be
+    /// two.
     #[inline(always)]
     pub fn len(&self) -> usize
         ensures { result ≡ length (steps_of self.now) }
@@ -121,7 +122,8 @@ impl CompiledTable {
         self.numbers.len()
     }
 
-    /// The number of rows and errors that are stored. Equal rows are stored once.
+    /// The number of rows and errors that are stored. Equal rows are stored once; an error may be
+    /// stored again.
     #[inline(always)]
     pub fn results_len(&self) -> usize
         ensures { result ≡ length (results_of self.now) }
@@ -130,7 +132,7 @@ impl CompiledTable {
     }
 
     /// Iterates over the steps, in the order of their addresses. For an address the table has what
-    /// the last step at or below it has.
+    /// the last step at or below it has. Does not allocate.
     #[inline(always)]
     pub fn iter(&self) -> CompiledSteps<'_>
         ensures steps { steps_left result ≡ steps_of self.now }
