@@ -39,8 +39,8 @@ impl CompiledTable {
         Self::with_context(alloc, section, bases, &mut context)
     }
 
-    /// Returns the table of a section as `new`, within the limits of the context's storage. What the
-    /// context held before doesn't matter.
+    /// Returns the table of a section as `new`, within the limits of the context's storage. What
+    /// the context held before doesn't matter.
     ///
     /// Fails with `OutOfMemory` only where a list of the table was refused memory or, over a
     /// storage that isn't fixed, an instruction was.

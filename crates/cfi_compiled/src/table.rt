@@ -85,10 +85,10 @@ impl CompiledTable {
         self.slots = Vec::new(self.alloc);
     }
 
-    /// Returns what the row of the address says, or the error that `row_by_scan` returns for it with
-    /// enough memory: `NoUnwindInfoForAddress` if no FDE contains the address, else the first error
-    /// on the way to the row (DWARF 5 section 6.4.3). A binary search among the steps; does not
-    /// allocate.
+    /// Returns what the row of the address says, or the error that `row_by_scan` returns for it
+    /// with enough memory: `NoUnwindInfoForAddress` if no FDE contains the address, else the first
+    /// error on the way to the row (DWARF 5 section 6.4.3). A binary search among the steps; does
+    /// not allocate.
     pub fn row(&self, address: u64) -> Result<&CompiledRow>
         ensures { parts_lent result ≡ parts_at self.now address }
     {
