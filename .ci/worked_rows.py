@@ -3,7 +3,7 @@
 
 A line has the section's kind, byte order, address size and address, the bases of section, text and data, the vendor,
 the address of the header, the bytes of section and header (- for none), and, after a bar, the expected line. Cases of
-the growing storage and of wrong arguments have no counterpart in C, and are left out."""
+the growing storage, of wrong arguments and of a base that isn't set have no counterpart in C, and are left out."""
 import re
 import sys
 
@@ -36,7 +36,8 @@ def print_cases(text, known):
         if len(parts) != 4 or not re.match("debug_frame |eh_frame ", parts[1]):
             continue
         words, entry, line = parts[1], entry if parts[2] == "same" else parts[2], parts[3]
-        if "store=vec" in words or line.startswith("wrong ") or len(words.split()) < 4:
+        has_no_counterpart = "store=vec" in words or line.startswith("wrong ") or line.endswith("BaseIsUndefined")
+        if has_no_counterpart or len(words.split()) < 4:
             continue
         section, _, header = (before + entry).replace("\\n", "\n").partition("\n")
         print_case(words, bytes_of(section, known), bytes_of(header, known), line)
