@@ -2,7 +2,7 @@
 -- read of its operands. An opcode that no table has isn't evaluated.
 --     operation size      an operation, where an address has this size
 use Rattle.std.specs.Prelude.{ℕ, ◌-◌, ℤ, List, [], ◌∷◌, nat_lt, ◌==◌, if◌then◌else◌}
-use Rattle.std.specs.Int.{w8, w16, w32, w64, cast_signed, cast_unsigned}
+use Rattle.std.specs.Int.{w8, w16, w32, w64, cast_unsigned}
 use Rattle.cfi_read_core.specs.declared.common.Register.{Register}
 use Rattle.cfi_read_core.specs.ReadFunctions.{Read, ◌>>=◌, give, chosen_from}
 use Rattle.cfi_read_core.specs.Numbers.{unsigned, signed, unsigned_leb128, signed_leb128, register_leb128}
@@ -110,17 +110,13 @@ long_constants size =
 unfoldable pub by_long_constant : ℕ → ℕ → Read StackOperation
 by_long_constant size opcode = chosen_from opcode (long_constants size) (by_stack size opcode)
 
--- a byte in two's complement
-unfoldable pub signed_byte : Read ℤ
-signed_byte = unsigned w8 >>= λ n. give (cast_signed w8 n)
-
 -- DW_OP_const1u, const2u, const4u, const1s, const2s, const4s
 abbrev pub constants : List (ℕ × Read StackOperation)
 constants =
     (0x08, constant (unsigned w8))
     ∷ (0x0a, constant (unsigned w16))
     ∷ (0x0c, constant (unsigned w32))
-    ∷ (0x09, signed_constant signed_byte)
+    ∷ (0x09, signed_constant (signed w8))
     ∷ (0x0b, signed_constant (signed w16))
     ∷ (0x0d, signed_constant (signed w32))
     ∷ []

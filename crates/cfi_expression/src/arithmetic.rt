@@ -1,10 +1,9 @@
 //! Arithmetic of the entries of a stack, which are as wide as an address (DWARF 5 sections 2.5.1.4
 //! and 2.5.1.5).
 ghost use Rattle.std.specs.Prelude.{◌≡◌, ◌*◌, ◌-◌, ◌/◌, ◌%◌, ◌^◌, ◌<◌, ◌==◌};
-ghost use Rattle.std.specs.Int.{cast_unsigned, w64};
 ghost use Rattle.cfi_read_core.specs.AddressSizes.{size_in_bytes};
 ghost use Rattle.cfi_read_core.specs.Addresses.{wrap};
-ghost use Rattle.cfi_expression.specs.Arithmetic.{complement, displaced, low, negated, one_of};
+ghost use Rattle.cfi_expression.specs.Arithmetic.{complement, low, negated, one_of};
 ghost use Rattle.cfi_expression.specs.Arithmetic.{quotient, shifted_with_sign};
 ghost use Rattle.cfi_expression.specs.Arithmetic.{by_nonzero, is_negative as is_below_zero, signed, two_of};
 
@@ -25,13 +24,6 @@ pub(crate) fn plus(second: u64, top: u64, size: AddressSize) -> u64
     ensures { result ≡ wrap second top (size_in_bytes size) }
 {
     second.wrapping_add_sized(top, size.bytes())
-}
-
-/// An address plus a number with a sign, modulo the size.
-pub fn displaced(address: u64, offset: i64, size: AddressSize) -> u64
-    ensures { result ≡ displaced (size_in_bytes size) address offset }
-{
-    plus(address, offset.cast_unsigned(), size)
 }
 
 /// The greatest entry, of which all bits are set.

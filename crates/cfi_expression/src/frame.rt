@@ -1,12 +1,14 @@
 //! A frame, as an expression sees it.
 ghost use Rattle.std.specs.Prelude.{◌≡◌, ok_or};
+ghost use Rattle.cfi_read_core.specs.AddressSizes.{size_in_bytes};
+ghost use Rattle.cfi_expression.specs.Arithmetic.{displaced};
 ghost use Rattle.cfi_expression.specs.Frames.{frame_view, known, number_at};
 ghost use Rattle.cfi_expression.specs.declared.error.FrameError.TheVariants.{UnknownRegister};
 
 use crate::error::FrameError;
 use crate::memory::Memory;
-use cfi_read_core::Register;
 use cfi_read_core::address::AddressSize;
+use cfi_read_core::{ReaderAddress, Register};
 
 /// A frame: what is known of its registers and its memory.
 #[derive(Clone, Copy)]
@@ -56,4 +58,11 @@ pub fn number_at<M: Memory>(frame: &Frame<'_, M>, address: u64, size: u8) -> Res
         Some(number) => Ok(number),
         None => Err(FrameError::UnreadableMemory(address)),
     }
+}
+
+/// An address plus a number with a sign, modulo the size.
+pub fn displaced(address: u64, offset: i64, size: AddressSize) -> u64
+    ensures { result ≡ displaced (size_in_bytes size) address offset }
+{
+    address.wrapping_add_sized(offset.cast_unsigned(), size.bytes())
 }

@@ -1,11 +1,12 @@
 //! Reading the operations of a DWARF expression (DWARF 5 sections 2.5.1 and 7.7.1).
 ghost use Rattle.std.specs.Prelude.{◌≡◌};
-ghost use Rattle.std.specs.Int.{cast_unsigned, w64};
+ghost use Rattle.std.specs.Int.{cast_unsigned, w8, w64};
 ghost use Rattle.cfi_read_core.specs.AddressSizes.{size_in_bytes};
+ghost use Rattle.cfi_read_core.specs.Numbers.{signed as two_complement};
 ghost use Rattle.cfi_read_core.specs.ReaderCalls.{ReadsValue};
 ghost use Rattle.cfi_expression.specs.Operations.{by_arithmetic, by_comparison, by_constant};
 ghost use Rattle.cfi_expression.specs.Operations.{by_logic, by_long_constant, by_stack, operation};
-ghost use Rattle.cfi_expression.specs.Operations.{register_offset, signed_byte, stack_operation};
+ghost use Rattle.cfi_expression.specs.Operations.{register_offset, stack_operation};
 
 use crate::operation::{BinaryOperation, Operation, StackOperation, UnaryOperation};
 use cfi_read_core::address::AddressSize;
@@ -82,9 +83,9 @@ fn parse_constant<R: Reader>(opcode: u8, input: &mut R, size: AddressSize) -> Re
 }
 
 /// Reads a number of one byte, in two's complement.
-#[tactic(auto, unfolding(crate::specs::Operations::signed_byte))]
+#[tactic(auto, unfolding(cfi_read_core::specs::Numbers::signed))]
 fn read_i8<R: Reader>(input: &mut R) -> Result<i8>
-    ensures { ReadsValue R.position signed_byte input.old result input.new }
+    ensures { ReadsValue R.position (two_complement w8) input.old result input.new }
 {
     Ok(input.read_u8()?.cast_signed())
 }

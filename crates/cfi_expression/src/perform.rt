@@ -6,9 +6,9 @@ ghost use Rattle.cfi_expression.specs.Frames.{frame_view};
 ghost use Rattle.cfi_expression.specs.Evaluation.{effect, obey, rotate, some_if, step, swap, target};
 ghost use Rattle.cfi_expression.specs.Stacks.{Acts, map_value};
 
-use crate::arithmetic::{displaced, low, one_of, two_of};
+use crate::arithmetic::{low, one_of, two_of};
 use crate::error::FrameError;
-use crate::frame::{Frame, number_at, register_value};
+use crate::frame::{Frame, displaced, number_at, register_value};
 use crate::memory::Memory;
 use crate::operation::{Operation, StackOperation};
 use crate::parse::parse_operation;
