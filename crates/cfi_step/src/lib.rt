@@ -5,9 +5,11 @@
 #![tactic(auto)]
 
 pub mod abi;
+pub mod module;
 pub mod recover;
 pub mod step;
 
 pub use abi::Abi;
 pub use cfi_expression::{AddressSize, Frame, FrameError, Memory, Window};
+pub use module::LoadedModule;
 pub use step::{Caller, row_address};
