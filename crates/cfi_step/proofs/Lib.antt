@@ -1,2 +1,3 @@
 pub mod Recovering
 pub mod ByHeader
+pub mod Walking

@@ -1,8 +1,9 @@
 -- From a frame to its caller, by the row of the frame's pc (DWARF 5 section 6.4.4).
+--     row_address pc is_interrupted      the address by which the row of a frame is found
 --     caller_by ra trampoline parts      the CFA, the caller's pc, and whether the frame is a signal trampoline's
 --     IsCallerBy ra trampoline row result caller      what a step returns and writes by a row, or by the error in its place
 --     IsStepBy .. section a found result caller      the same by the FDE that is found for the address, or the error in its place
-use Rattle.std.specs.Prelude.{◌≡◌, ℕ, Bool, List, length, Option, Result, Ok, Err, IfOk}
+use Rattle.std.specs.Prelude.{◌≡◌, ℕ, ◌+◌, ◌-◌, ◌%◌, ◌^◌, Bool, true, false, List, length, Option, Result, Ok, Err, IfOk}
 use Rattle.std.specs.Borrow.{Bor}
 use Rattle.cfi_read_core.specs.declared.common.Register.{Register}
 use Rattle.cfi_read_core.specs.declared.error.Error.{Error}
@@ -21,6 +22,12 @@ use Rattle.cfi_expression.specs.Stacks.{map_value}
 use Rattle.cfi_step.specs.declared.abi.Abi.{Abi}
 use Rattle.cfi_step.specs.declared.step.Caller.{Caller}
 use Rattle.cfi_step.specs.Callers.{AreRecovered, cfa_of, on_ok, return_address}
+
+-- The address by which a row is found. A return address is after the call, so it is looked up less one, modulo 2 ^ 64; the pc of a frame that
+-- was interrupted as it is.
+abbrev pub row_address : ℕ → Bool → ℕ
+row_address pc true = pc
+row_address pc false = (pc + (2 ^ 64 - 1)) % 2 ^ 64
 
 module _ (frame : Frame) (bytes : Position) (abi : Abi) {T : Type 0} (number : T → ℕ) where
   -- without a pc the frame is the outermost one

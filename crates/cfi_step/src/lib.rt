@@ -8,6 +8,7 @@ pub mod abi;
 pub mod module;
 pub mod recover;
 pub mod step;
+pub mod walk;
 
 pub use abi::Abi;
 pub use cfi_expression::{AddressSize, Frame, FrameError, Memory, Window};

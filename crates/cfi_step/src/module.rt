@@ -1,10 +1,9 @@
 //! A loaded module, and the caller of a frame of its code.
-ghost use Rattle.std.specs.Prelude.{◌≡◌, ◌≤◌, Result, length, IfOk, OnErr};
-ghost use Rattle.cfi_read_core.specs.AddressSizes.{size_in_bytes};
+ghost use Rattle.std.specs.Prelude.{◌≡◌, ◌≤◌, ◌<◌, length, position, IfOk, IfSome, OnErr};
+ghost use Rattle.std.specs.Option.{option_map};
 ghost use Rattle.cfi_read_core.specs.Addresses.{IsAddressSize};
 ghost use Rattle.cfi_read_core.specs.ReaderCalls.{map_ok};
-ghost use Rattle.cfi_read_core.specs.declared.error.Error.{Error as SearchError};
-ghost use Rattle.cfi_entry.specs.Fdes.{Covers, Fde};
+ghost use Rattle.cfi_entry.specs.Fdes.{Covers};
 ghost use Rattle.cfi_entry.specs.SectionViews.{eh_frame_view};
 ghost use Rattle.cfi_unwind.specs.FdeViews.{HasCieOf, IsFdeOf, fde_view};
 ghost use Rattle.gimli_cfi.specs.EhFrameHdr.{header_of, start_of};
@@ -12,8 +11,7 @@ ghost use Rattle.gimli_cfi.specs.HeaderViews.{listing_view, section_view, unpars
 ghost use Rattle.gimli_cfi.specs.RowsByHeader.{FoundByHeader};
 ghost use Rattle.gimli_cfi.specs.RowsByTable.{IsFdeFound};
 ghost use Rattle.cfi_expression.specs.Frames.{frame_view};
-ghost use Rattle.cfi_step.specs.Modules.{IsFoundIn, module_section};
-ghost use Rattle.cfi_step.specs.Steps.{IsStepBy};
+ghost use Rattle.cfi_step.specs.Modules.{IsFoundIn, IsStepIn, first_module, has_code};
 
 use crate::abi::Abi;
 use crate::step::{Caller, step_by_fde};
@@ -36,6 +34,33 @@ pub struct LoadedModule<R> {
     pub header: Option<EhFrameHdr<R>>,
     /// Where the sections are loaded.
     pub bases: BaseAddresses,
+}
+
+impl<R> LoadedModule<R> {
+    /// Whether the address is in the module's code.
+    pub fn has_code(&self, address: u64) -> bool
+        ensures { result ≡ has_code self.now address }
+    {
+        self.start <= address && address < self.end
+    }
+}
+
+/// The first module whose code the address is in.
+pub fn module_of<R>(modules: &[LoadedModule<R>], address: u64) -> Option<&LoadedModule<R>>
+    ensures { option_map (λ loaded. loaded.now) result ≡ first_module modules.now address }
+{
+    match module_index(modules, address) {
+        Some(index) => Some(&modules[index]),
+        None => None,
+    }
+}
+
+/// How many modules are before it.
+fn module_index<R>(modules: &[LoadedModule<R>], address: u64) -> Option<usize>
+    ensures index { result ≡ position (λ loaded. has_code loaded address) modules.now }
+    ensures bound { IfSome result (λ index. index < length modules.now) }
+{
+    modules.iter().position(|loaded| loaded.has_code(address))
 }
 
 /// The FDE of a module for an address, by the table of its header; by a scan of its section if it has
@@ -81,7 +106,7 @@ pub fn fde_by_header<R: Reader>(
     requires { IsAddressSize address_size }
     ensures found { let bytes = unparsed_view R.position header.now address_size bases.now in
         FoundByHeader (section_view R.position frame.now bases.now) address bytes
-            (header_of bytes) (map_ok (fde_view R.position R.Offset.number) result) }
+        (header_of bytes) (map_ok (fde_view R.position R.Offset.number) result) }
     ensures part { IfOk result (IsFdeOf R.position (eh_frame_view R.position frame.now).position) }
     ensures cie_part { IfOk result
         (HasCieOf R.position (eh_frame_view R.position frame.now).position) }
@@ -128,13 +153,9 @@ pub fn step_in_module<R: Reader, S: UnwindContextStorage<R::Offset>, M: Memory>(
     caller: &mut [Option<u64>],
 ) -> Result<Caller, FrameError>
     requires { length caller.old ≤ 0x10000 }
-    ensures step { let size = size_in_bytes frame.now.address_size in
-        (found : Result Fde SearchError) × IsFoundIn R.position size loaded.now address found
-        × IfOk found (λ fde. Covers fde address)
-        × IsStepBy (frame_view M.number_at frame.now)
-            (eh_frame_view R.position loaded.now.frame).position abi.now R.Offset.number
-            S.Rules.limit S.Stack.limit S.Rules.copies_free
-            (module_section R.position size loaded.now) address found result caller.new }
+    ensures step { IsStepIn R.position R.Offset.number (frame_view M.number_at frame.now)
+        abi.now S.Rules.limit S.Stack.limit S.Rules.copies_free
+        loaded.now address result caller.new }
     ensures unwritten { OnErr result (caller.new ≡ caller.old) }
 {
     match fde_in_module(loaded, frame.address_size.bytes(), address) {

@@ -1,12 +1,11 @@
 //! From a frame to its caller (DWARF 5 section 6.4.4).
-ghost use Rattle.std.specs.Prelude.{◌≡◌, ◌≤◌, ◌+◌, ◌%◌, ◌^◌, Ok, Result, length, IfOk, OnErr};
-ghost use Rattle.std.specs.Prelude.{if◌then◌else◌};
+ghost use Rattle.std.specs.Prelude.{◌≡◌, ◌≤◌, Ok, length, IfOk, OnErr};
 ghost use Rattle.cfi_entry.specs.Sections.{section_of};
 ghost use Rattle.cfi_unwind.specs.FdeViews.{HasCieOf, IsFdeOf, fde_view};
 ghost use Rattle.cfi_unwind.specs.Scan.{chosen_fde};
 ghost use Rattle.cfi_expression.specs.Frames.{frame_view};
 ghost use Rattle.cfi_step.specs.Callers.{AreRecovered};
-ghost use Rattle.cfi_step.specs.Steps.{IsStepBy, caller_by};
+ghost use Rattle.cfi_step.specs.Steps.{IsStepBy, caller_by, row_address};
 
 use crate::abi::Abi;
 use crate::recover::{frame_address, recover_return_address, write_registers};
@@ -33,7 +32,7 @@ pub struct Caller {
 /// so it is looked up less one. The pc of the innermost frame, and of one that a signal interrupted,
 /// is looked up as it is (DWARF 5 section 6.4.4).
 pub fn row_address(pc: u64, is_interrupted: bool) -> u64
-    ensures { (result + (if is_interrupted then 0 else 1)) % 2 ^ 64 ≡ pc }
+    ensures { result ≡ row_address pc is_interrupted }
 {
     if is_interrupted {
         pc
