@@ -1,5 +1,5 @@
 //! The frames of a stack, from the innermost one out (DWARF 5 section 6.4.4).
-ghost use Rattle.std.specs.Prelude.{◌≡◌, ◌≤◌, length, take, true, None};
+ghost use Rattle.std.specs.Prelude.{◌≡◌, ◌≤◌, ⊤, length, take, true, None};
 ghost use Rattle.cfi_step.specs.Walks.{IsStepFrom, IsWalk, checked, resumed};
 ghost use Rattle.cfi_step.specs.Walks.{rises_above, written};
 
@@ -8,6 +8,7 @@ use crate::module::{LoadedModule, module_of, step_in_module};
 use crate::step::{Caller, row_address};
 use cfi_expression::{AddressSize, Frame, FrameError, Memory};
 use gimli_cfi::{Reader, UnwindContext, UnwindContextStorage};
+use std::alloc::AllocError;
 
 /// A process whose stack is walked.
 pub struct Process<'a, R, M> {
@@ -20,6 +21,18 @@ pub struct Process<'a, R, M> {
     /// Its ABI.
     pub abi: Abi,
 }
+
+impl<R, M> Clone for Process<'_, R, M> {
+    ghost is_clone = { λ x y. y ≡ x };
+
+    ghost is_infallible = { λ _. ⊤ };
+
+    fn clone(&self) -> std::result::Result<Self, AllocError> {
+        Ok(*self)
+    }
+}
+
+impl<R, M> Copy for Process<'_, R, M> {}
 
 /// Where a frame is.
 #[derive(Clone, Copy)]
