@@ -5,7 +5,8 @@ ghost use Rattle.cfi_read_core.specs.AddressSizes.{size_in_bytes};
 ghost use Rattle.cfi_read_core.specs.Addresses.{wrap};
 ghost use Rattle.cfi_expression.specs.Arithmetic.{complement, low, negated, one_of};
 ghost use Rattle.cfi_expression.specs.Arithmetic.{quotient, shifted_with_sign};
-ghost use Rattle.cfi_expression.specs.Arithmetic.{by_nonzero, is_negative as is_below_zero, signed, two_of};
+ghost use Rattle.cfi_expression.specs.Arithmetic.{by_nonzero, is_negative as is_below_zero};
+ghost use Rattle.cfi_expression.specs.Arithmetic.{signed, two_of};
 
 use crate::error::FrameError;
 use crate::operation::{BinaryOperation, UnaryOperation};

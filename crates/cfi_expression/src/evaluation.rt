@@ -15,8 +15,8 @@ use cfi_read_core::dwarf_section::Expression;
 
 /// The value of an expression in a frame: the entry on top of the stack when the expression ends.
 ///
-/// The stack holds `initial` at the beginning, or nothing. The expression of a register's rule finds
-/// the CFA there, that of a CFA finds nothing (DWARF 5 sections 6.4.2.2 and 6.4.2.3).
+/// The stack holds `initial` at the beginning, or nothing. The expression of a register's rule
+/// finds the CFA there, that of a CFA finds nothing (DWARF 5 sections 6.4.2.2 and 6.4.2.3).
 ///
 /// At most `max_iterations` operations are done. Returns the first of these errors:
 /// `FrameError::Unreadable` if an operation cannot be read, `UnsupportedOperation`,

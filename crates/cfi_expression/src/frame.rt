@@ -1,5 +1,5 @@
 //! A frame, as an expression sees it.
-ghost use Rattle.std.specs.Prelude.{◌≡◌, ok_or};
+ghost use Rattle.std.specs.Prelude.{◌≡◌, ⊤, ok_or};
 ghost use Rattle.cfi_read_core.specs.AddressSizes.{size_in_bytes};
 ghost use Rattle.cfi_expression.specs.Arithmetic.{displaced};
 ghost use Rattle.cfi_expression.specs.Frames.{frame_view, known, number_at};
@@ -9,9 +9,9 @@ use crate::error::FrameError;
 use crate::memory::Memory;
 use cfi_read_core::address::AddressSize;
 use cfi_read_core::{ReaderAddress, Register};
+use std::alloc::AllocError;
 
 /// A frame: what is known of its registers and its memory.
-#[derive(Clone, Copy)]
 pub struct Frame<'a, M> {
     /// The value of each register by its number, where it is known.
     pub registers: &'a [Option<u64>],
@@ -21,6 +21,18 @@ pub struct Frame<'a, M> {
     /// section 2.5.1).
     pub address_size: AddressSize,
 }
+
+impl<M> Clone for Frame<'_, M> {
+    ghost is_clone = { λ x y. y ≡ x };
+
+    ghost is_infallible = { λ _. ⊤ };
+
+    fn clone(&self) -> std::result::Result<Self, AllocError> {
+        Ok(*self)
+    }
+}
+
+impl<M> Copy for Frame<'_, M> {}
 
 /// The value of a register, where it is known.
 pub fn known_register(registers: &[Option<u64>], register: Register) -> Option<u64>

@@ -1,7 +1,7 @@
 //! DWARF expressions of call frames, and their values in a frame (DWARF 5 section 2.5.1).
 //!
-//! `evaluate` gives the value of an expression over the registers and the memory of a frame. Nothing
-//! allocates.
+//! `evaluate` gives the value of an expression over the registers and the memory of a frame.
+//! Nothing allocates.
 #![tactic(auto)]
 
 mod arithmetic;

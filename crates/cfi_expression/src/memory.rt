@@ -11,8 +11,8 @@ pub trait Memory {
     /// The number of so many bytes at an address; `None` if one of them cannot be read.
     ghost number_at: { Self → ℕ → ℕ → Option ℕ };
 
-    /// The number of `size` bytes at the address; `None` if one of them cannot be read. The order of
-    /// the bytes is that of the process.
+    /// The number of `size` bytes at the address; `None` if one of them cannot be read. The order
+    /// of the bytes is that of the process.
     fn read(&self, address: u64, size: u8) -> Option<u64>
         requires { IsAddressSize size }
         ensures { result ≡ number_at self.now address size };

@@ -3,7 +3,8 @@ ghost use Rattle.std.specs.Prelude.{◌≡◌, ◌+◌, ◌-◌, nat_le, IfSome}
 ghost use Rattle.std.specs.Option.{option_map};
 ghost use Rattle.cfi_read_core.specs.ReaderCalls.{remaining};
 ghost use Rattle.cfi_expression.specs.Frames.{frame_view};
-ghost use Rattle.cfi_expression.specs.Evaluation.{effect, obey, rotate, some_if, step, swap, target};
+ghost use Rattle.cfi_expression.specs.Evaluation.{effect, obey, rotate, some_if, step};
+ghost use Rattle.cfi_expression.specs.Evaluation.{swap, target};
 ghost use Rattle.cfi_expression.specs.Stacks.{Acts, map_value};
 
 use crate::arithmetic::{low, one_of, two_of};
@@ -167,7 +168,8 @@ fn backward<R: Reader>(expression: &R, input: &R, distance: u64) -> Option<R>
 /// The reader so many bytes after another; `None` if fewer are left.
 fn forward<R: Reader>(from: R, distance: u64) -> Option<R>
     ensures place { option_map (λ r. (R.position r).place) result ≡
-        some_if (nat_le distance (remaining (R.position from))) ((R.position from).place + distance) }
+        some_if (nat_le distance (remaining (R.position from)))
+        ((R.position from).place + distance) }
     ensures source { IfSome result (λ r. (R.position r).source ≡ (R.position from).source) }
 {
     let Ok(distance) = R::Offset::from_u64(distance) else {

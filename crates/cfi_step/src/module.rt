@@ -63,8 +63,8 @@ fn module_index<R>(modules: &[LoadedModule<R>], address: u64) -> Option<usize>
     modules.iter().position(|loaded| loaded.has_code(address))
 }
 
-/// The FDE of a module for an address, by the table of its header; by a scan of its section if it has
-/// no header, or one without a table. The address size is 1, 2, 4 or 8.
+/// The FDE of a module for an address, by the table of its header; by a scan of its section if it
+/// has no header, or one without a table. The address size is 1, 2, 4 or 8.
 ///
 /// The FDE contains the address. Fails as `EhFrameHdr::parse` and `EhHdrTable::fde_for_address`, or
 /// as `scan_for_fde`. Does not allocate.

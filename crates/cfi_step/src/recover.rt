@@ -14,12 +14,12 @@ use gimli_cfi::{
     UnwindExpression, UnwindTableRow,
 };
 
-/// The registers that the caller of a frame has, by the row of the frame's pc. Returns the canonical
-/// frame address, and writes `caller[k]` for each register k for which there is room: `None` if the
-/// value is lost, if it is not known, and if what it is made of cannot be read.
+/// The registers that the caller of a frame has, by the row of the frame's pc. Returns the
+/// canonical frame address, and writes `caller[k]` for each register k for which there is room:
+/// `None` if the value is lost, if it is not known, and if what it is made of cannot be read.
 ///
-/// The row is of the section, which has the bytes of its expressions. A register without a rule keeps
-/// its value, but for the stack pointer, which is the CFA.
+/// The row is of the section, which has the bytes of its expressions. A register without a rule
+/// keeps its value, but for the stack pointer, which is the CFA.
 ///
 /// Fails if the CFA cannot be found: with `FrameError::UnknownRegister`, or as `evaluate` for its
 /// expression. Then nothing is written. Does not allocate.
@@ -119,8 +119,8 @@ pub fn recover_register<
 /// The pc of the caller of a frame with this CFA, from the register that holds the return address:
 /// `None` if the row says that it is undefined, in the outermost frame.
 ///
-/// If the row says that the address is signed (AArch64), the bits of its signature are cleared. Fails
-/// with `FrameError::UnknownRegister` if the value is not known, else as `recover_register`.
+/// If the row says that the address is signed (AArch64), the bits of its signature are cleared.
+/// Fails with `FrameError::UnknownRegister` if the value is not known, else as `recover_register`.
 pub fn recover_return_address<
     R: Reader,
     Section: _UnwindSectionPrivate<R>,

@@ -29,8 +29,8 @@ pub struct Caller {
 /// The address by which the row of a frame is found.
 ///
 /// A return address is after the call, which may be the last instruction of a row or of a function,
-/// so it is looked up less one. The pc of the innermost frame, and of one that a signal interrupted,
-/// is looked up as it is (DWARF 5 section 6.4.4).
+/// so it is looked up less one. The pc of the innermost frame, and of one that a signal
+/// interrupted, is looked up as it is (DWARF 5 section 6.4.4).
 pub fn row_address(pc: u64, is_interrupted: bool) -> u64
     ensures { result ≡ row_address pc is_interrupted }
 {
@@ -44,8 +44,8 @@ pub fn row_address(pc: u64, is_interrupted: bool) -> u64
 /// The caller of a frame, by the row of its address. `return_address` is the CIE's return address
 /// register, and `is_signal_trampoline` is whether the FDE is a signal trampoline.
 ///
-/// Writes `caller[k]` for each register k for which there is room, as `recover`. Fails as `recover`,
-/// then as `recover_return_address`; then nothing is written. Does not allocate.
+/// Writes `caller[k]` for each register k for which there is room, as `recover`. Fails as
+/// `recover`, then as `recover_return_address`; then nothing is written. Does not allocate.
 pub fn step_by_row<
     R: Reader,
     Section: _UnwindSectionPrivate<R>,
@@ -82,8 +82,8 @@ pub fn step_by_row<
 /// The caller of a frame, by the FDE of its address (`row_address`).
 ///
 /// The FDE and its CIE are of the section. Fails with `FrameError::NoRow` as the FDE's
-/// `unwind_info_for_address`, then as `step_by_row`, which says what is written. Over a fixed storage
-/// it does not allocate.
+/// `unwind_info_for_address`, then as `step_by_row`, which says what is written. Over a fixed
+/// storage it does not allocate.
 pub fn step_by_fde<
     R: Reader,
     Section: UnwindSection<R>,

@@ -84,8 +84,8 @@ pub struct Walk {
 /// Writes the frames of a stack, from the innermost one out, as far as there is room.
 ///
 /// `pc` and `registers` are those of the innermost frame; a register that is not known is `None`.
-/// Afterwards `registers` has those of the last frame whose caller was not found, and `caller`,
-/// which has the same room, is scratch. Over a fixed storage it does not allocate.
+/// `registers`, and `caller`, which has as much room, are overwritten. Over a fixed storage it does
+/// not allocate.
 pub fn unwind<R: Reader, S: UnwindContextStorage<R::Offset>, M: Memory>(
     process: &Process<'_, R, M>,
     ctx: &mut UnwindContext<R::Offset, S>,

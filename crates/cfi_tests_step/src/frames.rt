@@ -11,8 +11,8 @@ use std::alloc::Global;
 use std::test::Fail;
 
 /// Two CIEs (CFA r7+8, r16 saved at CFA-8), of which the second is of signal trampolines; and FDEs:
-/// 0x1000 pushes r6; 0x2000 is the outermost frame; 0x3000 is its own caller; 0x4000 signs its return
-/// address; 0x5000 is a signal trampoline.
+/// 0x1000 pushes r6; 0x2000 is the outermost frame; 0x3000 is its own caller; 0x4000 signs its
+/// return address; 0x5000 is a signal trampoline.
 const SECTION: &str = "10000000 00000000 01 00 01 78 10 0c0708 9001 0000 \
      1c000000 18000000 0010000000000000 2000000000000000 410e108602 000000 \
      18000000 38000000 0020000000000000 1000000000000000 0710 0000 \
