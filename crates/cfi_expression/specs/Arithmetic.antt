@@ -3,7 +3,7 @@
 --     low size a      the low bits of a number, of which an entry has room
 --     one_of size o top      what a unary operation gives
 --     two_of size o second top      what a binary operation gives, or a division by zero
-use Rattle.std.specs.Prelude.{ℕ, ◌+◌, ◌-◌, ◌*◌, ◌/◌, ◌%◌, ◌^◌, ℤ, Bool, not, nat_le, ◌==◌, Result, Ok, Err, bit_and, bit_or, bit_xor, if◌then◌else◌}
+use Rattle.std.specs.Prelude.{ℕ, ◌-◌, ◌*◌, ◌/◌, ◌%◌, ◌^◌, ℤ, Bool, not, nat_le, ◌==◌, Result, Ok, Err, bit_and, bit_or, bit_xor, if◌then◌else◌}
 use Rattle.std.specs.Int.{w64, cast_unsigned, from_bool, int_wrapping_div}
 use Rattle.std.specs.Int.RustNames.{int_lt, int_le}
 use Rattle.cfi_read_core.specs.Numbers.{number_by}

@@ -15,7 +15,7 @@ use Rattle.cfi_expression.specs.declared.operation.Operation.{Operation}
 use Rattle.cfi_expression.specs.declared.operation.Operation.TheVariants.{Stack, Skip, Bra}
 use Rattle.cfi_expression.specs.Frames.{Frame, number_at, register_in}
 use Rattle.cfi_expression.specs.Operations.{operation}
-use Rattle.cfi_expression.specs.Stacks.{Act, Acted, go_on, ◌>>=◌, ◌>>◌, of_result, push, pop, pick}
+use Rattle.cfi_expression.specs.Stacks.{Act, ◌>>=◌, ◌>>◌, of_result, push, pop, pick}
 use Rattle.cfi_expression.specs.Arithmetic.{displaced, low, one_of, two_of}
 
 -- ---- entries that change places (section 2.5.1.3)

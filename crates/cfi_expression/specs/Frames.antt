@@ -2,7 +2,7 @@
 --     Frame, frame_view      a frame, and that of the code
 --     known, register_in      the value of a register
 --     number_at      the number at an address
-use Rattle.std.specs.Prelude.{ℕ, ◌&&◌, nat_le, List, Option, None, Result, Ok, Err, ok_or, slice_index_or, if◌then◌else◌}
+use Rattle.std.specs.Prelude.{ℕ, ◌&&◌, nat_le, List, Option, None, Result, Err, ok_or, slice_index_or, if◌then◌else◌}
 use Rattle.cfi_read_core.specs.declared.common.Register.{Register}
 use Rattle.cfi_read_core.specs.Addresses.{is_sized}
 use Rattle.cfi_read_core.specs.AddressSizes.{size_in_bytes}

@@ -1,8 +1,7 @@
 //! The value of a DWARF expression in a frame (DWARF 5 section 2.5).
 ghost use Rattle.std.specs.Prelude.{◌≡◌};
-ghost use Rattle.cfi_expression.specs.Evaluation.{initial_stack, run, value_of};
+ghost use Rattle.cfi_expression.specs.Evaluation.{run, value_of};
 ghost use Rattle.cfi_expression.specs.Frames.{frame_view};
-ghost use Rattle.cfi_expression.specs.Stacks.{map_value};
 
 use crate::arithmetic::low;
 use crate::error::FrameError;

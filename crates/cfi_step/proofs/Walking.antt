@@ -1,7 +1,7 @@
 -- The frames of a walk, one after the other.
-use Rattle.std.proofs.Common.{◌≡◌, ◌<◌, ◌≤◌, ◌+◌, ℕ, Bool, List, [], ◌∷◌, ◌++◌, length, take, Option, Result, Ok, Err, refl, sym, ap, ◌∙◌, subst, inl, inr}
+use Rattle.std.proofs.Common.{◌≡◌, ◌<◌, ◌+◌, ℕ, Bool, List, [], ◌∷◌, ◌++◌, length, take, drop, Option, Result, Ok, Err, refl, sym, ap, ◌∙◌, subst, inl, inr, arith}
 use Rattle.std.specs.Prelude.{slice_set}
-use Rattle.std.proofs.lemmas.List.{take_more_set, append_assoc, append-nil}
+use Rattle.std.proofs.lemmas.List.{take_more_set, append_assoc, append-nil, drop-set, drop-set-add, drop-set-lt}
 use Rattle.cfi_read_core.specs.ReadFunctions.{Position}
 use Rattle.cfi_step.specs.declared.step.Caller.{Caller}
 use Rattle.cfi_step.specs.declared.walk.Process.{Process}
@@ -10,6 +10,22 @@ use Rattle.cfi_step.specs.declared.walk.Start.{Start}
 use Rattle.cfi_step.specs.declared.walk.End.{End}
 use Rattle.cfi_step.specs.declared.walk.End.TheVariants.{NoRoom}
 use Rattle.cfi_step.specs.Walks.{State, IsStepFrom, IsWalk, resumed, written}
+
+-- ---- what is not written
+
+same_rest : {A : Type 0} (y : A) (xs ys : List A) → y ∷ xs ≡ y ∷ ys → xs ≡ ys
+same_rest y xs ys h = cc
+
+-- one more is written
+pub left : {A : Type 0} (now old : List A) (n : ℕ) (y : A) → n < length now → n < length old → drop n now ≡ drop n old → drop (n + 1) (slice_set now n y) ≡ drop (n + 1) old
+left {A} now old n y inside inside_old same =
+    let here : n + 0 ≡ n = omega arith in
+    let at : (l : List A) (a : A) → drop n (slice_set l n a) ≡ slice_set (drop n l) 0 a = λ l a. subst (λ (k : ℕ). drop n (slice_set l k a) ≡ slice_set (drop n l) 0 a) here (drop-set-add n l 0 a) in
+    drop-set-lt (n + 1) now n y (omega arith)
+    ∙ same_rest y (drop (n + 1) now) (drop (n + 1) old)
+    (sym (drop-set now n y inside) ∙ (at now y ∙ (ap (λ l. slice_set l 0 y) same ∙ (sym (at old y) ∙ drop-set old n y inside_old))))
+
+-- ---- what is written
 
 module _ {R M T : Type 0} (position : R → Position) (number : T → ℕ) (number_at : M → ℕ → ℕ → Option ℕ) (rule_limit stack_limit : Option ℕ) (copies_free : Bool) (process : Process R M) where
   abbrev Steps : State → Result Caller End → List (Option ℕ) → Type 0

@@ -3,7 +3,7 @@
 --     recovered frame section parts cfa k      the value that register k has in the caller; none where it is lost or not known
 --     return_address frame section parts cfa ra      the caller's pc, without the bits of its signature; none in the outermost frame
 --     AreRecovered frame section parts cfa count caller      the values of the registers below `count`
-use Rattle.std.specs.Prelude.{◌≡◌, ℕ, ◌<◌, ◌-◌, ℤ, ◌==◌, Bool, true, false, List, Option, Some, None, Result, Ok, Err, slice_index_or, bit_and, if◌then◌else◌}
+use Rattle.std.specs.Prelude.{◌≡◌, ℕ, ◌<◌, ◌==◌, Bool, true, false, List, Option, Some, None, Result, Ok, Err, slice_index_or, bit_and, if◌then◌else◌}
 use Rattle.std.specs.FinMap as map
 use Rattle.std.specs.Int.{w64, bit_not}
 use Rattle.cfi_read_core.specs.declared.common.Register.{Register}

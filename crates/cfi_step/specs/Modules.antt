@@ -3,7 +3,7 @@
 --     IsFoundIn position size loaded a found      the FDE, or the error in its place, where an address has this size
 --     IsStepIn .. loaded a result caller      a step by it
 --     has_code loaded a, first_module modules a      the module whose code the address is in
-use Rattle.std.specs.Prelude.{◌≡◌, ℕ, ◌&&◌, Bool, List, [], ◌∷◌, nat_le, nat_lt, Option, Some, None, Result, IfOk, position, if◌then◌else◌}
+use Rattle.std.specs.Prelude.{◌≡◌, ℕ, ◌&&◌, Bool, List, nat_le, nat_lt, Option, Some, None, Result, IfOk, position}
 use Rattle.std.specs.Option.{option_and_then}
 use Rattle.std.specs.List.{slice_get}
 use Rattle.cfi_read_core.specs.declared.error.Error.{Error}

@@ -2,7 +2,7 @@
 --     State      a frame, with its registers
 --     IsStepFrom process s result caller      what the step from a frame gives, by the first module whose code its address is in
 --     IsWalk process s frames end      the frames from s on, and why there are no more
-use Rattle.std.specs.Prelude.{◌≡◌, ◌⊎◌, ℕ, ◌||◌, Bool, true, false, List, [], ◌∷◌, nat_lt, Option, Some, None, Result, Ok, Err, if◌then◌else◌}
+use Rattle.std.specs.Prelude.{◌≡◌, ◌⊎◌, ℕ, ◌||◌, Bool, true, List, [], ◌∷◌, nat_lt, Option, Some, None, Result, Ok, Err, if◌then◌else◌}
 use Rattle.cfi_read_core.specs.ReadFunctions.{Position}
 use Rattle.cfi_expression.specs.declared.error.FrameError.{FrameError}
 use Rattle.cfi_expression.specs.Frames.{Frame}

@@ -1,5 +1,5 @@
 //! The frames of a stack, from the innermost one out (DWARF 5 section 6.4.4).
-ghost use Rattle.std.specs.Prelude.{◌≡◌, ◌≤◌, ⊤, length, take, true, None};
+ghost use Rattle.std.specs.Prelude.{◌≡◌, ◌≤◌, ⊤, drop, length, take, true, None};
 ghost use Rattle.cfi_step.specs.Walks.{IsStepFrom, IsWalk, checked, resumed};
 ghost use Rattle.cfi_step.specs.Walks.{rises_above, written};
 
@@ -103,6 +103,7 @@ pub fn unwind<R: Reader, S: UnwindContextStorage<R::Offset>, M: Memory>(
           registers = registers.old;
         })
         (take result.count frames.new) result.end }
+    ensures rest { drop result.count frames.new ≡ drop result.count frames.old }
     ensures count { result.count ≤ length frames.new }
     ensures full { result.end ≡ End.NoRoom → result.count ≡ length frames.new }
 {

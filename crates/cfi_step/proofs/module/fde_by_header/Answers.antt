@@ -1,8 +1,6 @@
-use Rattle.std.proofs.Common.{◌≡◌, Err, ap, rules, sym, ◌∙◌}
-use Rattle.cfi_read_core.specs.ReaderCalls.{map_ok}
-use Rattle.cfi_unwind.specs.FdeViews.{fde_view}
+use Rattle.std.proofs.Common.{◌≡◌, Err, ap, rules, ◌∙◌}
 use Rattle.gimli_cfi.specs.EhFrameHdr.{header_section}
-use Rattle.gimli_cfi.specs.HeaderViews.{section_view, header_view, header_section_view, table_view}
+use Rattle.gimli_cfi.specs.HeaderViews.{header_view, header_section_view, table_view}
 use Rattle.cfi_step.proofs.ByHeader.{refused_header, by_scan, by_table}
 use Rattle.cfi_step.proofs.module.fde_by_header.Goals as goal
 

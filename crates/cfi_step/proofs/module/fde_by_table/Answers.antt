@@ -2,7 +2,7 @@ use Rattle.std.proofs.Common.{◌≡◌, rules, sym, ◌∙◌}
 use Rattle.cfi_read_core.specs.ReaderCalls.{map_ok}
 use Rattle.cfi_entry.specs.Entries.{cie_at}
 use Rattle.cfi_entry.specs.EntryViews.{cie_view}
-use Rattle.gimli_cfi.specs.HeaderViews.{section_view, header_section_view, table_view}
+use Rattle.gimli_cfi.specs.HeaderViews.{section_view}
 use Rattle.cfi_step.proofs.ByHeader.{finds_own}
 use Rattle.cfi_step.proofs.module.fde_by_table.Goals as goal
 

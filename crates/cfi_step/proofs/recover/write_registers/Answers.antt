@@ -1,4 +1,4 @@
-use Rattle.std.proofs.Common.{◌≡◌, ◌∙◌, ap, arith}
+use Rattle.std.proofs.Common.{◌∙◌, ap, arith}
 use Rattle.cfi_expression.specs.Frames.{frame_view}
 use Rattle.cfi_step.specs.Callers.{given}
 use Rattle.cfi_step.proofs.Recovering.{one_more}
