@@ -161,7 +161,8 @@ fn memory_cut_at_every_length(rt: HostRuntime) -> Result<(), Fail> {
     let memory = bytes_of(rt.alloc(), "6600000000000000 0820000000000000")?;
     for length in 0..16usize {
         let mut frames = [NOTHING, NOTHING];
-        let cut = &memory.as_slice()[..length];
+        let whole = memory.as_slice();
+        let cut = &whole[..length.min(whole.len())];
         let walk = walked(rt.alloc(), 0x1001, cut, &mut frames)?;
         let refused = End::Failed(FrameError::UnreadableMemory(0x7008));
         assert_eq!(rt; (walk.count, walk.end), (1, refused), "{length}");
