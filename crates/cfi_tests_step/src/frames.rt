@@ -1,8 +1,6 @@
 //! Stacks that are walked, with registers and memory made by hand.
 use cfi_expression::{AddressSize, FrameError, Window};
-use cfi_step::abi::Abi;
-use cfi_step::module::LoadedModule;
-use cfi_step::walk::{End, Process, StackFrame, Walk, unwind};
+use cfi_step::{Abi, End, LoadedModule, Process, StackFrame, Walk, unwind};
 use cfi_tests_bytes::bytes_of;
 use gimli_cfi::{
     BaseAddresses, EhFrame, EndianSlice, Error, LittleEndian, Register, UnwindContext, Vendor,
