@@ -5,3 +5,5 @@ pub mod ProgramHeaders
 pub mod ElfFiles
 pub mod Sections
 pub mod Segments
+pub mod Symbols
+pub mod SymbolTables

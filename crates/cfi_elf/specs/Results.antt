@@ -1,5 +1,5 @@
 -- Results one after the other, and what is read of a list of bytes.
-use Rattle.std.specs.Prelude.{ℕ, ◌+◌, ◌*◌, Bool, zero, suc, List, [], ◌∷◌, length, Option, Some, None, Result, Ok, Err, option_map, drop, nat_le, slice_range, if◌then◌else◌}
+use Rattle.std.specs.Prelude.{ℕ, ◌+◌, ◌*◌, Bool, true, false, zero, suc, List, [], ◌∷◌, length, Option, Some, None, Result, Ok, Err, option_map, drop, nat_le, slice_range, if◌then◌else◌}
 use Rattle.cfi_read_core.specs.declared.error.Error.{Error}
 use Rattle.cfi_read_core.specs.ReadFunctions.{Read, Source, Outcome}
 use Rattle.cfi_read_core.specs.ReaderCalls.{read_at}
@@ -49,6 +49,18 @@ pub record Table : Type 0 where
 
 abbrev pub entries_of : {A : Type 0} → Bool → Table → Read A → List A
 entries_of big table read = entries table.count read (slice_over table.bytes big).source 0
+
+-- ---- the first entry that passes a test which can fail
+
+abbrev pub if_passed : {A : Type 0} → Result Bool ElfError → A → Result (Option A) ElfError → Result (Option A) ElfError
+if_passed (Ok true) x others = Ok (Some x)
+if_passed (Ok false) x others = others
+if_passed (Err e) x others = Err e
+
+-- the first that passes, or the first error before it
+abbrev pub first_by : {A : Type 0} → (A → Result Bool ElfError) → List A → Result (Option A) ElfError
+first_by test [] = Ok None
+first_by test (x ∷ xs) = if_passed (test x) x (first_by test xs)
 
 -- count entries of one size at an offset of the bytes
 abbrev pub table_of : List ℕ → ℕ → ℕ → ℕ → Option Table

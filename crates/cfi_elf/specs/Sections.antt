@@ -5,7 +5,7 @@ use Rattle.cfi_elf.specs.declared.error.ElfError.{ElfError}
 use Rattle.cfi_elf.specs.declared.error.ElfError.TheVariants.{SectionEntrySize, SectionTableOutOfBounds, NoNameSection, SectionOutOfBounds, Compressed, NameOutOfBounds, NameNotTerminated}
 use Rattle.cfi_elf.specs.declared.section_header.SectionHeader.{SectionHeader}
 use Rattle.cfi_elf.specs.declared.elf_file.Section.{Section as SectionOfCode}
-use Rattle.cfi_elf.specs.Results.{Table, and_then, or_error, or_missing, part, read_from, entries_of, table_of, no_entries}
+use Rattle.cfi_elf.specs.Results.{Table, and_then, or_error, or_missing, part, read_from, entries_of, first_by, table_of, no_entries}
 use Rattle.cfi_elf.specs.SectionHeaders.{section_header, section_header_size}
 use Rattle.cfi_elf.specs.ElfFiles.{File, class_of_file, is_big_file}
 
@@ -88,15 +88,9 @@ is_named names name header =
     if header.identity.sh_type == 0 then Ok false
     else and_then (name_at names header.identity.sh_name) (λ found. Ok (pointwise nat_eq found name))
 
-abbrev pub if_named : Result Bool ElfError → SectionHeader → Result (Option SectionHeader) ElfError → Result (Option SectionHeader) ElfError
-if_named (Ok true) header others = Ok (Some header)
-if_named (Ok false) header others = others
-if_named (Err e) header others = Err e
-
 -- the first section header with the name, if every name before it can be read
 abbrev pub first_named : List ℕ → List ℕ → List SectionHeader → Result (Option SectionHeader) ElfError
-first_named names name [] = Ok None
-first_named names name (header ∷ headers) = if_named (is_named names name header) header (first_named names name headers)
+first_named names name = first_by (is_named names name)
 
 unfoldable pub header_named : File → List ℕ → Result (Option SectionHeader) ElfError
 header_named file name =

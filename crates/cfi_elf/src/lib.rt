@@ -13,8 +13,11 @@ pub mod program_header;
 pub mod section_header;
 mod sections;
 mod segments;
+pub mod symbol;
+mod symbols;
 mod table;
 
 pub use elf_file::{ElfFile, Section};
 pub use error::ElfError;
 pub use file_header::{Class, FileHeader};
+pub use symbols::Function;

@@ -80,7 +80,7 @@ impl<'input> ElfFile<'input> {
 
     /// The table of section headers; an empty one where the file has none.
     #[tactic(auto, unfolding(crate::specs::Sections::section_table))]
-    fn section_table(&self) -> Result<Table<'input>, ElfError>
+    pub(crate) fn section_table(&self) -> Result<Table<'input>, ElfError>
         ensures { map_ok table_view result ≡ section_table (file_view self.now) }
     {
         let offset = self.header.offsets.e_shoff;
@@ -155,7 +155,11 @@ impl<'input> ElfFile<'input> {
     }
 
     #[tactic(auto, unfolding(crate::specs::Sections::names_at))]
-    fn names_at(&self, table: Table<'input>, index: u32) -> Result<&'input [u8], ElfError>
+    pub(crate) fn names_at(
+        &self,
+        table: Table<'input>,
+        index: u32,
+    ) -> Result<&'input [u8], ElfError>
         ensures { map_ok (λ names. names.now) result
             ≡ names_at (file_view self.now) (table_view table.entry) index }
     {
