@@ -1,2 +1,3 @@
 pub mod EntrySteps
 pub mod NameSteps
+mod Worked

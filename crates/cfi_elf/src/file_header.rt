@@ -3,7 +3,8 @@ ghost use Rattle.std.specs.Prelude.{◌≡◌, ◌≤◌, ⊤, IfOk, length};
 ghost use Rattle.cfi_read_core.specs.Numbers.{unsigned};
 ghost use Rattle.cfi_read_core.specs.ReaderCalls.{ReadsValue};
 ghost use Rattle.cfi_elf.specs.FileHeaders.{class_of, class_width, data_of, file_header};
-ghost use Rattle.cfi_elf.specs.FileHeaders.{identification, object_kind, table_offsets, table_sizes};
+ghost use Rattle.cfi_elf.specs.FileHeaders.{identification, object_kind, table_offsets};
+ghost use Rattle.cfi_elf.specs.FileHeaders.{table_sizes};
 
 use crate::error::ElfError;
 use cfi_read_core::{Reader, Result, RunTimeEndian};

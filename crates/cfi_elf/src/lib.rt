@@ -9,11 +9,11 @@ mod bytes;
 pub mod elf_file;
 pub mod error;
 pub mod file_header;
-pub mod program_header;
-pub mod section_header;
+mod program_header;
+mod section_header;
 mod sections;
 mod segments;
-pub mod symbol;
+mod symbol;
 mod symbols;
 mod table;
 

@@ -30,12 +30,13 @@ const SHF_COMPRESSED: u64 = 0x800;
 impl<'input> ElfFile<'input> {
     /// The section of this name: its address and its bytes, which are part of the file. Returns
     /// `None` where no section has the name, or the file has no section headers. A section of type
-    /// `SHT_NOBITS` has no bytes. Of several sections of the name it is the first.
+    /// `SHT_NOBITS` has no bytes. Of several sections with the name it is the first.
     ///
-    /// Fails with `SectionEntrySize`, `SectionTableOutOfBounds` for the table of section headers;
-    /// with `NoNameSection`, or as for any section, for the names; with `NameOutOfBounds` or
-    /// `NameNotTerminated` for a name that comes before the one looked for; with `Compressed` or
-    /// `SectionOutOfBounds` for the section. Does not allocate (System V ABI chapter 4).
+    /// Fails with `SectionEntrySize` or `SectionTableOutOfBounds` for the section headers; with
+    /// `NoNameSection`, `Compressed` or `SectionOutOfBounds` for the section of the names; with
+    /// `NameOutOfBounds` or `NameNotTerminated` for the name of a section before the one looked
+    /// for; with `Compressed` or `SectionOutOfBounds` for the section itself. Does not allocate
+    /// (System V ABI chapter 4, "Sections", "String Table").
     #[tactic(auto, unfolding(crate::specs::Sections::section_named))]
     pub fn section(&self, name: &[u8]) -> Result<Option<Section<'input>>, ElfError>
         ensures { map_ok (option_map section_view) result
@@ -209,7 +210,8 @@ fn first_named<R: Reader>(
     name: &[u8],
 ) -> Result<Option<SectionHeader>, ElfError>
     ensures { result ≡ first_named names.now name.now
-        (entries count (section_header class) (R.position headers).source (R.position headers).place) }
+        (entries count (section_header class)
+        (R.position headers).source (R.position headers).place) }
 {
     let mut headers = headers;
     for index in 0..count {

@@ -6,9 +6,9 @@ ghost use Rattle.cfi_elf.specs.Results.{entries, table_view};
 ghost use Rattle.cfi_elf.specs.ElfFiles.{file_view};
 ghost use Rattle.cfi_elf.specs.ProgramHeaders.{program_header};
 ghost use Rattle.cfi_elf.specs.Sections.{section_view};
-ghost use Rattle.cfi_elf.specs.Segments.{eh_frame_hdr_segment, is_loaded_at, is_wanted, loaded_bytes};
-ghost use Rattle.cfi_elf.specs.Segments.{program_table, segment_bytes, segment_count};
-ghost use Rattle.cfi_elf.specs.Segments.{wanted_segment};
+ghost use Rattle.cfi_elf.specs.Segments.{eh_frame_hdr_segment, is_loaded_at, is_wanted};
+ghost use Rattle.cfi_elf.specs.Segments.{loaded_bytes, program_table, segment_bytes};
+ghost use Rattle.cfi_elf.specs.Segments.{segment_count, wanted_segment};
 
 use crate::bytes::{bytes_from, part};
 use crate::elf_file::{ElfFile, Section};
@@ -37,9 +37,9 @@ impl<'input> ElfFile<'input> {
     /// The segment of type `PT_GNU_EH_FRAME`: the address and the bytes of `.eh_frame_hdr`, which
     /// need no section headers. Returns `None` where the file has no such segment.
     ///
-    /// Fails with `ProgramEntrySize` or `ProgramTableOutOfBounds` for the table of program headers,
-    /// with `SectionTableOutOfBounds` where the number of program headers is in section 0, which
-    /// can't be read, and with `SegmentOutOfBounds`. Does not allocate (LSB Core, "Program Header").
+    /// Fails with `ProgramEntrySize` or `ProgramTableOutOfBounds` for the program headers, with
+    /// `SectionTableOutOfBounds` if their number is in section 0 and that goes past the file's end,
+    /// and with `SegmentOutOfBounds`. Does not allocate (LSB Core, "Program Header").
     #[tactic(auto, unfolding(crate::specs::Segments::eh_frame_hdr_segment))]
     pub fn eh_frame_hdr_segment(&self) -> Result<Option<Section<'input>>, ElfError>
         ensures { map_ok (option_map section_view) result
@@ -59,8 +59,8 @@ impl<'input> ElfFile<'input> {
     /// the first `PT_LOAD` segment that has the address. Returns `None` where no segment has it.
     ///
     /// So `.eh_frame` is found without section headers: it begins where the pointer of
-    /// `.eh_frame_hdr` says. Where it ends isn't known, and what follows in its segment comes with
-    /// it; a call frame section of `.eh_frame`'s kind ends at an entry of length zero.
+    /// `.eh_frame_hdr` says. The bytes go on to the end of the segment, so what follows `.eh_frame`
+    /// there comes with it.
     ///
     /// Fails as `eh_frame_hdr_segment`. Does not allocate (System V ABI chapter 5).
     #[tactic(auto, unfolding(crate::specs::Segments::loaded_bytes))]
