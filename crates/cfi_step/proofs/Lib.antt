@@ -1,0 +1,3 @@
+pub mod Recovering
+pub mod ByHeader
+pub mod Walking

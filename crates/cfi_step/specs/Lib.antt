@@ -1,0 +1,4 @@
+pub mod Callers
+pub mod Steps
+pub mod Modules
+pub mod Walks

@@ -1,0 +1,54 @@
+-- The FDE that a loaded module has for an address: by its header, or by a scan of its section where it has none.
+--     module_section position loaded      the section of its entries
+--     IsFoundIn position size loaded a found      the FDE, or the error in its place, where an address has this size
+--     IsStepIn .. loaded a result caller      a step by it
+--     has_code loaded a, first_module modules a      the module whose code the address is in
+use Rattle.std.specs.Prelude.{◌≡◌, ℕ, ◌&&◌, Bool, List, [], ◌∷◌, nat_le, nat_lt, Option, Some, None, Result, IfOk, position, if◌then◌else◌}
+use Rattle.std.specs.Option.{option_and_then}
+use Rattle.std.specs.List.{slice_get}
+use Rattle.cfi_read_core.specs.declared.error.Error.{Error}
+use Rattle.cfi_read_core.specs.ReadFunctions.{Position}
+use Rattle.cfi_entry.specs.Sections.{Section}
+use Rattle.cfi_entry.specs.Fdes.{Covers, Fde}
+use Rattle.cfi_entry.specs.SectionViews.{eh_frame_view}
+use Rattle.cfi_unwind.specs.Scan.{chosen_fde}
+use Rattle.gimli_cfi.specs.declared.hdr.header.EhFrameHdr.{EhFrameHdr}
+use Rattle.gimli_cfi.specs.EhFrameHdr.{header_of}
+use Rattle.gimli_cfi.specs.HeaderViews.{section_view, unparsed_view}
+use Rattle.gimli_cfi.specs.RowsByHeader.{FoundByHeader}
+use Rattle.cfi_expression.specs.declared.error.FrameError.{FrameError}
+use Rattle.cfi_expression.specs.Frames.{Frame}
+use Rattle.cfi_step.specs.declared.abi.Abi.{Abi}
+use Rattle.cfi_step.specs.declared.module.LoadedModule.{LoadedModule}
+use Rattle.cfi_step.specs.declared.step.Caller.{Caller}
+use Rattle.cfi_step.specs.Steps.{IsStepBy}
+
+module _ {R : Type 0} (position : R → Position) (size : ℕ) (loaded : LoadedModule R) where
+  abbrev pub module_section : Section
+  module_section = section_view position loaded.frame loaded.bases
+
+  abbrev pub IsFoundBy : Option (EhFrameHdr R) → ℕ → Result Fde Error → Type 0
+  IsFoundBy None a found = found ≡ chosen_fde module_section a
+  IsFoundBy (Some header) a found =
+      let bytes = unparsed_view position header size loaded.bases in
+      FoundByHeader module_section a bytes (header_of bytes) found
+
+  abbrev pub IsFoundIn : ℕ → Result Fde Error → Type 0
+  IsFoundIn a found = IsFoundBy loaded.header a found
+
+-- the caller of a frame of the module's code, whose row is that of the address
+module _ {R T : Type 0} (position : R → Position) (number : T → ℕ) (frame : Frame) (abi : Abi) (rule_limit stack_limit : Option ℕ) (copies_free : Bool) where
+  abbrev pub IsStepIn : LoadedModule R → ℕ → Result Caller FrameError → List (Option ℕ) → Type 0
+  IsStepIn loaded a result caller =
+      (found : Result Fde Error) × IsFoundIn position frame.size loaded a found
+      × IfOk found (λ fde. Covers fde a)
+      × IsStepBy frame (eh_frame_view position loaded.frame).position abi number rule_limit stack_limit copies_free
+      (module_section position frame.size loaded) a found result caller
+
+-- ---- several modules
+
+abbrev pub has_code : {R : Type 0} → LoadedModule R → ℕ → Bool
+has_code loaded a = nat_le loaded.start a && nat_lt a loaded.end
+
+abbrev pub first_module : {R : Type 0} → List (LoadedModule R) → ℕ → Option (LoadedModule R)
+first_module modules a = option_and_then (slice_get modules) (position (λ loaded. has_code loaded a) modules)

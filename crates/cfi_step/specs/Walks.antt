@@ -1,0 +1,77 @@
+-- The frames of a stack, from the innermost one out (DWARF 5 section 6.4.4).
+--     State      a frame, with its registers
+--     IsStepFrom process s result caller      what the step from a frame gives, by the first module whose code its address is in
+--     IsWalk process s frames end      the frames from s on, and why there are no more
+use Rattle.std.specs.Prelude.{◌≡◌, ◌⊎◌, ℕ, ◌||◌, Bool, true, false, List, [], ◌∷◌, nat_lt, Option, Some, None, Result, Ok, Err, if◌then◌else◌}
+use Rattle.cfi_read_core.specs.ReadFunctions.{Position}
+use Rattle.cfi_expression.specs.declared.error.FrameError.{FrameError}
+use Rattle.cfi_expression.specs.Frames.{Frame}
+use Rattle.cfi_read_core.specs.AddressSizes.{size_in_bytes}
+use Rattle.cfi_step.specs.declared.step.Caller.{Caller}
+use Rattle.cfi_step.specs.declared.module.LoadedModule.{LoadedModule}
+use Rattle.cfi_step.specs.declared.walk.Process.{Process}
+use Rattle.cfi_step.specs.declared.walk.StackFrame.{StackFrame}
+use Rattle.cfi_step.specs.declared.walk.Start.{Start}
+use Rattle.cfi_step.specs.declared.walk.End.{End}
+use Rattle.cfi_step.specs.declared.walk.End.TheVariants.{Outermost, NoModule, Failed, NotRising, NoRoom}
+use Rattle.cfi_step.specs.Steps.{row_address}
+use Rattle.cfi_step.specs.Modules.{IsStepIn, first_module}
+
+-- where a frame is, and its registers
+pub record State : Type 0 where
+  pub at : Start
+  pub registers : List (Option ℕ)
+
+-- the frame of the caller has a higher CFA, except across a signal, whose handler may have a stack of its own
+abbrev pub rises_above : Option ℕ → Bool → ℕ → Bool
+rises_above None is_interrupted the_cfa = true
+rises_above (Some callee) is_interrupted the_cfa = is_interrupted || nat_lt callee the_cfa
+
+-- the step that was made, or the end of the walk
+abbrev pub checked : Start → Result Caller FrameError → Result Caller End
+checked at (Ok c) = if rises_above at.callee_cfa at.is_interrupted c.cfa then Ok c else Err NotRising
+checked at (Err e) = Err (Failed e)
+
+-- the frame as it is written
+abbrev pub cfa_in : Result Caller End → Option ℕ
+cfa_in (Ok c) = Some c.cfa
+cfa_in (Err end) = None
+
+abbrev pub written : Start → Result Caller End → StackFrame
+written at step = record { pc = at.pc; is_interrupted = at.is_interrupted; cfa = cfa_in step }
+
+-- where the caller's frame is, or the end of the walk
+abbrev pub resumed_at : Caller → Option ℕ → Result Start End
+resumed_at c (Some pc) = Ok (record { pc = pc; is_interrupted = c.is_interrupted; callee_cfa = Some c.cfa })
+resumed_at c None = Err Outermost
+
+abbrev pub resumed : Result Caller End → Result Start End
+resumed (Ok c) = resumed_at c c.pc
+resumed (Err end) = Err end
+
+module _ {R M T : Type 0} (position : R → Position) (number : T → ℕ) (number_at : M → ℕ → ℕ → Option ℕ) (rule_limit stack_limit : Option ℕ) (copies_free : Bool) (process : Process R M) where
+  abbrev pub frame_in : State → Frame
+  frame_in s = record { registers = s.registers; memory = number_at process.memory.now; size = size_in_bytes process.address_size }
+
+  abbrev pub address_of : State → ℕ
+  address_of s = row_address s.at.pc s.at.is_interrupted
+
+  abbrev pub IsStepOf : Option (LoadedModule R) → State → Result Caller End → List (Option ℕ) → Type 0
+  IsStepOf None s result caller = result ≡ Err NoModule
+  IsStepOf (Some loaded) s result caller =
+      (step : Result Caller FrameError)
+      × IsStepIn position number (frame_in s) process.abi rule_limit stack_limit copies_free loaded (address_of s) step caller
+      × (result ≡ checked s.at step)
+
+  abbrev pub IsStepFrom : State → Result Caller End → List (Option ℕ) → Type 0
+  IsStepFrom s result caller = IsStepOf (first_module process.modules.now (address_of s)) s result caller
+
+  -- ---- walks
+
+  -- Each frame is written by its step. The last one is where the walk ends; after another one come the frames from its caller's on.
+  abbrev pub IsWalk : State → List StackFrame → End → Type 0
+  IsWalk s [] end = end ≡ NoRoom
+  IsWalk s (f ∷ fs) end =
+      (step : Result Caller End) × (caller : List (Option ℕ)) × IsStepFrom s step caller × (f ≡ written s.at step)
+      × (((fs ≡ []) × (resumed step ≡ Err end))
+      ⊎ ((next : Start) × (resumed step ≡ Ok next) × IsWalk (record { at = next; registers = caller }) fs end))

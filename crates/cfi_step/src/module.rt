@@ -1,0 +1,174 @@
+//! A loaded module, and the caller of a frame of its code.
+ghost use Rattle.std.specs.Prelude.{◌≡◌, ◌≤◌, ◌<◌, length, position, IfOk, IfSome, OnErr};
+ghost use Rattle.std.specs.Option.{option_map};
+ghost use Rattle.cfi_read_core.specs.Addresses.{IsAddressSize};
+ghost use Rattle.cfi_read_core.specs.ReaderCalls.{map_ok};
+ghost use Rattle.cfi_entry.specs.Fdes.{Covers};
+ghost use Rattle.cfi_entry.specs.SectionViews.{eh_frame_view};
+ghost use Rattle.cfi_unwind.specs.FdeViews.{HasCieOf, IsFdeOf, fde_view};
+ghost use Rattle.gimli_cfi.specs.EhFrameHdr.{header_of, start_of};
+ghost use Rattle.gimli_cfi.specs.HeaderViews.{listing_view, section_view, unparsed_view};
+ghost use Rattle.gimli_cfi.specs.RowsByHeader.{FoundByHeader};
+ghost use Rattle.gimli_cfi.specs.RowsByTable.{IsFdeFound};
+ghost use Rattle.cfi_expression.specs.Frames.{frame_view};
+ghost use Rattle.cfi_step.specs.Modules.{IsFoundIn, IsStepIn, first_module, has_code};
+
+use crate::abi::Abi;
+use crate::step::{Caller, step_by_fde};
+use cfi_expression::{Frame, FrameError, Memory};
+use gimli_cfi::{
+    BaseAddresses, EhFrame, EhFrameHdr, EhFrameOffset, EhHdrTable, FrameDescriptionEntry, Reader,
+    UnwindContext, UnwindContextStorage, UnwindSection, scan_for_fde,
+};
+
+/// A module as it is loaded: its code, and its call frames.
+#[derive(Clone, Copy, Debug)]
+pub struct LoadedModule<R> {
+    /// The first address of its code.
+    pub start: u64,
+    /// The first address after its code.
+    pub end: u64,
+    /// `.eh_frame`.
+    pub frame: EhFrame<R>,
+    /// `.eh_frame_hdr`, if there is one.
+    pub header: Option<EhFrameHdr<R>>,
+    /// Where the sections are loaded.
+    pub bases: BaseAddresses,
+}
+
+impl<R> LoadedModule<R> {
+    /// Whether the address is in the module's code.
+    pub fn has_code(&self, address: u64) -> bool
+        ensures { result ≡ has_code self.now address }
+    {
+        self.start <= address && address < self.end
+    }
+}
+
+/// The first module whose code the address is in.
+pub fn module_of<R>(modules: &[LoadedModule<R>], address: u64) -> Option<&LoadedModule<R>>
+    ensures { option_map (λ loaded. loaded.now) result ≡ first_module modules.now address }
+{
+    match module_index(modules, address) {
+        Some(index) => Some(&modules[index]),
+        None => None,
+    }
+}
+
+/// How many modules are before it.
+fn module_index<R>(modules: &[LoadedModule<R>], address: u64) -> Option<usize>
+    ensures index { result ≡ position (λ loaded. has_code loaded address) modules.now }
+    ensures bound { IfSome result (λ index. index < length modules.now) }
+{
+    modules.iter().position(|loaded| loaded.has_code(address))
+}
+
+/// The FDE of a module for an address, by the table of its header; by a scan of its section if it
+/// has no header, or one without a table. The address size is 1, 2, 4 or 8.
+///
+/// The FDE contains the address. Fails as `EhFrameHdr::parse` and `EhHdrTable::fde_for_address`, or
+/// as `scan_for_fde`. Does not allocate.
+pub fn fde_in_module<R: Reader>(
+    loaded: &LoadedModule<R>,
+    address_size: u8,
+    address: u64,
+) -> gimli_cfi::Result<FrameDescriptionEntry<R>>
+    requires { IsAddressSize address_size }
+    ensures found { IsFoundIn R.position address_size loaded.now address
+        (map_ok (fde_view R.position R.Offset.number) result) }
+    ensures part { IfOk result
+        (IsFdeOf R.position (eh_frame_view R.position loaded.now.frame).position) }
+    ensures cie_part { IfOk result
+        (HasCieOf R.position (eh_frame_view R.position loaded.now.frame).position) }
+    ensures contains { IfOk result (λ fde.
+        Covers (fde_view R.position R.Offset.number fde) address) }
+{
+    match &loaded.header {
+        Some(header) => {
+            fde_by_header(header, address_size, &loaded.frame, &loaded.bases, address)
+        }
+        None => scan_for_fde(&loaded.frame, &loaded.bases, address),
+    }
+}
+
+/// The FDE for an address by a header: by its table, or by a scan of the section if it has none.
+/// The address size is that of the header's pointers, 1, 2, 4 or 8.
+///
+/// Fails as `EhFrameHdr::parse` and `EhHdrTable::fde_for_address`, or as `scan_for_fde`. Does not
+/// allocate.
+pub fn fde_by_header<R: Reader>(
+    header: &EhFrameHdr<R>,
+    address_size: u8,
+    frame: &EhFrame<R>,
+    bases: &BaseAddresses,
+    address: u64,
+) -> gimli_cfi::Result<FrameDescriptionEntry<R>>
+    requires { IsAddressSize address_size }
+    ensures found { let bytes = unparsed_view R.position header.now address_size bases.now in
+        FoundByHeader (section_view R.position frame.now bases.now) address bytes
+        (header_of bytes) (map_ok (fde_view R.position R.Offset.number) result) }
+    ensures part { IfOk result (IsFdeOf R.position (eh_frame_view R.position frame.now).position) }
+    ensures cie_part { IfOk result
+        (HasCieOf R.position (eh_frame_view R.position frame.now).position) }
+    ensures contains { IfOk result (λ fde.
+        Covers (fde_view R.position R.Offset.number fde) address) }
+{
+    let header = header.parse(bases, address_size)?;
+    match header.table() {
+        Some(table) => fde_by_table(&table, frame, bases, address),
+        None => scan_for_fde(frame, bases, address),
+    }
+}
+
+/// The FDE that a table names for an address, with the CIE to which it points.
+fn fde_by_table<R: Reader>(
+    table: &EhHdrTable<'_, R>,
+    frame: &EhFrame<R>,
+    bases: &BaseAddresses,
+    address: u64,
+) -> gimli_cfi::Result<FrameDescriptionEntry<R>>
+    ensures found { let l = listing_view R.position table.now frame.now bases.now in
+        IsFdeFound (start_of l.header l.table) l address
+        (map_ok (fde_view R.position R.Offset.number) result) }
+    ensures part { IfOk result (IsFdeOf R.position (eh_frame_view R.position frame.now).position) }
+    ensures cie_part { IfOk result
+        (HasCieOf R.position (eh_frame_view R.position frame.now).position) }
+    ensures contains { IfOk result (λ fde.
+        Covers (fde_view R.position R.Offset.number fde) address) }
+{
+    table.fde_for_address(frame, bases, address, EhFrame::cie_from_offset)
+}
+
+/// The caller of a frame of a module's code, by the FDE of its address (`row_address`) that
+/// `fde_in_module` finds.
+///
+/// Fails with `FrameError::NoRow` as `fde_in_module`, then as `step_by_fde`, which says what is
+/// written. Over a fixed storage it does not allocate.
+pub fn step_in_module<R: Reader, S: UnwindContextStorage<R::Offset>, M: Memory>(
+    loaded: &LoadedModule<R>,
+    ctx: &mut UnwindContext<R::Offset, S>,
+    address: u64,
+    abi: &Abi,
+    frame: &Frame<'_, M>,
+    caller: &mut [Option<u64>],
+) -> Result<Caller, FrameError>
+    requires { length caller.old ≤ 0x10000 }
+    ensures step { IsStepIn R.position R.Offset.number (frame_view M.number_at frame.now)
+        abi.now S.Rules.limit S.Stack.limit S.Rules.copies_free
+        loaded.now address result caller.new }
+    ensures unwritten { OnErr result (caller.new ≡ caller.old) }
+{
+    match fde_in_module(loaded, frame.address_size.bytes(), address) {
+        Ok(fde) => step_by_fde(
+            &fde,
+            &loaded.frame,
+            &loaded.bases,
+            ctx,
+            address,
+            abi,
+            frame,
+            caller,
+        ),
+        Err(error) => Err(FrameError::NoRow(error)),
+    }
+}

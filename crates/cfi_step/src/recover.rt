@@ -1,0 +1,239 @@
+//! The registers of a frame's caller (DWARF 5 section 6.4.1).
+ghost use Rattle.std.specs.Prelude.{◌≡◌, ◌≤◌, length, IfOk, OnErr};
+ghost use Rattle.cfi_read_core.specs.MappedInstructions.{map_expression};
+ghost use Rattle.cfi_expression.specs.Frames.{frame_view};
+ghost use Rattle.cfi_step.specs.Callers.{AreRecovered, by_rule, cfa_of, expression_value, given};
+ghost use Rattle.cfi_step.specs.Callers.{is_signed, recovered, return_address, saved_at};
+
+use crate::abi::Abi;
+use cfi_expression::frame::{Frame, displaced, known_register, number_at, register_value};
+use cfi_expression::memory::Memory;
+use cfi_expression::{FrameError, evaluate};
+use gimli_cfi::{
+    _UnwindSectionPrivate, ArrayLike, CfaRule, RA_SIGN_STATE, Reader, Register, RegisterRule,
+    UnwindExpression, UnwindTableRow,
+};
+
+/// The registers that the caller of a frame has, by the row of the frame's pc. Returns the
+/// canonical frame address, and writes `caller[k]` for each register k for which there is room:
+/// `None` if the value is lost, if it is not known, and if what it is made of cannot be read.
+///
+/// The row is of the section, which has the bytes of its expressions. A register without a rule
+/// keeps its value, but for the stack pointer, which is the CFA.
+///
+/// Fails if the CFA cannot be found: with `FrameError::UnknownRegister`, or as `evaluate` for its
+/// expression. Then nothing is written. Does not allocate.
+pub fn recover<
+    R: Reader,
+    Section: _UnwindSectionPrivate<R>,
+    A: ArrayLike<Item = (Register, RegisterRule<R::Offset>)>,
+    M: Memory,
+>(
+    row: &UnwindTableRow<R::Offset, A>,
+    section: &Section,
+    abi: &Abi,
+    frame: &Frame<'_, M>,
+    caller: &mut [Option<u64>],
+) -> Result<u64, FrameError>
+    requires { length caller.old ≤ 0x10000 }
+    ensures cfa { result ≡ cfa_of (frame_view M.number_at frame.now)
+        (Section.view section.now).position abi.now R.Offset.number row.now.parts.cfa }
+    ensures registers { IfOk result (λ cfa. AreRecovered (frame_view M.number_at frame.now)
+        (Section.view section.now).position abi.now R.Offset.number row.now.parts cfa
+        (length caller.new) caller.new) }
+    ensures unwritten { OnErr result (caller.new ≡ caller.old) }
+{
+    let cfa = frame_address(row.cfa(), section, abi, frame)?;
+    write_registers(row, section, abi, frame, cfa, caller);
+    Ok(cfa)
+}
+
+/// Writes the registers of the caller of a frame with this CFA.
+pub(crate) fn write_registers<
+    R: Reader,
+    Section: _UnwindSectionPrivate<R>,
+    A: ArrayLike<Item = (Register, RegisterRule<R::Offset>)>,
+    M: Memory,
+>(
+    row: &UnwindTableRow<R::Offset, A>,
+    section: &Section,
+    abi: &Abi,
+    frame: &Frame<'_, M>,
+    cfa: u64,
+    caller: &mut [Option<u64>],
+)
+    requires { length caller.old ≤ 0x10000 }
+    ensures { AreRecovered (frame_view M.number_at frame.now)
+        (Section.view section.now).position abi.now R.Offset.number row.now.parts cfa
+        (length caller.new) caller.new }
+{
+    for k in 0..caller.len() {
+        let found = recover_register(row, section, abi, frame, cfa, Register(k as u16));
+        caller[k] = where_found(found);
+    }
+}
+
+/// The value, or `None` in place of an error.
+fn where_found(found: Result<Option<u64>, FrameError>) -> Option<u64>
+    ensures { result ≡ given found }
+{
+    match found {
+        Ok(value) => value,
+        Err(_error) => None,
+    }
+}
+
+/// The value that one register has in the caller of a frame with this CFA: `None` if it is lost or
+/// not known.
+///
+/// Fails with `FrameError::UnreadableMemory` if it is saved at an address that cannot be read, as
+/// `evaluate` for an expression, and with `ArchitecturalRule`. Does not allocate.
+pub fn recover_register<
+    R: Reader,
+    Section: _UnwindSectionPrivate<R>,
+    A: ArrayLike<Item = (Register, RegisterRule<R::Offset>)>,
+    M: Memory,
+>(
+    row: &UnwindTableRow<R::Offset, A>,
+    section: &Section,
+    abi: &Abi,
+    frame: &Frame<'_, M>,
+    cfa: u64,
+    register: Register,
+) -> Result<Option<u64>, FrameError>
+    ensures { result ≡ recovered (frame_view M.number_at frame.now)
+        (Section.view section.now).position abi.now R.Offset.number row.now.parts cfa register.0 }
+{
+    match row.register(register) {
+        Some(rule) => by_rule(&rule, section, abi, frame, cfa, register),
+        None => {
+            if register.0 == abi.stack_pointer.0 {
+                Ok(Some(cfa))
+            } else {
+                Ok(known_register(frame.registers, register))
+            }
+        }
+    }
+}
+
+/// The pc of the caller of a frame with this CFA, from the register that holds the return address:
+/// `None` if the row says that it is undefined, in the outermost frame.
+///
+/// If the row says that the address is signed (AArch64), the bits of its signature are cleared.
+/// Fails with `FrameError::UnknownRegister` if the value is not known, else as `recover_register`.
+pub fn recover_return_address<
+    R: Reader,
+    Section: _UnwindSectionPrivate<R>,
+    A: ArrayLike<Item = (Register, RegisterRule<R::Offset>)>,
+    M: Memory,
+>(
+    row: &UnwindTableRow<R::Offset, A>,
+    section: &Section,
+    abi: &Abi,
+    frame: &Frame<'_, M>,
+    cfa: u64,
+    register: Register,
+) -> Result<Option<u64>, FrameError>
+    ensures { result ≡ return_address (frame_view M.number_at frame.now)
+        (Section.view section.now).position abi.now R.Offset.number row.now.parts cfa register }
+{
+    if let Some(RegisterRule::Undefined) = row.register(register) {
+        return Ok(None);
+    }
+    match recover_register(row, section, abi, frame, cfa, register)? {
+        None => Err(FrameError::UnknownRegister(register)),
+        Some(address) => {
+            if is_signed(row.register(RA_SIGN_STATE)) {
+                Ok(Some(address & !abi.signature_mask))
+            } else {
+                Ok(Some(address))
+            }
+        }
+    }
+}
+
+/// Whether the rule of `RA_SIGN_STATE` says that the return address is signed.
+fn is_signed<T: Copy>(rule: Option<RegisterRule<T>>) -> bool
+    ensures { result ≡ is_signed rule }
+{
+    match rule {
+        Some(RegisterRule::Constant(state)) => state == 1,
+        _ => false,
+    }
+}
+
+/// The canonical frame address.
+pub(crate) fn frame_address<R: Reader, Section: _UnwindSectionPrivate<R>, M: Memory>(
+    rule: &CfaRule<R::Offset>,
+    section: &Section,
+    abi: &Abi,
+    frame: &Frame<'_, M>,
+) -> Result<u64, FrameError>
+    ensures { result ≡ cfa_of (frame_view M.number_at frame.now)
+        (Section.view section.now).position abi.now R.Offset.number rule.now }
+{
+    match *rule {
+        CfaRule::RegisterAndOffset { register, offset } => {
+            let value = register_value(frame.registers, register)?;
+            Ok(displaced(value, offset, frame.address_size))
+        }
+        CfaRule::Expression(expression) => value_at(&expression, section, abi, frame, None),
+    }
+}
+
+/// The value that a register has in the caller, by its rule.
+fn by_rule<R: Reader, Section: _UnwindSectionPrivate<R>, M: Memory>(
+    rule: &RegisterRule<R::Offset>,
+    section: &Section,
+    abi: &Abi,
+    frame: &Frame<'_, M>,
+    cfa: u64,
+    register: Register,
+) -> Result<Option<u64>, FrameError>
+    ensures { result ≡ by_rule (frame_view M.number_at frame.now)
+        (Section.view section.now).position abi.now R.Offset.number cfa register.0 rule.now }
+{
+    match *rule {
+        RegisterRule::Undefined => Ok(None),
+        RegisterRule::SameValue => Ok(known_register(frame.registers, register)),
+        RegisterRule::Offset(offset) => saved_at(displaced(cfa, offset, frame.address_size), frame),
+        RegisterRule::ValOffset(offset) => Ok(Some(displaced(cfa, offset, frame.address_size))),
+        RegisterRule::Register(other) => Ok(known_register(frame.registers, other)),
+        RegisterRule::Expression(expression) => {
+            let address = value_at(&expression, section, abi, frame, Some(cfa))?;
+            saved_at(address, frame)
+        }
+        RegisterRule::ValExpression(expression) => {
+            let value = value_at(&expression, section, abi, frame, Some(cfa))?;
+            Ok(Some(value))
+        }
+        RegisterRule::Architectural => Err(FrameError::ArchitecturalRule),
+        RegisterRule::Constant(constant) => Ok(Some(constant)),
+    }
+}
+
+/// What is saved at an address.
+fn saved_at<M: Memory>(address: u64, frame: &Frame<'_, M>) -> Result<Option<u64>, FrameError>
+    ensures { result ≡ saved_at (frame_view M.number_at frame.now) address }
+{
+    let number = number_at(frame, address, frame.address_size.bytes())?;
+    Ok(Some(number))
+}
+
+/// The value of an expression whose bytes are in the section.
+fn value_at<R: Reader, Section: _UnwindSectionPrivate<R>, M: Memory>(
+    expression: &UnwindExpression<R::Offset>,
+    section: &Section,
+    abi: &Abi,
+    frame: &Frame<'_, M>,
+    initial: Option<u64>,
+) -> Result<u64, FrameError>
+    ensures { result ≡ expression_value (frame_view M.number_at frame.now)
+        (Section.view section.now).position abi.now
+        (map_expression R.Offset.number expression.now) initial }
+{
+    match expression.get(section) {
+        Ok(bytes) => evaluate(&bytes, frame, initial, abi.max_iterations),
+        Err(error) => Err(FrameError::Unreadable(error)),
+    }
+}

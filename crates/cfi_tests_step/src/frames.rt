@@ -1,0 +1,170 @@
+//! Stacks that are walked, with registers and memory made by hand.
+use cfi_expression::{AddressSize, FrameError, Window};
+use cfi_step::abi::Abi;
+use cfi_step::module::LoadedModule;
+use cfi_step::walk::{End, Process, StackFrame, Walk, unwind};
+use cfi_tests_bytes::bytes_of;
+use gimli_cfi::{
+    BaseAddresses, EhFrame, EndianSlice, Error, LittleEndian, Register, UnwindContext, Vendor,
+};
+use std::alloc::Global;
+use std::test::Fail;
+
+/// Two CIEs (CFA r7+8, r16 saved at CFA-8), of which the second is of signal trampolines; and FDEs:
+/// 0x1000 pushes r6; 0x2000 is the outermost frame; 0x3000 is its own caller; 0x4000 signs its
+/// return address; 0x5000 is a signal trampoline.
+const SECTION: &str = "10000000 00000000 01 00 01 78 10 0c0708 9001 0000 \
+     1c000000 18000000 0010000000000000 2000000000000000 410e108602 000000 \
+     18000000 38000000 0020000000000000 1000000000000000 0710 0000 \
+     1c000000 54000000 0030000000000000 1000000000000000 0c0600 0810 000000 \
+     18000000 74000000 0040000000000000 1000000000000000 2d 000000 \
+     14000000 00000000 01 7a5300 01 78 10 00 0c0708 9001 000000 \
+     18000000 1c000000 0050000000000000 1000000000000000 00 000000";
+
+const NOTHING: StackFrame = StackFrame {
+    pc: 0,
+    is_interrupted: false,
+    cfa: None,
+};
+
+/// A frame's pc, whether it was interrupted, and its CFA.
+type Shown = (u64, bool, Option<u64>);
+
+fn shown(frame: &StackFrame) -> Shown {
+    (frame.pc, frame.is_interrupted, frame.cfa)
+}
+
+/// The innermost frame's pc, the room for frames, the memory from 0x7000 on, and what is written.
+type Case = (u64, usize, &'static str, [Shown; 2], usize, End);
+
+const CASES: [Case; 8] = [
+    (
+        0x1001,
+        2,
+        "6600000000000000 0820000000000000",
+        [(0x1001, true, Some(0x7010)), (0x2008, false, Some(0x7018))],
+        2,
+        End::Outermost,
+    ),
+    (
+        0x1001,
+        1,
+        "6600000000000000 0820000000000000",
+        [(0x1001, true, Some(0x7010)), (0, false, None)],
+        1,
+        End::NoRoom,
+    ),
+    (
+        0x1001,
+        2,
+        "6600000000000000 0890000000000000",
+        [(0x1001, true, Some(0x7010)), (0x9008, false, None)],
+        2,
+        End::NoModule,
+    ),
+    (
+        0x1001,
+        2,
+        "6600000000000000",
+        [(0x1001, true, None), (0, false, None)],
+        1,
+        End::Failed(FrameError::UnreadableMemory(0x7008)),
+    ),
+    (
+        0x1500,
+        2,
+        "",
+        [(0x1500, true, None), (0, false, None)],
+        1,
+        End::Failed(FrameError::NoRow(Error::NoUnwindInfoForAddress)),
+    ),
+    (
+        0x3004,
+        2,
+        "",
+        [(0x3004, true, Some(0x7100)), (0x3004, false, None)],
+        2,
+        End::NotRising,
+    ),
+    (
+        0x4001,
+        2,
+        "082000000000aa00",
+        [(0x4001, true, Some(0x7008)), (0x2008, false, Some(0x7010))],
+        2,
+        End::Outermost,
+    ),
+    (
+        0x5001,
+        2,
+        "0020000000000000",
+        [(0x5001, true, Some(0x7008)), (0x2000, true, Some(0x7010))],
+        2,
+        End::Outermost,
+    ),
+];
+
+/// Walks from a pc: r6 is 0x7100, r7 the stack pointer 0x7000, and r16 the pc.
+fn walked(alloc: Global, pc: u64, memory: &[u8], frames: &mut [StackFrame]) -> Result<Walk, Fail> {
+    let bytes = bytes_of(alloc, SECTION)?;
+    let mut section = EhFrame::new(bytes.as_slice(), LittleEndian);
+    section.set_vendor(Vendor::AArch64);
+    let modules = [LoadedModule {
+        start: 0x1000,
+        end: 0x6000,
+        frame: section,
+        header: None,
+        bases: BaseAddresses::default(),
+    }];
+    let memory = Window {
+        base: 0x7000,
+        bytes: EndianSlice::new(memory, LittleEndian),
+    };
+    let process = Process {
+        modules: &modules,
+        memory: &memory,
+        address_size: AddressSize::new(8),
+        abi: Abi {
+            stack_pointer: Register(7),
+            signature_mask: 0xffff_0000_0000_0000,
+            max_iterations: 100,
+        },
+    };
+    let mut registers = [None; 17];
+    registers[6] = Some(0x7100);
+    registers[7] = Some(0x7000);
+    registers[16] = Some(pc);
+    let mut caller = [None; 17];
+    let mut ctx = UnwindContext::<usize>::new(alloc)?;
+    Ok(unwind(&process, &mut ctx, pc, &mut registers, &mut caller, frames))
+}
+
+#[test]
+fn walks(rt: HostRuntime) -> Result<(), Fail> {
+    for (pc, room, text, written, count, end) in &CASES {
+        let memory = bytes_of(rt.alloc(), text)?;
+        let mut frames = [NOTHING, NOTHING];
+        let walk = walked(rt.alloc(), *pc, memory.as_slice(), &mut frames[..*room])?;
+        let expected = Walk {
+            count: *count,
+            end: *end,
+        };
+        let all = [shown(&frames[0]), shown(&frames[1])];
+        assert_eq!(rt; (walk, all), (expected, *written), "{pc}");
+    }
+    Ok(())
+}
+
+/// However much of the stack was copied, a word of it is read whole or not at all.
+#[test]
+fn memory_cut_at_every_length(rt: HostRuntime) -> Result<(), Fail> {
+    let memory = bytes_of(rt.alloc(), "6600000000000000 0820000000000000")?;
+    for length in 0..16usize {
+        let mut frames = [NOTHING, NOTHING];
+        let cut = &memory.as_slice()[..length];
+        let walk = walked(rt.alloc(), 0x1001, cut, &mut frames)?;
+        let refused = End::Failed(FrameError::UnreadableMemory(0x7008));
+        assert_eq!(rt; (walk.count, walk.end), (1, refused), "{length}");
+    }
+    Ok(())
+}

@@ -1,0 +1,8 @@
+//! Tests of expressions and of the unwinder. The expected values are those of the standard, or were
+//! worked out by hand.
+#![tactic(auto)]
+
+#[cfg(test)]
+mod expressions;
+#[cfg(test)]
+mod frames;
