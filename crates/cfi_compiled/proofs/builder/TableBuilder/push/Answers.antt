@@ -1,9 +1,9 @@
 use Rattle.std.proofs.Common.{◌≤◌, List, sym, ap, subst, ◌∙◌, arith}
-use Rattle.cfi_compiled.specs.declared.table.NumberedStep.{NumberedStep}
+use Rattle.cfi_compiled.specs.declared.step_list.NumberedStep.{NumberedStep}
 use Rattle.cfi_compiled.specs.CompiledTables.{NumberedSteps, parts_at, steps_of}
 use Rattle.cfi_compiled.specs.Steps.{free_from}
 use Rattle.cfi_compiled.proofs.Grown.{rise_kept, rise_pushed, before_pushed, from_pushed, repeated, same_before, same_free, free_pushed}
-use Rattle.cfi_compiled.proofs.table.CompiledTable.push.Goals as goal
+use Rattle.cfi_compiled.proofs.builder.TableBuilder.push.Goals as goal
 
 pub invariant_of-self : goal.invariant_of-self
 invariant_of-self c = rise_kept _ _ c.in_err-number.ensures.extends _ c.self.invariant.0 c.self.invariant.1
