@@ -2,12 +2,17 @@
 use gimli::{BaseAddresses, BigEndian, CieOrFde, EhFrame, EndianSlice, Endianity, LittleEndian, UnwindSection};
 use std::fs;
 
-/// The measures, by their number in crates/cfi_bench.
-pub const NAMES: [&str; 8] = ["entries", "fdes", "walk", "scan", "lookup", "table", "hdr_walk", "rules"];
+/// The measures; the first eight by their number in crates/cfi_bench.
+pub const NAMES: [&str; 10] =
+    ["entries", "fdes", "walk", "scan", "lookup", "table", "hdr_walk", "rules", "compiled", "compile"];
 
 const SCAN: usize = 3;
 const LOOKUP: usize = 4;
 const TABLE: usize = 5;
+/// A row by the table of the header by gimli, and by a compiled table.
+pub const COMPILED: usize = 8;
+/// All FDEs and then all rows by gimli, and a compiled table of them.
+pub const COMPILE: usize = 9;
 
 pub struct Case {
     pub big: bool,
@@ -40,7 +45,7 @@ impl Case {
 
     /// Whether a measure is one of the header's table.
     pub fn is_of_header(measure: usize) -> bool {
-        (LOOKUP..=6).contains(&measure)
+        (LOOKUP..=6).contains(&measure) || measure == COMPILED
     }
 
     /// Those that the case can be measured by.
@@ -52,7 +57,7 @@ impl Case {
     pub fn addresses(&self, measure: usize) -> &[u64] {
         match measure {
             SCAN => &self.scanned,
-            LOOKUP | TABLE => &self.looked_up,
+            LOOKUP | TABLE | COMPILED => &self.looked_up,
             _ => &[],
         }
     }

@@ -1,10 +1,12 @@
 //! The same passes by gimli, as its documentation writes them.
-use crate::case::Case;
-use crate::sums::{Done, REFUSED, row_sum, rules_sum};
+use crate::case::{COMPILE, COMPILED, Case};
+use crate::sums::{Done, REFUSED, cfa_sum, row_sum, rules_sum};
 use gimli::{
     BaseAddresses, BigEndian, CieOrFde, EhFrame, EhFrameHdr, EhHdrTable, EndianSlice, Endianity,
     FrameDescriptionEntry, LittleEndian, StoreOnHeap, UnwindContext, UnwindSection, UnwindTableRow,
 };
+
+use std::hint::black_box;
 
 type Frame<'a, E> = EhFrame<EndianSlice<'a, E>>;
 type Table<'a, 'h, E> = EhHdrTable<'h, EndianSlice<'a, E>>;
@@ -26,13 +28,18 @@ fn pass_in<E: Endianity>(endian: E, case: &Case, measure: usize) -> Done {
         2 => walk(&frame, &bases),
         3 => scans(&frame, &bases, addresses),
         7 => walk_rules(&frame, &bases),
+        COMPILE => {
+            black_box(fdes(&frame, &bases));
+            walk(&frame, &bases)
+        }
         _ => {
             let header = EhFrameHdr::from(EndianSlice::new(&case.header, endian));
             let parsed = header.parse(&bases, 8).expect("gimli parses the header");
             let table = parsed.table().expect("the header has a table");
             match measure {
                 4 => lookups(&table, &bases, addresses),
-                5 => rows_by_table(&table, &frame, &bases, addresses),
+                5 => rows_by_table(&table, &frame, &bases, addresses, row_sum),
+                COMPILED => rows_by_table(&table, &frame, &bases, addresses, |row| cfa_sum(row.cfa())),
                 _ => table_rows(&table, &bases),
             }
         }
@@ -131,12 +138,13 @@ fn rows_by_table<'a, E: Endianity>(
     frame: &Frame<'a, E>,
     bases: &BaseAddresses,
     addresses: &[u64],
+    sum: impl Fn(&Row) -> u64,
 ) -> Done {
     let mut context: Context = UnwindContext::new_in();
     let mut done = Done::default();
     for &address in addresses {
         match table.unwind_info_for_address(frame, bases, &mut context, address, EhFrame::cie_from_offset) {
-            Ok(row) => done.take(row_sum(row)),
+            Ok(row) => done.take(sum(row)),
             Err(_) => done.take(!address),
         }
     }

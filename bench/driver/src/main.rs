@@ -11,7 +11,7 @@ mod gimli_passes;
 mod our_passes;
 mod sums;
 
-use case::{Case, NAMES};
+use case::{COMPILE, COMPILED, Case, NAMES};
 use std::hint::black_box;
 use std::process::exit;
 use std::time::{Duration, Instant};
@@ -23,6 +23,8 @@ struct Times {
     ours: Vec<f64>,
     answers: Done,
     different: Option<(Done, Done)>,
+    /// Of the measure `compile`: how many steps and results the table has.
+    made: Option<Done>,
 }
 
 /// Whether one more pass by both is wanted: as many as go into 2.5 seconds, but 7 where they take less than 30, and 3.
@@ -38,14 +40,37 @@ fn timed(pass: impl FnOnce() -> Done) -> (Done, f64) {
     (done, begin.elapsed().as_nanos() as f64)
 }
 
+/// How often all addresses are looked up in a compiled table that is made once.
+const LOOKUPS: u64 = 40;
+
+/// One pass by gimli_cfi, and its time. A pass by a compiled table is timed without making the table: it is made for
+/// `LOOKUPS` passes, and once more for none.
+fn our_pass(case: &Case, measure: usize) -> (Done, f64) {
+    let addresses = case.addresses(measure);
+    match measure {
+        COMPILED => {
+            let (_, making) = timed(|| our_passes::by_compiled(case, addresses, 0));
+            let (done, time) = timed(|| our_passes::by_compiled(case, addresses, LOOKUPS));
+            (done, (time - making).max(0.0) / LOOKUPS as f64)
+        }
+        COMPILE => timed(|| our_passes::by_compiled(case, addresses, 0)),
+        _ => timed(|| our_passes::pass(case, measure)),
+    }
+}
+
 fn times(case: &Case, measure: usize) -> Times {
-    let mut times = Times { gimli: Vec::new(), ours: Vec::new(), answers: Done::default(), different: None };
+    let mut times = Times { gimli: Vec::new(), ours: Vec::new(), answers: Done::default(), different: None, made: None };
     let begin = Instant::now();
     while wants_more(times.gimli.len(), begin.elapsed()) {
         let (theirs, time) = timed(|| gimli_passes::pass(case, measure));
         times.gimli.push(time);
-        let (ours, time) = timed(|| our_passes::pass(case, measure));
+        let (ours, time) = our_pass(case, measure);
         times.ours.push(time);
+        if measure == COMPILE {
+            times.answers = theirs;
+            times.made = Some(ours);
+            continue;
+        }
         times.answers = theirs;
         if theirs != ours {
             times.different = Some((theirs, ours));
@@ -66,9 +91,10 @@ fn print_line(name: &str, measure: usize, mut times: Times) -> bool {
     let (gimli, _) = least_and_median(&mut times.gimli);
     let (ours, _) = least_and_median(&mut times.ours);
     let units = times.answers.count.max(1) as f64;
-    let answers = match times.different {
-        None => "equal".to_string(),
-        Some((theirs, ours)) => format!("DIFFERENT: gimli {theirs}, gimli_cfi {ours}"),
+    let answers = match (times.made, times.different) {
+        (Some(made), _) => format!("{} steps, {} results", made.count, made.sum),
+        (None, None) => "equal".to_string(),
+        (None, Some((theirs, ours))) => format!("DIFFERENT: gimli {theirs}, gimli_cfi {ours}"),
     };
     println!(
         "| {name} | {} | {} | {:.2} | {:.2} | {:.2} | {ratio:.2} | {answers} |",
@@ -95,9 +121,15 @@ fn run(who: &str, measure: &str, passes: u64, case: &Case) {
     let Some(place) = NAMES.iter().position(|name| *name == measure) else {
         usage(&format!("no measure {measure}"));
     };
-    let pass = match who {
-        "gimli" => gimli_passes::pass,
-        "ours" => our_passes::pass,
+    let pass = match (who, place) {
+        ("gimli", _) => gimli_passes::pass,
+        ("ours", COMPILED) => {
+            // All passes by one table.
+            let done = black_box(our_passes::by_compiled(case, case.addresses(place), passes));
+            return println!("{who} {measure} {done}");
+        }
+        ("ours", COMPILE) => |case: &Case, _| our_passes::by_compiled(case, &[], 0),
+        ("ours", _) => our_passes::pass,
         _ => usage(&format!("no library {who}")),
     };
     let mut last = Done::default();

@@ -1,10 +1,12 @@
 //! The passes of crates/cfi_bench, by its C interface.
-use crate::case::Case;
+use crate::case::{COMPILED, Case};
 use crate::sums::Done;
 
 /// The arguments of a pass over a section: a slice is its first place and its length.
 type OfSection = unsafe extern "C" fn(u32, *const u8, usize, u64, *const u64, usize, *mut u64) -> u64;
-/// The same, with the header and its address before the addresses.
+/// The same, with the number of passes behind the addresses.
+type OfCompiled = unsafe extern "C" fn(u32, *const u8, usize, u64, *const u64, usize, u64, *mut u64) -> u64;
+/// The arguments of `OfSection`, with the header and its address before the addresses.
 type OfHeader =
     unsafe extern "C" fn(u32, *const u8, usize, u64, *const u8, usize, u64, *const u64, usize, *mut u64) -> u64;
 
@@ -27,6 +29,29 @@ unsafe extern "C" {
         header: *const u8, header_length: usize, header_base: u64,
         addresses: *const u64, number: usize, count: *mut u64,
     ) -> u64;
+    fn cfi_bench_compiled_le(
+        measure: u32, section: *const u8, length: usize, base: u64,
+        addresses: *const u64, number: usize, passes: u64, count: *mut u64,
+    ) -> u64;
+    fn cfi_bench_compiled_be(
+        measure: u32, section: *const u8, length: usize, base: u64,
+        addresses: *const u64, number: usize, passes: u64, count: *mut u64,
+    ) -> u64;
+}
+
+/// Makes the compiled table of the section, and then looks up all addresses in it, `passes` times.
+/// Without a pass the answers are the number of its steps and that of its results.
+pub fn by_compiled(case: &Case, addresses: &[u64], passes: u64) -> Done {
+    let pass: OfCompiled = if case.big { cfi_bench_compiled_be } else { cfi_bench_compiled_le };
+    let mut count = 0;
+    // SAFETY: as in `pass`.
+    let sum = unsafe {
+        pass(
+            COMPILED as u32, case.section.as_ptr(), case.section.len(), case.base,
+            addresses.as_ptr(), addresses.len(), passes, &mut count,
+        )
+    };
+    Done { count, sum }
 }
 
 pub fn pass(case: &Case, measure: usize) -> Done {

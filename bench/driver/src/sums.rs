@@ -31,12 +31,14 @@ fn mix(sum: u64, number: u64) -> u64 {
 
 /// Addresses and CFA of a row.
 pub fn row_sum(row: &UnwindTableRow<usize, StoreOnHeap>) -> u64 {
-    let sum = mix(row.start_address(), row.end_address());
-    match row.cfa() {
-        CfaRule::RegisterAndOffset { register, offset } => {
-            mix(sum, u64::from(register.0) ^ offset.cast_unsigned())
-        }
-        CfaRule::Expression(e) => mix(sum, e.offset as u64 ^ (e.length as u64).rotate_left(32)),
+    mix(mix(row.start_address(), row.end_address()), cfa_sum(row.cfa()))
+}
+
+/// The CFA alone.
+pub fn cfa_sum(cfa: &CfaRule<usize>) -> u64 {
+    match cfa {
+        CfaRule::RegisterAndOffset { register, offset } => u64::from(register.0) ^ offset.cast_unsigned(),
+        CfaRule::Expression(e) => e.offset as u64 ^ (e.length as u64).rotate_left(32),
     }
 }
 

@@ -8,11 +8,13 @@
 //! of the fixed storage, and free it at their end.
 #![tactic(auto)]
 
+mod compiled;
 mod passes;
 mod sums;
 #[cfg(test)]
 mod tests;
 
+use compiled::of_compiled;
 use gimli_cfi::{BigEndian, LittleEndian};
 use passes::{of_header, of_section};
 use std::alloc::Global;
@@ -106,6 +108,51 @@ pub extern "C" fn cfi_bench_header_be(
         header_base,
         addresses,
     );
+    *count = done.count;
+    done.sum
+}
+
+/// Makes the compiled table of `.eh_frame`, the least significant byte first, of 8-byte addresses,
+/// that lies at `base`, and then looks up the row of each of the addresses in it, `passes` times.
+///
+/// The measure is 8 for the CFA of each row, 9 for all that it says. The answers are those of one
+/// of the passes; without a pass the count is the number of the table's steps, and the sum that of
+/// its rows and errors.
+#[unsafe(no_mangle)]
+pub extern "C" fn cfi_bench_compiled_le(
+    alloc: Global,
+    measure: u32,
+    section: &[u8],
+    base: u64,
+    addresses: &[u64],
+    passes: u64,
+    count: &mut u64,
+) -> u64 {
+    let done = of_compiled(
+        alloc,
+        measure,
+        section,
+        LittleEndian,
+        base,
+        addresses,
+        passes,
+    );
+    *count = done.count;
+    done.sum
+}
+
+/// `cfi_bench_compiled_le` with the most significant byte first.
+#[unsafe(no_mangle)]
+pub extern "C" fn cfi_bench_compiled_be(
+    alloc: Global,
+    measure: u32,
+    section: &[u8],
+    base: u64,
+    addresses: &[u64],
+    passes: u64,
+    count: &mut u64,
+) -> u64 {
+    let done = of_compiled(alloc, measure, section, BigEndian, base, addresses, passes);
     *count = done.count;
     done.sum
 }

@@ -1,4 +1,5 @@
 //! Checksums of answers.
+use cfi_compiled::CompiledRow;
 use gimli_cfi::{CfaRule, Register, RegisterRule, UnwindContextStorage, UnwindTableRow};
 
 /// What a pass did.
@@ -64,12 +65,20 @@ impl SumOfRow for RulesSums {
 
 /// Addresses and CFA of a row.
 pub fn row_sum<S: UnwindContextStorage<usize>>(row: &UnwindTableRow<usize, S::Rules>) -> u64 {
-    let sum = mix(row.start_address(), row.end_address());
-    match *row.cfa() {
+    mix(
+        mix(row.start_address(), row.end_address()),
+        cfa_sum(row.cfa()),
+    )
+}
+
+/// The CFA alone.
+#[inline(always)]
+pub fn cfa_sum(cfa: &CfaRule<usize>) -> u64 {
+    match *cfa {
         CfaRule::RegisterAndOffset { register, offset } => {
-            mix(sum, u64::from(register.0) ^ offset.cast_unsigned())
+            u64::from(register.0) ^ offset.cast_unsigned()
         }
-        CfaRule::Expression(e) => mix(sum, e.offset as u64 ^ (e.length as u64).rotate_left(32)),
+        CfaRule::Expression(e) => e.offset as u64 ^ (e.length as u64).rotate_left(32),
     }
 }
 
@@ -77,6 +86,15 @@ pub fn row_sum<S: UnwindContextStorage<usize>>(row: &UnwindTableRow<usize, S::Ru
 /// added.
 pub fn rules_sum<S: UnwindContextStorage<usize>>(row: &UnwindTableRow<usize, S::Rules>) -> u64 {
     let mut sum = mix(row_sum::<S>(row), row.saved_args_size());
+    for (register, rule) in row.registers() {
+        sum = sum.wrapping_add(rule_sum(*register, *rule));
+    }
+    sum
+}
+
+/// The parts of a row: its CFA, the size of pushed arguments and every rule.
+pub fn compiled_sum(row: &CompiledRow) -> u64 {
+    let mut sum = mix(cfa_sum(row.cfa()), row.saved_args_size());
     for (register, rule) in row.registers() {
         sum = sum.wrapping_add(rule_sum(*register, *rule));
     }

@@ -1,5 +1,6 @@
 //! How many answers each pass counts in a small section, and that both byte orders have one
 //! checksum.
+use crate::compiled::of_compiled;
 use crate::passes::{of_header, of_section};
 use gimli_cfi::{BigEndian, LittleEndian};
 use std::test::Fail;
@@ -59,6 +60,29 @@ fn counts_of_a_header(rt: HostRuntime) -> Result<(), Fail> {
             &ADDRESSES,
         );
         assert_eq!(rt; done.count, count);
+    }
+    Ok(())
+}
+
+/// Two rows with what is before and after them are four steps; then as many answers as addresses.
+#[test]
+fn counts_of_a_compiled_table(rt: HostRuntime) -> Result<(), Fail> {
+    for (measure, passes, count) in [(8, 0, 4), (8, 2, 3), (9, 1, 3), (7, 1, u64::MAX)] {
+        let alloc = rt.alloc();
+        let little = of_compiled(
+            alloc,
+            measure,
+            &SECTION,
+            LittleEndian,
+            0x2000,
+            &ADDRESSES,
+            passes,
+        );
+        let big = of_compiled(alloc, measure, &BIG, BigEndian, 0x2000, &ADDRESSES, passes);
+        assert_eq!(rt;
+            (little.count, big.count, big.sum),
+            (count, count, little.sum)
+        );
     }
     Ok(())
 }

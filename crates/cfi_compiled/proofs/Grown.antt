@@ -7,7 +7,7 @@ use Rattle.cfi_read_core.specs.declared.error.Error.{Error}
 use Rattle.cfi_read_core.specs.declared.error.Error.TheVariants.{NoUnwindInfoForAddress}
 use Rattle.cfi_read_core.specs.ReaderCalls.{map_ok}
 use Rattle.cfi_compiled.specs.declared.row.CompiledRow.{CompiledRow}
-use Rattle.cfi_compiled.specs.declared.table.NumberedStep.{NumberedStep}
+use Rattle.cfi_compiled.specs.declared.step_list.NumberedStep.{NumberedStep}
 use Rattle.cfi_compiled.specs.CompiledRows.{parts_kept}
 use Rattle.cfi_compiled.specs.CompiledTables.{AreNumbersOf, EndsWith, Extends, parts_numbered, step_named}
 use Rattle.cfi_compiled.specs.Steps.{Step, Rise, free_from, parts_by_steps}

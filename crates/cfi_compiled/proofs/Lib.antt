@@ -9,6 +9,11 @@ mod Gathered
 mod Overlay
 mod Compiled
 mod Searched
+mod SplitSteps
+mod PagedLists
+mod PagedSearch
+mod PagedPushes
+mod PagedTables
 mod Grown
 mod RuleLists
 pub mod Laws

@@ -1,22 +1,15 @@
--- Where a search by halving in numbered steps ends.
+-- What the steps of a table give for an address, by the step that is found.
 use Rattle.std.proofs.Common.{◌≡◌, ℕ, ◌+◌, ◌<◌, ◌≤◌, List, [], ◌∷◌, map, length, get_or, Result, Err, refl, sym, ap, subst, ◌∙◌, arith}
 use Rattle.std.proofs.lemmas.List.{get_or-map}
 use Rattle.std.proofs.Math.ListN.{length-map}
 use Rattle.cfi_read_core.specs.declared.error.Error.{Error}
 use Rattle.cfi_read_core.specs.declared.error.Error.TheVariants.{NoUnwindInfoForAddress}
 use Rattle.cfi_compiled.specs.declared.row.CompiledRow.{CompiledRow}
-use Rattle.cfi_compiled.specs.declared.table.NumberedStep.{NumberedStep}
+use Rattle.cfi_compiled.specs.declared.step_list.NumberedStep.{NumberedStep}
 use Rattle.cfi_compiled.specs.CompiledTables.{parts_numbered, step_named}
+use Rattle.cfi_compiled.specs.SearchedSteps.{Ascend}
 use Rattle.cfi_compiled.specs.Steps.{Step, Rise, parts_by_steps}
 use Rattle.cfi_compiled.proofs.StepFunctions.{answered_at, answered_before}
-
--- Of the regions between the steps, the one before all steps being the first, the first `first` end at or below the address, and those
--- from `first + len` on begin above it.
-pub record IsNarrowed (steps : List NumberedStep) (a first len : ℕ) : Type 0 where
-  pub some : 0 < len
-  pub inside : first + len ≤ length steps + 1
-  pub from : (k : ℕ) (d : NumberedStep) → k + 1 ≡ first → (get_or steps k d).start ≤ a
-  pub up_to : (k : ℕ) (d : NumberedStep) → k + 1 ≡ first + len → k < length steps → a < (get_or steps k d).start
 
 module _ (results : List (Result CompiledRow Error)) (numbers : List NumberedStep) (a : ℕ) (rise : Rise 0 (map (step_named results) numbers)) (d : NumberedStep) where
   abbrev named : NumberedStep → Step
@@ -39,3 +32,7 @@ pub found_before : (results : List (Result CompiledRow Error)) (numbers : List N
     → Err NoUnwindInfoForAddress ≡ parts_by_steps (map (step_named results) numbers) a
 found_before results [] a above = refl
 found_before results (first ∷ numbers) a above = sym (answered_before (map (step_named results) (first ∷ numbers)) (Err NoUnwindInfoForAddress) a (λ d some. above first (omega arith)))
+
+pub ascends : (results : List (Result CompiledRow Error)) (numbers : List NumberedStep) (low : ℕ) → Rise low (map (step_named results) numbers) → Ascend low numbers
+ascends results [] low rise = tt
+ascends results (step ∷ numbers) low rise = (rise.0, ascends results numbers (step.start + 1) rise.1)

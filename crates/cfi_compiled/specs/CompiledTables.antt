@@ -5,15 +5,16 @@
 --     step_view, steps_left      a step that an iterator returned, and the steps that are left in it
 --     IsCompiled rule_limit stack_limit section table      for every address what the scan gives, but
 --         a row's addresses
-use Rattle.std.specs.Prelude.{◌≡◌, ◌+◌, ◌<◌, ℕ, List, ◌++◌, length, map, get_or}
+use Rattle.std.specs.Prelude.{◌≡◌, ◌+◌, ◌<◌, ℕ, List, ◌++◌, length, map, drop, get_or}
 use Rattle.std.specs.Prelude.{Option, Result, Err}
 use Rattle.std.specs.List.{All}
 use Rattle.gimli_cfi.specs.Words.{Error, NoUnwindInfoForAddress, Parts, Section, map_ok}
 use Rattle.cfi_compiled.specs.declared.row.CompiledRow.{CompiledRow}
-use Rattle.cfi_compiled.specs.declared.table.NumberedStep.{NumberedStep}
+use Rattle.cfi_compiled.specs.declared.step_list.NumberedStep.{NumberedStep}
 use Rattle.cfi_compiled.specs.declared.table.CompiledStep.{CompiledStep}
 use Rattle.cfi_compiled.specs.declared.table.CompiledSteps.{CompiledSteps}
 use Rattle.cfi_compiled.specs.CompiledRows.{parts_kept, parts_lent, parts_by_scan}
+use Rattle.cfi_compiled.specs.StepLists.{numbered}
 use Rattle.cfi_compiled.specs.Steps.{Step, parts_by_steps}
 
 pub record NumberedSteps : Type 0 where
@@ -61,4 +62,5 @@ abbrev pub step_view : CompiledStep → Step
 step_view step = record { start = step.start; parts = parts_lent step.row }
 
 abbrev pub steps_left : CompiledSteps → List Step
-steps_left iterator = map (step_named iterator.results.now) iterator.numbers.now
+steps_left iterator =
+    map (step_named iterator.results.now) (drop iterator.next (numbered iterator.steps.now))

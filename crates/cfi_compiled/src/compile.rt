@@ -3,6 +3,7 @@ ghost use Rattle.std.specs.Prelude.{◌≡◌, Some, IfOk, IfErr};
 ghost use Rattle.gimli_cfi.specs.Words.{OutOfMemory, section_of};
 ghost use Rattle.cfi_compiled.specs.CompiledTables.{IsCompiled};
 
+use crate::builder::TableBuilder;
 use crate::fdes::covering_fdes;
 use crate::pieces::{resolve, spans_of};
 use crate::steps::NoMemory;
@@ -80,7 +81,7 @@ fn compile<R: Reader<Offset = usize>, S: UnwindSection<R>, C: UnwindContextStora
     let fdes = found.fdes;
     let spans = spans_of(alloc, fdes.as_slice())?;
     let pieces = resolve(alloc, spans.as_slice())?;
-    let mut table = CompiledTable::empty(alloc);
+    let mut table = TableBuilder::new(alloc);
     walk_fdes(
         &mut table,
         section,
@@ -90,6 +91,5 @@ fn compile<R: Reader<Offset = usize>, S: UnwindSection<R>, C: UnwindContextStora
         pieces.as_slice(),
         outside,
     )?;
-    table.finish();
-    Ok(table)
+    Ok(table.finish()?)
 }

@@ -5,12 +5,15 @@
 //! says but its two addresses, or the error. Nothing is read from the section any more.
 #![tactic(auto)]
 
+mod builder;
 mod compile;
 mod fdes;
 mod numbers;
+mod paged_steps;
 mod pieces;
 mod row;
 mod same;
+mod step_list;
 mod steps;
 mod table;
 mod walk;

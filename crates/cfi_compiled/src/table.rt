@@ -1,24 +1,15 @@
 //! Compiled tables.
-ghost use Rattle.std.specs.Prelude.{◌≡◌, ◌≤◌, ◌+◌, [], length, IfOk, IsTrue, OnOk};
-ghost use Rattle.gimli_cfi.specs.Words.{map_ok};
-ghost use Rattle.cfi_compiled.specs.CompiledRows.{parts_kept, parts_lent};
-ghost use Rattle.cfi_compiled.specs.CompiledTables.{EndsWith, parts_at, parts_numbered, steps_of};
+ghost use Rattle.std.specs.Prelude.{◌≡◌, length};
+ghost use Rattle.cfi_compiled.specs.CompiledRows.{parts_lent};
+ghost use Rattle.cfi_compiled.specs.CompiledTables.{parts_at, parts_numbered, steps_of};
 ghost use Rattle.cfi_compiled.specs.CompiledTables.{results_of, step_view, steps_left};
-ghost use Rattle.cfi_compiled.specs.Steps.{IsFrom, Rise, SameBelow, free_from};
+ghost use Rattle.cfi_compiled.specs.Steps.{Rise};
+ghost use Rattle.cfi_compiled.specs.StepLists.{numbered};
 
-use crate::numbers::number_of;
 use crate::row::CompiledRow;
-use crate::steps::{NoMemory, StepSink};
-use gimli_cfi::{ArrayLike, Error, Register, RegisterRule, Result, UnwindTableRow};
-use std::alloc::Global;
+use crate::step_list::StepList;
+use gimli_cfi::{Error, Result};
 use std::marker::Model;
-
-/// From an address on, up to the next step, the result has this number.
-#[derive(Clone, Copy, Debug)]
-pub(crate) struct NumberedStep {
-    pub(crate) start: u64,
-    pub(crate) number: usize,
-}
 
 /// The unwind rows of a section for all addresses, or the errors in their place.
 ///
@@ -43,46 +34,40 @@ pub(crate) struct NumberedStep {
 /// ```
 #[derive(Drop)]
 pub struct CompiledTable {
-    alloc: Global,
     results: Vec<Result<CompiledRow>>,
-    numbers: Vec<NumberedStep>,
-    slots: Vec<usize>,
+    steps: StepList,
 }
 
 impl Model for CompiledTable {
     ghost use Rattle.cfi_compiled.specs.CompiledTables.{NumberedSteps, AreNumbersOf, steps_of};
+    ghost use Rattle.cfi_compiled.specs.StepLists.{numbered};
     ghost use Rattle.cfi_compiled.specs.Steps.{Rise};
 
     ghost Value = { NumberedSteps };
 
     ghost view = { λ table. record {
       results = table.results.items;
-      numbers = table.numbers.items;
+      numbers = numbered table.steps;
     } };
 
     ghost invariant = { λ table.
-        Rise 0 (steps_of (record { results = table.results.items; numbers = table.numbers.items }))
-        × AreNumbersOf table.results.items table.numbers.items };
+        Rise 0 (steps_of (record { results = table.results.items; numbers = numbered table.steps }))
+        × AreNumbersOf table.results.items (numbered table.steps) };
 }
 
 impl CompiledTable {
-    /// The table without a step.
-    pub(crate) fn empty(alloc: Global) -> Self
-        ensures { result ≡ record { results = []; numbers = [] } }
-    {
-        CompiledTable {
-            alloc,
-            results: Vec::new(alloc),
-            numbers: Vec::new(alloc),
-            slots: Vec::new(alloc),
-        }
-    }
+    ghost use Rattle.std.specs.Prelude.{◌≡◌, length};
+    ghost use Rattle.cfi_compiled.specs.CompiledTables.{AreNumbersOf, parts_at, steps_of};
+    ghost use Rattle.cfi_compiled.specs.StepLists.{numbered};
 
-    /// Gives back what only making the table takes.
-    pub(crate) fn finish(&mut self)
-        ensures { self.new ≡ self.old }
+    /// The table of these steps, whose numbers are those of the results.
+    pub(crate) fn of(results: Vec<Result<CompiledRow>>, steps: StepList) -> Self
+        requires rise { Rise 0
+            (steps_of (record { results = results.items; numbers = numbered steps })) }
+        requires numbers { AreNumbersOf results.items (numbered steps) }
+        ensures { result ≡ record { results = results.items; numbers = numbered steps } }
     {
-        self.slots = Vec::new(self.alloc);
+        CompiledTable { results, steps }
     }
 
     /// Returns what the row of the address says, or the error that `row_by_scan` returns for it
@@ -92,25 +77,10 @@ impl CompiledTable {
     pub fn row(&self, address: u64) -> Result<&CompiledRow>
         ensures { parts_lent result ≡ parts_at self.now address }
     {
-        let steps = self.numbers.as_slice();
-        // Of the regions between the steps, the first `first` end at or below the address, and
-        // those from `first + len` on begin above it.
-        let mut first = 0;
-        let mut len = steps.len() + 1;
-        while len > 1 {
-            let half = len / 2;
-            let middle = first + half;
-            if steps[middle - 1].start <= address {
-                first = middle;
-                len -= half;
-            } else {
-                len = half;
-            }
+        match self.steps.number_at(address) {
+            Some(number) => result_at(self.results.as_slice(), number),
+            None => Err(Error::NoUnwindInfoForAddress),
         }
-        if first == 0 {
-            return Err(Error::NoUnwindInfoForAddress);
-        }
-        result_at(self.results.as_slice(), steps[first - 1].number)
     }
 
     /// The number of steps. Neighbours with equal rows are one step; those with equal errors may be
@@ -119,7 +89,7 @@ impl CompiledTable {
     pub fn len(&self) -> usize
         ensures { result ≡ length (steps_of self.now) }
     {
-        self.numbers.len()
+        self.steps.len()
     }
 
     /// The number of rows and errors that are stored. Equal rows are stored once; an error may be
@@ -140,61 +110,10 @@ impl CompiledTable {
     {
         CompiledSteps {
             results: self.results.as_slice(),
-            numbers: self.numbers.as_slice(),
+            steps: &self.steps,
+            next: 0,
         }
     }
-
-    /// From this address on the result is this one.
-    fn push(&mut self, from: u64, answer: Result<CompiledRow>) -> std::result::Result<(), NoMemory>
-        requires { free_from 0 (steps_of self.old) ≤ from }
-        ensures before { OnOk result (SameBelow from (parts_at self.new) (parts_at self.old)) }
-        ensures after { OnOk result
-            (IsFrom from (parts_at self.new) (map_ok parts_kept answer)) }
-        ensures free { OnOk result (free_from 0 (steps_of self.new) ≤ from + 1) }
-    {
-        let number = number_of(&mut self.results, &mut self.slots, answer)?;
-        if ends_with(self.numbers.as_slice(), number) {
-            return Ok(());
-        }
-        self.numbers.push(NumberedStep {
-            start: from,
-            number,
-        })?;
-        Ok(())
-    }
-}
-
-impl StepSink for CompiledTable {
-    ghost use Rattle.cfi_compiled.specs.CompiledTables.{EndsWith, parts_at, steps_of};
-    ghost use Rattle.cfi_compiled.specs.Steps.{free_from};
-
-    ghost answer = { parts_at };
-
-    ghost free = { λ table. free_from 0 (steps_of table) };
-
-    fn row<A: ArrayLike<Item = (Register, RegisterRule<usize>)>>(
-        &mut self,
-        from: u64,
-        row: &UnwindTableRow<usize, A>,
-    ) -> std::result::Result<(), NoMemory> {
-        let kept = CompiledRow::of(self.alloc, row)?;
-        self.push(from, Ok(kept))
-    }
-
-    fn error(&mut self, from: u64, error: Error) -> std::result::Result<(), NoMemory> {
-        self.push(from, Err(error))
-    }
-}
-
-/// Whether the last step has this number.
-fn ends_with(steps: &[NumberedStep], number: usize) -> bool
-    ensures { IsTrue result → EndsWith number steps.now }
-{
-    if steps.is_empty() {
-        return false;
-    }
-    let last = steps[steps.len() - 1];
-    last.number == number
 }
 
 /// The result with a number.
@@ -223,7 +142,8 @@ pub struct CompiledStep<'a> {
 #[derive(Clone, Copy, Debug)]
 pub struct CompiledSteps<'a> {
     results: &'a [Result<CompiledRow>],
-    numbers: &'a [NumberedStep],
+    steps: &'a StepList,
+    next: usize,
 }
 
 impl<'a> Iterator for CompiledSteps<'a> {
@@ -237,11 +157,11 @@ impl<'a> Iterator for CompiledSteps<'a> {
 
     #[inline(always)]
     fn next(&mut self) -> Option<CompiledStep<'a>> {
-        let (first, others) = self.numbers.split_first()?;
-        self.numbers = others;
+        let step = self.steps.get(self.next)?;
+        self.next += 1;
         Some(CompiledStep {
-            start: first.start,
-            row: result_at(self.results, first.number),
+            start: step.start,
+            row: result_at(self.results, step.number),
         })
     }
 }

@@ -1,8 +1,9 @@
 -- The reads of a header and of its rows never go back.
-use Rattle.std.proofs.Common.{◌≡◌, ℕ, Result, Ok, Err, refl, arith, rules}
+use Rattle.std.proofs.Common.{◌≡◌, ℕ, ne_eqb, Result, Ok, Err, refl, arith, rules}
 use Rattle.std.specs.Prelude.{◌||◌}
 use Rattle.std.specs.Int.{w8}
 use Rattle.cfi_read_core.specs.declared.error.Error.{Error}
+use Rattle.cfi_read_core.specs.declared.error.Error.TheVariants.{UnknownVersion}
 use Rattle.cfi_read_core.specs.ReadFunctions.{Position, Read, give, refuse_if}
 use Rattle.cfi_read_core.specs.ReaderCalls.{IsSound, Reads, extent_of, map_ok}
 use Rattle.cfi_read_core.specs.Numbers.{unsigned}
@@ -44,6 +45,14 @@ header_by_count s size bases (Ok count) at_version one sized first second third 
 header_by_count s size bases (Err e) at_version one sized first second third at_pointer at_count =
     let at_version_1 = rw one at at_version in
     let pointer_of_size = rw sized at at_pointer in
+    search rules
+
+-- what a header of another version gives
+pub header_refused : (s : Position) (size : ℕ) (bases : SectionBaseAddresses) {s1 : Position} {version : ℕ} →
+    Gave (unsigned w8) s version s1 → (version ≡ 1 → ⊥) → Err (UnknownVersion version) ≡ header_of (header_section s size bases)
+unfolding header_fields
+header_refused s size bases {version = version} at_version other =
+    let another = ne_eqb version 1 other in
     search rules
 
 -- a reader is of the section that it reads from its beginning

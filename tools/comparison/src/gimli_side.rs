@@ -82,6 +82,60 @@ fn rows_in<'a, S: UnwindSection<Slice<'a>>>(
     found
 }
 
+/// What the rows of addresses say, each of the first FDE that contains it, in the order of the
+/// entries. `fdes` are all FDEs of the section, without an error.
+pub fn parts_of_rows(
+    question: &Question,
+    fdes: &[Fde],
+    addresses: &[u64],
+    context: &mut Context,
+) -> Done {
+    let (bases, section) = (bases(question), eh_frame(question));
+    let mut done = Done::default();
+    let first = FirstFde::of(fdes);
+    for &address in addresses {
+        let row = match first.containing(address) {
+            None => Err(error_of(question, gimli::Error::NoUnwindInfoForAddress)),
+            Some(fde) => {
+                let get_cie = EhFrame::cie_from_offset;
+                let fde = section.fde_from_offset(&bases, fde.offset.into(), get_cie);
+                let fde = fde.expect("an FDE that was read before");
+                let row = fde.unwind_info_for_address(&section, &bases, context, address);
+                row.map(row_of).map_err(|error| error_of(question, error))
+            }
+        };
+        done.take_parts(address, &row);
+    }
+    done
+}
+
+/// Finds the first FDE that contains an address: by a binary search if no two overlap.
+struct FirstFde<'a> {
+    fdes: &'a [Fde],
+    sorted: Option<Vec<&'a Fde>>,
+}
+
+impl<'a> FirstFde<'a> {
+    fn of(fdes: &'a [Fde]) -> FirstFde<'a> {
+        let mut sorted: Vec<_> = fdes.iter().filter(|fde| fde.start < fde.end).collect();
+        sorted.sort_by_key(|fde| fde.start);
+        let apart = sorted.windows(2).all(|pair| pair[0].end <= pair[1].start);
+        FirstFde {
+            fdes,
+            sorted: apart.then_some(sorted),
+        }
+    }
+
+    fn containing(&self, address: u64) -> Option<&'a Fde> {
+        let contains = |fde: &&Fde| fde.start <= address && address < fde.end;
+        let Some(sorted) = &self.sorted else {
+            return self.fdes.iter().find(contains);
+        };
+        let above = sorted.partition_point(|fde| fde.start <= address);
+        above.checked_sub(1).map(|last| sorted[last]).filter(contains)
+    }
+}
+
 /// The passes over a section: its entries, its FDEs, and all rows with all rules.
 pub fn section_passes(question: &Question, context: &mut Context) -> [Done; 3] {
     let found = entries(question);

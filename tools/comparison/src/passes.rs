@@ -24,6 +24,26 @@ unsafe extern "C" {
         number: usize,
         count: *mut u64,
     ) -> u64;
+    fn cfi_bench_compiled_le(
+        measure: u32,
+        section: *const u8,
+        length: usize,
+        base: u64,
+        addresses: *const u64,
+        number: usize,
+        passes: u64,
+        count: *mut u64,
+    ) -> u64;
+    fn cfi_bench_compiled_be(
+        measure: u32,
+        section: *const u8,
+        length: usize,
+        base: u64,
+        addresses: *const u64,
+        number: usize,
+        passes: u64,
+        count: *mut u64,
+    ) -> u64;
     fn cfi_bench_header_le(
         measure: u32,
         section: *const u8,
@@ -58,6 +78,9 @@ const OF_SECTION: [u32; 3] = [0, 1, 7];
 const LOOKUPS: u32 = 4;
 const TABLE_ROWS: u32 = 6;
 
+/// All that the rows of a compiled table say.
+const COMPILED: u32 = 9;
+
 /// Whether the passes can be made: they are of `.eh_frame` with addresses of 8 bytes alone.
 pub fn are_possible(question: &Question) -> bool {
     !question.settings.debug_frame && question.settings.address_size == 8
@@ -73,6 +96,33 @@ pub fn of_section(question: &Question) -> [Done; 3] {
 pub fn of_header(question: &Question, addresses: &[u64]) -> (Done, Done) {
     let lookups = header_pass(question, LOOKUPS, addresses);
     (lookups, header_pass(question, TABLE_ROWS, &[]))
+}
+
+/// What the rows of the addresses say by a compiled table, which is made for this call.
+pub fn of_compiled(question: &Question, addresses: &[u64]) -> Done {
+    let Question {
+        settings, section, ..
+    } = question;
+    let call = if settings.big_endian {
+        cfi_bench_compiled_be
+    } else {
+        cfi_bench_compiled_le
+    };
+    let mut count = 0;
+    // SAFETY: each pointer leads to as many values as is said, and none is kept after the call.
+    let sum = unsafe {
+        call(
+            COMPILED,
+            section.as_ptr(),
+            section.len(),
+            settings.section,
+            addresses.as_ptr(),
+            addresses.len(),
+            1,
+            &mut count,
+        )
+    };
+    Done { count, sum }
 }
 
 fn section_pass(question: &Question, measure: u32) -> Done {

@@ -20,6 +20,12 @@ impl Done {
         self.sum = mix(self.sum, number);
     }
 
+    /// Takes all that the row of an address says but its addresses. An error counts as the
+    /// complement of the address.
+    pub fn take_parts(&mut self, address: u64, row: &Answer) {
+        self.take(row.as_ref().map_or(!address, parts_sum));
+    }
+
     /// Takes a row of a walk, with all its rules. An error counts as `u64::MAX`.
     pub fn take_row(&mut self, row: &Answer) {
         self.take(row.as_ref().map_or(u64::MAX, rules_sum));
@@ -32,7 +38,15 @@ fn mix(sum: u64, number: u64) -> u64 {
 
 /// The rules' sums are added, so that their order doesn't matter.
 fn rules_sum(row: &Row) -> u64 {
-    let sum = mix(row_sum(row), row.args_size);
+    add_rules(mix(row_sum(row), row.args_size), row)
+}
+
+/// Of all but the addresses.
+fn parts_sum(row: &Row) -> u64 {
+    add_rules(mix(cfa_sum(&row.cfa), row.args_size), row)
+}
+
+fn add_rules(sum: u64, row: &Row) -> u64 {
     row.rules.iter().fold(sum, |sum, (register, rule)| {
         sum.wrapping_add(rule_sum(*register, rule))
     })
@@ -40,12 +54,15 @@ fn rules_sum(row: &Row) -> u64 {
 
 /// Of the addresses and the CFA alone.
 fn row_sum(row: &Row) -> u64 {
-    let sum = mix(row.start, row.end);
-    match row.cfa {
+    mix(mix(row.start, row.end), cfa_sum(&row.cfa))
+}
+
+fn cfa_sum(cfa: &Cfa) -> u64 {
+    match cfa {
         Cfa::RegisterAndOffset(register, offset) => {
-            mix(sum, u64::from(register) ^ offset.cast_unsigned())
+            u64::from(*register) ^ offset.cast_unsigned()
         }
-        Cfa::Expression(place, length) => mix(sum, place ^ length.rotate_left(32)),
+        Cfa::Expression(place, length) => place ^ length.rotate_left(32),
     }
 }
 

@@ -45,7 +45,7 @@ returns g c a =
     let section = section_of (g.S._UnwindSectionPrivate.view c.args.section.now) c.args.bases.now in
     let view = fde_view g.R.Reader.position (λ (n : ℕ). n) in
     let walked = rw c.as_slice-3.ensures.value at (c.in_ok-walk_fdes.ensures a) in
-    ap (λ (f : NumberedSteps). parts_at f a) c.finish.ensures
+    ap (λ (f : NumberedSteps). parts_at f a) c.in_ok-finish.ensures
     ∙ walked
     ∙ ap (λ (found : Result Fde Error). parts_of_row (answer_by (row_of_fde g.C.Rules.ArrayLike.limit g.C-Stack-ArrayLike.limit section a) found))
     (chosen_is section _ c.in_ok-found.found.outside c.in_ok-found.ensures.fdes c.in_ok-found.ensures.outside a)

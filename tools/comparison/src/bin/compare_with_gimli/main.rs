@@ -6,7 +6,8 @@
 //! rules, and errors with the values that they carry. Each FDE is cut out with its CIE for that.
 //! Whole sections are compared by scans for a sample of addresses, and by the header's table for
 //! three addresses of each FDE. Of `.eh_frame` with addresses of 8 bytes, checksums are compared:
-//! of all entries, all rows by `next_row`, and all rows of the table.
+//! of all entries, all rows by `next_row`, all rows of the table, and what a compiled table has for
+//! as many random addresses as there are FDEs, most of them within FDEs.
 //!
 //! Prints a line for each section, and a last one with totals. Status 0: all is the same; 1: not;
 //! 2: there is nothing to compare.
@@ -35,6 +36,8 @@ struct Counts {
     rows: usize,
     lookups: usize,
     scans: usize,
+    /// Addresses that were looked up in a compiled table.
+    compiled: usize,
     /// Answers that gimli_cfi has by an extension, where gimli has an error.
     extended: usize,
 }
@@ -46,6 +49,7 @@ impl AddAssign for Counts {
         self.rows += other.rows;
         self.lookups += other.lookups;
         self.scans += other.scans;
+        self.compiled += other.compiled;
         self.extended += other.extended;
     }
 }
@@ -58,11 +62,13 @@ impl std::fmt::Display for Counts {
             rows,
             lookups,
             scans,
+            compiled,
             extended,
         } = self;
         write!(
             f,
-            "{entries} entries, {fdes} FDEs, {rows} rows, {lookups} lookups, {scans} scans"
+            "{entries} entries, {fdes} FDEs, {rows} rows, {lookups} lookups, {scans} scans, \
+             {compiled} by a compiled table"
         )?;
         if *extended > 0 {
             write!(f, ", {extended} by extensions")?;
@@ -105,6 +111,7 @@ impl Comparison {
         }
         self.scans(question, &fdes)?;
         self.lookups(question, &fdes)?;
+        self.compiled(question, &entries, &fdes)?;
         self.passes(question, &entries)
     }
 
@@ -176,6 +183,36 @@ impl Comparison {
         Ok(())
     }
 
+    /// Compares what a compiled table has for as many random addresses as there are FDEs. Sections
+    /// with an error among their entries are left out.
+    fn compiled(&mut self, question: &Question, entries: &Entries, fdes: &[Fde]) -> Compared {
+        let question = Question {
+            settings: question.settings.of_passes(),
+            header: None,
+            ..*question
+        };
+        let is_whole = entries.error.is_none() && entries.fdes.len() == fdes.len();
+        if !passes::are_possible(&question) || !is_whole {
+            return Ok(());
+        }
+        let addresses = random_addresses(fdes);
+        self.counts.compiled += addresses.len();
+        let mut differ = |addresses: &[u64]| {
+            let gimli = gimli_side::parts_of_rows(&question, fdes, addresses, &mut self.gimli);
+            gimli != passes::of_compiled(&question, addresses)
+        };
+        // Halves the addresses up to the first for which the two differ.
+        let mut rest = &addresses[..];
+        if !differ(rest) {
+            return Ok(());
+        }
+        while rest.len() > 1 {
+            let (first, last) = rest.split_at(rest.len() / 2);
+            rest = if differ(first) { first } else { last };
+        }
+        Err(format!("by a compiled table for {:#x}", rest[0]))
+    }
+
     /// Compares the checksums of passes over the whole section.
     fn passes(&mut self, question: &Question, entries: &Entries) -> Compared {
         let settings = question.settings.of_passes();
@@ -234,6 +271,27 @@ impl Comparison {
         }
         Ok(())
     }
+}
+
+/// As many addresses as there are FDEs, the same in each run: seven of eight within an FDE, the
+/// others anywhere from a little before the first FDE to a little after the last.
+fn random_addresses(fdes: &[Fde]) -> Vec<u64> {
+    let first = fdes.iter().map(|fde| fde.start).min().unwrap_or(0);
+    let last = fdes.iter().map(|fde| fde.end).max().unwrap_or(0);
+    let mut state = 1_u64;
+    let mut below = |end: u64| {
+        state = state.wrapping_mul(0x5851_f42d_4c95_7f2d).wrapping_add(1);
+        ((u128::from(state ^ (state >> 32)) * u128::from(end)) >> 64) as u64
+    };
+    let mut address = |i: usize| {
+        let fde = &fdes[below(fdes.len() as u64) as usize];
+        if i % 8 < 7 && fde.length > 0 {
+            return fde.start.wrapping_add(below(fde.length));
+        }
+        let around = last.wrapping_sub(first).saturating_add(128);
+        first.wrapping_sub(64).wrapping_add(below(around))
+    };
+    (0..fdes.len()).map(&mut address).collect()
 }
 
 /// The sections of a file that are compared, by name. A missing section is left out.

@@ -1,22 +1,25 @@
-use Rattle.std.proofs.Common.{◌-◌, ap, ◌∙◌, arith}
-use Rattle.cfi_compiled.specs.CompiledTables.{parts_at}
-use Rattle.cfi_compiled.proofs.Searched.{IsNarrowed, found_at, found_before}
+use Rattle.std.proofs.Common.{◌≡◌, refl, sym, ap, ◌∙◌, arith}
+use Rattle.cfi_compiled.specs.declared.step_list.NumberedStep.{NumberedStep}
+use Rattle.cfi_compiled.specs.CompiledTables.{parts_at, parts_numbered}
+use Rattle.cfi_compiled.specs.StepLists.{numbered}
+use Rattle.cfi_compiled.proofs.Searched.{found_at, found_before}
 use Rattle.cfi_compiled.proofs.table.CompiledTable.row.Goals as goal
 
-pub returns-then-first-eq0 : goal.returns-then-first-eq0
-returns-then-first-eq0 c =
-    let narrowed : IsNarrowed c.self.inside.numbers.items c.args.address c.loop-len.first c.loop-len.len = rw c.as_slice-steps.ensures.value at c.loop-len.invariant in
-    found_before c.self.inside.results.items c.self.inside.numbers.items c.args.address
-    (λ d some. narrowed.up_to 0 d (omega (arith, c.if-first-eq0.true, c.loop-len-test.false, narrowed.some)) some)
+pub returns-in-Some : goal.returns-in-Some
+returns-in-Some c =
+    let results = c.self.inside.results.items in
+    let steps = numbered c.self.inside.steps in
+    let none : NumberedStep = record { start = 0; number = 0 } in
+    let found = c.in-Some.ensures in
+    let split = found.1 in
+    let got = rw c.as_slice.ensures.value at c.result_at.ensures in
+    got
+    ∙ ap (parts_numbered results) (sym (found.2 none))
+    ∙ found_at results steps c.args.address c.self.invariant.0 none found.0 (omega (arith, split.inside)) (split.from found.0 none refl) (λ j is more. split.up_to j none is more)
     ∙ ap (λ f. parts_at f c.args.address) c.self.view_is
 
-pub returns : goal.returns
-returns c =
-    let narrowed : IsNarrowed c.self.inside.numbers.items c.args.address c.loop-len.first c.loop-len.len = rw c.as_slice-steps.ensures.value at c.loop-len.invariant in
-    let got = rw (c.as_slice.ensures.value, c.as_slice-steps.ensures.value) at c.result_at.ensures in
-    got
-    ∙ found_at c.self.inside.results.items c.self.inside.numbers.items c.args.address c.self.invariant.0 _ (c.loop-len.first - 1)
-    (omega (arith, narrowed.inside, narrowed.some, c.if-first-eq0.false))
-    (narrowed.from (c.loop-len.first - 1) _ (omega (arith, c.if-first-eq0.false)))
-    (λ j is more. narrowed.up_to j _ (omega (arith, is, c.loop-len-test.false, narrowed.some, c.if-first-eq0.false)) more)
+pub returns-in-None : goal.returns-in-None
+returns-in-None c =
+    let split = c.in-None.ensures in
+    found_before c.self.inside.results.items (numbered c.self.inside.steps) c.args.address (λ d some. split.up_to 0 d refl some)
     ∙ ap (λ f. parts_at f c.args.address) c.self.view_is

@@ -1,4 +1,4 @@
-use Rattle.std.proofs.Common.{ap, ◌∙◌, Ok}
+use Rattle.std.proofs.Common.{ap, ◌∙◌, Ok, refl}
 use Rattle.std.proofs.lemmas.Result.{err_from_is_err_and}
 use Rattle.cfi_unwind.proofs.TableSteps.{table-ended, table-refuses, table-row, table-last, comes-due, keeps-expressions, keeps-on}
 use Rattle.cfi_unwind.proofs.unwind_table.UnwindTable.advance.Goals as goal
@@ -57,3 +57,11 @@ returns-in-Some-clause-expressions g c = keeps-expressions _ _ _ _ _ (returns-in
 
 pub returns-in-None-clause-expressions : goal.returns-in-None-clause-expressions
 returns-in-None-clause-expressions g c = keeps-expressions _ _ _ _ _ (returns-in-None-clause-next g c)
+
+pub returns-then-self-clause-holds_row : goal.returns-then-self-clause-holds_row
+returns-then-self-clause-holds_row g c = refl
+
+pub returns-in_err-moved-clause-holds_row : goal.returns-in_err-moved-clause-holds_row
+returns-in_err-moved-clause-holds_row g c =
+    let p = err_from_is_err_and c.from_residual.result c.from_residual.ensures.1 in
+    rw p.1 refl

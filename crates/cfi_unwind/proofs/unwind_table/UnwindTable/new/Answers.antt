@@ -18,3 +18,9 @@ returns-clause-starts g c =
 pub returns-clause-setting : goal.returns-clause-setting
 returns-clause-setting g c =
     if_ok c.with_instructions.result (λ table same rules stack. ap (λ p. setting_of p rules stack) same ∙ c.parameters.ensures.setting rules stack) c.with_instructions.ensures.parameters
+
+pub returns-clause-holds_row : goal.returns-clause-holds_row
+returns-clause-holds_row g c = c.with_instructions.ensures.holds_row
+
+pub returns-clause-same_reference : goal.returns-clause-same_reference
+returns-clause-same_reference g c = c.with_instructions.ensures.same_reference

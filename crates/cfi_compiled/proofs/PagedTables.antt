@@ -1,0 +1,30 @@
+-- All steps in pages.
+use Rattle.std.proofs.Common.{◌≡◌, ℕ, zero, suc, ◌+◌, ◌/◌, ◌<◌, ◌≤◌, List, [], ◌∷◌, ◌++◌, length, take, get_or, refl, sym, ap, ◌∙◌, arith}
+use Rattle.cfi_compiled.specs.declared.step_list.NumberedStep.{NumberedStep}
+use Rattle.cfi_compiled.specs.PagedSteps.{PagedView}
+use Rattle.cfi_compiled.specs.SearchedSteps.{Ascend}
+
+at_least : (steps : List NumberedStep) (low : ℕ) → Ascend low steps → (j : ℕ) (d : NumberedStep) → j < length steps → low ≤ (get_or steps j d).start
+at_least [] low ascend j d inside = absurd (omega arith)
+at_least (first ∷ steps) low ascend zero d inside = ascend.0
+at_least (first ∷ steps) low ascend (suc j) d inside = let rest = at_least steps (first.start + 1) ascend.1 j d (omega arith) in omega (arith, rest, ascend.0)
+
+pub in_order : (steps : List NumberedStep) (low : ℕ) → Ascend low steps → (i j : ℕ) (d : NumberedStep) → i ≤ j → j < length steps → (get_or steps i d).start ≤ (get_or steps j d).start
+in_order [] low ascend i j d order inside = absurd (omega arith)
+in_order (first ∷ steps) low ascend zero zero d order inside = omega arith
+in_order (first ∷ steps) low ascend zero (suc j) d order inside = let rest = at_least steps (first.start + 1) ascend.1 j d (omega arith) in omega (arith, rest)
+in_order (first ∷ steps) low ascend (suc i) zero d order inside = absurd (omega arith)
+in_order (first ∷ steps) low ascend (suc i) (suc j) d order inside = in_order steps (first.start + 1) ascend.1 i j d (omega arith) (omega arith)
+
+pub pages_in_order : (steps : List NumberedStep) → Ascend 0 steps → (i j : ℕ) (d : NumberedStep) → i ≤ j → j < length steps → (get_or steps i d).start / 65536 ≤ (get_or steps j d).start / 65536
+pages_in_order steps ascend i j d order inside = let up = in_order steps 0 ascend i j d order inside in omega (arith, up)
+
+-- while steps are added
+pub record IsPaging (steps : List NumberedStep) (index : ℕ) (view : PagedView) : Type 0 where
+  pub so_far : view.steps ≡ take index steps
+  pub page : (d : NumberedStep) → index < length steps → view.page ≤ (get_or steps index d).start / 65536
+
+pub any_default : (steps : List NumberedStep) (i : ℕ) (d e : NumberedStep) → i < length steps → get_or steps i d ≡ get_or steps i e
+any_default [] i d e inside = absurd (omega arith)
+any_default (step ∷ steps) zero d e inside = refl
+any_default (step ∷ steps) (suc i) d e inside = any_default steps i d e (omega arith)

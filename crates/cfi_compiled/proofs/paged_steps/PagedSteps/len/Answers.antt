@@ -1,0 +1,10 @@
+use Rattle.std.proofs.Common.{length, sym, ap, ◌∙◌, arith}
+use Rattle.cfi_compiled.specs.PagedSteps.{PagedView}
+use Rattle.cfi_compiled.proofs.PagedSearch.{how_many}
+use Rattle.cfi_compiled.proofs.paged_steps.PagedSteps.len.Goals as goal
+
+pub returns : goal.returns
+returns c =
+    let many = how_many c.self.inside.lead c.self.inside.first c.self.inside.ends.items c.self.inside.steps.items c.self.invariant in
+    let is = ap (λ (v : PagedView). length v.steps) c.self.view_is in
+    omega (arith, many, is, c.len.ensures)

@@ -1,0 +1,216 @@
+//! Steps of four bytes each.
+ghost use Rattle.std.specs.Prelude.{◌≡◌, ◌≤◌, ◌<◌, ◌+◌, ◌/◌, ◌^◌, ◌∷◌, ◌++◌, [], length, get_or, IfOk, IfSome, OnOk};
+ghost use Rattle.cfi_compiled.specs.PagedSteps.{IsSplitIn, Rising, begin_of, pages_passed};
+ghost use Rattle.cfi_compiled.specs.SearchedSteps.{Ascend, IsNumberAt, IsSplit, IsStepAt};
+
+use crate::step_list::NumberedStep;
+use crate::steps::NoMemory;
+use std::alloc::Global;
+use std::marker::Model;
+
+/// How many addresses a page has.
+const PAGE: u64 = 65536;
+
+/// A step: its distance from the beginning of its page, and its number.
+#[derive(Clone, Copy, Debug)]
+struct PagedStep {
+    offset: u16,
+    number: u16,
+}
+
+/// Steps by pages of 65536 addresses, from the page `first` on.
+///
+/// The first step is at address 0, and only its number is kept, as `lead`. For each page but the
+/// last `ends` has the number of steps up to its end, without the first step.
+#[derive(Debug, Drop)]
+pub(crate) struct PagedSteps {
+    lead: u16,
+    first: u64,
+    ends: Vec<u32>,
+    steps: Vec<PagedStep>,
+}
+
+impl Model for PagedSteps {
+    ghost use Rattle.cfi_compiled.specs.PagedSteps.{IsPaged, PagedView, view_of};
+
+    ghost Value = { PagedView };
+
+    ghost view = { λ s. view_of s.lead s.first s.ends.items s.steps.items };
+
+    ghost invariant = { λ s. IsPaged s.first s.ends.items s.steps.items };
+}
+
+impl PagedSteps {
+    /// These steps in pages; `None` if they don't begin at 0, if a number has more than 16 bits, or
+    /// if there are more pages than steps.
+    pub(crate) fn of(alloc: Global, steps: &[NumberedStep]) -> Result<Option<Self>, NoMemory>
+        requires { Ascend 0 steps.now }
+        ensures { IfOk result (λ paged. IfSome paged (λ paged. paged.steps ≡ steps.now)) }
+    {
+        if steps.len() < 2 || steps.len() > u32::MAX as usize || steps[0].start != 0 {
+            return Ok(None);
+        }
+        let first = steps[1].start / PAGE;
+        let pages = steps[steps.len() - 1].start / PAGE - first;
+        let Ok(lead) = u16::try_from(steps[0].number) else {
+            return Ok(None);
+        };
+        if pages > steps.len() as u64 {
+            return Ok(None);
+        }
+        let mut paged = PagedSteps::new(alloc, lead, first, steps.len() - 1)?;
+        for index in 1..steps.len() {
+            let step = steps[index];
+            let Ok(number) = u16::try_from(step.number) else {
+                return Ok(None);
+            };
+            paged.push(step.start, number)?;
+        }
+        Ok(Some(paged))
+    }
+
+    /// The first step alone, with room for as many more.
+    fn new(alloc: Global, lead: u16, first: u64, room: usize) -> Result<Self, NoMemory>
+        requires { first < 2 ^ 48 }
+        ensures { IfOk result (λ paged. paged ≡ record {
+          page = first;
+          steps = record { start = 0; number = lead } ∷ [];
+        }) }
+    {
+        Ok(PagedSteps {
+            lead,
+            first,
+            ends: Vec::new(alloc),
+            steps: Vec::with_capacity(alloc, room)?,
+        })
+    }
+
+    /// One more step, in the page of the last one or a later one.
+    fn push(&mut self, start: u64, number: u16) -> Result<(), NoMemory>
+        requires page { self.old.page ≤ start / 65536 }
+        requires room { length self.old.steps < 2 ^ 32 }
+        ensures page { OnOk result (self.new.page ≡ start / 65536) }
+        ensures steps { OnOk result (self.new.steps
+            ≡ self.old.steps ++ record { start = start; number = number } ∷ []) }
+    {
+        let pages = start / PAGE - self.first;
+        let count = self.steps.len() as u32;
+        while (self.ends.len() as u64) < pages {
+            self.ends.push(count)?;
+        }
+        self.steps.push(PagedStep {
+            offset: (start % PAGE) as u16,
+            number,
+        })?;
+        Ok(())
+    }
+
+    /// The number of the last step at or below an address.
+    #[inline(always)]
+    pub(crate) fn number_at(&self, address: u64) -> usize
+        ensures { IsNumberAt self.now.steps address (Some result) }
+    {
+        let count = self.count_to(address);
+        if count == 0 {
+            return usize::from(self.lead);
+        }
+        usize::from(self.steps[count - 1].number)
+    }
+
+    /// How many steps after the first one are at or below an address. Only those of the address's
+    /// page are looked at.
+    #[inline(always)]
+    fn count_to(&self, address: u64) -> usize
+        ensures { IsSplit self.now.steps address (result + 1) }
+    {
+        let page = address / PAGE;
+        if page < self.first {
+            return 0;
+        }
+        let ends = self.ends.as_slice();
+        let begin = begin_of(ends, self.steps.len(), page - self.first);
+        let end = begin_of(ends, self.steps.len(), page - self.first + 1);
+        let offset = (address % PAGE) as u16;
+        count_up_to(self.steps.as_slice(), begin, end, offset)
+    }
+
+    /// How many steps there are.
+    pub(crate) fn len(&self) -> usize
+        ensures { result ≡ length self.now.steps }
+    {
+        self.steps.len() + 1
+    }
+
+    /// The step with an index.
+    pub(crate) fn get(&self, index: usize) -> Option<NumberedStep>
+        ensures step { IsStepAt self.now.steps index result }
+        ensures room { IfSome result (λ _. index + 1 < 2 ^ 64) }
+    {
+        if index == 0 {
+            let number = usize::from(self.lead);
+            return Some(NumberedStep { start: 0, number });
+        }
+        if index > self.steps.len() {
+            return None;
+        }
+        let step = self.steps[index - 1];
+        let page = self.first + pages_passed(self.ends.as_slice(), index - 1) as u64;
+        Some(NumberedStep {
+            start: page * PAGE + u64::from(step.offset),
+            number: usize::from(step.number),
+        })
+    }
+}
+
+/// The index of the first step of a page: where the page before it ends.
+#[inline(always)]
+fn begin_of(ends: &[u32], count: usize, page: u64) -> usize
+    ensures { result ≡ begin_of ends.now count page }
+{
+    if page == 0 {
+        return 0;
+    }
+    if page > ends.len() as u64 {
+        return count;
+    }
+    ends[(page - 1) as usize] as usize
+}
+
+/// The index behind the last of the steps from `begin` up to `end` whose offset is at or below this
+/// one.
+#[inline(always)]
+fn count_up_to(steps: &[PagedStep], begin: usize, end: usize, offset: u16) -> usize
+    requires order { begin ≤ end }
+    requires inside { end ≤ length steps.now }
+    ensures { IsSplitIn steps.now begin end offset result }
+{
+    let mut low = begin;
+    let mut high = end;
+    while low < high {
+        let middle = low + (high - low) / 2;
+        if steps[middle].offset <= offset {
+            low = middle + 1;
+        } else {
+            high = middle;
+        }
+    }
+    low
+}
+
+/// How many pages end at or before the step with an index.
+fn pages_passed(ends: &[u32], index: usize) -> usize
+    requires { Rising ends.now }
+    ensures { result ≡ pages_passed ends.now index }
+{
+    let mut low = 0;
+    let mut high = ends.len();
+    while low < high {
+        let middle = low + (high - low) / 2;
+        if ends[middle] as usize <= index {
+            low = middle + 1;
+        } else {
+            high = middle;
+        }
+    }
+    low
+}

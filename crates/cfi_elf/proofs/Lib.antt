@@ -1,0 +1,3 @@
+pub mod EntrySteps
+pub mod NameSteps
+mod Worked

@@ -1,0 +1,114 @@
+-- A file of 32 bits, the most significant byte first, by computation; headers and symbols of 64 bits.
+use Rattle.std.proofs.Common.{◌≡◌, ℕ, ◌+◌, ◌-◌, ◌*◌, List, [], ◌∷◌, codes, length, true, false, Option, Some, None, Result, Ok, Err, refl}
+use Rattle.std.specs.Prelude.{nat_lt, ◌==◌, if◌then◌else◌, drop, take}
+use Rattle.cfi_read_core.specs.declared.endianity.RunTimeEndian.TheVariants.{Big}
+use Rattle.cfi_read_core.specs.Numbers.{unsigned}
+use Rattle.cfi_elf.specs.declared.error.ElfError.{ElfError}
+use Rattle.cfi_elf.specs.declared.error.ElfError.TheVariants.{NotElf, HeaderCut, Relocatable, SectionTableOutOfBounds, NameOutOfBounds, NameNotTerminated}
+use Rattle.cfi_elf.specs.declared.file_header.Class.TheVariants.{Elf32, Elf64}
+use Rattle.cfi_elf.specs.FileHeaders.{identification, object_kind, table_offsets, table_sizes, file_header}
+use Rattle.cfi_elf.specs.Results.{and_then, entries, read_from}
+use Rattle.cfi_elf.specs.SectionHeaders.{section_identity, section_place, section_header}
+use Rattle.cfi_elf.specs.ProgramHeaders.{segment_place, program_header}
+use Rattle.cfi_elf.specs.ElfFiles.{File, elf_file}
+use Rattle.cfi_elf.specs.Sections.{first_section_header, section_count, section_table, contents, name_at, name_section, names_at, section_names, is_named, header_named, section_named, debug_frame}
+use Rattle.cfi_elf.specs.Segments.{segment_count, program_table, wanted_segment, loaded_bytes, eh_frame_hdr_segment}
+use Rattle.cfi_elf.specs.Symbols.{symbol_64}
+
+-- to name it on an `unfolding` line is to open all these
+unfoldable computing : ℕ
+unfolding unsigned identification object_kind table_offsets table_sizes file_header entries section_identity section_place section_header segment_place program_header elf_file first_section_header section_count section_table contents name_at name_section names_at section_names is_named header_named section_named debug_frame segment_count program_table wanted_segment loaded_bytes eh_frame_hdr_segment symbol_64
+computing = 0
+
+-- the bytes of hexadecimal text, whose letters are small
+abbrev digit_of : ℕ → ℕ
+digit_of c = if nat_lt c 58 then c - 48 else c - 87
+
+abbrev bytes_behind : Option ℕ → List ℕ → List ℕ
+bytes_behind high [] = []
+bytes_behind None (c ∷ cs) = bytes_behind (Some (digit_of c)) cs
+bytes_behind (Some high) (c ∷ cs) = (16 * high + digit_of c) ∷ bytes_behind None cs
+
+-- ELFCLASS32, ELFDATA2MSB, ET_EXEC, EM_MIPS: the header, a segment of type PT_LOAD, four bytes, the names, three section headers
+abbrev header_bytes : List ℕ
+header_bytes = bytes_behind None (codes "7f454c46010201000000000000000000000200080000000100001054000000340000006600000000003400200001002800030002")
+
+abbrev worked : List ℕ
+worked = bytes_behind None (codes "7f454c460102010000000000000000000002000800000001000010540000003400000066000000000034002000010028000300020000000100000054000010540000105400000004000000080000000500000001909192c3002e74657874002e6e616d657300000000000000000000000000000000000000000000000000000000000000000000000001000000000000000100000001000000060000105400000054000000040000000000000000000000010000000000000007000000030000000000000000000000580000000e00000000000000000000000100000000")
+
+-- what a definition says of the file
+abbrev of_worked : {A : Type 0} → (File → Result A ElfError) → Result A ElfError
+of_worked f = and_then (elf_file worked) f
+
+its_header : of_worked (λ file. Ok file.header) ≡ Ok (record {
+  kind = record { e_type = 2; e_machine = 8; e_version = 1 };
+  offsets = record { e_phoff = 52; e_shoff = 102 };
+  sizes = record { e_phentsize = 32; e_phnum = 1; e_shentsize = 40; e_shnum = 3; e_shstrndx = 2 };
+})
+unfolding computing
+its_header = refl
+
+its_identification : of_worked (λ file. Ok file.identification) ≡ Ok (record { class = Elf32; «data» = Big })
+unfolding computing
+its_identification = refl
+
+its_text : of_worked (λ file. section_named file (codes ".text")) ≡ Ok (Some (record { address = 0x1054; bytes = 0x90 ∷ 0x91 ∷ 0x92 ∷ 0xc3 ∷ [] }))
+unfolding computing
+its_text = refl
+
+no_beginning_of_a_name : of_worked (λ file. section_named file (codes ".tex")) ≡ Ok None
+unfolding computing
+no_beginning_of_a_name = refl
+
+loaded_in_the_middle : of_worked (λ file. loaded_bytes file 0x1056) ≡ Ok (Some (0x92 ∷ 0xc3 ∷ []))
+unfolding computing
+loaded_in_the_middle = refl
+
+-- the segment has eight bytes in memory, and four in the file
+not_in_the_file : of_worked (λ file. loaded_bytes file 0x1058) ≡ Ok None
+unfolding computing
+not_in_the_file = refl
+
+no_header_segment : of_worked eh_frame_hdr_segment ≡ Ok None
+unfolding computing
+no_header_segment = refl
+
+-- ---- cut, and changed
+
+a_header_less_a_byte : elf_file (take 51 header_bytes) ≡ Err HeaderCut
+unfolding computing
+a_header_less_a_byte = refl
+
+no_section_headers_there : and_then (elf_file header_bytes) (λ file. section_named file (codes ".text")) ≡ Err SectionTableOutOfBounds
+unfolding computing
+no_section_headers_there = refl
+
+empty_file : elf_file [] ≡ Err NotElf
+unfolding computing
+empty_file = refl
+
+-- ---- names
+
+no_name : name_at [] 0 ≡ Ok []
+unfolding computing
+no_name = refl
+
+name_behind_the_table : name_at (0 ∷ 0x61 ∷ 0 ∷ []) 3 ≡ Err NameOutOfBounds
+unfolding computing
+name_behind_the_table = refl
+
+unterminated : name_at (0 ∷ 0x61 ∷ []) 1 ≡ Err NameNotTerminated
+unfolding computing
+unterminated = refl
+
+-- ---- of 64 bits, the least significant byte first
+
+segment_of_64_bits : read_from false (bytes_behind None (codes "0100000005000000000200000000000000124000000000000012400000000000300000000000000040000000000000000010000000000000")) (program_header Elf64)
+    ≡ Ok (record { p_type = 1; place = record { p_offset = 0x200; p_vaddr = 0x401200; p_filesz = 0x30 } })
+unfolding computing
+segment_of_64_bits = refl
+
+symbol_of_64_bits : read_from false (bytes_behind None (codes "010000001200070000124000000000003000000000000000")) symbol_64
+    ≡ Ok (record { st_name = 1; st_value = 0x401200; st_size = 0x30; st_info = 0x12; st_shndx = 7 })
+unfolding computing
+symbol_of_64_bits = refl

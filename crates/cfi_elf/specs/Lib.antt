@@ -1,0 +1,9 @@
+pub mod Results
+pub mod FileHeaders
+pub mod SectionHeaders
+pub mod ProgramHeaders
+pub mod ElfFiles
+pub mod Sections
+pub mod Segments
+pub mod Symbols
+pub mod SymbolTables

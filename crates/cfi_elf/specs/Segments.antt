@@ -1,0 +1,72 @@
+-- What a file has loaded at an address, by its program headers (System V ABI chapter 5, "Program Header", "Program Loading").
+use Rattle.std.specs.Prelude.{ℕ, ◌-◌, ◌+◌, Bool, not, ◌&&◌, List, Option, Some, None, Result, Ok, Err, drop, find, nat_le, nat_lt, ◌==◌, if◌then◌else◌}
+use Rattle.cfi_elf.specs.declared.error.ElfError.{ElfError}
+use Rattle.cfi_elf.specs.declared.error.ElfError.TheVariants.{ProgramEntrySize, ProgramTableOutOfBounds, SegmentOutOfBounds}
+use Rattle.cfi_elf.specs.declared.program_header.ProgramHeader.{ProgramHeader}
+use Rattle.cfi_elf.specs.declared.segments.Wanted.{Wanted}
+use Rattle.cfi_elf.specs.declared.segments.Wanted.TheVariants.{OfType, LoadedAt}
+use Rattle.cfi_elf.specs.Results.{Table, and_then, or_missing, part, entries_of, table_of, no_entries}
+use Rattle.cfi_elf.specs.ProgramHeaders.{program_header, program_header_size}
+use Rattle.cfi_elf.specs.ElfFiles.{File, class_of_file, is_big_file}
+use Rattle.cfi_elf.specs.Sections.{Section, first_section_header}
+
+-- ---- the program header table
+
+-- e_phnum, or where it is PN_XNUM and there are section headers sh_info of section 0
+unfoldable pub segment_count : File → Result ℕ ElfError
+segment_count file =
+    if (file.header.sizes.e_phnum == 0xffff) && not (file.header.offsets.e_shoff == 0)
+    then and_then (first_section_header file) (λ first. Ok first.place.sh_info)
+    else Ok file.header.sizes.e_phnum
+
+-- none where e_phoff is 0
+unfoldable pub program_table : File → Result Table ElfError
+program_table file =
+    let offset = file.header.offsets.e_phoff in
+    let size = program_header_size (class_of_file file) in
+    if offset == 0 then Ok no_entries
+    else if not (file.header.sizes.e_phentsize == size) then Err (ProgramEntrySize file.header.sizes.e_phentsize)
+    else and_then (segment_count file) (λ count. or_missing ProgramTableOutOfBounds (table_of file.bytes offset count size))
+
+-- the program headers of a table, in their order
+abbrev pub program_headers : File → Table → List ProgramHeader
+program_headers file table = entries_of (is_big_file file) table (program_header (class_of_file file))
+
+-- ---- segments
+
+-- whether a segment is loaded (PT_LOAD is 1), and the address is that of one of its bytes in the file
+abbrev pub is_loaded_at : ℕ → ProgramHeader → Bool
+is_loaded_at address header =
+    (header.p_type == 1) && (nat_le header.place.p_vaddr address && nat_lt address (header.place.p_vaddr + header.place.p_filesz))
+
+abbrev pub is_wanted : Wanted → ProgramHeader → Bool
+is_wanted (OfType p_type) header = header.p_type == p_type
+is_wanted (LoadedAt address) header = is_loaded_at address header
+
+-- the first program header that is wanted
+unfoldable pub wanted_segment : File → Wanted → Result (Option ProgramHeader) ElfError
+wanted_segment file wanted = and_then (program_table file) (λ table. Ok (find (is_wanted wanted) (program_headers file table)))
+
+-- the bytes of a segment in the file
+abbrev pub segment_bytes : File → ProgramHeader → Result (List ℕ) ElfError
+segment_bytes file header = or_missing SegmentOutOfBounds (part file.bytes header.place.p_offset header.place.p_filesz)
+
+-- a segment's address and bytes
+abbrev pub segment_of : File → Option ProgramHeader → Result (Option Section) ElfError
+segment_of file None = Ok None
+segment_of file (Some header) =
+    and_then (segment_bytes file header) (λ bytes. Ok (Some (record { address = header.place.p_vaddr; bytes = bytes })))
+
+-- the first segment of type PT_GNU_EH_FRAME, which has the header of call frame information (LSB Core, "Program Header")
+unfoldable pub eh_frame_hdr_segment : File → Result (Option Section) ElfError
+eh_frame_hdr_segment file = and_then (wanted_segment file (OfType 0x6474e550)) (segment_of file)
+
+-- a segment's bytes in the file, from an address on
+abbrev pub bytes_after : File → ℕ → Option ProgramHeader → Result (Option (List ℕ)) ElfError
+bytes_after file address None = Ok None
+bytes_after file address (Some header) =
+    and_then (segment_bytes file header) (λ bytes. Ok (Some (drop (address - header.place.p_vaddr) bytes)))
+
+-- the file's bytes from an address up to the end of those of the first loaded segment that has it
+unfoldable pub loaded_bytes : File → ℕ → Result (Option (List ℕ)) ElfError
+loaded_bytes file address = and_then (wanted_segment file (LoadedAt address)) (bytes_after file address)

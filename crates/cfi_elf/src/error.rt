@@ -1,0 +1,95 @@
+//! Why a file can't be read.
+use std::fmt;
+
+/// Why an ELF file, or a part of it, can't be read. `Display` writes one sentence, with the value
+/// that the error carries if any.
+#[derive(Clone, Copy, Debug, PartialEq, Eq)]
+pub enum ElfError {
+    /// The file doesn't begin with the four bytes of `EI_MAG0` to `EI_MAG3`.
+    NotElf,
+    /// The file ends before its header does.
+    HeaderCut,
+    /// `EI_CLASS` is neither `ELFCLASS32` nor `ELFCLASS64`. Carries the byte.
+    UnknownClass(u8),
+    /// `EI_DATA` is neither `ELFDATA2LSB` nor `ELFDATA2MSB`. Carries the byte.
+    UnknownDataEncoding(u8),
+    /// `EI_VERSION` or `e_version` is not `EV_CURRENT`. Carries the version.
+    UnknownVersion(u32),
+    /// A relocatable file (`ET_REL`): its sections have no addresses yet.
+    Relocatable,
+    /// A core file (`ET_CORE`).
+    Core,
+    /// `e_shentsize` is not the size of a section header. Carries `e_shentsize`.
+    SectionEntrySize(u16),
+    /// The section header table goes past the end of the file.
+    SectionTableOutOfBounds,
+    /// The index of the section name string table is not that of a section header. Carries it.
+    NoNameSection(u32),
+    /// A section goes past the end of the file.
+    SectionOutOfBounds,
+    /// A section is compressed (`SHF_COMPRESSED`, or a name that begins with `.zdebug`).
+    Compressed,
+    /// A name begins past the end of its string table.
+    NameOutOfBounds,
+    /// A name isn't terminated in its string table.
+    NameNotTerminated,
+    /// `e_phentsize` is not the size of a program header. Carries `e_phentsize`.
+    ProgramEntrySize(u16),
+    /// The program header table goes past the end of the file.
+    ProgramTableOutOfBounds,
+    /// The file's bytes of a segment go past the end of the file.
+    SegmentOutOfBounds,
+}
+
+impl fmt::Display for ElfError {
+    fn fmt<W: fmt::Write>(&self, f: &mut fmt::Formatter<W>) -> fmt::Result {
+        let sentence = self.sentence();
+        match self.number() {
+            Some(number) => write!(f, "{sentence}{number}"),
+            None => f.write_str(sentence),
+        }
+    }
+}
+
+impl std::error::Error for ElfError {}
+
+impl ElfError {
+    /// The value that the error carries, if any.
+    fn number(&self) -> Option<u32> {
+        match *self {
+            ElfError::UnknownClass(byte) | ElfError::UnknownDataEncoding(byte) => Some(u32::from(
+                byte,
+            )),
+            ElfError::SectionEntrySize(size) | ElfError::ProgramEntrySize(size) => Some(u32::from(
+                size,
+            )),
+            ElfError::UnknownVersion(number) | ElfError::NoNameSection(number) => Some(number),
+            _ => None,
+        }
+    }
+
+    /// The sentence, up to the value if there is one.
+    fn sentence(&self) -> &'static str {
+        match self {
+            ElfError::NotElf => "not an ELF file",
+            ElfError::HeaderCut => "the file ends in its header",
+            ElfError::UnknownClass(_) => "unknown class ",
+            ElfError::UnknownDataEncoding(_) => "unknown data encoding ",
+            ElfError::UnknownVersion(_) => "unknown version ",
+            ElfError::Relocatable => "a relocatable file has no addresses",
+            ElfError::Core => "a core file has no sections",
+            ElfError::SectionEntrySize(_) => "section headers of size ",
+            ElfError::SectionTableOutOfBounds =>
+                "the section header table goes past the file's end",
+            ElfError::NoNameSection(_) => "there is no section header for names at index ",
+            ElfError::SectionOutOfBounds => "a section goes past the file's end",
+            ElfError::Compressed => "the section is compressed",
+            ElfError::NameOutOfBounds => "a name is not in its string table",
+            ElfError::NameNotTerminated => "a name is not terminated",
+            ElfError::ProgramEntrySize(_) => "program headers of size ",
+            ElfError::ProgramTableOutOfBounds =>
+                "the program header table goes past the file's end",
+            ElfError::SegmentOutOfBounds => "a segment goes past the file's end",
+        }
+    }
+}

@@ -1,0 +1,23 @@
+#![tactic(auto)]
+//! ELF files: the sections, segments and symbols that call frames need of a program or library
+//! (System V ABI, chapter 4 "Object Files" and chapter 5 "Program Loading and Dynamic Linking").
+//!
+//! `elf_file` reads the file header, `sections` finds sections by name, `segments` what is loaded
+//! at an address. Nothing is copied and nothing is allocated.
+
+mod bytes;
+pub mod elf_file;
+pub mod error;
+pub mod file_header;
+mod program_header;
+mod section_header;
+mod sections;
+mod segments;
+mod symbol;
+mod symbols;
+mod table;
+
+pub use elf_file::{ElfFile, Section};
+pub use error::ElfError;
+pub use file_header::{Class, FileHeader};
+pub use symbols::Function;

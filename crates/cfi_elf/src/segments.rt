@@ -1,0 +1,170 @@
+//! What a file has loaded at an address, by its program headers (System V ABI chapter 5, "Program
+//! Header").
+ghost use Rattle.std.specs.Prelude.{◌≡◌, find, option_map};
+ghost use Rattle.cfi_read_core.specs.ReaderCalls.{map_ok};
+ghost use Rattle.cfi_elf.specs.Results.{entries, table_view};
+ghost use Rattle.cfi_elf.specs.ElfFiles.{file_view};
+ghost use Rattle.cfi_elf.specs.ProgramHeaders.{program_header};
+ghost use Rattle.cfi_elf.specs.Sections.{section_view};
+ghost use Rattle.cfi_elf.specs.Segments.{eh_frame_hdr_segment, is_loaded_at, is_wanted};
+ghost use Rattle.cfi_elf.specs.Segments.{loaded_bytes, program_table, segment_bytes};
+ghost use Rattle.cfi_elf.specs.Segments.{segment_count, wanted_segment};
+
+use crate::bytes::{bytes_from, part};
+use crate::elf_file::{ElfFile, Section};
+use crate::error::ElfError;
+use crate::file_header::Class;
+use crate::program_header::{ProgramHeader, program_header_size, read_program_header};
+use crate::table::{Table, table_of};
+use cfi_read_core::{EndianSlice, Reader};
+
+const PN_XNUM: u16 = 0xffff;
+
+const PT_LOAD: u32 = 1;
+
+const PT_GNU_EH_FRAME: u32 = 0x6474_e550;
+
+/// Which segment is looked for.
+#[derive(Clone, Copy)]
+enum Wanted {
+    /// One of this `p_type`.
+    OfType(u32),
+    /// One that is loaded, and whose bytes in the file have this address.
+    LoadedAt(u64),
+}
+
+impl<'input> ElfFile<'input> {
+    /// The segment of type `PT_GNU_EH_FRAME`: the address and the bytes of `.eh_frame_hdr`, which
+    /// need no section headers. Returns `None` where the file has no such segment.
+    ///
+    /// Fails with `ProgramEntrySize` or `ProgramTableOutOfBounds` for the program headers, with
+    /// `SectionTableOutOfBounds` if their number is in section 0 and that goes past the file's end,
+    /// and with `SegmentOutOfBounds`. Does not allocate (LSB Core, "Program Header").
+    #[tactic(auto, unfolding(crate::specs::Segments::eh_frame_hdr_segment))]
+    pub fn eh_frame_hdr_segment(&self) -> Result<Option<Section<'input>>, ElfError>
+        ensures { map_ok (option_map section_view) result
+            ≡ eh_frame_hdr_segment (file_view self.now) }
+    {
+        let Some(header) = self.wanted_segment(Wanted::OfType(PT_GNU_EH_FRAME))? else {
+            return Ok(None);
+        };
+        let bytes = self.segment_bytes(&header)?;
+        Ok(Some(Section {
+            address: header.place.p_vaddr,
+            bytes,
+        }))
+    }
+
+    /// The file's bytes that are loaded from this address on, up to the end of the file's bytes of
+    /// the first `PT_LOAD` segment that has the address. Returns `None` where no segment has it.
+    ///
+    /// So `.eh_frame` is found without section headers: it begins where the pointer of
+    /// `.eh_frame_hdr` says. The bytes go on to the end of the segment, so what follows `.eh_frame`
+    /// there comes with it.
+    ///
+    /// Fails as `eh_frame_hdr_segment`. Does not allocate (System V ABI chapter 5).
+    #[tactic(auto, unfolding(crate::specs::Segments::loaded_bytes))]
+    pub fn loaded_bytes(&self, address: u64) -> Result<Option<&'input [u8]>, ElfError>
+        ensures { map_ok (option_map (λ bytes. bytes.now)) result
+            ≡ loaded_bytes (file_view self.now) address }
+    {
+        let Some(header) = self.wanted_segment(Wanted::LoadedAt(address))? else {
+            return Ok(None);
+        };
+        let bytes = self.segment_bytes(&header)?;
+        Ok(Some(bytes_from(bytes, address.saturating_sub(header.place.p_vaddr))))
+    }
+
+    /// The first program header that is wanted.
+    #[tactic(auto, unfolding(crate::specs::Segments::wanted_segment))]
+    fn wanted_segment(&self, wanted: Wanted) -> Result<Option<ProgramHeader>, ElfError>
+        ensures { result ≡ wanted_segment (file_view self.now) wanted }
+    {
+        let table = self.program_table()?;
+        let headers = EndianSlice::new(table.bytes, self.identification.data);
+        Ok(first_wanted(self.identification.class, table.count, headers, wanted))
+    }
+
+    /// The table of program headers; an empty one where the file has none.
+    #[tactic(auto, unfolding(crate::specs::Segments::program_table))]
+    fn program_table(&self) -> Result<Table<'input>, ElfError>
+        ensures { map_ok table_view result ≡ program_table (file_view self.now) }
+    {
+        let offset = self.header.offsets.e_phoff;
+        if offset == 0 {
+            return Ok(Table {
+                count: 0,
+                bytes: &[],
+            });
+        }
+        let size = program_header_size(self.identification.class);
+        if u64::from(self.header.sizes.e_phentsize) != size {
+            return Err(ElfError::ProgramEntrySize(self.header.sizes.e_phentsize));
+        }
+        let count = self.segment_count()?;
+        match table_of(self.bytes, offset, u64::from(count), size) {
+            Some(table) => Ok(table),
+            None => Err(ElfError::ProgramTableOutOfBounds),
+        }
+    }
+
+    #[tactic(auto, unfolding(crate::specs::Segments::segment_count))]
+    fn segment_count(&self) -> Result<u32, ElfError>
+        ensures { result ≡ segment_count (file_view self.now) }
+    {
+        if self.header.sizes.e_phnum == PN_XNUM && self.header.offsets.e_shoff != 0 {
+            return Ok(self.first_section_header()?.place.sh_info);
+        }
+        Ok(u32::from(self.header.sizes.e_phnum))
+    }
+
+    /// The bytes of a segment in the file.
+    fn segment_bytes(&self, header: &ProgramHeader) -> Result<&'input [u8], ElfError>
+        ensures { map_ok (λ bytes. bytes.now) result
+            ≡ segment_bytes (file_view self.now) header.now }
+    {
+        match part(self.bytes, header.place.p_offset, header.place.p_filesz) {
+            Some(bytes) => Ok(bytes),
+            None => Err(ElfError::SegmentOutOfBounds),
+        }
+    }
+}
+
+/// The first of `count` program headers that is wanted.
+fn first_wanted<R: Reader>(
+    class: Class,
+    count: u64,
+    headers: R,
+    wanted: Wanted,
+) -> Option<ProgramHeader>
+    ensures { result ≡ find (is_wanted wanted) (entries count (program_header class)
+        (R.position headers).source (R.position headers).place) }
+{
+    let mut headers = headers;
+    for index in 0..count {
+        let Ok(header) = read_program_header(class, &mut headers) else {
+            return None;
+        };
+        if is_wanted(&header, wanted) {
+            return Some(header);
+        }
+    }
+    None
+}
+
+/// Whether this segment is looked for.
+fn is_wanted(header: &ProgramHeader, wanted: Wanted) -> bool
+    ensures { result ≡ is_wanted wanted header.now }
+{
+    match wanted {
+        Wanted::OfType(p_type) => header.p_type == p_type,
+        Wanted::LoadedAt(address) => is_loaded_at(header, address),
+    }
+}
+
+fn is_loaded_at(header: &ProgramHeader, address: u64) -> bool
+    ensures { result ≡ is_loaded_at address header.now }
+{
+    let place = &header.place;
+    header.p_type == PT_LOAD && place.p_vaddr <= address && address - place.p_vaddr < place.p_filesz
+}
