@@ -1,3 +1,4 @@
+pub mod Chains
 pub mod EntrySteps
 pub mod NameSteps
 mod Worked
