@@ -1,3 +1,5 @@
+pub mod Chains
 pub mod EntrySteps
+pub mod Laws
 pub mod NameSteps
 mod Worked

@@ -1,5 +1,5 @@
 -- The search by a test that can fail, by what it says of the first entry.
-use Rattle.std.proofs.Common.{◌≡◌, ◌<◌, ◌+◌, ◌-◌, ℕ, Bool, Option, Result, Ok, sym, ap, ◌∙◌}
+use Rattle.std.proofs.Common.{◌≡◌, ◌<◌, ◌+◌, ◌-◌, ℕ, Bool, Option, Result, Ok, ap, ◌∙◌}
 use Rattle.cfi_read_core.specs.ReadFunctions.{Read, Position}
 use Rattle.cfi_elf.specs.declared.error.ElfError.{ElfError}
 use Rattle.cfi_elf.specs.Results.{entries, first_by, if_passed}

@@ -1,10 +1,10 @@
 -- A file of 32 bits, the most significant byte first, by computation; headers and symbols of 64 bits.
-use Rattle.std.proofs.Common.{◌≡◌, ℕ, ◌+◌, ◌-◌, ◌*◌, List, [], ◌∷◌, codes, length, true, false, Option, Some, None, Result, Ok, Err, refl}
-use Rattle.std.specs.Prelude.{nat_lt, ◌==◌, if◌then◌else◌, drop, take}
+use Rattle.std.proofs.Common.{◌≡◌, ℕ, ◌+◌, ◌-◌, ◌*◌, List, [], ◌∷◌, codes, false, Option, Some, None, Result, Ok, Err, refl}
+use Rattle.std.specs.Prelude.{nat_lt, if◌then◌else◌, take}
 use Rattle.cfi_read_core.specs.declared.endianity.RunTimeEndian.TheVariants.{Big}
 use Rattle.cfi_read_core.specs.Numbers.{unsigned}
 use Rattle.cfi_elf.specs.declared.error.ElfError.{ElfError}
-use Rattle.cfi_elf.specs.declared.error.ElfError.TheVariants.{NotElf, HeaderCut, Relocatable, SectionTableOutOfBounds, NameOutOfBounds, NameNotTerminated}
+use Rattle.cfi_elf.specs.declared.error.ElfError.TheVariants.{NotElf, HeaderCut, SectionTableOutOfBounds, NameOutOfBounds, NameNotTerminated}
 use Rattle.cfi_elf.specs.declared.file_header.Class.TheVariants.{Elf32, Elf64}
 use Rattle.cfi_elf.specs.FileHeaders.{identification, object_kind, table_offsets, table_sizes, file_header}
 use Rattle.cfi_elf.specs.Results.{and_then, entries, read_from}

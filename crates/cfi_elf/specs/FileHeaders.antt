@@ -1,5 +1,5 @@
 -- The file header (System V ABI chapter 4, "ELF Header", "ELF Identification").
-use Rattle.std.specs.Prelude.{ℕ, Bool, not, List, [], ◌∷◌, length, Result, Ok, Err, nat_lt, ◌==◌, nat_eq, slice_index, if◌then◌else◌}
+use Rattle.std.specs.Prelude.{ℕ, not, List, [], ◌∷◌, length, Result, Ok, Err, nat_lt, ◌==◌, nat_eq, slice_index, if◌then◌else◌}
 use Rattle.std.specs.List.{starts_with}
 use Rattle.std.specs.Int.{Width, w16, w32, w64}
 use Rattle.cfi_read_core.specs.declared.endianity.RunTimeEndian.{RunTimeEndian}

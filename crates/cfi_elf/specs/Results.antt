@@ -1,7 +1,7 @@
 -- Results one after the other, and what is read of a list of bytes.
-use Rattle.std.specs.Prelude.{ℕ, ◌+◌, ◌*◌, Bool, true, false, zero, suc, List, [], ◌∷◌, length, Option, Some, None, Result, Ok, Err, option_map, drop, nat_le, slice_range, if◌then◌else◌}
+use Rattle.std.specs.Prelude.{ℕ, ◌+◌, ◌*◌, Bool, true, false, zero, suc, List, [], ◌∷◌, length, Option, Some, None, Result, Ok, Err, option_map, nat_le, slice_range, if◌then◌else◌}
 use Rattle.cfi_read_core.specs.declared.error.Error.{Error}
-use Rattle.cfi_read_core.specs.ReadFunctions.{Read, Source, Outcome}
+use Rattle.cfi_read_core.specs.ReadFunctions.{Read, Source}
 use Rattle.cfi_read_core.specs.ReaderCalls.{read_at}
 use Rattle.cfi_read_core.specs.Windows.{slice_over}
 use Rattle.cfi_elf.specs.declared.error.ElfError.{ElfError}

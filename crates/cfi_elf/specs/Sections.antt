@@ -1,5 +1,5 @@
 -- The sections of a file, by their names (System V ABI chapter 4, "Sections", "String Table").
-use Rattle.std.specs.Prelude.{ℕ, ◌*◌, Bool, true, false, not, List, [], ◌∷◌, Option, Some, None, Result, Ok, Err, length, take, drop, option_map, position, codes, nat_le, nat_eq, ◌==◌, bit_and, if◌then◌else◌}
+use Rattle.std.specs.Prelude.{ℕ, ◌*◌, Bool, false, not, List, [], Option, Some, None, Result, Ok, Err, length, take, drop, option_map, position, codes, nat_le, nat_eq, ◌==◌, bit_and, if◌then◌else◌}
 use Rattle.std.specs.Cmp.Lexicographic.{pointwise}
 use Rattle.cfi_elf.specs.declared.error.ElfError.{ElfError}
 use Rattle.cfi_elf.specs.declared.error.ElfError.TheVariants.{SectionEntrySize, SectionTableOutOfBounds, NoNameSection, SectionOutOfBounds, Compressed, NameOutOfBounds, NameNotTerminated}

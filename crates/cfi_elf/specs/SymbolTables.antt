@@ -1,5 +1,5 @@
 -- The symbols of a file, by their names and addresses (System V ABI chapter 4, "Symbol Table").
-use Rattle.std.specs.Prelude.{ℕ, ◌/◌, Bool, false, not, List, [], Option, Some, None, Result, Ok, Err, length, find, nat_eq, ◌==◌, if◌then◌else◌}
+use Rattle.std.specs.Prelude.{ℕ, ◌/◌, Bool, false, List, [], Option, Some, None, Result, Ok, length, find, nat_eq, ◌==◌, if◌then◌else◌}
 use Rattle.std.specs.Cmp.Lexicographic.{pointwise}
 use Rattle.cfi_elf.specs.declared.error.ElfError.{ElfError}
 use Rattle.cfi_elf.specs.declared.section_header.SectionHeader.{SectionHeader}
@@ -9,7 +9,7 @@ use Rattle.cfi_elf.specs.declared.symbols.SymbolTable.{SymbolTable as SymbolTabl
 use Rattle.cfi_elf.specs.Results.{Table, and_then, entries_of, first_by, no_entries, table_view}
 use Rattle.cfi_elf.specs.ElfFiles.{File, class_of_file, is_big_file}
 use Rattle.cfi_elf.specs.Sections.{contents, name_at, names_at, section_headers, section_table}
-use Rattle.cfi_elf.specs.Symbols.{symbol, symbol_size, is_defined, is_function_at}
+use Rattle.cfi_elf.specs.Symbols.{symbol, symbol_size, is_function_at}
 
 -- The symbols, and the string table with their names.
 pub record SymbolTable : Type 0 where

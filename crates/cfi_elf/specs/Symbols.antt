@@ -1,7 +1,6 @@
 -- Symbols, one by one (System V ABI chapter 4, "Symbol Table").
-use Rattle.std.specs.Prelude.{ℕ, ◌+◌, ◌%◌, Bool, not, ◌&&◌, List, Result, Ok, nat_le, nat_lt, nat_eq, ◌==◌, if◌then◌else◌, false}
+use Rattle.std.specs.Prelude.{ℕ, ◌+◌, ◌%◌, Bool, not, ◌&&◌, nat_le, nat_lt, ◌==◌}
 use Rattle.std.specs.Int.{w8, w16, w32, w64}
-use Rattle.std.specs.Cmp.Lexicographic.{pointwise}
 use Rattle.cfi_read_core.specs.ReadFunctions.{Read, ◌>>=◌, give}
 use Rattle.cfi_read_core.specs.Numbers.{unsigned}
 use Rattle.cfi_elf.specs.declared.file_header.Class.{Class}

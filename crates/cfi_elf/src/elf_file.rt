@@ -2,7 +2,7 @@
 ghost use Rattle.std.specs.Prelude.{◌≡◌};
 ghost use Rattle.cfi_read_core.specs.ReaderCalls.{map_ok};
 ghost use Rattle.cfi_elf.specs.ElfFiles.{address_size_of, class_of_file, elf_file, file_view};
-ghost use Rattle.cfi_elf.specs.ElfFiles.{vendor_of};
+ghost use Rattle.cfi_elf.specs.ElfFiles.{vendor_of, with_addresses};
 
 use crate::error::ElfError;
 use crate::file_header::{
@@ -43,18 +43,11 @@ impl<'input> ElfFile<'input> {
         let Ok(header) = read_file_header(identification.class, &mut fields) else {
             return Err(ElfError::HeaderCut);
         };
-        if header.kind.e_version != EV_CURRENT {
-            return Err(ElfError::UnknownVersion(header.kind.e_version));
-        }
-        match header.kind.e_type {
-            ET_REL => Err(ElfError::Relocatable),
-            ET_CORE => Err(ElfError::Core),
-            _ => Ok(ElfFile {
-                bytes,
-                identification,
-                header,
-            }),
-        }
+        with_addresses(ElfFile {
+            bytes,
+            identification,
+            header,
+        })
     }
 
     /// The whole file.
@@ -111,6 +104,20 @@ impl<'input> ElfFile<'input> {
         } else {
             Vendor::Default
         }
+    }
+}
+
+/// The file, if its header is of the known version and its sections have addresses.
+fn with_addresses(file: ElfFile<'_>) -> Result<ElfFile<'_>, ElfError>
+    ensures { map_ok file_view result ≡ with_addresses (file_view file.entry) }
+{
+    if file.header.kind.e_version != EV_CURRENT {
+        return Err(ElfError::UnknownVersion(file.header.kind.e_version));
+    }
+    match file.header.kind.e_type {
+        ET_REL => Err(ElfError::Relocatable),
+        ET_CORE => Err(ElfError::Core),
+        _ => Ok(file),
     }
 }
 

@@ -1,4 +1,4 @@
-use Rattle.std.proofs.Common.{◌≡◌, ◌∙◌, sym, ap, arith}
+use Rattle.std.proofs.Common.{◌∙◌, sym, ap, arith}
 use Rattle.std.specs.Prelude.{find}
 use Rattle.cfi_elf.specs.Segments.{is_wanted}
 use Rattle.cfi_elf.proofs.EntrySteps.{entries_end, entry_refused, find_step}

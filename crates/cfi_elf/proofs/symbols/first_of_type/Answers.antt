@@ -1,4 +1,4 @@
-use Rattle.std.proofs.Common.{◌≡◌, ◌∙◌, sym, ap, arith, eq-eqb, ne_eqb}
+use Rattle.std.proofs.Common.{◌∙◌, sym, ap, arith, eq-eqb, ne_eqb}
 use Rattle.std.specs.Prelude.{find}
 use Rattle.cfi_elf.specs.SymbolTables.{is_of_type}
 use Rattle.cfi_elf.proofs.EntrySteps.{entries_end, entry_refused, find_step}
