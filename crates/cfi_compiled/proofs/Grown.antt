@@ -1,6 +1,7 @@
 -- Numbers of results go on to mean the same when results are added.
 use Rattle.std.proofs.Common.{◌≡◌, ℕ, zero, suc, ◌+◌, ◌<◌, ◌≤◌, List, [], ◌∷◌, ◌++◌, map, length, get_or, Result, Err, refl, sym, ap, subst, ◌∙◌, arith}
-use Rattle.std.proofs.lemmas.List.{map_push, get_or-map}
+use Rattle.std.specs.Prelude.{Ok, OnOk}
+use Rattle.std.proofs.lemmas.List.{append-nil, map_push, get_or-map}
 use Rattle.std.proofs.Math.ListN.{length-map}
 use Rattle.std.proofs.lemmas.List.Elements.{All-push}
 use Rattle.cfi_read_core.specs.declared.error.Error.{Error}
@@ -28,6 +29,14 @@ last_there (y ∷ xs) x d = last_there xs x d
 longer : (xs ys : Results) → length xs ≤ length (xs ++ ys)
 longer [] ys = omega arith
 longer (x ∷ xs) ys = omega (arith, longer xs ys)
+
+pub if_ok : {A E : Type 0} {P : Type 0} → (result : Result A E) → P → OnOk result P
+if_ok (Ok x) p = p
+if_ok (Err e) p = tt
+
+-- the results as they are
+pub unchanged : (results : Results) → Extends results results
+unchanged results = ([], sym (append-nil results))
 
 module _ (old new : Results) (extends : Extends old new) where
   pub same_number : (n : ℕ) → n < length old → parts_numbered new n ≡ parts_numbered old n

@@ -1,11 +1,11 @@
 //! Tables while they are made.
-ghost use Rattle.std.specs.Prelude.{◌≡◌, ◌≤◌, ◌+◌, [], IfOk, IsTrue, OnOk};
+ghost use Rattle.std.specs.Prelude.{◌≡◌, ◌≤◌, ◌<◌, ◌+◌, ℕ, [], length, IfOk, IsTrue, OnOk};
 ghost use Rattle.gimli_cfi.specs.Words.{map_ok};
 ghost use Rattle.cfi_compiled.specs.CompiledRows.{parts_kept};
-ghost use Rattle.cfi_compiled.specs.CompiledTables.{EndsWith, parts_at, steps_of};
+ghost use Rattle.cfi_compiled.specs.CompiledTables.{EndsWith, parts_at, parts_numbered, results_of, steps_of};
 ghost use Rattle.cfi_compiled.specs.Steps.{IsFrom, SameBelow, free_from};
 
-use crate::numbers::number_of;
+use crate::numbers::{find, number_of};
 use crate::row::CompiledRow;
 use crate::step_list::{NumberedStep, StepList};
 use crate::steps::{NoMemory, StepSink};
@@ -66,15 +66,27 @@ impl TableBuilder {
         Ok(CompiledTable::of(results, steps))
     }
 
-    /// From this address on the result is this one.
-    fn push(&mut self, from: u64, answer: Result<CompiledRow>) -> std::result::Result<(), NoMemory>
-        requires { free_from 0 (steps_of self.old) ≤ from }
+    /// The number of a result, which is added if it isn't there.
+    fn number_of(&mut self, answer: Result<CompiledRow>) -> std::result::Result<usize, NoMemory>
+        ensures same { OnOk result ((a : ℕ) → parts_at self.new a ≡ parts_at self.old a) }
+        ensures free { OnOk result
+            (free_from 0 (steps_of self.new) ≡ free_from 0 (steps_of self.old)) }
+        ensures number { IfOk result (λ number. number < length (results_of self.new)) }
+        ensures means { IfOk result (λ number.
+            parts_numbered (results_of self.new) number ≡ map_ok parts_kept answer) }
+    {
+        number_of(&mut self.results, &mut self.slots, answer)
+    }
+
+    /// From this address on the result is the one with this number.
+    fn push(&mut self, from: u64, number: usize) -> std::result::Result<(), NoMemory>
+        requires free { free_from 0 (steps_of self.old) ≤ from }
+        requires number { number < length (results_of self.old) }
         ensures before { OnOk result (SameBelow from (parts_at self.new) (parts_at self.old)) }
         ensures after { OnOk result
-            (IsFrom from (parts_at self.new) (map_ok parts_kept answer)) }
+            (IsFrom from (parts_at self.new) (parts_numbered (results_of self.old) number)) }
         ensures free { OnOk result (free_from 0 (steps_of self.new) ≤ from + 1) }
     {
-        let number = number_of(&mut self.results, &mut self.slots, answer)?;
         if ends_with(self.numbers.as_slice(), number) {
             return Ok(());
         }
@@ -99,12 +111,19 @@ impl StepSink for TableBuilder {
         from: u64,
         row: &UnwindTableRow<usize, A>,
     ) -> std::result::Result<(), NoMemory> {
-        let kept = CompiledRow::of(self.alloc, row)?;
-        self.push(from, Ok(kept))
+        let number = match find(self.results.as_slice(), self.slots.as_slice(), row) {
+            Ok(number) => number,
+            Err(_slot) => {
+                let kept = CompiledRow::of(self.alloc, row)?;
+                self.number_of(Ok(kept))?
+            }
+        };
+        self.push(from, number)
     }
 
     fn error(&mut self, from: u64, error: Error) -> std::result::Result<(), NoMemory> {
-        self.push(from, Err(error))
+        let number = self.number_of(Err(error))?;
+        self.push(from, number)
     }
 }
 

@@ -1,13 +1,14 @@
 //! The numbers of distinct results.
-ghost use Rattle.std.specs.Prelude.{◌≡◌, ◌<◌, ◌≤◌, length, IfOk};
-ghost use Rattle.gimli_cfi.specs.Words.{map_ok};
+ghost use Rattle.std.specs.Prelude.{◌≡◌, ◌<◌, ◌≤◌, ℕ, length, IfOk, IsTrue, Ok};
+ghost use Rattle.std.specs.Prelude.{Result as TheResult};
+ghost use Rattle.gimli_cfi.specs.Words.{Error as TheError, Parts, map_ok};
 ghost use Rattle.cfi_compiled.specs.CompiledRows.{parts_kept};
 ghost use Rattle.cfi_compiled.specs.CompiledTables.{Extends, parts_numbered};
 
-use crate::row::CompiledRow;
+use crate::row::{CompiledRow, hash_of_row};
 use crate::same::is_same;
 use crate::steps::NoMemory;
-use gimli_cfi::{CfaRule, Error, Register, RegisterRule, Result};
+use gimli_cfi::{ArrayLike, CfaRule, Error, Register, RegisterRule, Result, UnwindTableRow};
 
 /// The number of the result: that of an equal one among the results, else a new number, with which
 /// it is added.
@@ -42,17 +43,57 @@ pub(crate) fn number_of(
     Ok(number)
 }
 
+/// What is looked for among the results.
+pub(crate) trait Sought {
+    /// What it says.
+    ghost parts: { Self → TheResult (Parts ℕ) TheError };
+
+    /// A number that is equal where two say the same.
+    fn hash(&self) -> u64;
+
+    /// Whether a result says the same.
+    fn is(&self, known: &Result<CompiledRow>) -> bool
+        ensures { IsTrue result → map_ok parts_kept known.now ≡ parts self.now };
+}
+
+impl Sought for Result<CompiledRow> {
+    ghost parts = { map_ok parts_kept };
+
+    fn hash(&self) -> u64 {
+        hash_of(self)
+    }
+
+    fn is(&self, known: &Result<CompiledRow>) -> bool {
+        is_same(known, self)
+    }
+}
+
+impl<A: ArrayLike<Item = (Register, RegisterRule<usize>)>> Sought for UnwindTableRow<usize, A> {
+    ghost parts = { λ row. Ok row.parts };
+
+    fn hash(&self) -> u64 {
+        hash_of_row(self)
+    }
+
+    fn is(&self, known: &Result<CompiledRow>) -> bool {
+        match known {
+            Ok(known) => known.is_of(self),
+            Err(_) => false,
+        }
+    }
+}
+
 /// The number of the same result, or the slot at which it is to be written.
-fn find(
+pub(crate) fn find<S: Sought>(
     results: &[Result<CompiledRow>],
     slots: &[usize],
-    answer: &Result<CompiledRow>,
+    sought: &S,
 ) -> std::result::Result<usize, usize>
     ensures number { IfOk result (λ number. number < length results.now) }
     ensures means { IfOk result (λ number.
-        parts_numbered results.now number ≡ map_ok parts_kept answer.now) }
+        parts_numbered results.now number ≡ S.parts sought.now) }
 {
-    let mut place = first_place(hash_of(answer), slots.len());
+    let mut place = first_place(sought.hash(), slots.len());
     for _probe in 0..slots.len() {
         let number = match slots.get(place) {
             Some(number) => *number,
@@ -62,7 +103,7 @@ fn find(
             break;
         }
         if let Some(known) = results.get(number - 1) {
-            if is_same(known, answer) {
+            if sought.is(known) {
                 return Ok(number - 1);
             }
         }

@@ -1,5 +1,6 @@
 //! Steps of four bytes each.
-ghost use Rattle.std.specs.Prelude.{◌≡◌, ◌≤◌, ◌<◌, ◌+◌, ◌/◌, ◌^◌, ◌∷◌, ◌++◌, [], length, get_or, IfOk, IfSome, OnOk};
+ghost use Rattle.std.specs.Prelude.{◌≡◌, ◌≤◌, ◌<◌, ◌+◌, ◌/◌, ◌^◌, ◌∷◌, ◌++◌, [], length};
+ghost use Rattle.std.specs.Prelude.{IfOk, IfSome, OnOk};
 ghost use Rattle.cfi_compiled.specs.PagedSteps.{IsSplitIn, Rising, begin_of, pages_passed};
 ghost use Rattle.cfi_compiled.specs.SearchedSteps.{Ascend, IsNumberAt, IsSplit, IsStepAt};
 
@@ -8,7 +9,7 @@ use crate::steps::NoMemory;
 use std::alloc::Global;
 use std::marker::Model;
 
-/// How many addresses a page has.
+/// How many addresses a page has: as many as an offset of 16 bits tells apart.
 const PAGE: u64 = 65536;
 
 /// A step: its distance from the beginning of its page, and its number.

@@ -5,7 +5,7 @@ ghost use Rattle.gimli_cfi.specs.Words.{rules_of};
 ghost use Rattle.cfi_compiled.specs.CompiledRows.{parts_kept};
 
 use crate::numbers::{hash_of_cfa, hash_of_rule, mix};
-use crate::same::{is_same_cfa, is_same_rules};
+use crate::same::{is_same_cfa, is_same_pair, is_same_rules};
 use gimli_cfi::{ArrayLike, CfaRule, Register, RegisterRule, UnwindTableRow};
 use std::alloc::{AllocError, Global};
 
@@ -37,6 +37,26 @@ impl CompiledRow {
         })
     }
 
+    /// Whether this is what a row says, with its rules in the order of `registers`.
+    pub(crate) fn is_of<A: ArrayLike<Item = (Register, RegisterRule<usize>)>>(
+        &self,
+        row: &UnwindTableRow<usize, A>,
+    ) -> bool
+        ensures { IsTrue result → parts_kept self.now ≡ row.now.parts }
+    {
+        if self.saved_args_size != row.saved_args_size() || !is_same_cfa(self.cfa, *row.cfa()) {
+            return false;
+        }
+        let mut count = 0;
+        for pair in row.registers() {
+            if count >= self.rules.len() || !is_same_pair(self.rules[count], *pair) {
+                return false;
+            }
+            count += 1;
+        }
+        count == self.rules.len()
+    }
+
     /// Whether the two say the same, in the same order.
     pub(crate) fn is_same(&self, other: &CompiledRow) -> bool
         ensures { IsTrue result → parts_kept self.now ≡ parts_kept other.now }
@@ -46,7 +66,8 @@ impl CompiledRow {
             && is_same_rules(self.rules.as_slice(), other.rules.as_slice())
     }
 
-    /// A number that is equal where the two say the same in the same order.
+    /// A number that is equal where two rows say the same in the same order, as `hash_of_row` has
+    /// it.
     pub(crate) fn hash(&self) -> u64 {
         let mut hash = mix(hash_of_cfa(self.cfa), self.saved_args_size);
         for pair in self.rules.as_slice() {
@@ -91,4 +112,15 @@ impl CompiledRow {
     {
         self.rules.as_slice()
     }
+}
+
+/// The number of what a row says, as `CompiledRow::hash` has it.
+pub(crate) fn hash_of_row<A: ArrayLike<Item = (Register, RegisterRule<usize>)>>(
+    row: &UnwindTableRow<usize, A>,
+) -> u64 {
+    let mut hash = mix(hash_of_cfa(*row.cfa()), row.saved_args_size());
+    for pair in row.registers() {
+        hash = mix(hash, hash_of_rule(pair.0, pair.1));
+    }
+    hash
 }

@@ -52,6 +52,16 @@ fn is_same_rule(a: RegisterRule<usize>, b: RegisterRule<usize>) -> bool
     a == b
 }
 
+/// Whether two registers with their rules are equal.
+pub(crate) fn is_same_pair(
+    a: (Register, RegisterRule<usize>),
+    b: (Register, RegisterRule<usize>),
+) -> bool
+    ensures { IsTrue result → a ≡ b }
+{
+    a.0.0 == b.0.0 && is_same_rule(a.1, b.1)
+}
+
 /// Whether two lists of rules are equal.
 pub(crate) fn is_same_rules(
     a: &[(Register, RegisterRule<usize>)],
@@ -63,7 +73,7 @@ pub(crate) fn is_same_rules(
         return false;
     }
     for index in 0..a.len() {
-        if a[index].0.0 != b[index].0.0 || !is_same_rule(a[index].1, b[index].1) {
+        if !is_same_pair(a[index], b[index]) {
             return false;
         }
     }

@@ -5,3 +5,5 @@
 mod by_hand;
 #[cfg(test)]
 mod by_scan;
+#[cfg(test)]
+mod many;
