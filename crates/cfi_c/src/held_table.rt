@@ -23,6 +23,9 @@ impl Model for HeldTable {
     ghost also_owns = { λ held. owned held.table held.alloc held.at };
 }
 
+// It may go to another thread, as the table that it owns.
+unsafe impl Send for HeldTable {}
+
 impl HeldTable {
     /// Returns the value of no table.
     pub fn none(alloc: Global) -> HeldTable
