@@ -19,8 +19,8 @@ use gimli_cfi::{DebugFrame, EhFrame, Error, Register, RegisterRule};
 use std::alloc::Global;
 use std::mem;
 
-/// Makes the compiled table of a section, and frees the one that was there. It has for every address
-/// what `cfi_row_by_scan` writes for the section, but a row's two addresses.
+/// Makes the compiled table of a section, and frees the one that was there. It has for every
+/// address what `cfi_row_by_scan` writes for the section, but a row's two addresses.
 ///
 /// Returns 0; the number of `OutOfMemory` where memory was refused; or that of
 /// `UnsupportedAddressSize` where the size is not 1, 2, 4 or 8. After an error the table that was

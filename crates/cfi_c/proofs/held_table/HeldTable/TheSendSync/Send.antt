@@ -8,8 +8,8 @@ use denote.Struct.Owning.{shape, fields, to}
 use denote.Param.Send.{IsSend, AllSend, owning_send, struct_send, sendable}
 use Rattle.std.proofs.Crossing as heap
 use Rattle.std_alloc.proofs.SendSync.{quiet, lies}
-use Rattle.std_heap.specs.contracts.Global as Heap
-use Rattle.std_heap.proofs.Global.TheSendSync as handle
+use Rattle.std.specs.contracts.alloc.Global as Heap
+use Rattle.std.proofs.alloc.Global.TheSendSync as handle
 use Rattle.cfi_compiled.specs.CompiledTables.{NumberedSteps}
 use Rattle.cfi_compiled.specs.contracts.table.CompiledTable.{the_row as T}
 use Rattle.cfi_compiled.proofs.table.CompiledTable.TheSendSync.{the_send as table_send}
