@@ -1,6 +1,7 @@
 /* Looks up the worked rows that worked_rows.py prints, read from standard input, through the C library, and prints which
  * differ from the expected line. Each is looked up alone and among many, and the bytes after each array that the library
- * writes to are checked. Then tests what no line has: contexts, memory, names, and the values that errors carry. Linked
+ * writes to are checked. Rows by a scan are also looked up in a table of the section. Then tests what no line has: contexts,
+ * tables, memory, names, and the values that errors carry. Linked
  * with --wrap=malloc, --wrap=realloc, --wrap=free. */
 #include <inttypes.h>
 #include <stdio.h>
@@ -134,6 +135,27 @@ static void check_many(CfiContext *context, const Case *c, const char *due) {
     expect(count == 1 && is_guarded(&rows[1], sizeof rows[1]), "cfi_rows answers without room for the rules");
 }
 
+/* What a table of the section has for the address: the same line, but the row's two addresses. */
+static void check_table(CfiTable *table, const Case *c, const char *due) {
+    CfiRow row;
+    CfiRule rules[REGISTERS + 1];
+    char line[4096];
+    memset(rules, GUARD, sizeof rules);
+    int32_t made = cfi_table_new(table, c->section, c->section_len, &c->bases);
+    if (made != CFI_Ok) {
+        expect(made == CFI_UnsupportedAddressSize && !strcmp(due, "refused UnsupportedAddressSize"), "no table is made");
+        return;
+    }
+    int before = calls_for_memory;
+    int32_t status = cfi_table_row(table, c->address, &row, rules, REGISTERS);
+    print_answer(line, &row, rules);
+    expect(calls_for_memory == before, "memory was asked for by cfi_table_row");
+    const char *said = strstr(line, "cfa="), *due_says = strstr(due, "cfa=");
+    expect(status == row.status && !strcmp(said ? said : line, due_says ? due_says : due), due);
+    expect(status != CFI_Ok || (row.start == 0 && row.end == 0), "a row by a table has addresses");
+    expect(is_guarded(&rules[REGISTERS], sizeof rules[0]), "rules behind the array were written by cfi_table_row");
+}
+
 static void check_case(CfiContext *context, const Case *c, const char *due) {
     CfiRow row;
     CfiRule rules[REGISTERS + 1];
@@ -185,6 +207,29 @@ static void check_contexts(void) {
     expect(!memcmp(&context, &none, sizeof none), "freed twice");
 }
 
+static void check_tables(void) {
+    Case c = {.bases = {.address_size = 8}};
+    CfiTable table = {0}, none = {0};
+    CfiRow row;
+    CfiRule rules[REGISTERS];
+    expect(cfi_table_row(&table, 1, &row, rules, REGISTERS) == CFI_NoTable && row.status == CFI_NoTable, "no table");
+    cfi_table_free(&table);
+    expect(!memcmp(&table, &none, sizeof none), "a table that was never made is freed");
+    memory_fails = 1;
+    expect(cfi_table_new(&table, c.section, 0, &c.bases) == CFI_OutOfMemory && !table.live, "a table without memory");
+    memory_fails = 0;
+    expect(cfi_table_new(&table, c.section, 0, &c.bases) == CFI_Ok && table.live, "a table");
+    memory_fails = 1;
+    expect(cfi_table_new(&table, c.section, 0, &c.bases) == CFI_OutOfMemory && table.live, "out of memory keeps the table");
+    memory_fails = 0;
+    c.bases.address_size = 3;
+    expect(cfi_table_new(&table, c.section, 0, &c.bases) == CFI_UnsupportedAddressSize && table.live, "a table's size");
+    expect(cfi_table_row(&table, 1, &row, rules, REGISTERS) == CFI_NoUnwindInfoForAddress, "no FDE");
+    cfi_table_free(&table);
+    cfi_table_free(&table);
+    expect(!memcmp(&table, &none, sizeof none), "a table is freed twice");
+}
+
 static void check_names(void) {
     uint8_t name[64];
 #define CHECK_NAME(number, text) \
@@ -192,7 +237,8 @@ static void check_names(void) {
     CFI_REFUSALS(CHECK_NAME)
     CHECK_NAME(0, Ok)
     CHECK_NAME(32, NoContext)
-    CHECK_NAME(33, Unknown)
+    CHECK_NAME(33, NoTable)
+    CHECK_NAME(34, Unknown)
     CHECK_NAME(-1, Unknown)
     memset(name, GUARD, sizeof name);
     expect(cfi_status_name(CFI_StackFull, name, 5) == 9 && !memcmp(name, "Stack", 5) && name[5] == GUARD, "a short name");
@@ -203,7 +249,9 @@ int main(void) {
     static Case c;
     int cases = 0;
     CfiContext context = {0};
+    CfiTable table = {0};
     check_contexts();
+    check_tables();
     check_names();
     expect(cfi_context_new(&context) == CFI_Ok, "a context");
     while (fgets(line, sizeof line, stdin)) {
@@ -213,9 +261,12 @@ int main(void) {
         int before = calls_for_memory;
         check_case(&context, &c, bar + 3);
         expect(calls_for_memory == before, "memory was asked for");
+        if (!c.has_header)
+            check_table(&table, &c, bar + 3);
         cases++;
     }
     cfi_context_free(&context);
+    cfi_table_free(&table);
     printf("c library: %d worked rows, %d failures\n", cases, failures);
     return failures != 0 || cases == 0;
 }

@@ -6,13 +6,17 @@
  * A context is made once, by cfi_context_new, used for any number of addresses of any sections, and freed by
  * cfi_context_free. Only the first takes memory, by malloc; the calls between the two take none.
  *
+ * A table is made of one section, by cfi_table_new, asked for any number of addresses, and freed by cfi_table_free. Only
+ * the first takes memory. Whoever asks one section for many addresses makes a table of it.
+ *
  * All other memory is the caller's, and is read or written only during a call; nothing of it is kept. Pointers are not
  * null, also where a length is 0, and what is written overlaps nothing else that is handed in. What they point to is
  * aligned as C aligns its type. A bool is 0 or 1.
  *
- * Calls with different contexts may run at the same time. A context stays on the thread that made it. No call is made from
- * a signal handler, nor in the forked child of a process with threads. malloc and free are those of one allocator, and
- * align as C asks. */
+ * Calls with different contexts and tables may run at the same time. A context stays on the thread that made it. A table
+ * may be handed to another thread, by a lock, a thread's start or join, or a SeqCst atomic; one call at a time has it. No
+ * call is made from a signal handler, nor in the forked child of a process with threads. malloc and free are those of one
+ * allocator, and align as C asks. */
 #ifndef CFI_C_H
 #define CFI_C_H
 
@@ -24,7 +28,8 @@
 extern "C" {
 #endif
 
-/* Status 0 is a row; the others are the refusals of the library, by its names, and 32 where there is no context. */
+/* Status 0 is a row; the others are the refusals of the library, by its names, 32 where there is no
+ * context, and 33 where there is no table. */
 #define CFI_REFUSALS(X) \
     X(1, UnexpectedEof) \
     X(2, BadUnsignedLeb128) \
@@ -63,7 +68,8 @@ typedef enum {
 #define CFI_STATUS(number, name) CFI_##name = number,
     CFI_REFUSALS(CFI_STATUS)
 #undef CFI_STATUS
-    CFI_NoContext = 32
+    CFI_NoContext = 32,
+    CFI_NoTable = 33
 } CfiStatus;
 
 /* A context, or none: all zero, as `CfiContext context = {0};` makes it. The caller keeps this struct, and neither writes
@@ -73,6 +79,12 @@ typedef struct {
     void *at;
     bool live;
 } CfiContext;
+
+/* A table, or none: all zero, as `CfiTable table = {0};` makes it. It is the library's as a context is. */
+typedef struct {
+    void *at;
+    bool live;
+} CfiTable;
 
 /* Where the sections lie, and how their numbers are read. */
 typedef struct {
@@ -85,7 +97,7 @@ typedef struct {
     uint8_t address_size;     /* 1, 2, 4 or 8 */
 } CfiBases;
 
-/* A row, but for its rules. It holds from start up to, and without, end. */
+/* A row, but for its rules. It holds from start up to, and without, end; by a CfiTable both are 0. */
 typedef struct {
     uint64_t start, end;
     uint64_t args_size;
@@ -142,6 +154,20 @@ int32_t cfi_row_by_table(CfiContext *context, const uint8_t *eh_frame, size_t eh
 size_t cfi_rows(CfiContext *context, const uint8_t *section, size_t section_len, const uint8_t *header, size_t header_len,
                 const CfiBases *bases, const uint64_t *addresses, size_t addresses_len, CfiRow *rows, size_t rows_len,
                 CfiRule *rules, size_t rules_len, size_t per_row);
+
+/* Makes the table of a section, and frees one that was there. The table has for every address what cfi_row_by_scan writes
+ * for the section, but row->start and row->end. CFI_OutOfMemory where malloc fails, CFI_UnsupportedAddressSize for a size
+ * that is none: then the one that was there stays. A refusal of the section is not returned here, but by cfi_table_row for
+ * the addresses that it is for. Once the table is made the section isn't read any more. */
+int32_t cfi_table_new(CfiTable *table, const uint8_t *section, size_t section_len, const CfiBases *bases);
+
+/* Frees the table; without one it does nothing. Then there is none. */
+void cfi_table_free(CfiTable *table);
+
+/* Writes what the row of the address says, by a binary search in the table, and the rules of the registers
+ * 0 .. rules_len - 1, as cfi_row_by_scan does; row->start and row->end are 0. Returns row->status: CFI_NoTable without a
+ * table. The places of expressions are those in the section. The table stays as it is. */
+int32_t cfi_table_row(CfiTable *table, uint64_t address, CfiRow *row, CfiRule *rules, size_t rules_len);
 
 /* Writes the name of a status, as in "UnexpectedEof", as far as there is room for it, without a zero at its end. Returns
  * how long it is. "Unknown" for a number that is no status. */

@@ -1,5 +1,6 @@
 mod Counts
 mod Faithful
+mod HeldThere
 mod Names
 mod PointerPairs
 mod RuleWrites

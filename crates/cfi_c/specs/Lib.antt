@@ -1,7 +1,9 @@
 pub mod Refusals
 pub mod ContextRow
 pub mod HeldContexts
+pub mod HeldTables
 pub mod PassedSections
 pub mod WrittenRows
 pub mod AddressRows
 pub mod ManyAddresses
+pub mod TableRows

@@ -27,9 +27,9 @@ value (UnknownCallFrameInstruction x) = x.0
 value (InvalidCfiSetLoc x) = x
 value e = 0
 
--- 0 is the status of a row, 32 that without a context
+-- 0 is the status of a row, 32 that without a context, 33 that without a table
 abbrev pub names : List (List ℕ)
-names = codes "Ok" ∷ (map name_of errors ++ codes "NoContext" ∷ [])
+names = codes "Ok" ∷ (map name_of errors ++ codes "NoContext" ∷ codes "NoTable" ∷ [])
 
 abbrev pub status_name : ℤ → List ℕ
 status_name (pos n) = slice_index_or names n (codes "Unknown")

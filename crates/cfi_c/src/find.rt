@@ -38,7 +38,7 @@ pub fn find_row<'ctx>(
 }
 
 /// Returns whether addresses may have this size.
-fn is_sized(size: u8) -> bool
+pub fn is_sized(size: u8) -> bool
     ensures { IsTrue result ↔ IsAddressSize size }
 {
     size == 1 || size == 2 || size == 4 || size == 8
@@ -126,7 +126,7 @@ fn by_table<'ctx>(
 }
 
 /// Returns the byte order of the sections.
-fn endian_of(bases: &CfiBases) -> RunTimeEndian
+pub fn endian_of(bases: &CfiBases) -> RunTimeEndian
     ensures { is_big result ≡ bases.now.big_endian }
 {
     if bases.big_endian {
@@ -137,7 +137,7 @@ fn endian_of(bases: &CfiBases) -> RunTimeEndian
 }
 
 /// Returns the vendor whose opcodes are read.
-fn vendor_of(bases: &CfiBases) -> Vendor
+pub fn vendor_of(bases: &CfiBases) -> Vendor
     ensures { result ≡ vendor_of bases.now.aarch64 }
 {
     if bases.aarch64 {
@@ -148,7 +148,7 @@ fn vendor_of(bases: &CfiBases) -> Vendor
 }
 
 /// Returns the bases of the pointers in the section, and of those in its header.
-fn bases_of(bases: &CfiBases) -> BaseAddresses
+pub fn bases_of(bases: &CfiBases) -> BaseAddresses
     ensures section { result.eh_frame ≡ record {
       section = Some bases.now.section;
       text = Some bases.now.text;

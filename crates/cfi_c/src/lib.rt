@@ -11,10 +11,13 @@ ghost use Rattle.cfi_c.specs.WrittenRows.{SameAround};
 ghost use Rattle.cfi_c.specs.ManyAddresses.{IsCount, AreAnswered};
 ghost use Rattle.cfi_c.specs.PassedSections.{header_in, lent};
 
+mod compiled;
 mod context;
 mod find;
 mod held;
+mod held_table;
 mod refusal;
+mod table;
 mod unboxed;
 mod written;
 

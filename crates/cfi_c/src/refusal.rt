@@ -7,6 +7,9 @@ use gimli_cfi::{DwCfa, DwEhPe, Error, ReaderOffsetId};
 /// The status where there is no context.
 pub const NO_CONTEXT: i32 = 32;
 
+/// The status where there is no table.
+pub const NO_TABLE: i32 = 33;
+
 /// Returns the number of an error: its status, from 1 to 31.
 pub fn number_of(error: Error) -> i32
     ensures { result ≡ number error }
@@ -118,7 +121,10 @@ pub fn name_of(status: i32) -> &'static [u8]
     if number == 32 {
         return b"NoContext";
     }
-    if number > 32 {
+    if number == 33 {
+        return b"NoTable";
+    }
+    if number > 33 {
         return b"Unknown";
     }
     REFUSALS[number - 1].name().as_bytes()

@@ -2,7 +2,7 @@
 ghost use Rattle.std.specs.Prelude.{◌≡◌, ◌+◌, ◌≤◌, length, pos};
 ghost use Rattle.cfi_read_core.specs.ReaderCalls.{map_ok};
 ghost use Rattle.cfi_c.specs.AddressRows.{IsAnswered};
-ghost use Rattle.cfi_c.specs.WrittenRows.{IsRules, IsWritten, SameAround, written_rule};
+ghost use Rattle.cfi_c.specs.WrittenRows.{IsCfa, IsRules, IsWritten, SameAround, written_rule};
 
 use crate::refusal::{number_of, value_of};
 use crate::{CfiRow, CfiRule};
@@ -42,8 +42,17 @@ fn row_of<A: ArrayLike<Item = (Register, RegisterRule<usize>)>>(
 {
     let start = found.start_address();
     let end = found.end_address();
-    let args_size = found.saved_args_size();
-    match *found.cfa() {
+    cfa_row(start, end, found.saved_args_size(), *found.cfa())
+}
+
+/// Returns a row as C sees it, by its parts, with the status 0.
+pub fn cfa_row(start: u64, end: u64, args_size: u64, cfa: CfaRule<usize>) -> CfiRow
+    ensures addresses { (result.start ≡ start) × (result.end ≡ end) }
+    ensures args { result.args_size ≡ args_size }
+    ensures cfa { IsCfa cfa result }
+    ensures status { (result.refused ≡ 0) × (result.status ≡ pos 0) }
+{
+    match cfa {
         CfaRule::RegisterAndOffset { register, offset } => CfiRow {
             start,
             end,
@@ -102,7 +111,7 @@ fn number_in(register: Register) -> usize
 }
 
 /// Returns the rule as C sees it.
-fn rule_of(rule: Option<RegisterRule<usize>>) -> CfiRule
+pub fn rule_of(rule: Option<RegisterRule<usize>>) -> CfiRule
     ensures { result ≡ written_rule rule }
 {
     let Some(rule) = rule else {

@@ -1,12 +1,14 @@
 //! Programs that call `gimli_cfi`: those that CALLING.md shows, a file for each task.
 //!
-//! They need no crate of the library but `gimli_cfi`, and `arrayvec` for a storage of one's own.
+//! They need no crate of the library but `gimli_cfi`, `cfi_compiled` for compiled tables, and
+//! `arrayvec` for a storage of one's own.
 //! Their clauses cite the words that `gimli_cfi` passes on in its `specs/Words`. `.ci/guide`
 //! checks that what CALLING.md shows is here word for word, so it is proved.
 #![tactic(auto)]
 
 pub mod all_rows;
 pub mod cached_cies;
+pub mod compiled_rows;
 pub mod expressions;
 pub mod instructions;
 pub mod one_row;

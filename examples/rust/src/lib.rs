@@ -1,7 +1,8 @@
 //! Unwind rows in Rust, by the C library of gimli_cfi: a small safe wrapper.
 //!
 //! Safe code keeps what `cfi_c.h` requires: slices are never null, what is written is borrowed for
-//! that alone, and a context is neither `Clone` nor `Send` and is freed once.
+//! that alone, and a context is neither `Clone` nor `Send` and is freed once. A table is freed once
+//! too; it is `Send`, and each lookup borrows it mutably.
 
 mod raw;
 
@@ -205,6 +206,41 @@ impl Context {
 impl Drop for Context {
     fn drop(&mut self) {
         unsafe { raw::cfi_context_free(&mut self.0) }
+    }
+}
+
+/// The rows of a section for all addresses, made once. It has for every address what `Context::row`
+/// returns by a scan, but `start` and `end`, which are 0.
+pub struct Table(raw::Table);
+
+// SAFETY: what a table holds may go to another thread (`cfi_c.h`), and `&mut` hands it over.
+unsafe impl Send for Table {}
+
+impl Table {
+    /// Makes the table of a section; a header is not read. It fails where memory is refused. Errors
+    /// of the section are returned by `row`.
+    pub fn new(section: Section<'_>) -> Result<Table, Refusal> {
+        let (bytes, _, bases) = section.parts();
+        let mut table = Table(raw::Table { at: std::ptr::null_mut(), live: false });
+        match unsafe { raw::cfi_table_new(&mut table.0, bytes.as_ptr(), bytes.len(), &bases) } {
+            0 => Ok(table),
+            status => Err(Refusal { status, carries: 0 }),
+        }
+    }
+
+    /// What the row of the address says, with the rules of the first registers. It does not
+    /// allocate.
+    pub fn row<const REGISTERS: usize>(&mut self, address: u64) -> Result<Row<REGISTERS>, Refusal> {
+        let mut row = raw::Row::default();
+        let mut rules = [raw::Rule::default(); REGISTERS];
+        unsafe { raw::cfi_table_row(&mut self.0, address, &mut row, rules.as_mut_ptr(), REGISTERS) };
+        answer_of(row, rules)
+    }
+}
+
+impl Drop for Table {
+    fn drop(&mut self) {
+        unsafe { raw::cfi_table_free(&mut self.0) }
     }
 }
 

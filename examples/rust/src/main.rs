@@ -1,6 +1,7 @@
 //! Prints the rows of a function as the program cfi_rows does: from `.debug_frame`, and from
-//! `.eh_frame` by the table of its header. Each address is looked up alone and among all.
-use cfi::{Context, Refusal, Section};
+//! `.eh_frame` by the table of its header. Each address is looked up alone, among all, and in a
+//! table of the section.
+use cfi::{Context, Refusal, Row, Section, Table};
 
 const ADDRESSES: [u64; 4] = [0x1000, 0x1002, 0x1004, 0x1020];
 
@@ -9,26 +10,28 @@ fn bytes(hexadecimal: &str) -> Vec<u8> {
     digits.chunks(2).map(|pair| pair[0] * 16 + pair[1]).collect()
 }
 
-fn print_rows(context: &mut Context, section: Section<'_>) {
+fn print_rows(context: &mut Context, section: Section<'_>) -> Result<(), Refusal> {
+    let mut table = Table::new(section)?;
     let among_all = context.rows::<17>(section, &ADDRESSES);
     for (address, among_all) in ADDRESSES.into_iter().zip(among_all) {
         let alone = context.row::<17>(section, address);
         assert_eq!(alone, among_all);
+        assert_eq!(table.row(address), alone.map(|row| Row { start: 0, end: 0, ..row }));
         match alone {
             Ok(row) => println!("{row}"),
             Err(refusal) => println!("refused {}", refusal.name()),
         }
     }
+    Ok(())
 }
 
 fn main() -> Result<(), Refusal> {
     let mut context = Context::new()?;
     let debug_frame = bytes(include_str!("../debug_frame.hex"));
-    print_rows(&mut context, Section::DebugFrame(&debug_frame));
+    print_rows(&mut context, Section::DebugFrame(&debug_frame))?;
 
     // .eh_frame in the first line, at 0x2000, and .eh_frame_hdr in the second, at 0x1f00
     let lines: Vec<Vec<u8>> = include_str!("../eh_frame.hex").lines().map(bytes).collect();
     let (eh_frame, header) = ((&lines[0][..], 0x2000), (&lines[1][..], 0x1f00));
-    print_rows(&mut context, Section::EhFrameByTable { eh_frame, header });
-    Ok(())
+    print_rows(&mut context, Section::EhFrameByTable { eh_frame, header })
 }

@@ -7,6 +7,12 @@ pub struct Context {
 }
 
 #[repr(C)]
+pub struct Table {
+    pub at: *mut u8,
+    pub live: bool,
+}
+
+#[repr(C)]
 pub struct Bases {
     pub section: u64,
     pub header: u64,
@@ -82,5 +88,8 @@ extern "C" {
         rules_len: usize,
         per_row: usize,
     ) -> usize;
+    pub fn cfi_table_new(table: *mut Table, section: *const u8, section_len: usize, bases: *const Bases) -> i32;
+    pub fn cfi_table_free(table: *mut Table);
+    pub fn cfi_table_row(table: *mut Table, address: u64, row: *mut Row, rules: *mut Rule, rules_len: usize) -> i32;
     pub fn cfi_status_name(status: i32, name: *mut u8, name_len: usize) -> usize;
 }
