@@ -2,7 +2,8 @@
 ghost use Rattle.std.specs.Prelude.{◌≡◌, ◌≤◌, ◌<◌, ◌+◌, ℕ, [], length, IfOk, IsTrue, OnOk};
 ghost use Rattle.gimli_cfi.specs.Words.{map_ok};
 ghost use Rattle.cfi_compiled.specs.CompiledRows.{parts_kept};
-ghost use Rattle.cfi_compiled.specs.CompiledTables.{EndsWith, parts_at, parts_numbered, results_of, steps_of};
+ghost use Rattle.cfi_compiled.specs.CompiledTables.{EndsWith, parts_at, parts_numbered};
+ghost use Rattle.cfi_compiled.specs.CompiledTables.{results_of, steps_of};
 ghost use Rattle.cfi_compiled.specs.Steps.{IsFrom, SameBelow, free_from};
 
 use crate::numbers::{find, number_of};
