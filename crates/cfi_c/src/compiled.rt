@@ -130,12 +130,7 @@ fn lent(held: &Option<Box<CompiledTable>>) -> Option<&CompiledTable>
 }
 
 /// Writes the row of the address by the table, where there is one.
-fn answer(
-    table: Option<&CompiledTable>,
-    address: u64,
-    row: &mut CfiRow,
-    rules: &mut [CfiRule],
-)
+fn answer(table: Option<&CompiledTable>, address: u64, row: &mut CfiRow, rules: &mut [CfiRule])
     ensures { IsTableRow (lent table.entry) address row.new rules.new }
 {
     match table {
