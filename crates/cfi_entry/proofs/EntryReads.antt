@@ -5,18 +5,19 @@ use Rattle.std.specs.Prelude.{◌==◌, ◌||◌, if◌then◌else◌, length, n
 use Rattle.std.specs.List.{prefix_len}
 use Rattle.std.specs.Int.{Width, w8, w16, w32, w64}
 use Rattle.cfi_read_core.specs.declared.error.Error.{Error}
-use Rattle.cfi_read_core.specs.declared.error.Error.TheVariants.{UnsupportedSegmentSize}
+use Rattle.cfi_read_core.specs.declared.error.Error.TheVariants.{CannotParseOmitPointerEncoding, UnsupportedSegmentSize}
 use Rattle.cfi_read_core.specs.ReadFunctions.{Read, Source, Position, Extent, Outcome, ◌>>=◌, ◌>>◌, carry_on, give, refuse, refuse_if, split, within, rest}
 use Rattle.cfi_read_core.specs.Numbers.{unsigned, offset_leb128, register_leb128, text}
-use Rattle.cfi_read_core.specs.Addresses.{IsAddressSize, address, address_size, address_width, is_address_size, sized_by}
+use Rattle.cfi_read_core.specs.Addresses.{IsAddressSize, address, address_size, address_width, is_address_size, sized_by, wrap}
 use Rattle.cfi_read_core.specs.ReaderCalls.{IsSound, bytes_left}
-use Rattle.cfi_read_core.specs.PointerEncodings.{is_valid_encoding}
+use Rattle.cfi_read_core.specs.PointerEncodings.{is_indirect, is_omitted, is_valid_encoding}
 use Rattle.cfi_read_core.proofs.Given.{Gives, gives_bind, gives_give, gives_refuse}
 use Rattle.cfi_read_core.proofs.Onward.{IsOnward, onward_give, onward_refuse, onward_refuse_if, onward_if, onward_bind, onward_split, onward_within, onward_unsigned, onward_offset_leb128, onward_register_leb128, onward_address}
 use Rattle.cfi_read_core.proofs.Leb128.{byte_there, no_byte_there}
 use Rattle.cfi_parts.specs.declared.pointer.Pointer.{Pointer}
+use Rattle.cfi_parts.specs.declared.pointer.Pointer.TheVariants.{Direct, Indirect}
 use Rattle.cfi_read_core.specs.CallFrameSections.{has_sizes}
-use Rattle.cfi_parts.specs.Pointers.{PointerContext, encoding_byte, encoded_value, pointer_value, pointer}
+use Rattle.cfi_parts.specs.Pointers.{PointerContext, base_of, encoding_byte, encoded_value, pointer_to, pointer_value, pointer}
 use Rattle.cfi_parts.proofs.InstructionLemmas.{onward_formatted, onward_pointer}
 use Rattle.cfi_entry.specs.Sections.{Section, pointer_context}
 use Rattle.cfi_entry.specs.Augmentations.{Augmentation, no_letters, letter, letters, letters_with_data, augmentation}
@@ -27,6 +28,23 @@ use Rattle.std.proofs.lemmas.Bool.{cases_lt}
 pub onward_encoding_byte : IsOnward encoding_byte
 unfolding encoding_byte
 onward_encoding_byte = onward_bind (unsigned w8) _ (onward_unsigned w8) (λ encoding. onward_if (is_valid_encoding encoding) (give encoding) _ (onward_give encoding) (onward_refuse _))
+
+-- ---- pointers
+
+rebuilt : (b : Bool) (a : ℕ) → (if b then Indirect (pointer_value (if b then Indirect a else Direct a)) else Direct (pointer_value (if b then Indirect a else Direct a))) ≡ (if b then Indirect a else Direct a)
+rebuilt true a = refl
+rebuilt false a = refl
+
+-- a pointer that is read is that of its value and its encoding
+pub pointer_gives : (encoding : ℕ) (context : PointerContext) → Gives (λ p. pointer_to encoding (pointer_value p) ≡ p) (pointer encoding context)
+unfolding pointer
+pointer_gives encoding context =
+    let P : Pointer → Type 0 = λ p. pointer_to encoding (pointer_value p) ≡ p in
+    let value_behind : ℕ → Read Pointer = λ base. encoded_value encoding context.size >>= λ value. give (pointer_to encoding (wrap base value context.size)) in
+    gives_bind P (refuse_if (is_omitted encoding) CannotParseOmitPointerEncoding) (λ _. base_of encoding context >>= value_behind) (λ _.
+    gives_bind P (base_of encoding context) value_behind (λ base.
+    gives_bind P (encoded_value encoding context.size) (λ value. give (pointer_to encoding (wrap base value context.size))) (λ value.
+    gives_give P (pointer_to encoding (wrap base value context.size)) (rebuilt (is_indirect encoding) (wrap base value context.size)))))
 
 -- ---- bytes
 

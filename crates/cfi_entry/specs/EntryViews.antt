@@ -3,14 +3,14 @@
 --     letter_context view at size      how the pointers of the section's CIEs are read
 --     prefix_view, augmentation_view, cie_view      the prefix of an entry, an augmentation and a CIE
 --     IsPrefixOf, IsCieOf position section      the prefix and the CIE are read from the bytes of the section
-use Rattle.std.specs.Prelude.{ℕ, None}
+use Rattle.std.specs.Prelude.{ℕ, Option, Some, None, if◌then◌else◌}
 use Rattle.std.specs.Option.{option_map}
 use Rattle.cfi_read_core.specs.ReadFunctions.{Position}
 use Rattle.cfi_read_core.specs.ReaderCalls.{extent_of}
 use Rattle.cfi_read_core.specs.CallFrameSections.{SectionView, IsOf}
 use Rattle.cfi_read_core.specs.AddressSizes.{size_in_bytes}
 use Rattle.cfi_read_core.specs.declared.address.AddressSize.{AddressSize}
-use Rattle.cfi_parts.specs.Pointers.{PointerContext}
+use Rattle.cfi_parts.specs.Pointers.{PointerContext, pointer_to}
 use Rattle.cfi_entry.specs.Sections.{Section, pointer_context, section_of}
 use Rattle.cfi_entry.specs.Prefixes.{Prefix}
 use Rattle.cfi_entry.specs.Augmentations.{Augmentation as AugmentationMeaning}
@@ -49,11 +49,15 @@ abbrev pub augmentation_view : Augmentation → AugmentationMeaning
 augmentation_view a = record {
   has_augmentation_data = a.has_augmentation_data;
   lsda_encoding = option_map (λ e. e.0) a.lsda_encoding;
-  personality = option_map (λ p. (p.0.0, p.1)) a.personality;
+  personality = option_map (λ e. (e.0, pointer_to e.0 a.personality)) a.personality_encoding;
   address_encoding = option_map (λ e. e.0) a.fde_address_encoding;
   is_signal_trampoline = a.is_signal_trampoline;
   uses_b_key = a.uses_b_key;
 }
+
+-- none where the string has no letter
+abbrev pub augmentation_if_any : Augmentation → Option AugmentationMeaning
+augmentation_if_any a = if a.has_letters then Some (augmentation_view a) else None
 
 abbrev pub cie_view : {R O : Type 0} → (R → Position) → (O → ℕ) → CieFields R O → Cie
 cie_view position number c = record {
@@ -61,7 +65,7 @@ cie_view position number c = record {
   length = number c.length;
   format = c.format;
   version = c.version;
-  augmentation = option_map augmentation_view c.augmentation;
+  augmentation = augmentation_if_any c.augmentation;
   address_size = size_in_bytes c.address_size;
   code_alignment_factor = c.code_alignment_factor;
   data_alignment_factor = c.data_alignment_factor;

@@ -7,6 +7,7 @@ ghost use Rattle.cfi_read_core.specs.AddressSizes.{size_in_bytes};
 ghost use Rattle.cfi_read_core.specs.ReaderCalls.{ReadsBy, ReadsValue, map_ok};
 ghost use Rattle.cfi_parts.specs.InstructionIterators.{instruction_reader};
 ghost use Rattle.cfi_parts.specs.InstructionReaders.{ReadsIn, instructions_left};
+ghost use Rattle.cfi_parts.specs.Pointers.{pointer_to};
 ghost use Rattle.cfi_entry.specs.Augmentations.{address_encoding_of, has_b_key, is_trampoline};
 ghost use Rattle.cfi_entry.specs.Augmentations.{lsda_encoding_of, personality_of};
 ghost use Rattle.cfi_entry.specs.Sections.{section_of};
@@ -31,16 +32,16 @@ use std::alloc::AllocError;
 #[derive(Copy, Debug, PartialEq, Eq)]
 pub struct CieFields<R, O> {
     // In an order with little padding, since a CIE is copied into each of its FDEs.
-    pub(crate) offset: O,
-    pub(crate) length: O,
-    pub(crate) format: Format,
     pub(crate) version: u8,
     pub(crate) address_size: AddressSize,
     pub(crate) return_address_register: Register,
+    pub(crate) format: Format,
+    pub(crate) offset: O,
+    pub(crate) length: O,
     pub(crate) code_alignment_factor: u64,
     pub(crate) data_alignment_factor: i64,
     pub(crate) initial_instructions: R,
-    pub(crate) augmentation: Option<Augmentation>,
+    pub(crate) augmentation: Augmentation,
 }
 
 impl<R: Copy, O: Copy> Clone for CieFields<R, O> {
@@ -167,6 +168,18 @@ pub fn address_size_of<R: Reader>(cie: &CommonInformationEntry<R>) -> AddressSiz
     cie.address_size
 }
 
+/// Returns the pointer of this value, which is indirect where the encoding says so.
+#[inline(always)]
+fn pointer_of(encoding: DwEhPe, value: u64) -> Pointer
+    ensures { result ≡ pointer_to encoding.0 value }
+{
+    if encoding.is_indirect() {
+        Pointer::Indirect(value)
+    } else {
+        Pointer::Direct(value)
+    }
+}
+
 impl<R: Reader> CommonInformationEntry<R> {
     /// Returns the offset in the section at which the entry begins.
     #[inline(always)]
@@ -222,7 +235,11 @@ impl<R: Reader> CommonInformationEntry<R> {
         ensures { option_map (λ a. augmentation_view a.now) result
             ≡ (cie_view R.position R.Offset.number self.now).augmentation }
     {
-        self.augmentation.as_ref()
+        if self.augmentation.has_letters {
+            Some(&self.augmentation)
+        } else {
+            None
+        }
     }
 
     /// Returns whether the FDEs have a pointer to language-specific data.
@@ -241,7 +258,7 @@ impl<R: Reader> CommonInformationEntry<R> {
         ensures { option_map (λ e. e.0) result
             ≡ lsda_encoding_of (cie_view R.position R.Offset.number self.now).augmentation }
     {
-        match self.augmentation {
+        match self.augmentation() {
             Some(known) => known.lsda_encoding,
             None => None,
         }
@@ -253,10 +270,9 @@ impl<R: Reader> CommonInformationEntry<R> {
         ensures { option_map (λ p. (p.0.0, p.1)) result
             ≡ personality_of (cie_view R.position R.Offset.number self.now).augmentation }
     {
-        match self.augmentation {
-            Some(known) => known.personality,
-            None => None,
-        }
+        let known = self.augmentation()?;
+        let encoding = known.personality_encoding?;
+        Some((encoding, pointer_of(encoding, known.personality)))
     }
 
     /// Returns the pointer to the personality routine.
@@ -278,7 +294,7 @@ impl<R: Reader> CommonInformationEntry<R> {
         ensures { option_map (λ e. e.0) result
             ≡ address_encoding_of (cie_view R.position R.Offset.number self.now).augmentation }
     {
-        match self.augmentation {
+        match self.augmentation() {
             Some(known) => known.fde_address_encoding,
             None => None,
         }
@@ -290,7 +306,7 @@ impl<R: Reader> CommonInformationEntry<R> {
         ensures { result
             ≡ is_trampoline (cie_view R.position R.Offset.number self.now).augmentation }
     {
-        match self.augmentation {
+        match self.augmentation() {
             Some(known) => known.is_signal_trampoline,
             None => false,
         }
@@ -302,7 +318,7 @@ impl<R: Reader> CommonInformationEntry<R> {
     pub fn uses_b_key(&self) -> bool
         ensures { result ≡ has_b_key (cie_view R.position R.Offset.number self.now).augmentation }
     {
-        match self.augmentation {
+        match self.augmentation() {
             Some(known) => known.uses_b_key,
             None => false,
         }

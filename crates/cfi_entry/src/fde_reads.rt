@@ -61,7 +61,7 @@ pub fn read_lsda<R: Reader, S: _UnwindSectionPrivate<R>>(
         (lsda (section_in S.view at.now) known.address_size initial_address known.augmentation)
         input.old result input.new }
 {
-    let Some(augmentation) = cie.augmentation else {
+    let Some(augmentation) = cie.augmentation() else {
         return Ok(None);
     };
     if !augmentation.has_augmentation_data {

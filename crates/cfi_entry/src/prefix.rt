@@ -1,8 +1,9 @@
 //! What each entry begins with: its length, which gives the format and the extent, and its id
 //! (DWARF 5 section 6.4.1).
-ghost use Rattle.std.specs.Prelude.{◌≡◌, IfOk, IfSome, ⊤};
+ghost use Rattle.std.specs.Prelude.{◌≡◌, ◌≢◌, IfOk, IfSome, MatchOption, Ok, ⊤};
 ghost use Rattle.std.specs.Option.{option_map};
-ghost use Rattle.cfi_read_core.specs.Numbers.{unsigned};
+ghost use Rattle.cfi_read_core.specs.Numbers.{initial_length, unsigned};
+ghost use Rattle.cfi_read_core.specs.declared.common.Format.TheVariants.{Dwarf32};
 ghost use Rattle.cfi_read_core.specs.ReaderCalls.{ReadsBy, ReadsValue, map_ok};
 ghost use Rattle.cfi_read_core.specs.CallFrameSections.{IsOf, width_of};
 ghost use Rattle.cfi_entry.specs.Prefixes.{fields_after_length, prefix};
@@ -80,6 +81,52 @@ fn read_identified<R: Reader, S: _UnwindSectionPrivate<R>>(
     })
 }
 
+/// Reads the length of an entry that is in the 32-bit format and has room for an id, as most are.
+/// Returns `None`, and reads nothing, where there is another.
+#[tactic(auto, unfolding(cfi_read_core::specs::Numbers::initial_length))]
+#[inline(always)]
+fn read_short_length<R: Reader>(input: &mut R) -> Option<R::Offset>
+    ensures { MatchOption result (R.position input.new ≡ R.position input.old) (λ length.
+        (R.Offset.number length ≢ 0) × ReadsValue R.position initial_length
+        input.old (Ok (record { length = R.Offset.number length; format = Dwarf32 })) input.new) }
+{
+    let mut ahead = *input;
+    let Ok(word) = ahead.read_u32() else {
+        return None;
+    };
+    if word < 4 || word >= 0xffff_fff0 {
+        return None;
+    }
+    let Ok(length) = R::Offset::from_u64(u64::from(word)) else {
+        return None;
+    };
+    *input = ahead;
+    Some(length)
+}
+
+/// Reads the prefix of an entry of any format and length, as `read_prefix`.
+#[tactic(auto, unfolding(crate::specs::Prefixes::prefix))]
+#[inline(always)]
+fn read_any_prefix<R: Reader, S: _UnwindSectionPrivate<R>>(
+    at: &InSection<'_, S>,
+    input: &mut R,
+) -> Result<Option<EntryPrefix<R, R::Offset>>>
+    requires { IsOf (R.position input.old) (position_in S.view at.now) }
+    ensures read { ReadsBy R.position (option_map (prefix_view R.position R.Offset.number))
+        (prefix (section_in S.view at.now)) input.old result input.new }
+    ensures part { IfOk result (λ found. IfSome found
+        (IsPrefixOf R.position (position_in S.view at.now))) }
+{
+    let offset = input.offset_from(at.section.section());
+    let (length, format) = input.read_initial_length()?;
+    if length.into_u64() == 0 {
+        return Ok(None);
+    }
+    let extent = input.split(length)?;
+    let found = read_identified(at, offset, length, format, extent)?;
+    Ok(Some(found))
+}
+
 /// Reads the prefix of the entry at which the input is, and moves the input past the entry. Returns
 /// `None` where the length is zero.
 ///
@@ -98,12 +145,11 @@ pub fn read_prefix<R: Reader, S: _UnwindSectionPrivate<R>>(
         (IsPrefixOf R.position (position_in S.view at.now))) }
 {
     let offset = input.offset_from(at.section.section());
-    let (length, format) = input.read_initial_length()?;
-    if length.into_u64() == 0 {
-        return Ok(None);
-    }
+    let Some(length) = read_short_length(input) else {
+        return read_any_prefix(at, input);
+    };
     let extent = input.split(length)?;
-    let found = read_identified(at, offset, length, format, extent)?;
+    let found = read_identified(at, offset, length, Format::Dwarf32, extent)?;
     Ok(Some(found))
 }
 

@@ -21,9 +21,9 @@ use std::alloc::AllocError;
 /// A frame description entry, generic over its reader and the reader's offsets.
 #[derive(Copy, Debug, PartialEq, Eq)]
 pub struct FdeFields<R, O> {
+    pub(crate) cie: CieFields<R, O>,
     pub(crate) offset: O,
     pub(crate) length: O,
-    pub(crate) cie: CieFields<R, O>,
     pub(crate) initial_address: u64,
     pub(crate) address_range: u64,
     pub(crate) lsda: Option<Pointer>,

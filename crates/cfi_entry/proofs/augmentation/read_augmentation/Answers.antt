@@ -1,11 +1,13 @@
-use Rattle.std.proofs.Common.{◌≡◌, ◌∙◌, Err, ne_eqb, rules}
+use Rattle.std.proofs.Common.{◌≡◌, ◌∙◌, Err, None, ne_eqb, rules}
 use Rattle.cfi_entry.proofs.EntryReads.{augmentation_announced, augmentation_none, augmentation_plain, byte_taken, none_taken}
 use Rattle.cfi_entry.specs.Augmentations.{no_letters}
-use Rattle.cfi_entry.specs.EntryViews.{augmentation_view}
+use Rattle.cfi_entry.specs.EntryViews.{augmentation_if_any, augmentation_view}
 use Rattle.cfi_entry.proofs.augmentation.read_augmentation.Goals as goal
 
 pub returns-in_default : goal.returns-in_default
-returns-in_default g c = (augmentation_none _ _ _ _ (none_taken _ _ c.in_default.ensures), search rules)
+returns-in_default g c =
+    let none : augmentation_if_any c.default.result ≡ None = search rules in
+    rw none (augmentation_none _ _ _ _ (none_taken _ _ c.in_default.ensures), search rules)
 
 pub returns-then-first-eq122 : goal.returns-then-first-eq122
 returns-then-first-eq122 g c =

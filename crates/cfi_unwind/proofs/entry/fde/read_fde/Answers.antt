@@ -10,7 +10,7 @@ use Rattle.cfi_entry.specs.Cies.{Cie}
 use Rattle.cfi_entry.specs.Fdes.{address_encoding_of, addresses, fde_after, fde_fields}
 use Rattle.cfi_entry.proofs.EntryReads.{onward_addresses, onward_lsda}
 use Rattle.cfi_entry.proofs.Within.{behind_of}
-use Rattle.cfi_entry.specs.EntryViews.{section_in, augmentation_view, cie_view, prefix_view}
+use Rattle.cfi_entry.specs.EntryViews.{augmentation_if_any, section_in, cie_view, prefix_view}
 use Rattle.cfi_unwind.specs.FdeViews.{fde_view}
 use Rattle.cfi_unwind.proofs.entry.fde.read_fde.Goals as goal
 
@@ -30,7 +30,7 @@ pub returns-clause-part : goal.returns-clause-part
 returns-clause-part g c =
     let section = section_in g.S._UnwindSectionPrivate.view c.args.at.now in
     let range = behind_of (onward_addresses section (size_in_bytes c.address_size_of-address_size.result) (option_map (λ e. e.0) c.fde_address_encoding-encoding.result)) c.read_addresses.ensures c.requires in
-    behind_of (onward_lsda section c.args.cie.now.address_size.bytes c.in_ok-initial_address.initial_address (option_map augmentation_view c.args.cie.now.augmentation)) c.read_lsda.ensures range
+    behind_of (onward_lsda section c.args.cie.now.address_size.bytes c.in_ok-initial_address.initial_address (augmentation_if_any c.args.cie.now.augmentation)) c.read_lsda.ensures range
 
 pub returns-in_err-initial_address-clause-read : goal.returns-in_err-initial_address-clause-read
 returns-in_err-initial_address-clause-read g c =

@@ -1,4 +1,4 @@
-use Rattle.std.proofs.Common.{◌≡◌, ◌-◌, ◌*◌, ℕ, Ok, Err, ap, sym, subst, refl, ◌∙◌, rules}
+use Rattle.std.proofs.Common.{◌≡◌, ◌-◌, ◌*◌, ℕ, Ok, Err, ap, arith, sym, subst, refl, ◌∙◌, rules}
 use Rattle.gimli_cfi.specs.BoundaryRows.{AreRising}
 use Rattle.cfi_entry.specs.SectionViews.{eh_frame_view}
 use Rattle.cfi_entry.specs.Entries.{FdeEntry, end_of_entry, entries, entries_left}
@@ -8,7 +8,7 @@ use Rattle.cfi_unwind.specs.FdeViews.{fde_view}
 use Rattle.cfi_read_core.specs.ReadFunctions.{Position}
 use Rattle.gimli_cfi.specs.TableCheck.{starts_for_fde}
 use Rattle.gimli_cfi.specs.HeaderViews.{section_view, header_section_view, table_view}
-use Rattle.gimli_cfi.proofs.EntryEnds.{StandsAt, stands_after, stands_first, stands_refused}
+use Rattle.gimli_cfi.proofs.EntryEnds.{StandsAt, ends_inside, stands_after, stands_first, stands_refused}
 use Rattle.gimli_cfi.proofs.Passed.{Passed, all_listed, entry_refused, fewer_fdes, is_among, passed_fde, passed_none, reason_of_fde, row_left}
 use Rattle.gimli_cfi.proofs.StartCounts.{at_most, none_yet, one_more, with_last}
 use Rattle.gimli_cfi.proofs.hdr.check.check_fdes.Goals as goal
@@ -51,6 +51,14 @@ returns-in-Err-read_whole-clause-calls g c =
 
 pub returns-in-Err-read_whole-clause-same : goal.returns-in-Err-read_whole-clause-same
 returns-in-Err-read_whole-clause-same g c = c.loop-entry.invariant.answers
+
+pub end_of_entry-end-requires : goal.end_of_entry-end-requires
+end_of_entry-end-requires g c =
+    let section = section_view g.R.Reader.position c.args.frame.now c.args.bases.now in
+    let met = rw (c.loop-entry.invariant.same_section, c.loop-entry.invariant.same_bases, c.in-Ok-Some.field-0-is) at c.in-Ok-Some.ensures.met in
+    let inside = ends_inside section _ c.loop-entry.invariant.stands met in
+    let sound = g.met.R.Reader.sound c.args.frame.now.section in
+    omega (arith, inside, sound.within, sound.fits, g.met.R.Reader.greatest c.args.frame.now.section)
 
 pub check_fde-requires-clause-answers : goal.check_fde-requires-clause-answers
 check_fde-requires-clause-answers g c = c.loop-entry.invariant.answers ∙ c.requires.answers

@@ -1,0 +1,9 @@
+use Rattle.cfi_read_core.proofs.Onward.{onward_initial_length}
+use Rattle.cfi_entry.proofs.Within.{behind_of, split_of}
+use Rattle.cfi_entry.proofs.prefix.read_any_prefix.Goals as goal
+
+pub read_identified-requires : goal.read_identified-requires
+read_identified-requires g c =
+    let sound = g.met.R.Reader.sound c.read_initial_length.new.self in
+    let whole = behind_of onward_initial_length c.read_initial_length.ensures c.requires in
+    split_of _ sound.ordered c.in_ok-extent.ensures.read.0 c.in_ok-extent.ensures.part whole
