@@ -3,3 +3,4 @@ pub mod Instructions
 pub mod InstructionReaders
 pub mod ReadingParameters
 pub mod InstructionIterators
+pub mod InstructionVisits

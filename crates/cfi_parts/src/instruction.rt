@@ -6,15 +6,18 @@ ghost use Rattle.cfi_read_core.specs.ReaderCalls.{map_ok};
 ghost use Rattle.cfi_parts.specs.InstructionReaders.{HasExpressionOf, IfFound, IsShorter};
 ghost use Rattle.cfi_parts.specs.InstructionReaders.{MeetsNext, SameContext, SameSource};
 ghost use Rattle.cfi_parts.specs.InstructionReaders.{StaysWithin};
+ghost use Rattle.cfi_parts.specs.InstructionVisits.{VisitsNext};
 ghost use Rattle.cfi_parts.specs.ReadingParameters.{NotBeforeSection, reader_at};
 
 mod parse;
+pub mod visitor;
 
 use crate::pointer::PointerEncodingParameters;
 pub use cfi_read_core::instruction::{CallFrameInstruction, UnwindExpression};
 use cfi_read_core::{DwEhPe, Reader, Result, Vendor};
-use parse::{InstructionParameters, parse_instruction};
+use parse::{InstructionParameters, visit_instruction};
 use std::alloc::AllocError;
+use visitor::{InstructionValue, InstructionVisitor};
 
 /// An iterator over the instructions of an entry (DWARF 5 sections 6.4.2 and 7.24).
 ///
@@ -99,7 +102,28 @@ impl<'a, R: Reader> CallFrameInstructionIter<'a, R> {
         ensures within { StaysWithin
             (instruction_reader R.position self.old) (instruction_reader R.position self.new) }
     {
-        next_instruction(&self.parameters, &mut self.input)
+        self.visit_next(&InstructionValue, &mut ())
+    }
+
+    /// Reads the next instruction and visits it, with a target. Returns what the visit returned, or
+    /// `None` at the end, and fails, as `next` does; the target then stays as it is.
+    #[inline(always)]
+    pub fn visit_next<C, V: InstructionVisitor<R::Offset, C>>(
+        &mut self,
+        visitor: &V,
+        target: &mut C,
+    ) -> Result<Option<V::Answer>>
+        ensures visits { VisitsNext R.Offset.number (V.visits visitor.now)
+            (instruction_reader R.position self.old) (instruction_reader R.position self.new)
+            target.old target.new result }
+        ensures context { SameContext
+            (instruction_reader R.position self.old) (instruction_reader R.position self.new) }
+        ensures source { SameSource
+            (instruction_reader R.position self.old) (instruction_reader R.position self.new) }
+        ensures within { StaysWithin
+            (instruction_reader R.position self.old) (instruction_reader R.position self.new) }
+    {
+        visit_next_instruction(&self.parameters, &mut self.input, visitor, target)
     }
 }
 
@@ -120,29 +144,26 @@ impl<R: Reader> Iterator for CallFrameInstructionIter<'_, R> {
     }
 }
 
-/// Reads the next instruction of the input. After an error the input is empty.
+/// Reads the next instruction of the input and visits it. After an error the input is empty.
 #[inline(always)]
-fn next_instruction<R: Reader>(
+fn visit_next_instruction<R: Reader, C, V: InstructionVisitor<R::Offset, C>>(
     parameters: &InstructionParameters<'_, R>,
     input: &mut R,
-) -> Result<Option<CallFrameInstruction<R::Offset>>>
+    visitor: &V,
+    target: &mut C,
+) -> Result<Option<V::Answer>>
     requires { NotBeforeSection R.position parameters.now.pointers input.old }
-    ensures met { MeetsNext R.Offset.number result
+    ensures visits { VisitsNext R.Offset.number (V.visits visitor.now)
         (reader_at R.position parameters.now input.old)
-        (reader_at R.position parameters.now input.new) }
+        (reader_at R.position parameters.now input.new) target.old target.new result }
     ensures source { (R.position input.new).source ≡ (R.position input.old).source }
     ensures behind { NotBeforeSection R.position parameters.now.pointers input.new }
-    ensures fewer { IfFound result (λ _. IsShorter
-        (reader_at R.position parameters.now input.new)
-        (reader_at R.position parameters.now input.old)) }
-    ensures expressions { IfFound result
-        (HasExpressionOf R.Offset.number (reader_at R.position parameters.now input.old)) }
 {
     if input.is_empty() {
         return Ok(None);
     }
-    match parse_instruction(parameters, input) {
-        Ok(instruction) => Ok(Some(instruction)),
+    match visit_instruction(parameters, input, visitor, target) {
+        Ok(answer) => Ok(Some(answer)),
         Err(refusal) => {
             input.empty();
             Err(refusal)

@@ -13,14 +13,18 @@ use Rattle.cfi_state.specs.declared.table.rules.RegisterRule.{RegisterRule}
 use Rattle.cfi_state.specs.Actions.{Action, sets_location, advances_location, defines_cfa, defines_cfa_register, defines_cfa_offset, defines_cfa_expression, gives_rule, restores_rule, toggles_sign_state, remembers_state, restores_state, sets_args_size, changes_nothing}
 use Rattle.cfi_state.specs.MachineSettings.{Setting, advanced_location, fits_address}
 
+-- the location that so many units further is, if it fits an address
+abbrev pub advanced : Setting → ℕ → ℕ → Result (Option ℕ) Error
+advanced setting location delta =
+    if fits_address setting (advanced_location setting location delta)
+    then Ok (Some (advanced_location setting location delta))
+    else Err AddressOverflow
+
 module _ {T : Type 0} where
   abbrev pub target : Setting → ℕ → Action T → Result (Option ℕ) Error
   target setting location (sets_location address) =
       if nat_lt address location then Err (InvalidCfiSetLoc address) else Ok (Some address)
-  target setting location (advances_location delta) =
-      if fits_address setting (advanced_location setting location delta)
-      then Ok (Some (advanced_location setting location delta))
-      else Err AddressOverflow
+  target setting location (advances_location delta) = advanced setting location delta
   target setting location _ = Ok None
 
   -- the other half of the CFA stays, unless the CFA is an expression

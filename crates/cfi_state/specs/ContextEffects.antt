@@ -1,14 +1,15 @@
 -- What the evaluation of an instruction does to a context and returns, by the machine's step.
 --     setting_of      what stays fixed, and the limits of a storage
 --     Evaluates      what an instruction at a location does to a context, and the result
+--     Runs      the same, and the result is an address if the instruction is a move
 --     EndsCie      the same of the end of a CIE's initial instructions
-use Rattle.std.specs.Prelude.{◌≡◌, ℕ, Bool, List, ◌∷◌, Option, Some, None, Result, Ok, Err}
+use Rattle.std.specs.Prelude.{◌≡◌, ℕ, Bool, List, ◌∷◌, Option, Some, None, is_some, Result, Ok, Err, IfOk}
 use Rattle.cfi_read_core.specs.declared.error.Error.{Error}
 use Rattle.cfi_read_core.specs.AddressSizes.{size_in_bytes}
 use Rattle.cfi_read_core.specs.declared.instruction.CallFrameInstruction.{CallFrameInstruction}
 use Rattle.cfi_state.specs.Actions.{Action, remembers_state, restores_state, action}
 use Rattle.cfi_state.specs.declared.table.machine.Parameters.{Parameters}
-use Rattle.cfi_state.specs.MachineSettings.{Setting}
+use Rattle.cfi_state.specs.MachineSettings.{Setting, is_move}
 use Rattle.cfi_state.specs.Machine.{step, end_of_cie}
 use Rattle.cfi_state.specs.Allocation.{may_allocate_at, may_allocate_at_end}
 use Rattle.cfi_state.specs.AllocatingOperations.{IsRefusal}
@@ -85,6 +86,13 @@ module _ {T : Type 0} where
       × (new ≡ old)
   Evaluates setting copies_free location instruction old new (Err error) =
       IsRefusedStep setting copies_free location instruction old new error
+
+  abbrev pub Runs :
+      Setting → Bool → ℕ → CallFrameInstruction T → ContextState T → ContextState T
+      → Result (Option ℕ) Error → Type 0
+  Runs setting copies_free location instruction old new result =
+      Evaluates setting copies_free location instruction old new result
+      × IfOk result (λ moved. is_some moved ≡ is_move instruction)
 
   abbrev pub EndsCie :
       Setting → Bool → ℕ → ContextState T → ContextState T → Result (Unit {0}) Error → Type 0

@@ -1,5 +1,5 @@
 -- How the evaluation of single instructions makes up the rows of a table and the program of a CIE, in numbers.
-use Rattle.std.proofs.Common.{◌≡◌, ℕ, ◌<◌, Bool, true, false, [], length, ◌+◌, ◌≤◌, cond, Option, Some, None, Result, Ok, Err, suc, is_some, sym, ap, subst, ◌∙◌, arith}
+use Rattle.std.proofs.Common.{◌≡◌, ℕ, ◌<◌, Bool, true, false, [], length, ◌+◌, ◌≤◌, cond, Option, Some, None, Result, Ok, Err, suc, is_some, refl, sym, ap, subst, ◌∙◌, arith}
 use Rattle.std.specs.Result.{IfOk}
 use Rattle.std.specs.Option.{option_map, IfSome}
 use Rattle.std.specs.Borrow.{Bor}
@@ -10,14 +10,15 @@ use Rattle.cfi_read_core.specs.declared.error.Error.{Error}
 use Rattle.cfi_read_core.specs.declared.error.Error.TheVariants.{NoUnwindInfoForAddress}
 use Rattle.cfi_read_core.specs.declared.instruction.CallFrameInstruction.{CallFrameInstruction}
 use Rattle.cfi_parts.specs.Instructions.{Instruction}
-use Rattle.cfi_parts.specs.InstructionReaders.{Meets}
+use Rattle.cfi_parts.specs.InstructionReaders.{InstructionReader, Meets, instructions_left}
+use Rattle.cfi_parts.specs.InstructionVisits.{VisitsNext}
 use Rattle.cfi_read_core.specs.MappedInstructions.{map_instruction}
 use Rattle.cfi_state.specs.Row.{Row, at_addresses}
 use Rattle.cfi_state.specs.MachineSettings.{Setting, is_move}
 use Rattle.cfi_state.specs.Machine.{State, fresh_state, step}
 use Rattle.cfi_state.specs.UnwindContexts.{ContextState, machine_state, with_row, empty_context}
-use Rattle.cfi_state.specs.ContextEffects.{Evaluates, EndsCie}
-use Rattle.cfi_state.specs.MappedStates.{map_parts, map_row}
+use Rattle.cfi_state.specs.ContextEffects.{Evaluates, EndsCie, Runs}
+use Rattle.cfi_state.specs.MappedStates.{map_row}
 use Rattle.cfi_state.specs.UnwindTableStates.{TableState, before_last_row, after_last_row}
 use Rattle.cfi_state.specs.MachineRuns.{MayAllocate, may_allocate, current_row, NextAnswer, passes, ends_row, refuses, cannot_read, last_row, no_row, RunsInitialInstructions, FindsRow, contains_it, goes_on, is_refused, comes_to_end, AnswersFde, by_cie, by_rows}
 use Rattle.cfi_state.specs.FdeAnswers.{row_contains}
@@ -142,6 +143,104 @@ module _ {T : Type 0} (number : T → ℕ) (given : Result (Option (CallFrameIns
 
   pub cie-unread : (allocates : MayAllocate ℕ) (s : Setting) (all : Readings Instruction) (x : State ℕ) → LeadsToCie allocates s fresh_state all x before → (e : Error) → given ≡ Err e → RunsInitialInstructions allocates s fresh_state all (Err e)
   cie-unread allocates s all x leads e is = cie-unreadable allocates s fresh_state all x before leads e (reads-refusal number given before after met e is).0
+
+-- ---- what a visit of the next instruction does
+
+abbrev VisitRuns : {T : Type 0} → (T → ℕ) → Setting → Bool → ℕ → InstructionReader → InstructionReader → ContextState T → ContextState T → Result (Option (Result (Option ℕ) Error)) Error → Type 0
+VisitRuns number s free location from to old new given = VisitsNext number (λ i before after answer. Runs s free location i before after answer) from to old new given
+
+module _ {T : Type 0} (number : T → ℕ) (s : Setting) (free : Bool) (location : ℕ) (from to : InstructionReader) (old new : ContextState T) (given : Result (Option (Result (Option ℕ) Error)) Error)
+    (visited : VisitRuns number s free location from to old new given) where
+  ran : (answer : Result (Option ℕ) Error) → given ≡ Ok (Some answer) → VisitRuns number s free location from to old new (Ok (Some answer))
+  ran answer is = subst (λ r. VisitRuns number s free location from to old new r) is visited
+
+  ended : given ≡ Ok None → VisitRuns number s free location from to old new (Ok None)
+  ended is = subst (λ r. VisitRuns number s free location from to old new r) is visited
+
+  unread : (e : Error) → given ≡ Err e → VisitRuns number s free location from to old new (Err e)
+  unread e is = subst (λ r. VisitRuns number s free location from to old new r) is visited
+
+  pub visit-fewer : (answer : Result (Option ℕ) Error) → given ≡ Ok (Some answer) → length (instructions_left to).values < length (instructions_left from).values
+  visit-fewer answer is =
+      let v = ran answer is in
+      reads-fewer number (Ok (Some v.0)) (instructions_left from) (instructions_left to) v.1 v.0 refl
+
+  pub visit-initial-stays : (answer : Result (Option ℕ) Error) → given ≡ Ok (Some answer) → answer ≡ Ok None → new.initial_rules ≡ old.initial_rules
+  visit-initial-stays answer is still = let v = ran answer is in initial-stays s free location v.0 old new answer v.2.0 still
+
+  pub visit-initial-moves : (answer : Result (Option ℕ) Error) → given ≡ Ok (Some answer) → (address : ℕ) → answer ≡ Ok (Some address) → new.initial_rules ≡ old.initial_rules
+  visit-initial-moves answer is address moves =
+      let v = ran answer is in
+      ap (λ (x : ContextState T). x.initial_rules) (moved-same s free location v.0 old new answer v.2.0 address moves)
+
+  pub visit-initial-ends : given ≡ Ok None → new.initial_rules ≡ old.initial_rules
+  visit-initial-ends is = ap (λ (x : ContextState T). x.initial_rules) (ended is).1
+
+  -- ---- as part of the rows
+
+  module _ (first : TableState (State ℕ) ℕ) (leads : LeadsTo (may_allocate s free) s first (before_last_row (state_in_numbers number location old) (instructions_left from))) where
+    pub visit-goes-on : (answer : Result (Option ℕ) Error) → given ≡ Ok (Some answer) → answer ≡ Ok None
+        → LeadsTo (may_allocate s free) s first (before_last_row (state_in_numbers number location new) (instructions_left to))
+    visit-goes-on answer is still =
+        let v = ran answer is in
+        row-goes-on number s free location v.0 old new answer v.2.0 first (instructions_left from) (instructions_left to) leads v.1 still v.2.1
+
+    pub visit-moves : (answer : Result (Option ℕ) Error) → given ≡ Ok (Some answer) → (address : ℕ) → answer ≡ Ok (Some address)
+        → NextAnswer (may_allocate s free) s first (row_due number s location new (Ok (Some address))) (state_after number location new (instructions_left to) (Ok (Some address)))
+    visit-moves answer is address moves =
+        let v = ran answer is in
+        row-moved number s free location v.0 old new answer v.2.0 first (instructions_left from) (instructions_left to) leads v.1 address moves v.2.1
+
+    pub visit-refused : (answer : Result (Option ℕ) Error) → given ≡ Ok (Some answer) → (e : Error) → answer ≡ Err e
+        → NextAnswer (may_allocate s free) s first (Err e) (before_last_row (state_in_numbers number location new) (instructions_left to))
+    visit-refused answer is e refused =
+        let v = ran answer is in
+        row-refused number s free location v.0 old new answer v.2.0 first (instructions_left from) (instructions_left to) leads v.1 e refused
+
+    pub visit-unreadable : (e : Error) → given ≡ Err e → NextAnswer (may_allocate s free) s first (Err e) (before_last_row (state_in_numbers number location new) (instructions_left to))
+    visit-unreadable e is =
+        let v = unread e is in
+        subst (λ c. NextAnswer (may_allocate s free) s first (Err e) (before_last_row (state_in_numbers number location c) (instructions_left to))) (sym v.1)
+        (row-unreadable number (Err e) (instructions_left from) (instructions_left to) v.0 (may_allocate s free) s first location old leads e refl)
+
+    pub visit-last : given ≡ Ok None → NextAnswer (may_allocate s free) s first (row_due number s location new (Ok None)) (state_after number location new (instructions_left to) (Ok None))
+    visit-last is =
+        let v = ended is in
+        subst (λ c. NextAnswer (may_allocate s free) s first (row_due number s location c (Ok None)) (state_after number location c (instructions_left to) (Ok None))) (sym v.1)
+        (row-last number (Ok None) (instructions_left from) (instructions_left to) v.0 (may_allocate s free) s first location old leads refl)
+
+  -- ---- as part of a CIE's initial instructions
+
+  module _ (all : Readings Instruction) (leads : LeadsToCie (may_allocate s free) s fresh_state all (state_in_numbers number location old) (instructions_left from)) where
+    pub visit-cie-stays : (answer : Result (Option ℕ) Error) → given ≡ Ok (Some answer) → answer ≡ Ok None
+        → LeadsToCie (may_allocate s free) s fresh_state all (state_in_numbers number location new) (instructions_left to)
+    visit-cie-stays answer is still =
+        let v = ran answer is in
+        cie-stays number s free location v.0 old new answer v.2.0 all (instructions_left from) (instructions_left to) leads v.1 still
+
+    pub visit-cie-moves : (answer : Result (Option ℕ) Error) → given ≡ Ok (Some answer) → (address : ℕ) → answer ≡ Ok (Some address)
+        → LeadsToCie (may_allocate s free) s fresh_state all (state_in_numbers number address new) (instructions_left to)
+    visit-cie-moves answer is address moves =
+        let v = ran answer is in
+        cie-moves number s free location v.0 old new answer v.2.0 all (instructions_left from) (instructions_left to) leads v.1 address moves
+
+    pub visit-cie-refuses : (answer : Result (Option ℕ) Error) → given ≡ Ok (Some answer) → (e : Error) → answer ≡ Err e → RunsInitialInstructions (may_allocate s free) s fresh_state all (Err e)
+    visit-cie-refuses answer is e refused =
+        let v = ran answer is in
+        cie-refuses number s free location v.0 old new answer v.2.0 all (instructions_left from) (instructions_left to) leads v.1 e refused
+
+    pub visit-cie-unread : (e : Error) → given ≡ Err e → RunsInitialInstructions (may_allocate s free) s fresh_state all (Err e)
+    visit-cie-unread e is =
+        let v = unread e is in
+        cie-unread number (Err e) (instructions_left from) (instructions_left to) v.0 (may_allocate s free) s all (state_in_numbers number location old) leads e refl
+
+    -- all are read: the context is as it was, and none is left
+    pub visit-cie-ends : given ≡ Ok None → LeadsToCie (may_allocate s free) s fresh_state all (state_in_numbers number location new) (instructions_left from)
+    visit-cie-ends is =
+        subst (λ c. LeadsToCie (may_allocate s free) s fresh_state all (state_in_numbers number location c) (instructions_left from)) (sym (ended is).1) leads
+
+  pub visit-none-left : given ≡ Ok None → instructions_left from ≡ no_values None
+  visit-none-left is = (ended is).0.0
 
 -- ---- the answers of a table
 

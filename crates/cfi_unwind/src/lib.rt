@@ -7,5 +7,6 @@
 pub mod cie_cache;
 pub mod entry;
 mod fde_rows;
+mod runner;
 pub mod unwind_section;
 pub mod unwind_table;

@@ -20,13 +20,14 @@ ghost use Rattle.cfi_unwind.specs.UnwindTableCalls.{AcceptsCieProgram, LendsNext
 ghost use Rattle.cfi_unwind.specs.UnwindTableCalls.{row_given, state_after, state_in_numbers};
 
 use crate::entry::FrameDescriptionEntry;
+use crate::runner::InstructionRunner;
 use crate::unwind_section::UnwindSection;
 use cfi_parts::instruction::CallFrameInstructionIter;
 use cfi_parts::pointer::BaseAddresses;
 use cfi_read_core::{Error, Reader, Result, StoreOnHeap};
 use cfi_state::storage::UnwindContextStorage;
 use cfi_state::table::context::UnwindContext;
-use cfi_state::table::machine::{Parameters, current_row, end_cie, evaluate, reset, set_addresses};
+use cfi_state::table::machine::{Parameters, current_row, end_cie, reset, set_addresses};
 use cfi_state::table::row::UnwindTableRow;
 
 /// The rows of an FDE, in order (DWARF 5 section 6.4.1).
@@ -249,8 +250,12 @@ fn run_to_move<'a, R: Reader, S: UnwindContextStorage<R::Offset>>(
         (state_after R.Offset.number location context.new
         (instructions_left (instruction_reader R.position instructions.new)) result) }
 {
-    while let Some(instruction) = instructions.next()? {
-        if let Some(address) = evaluate(context, parameters, location, instruction)? {
+    let runner = InstructionRunner {
+        parameters,
+        location,
+    };
+    while let Some(moved) = instructions.visit_next(&runner, context)? {
+        if let Some(address) = moved? {
             return Ok(Some(address));
         }
     }
@@ -272,8 +277,14 @@ fn run_initial<R: Reader, S: UnwindContextStorage<R::Offset>>(
 {
     let mut rest = instructions;
     let mut location = 0;
-    while let Some(instruction) = rest.next()? {
-        if let Some(address) = evaluate(context, parameters, location, instruction)? {
+    while let Some(moved) = rest.visit_next(
+        &InstructionRunner {
+            parameters,
+            location,
+        },
+        context,
+    )? {
+        if let Some(address) = moved? {
             location = address;
         }
     }

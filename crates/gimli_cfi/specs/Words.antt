@@ -90,6 +90,7 @@ pub use Rattle.cfi_parts.specs.Instructions.{Instruction}
 pub use Rattle.cfi_parts.specs.InstructionReaders.{InstructionReader, ReadsIn, Meets, instructions_left, items}
 pub use Rattle.cfi_parts.specs.InstructionReaders.{MeetsNext, IfFound, HasExpressionOf, SameContext, SameSource, StaysWithin}
 pub use Rattle.cfi_parts.specs.InstructionReaders.{IsShorter as HasFewerInstructions}
+pub use Rattle.cfi_parts.specs.InstructionVisits.{VisitsNext}
 pub use Rattle.cfi_parts.specs.ReadingParameters.{NotBeforeSection, instruction_context, pointer_context}
 pub use Rattle.cfi_parts.specs.InstructionIterators.{instruction_reader}
 pub use Rattle.cfi_entry.specs.EntryInstructions.{cie_instructions, fde_instructions}

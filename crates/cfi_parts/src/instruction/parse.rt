@@ -4,9 +4,11 @@ ghost use Rattle.cfi_read_core.specs.MappedInstructions.{map_expression, map_ins
 ghost use Rattle.cfi_read_core.specs.ReaderCalls.{ReadsBy, ReadsValue};
 ghost use Rattle.cfi_parts.specs.Instructions.{IsRare, by_extended_opcode, by_register_rules};
 ghost use Rattle.cfi_parts.specs.Instructions.{by_rules, expression, instruction, set_location};
+ghost use Rattle.cfi_parts.specs.InstructionVisits.{VisitsRead};
 ghost use Rattle.cfi_parts.specs.ReadingParameters.{NotBeforeSection, instruction_context};
 ghost use Rattle.cfi_parts.specs.ReadingParameters.{pointer_context};
 
+use crate::instruction::visitor::InstructionVisitor;
 use crate::instruction::{CallFrameInstruction, UnwindExpression};
 use crate::pointer::{PointerEncodingParameters, parse_encoded_pointer};
 use cfi_read_core::constants::{
@@ -78,77 +80,86 @@ fn parse_location<R: Reader>(
     }
 }
 
-/// Reads an instruction: its opcode and its operands.
+/// Reads an instruction, its opcode and its operands, and visits it.
 #[tactic(auto, unfolding(crate::specs::Instructions::instruction))]
 #[inline(always)]
-pub fn parse_instruction<R: Reader>(
+pub fn visit_instruction<R: Reader, C, V: InstructionVisitor<R::Offset, C>>(
     parameters: &InstructionParameters<'_, R>,
     input: &mut R,
-) -> Result<CallFrameInstruction<R::Offset>>
+    visitor: &V,
+    target: &mut C,
+) -> Result<V::Answer>
     requires { NotBeforeSection R.position parameters.now.pointers input.old }
-    ensures { ReadsBy R.position (map_instruction R.Offset.number)
+    ensures { VisitsRead R.Offset.number (V.visits visitor.now)
         (instruction (instruction_context R.position parameters.now))
-        input.old result input.new }
+        (R.position input.old) (R.position input.new) target.old target.new result }
 {
     let opcode = input.read_u8()?;
     // A primary opcode is the two high bits alone; the low six bits are its first operand.
     let low = opcode % 0x40;
     match DwCfa(opcode - low) {
-        DW_CFA_advance_loc => Ok(CallFrameInstruction::AdvanceLoc {
-            delta: u32::from(low),
-        }),
-        DW_CFA_offset => Ok(CallFrameInstruction::Offset {
-            register: Register(u16::from(low)),
-            factored_offset: input.read_uleb128()?,
-        }),
-        DW_CFA_restore => Ok(CallFrameInstruction::Restore {
-            register: Register(u16::from(low)),
-        }),
-        _ => parse_extended(DwCfa(opcode), parameters, input),
+        DW_CFA_advance_loc => Ok(visitor.advance(target, u32::from(low))),
+        DW_CFA_offset => {
+            let factored_offset = input.read_uleb128()?;
+            Ok(visitor.offset(target, Register(u16::from(low)), factored_offset))
+        }
+        DW_CFA_restore => Ok(visitor.restore(target, Register(u16::from(low)))),
+        _ => visit_extended(DwCfa(opcode), parameters, input, visitor, target),
     }
 }
 
-/// Reads the operands of an opcode whose two high bits are 0.
+/// Reads the operands of an opcode whose two high bits are 0, and visits the instruction.
 // The opcodes that compilers write most are read here and the others in a function of their own,
 // since a function reserves stack space for each of its arms.
 #[inline(always)]
-fn parse_extended<R: Reader>(
+fn visit_extended<R: Reader, C, V: InstructionVisitor<R::Offset, C>>(
     opcode: DwCfa,
     parameters: &InstructionParameters<'_, R>,
     input: &mut R,
-) -> Result<CallFrameInstruction<R::Offset>>
+    visitor: &V,
+    target: &mut C,
+) -> Result<V::Answer>
     requires { NotBeforeSection R.position parameters.now.pointers input.old }
-    ensures { ReadsBy R.position (map_instruction R.Offset.number)
+    ensures { VisitsRead R.Offset.number (V.visits visitor.now)
         (by_extended_opcode (instruction_context R.position parameters.now) opcode.0)
-        input.old result input.new }
+        (R.position input.old) (R.position input.new) target.old target.new result }
 {
     match opcode {
         // Row creation (section 6.4.2.1).
-        DW_CFA_advance_loc1 => Ok(CallFrameInstruction::AdvanceLoc {
-            delta: u32::from(input.read_u8()?),
-        }),
-        DW_CFA_advance_loc2 => Ok(CallFrameInstruction::AdvanceLoc {
-            delta: u32::from(input.read_u16()?),
-        }),
-        DW_CFA_advance_loc4 => Ok(CallFrameInstruction::AdvanceLoc {
-            delta: input.read_u32()?,
-        }),
+        DW_CFA_advance_loc1 => {
+            let delta = input.read_u8()?;
+            Ok(visitor.advance(target, u32::from(delta)))
+        }
+        DW_CFA_advance_loc2 => {
+            let delta = input.read_u16()?;
+            Ok(visitor.advance(target, u32::from(delta)))
+        }
+        DW_CFA_advance_loc4 => {
+            let delta = input.read_u32()?;
+            Ok(visitor.advance(target, delta))
+        }
         // The definition of the CFA (section 6.4.2.2).
-        DW_CFA_def_cfa => Ok(CallFrameInstruction::DefCfa {
-            register: read_register(input)?,
-            offset: input.read_uleb128()?,
-        }),
-        DW_CFA_def_cfa_register => Ok(CallFrameInstruction::DefCfaRegister {
-            register: read_register(input)?,
-        }),
-        DW_CFA_def_cfa_offset => Ok(CallFrameInstruction::DefCfaOffset {
-            offset: input.read_uleb128()?,
-        }),
+        DW_CFA_def_cfa => {
+            let register = read_register(input)?;
+            let offset = input.read_uleb128()?;
+            Ok(visitor.def_cfa(target, register, offset))
+        }
+        DW_CFA_def_cfa_register => {
+            let register = read_register(input)?;
+            Ok(visitor.def_cfa_register(target, register))
+        }
+        DW_CFA_def_cfa_offset => {
+            let offset = input.read_uleb128()?;
+            Ok(visitor.def_cfa_offset(target, offset))
+        }
         // Row state (section 6.4.2.4), and padding.
-        DW_CFA_nop => Ok(CallFrameInstruction::Nop),
-        DW_CFA_remember_state => Ok(CallFrameInstruction::RememberState),
-        DW_CFA_restore_state => Ok(CallFrameInstruction::RestoreState),
-        _ => parse_rare(opcode, parameters, input),
+        DW_CFA_nop => Ok(visitor.nop(target)),
+        DW_CFA_remember_state => Ok(visitor.remember_state(target)),
+        DW_CFA_restore_state => Ok(visitor.restore_state(target)),
+        _ => {
+            let instruction = parse_rare(opcode, parameters, input)?;
+            Ok(visitor.other(target, instruction))
+        }
     }
 }
 

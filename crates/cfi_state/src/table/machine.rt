@@ -3,15 +3,18 @@
 //! What the crates above this one do to a context is here, as free functions. They are not methods,
 //! so users of an unwind context do not see them.
 ghost use Rattle.std.specs.Prelude.{◌≡◌, ℕ, None, IfOk, is_some, true, false};
-ghost use Rattle.std.specs.Int.{w64, int_wrapping_mul};
+ghost use Rattle.std.specs.Int.{w64, cast_signed, int_wrapping_mul};
 ghost use Rattle.cfi_state.specs.MachineSettings.{Setting, is_move};
 ghost use Rattle.cfi_read_core.specs.declared.instruction.CallFrameInstruction.TheVariants
     as instruction;
+ghost use Rattle.cfi_read_core.specs.ReaderCalls.{map_ok};
 ghost use Rattle.cfi_state.specs.Row.{at_addresses};
+ghost use Rattle.cfi_state.specs.declared.table.rules.CfaRule.TheVariants as cfa_rule;
+ghost use Rattle.cfi_state.specs.declared.table.rules.RegisterRule.TheVariants as rule;
 ghost use Rattle.cfi_state.specs.UnwindContexts.{empty_context, machine_state, with_row};
 ghost use Rattle.cfi_state.specs.declared.table.machine.Parameters.{Parameters};
-ghost use Rattle.cfi_state.specs.ContextEffects.{setting_of, Changes, Evaluates, EndsCie};
-ghost use Rattle.cfi_state.specs.Actions.{action};
+ghost use Rattle.cfi_state.specs.ContextEffects.{setting_of, Changes, Evaluates, EndsCie, Runs};
+ghost use Rattle.cfi_state.specs.Actions.{action, unsigned_factored};
 ghost use Rattle.cfi_state.specs.ActionEffects as effects;
 
 use super::context::UnwindContext;
@@ -78,6 +81,143 @@ pub fn set_addresses<T: ReaderOffset, S: UnwindContextStorage<T>>(
     context.set_addresses(start, end);
 }
 
+/// Moves the location by `DW_CFA_advance_loc` (DWARF 5 section 6.4.2.1). Returns the new one. Fails
+/// with `AddressOverflow` if that does not fit the address size.
+#[inline(always)]
+pub fn advance(parameters: &Parameters, location: u64, delta: u32) -> Result<Option<u64>>
+    ensures { result ≡ effects.advanced (setting_of parameters.now None None) location delta }
+{
+    let distance = u64::from(delta).wrapping_mul(parameters.code_alignment_factor);
+    let address = location.add_sized(distance, parameters.address_size.bytes())?;
+    Ok(Some(address))
+}
+
+/// Runs `DW_CFA_offset`. Returns `None`, and fails as `evaluate` does.
+#[inline(always)]
+pub fn give_offset<T: ReaderOffset, S: UnwindContextStorage<T>>(
+    context: &mut UnwindContext<T, S>,
+    parameters: &Parameters,
+    register: Register,
+    factored_offset: u64,
+) -> Result<Option<u64>>
+    ensures { (location : ℕ) → Runs (setting_of parameters.now S.Rules.limit S.Stack.limit)
+        S.Rules.copies_free location (instruction.Offset register factored_offset)
+        context.old context.new result }
+{
+    unmoved(context.set_rule(register, at_offset(parameters, factored_offset)))
+}
+
+/// Runs `DW_CFA_restore`. Returns `None`, and fails as `evaluate` does.
+#[inline(always)]
+pub fn restore_initial<T: ReaderOffset, S: UnwindContextStorage<T>>(
+    context: &mut UnwindContext<T, S>,
+    register: Register,
+) -> Result<Option<u64>>
+    ensures { (parameters : Parameters) (location : ℕ) →
+        Runs (setting_of parameters S.Rules.limit S.Stack.limit) S.Rules.copies_free
+        location (instruction.Restore register) context.old context.new result }
+{
+    unmoved(restore_rule(context, register))
+}
+
+/// Runs `DW_CFA_def_cfa`. Returns `None`.
+#[inline(always)]
+pub fn define_cfa<T: ReaderOffset, S: UnwindContextStorage<T>>(
+    context: &mut UnwindContext<T, S>,
+    register: Register,
+    offset: u64,
+) -> Result<Option<u64>>
+    ensures { (parameters : Parameters) (location : ℕ) →
+        Runs (setting_of parameters S.Rules.limit S.Stack.limit) S.Rules.copies_free
+        location (instruction.DefCfa register offset) context.old context.new result }
+{
+    context.set_cfa(defined(register, offset));
+    Ok(None)
+}
+
+/// Runs `DW_CFA_def_cfa_register`. Returns `None`, and fails as `evaluate` does.
+#[inline(always)]
+pub fn define_cfa_register<T: ReaderOffset, S: UnwindContextStorage<T>>(
+    context: &mut UnwindContext<T, S>,
+    register: Register,
+) -> Result<Option<u64>>
+    ensures { (parameters : Parameters) (location : ℕ) →
+        Runs (setting_of parameters S.Rules.limit S.Stack.limit) S.Rules.copies_free
+        location (instruction.DefCfaRegister register) context.old context.new result }
+{
+    if let Some(cfa) = with_register(*context.row().cfa(), register)? {
+        context.set_cfa(cfa);
+    }
+    Ok(None)
+}
+
+/// Runs `DW_CFA_def_cfa_offset`. Returns `None`, and fails as `evaluate` does.
+#[inline(always)]
+pub fn define_cfa_offset<T: ReaderOffset, S: UnwindContextStorage<T>>(
+    context: &mut UnwindContext<T, S>,
+    offset: u64,
+) -> Result<Option<u64>>
+    ensures { (parameters : Parameters) (location : ℕ) →
+        Runs (setting_of parameters S.Rules.limit S.Stack.limit) S.Rules.copies_free
+        location (instruction.DefCfaOffset offset) context.old context.new result }
+{
+    if let Some(cfa) = with_unfactored_offset(*context.row().cfa(), offset)? {
+        context.set_cfa(cfa);
+    }
+    Ok(None)
+}
+
+/// Runs `DW_CFA_remember_state`. Returns `None`, and fails as `evaluate` does.
+#[inline(always)]
+pub fn remember_state<T: ReaderOffset, S: UnwindContextStorage<T>>(
+    context: &mut UnwindContext<T, S>,
+) -> Result<Option<u64>>
+    ensures { (parameters : Parameters) (location : ℕ) →
+        Runs (setting_of parameters S.Rules.limit S.Stack.limit) S.Rules.copies_free
+        location instruction.RememberState context.old context.new result }
+{
+    unmoved(context.remember())
+}
+
+/// Runs `DW_CFA_restore_state`. Returns `None`, and fails as `evaluate` does.
+#[inline(always)]
+pub fn restore_state<T: ReaderOffset, S: UnwindContextStorage<T>>(
+    context: &mut UnwindContext<T, S>,
+) -> Result<Option<u64>>
+    ensures { (parameters : Parameters) (location : ℕ) →
+        Runs (setting_of parameters S.Rules.limit S.Stack.limit) S.Rules.copies_free
+        location instruction.RestoreState context.old context.new result }
+{
+    unmoved(context.restore())
+}
+
+/// What an instruction that is not a move returns.
+#[inline(always)]
+fn unmoved(changed: Result<()>) -> Result<Option<u64>>
+    ensures { result ≡ map_ok (λ _. None) changed }
+{
+    changed?;
+    Ok(None)
+}
+
+/// The CFA at an offset from a register.
+#[inline(always)]
+fn defined<T: ReaderOffset>(register: Register, offset: u64) -> CfaRule<T>
+    ensures { result ≡ cfa_rule.RegisterAndOffset register (cast_signed w64 offset) }
+{
+    let offset = offset.cast_signed();
+    CfaRule::RegisterAndOffset { register, offset }
+}
+
+/// The rule of a register that is saved at an offset from the CFA.
+#[inline(always)]
+fn at_offset<T: ReaderOffset>(parameters: &Parameters, factored_offset: u64) -> RegisterRule<T>
+    ensures { result ≡ rule.Offset
+        (unsigned_factored factored_offset parameters.now.data_alignment_factor) }
+{
+    RegisterRule::Offset(parameters.factored(factored_offset.cast_signed()))
+}
+
 /// Runs one instruction at a location (DWARF 5 section 6.4.2). Returns the address that it moves
 /// to, or `None` if it is not a move.
 ///
@@ -91,7 +231,6 @@ pub fn set_addresses<T: ReaderOffset, S: UnwindContextStorage<T>>(
 /// - `TooManyRegisterRules`, `StackFull`: the storage's rules or rows are at their limit.
 /// - `PopWithEmptyStack`: no row is remembered.
 /// - `OutOfMemory`: a list without a limit grows, or a row is remembered whose copy allocates.
-#[inline(always)]
 pub fn evaluate<T: ReaderOffset, S: UnwindContextStorage<T>>(
     context: &mut UnwindContext<T, S>,
     parameters: &Parameters,
@@ -191,11 +330,7 @@ fn target<T: ReaderOffset>(
             }
             Ok(Some(address))
         }
-        CallFrameInstruction::AdvanceLoc { delta } => {
-            let distance = u64::from(delta).wrapping_mul(parameters.code_alignment_factor);
-            let address = location.add_sized(distance, parameters.address_size.bytes())?;
-            Ok(Some(address))
-        }
+        CallFrameInstruction::AdvanceLoc { delta } => advance(parameters, location, delta),
         _ => Ok(None),
     }
 }
@@ -212,10 +347,7 @@ fn cfa_given<T: ReaderOffset>(
         ≡ effects.cfa_given (setting_of parameters.now None None) old (action instruction) }
 {
     match instruction {
-        CallFrameInstruction::DefCfa { register, offset } => {
-            let offset = offset.cast_signed();
-            Ok(Some(CfaRule::RegisterAndOffset { register, offset }))
-        }
+        CallFrameInstruction::DefCfa { register, offset } => Ok(Some(defined(register, offset))),
         CallFrameInstruction::DefCfaSf {
             register,
             factored_offset,
@@ -224,7 +356,7 @@ fn cfa_given<T: ReaderOffset>(
             Ok(Some(CfaRule::RegisterAndOffset { register, offset }))
         }
         CallFrameInstruction::DefCfaRegister { register } => with_register(old, register),
-        CallFrameInstruction::DefCfaOffset { offset } => with_offset(old, offset.cast_signed()),
+        CallFrameInstruction::DefCfaOffset { offset } => with_unfactored_offset(old, offset),
         CallFrameInstruction::DefCfaOffsetSf { factored_offset } => {
             with_offset(old, parameters.factored(factored_offset))
         }
@@ -261,6 +393,17 @@ fn with_offset<T: ReaderOffset>(old: CfaRule<T>, offset: i64) -> Result<Option<C
     }
 }
 
+/// The CFA with another offset, which is the operand itself, and the same register.
+#[inline(always)]
+fn with_unfactored_offset<T: ReaderOffset>(
+    old: CfaRule<T>,
+    offset: u64,
+) -> Result<Option<CfaRule<T>>>
+    ensures { result ≡ effects.with_offset old (cast_signed w64 offset) }
+{
+    with_offset(old, offset.cast_signed())
+}
+
 /// The register that the instruction gives a rule, and the rule (DWARF 5 section 6.4.2.3).
 #[inline(always)]
 fn rule_given<T: ReaderOffset>(
@@ -276,10 +419,7 @@ fn rule_given<T: ReaderOffset>(
         CallFrameInstruction::Offset {
             register,
             factored_offset,
-        } => {
-            let offset = parameters.factored(factored_offset.cast_signed());
-            Some((register, RegisterRule::Offset(offset)))
-        }
+        } => Some((register, at_offset(parameters, factored_offset))),
         CallFrameInstruction::OffsetExtendedSf {
             register,
             factored_offset,
