@@ -4,7 +4,7 @@ ghost use Rattle.std.specs.FinMap as map;
 ghost use Rattle.cfi_read_core.specs.ReaderCalls.{map_ok};
 ghost use Rattle.cfi_programs.specs.WriterOutput.{Writes, Prints};
 ghost use Rattle.cfi_programs.specs.RowLines.{answer_line, cfa_text, row_head, row_rules};
-ghost use Rattle.cfi_programs.specs.RowLines.{row_text, rule_text};
+ghost use Rattle.cfi_programs.specs.RowLines.{expression_text, offset_text, row_text, rule_text};
 
 use crate::lines::{Address, write_part, write_refusal, write_text};
 use gimli_cfi::{
@@ -13,6 +13,34 @@ use gimli_cfi::{
 use std::fmt::{Display, Formatter};
 use std::io::Write;
 use std::{fmt, io};
+
+/// An offset from a register, with its sign.
+#[derive(Clone, Copy)]
+struct SignedOffset(i64);
+
+impl Display for SignedOffset {
+    ghost output = { λ offset. Some (offset_text offset.0) };
+
+    fn fmt<W: fmt::Write>(&self, f: &mut Formatter<W>) -> fmt::Result {
+        if self.0 < 0 {
+            write!(f, "{}", self.0)
+        } else {
+            write!(f, "+{}", self.0)
+        }
+    }
+}
+
+/// Where an expression is, and its length.
+#[derive(Clone, Copy)]
+struct Place(UnwindExpression<usize>);
+
+impl Display for Place {
+    ghost output = { λ place. Some (expression_text place.0) };
+
+    fn fmt<W: fmt::Write>(&self, f: &mut Formatter<W>) -> fmt::Result {
+        write!(f, "expr@{}:{}", self.0.offset, self.0.length)
+    }
+}
 
 /// The rule of the canonical frame address.
 #[derive(Clone, Copy)]
@@ -24,16 +52,10 @@ impl Display for Cfa {
     fn fmt<W: fmt::Write>(&self, f: &mut Formatter<W>) -> fmt::Result {
         match self.0 {
             CfaRule::RegisterAndOffset { register, offset } => {
-                if offset < 0 {
-                    write!(f, "r{}{}", register.0, offset)
-                } else {
-                    write!(f, "r{}+{}", register.0, offset)
-                }
+                let offset = SignedOffset(offset);
+                write!(f, "r{}{offset}", register.0)
             }
-            CfaRule::Expression(UnwindExpression { offset, length }) => write!(
-                f,
-                "expr@{offset}:{length}"
-            ),
+            CfaRule::Expression(expression) => Place(expression).fmt(f),
         }
     }
 }
@@ -47,19 +69,17 @@ impl Display for Rule {
 
     fn fmt<W: fmt::Write>(&self, f: &mut Formatter<W>) -> fmt::Result {
         match self.0 {
-            RegisterRule::Undefined => write!(f, "undefined"),
-            RegisterRule::SameValue => write!(f, "same"),
+            RegisterRule::Undefined => f.write_str("undefined"),
+            RegisterRule::SameValue => f.write_str("same"),
             RegisterRule::Offset(offset) => write!(f, "offset({offset})"),
             RegisterRule::ValOffset(offset) => write!(f, "val_offset({offset})"),
             RegisterRule::Register(register) => write!(f, "r{}", register.0),
-            RegisterRule::Expression(UnwindExpression { offset, length }) => write!(
-                f,
-                "expr@{offset}:{length}"
-            ),
-            RegisterRule::ValExpression(UnwindExpression { offset, length }) => {
-                write!(f, "val_expr@{offset}:{length}")
+            RegisterRule::Expression(expression) => Place(expression).fmt(f),
+            RegisterRule::ValExpression(expression) => {
+                let place = Place(expression);
+                write!(f, "val_{place}")
             }
-            RegisterRule::Architectural => write!(f, "architectural"),
+            RegisterRule::Architectural => f.write_str("architectural"),
             RegisterRule::Constant(value) => write!(f, "constant({value})"),
         }
     }

@@ -7,7 +7,7 @@ ghost use Rattle.cfi_programs.specs.DumpCommandLine.{set_section};
 use crate::words::{SectionWords, first, with_option};
 
 /// How the input holds the section.
-#[derive(Clone, Copy, Debug, PartialEq, Eq)]
+#[derive(Clone, Copy)]
 pub enum Form {
     /// In hexadecimal; spaces and line ends don't count.
     Hexadecimal,
@@ -16,7 +16,7 @@ pub enum Form {
 }
 
 /// What the words ask for.
-#[derive(Clone, Copy, Debug, PartialEq, Eq)]
+#[derive(Clone, Copy)]
 pub struct Request {
     /// The section, its byte order, the size of an address, the bases and the vendor.
     pub section: SectionWords,
