@@ -1,6 +1,6 @@
 use Rattle.std.proofs.Common.{◌<◌, ◌∙◌, arith}
 use Rattle.cfi_programs.proofs.RowLineLemmas.{get_behind, get_of_none}
-use Rattle.cfi_programs.proofs.row_line.end_of_rules.Goals as goal
+use Rattle.cfi_programs.proofs.row_line.UnwindTableRowUsizeHasRules.end.Goals as goal
 
 pub loop-register-preserved : goal.loop-register-preserved
 loop-register-preserved g c = (
