@@ -20,7 +20,7 @@ fn section_of(alloc: Global, count: u64, distance: u64) -> Result<Vec<u8>, Fail>
     Ok(bytes)
 }
 
-fn offset_of(row: Result<&CompiledRow, Error>) -> Result<i64, Error> {
+fn offset_of(row: Result<CompiledRow<'_>, Error>) -> Result<i64, Error> {
     match *row?.cfa() {
         CfaRule::RegisterAndOffset {
             register: Register(7),

@@ -1,5 +1,5 @@
-use Rattle.std.proofs.Common.{◌≡◌, ◌+◌, ◌-◌, ◌/◌, ◌≤◌, suc, length, ap, subst, ◌∙◌, arith}
-use Rattle.cfi_compiled.specs.PagedSteps.{IsSplitIn, PagedView, begin_of}
+use Rattle.std.proofs.Common.{◌≡◌, ◌+◌, ◌-◌, ◌/◌, suc, length, subst, arith}
+use Rattle.cfi_compiled.specs.PagedSteps.{PagedView, begin_of}
 use Rattle.cfi_compiled.specs.SearchedSteps.{IsSplit}
 use Rattle.cfi_compiled.proofs.PagedSearch.{split_before, split_in, begins_in_order, begins_inside}
 use Rattle.cfi_compiled.proofs.paged_steps.PagedSteps.count_to.Goals as goal

@@ -1,5 +1,4 @@
-use Rattle.std.proofs.Common.{◌≡◌, ◌+◌, ◌-◌, ◌*◌, ◌<◌, ◌≤◌, suc, length, get_or, sym, ap, subst, ◌∙◌, arith}
-use Rattle.cfi_compiled.specs.declared.step_list.NumberedStep.{NumberedStep}
+use Rattle.std.proofs.Common.{◌≡◌, ◌+◌, ◌-◌, ◌*◌, ◌<◌, suc, length, get_or, sym, ap, ◌∙◌, arith}
 use Rattle.cfi_compiled.specs.declared.paged_steps.PagedStep.{PagedStep}
 use Rattle.cfi_compiled.specs.PagedSteps.{PagedView, view_of}
 use Rattle.cfi_compiled.proofs.PagedLists.{passed_few, unpaged}

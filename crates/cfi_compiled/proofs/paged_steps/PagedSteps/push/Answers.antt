@@ -1,5 +1,4 @@
-use Rattle.std.proofs.Common.{◌≡◌, ◌+◌, ◌-◌, ◌/◌, ◌^◌, ◌<◌, ◌≤◌, List, [], ◌∷◌, ◌++◌, ℕ, length, sym, ap, subst, ◌∙◌, arith}
-use Rattle.cfi_compiled.specs.declared.step_list.NumberedStep.{NumberedStep}
+use Rattle.std.proofs.Common.{◌≡◌, ◌-◌, ◌/◌, ◌<◌, ◌≤◌, List, [], ◌∷◌, ◌++◌, ℕ, length, sym, ap, subst, ◌∙◌, arith}
 use Rattle.cfi_compiled.specs.PagedSteps.{IsPaged, PagedView, paged_from}
 use Rattle.cfi_compiled.proofs.PagedSearch.{how_many}
 use Rattle.cfi_compiled.proofs.PagedPushes.{all_pushed, end_more, longer, same_steps}
