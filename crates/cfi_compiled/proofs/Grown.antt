@@ -1,5 +1,5 @@
 -- Numbers of results go on to mean the same when results are added.
-use Rattle.std.proofs.Common.{◌≡◌, ℕ, suc, ◌+◌, ◌<◌, ◌≤◌, List, [], ◌∷◌, ◌++◌, map, length, get_or, Result, Err, refl, sym, ap, subst, ◌∙◌, arith}
+use Rattle.std.proofs.Common.{◌≡◌, ℕ, suc, ◌+◌, ◌<◌, ◌≤◌, List, [], ◌∷◌, ◌++◌, map, length, Result, Err, refl, sym, ap, subst, ◌∙◌, arith}
 use Rattle.std.specs.Prelude.{Ok, OnOk}
 use Rattle.std.proofs.lemmas.List.{append-nil, length-append, map_push, get_or-map, get_or_append_left}
 use Rattle.std.proofs.Math.ListN.{length-map}

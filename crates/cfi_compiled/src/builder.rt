@@ -1,6 +1,6 @@
 //! Tables while they are made.
-ghost use Rattle.std.specs.Prelude.{◌≡◌, ◌≤◌, ◌<◌, ◌+◌, ℕ, [], length, get_or, Ok, IfOk, IsTrue, OnOk};
-ghost use Rattle.std.specs.Prelude.{Result as TheResult};
+ghost use Rattle.std.specs.Prelude.{◌≡◌, ◌≤◌, ◌<◌, ◌+◌, ℕ, [], length, get_or, Ok};
+ghost use Rattle.std.specs.Prelude.{IfOk, IsTrue, OnOk, Result as TheResult};
 ghost use Rattle.gimli_cfi.specs.Words.{Error as TheError, map_ok};
 ghost use Rattle.cfi_compiled.specs.declared.rests.KeptRow.{KeptRow as Kept};
 ghost use Rattle.cfi_compiled.specs.CompiledTables.{EndsWith, IsAdded, parts_at, parts_numbered};
