@@ -1,7 +1,7 @@
 -- Which output is right for words and input.
 use Rattle.std.specs.Prelude.{◌≡◌, ◌⊎◌, ℕ, Option, Some, None, List, []}
 use Rattle.cfi_entry.specs.Sections.{Section}
-use Rattle.cfi_compiled.specs.CompiledTables.{NumberedSteps, IsCompiled, steps_of}
+use Rattle.cfi_compiled.specs.CompiledTables.{TableContents, IsCompiled, steps_of}
 use Rattle.cfi_programs.specs.declared.words.SectionWords.{SectionWords}
 use Rattle.cfi_programs.specs.Input.{Bytes, bytes_by}
 use Rattle.cfi_programs.specs.Lines.{Line}
@@ -30,7 +30,7 @@ text_output text = record { text = text; status = 0 }
 abbrev pub IsOutput : Printed → Section → Line → Type 0
 IsOutput printing.Entries section printed = printed ≡ text_output (section_text section)
 IsOutput printing.Compiled section printed =
-    (table : NumberedSteps) × IsCompiled (Some 192) (Some 4) section table × (printed ≡ text_output (steps_text (steps_of table)))
+    (table : TableContents) × IsCompiled (Some 192) (Some 4) section table × (printed ≡ text_output (steps_text (steps_of table)))
 
 -- the same, or that memory was refused
 abbrev pub IsPrinted : Printed → Section → Line → Type 0

@@ -2,7 +2,8 @@
 ghost use Rattle.std.specs.Prelude.{◌≡◌, ◌++◌, ◌≤◌, ℕ, [], ◌∷◌, Err, None, Ok};
 ghost use Rattle.std.specs.FinMap as map;
 ghost use Rattle.cfi_compiled.specs.CompiledRows.{parts_kept};
-ghost use Rattle.cfi_compiled.specs.CompiledTables.{step_view, steps_of};
+ghost use Rattle.cfi_compiled.specs.CompiledTables.{steps_of};
+ghost use Rattle.cfi_compiled.specs.TableSteps.{step_view};
 ghost use Rattle.cfi_programs.specs.WriterOutput.{Writes};
 ghost use Rattle.cfi_programs.specs.DumpCompiledTexts.{step_head, step_text, steps_text};
 
@@ -33,13 +34,13 @@ fn write_step<W: Write>(output: &mut W, step: &CompiledStep<'_>) -> io::Result<(
         (step_text viewed.start viewed.parts) }
 {
     match step.row {
-        Ok(row) => write_row(output, step.start, row),
+        Ok(row) => write_row(output, step.start, &row),
         Err(error) => write_error(output, step.start, error),
     }
 }
 
 /// Writes the line of a step that has a row, its registers in ascending order.
-fn write_row<W: Write>(output: &mut W, start: u64, row: &CompiledRow) -> io::Result<()>
+fn write_row<W: Write>(output: &mut W, start: u64, row: &CompiledRow<'_>) -> io::Result<()>
     ensures { Writes (W.contents output.old) (W.contents output.new) result
         (step_text start (Ok (parts_kept row.now))) }
 {
@@ -49,7 +50,7 @@ fn write_row<W: Write>(output: &mut W, start: u64, row: &CompiledRow) -> io::Res
 }
 
 /// Writes what comes before the rules: the first address, the CFA and the argument size.
-fn write_head<W: Write>(output: &mut W, start: u64, row: &CompiledRow) -> io::Result<()>
+fn write_head<W: Write>(output: &mut W, start: u64, row: &CompiledRow<'_>) -> io::Result<()>
     ensures { Writes (W.contents output.old) (W.contents output.new) result
         (step_head start (parts_kept row.now)) }
 {
@@ -69,7 +70,7 @@ fn write_error<W: Write>(output: &mut W, start: u64, error: Error) -> io::Result
     write_part(output, format_args!("{start} refused {name}\n"))
 }
 
-impl HasRules for CompiledRow {
+impl HasRules for CompiledRow<'_> {
     ghost parts = { parts_kept };
 
     fn rule(&self, register: Register) -> Option<RegisterRule<usize>> {

@@ -1,5 +1,6 @@
 use Rattle.std.proofs.Common.{subst, List, ℕ}
-use Rattle.cfi_compiled.specs.CompiledTables.{step_view, steps_left, steps_of}
+use Rattle.cfi_compiled.specs.CompiledTables.{steps_of}
+use Rattle.cfi_compiled.specs.TableSteps.{step_view, steps_left}
 use Rattle.cfi_programs.specs.DumpCompiledTexts.{step_text, steps_text}
 use Rattle.cfi_programs.proofs.DumpCompiledWritten.{none_left, one_more}
 use Rattle.cfi_programs.proofs.WrittenLemmas.{IsGiven, beginning_then, given_all, given_then, writes_refused}

@@ -1,4 +1,5 @@
-use Rattle.cfi_compiled.specs.CompiledTables.{steps_left, steps_of}
+use Rattle.cfi_compiled.specs.CompiledTables.{steps_of}
+use Rattle.cfi_compiled.specs.TableSteps.{steps_left}
 use Rattle.cfi_programs.specs.DumpCompiledTexts.{steps_text}
 use Rattle.cfi_programs.proofs.WrittenLemmas.{IsGiven}
 use Rattle.cfi_programs.proofs.dump.compiled.write_steps.Given as goal

@@ -33,5 +33,5 @@ pub returns-clause-above : goal.returns-clause-above
 returns-clause-above c = λ register above.
     let items = c.registers-pair-items.result.now in
     let none : drop c.loop-pair.pair-index items ≡ [] = drop_all c.loop-pair.pair-index items (omega (arith, c.loop-pair-test.false)) in
-    ap (λ rules. map.get rules register) (sym c.registers-pair-items.ensures)
+    ap (λ rules. map.get rules register) (sym c.registers-pair-items.ensures.rules)
     ∙ c.loop-pair.invariant.1 register above (ap (λ (l : List (Register × RegisterRule ℕ)). map.get (rules_of l) register) none ∙ get_of_none register)
