@@ -36,7 +36,7 @@ pub fn of_compiled<E: Endianity>(
 
 /// What a pass sums of each row.
 trait SumOfParts {
-    fn of(row: &CompiledRow) -> u64;
+    fn of(row: CompiledRow<'_>) -> u64;
 }
 
 /// The CFA.
@@ -44,7 +44,7 @@ struct CfaSums;
 
 impl SumOfParts for CfaSums {
     #[inline(always)]
-    fn of(row: &CompiledRow) -> u64 {
+    fn of(row: CompiledRow<'_>) -> u64 {
         cfa_sum(row.cfa())
     }
 }
@@ -54,7 +54,7 @@ struct PartsSums;
 
 impl SumOfParts for PartsSums {
     #[inline(always)]
-    fn of(row: &CompiledRow) -> u64 {
+    fn of(row: CompiledRow<'_>) -> u64 {
         compiled_sum(row)
     }
 }

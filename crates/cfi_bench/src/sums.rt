@@ -93,7 +93,7 @@ pub fn rules_sum<S: UnwindContextStorage<usize>>(row: &UnwindTableRow<usize, S::
 }
 
 /// The parts of a row: its CFA, the size of pushed arguments and every rule.
-pub fn compiled_sum(row: &CompiledRow) -> u64 {
+pub fn compiled_sum(row: CompiledRow<'_>) -> u64 {
     let mut sum = mix(cfa_sum(row.cfa()), row.saved_args_size());
     for (register, rule) in row.registers() {
         sum = sum.wrapping_add(rule_sum(*register, *rule));

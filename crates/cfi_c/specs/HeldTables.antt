@@ -6,9 +6,9 @@ use denote.RawPtr.{Ptr}
 use Rattle.std_alloc.specs.Box.Ownership.{box_owns}
 use Rattle.std.specs.contracts.alloc.Global.{the_row as heap}
 use Rattle.std.specs.contracts.impls.GlobalAllocator.TheImpl.{ghosts}
-use Rattle.cfi_compiled.specs.CompiledTables.{NumberedSteps}
+use Rattle.cfi_compiled.specs.CompiledTables.{TableContents}
 use Rattle.cfi_compiled.specs.contracts.table.CompiledTable.{the_row as table_row}
 
-abbrev pub owned : Option NumberedSteps → heap.Denot → Ptr → Fml
+abbrev pub owned : Option TableContents → heap.Denot → Ptr → Fml
 owned (Some table) alloc p = box_owns (ghosts.dealloc_token alloc) table_row p table
 owned None alloc p = ftrue

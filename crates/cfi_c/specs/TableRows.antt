@@ -7,7 +7,7 @@ use Rattle.cfi_read_core.specs.Addresses.{IsAddressSize}
 use Rattle.cfi_read_core.specs.ReaderCalls.{map_ok}
 use Rattle.cfi_read_core.specs.declared.error.Error.TheVariants.{UnsupportedAddressSize, OutOfMemory}
 use Rattle.gimli_cfi.specs.Words.{Row, Parts}
-use Rattle.cfi_compiled.specs.CompiledTables.{NumberedSteps, IsCompiled, parts_at}
+use Rattle.cfi_compiled.specs.CompiledTables.{TableContents, IsCompiled, parts_at}
 use Rattle.cfi_c.specs.declared.CfiBases.{CfiBases}
 use Rattle.cfi_c.specs.declared.CfiRow.{CfiRow}
 use Rattle.cfi_c.specs.declared.CfiRule.{CfiRule}
@@ -16,23 +16,23 @@ use Rattle.cfi_c.specs.Refusals.{number}
 use Rattle.cfi_c.specs.PassedSections.{section_of}
 use Rattle.cfi_c.specs.AddressRows.{IsAnswered}
 
-abbrev pub table_in : CfiTable → Option NumberedSteps
+abbrev pub table_in : CfiTable → Option TableContents
 table_in table = table.held.table
 
 -- ---- a table is made
 
 -- for every address the row by a scan of the bytes, but its two addresses
-abbrev pub IsTableOf : CfiBases → List ℕ → NumberedSteps → Type 0
+abbrev pub IsTableOf : CfiBases → List ℕ → TableContents → Type 0
 IsTableOf bases bytes table = IsCompiled (Some 192) (Some 4) (section_of bases bytes) table
 
-abbrev pub IsMade : CfiBases → List ℕ → ℤ → Option NumberedSteps → Type 0
-IsMade bases bytes status new = (table : NumberedSteps) × (status ≡ pos 0) × (new ≡ Some table) × IsTableOf bases bytes table
+abbrev pub IsMade : CfiBases → List ℕ → ℤ → Option TableContents → Type 0
+IsMade bases bytes status new = (table : TableContents) × (status ≡ pos 0) × (new ≡ Some table) × IsTableOf bases bytes table
 
 -- nothing is written
-abbrev pub IsLeft : Option NumberedSteps → ℤ → ℤ → Option NumberedSteps → Type 0
+abbrev pub IsLeft : Option TableContents → ℤ → ℤ → Option TableContents → Type 0
 IsLeft old due status new = (status ≡ due) × (new ≡ old)
 
-abbrev pub IsTableMade : CfiBases → List ℕ → Option NumberedSteps → ℤ → Option NumberedSteps → Type 0
+abbrev pub IsTableMade : CfiBases → List ℕ → Option TableContents → ℤ → Option TableContents → Type 0
 IsTableMade bases bytes old status new =
     ((IsAddressSize bases.address_size → ⊥) → IsLeft old (number (UnsupportedAddressSize bases.address_size)) status new)
     × (IsAddressSize bases.address_size → IsMade bases bytes status new ⊎ IsLeft old (number OutOfMemory) status new)
@@ -44,6 +44,6 @@ abbrev pub unplaced : Parts ℕ → Row ℕ
 unplaced parts = record { start_address = 0; end_address = 0; parts = parts }
 
 -- 33: there is no table
-abbrev pub IsTableRow : Option NumberedSteps → ℕ → CfiRow → List CfiRule → Type 0
+abbrev pub IsTableRow : Option TableContents → ℕ → CfiRow → List CfiRule → Type 0
 IsTableRow (Some table) a out rules = IsAnswered (map_ok unplaced (parts_at table a)) out rules 0 (length rules)
 IsTableRow None a out rules = (out.status ≡ pos 33) × (out.refused ≡ 0)

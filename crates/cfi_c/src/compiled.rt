@@ -144,7 +144,7 @@ fn answer(table: Option<&CompiledTable>, address: u64, row: &mut CfiRow, rules: 
 
 /// Writes what a row says, and as many rules as fit; or the number of the error, with what it
 /// carries.
-fn write_row(found: Result<&CompiledRow, Error>, row: &mut CfiRow, rules: &mut [CfiRule])
+fn write_row(found: Result<CompiledRow<'_>, Error>, row: &mut CfiRow, rules: &mut [CfiRule])
     ensures { IsAnswered (map_ok unplaced (parts_lent found.entry))
         row.new rules.new 0 (length rules.new) }
 {
@@ -161,8 +161,8 @@ fn write_row(found: Result<&CompiledRow, Error>, row: &mut CfiRow, rules: &mut [
 }
 
 /// Writes the rules of the registers from 0 up.
-fn write_rules(found: &CompiledRow, rules: &mut [CfiRule])
-    ensures { IsRules (unplaced (parts_kept found.now)) rules.new 0 (length rules.new) }
+fn write_rules(found: CompiledRow<'_>, rules: &mut [CfiRule])
+    ensures { IsRules (unplaced (parts_kept found.entry)) rules.new 0 (length rules.new) }
 {
     for k in 0..rules.len() {
         rules[k] = rule_of(found_rule(found, k));
@@ -170,8 +170,8 @@ fn write_rules(found: &CompiledRow, rules: &mut [CfiRule])
 }
 
 /// Returns the rule of register `k`; `None` also where there is no such register.
-fn found_rule(found: &CompiledRow, k: usize) -> Option<RegisterRule<usize>>
-    ensures { result ≡ rule_at (unplaced (parts_kept found.now)) k }
+fn found_rule(found: CompiledRow<'_>, k: usize) -> Option<RegisterRule<usize>>
+    ensures { result ≡ rule_at (unplaced (parts_kept found.entry)) k }
 {
     if k <= 0xffff {
         found.register(Register(k as u16))

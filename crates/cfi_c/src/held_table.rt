@@ -1,6 +1,6 @@
 //! A compiled table by its address, as C holds it.
 ghost use Rattle.std.specs.Prelude.{◌≡◌, Option, Some, None, true};
-ghost use Rattle.cfi_compiled.specs.CompiledTables.{NumberedSteps};
+ghost use Rattle.cfi_compiled.specs.CompiledTables.{TableContents};
 ghost use Rattle.cfi_c.specs.AddressRows.{is_live};
 ghost use Rattle.cfi_c.specs.HeldTables.{owned};
 
@@ -16,7 +16,7 @@ use std::marker::Model;
 pub struct HeldTable {
     at: *mut u8,
     alloc: Global,
-    pub ghost table: { Option NumberedSteps },
+    pub ghost table: { Option TableContents },
 }
 
 impl Model for HeldTable {

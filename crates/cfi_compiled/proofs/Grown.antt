@@ -1,34 +1,23 @@
 -- Numbers of results go on to mean the same when results are added.
-use Rattle.std.proofs.Common.{◌≡◌, ℕ, zero, suc, ◌+◌, ◌<◌, ◌≤◌, List, [], ◌∷◌, ◌++◌, map, length, get_or, Result, Err, refl, sym, ap, subst, ◌∙◌, arith}
+use Rattle.std.proofs.Common.{◌≡◌, ℕ, suc, ◌+◌, ◌<◌, ◌≤◌, List, [], ◌∷◌, ◌++◌, map, length, Result, Err, refl, sym, ap, subst, ◌∙◌, arith}
 use Rattle.std.specs.Prelude.{Ok, OnOk}
-use Rattle.std.proofs.lemmas.List.{append-nil, map_push, get_or-map}
+use Rattle.std.proofs.lemmas.List.{append-nil, length-append, map_push, get_or-map, get_or_append_left}
 use Rattle.std.proofs.Math.ListN.{length-map}
 use Rattle.std.proofs.lemmas.List.Elements.{All-push}
 use Rattle.cfi_read_core.specs.declared.error.Error.{Error}
 use Rattle.cfi_read_core.specs.declared.error.Error.TheVariants.{NoUnwindInfoForAddress}
-use Rattle.cfi_read_core.specs.ReaderCalls.{map_ok}
-use Rattle.cfi_compiled.specs.declared.row.CompiledRow.{CompiledRow}
+use Rattle.cfi_state.specs.Machine.{Parts}
 use Rattle.cfi_compiled.specs.declared.step_list.NumberedStep.{NumberedStep}
-use Rattle.cfi_compiled.specs.CompiledRows.{parts_kept}
-use Rattle.cfi_compiled.specs.CompiledTables.{AreNumbersOf, EndsWith, Extends, parts_numbered, step_named}
+use Rattle.cfi_compiled.specs.CompiledTables.{AreNumbersOf, EndsWith, parts_numbered, step_named}
 use Rattle.cfi_compiled.specs.Steps.{Step, Rise, free_from, parts_by_steps}
 use Rattle.cfi_compiled.proofs.StepFunctions.{below_more, from_more, rise_more, free_more, last_decides}
 
-abbrev Results : Type 0
-Results = List (Result CompiledRow Error)
+abbrev pub Results : Type 0
+Results = List (Result (Parts ℕ) Error)
 
-in_front : (xs ys : Results) (n : ℕ) (d : Result CompiledRow Error) → n < length xs → get_or (xs ++ ys) n d ≡ get_or xs n d
-in_front [] ys n d within = absurd (omega arith)
-in_front (x ∷ xs) ys zero d within = refl
-in_front (x ∷ xs) ys (suc n) d within = in_front xs ys n d (omega (arith, within))
-
-pub last_there : (xs : Results) (x d : Result CompiledRow Error) → get_or (xs ++ x ∷ []) (length xs) d ≡ x
-last_there [] x d = refl
-last_there (y ∷ xs) x d = last_there xs x d
-
-longer : (xs ys : Results) → length xs ≤ length (xs ++ ys)
-longer [] ys = omega arith
-longer (x ∷ xs) ys = omega (arith, longer xs ys)
+-- results are added at the end, where any are
+abbrev pub Extends : Results → Results → Type 0
+Extends old new = (more : Results) × (new ≡ old ++ more)
 
 pub if_ok : {A E : Type 0} {P : Type 0} → (result : Result A E) → P → OnOk result P
 if_ok (Ok x) p = p
@@ -42,12 +31,13 @@ module _ (old new : Results) (extends : Extends old new) where
   pub same_number : (n : ℕ) → n < length old → parts_numbered new n ≡ parts_numbered old n
   same_number n within =
       ap (λ (l : Results). parts_numbered l n) extends.1
-      ∙ ap (map_ok parts_kept) (in_front old extends.0 n _ within)
+      ∙ get_or_append_left old extends.0 (Err NoUnwindInfoForAddress) n within
 
   pub numbers_remain : (numbers : List NumberedStep) → AreNumbersOf old numbers → AreNumbersOf new numbers
   numbers_remain numbers all i d within =
       let more = ap (λ (l : Results). length l) extends.1 in
-      omega (arith, all i d within, longer old extends.0, more)
+      let long = length-append old extends.0 in
+      omega (arith, all i d within, long, more)
 
   pub steps_remain : (numbers : List NumberedStep) → AreNumbersOf old numbers → map (step_named new) numbers ≡ map (step_named old) numbers
   steps_remain [] all = refl

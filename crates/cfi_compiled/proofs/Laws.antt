@@ -7,9 +7,9 @@ use Rattle.std.specs.Prelude.{◌⊎◌}
 use Rattle.cfi_unwind.proofs.Laws.{scan_is_due_where_fixed}
 use Rattle.gimli_cfi.specs.Words.{Error, IsFixed, IsRowByScan, OutOfMemory, Row, Section, row_by_scan}
 use Rattle.cfi_compiled.specs.CompiledRows.{parts_of_row}
-use Rattle.cfi_compiled.specs.CompiledTables.{NumberedSteps, IsCompiled, parts_at}
+use Rattle.cfi_compiled.specs.CompiledTables.{TableContents, IsCompiled, parts_at}
 
-module _ (rule_limit stack_limit : Option ℕ) (copies_free : Bool) (section : Section) (table : NumberedSteps) (compiled : IsCompiled rule_limit stack_limit section table) (a : ℕ) (scanned : Result (Row ℕ) Error)
+module _ (rule_limit stack_limit : Option ℕ) (copies_free : Bool) (section : Section) (table : TableContents) (compiled : IsCompiled rule_limit stack_limit section table) (a : ℕ) (scanned : Result (Row ℕ) Error)
     (scan : IsRowByScan rule_limit stack_limit copies_free section a scanned) where
   is_due : scanned ≡ row_by_scan rule_limit stack_limit section a → parts_at table a ≡ parts_of_row scanned
   is_due due = compiled a ∙ ap parts_of_row (sym due)

@@ -16,4 +16,6 @@ mod PagedPushes
 mod PagedTables
 mod Grown
 mod RuleLists
+mod RestLists
+mod KeptResults
 pub mod Laws

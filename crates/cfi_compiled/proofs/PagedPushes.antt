@@ -6,7 +6,7 @@ use Rattle.std.proofs.lemmas.List.Elements.{All-push}
 use Rattle.std.proofs.lemmas.Nat.{div-add-mod'}
 use Rattle.cfi_compiled.specs.declared.step_list.NumberedStep.{NumberedStep}
 use Rattle.cfi_compiled.specs.declared.paged_steps.PagedStep.{PagedStep}
-use Rattle.cfi_compiled.specs.PagedSteps.{IsPaged, pages_passed, paged_from, view_of}
+use Rattle.cfi_compiled.specs.PagedSteps.{IsPaged, number_of, offset_of, pages_passed, paged_from, view_of}
 use Rattle.cfi_compiled.proofs.PagedLists.{paged_push, paged_ends_more, passed_all}
 
 in_front : (xs : List ℕ) (y n : ℕ) → n < length xs → get_or (xs ++ y ∷ []) n 0 ≡ get_or xs n 0
@@ -27,7 +27,7 @@ module _ (first : ℕ) (ends : List ℕ) (steps : List PagedStep) (paged : IsPag
       (λ (last : length ends ≤ p). let is : length ends ≡ p = omega (arith, long, inside, last) in inr (sym is, get_or_push ends (length steps) 0 p is))
       (cases_lt p (length ends))
 
-  pub end_more : first + length ends + 1 < 2 ^ 48 → IsPaged first (ends ++ length steps ∷ []) steps
+  pub end_more : first + length ends + 1 < 2 ^ 55 → IsPaged first (ends ++ length steps ∷ []) steps
   end_more below = record {
     rising = λ p q order inside.
         let long = longer ends (length steps) in
@@ -55,25 +55,23 @@ module _ (first : ℕ) (ends : List ℕ) (steps : List PagedStep) (paged : IsPag
   pub same_steps : paged_from 0 first (ends ++ length steps ∷ []) steps ≡ paged_from 0 first ends steps
   same_steps = paged_ends_more steps 0 first ends (length steps) (omega arith)
 
-  module _ (start number : ℕ) (page : first + length ends ≡ start / 65536) where
-    abbrev pub last : PagedStep
-    last = record { offset = start % 65536; number = number }
-
+  module _ (start number : ℕ) (page : first + length ends ≡ start / 512) (last : PagedStep) (at : offset_of last ≡ start % 512) (named : number_of last ≡ number) where
     pub step_more : IsPaged first ends (steps ++ last ∷ [])
     step_more = record {
       rising = paged.rising;
       within = λ p inside. let long = longer steps last in let up = paged.within p inside in omega (arith, long, up);
-      offsets = All-push (λ (s : PagedStep). s.offset < 65536) steps last paged.offsets (omega arith);
+      offsets = All-push (λ (s : PagedStep). offset_of s < 512) steps last paged.offsets (omega (arith, at));
       below = paged.below;
     }
 
     pub pushed : paged_from 0 first ends (steps ++ last ∷ []) ≡ paged_from 0 first ends steps ++ record { start = start; number = number } ∷ []
     pushed =
         let all : pages_passed ends (0 + length steps) ≡ length ends = passed_all ends (0 + length steps) (λ p inside. let up = paged.within p inside in omega (arith, up)) in
-        let whole = div-add-mod' start 65536 in
-        let is : (first + pages_passed ends (0 + length steps)) * 65536 + start % 65536 ≡ start = omega (arith, all, page, whole) in
+        let whole = div-add-mod' start 512 in
+        let is : (first + pages_passed ends (0 + length steps)) * 512 + offset_of last ≡ start = omega (arith, all, page, whole, at) in
         paged_push steps 0 first ends last
-        ∙ ap (λ n. paged_from 0 first ends steps ++ record { start = n; number = number } ∷ []) is
+        ∙ ap (λ n. paged_from 0 first ends steps ++ record { start = n; number = number_of last } ∷ []) is
+        ∙ ap (λ n. paged_from 0 first ends steps ++ record { start = start; number = n } ∷ []) named
 
 -- while pages are added to those there were
 pub record IsPushing (lead first : ℕ) (ends : List ℕ) (steps : List PagedStep) (lead-now first-now : ℕ) (ends-now : List ℕ) (steps-now : List PagedStep) (pages : ℕ) : Type 0 where
@@ -86,13 +84,12 @@ pub record IsPushing (lead first : ℕ) (ends : List ℕ) (steps : List PagedSte
 
 pub all_pushed : (lead first : ℕ) (ends : List ℕ) (steps : List PagedStep) (lead-now first-now : ℕ) (ends-now : List ℕ) (steps-now : List PagedStep) (pages : ℕ)
     → IsPushing lead first ends steps lead-now first-now ends-now steps-now pages → pages ≤ length ends-now
-    → (start number : ℕ) → first + pages ≡ start / 65536 → (items : List PagedStep) → items ≡ steps-now ++ record { offset = start % 65536; number = number } ∷ []
+    → (start number : ℕ) → first + pages ≡ start / 512 → (last : PagedStep) → offset_of last ≡ start % 512 → number_of last ≡ number → (items : List PagedStep) → items ≡ steps-now ++ last ∷ []
     → (view_of lead-now first-now ends-now items).steps ≡ (view_of lead first ends steps).steps ++ record { start = start; number = number } ∷ []
-all_pushed lead first ends steps lead-now first-now ends-now steps-now pages p all start number page items are =
-    let last : PagedStep = record { offset = start % 65536; number = number } in
-    let at : first + length ends-now ≡ start / 65536 = omega (arith, p.few, all, page) in
+all_pushed lead first ends steps lead-now first-now ends-now steps-now pages p all start number page last there named items are =
+    let at : first + length ends-now ≡ start / 512 = omega (arith, p.few, all, page) in
     ap (λ l. (view_of l first-now ends-now items).steps) p.same_lead
     ∙ ap (λ f. (view_of lead f ends-now items).steps) p.same_first
     ∙ ap (λ (i : List PagedStep). (view_of lead first ends-now i).steps) (are ∙ ap (λ (s : List PagedStep). s ++ last ∷ []) p.same_steps)
     ∙ ap (λ (l : List NumberedStep). record { start = 0; number = lead } ∷ l)
-    (pushed first ends-now steps p.paged start number at ∙ ap (λ (l : List NumberedStep). l ++ record { start = start; number = number } ∷ []) p.same)
+    (pushed first ends-now steps p.paged start number at last there named ∙ ap (λ (l : List NumberedStep). l ++ record { start = start; number = number } ∷ []) p.same)

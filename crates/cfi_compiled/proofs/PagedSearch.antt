@@ -1,11 +1,11 @@
 -- What a search in the page of an address finds.
-use Rattle.std.proofs.Common.{◌≡◌, ℕ, zero, suc, ◌+◌, ◌-◌, ◌*◌, ◌/◌, ◌%◌, ◌<◌, ◌≤◌, List, [], ◌∷◌, length, get_or, refl, sym, ap, subst, ◌∙◌, ⊎_elim, arith}
+use Rattle.std.proofs.Common.{◌≡◌, ℕ, zero, suc, ◌+◌, ◌*◌, ◌/◌, ◌%◌, ◌<◌, ◌≤◌, List, [], ◌∷◌, length, get_or, refl, sym, ap, subst, ◌∙◌, ⊎_elim, arith}
 use Rattle.std.proofs.lemmas.Bool.{cases_lt}
 use Rattle.std.proofs.lemmas.Nat.{div-add-mod'}
 use Rattle.std.proofs.Math.ListN.{get_or-eq_default}
 use Rattle.cfi_compiled.specs.declared.step_list.NumberedStep.{NumberedStep}
 use Rattle.cfi_compiled.specs.declared.paged_steps.PagedStep.{PagedStep}
-use Rattle.cfi_compiled.specs.PagedSteps.{IsPaged, IsSplitIn, begin_of, pages_passed, paged_from, view_of}
+use Rattle.cfi_compiled.specs.PagedSteps.{IsPaged, IsSplitIn, begin_of, number_of, offset_of, pages_passed, view_of}
 use Rattle.cfi_compiled.specs.SearchedSteps.{IsSplit}
 use Rattle.cfi_compiled.proofs.PagedLists.{passed_up_to, passed_few, passed_at_least, paged_at, paged_length, unpaged}
 
@@ -87,38 +87,38 @@ module _ (lead first : ℕ) (ends : List ℕ) (steps : List PagedStep) (paged : 
       let same : 0 + j ≡ j = omega arith in
       paged_at steps 0 first ends j d e inside ∙ ap (λ n. unpaged first ends n (get_or steps j e)) same
 
-  pub number_after_first : (j : ℕ) (d : NumberedStep) (e : PagedStep) → j < length steps → (get_or all_steps (suc j) d).number ≡ (get_or steps j e).number
+  pub number_after_first : (j : ℕ) (d : NumberedStep) (e : PagedStep) → j < length steps → (get_or all_steps (suc j) d).number ≡ number_of (get_or steps j e)
   number_after_first j d e inside = ap (λ (s : NumberedStep). s.number) (step_after_first j d e inside)
 
-  start_after_first : (j : ℕ) (d : NumberedStep) (e : PagedStep) → j < length steps → (get_or all_steps (suc j) d).start ≡ (first + pages_passed ends j) * 65536 + (get_or steps j e).offset
+  start_after_first : (j : ℕ) (d : NumberedStep) (e : PagedStep) → j < length steps → (get_or all_steps (suc j) d).start ≡ (first + pages_passed ends j) * 512 + offset_of (get_or steps j e)
   start_after_first j d e inside = ap (λ (s : NumberedStep). s.start) (step_after_first j d e inside)
 
   -- ---- before the first page
 
   abbrev nothing : PagedStep
-  nothing = record { offset = 0; number = 0 }
+  nothing = record { low = 0; middle = 0; high = 0 }
 
-  pub split_before : (a : ℕ) → a / 65536 < first → IsSplit all_steps a 1
+  pub split_before : (a : ℕ) → a / 512 < first → IsSplit all_steps a 1
   split_before a before = record {
     inside = omega (arith, how_many);
     from = λ j d is. let zero_is : j ≡ 0 = omega (arith, is) in subst (λ i. (get_or all_steps i d).start ≤ a) (sym zero_is) (omega arith);
     up_to = λ j d is less.
         let inside : 0 < length steps = omega (arith, how_many, is, less) in
         let start = start_after_first 0 d nothing inside in
-        let whole = div-add-mod' a 65536 in
+        let whole = div-add-mod' a 512 in
         subst (λ i. a < (get_or all_steps i d).start) (sym is) (omega (arith, start, whole, before));
   }
 
   -- ---- in the page of the address
 
-  module _ (a p : ℕ) (page : first + p ≡ a / 65536) where
-    whole : a / 65536 * 65536 + a % 65536 ≡ a
-    whole = div-add-mod' a 65536
+  module _ (a p : ℕ) (page : first + p ≡ a / 512) where
+    whole : a / 512 * 512 + a % 512 ≡ a
+    whole = div-add-mod' a 512
 
-    above : (k : ℕ) (d : NumberedStep) → IsSplitIn steps (begin p) (begin (suc p)) (a % 65536) k → k < length steps → a < (get_or all_steps (suc k) d).start
+    above : (k : ℕ) (d : NumberedStep) → IsSplitIn steps (begin p) (begin (suc p)) (a % 512) k → k < length steps → a < (get_or all_steps (suc k) d).start
     above k d split inside =
         let start = start_after_first k d nothing inside in
-        let rest : a % 65536 < 65536 = omega arith in
+        let rest : a % 512 < 512 = omega arith in
         ⊎_elim
         (λ (less : k < begin (suc p)).
         let low = from_page p k split.low inside in
@@ -128,7 +128,7 @@ module _ (lead first : ℕ) (ends : List ℕ) (steps : List PagedStep) (paged : 
         (λ (all : begin (suc p) ≤ k). let passed = behind_page p k all inside in omega (arith, start, passed, whole, page, rest))
         (cases_lt k (begin (suc p)))
 
-    up_to_address : (k : ℕ) (d : NumberedStep) → IsSplitIn steps (begin p) (begin (suc p)) (a % 65536) k → (get_or all_steps k d).start ≤ a
+    up_to_address : (k : ℕ) (d : NumberedStep) → IsSplitIn steps (begin p) (begin (suc p)) (a % 512) k → (get_or all_steps k d).start ≤ a
     up_to_address zero d split = omega arith
     up_to_address (suc i) d split =
         let in_steps = begins_inside (suc p) in
@@ -146,7 +146,7 @@ module _ (lead first : ℕ) (ends : List ℕ) (steps : List PagedStep) (paged : 
         omega (arith, start, passed, offset, whole, page))
         (cases_lt (begin p) (suc i))
 
-    pub split_in : (k : ℕ) → IsSplitIn steps (begin p) (begin (suc p)) (a % 65536) k → IsSplit all_steps a (k + 1)
+    pub split_in : (k : ℕ) → IsSplitIn steps (begin p) (begin (suc p)) (a % 512) k → IsSplit all_steps a (k + 1)
     split_in k split = record {
       inside = let in_steps = begins_inside (suc p) in omega (arith, how_many, in_steps, split.high);
       from = λ j d is. let same : j ≡ k = omega (arith, is) in subst (λ i. (get_or all_steps i d).start ≤ a) (sym same) (up_to_address k d split);

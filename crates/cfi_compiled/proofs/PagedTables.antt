@@ -1,5 +1,5 @@
 -- All steps in pages.
-use Rattle.std.proofs.Common.{◌≡◌, ℕ, zero, suc, ◌+◌, ◌/◌, ◌<◌, ◌≤◌, List, [], ◌∷◌, ◌++◌, length, take, get_or, refl, sym, ap, ◌∙◌, arith}
+use Rattle.std.proofs.Common.{◌≡◌, ℕ, zero, suc, ◌+◌, ◌/◌, ◌<◌, ◌≤◌, List, [], ◌∷◌, length, take, get_or, refl, arith}
 use Rattle.cfi_compiled.specs.declared.step_list.NumberedStep.{NumberedStep}
 use Rattle.cfi_compiled.specs.PagedSteps.{PagedView}
 use Rattle.cfi_compiled.specs.SearchedSteps.{Ascend}
@@ -16,13 +16,13 @@ in_order (first ∷ steps) low ascend zero (suc j) d order inside = let rest = a
 in_order (first ∷ steps) low ascend (suc i) zero d order inside = absurd (omega arith)
 in_order (first ∷ steps) low ascend (suc i) (suc j) d order inside = in_order steps (first.start + 1) ascend.1 i j d (omega arith) (omega arith)
 
-pub pages_in_order : (steps : List NumberedStep) → Ascend 0 steps → (i j : ℕ) (d : NumberedStep) → i ≤ j → j < length steps → (get_or steps i d).start / 65536 ≤ (get_or steps j d).start / 65536
+pub pages_in_order : (steps : List NumberedStep) → Ascend 0 steps → (i j : ℕ) (d : NumberedStep) → i ≤ j → j < length steps → (get_or steps i d).start / 512 ≤ (get_or steps j d).start / 512
 pages_in_order steps ascend i j d order inside = let up = in_order steps 0 ascend i j d order inside in omega (arith, up)
 
 -- while steps are added
 pub record IsPaging (steps : List NumberedStep) (index : ℕ) (view : PagedView) : Type 0 where
   pub so_far : view.steps ≡ take index steps
-  pub page : (d : NumberedStep) → index < length steps → view.page ≤ (get_or steps index d).start / 65536
+  pub page : (d : NumberedStep) → index < length steps → view.page ≤ (get_or steps index d).start / 512
 
 pub any_default : (steps : List NumberedStep) (i : ℕ) (d e : NumberedStep) → i < length steps → get_or steps i d ≡ get_or steps i e
 any_default [] i d e inside = absurd (omega arith)

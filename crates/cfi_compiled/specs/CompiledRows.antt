@@ -1,23 +1,32 @@
 -- What a compiled table keeps of a row: all but its two addresses.
---     parts_kept      what a row that was kept says
---     parts_lent      the same of the result of a call that borrows one
+--     registers_of row      the registers of a row that a table lends, with their rules
+--     parts_kept row      what the row says
+--     HasDistinctRegisters row      no register has two rules
+--     parts_lent      the same of the result of a call that lends one
 --     parts_of_row      what is kept of the result for an address; an error is kept as it is
 --     parts_by_scan      what is kept of the result of the scan, over a storage with these limits
-use Rattle.std.specs.Prelude.{ℕ, Option, Result}
-use Rattle.std.specs.Borrow.{Bor}
+use Rattle.std.specs.Prelude.{ℕ, List, Option, Result}
+use Rattle.cfi_read_core.specs.declared.common.Register.{Register}
+use Rattle.cfi_state.specs.declared.table.rules.RegisterRule.{RegisterRule}
 use Rattle.gimli_cfi.specs.Words.{Error, Section, Row, Parts}
-use Rattle.gimli_cfi.specs.Words.{map_ok, row_by_scan, rules_of}
+use Rattle.gimli_cfi.specs.Words.{IsDistinctRegisters, map_ok, row_by_scan, rules_of}
 use Rattle.cfi_compiled.specs.declared.row.CompiledRow.{CompiledRow}
+
+abbrev pub registers_of : CompiledRow → List (Register × RegisterRule ℕ)
+registers_of row = row.rules.now
 
 abbrev pub parts_kept : CompiledRow → Parts ℕ
 parts_kept row = record {
-  cfa = row.cfa;
-  rules = rules_of row.rules.items;
+  cfa = row.cfa.now;
+  rules = rules_of (registers_of row);
   args_size = row.saved_args_size;
 }
 
-abbrev pub parts_lent : Result (Bor CompiledRow) Error → Result (Parts ℕ) Error
-parts_lent result = map_ok (λ row. parts_kept row.now) result
+abbrev pub HasDistinctRegisters : CompiledRow → Type 0
+HasDistinctRegisters row = IsDistinctRegisters (registers_of row)
+
+abbrev pub parts_lent : Result CompiledRow Error → Result (Parts ℕ) Error
+parts_lent result = map_ok parts_kept result
 
 abbrev pub parts_of_row : Result (Row ℕ) Error → Result (Parts ℕ) Error
 parts_of_row result = map_ok (λ row. row.parts) result

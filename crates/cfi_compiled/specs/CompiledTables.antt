@@ -1,42 +1,46 @@
 -- A compiled table as what it means.
---     NumberedSteps      the distinct results, and the steps, which name them by number
+--     TableContents      the distinct results as they are kept, and the steps, which name them by number
 --     results_of, steps_of table      its results, and its steps in the order of their addresses
 --     parts_at table address      what it has for an address
---     step_view, steps_left      a step that an iterator returned, and the steps that are left in it
+--     IsSound table      what holds of each table: the steps rise, and name results that there are
 --     IsCompiled rule_limit stack_limit section table      for every address what the scan gives, but
 --         a row's addresses
-use Rattle.std.specs.Prelude.{◌≡◌, ◌+◌, ◌<◌, ℕ, List, ◌++◌, length, map, drop, get_or}
-use Rattle.std.specs.Prelude.{Option, Result, Err}
+use Rattle.std.specs.Prelude.{◌≡◌, ◌+◌, ◌<◌, ◌≤◌, ◌⊎◌, ℕ, List, [], ◌∷◌, ◌++◌, length, map, get_or}
+use Rattle.std.specs.Prelude.{Option, Some, None, Result, Err}
 use Rattle.std.specs.List.{All}
-use Rattle.gimli_cfi.specs.Words.{Error, NoUnwindInfoForAddress, Parts, Section, map_ok}
+use Rattle.gimli_cfi.specs.Words.{Error, NoUnwindInfoForAddress, Parts, Section}
+use Rattle.cfi_compiled.specs.declared.rests.KeptRow.{KeptRow}
 use Rattle.cfi_compiled.specs.declared.row.CompiledRow.{CompiledRow}
 use Rattle.cfi_compiled.specs.declared.step_list.NumberedStep.{NumberedStep}
-use Rattle.cfi_compiled.specs.declared.table.CompiledStep.{CompiledStep}
-use Rattle.cfi_compiled.specs.declared.table.CompiledSteps.{CompiledSteps}
-use Rattle.cfi_compiled.specs.CompiledRows.{parts_kept, parts_lent, parts_by_scan}
-use Rattle.cfi_compiled.specs.StepLists.{numbered}
-use Rattle.cfi_compiled.specs.Steps.{Step, parts_by_steps}
+use Rattle.cfi_compiled.specs.CompiledRows.{parts_lent, parts_by_scan}
+use Rattle.cfi_compiled.specs.KeptRows.{RestLists, AreNamed, results_in}
+use Rattle.cfi_compiled.specs.Steps.{Step, Rise, parts_by_steps}
 
-pub record NumberedSteps : Type 0 where
-  pub results : List (Result CompiledRow Error)
+pub record TableContents : Type 0 where
+  pub lists : RestLists
+  pub rows : List (Result KeptRow Error)
   pub numbers : List NumberedStep
 
-abbrev pub parts_numbered : List (Result CompiledRow Error) → ℕ → Result (Parts ℕ) Error
-parts_numbered results number =
-    map_ok parts_kept (get_or results number (Err NoUnwindInfoForAddress))
+abbrev pub parts_numbered : List (Result (Parts ℕ) Error) → ℕ → Result (Parts ℕ) Error
+parts_numbered results number = get_or results number (Err NoUnwindInfoForAddress)
 
-abbrev pub step_named : List (Result CompiledRow Error) → NumberedStep → Step
+abbrev pub step_named : List (Result (Parts ℕ) Error) → NumberedStep → Step
 step_named results step =
     record { start = step.start; parts = parts_numbered results step.number }
 
-abbrev pub steps_of : NumberedSteps → List Step
-steps_of table = map (step_named table.results) table.numbers
+abbrev pub results_of : TableContents → List (Result (Parts ℕ) Error)
+results_of table = results_in table.lists table.rows
 
-abbrev pub results_of : NumberedSteps → List (Result CompiledRow Error)
-results_of table = table.results
+abbrev pub steps_of : TableContents → List Step
+steps_of table = map (step_named (results_of table)) table.numbers
 
-abbrev pub AreNumbersOf : List (Result CompiledRow Error) → List NumberedStep → Type 0
+abbrev pub AreNumbersOf : List (Result (Parts ℕ) Error) → List NumberedStep → Type 0
 AreNumbersOf results steps = All (λ step. step.number < length results) steps
+
+pub record IsSound (table : TableContents) : Type 0 where
+  pub rise : Rise 0 (steps_of table)
+  pub numbers : AreNumbersOf (results_of table) table.numbers
+  pub named : AreNamed table.lists table.rows
 
 -- the last step has this number
 abbrev pub EndsWith : ℕ → List NumberedStep → Type 0
@@ -44,23 +48,24 @@ EndsWith number steps =
     (last : NumberedStep) × (index : ℕ) × (index + 1 ≡ length steps)
     × (get_or steps index last ≡ last) × (last.number ≡ number)
 
--- results are added at the end, where any are
-abbrev pub Extends :
-    List (Result CompiledRow Error) → List (Result CompiledRow Error) → Type 0
-Extends old new = (more : List (Result CompiledRow Error)) × (new ≡ old ++ more)
+-- the item is added at the end, or nothing is
+abbrev pub IsAdded : {X : Type 0} → X → List X → List X → Type 0
+IsAdded item old new = (new ≡ old) ⊎ (new ≡ old ++ item ∷ [])
 
-abbrev pub parts_at : NumberedSteps → ℕ → Result (Parts ℕ) Error
+abbrev pub parts_at : TableContents → ℕ → Result (Parts ℕ) Error
 parts_at table address = parts_by_steps (steps_of table) address
 
-abbrev pub IsCompiled : Option ℕ → Option ℕ → Section → NumberedSteps → Type 0
+abbrev pub IsCompiled : Option ℕ → Option ℕ → Section → TableContents → Type 0
 IsCompiled rule_limit stack_limit section table =
     (address : ℕ)
     → parts_at table address ≡ parts_by_scan rule_limit stack_limit section address
 
--- a step that an iterator returned, and the steps that are left in it
-abbrev pub step_view : CompiledStep → Step
-step_view step = record { start = step.start; parts = parts_lent step.row }
-
-abbrev pub steps_left : CompiledSteps → List Step
-steps_left iterator =
-    map (step_named iterator.results.now) (drop iterator.next (numbered iterator.steps.now))
+-- the start and the result of the step with the index k; none behind the last one
+abbrev pub IsStepOf :
+    TableContents → ℕ → Option (ℕ × Result CompiledRow Error) → Type 0
+IsStepOf table k None = length table.numbers ≤ k
+IsStepOf table k (Some step) =
+    (k < length table.numbers)
+    × ((d : NumberedStep)
+    → step_named (results_of table) (get_or table.numbers k d)
+    ≡ record { start = step.0; parts = parts_lent step.1 })

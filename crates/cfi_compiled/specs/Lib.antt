@@ -1,8 +1,10 @@
 pub mod CompiledRows
+pub mod KeptRows
 pub mod Steps
 pub mod SearchedSteps
 pub mod PagedSteps
 pub mod StepLists
 pub mod CompiledTables
+pub mod TableSteps
 pub mod CoveringFdes
 pub mod Pieces

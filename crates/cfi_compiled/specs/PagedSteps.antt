@@ -1,4 +1,5 @@
--- Steps in pages of 65536 addresses.
+-- Steps in pages of 512 addresses.
+--     offset_of, number_of step      the lower 9 bits of its three bytes, and the upper 15
 --     pages_passed ends k      how many pages end at or before the step with the index k
 --     paged_from k first ends steps      the steps from the index k on, of which the first page is `first`
 --     begin_of ends count page      where a page begins, of as many steps
@@ -7,7 +8,7 @@
 --     Rising ends      no page ends before the one before it
 --     PagedView      the page of the last step, and all steps
 --     IsPaged first ends steps      pages end in order, within the steps, and below 2^64; offsets are of their pages
-use Rattle.std.specs.Prelude.{◌≡◌, ℕ, zero, suc, ◌+◌, ◌*◌, ◌^◌, ◌<◌, ◌≤◌, List, [], ◌∷◌, nat_le, length}
+use Rattle.std.specs.Prelude.{◌≡◌, ℕ, zero, suc, ◌+◌, ◌*◌, ◌/◌, ◌%◌, ◌^◌, ◌<◌, ◌≤◌, List, [], ◌∷◌, nat_le, length}
 use Rattle.std.specs.Prelude.{get_or}
 use Rattle.std.specs.Prelude.{if◌then◌else◌}
 use Rattle.std.specs.List.{All}
@@ -18,10 +19,16 @@ abbrev pub pages_passed : List ℕ → ℕ → ℕ
 pages_passed [] k = 0
 pages_passed (end ∷ ends) k = if nat_le end k then pages_passed ends k + 1 else 0
 
+abbrev pub offset_of : PagedStep → ℕ
+offset_of step = step.low + 256 * (step.middle % 2)
+
+abbrev pub number_of : PagedStep → ℕ
+number_of step = step.middle / 2 + 128 * step.high
+
 abbrev pub paged_from : ℕ → ℕ → List ℕ → List PagedStep → List NumberedStep
 paged_from k first ends [] = []
 paged_from k first ends (step ∷ steps) =
-    record { start = (first + pages_passed ends k) * 65536 + step.offset; number = step.number }
+    record { start = (first + pages_passed ends k) * 512 + offset_of step; number = number_of step }
     ∷ paged_from (k + 1) first ends steps
 
 abbrev pub begin_of : List ℕ → ℕ → ℕ → ℕ
@@ -31,8 +38,8 @@ begin_of ends count (suc page) = get_or ends page count
 pub record IsSplitIn (steps : List PagedStep) (begin end offset k : ℕ) : Type 0 where
   pub low : begin ≤ k
   pub high : k ≤ end
-  pub from : (j : ℕ) (d : PagedStep) → j + 1 ≡ k → begin < k → (get_or steps j d).offset ≤ offset
-  pub up_to : (d : PagedStep) → k < end → offset < (get_or steps k d).offset
+  pub from : (j : ℕ) (d : PagedStep) → j + 1 ≡ k → begin < k → offset_of (get_or steps j d) ≤ offset
+  pub up_to : (d : PagedStep) → k < end → offset < offset_of (get_or steps k d)
 
 abbrev pub Rising : List ℕ → Type 0
 Rising ends = (p q : ℕ) → p ≤ q → q < length ends → get_or ends p 0 ≤ get_or ends q 0
@@ -51,5 +58,5 @@ view_of lead first ends steps = record {
 pub record IsPaged (first : ℕ) (ends : List ℕ) (steps : List PagedStep) : Type 0 where
   pub rising : Rising ends
   pub within : (p : ℕ) → p < length ends → get_or ends p 0 ≤ length steps
-  pub offsets : All (λ step. step.offset < 65536) steps
-  pub below : first + length ends < 2 ^ 48
+  pub offsets : All (λ step. offset_of step < 512) steps
+  pub below : first + length ends < 2 ^ 55

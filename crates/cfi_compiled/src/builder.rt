@@ -1,13 +1,17 @@
 //! Tables while they are made.
-ghost use Rattle.std.specs.Prelude.{◌≡◌, ◌≤◌, ◌<◌, ◌+◌, ℕ, [], length, IfOk, IsTrue, OnOk};
-ghost use Rattle.gimli_cfi.specs.Words.{map_ok};
-ghost use Rattle.cfi_compiled.specs.CompiledRows.{parts_kept};
-ghost use Rattle.cfi_compiled.specs.CompiledTables.{EndsWith, parts_at, parts_numbered};
+ghost use Rattle.std.specs.Prelude.{◌≡◌, ◌≤◌, ◌<◌, ◌+◌, ℕ, [], length, get_or, Ok};
+ghost use Rattle.std.specs.Prelude.{IfOk, IsTrue, OnOk, Result as TheResult};
+ghost use Rattle.gimli_cfi.specs.Words.{Error as TheError, map_ok};
+ghost use Rattle.cfi_compiled.specs.declared.rests.KeptRow.{KeptRow as Kept};
+ghost use Rattle.cfi_compiled.specs.CompiledTables.{EndsWith, IsAdded, parts_at, parts_numbered};
 ghost use Rattle.cfi_compiled.specs.CompiledTables.{results_of, steps_of};
+ghost use Rattle.cfi_compiled.specs.KeptRows.{IsRestOf, parts_in};
 ghost use Rattle.cfi_compiled.specs.Steps.{IsFrom, SameBelow, free_from};
 
-use crate::numbers::{find, number_of};
-use crate::row::CompiledRow;
+use crate::hash::hash_of_answer;
+use crate::rests::{KeptRow, RestBuilder};
+use crate::same::is_same;
+use crate::slots::{Slots, Sought};
 use crate::step_list::{NumberedStep, StepList};
 use crate::steps::{NoMemory, StepSink};
 use crate::table::CompiledTable;
@@ -19,37 +23,45 @@ use std::marker::Model;
 #[derive(Drop)]
 pub(crate) struct TableBuilder {
     alloc: Global,
-    results: Vec<Result<CompiledRow>>,
+    rests: RestBuilder,
+    rows: Vec<Result<KeptRow>>,
+    slots: Slots,
     numbers: Vec<NumberedStep>,
-    slots: Vec<usize>,
 }
 
 impl Model for TableBuilder {
-    ghost use Rattle.cfi_compiled.specs.CompiledTables.{NumberedSteps, AreNumbersOf, steps_of};
-    ghost use Rattle.cfi_compiled.specs.Steps.{Rise};
+    ghost use Rattle.cfi_compiled.specs.CompiledTables.{TableContents, IsSound};
 
-    ghost Value = { NumberedSteps };
+    ghost Value = { TableContents };
 
     ghost view = { λ table. record {
-      results = table.results.items;
+      lists = table.rests;
+      rows = table.rows.items;
       numbers = table.numbers.items;
     } };
 
-    ghost invariant = { λ table.
-        Rise 0 (steps_of (record { results = table.results.items; numbers = table.numbers.items }))
-        × AreNumbersOf table.results.items table.numbers.items };
+    ghost invariant = { λ table. IsSound (record {
+      lists = table.rests;
+      rows = table.rows.items;
+      numbers = table.numbers.items;
+    }) };
 }
 
 impl TableBuilder {
     /// The table without a step.
     pub(crate) fn new(alloc: Global) -> Self
-        ensures { result ≡ record { results = []; numbers = [] } }
+        ensures { result ≡ record {
+          lists = record { rests = []; rules = [] };
+          rows = [];
+          numbers = [];
+        } }
     {
         TableBuilder {
             alloc,
-            results: Vec::new(alloc),
+            rests: RestBuilder::new(alloc),
+            rows: Vec::new(alloc),
+            slots: Slots::new(alloc),
             numbers: Vec::new(alloc),
-            slots: Vec::new(alloc),
         }
     }
 
@@ -59,24 +71,41 @@ impl TableBuilder {
     {
         let TableBuilder {
             alloc,
-            results,
+            rests,
+            mut rows,
             numbers,
             ..
         } = self;
+        rows.shrink_to_fit();
         let steps = StepList::of(alloc, numbers)?;
-        Ok(CompiledTable::of(results, steps))
+        Ok(CompiledTable::of(rests.finish(), rows, steps))
+    }
+
+    /// The number of what a row says but the CFA.
+    fn rest_of<A: ArrayLike<Item = (Register, RegisterRule<usize>)>>(
+        &mut self,
+        row: &UnwindTableRow<usize, A>,
+    ) -> std::result::Result<usize, NoMemory>
+        ensures same { OnOk result ((a : ℕ) → parts_at self.new a ≡ parts_at self.old a) }
+        ensures free { OnOk result
+            (free_from 0 (steps_of self.new) ≡ free_from 0 (steps_of self.old)) }
+        ensures number { IfOk result (IsRestOf self.new.lists row.now.parts) }
+    {
+        self.rests.number_of(row)
     }
 
     /// The number of a result, which is added if it isn't there.
-    fn number_of(&mut self, answer: Result<CompiledRow>) -> std::result::Result<usize, NoMemory>
+    fn number_of(&mut self, answer: Result<KeptRow>) -> std::result::Result<usize, NoMemory>
+        requires { IfOk answer (λ row. row.rest < length self.old.lists.rests) }
         ensures same { OnOk result ((a : ℕ) → parts_at self.new a ≡ parts_at self.old a) }
         ensures free { OnOk result
             (free_from 0 (steps_of self.new) ≡ free_from 0 (steps_of self.old)) }
         ensures number { IfOk result (λ number. number < length (results_of self.new)) }
         ensures means { IfOk result (λ number.
-            parts_numbered (results_of self.new) number ≡ map_ok parts_kept answer) }
+            parts_numbered (results_of self.new) number
+            ≡ map_ok (parts_in self.old.lists) answer) }
     {
-        number_of(&mut self.results, &mut self.slots, answer)
+        number_of(&mut self.rows, &mut self.slots, answer)
     }
 
     /// From this address on the result is the one with this number.
@@ -112,13 +141,9 @@ impl StepSink for TableBuilder {
         from: u64,
         row: &UnwindTableRow<usize, A>,
     ) -> std::result::Result<(), NoMemory> {
-        let number = match find(self.results.as_slice(), self.slots.as_slice(), row) {
-            Ok(number) => number,
-            Err(_slot) => {
-                let kept = CompiledRow::of(self.alloc, row)?;
-                self.number_of(Ok(kept))?
-            }
-        };
+        let rest = self.rest_of(row)?;
+        let cfa = *row.cfa();
+        let number = self.number_of(Ok(KeptRow { cfa, rest }))?;
         self.push(from, number)
     }
 
@@ -129,6 +154,7 @@ impl StepSink for TableBuilder {
 }
 
 /// Whether the last step has this number.
+#[inline(always)]
 fn ends_with(steps: &[NumberedStep], number: usize) -> bool
     ensures { IsTrue result → EndsWith number steps.now }
 {
@@ -137,4 +163,57 @@ fn ends_with(steps: &[NumberedStep], number: usize) -> bool
     }
     let last = steps[steps.len() - 1];
     last.number == number
+}
+
+/// The number of a result: that of an equal one, else a new number, with which it is added. Of
+/// errors only `NoUnwindInfoForAddress` is looked for.
+fn number_of(
+    rows: &mut Vec<Result<KeptRow>>,
+    slots: &mut Slots,
+    answer: Result<KeptRow>,
+) -> std::result::Result<usize, NoMemory>
+    ensures added { IsAdded answer rows.old.items rows.new.items }
+    ensures number { IfOk result (λ number. number < length rows.new.items) }
+    ensures means { IfOk result (λ number.
+        (d : TheResult Kept TheError) → get_or rows.new.items number d ≡ answer) }
+{
+    let hash = hash_of_answer(&answer);
+    let sought = Answer {
+        rows: rows.as_slice(),
+        answer,
+    };
+    if let Some(number) = slots.find(hash, &sought) {
+        return Ok(number);
+    }
+    let number = rows.len();
+    rows.push(answer)?;
+    if is_sought(&answer) {
+        slots.write(hash, number)?;
+    }
+    Ok(number)
+}
+
+/// Whether a result is looked for: a row, and the error for an address that no FDE contains.
+fn is_sought(answer: &Result<KeptRow>) -> bool {
+    match answer {
+        Ok(_) => true,
+        Err(error) => matches!(error, Error::NoUnwindInfoForAddress),
+    }
+}
+
+/// A result that is looked for.
+#[derive(Drop)]
+struct Answer<'a> {
+    rows: &'a [Result<KeptRow>],
+    answer: Result<KeptRow>,
+}
+
+impl<'a> Sought for Answer<'a> {
+    ghost IsAt = { λ sought number. (number < length sought.rows.now)
+        × ((d : TheResult Kept TheError) → get_or sought.rows.now number d ≡ sought.answer) };
+
+    #[inline(always)]
+    fn is(&self, number: usize) -> bool {
+        number < self.rows.len() && is_same(self.rows[number], self.answer)
+    }
 }

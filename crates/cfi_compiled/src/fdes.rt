@@ -1,17 +1,18 @@
 //! The FDEs of a section that contain an address.
-ghost use Rattle.std.specs.Prelude.{◌≡◌, IfOk, map};
+ghost use Rattle.std.specs.Prelude.{◌≡◌, Ok, IfOk, map};
 ghost use Rattle.std.specs.List.{All};
 ghost use Rattle.cfi_read_core.specs.ReaderCalls.{map_ok};
 ghost use Rattle.cfi_entry.specs.Entries.{entries};
 ghost use Rattle.cfi_entry.specs.Sections.{section_of};
-ghost use Rattle.cfi_unwind.specs.WalkViews.{partial_bases, partial_section, partial_view};
+ghost use Rattle.cfi_unwind.specs.CachedCie.{IsCacheOf};
+ghost use Rattle.cfi_unwind.specs.WalkViews.{IsPartialOf, partial_view};
 ghost use Rattle.cfi_unwind.specs.FdeViews.{HasCieOf, IsFdeOf, fde_view};
 ghost use Rattle.cfi_unwind.specs.Scan.{fde_readings, read_fde};
 ghost use Rattle.cfi_compiled.specs.CoveringFdes.{covering, outside};
 
 use gimli_cfi::{
-    BaseAddresses, CieOrFde, Error, FrameDescriptionEntry, PartialFrameDescriptionEntry, Reader,
-    UnwindSection,
+    BaseAddresses, CieCache, CieOrFde, Error, FrameDescriptionEntry, PartialFrameDescriptionEntry,
+    Reader, UnwindSection,
 };
 use std::alloc::{AllocError, Global};
 
@@ -39,11 +40,12 @@ pub(crate) fn covering_fdes<R: Reader<Offset = usize>, S: UnwindSection<R>>(
         All (HasCieOf R.position (S.view section.now).position) found.fdes.items) }
 {
     let mut fdes = Vec::new(alloc);
+    let mut cache: CieCache<R> = CieCache::new();
     let mut entries = section.entries(bases);
     loop {
         match entries.next() {
             Ok(Some(CieOrFde::Cie(_))) => {}
-            Ok(Some(CieOrFde::Fde(partial))) => match whole(&partial) {
+            Ok(Some(CieOrFde::Fde(partial))) => match whole(&mut cache, section, bases, &partial) {
                 Ok(fde) => {
                     if fde.initial_address() < fde.end_address() {
                         fdes.push(fde)?;
@@ -60,21 +62,29 @@ pub(crate) fn covering_fdes<R: Reader<Offset = usize>, S: UnwindSection<R>>(
     }
 }
 
-/// The whole FDE, with the CIE that stands in the section.
+/// The whole FDE, with the CIE that stands in the section. FDEs in a row mostly point to one CIE,
+/// which is then read once.
 fn whole<R: Reader, S: UnwindSection<R>>(
+    cache: &mut CieCache<R>,
+    section: &S,
+    bases: &BaseAddresses,
     partial: &PartialFrameDescriptionEntry<'_, S, R>,
 ) -> Result<FrameDescriptionEntry<R>, Error>
+    requires of { IsPartialOf section.now bases.now partial.now }
+    requires cache { IsCacheOf R.position R.Offset.number
+        (S.view section.now) bases.now cache.old }
     ensures read { map_ok (fde_view R.position R.Offset.number) result
-        ≡ read_fde (section_of (S.view (partial_section partial.now)) (partial_bases partial.now))
+        ≡ read_fde (section_of (S.view section.now) bases.now)
         (partial_view R.position R.Offset.number partial.now) }
-    ensures part { IfOk result
-        (IsFdeOf R.position (S.view (partial_section partial.now)).position) }
-    ensures cie_part { IfOk result
-        (HasCieOf R.position (S.view (partial_section partial.now)).position) }
+    ensures part { IfOk result (IsFdeOf R.position (S.view section.now).position) }
+    ensures cie_part { IfOk result (HasCieOf R.position (S.view section.now).position) }
+    ensures keeps { IsCacheOf R.position R.Offset.number
+        (S.view section.now) bases.now cache.new }
 {
-    let reader = partial.offset();
-    partial.parse(|from: &S, bases: &BaseAddresses, offset: S::Offset| {
-        let _reader = reader;
-        from.cie_from_offset(bases, offset)
-    })
+    let cie = cache.get(section, bases, partial.cie_offset())?;
+    partial.parse(
+        |_from: &S, _bases: &BaseAddresses, _offset: S::Offset|
+            ensures { result ≡ Ok cie }
+        { Ok(cie) },
+    )
 }

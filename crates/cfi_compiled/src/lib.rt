@@ -7,16 +7,20 @@
 
 mod builder;
 mod compile;
+mod compiled_steps;
 mod fdes;
-mod numbers;
+mod hash;
 mod paged_steps;
 mod pieces;
+mod rests;
 mod row;
 mod same;
+mod slots;
 mod step_list;
 mod steps;
 mod table;
 mod walk;
 
+pub use compiled_steps::{CompiledStep, CompiledSteps};
 pub use row::CompiledRow;
-pub use table::{CompiledStep, CompiledSteps, CompiledTable};
+pub use table::CompiledTable;

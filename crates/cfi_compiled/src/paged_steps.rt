@@ -1,7 +1,8 @@
-//! Steps of four bytes each.
+//! Steps of three bytes each.
 ghost use Rattle.std.specs.Prelude.{◌≡◌, ◌≤◌, ◌<◌, ◌+◌, ◌/◌, ◌^◌, ◌∷◌, ◌++◌, [], length};
 ghost use Rattle.std.specs.Prelude.{IfOk, IfSome, OnOk};
-ghost use Rattle.cfi_compiled.specs.PagedSteps.{IsSplitIn, Rising, begin_of, pages_passed};
+ghost use Rattle.cfi_compiled.specs.PagedSteps.{IsSplitIn, Rising, begin_of, number_of};
+ghost use Rattle.cfi_compiled.specs.PagedSteps.{offset_of, pages_passed};
 ghost use Rattle.cfi_compiled.specs.SearchedSteps.{Ascend, IsNumberAt, IsSplit, IsStepAt};
 
 use crate::step_list::NumberedStep;
@@ -9,23 +10,60 @@ use crate::steps::NoMemory;
 use std::alloc::Global;
 use std::marker::Model;
 
-/// How many addresses a page has: as many as an offset of 16 bits tells apart.
-const PAGE: u64 = 65536;
+/// How many addresses a page has: as many as an offset of 9 bits tells apart.
+const PAGE: u64 = 512;
 
-/// A step: its distance from the beginning of its page, and its number.
+/// How many numbers 15 bits tell apart.
+const NUMBERS: usize = 32768;
+
+/// A step, in three bytes: its distance from the beginning of its page in the lower 9 bits, and its
+/// number in the others.
 #[derive(Clone, Copy, Debug)]
 struct PagedStep {
-    offset: u16,
-    number: u16,
+    low: u8,
+    middle: u8,
+    high: u8,
 }
 
-/// Steps by pages of 65536 addresses, from the page `first` on.
+impl PagedStep {
+    /// The step with this offset and this number.
+    fn of(offset: u64, number: usize) -> PagedStep
+        requires offset { offset < 512 }
+        requires number { number < 32768 }
+        ensures offset { offset_of result ≡ offset }
+        ensures number { number_of result ≡ number }
+    {
+        PagedStep {
+            low: (offset % 256) as u8,
+            middle: (offset / 256) as u8 + 2 * (number % 128) as u8,
+            high: (number / 128) as u8,
+        }
+    }
+
+    /// The distance from the beginning of the page.
+    #[inline(always)]
+    fn offset(self) -> u16
+        ensures { result ≡ offset_of self }
+    {
+        u16::from(self.low) + 256 * u16::from(self.middle % 2)
+    }
+
+    /// The number.
+    #[inline(always)]
+    fn number(self) -> usize
+        ensures { result ≡ number_of self }
+    {
+        usize::from(self.middle / 2) + 128 * usize::from(self.high)
+    }
+}
+
+/// Steps by pages of 512 addresses, from the page `first` on.
 ///
 /// The first step is at address 0, and only its number is kept, as `lead`. For each page but the
 /// last `ends` has the number of steps up to its end, without the first step.
 #[derive(Debug, Drop)]
 pub(crate) struct PagedSteps {
-    lead: u16,
+    lead: usize,
     first: u64,
     ends: Vec<u32>,
     steps: Vec<PagedStep>,
@@ -42,8 +80,8 @@ impl Model for PagedSteps {
 }
 
 impl PagedSteps {
-    /// These steps in pages; `None` if they don't begin at 0, if a number has more than 16 bits, or
-    /// if there are more pages than steps.
+    /// These steps in pages; `None` if they don't begin at 0, if a number has more than 15 bits, or
+    /// if there are three times as many pages as steps.
     pub(crate) fn of(alloc: Global, steps: &[NumberedStep]) -> Result<Option<Self>, NoMemory>
         requires { Ascend 0 steps.now }
         ensures { IfOk result (λ paged. IfSome paged (λ paged. paged.steps ≡ steps.now)) }
@@ -53,26 +91,30 @@ impl PagedSteps {
         }
         let first = steps[1].start / PAGE;
         let pages = steps[steps.len() - 1].start / PAGE - first;
-        let Ok(lead) = u16::try_from(steps[0].number) else {
-            return Ok(None);
-        };
-        if pages > steps.len() as u64 {
+        if pages / 3 >= steps.len() as u64 {
             return Ok(None);
         }
-        let mut paged = PagedSteps::new(alloc, lead, first, steps.len() - 1)?;
+        let lead = steps[0].number;
+        let mut paged = PagedSteps::new(alloc, lead, first, pages as usize, steps.len() - 1)?;
         for index in 1..steps.len() {
             let step = steps[index];
-            let Ok(number) = u16::try_from(step.number) else {
+            if step.number >= NUMBERS {
                 return Ok(None);
-            };
-            paged.push(step.start, number)?;
+            }
+            paged.push(step.start, step.number)?;
         }
         Ok(Some(paged))
     }
 
-    /// The first step alone, with room for as many more.
-    fn new(alloc: Global, lead: u16, first: u64, room: usize) -> Result<Self, NoMemory>
-        requires { first < 2 ^ 48 }
+    /// The first step alone, with room for as many pages more and as many steps.
+    fn new(
+        alloc: Global,
+        lead: usize,
+        first: u64,
+        pages: usize,
+        steps: usize,
+    ) -> Result<Self, NoMemory>
+        requires { first < 2 ^ 55 }
         ensures { IfOk result (λ paged. paged ≡ record {
           page = first;
           steps = record { start = 0; number = lead } ∷ [];
@@ -81,16 +123,17 @@ impl PagedSteps {
         Ok(PagedSteps {
             lead,
             first,
-            ends: Vec::new(alloc),
-            steps: Vec::with_capacity(alloc, room)?,
+            ends: Vec::with_capacity(alloc, pages)?,
+            steps: Vec::with_capacity(alloc, steps)?,
         })
     }
 
     /// One more step, in the page of the last one or a later one.
-    fn push(&mut self, start: u64, number: u16) -> Result<(), NoMemory>
-        requires page { self.old.page ≤ start / 65536 }
+    fn push(&mut self, start: u64, number: usize) -> Result<(), NoMemory>
+        requires page { self.old.page ≤ start / 512 }
         requires room { length self.old.steps < 2 ^ 32 }
-        ensures page { OnOk result (self.new.page ≡ start / 65536) }
+        requires number { number < 32768 }
+        ensures page { OnOk result (self.new.page ≡ start / 512) }
         ensures steps { OnOk result (self.new.steps
             ≡ self.old.steps ++ record { start = start; number = number } ∷ []) }
     {
@@ -99,10 +142,7 @@ impl PagedSteps {
         while (self.ends.len() as u64) < pages {
             self.ends.push(count)?;
         }
-        self.steps.push(PagedStep {
-            offset: (start % PAGE) as u16,
-            number,
-        })?;
+        self.steps.push(PagedStep::of(start % PAGE, number))?;
         Ok(())
     }
 
@@ -113,9 +153,9 @@ impl PagedSteps {
     {
         let count = self.count_to(address);
         if count == 0 {
-            return usize::from(self.lead);
+            return self.lead;
         }
-        usize::from(self.steps[count - 1].number)
+        self.steps[count - 1].number()
     }
 
     /// How many steps after the first one are at or below an address. Only those of the address's
@@ -148,7 +188,7 @@ impl PagedSteps {
         ensures room { IfSome result (λ _. index + 1 < 2 ^ 64) }
     {
         if index == 0 {
-            let number = usize::from(self.lead);
+            let number = self.lead;
             return Some(NumberedStep { start: 0, number });
         }
         if index > self.steps.len() {
@@ -157,8 +197,8 @@ impl PagedSteps {
         let step = self.steps[index - 1];
         let page = self.first + pages_passed(self.ends.as_slice(), index - 1) as u64;
         Some(NumberedStep {
-            start: page * PAGE + u64::from(step.offset),
-            number: usize::from(step.number),
+            start: page * PAGE + u64::from(step.offset()),
+            number: step.number(),
         })
     }
 }
@@ -189,7 +229,7 @@ fn count_up_to(steps: &[PagedStep], begin: usize, end: usize, offset: u16) -> us
     let mut high = end;
     while low < high {
         let middle = low + (high - low) / 2;
-        if steps[middle].offset <= offset {
+        if steps[middle].offset() <= offset {
             low = middle + 1;
         } else {
             high = middle;

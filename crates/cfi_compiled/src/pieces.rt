@@ -1,5 +1,5 @@
 //! Pieces of address space, each of which belongs to one of numbered things.
-ghost use Rattle.std.specs.Prelude.{◌≡◌, ◌≤◌, ◌<◌, ◌⊎◌, ℕ, IfOk, map};
+ghost use Rattle.std.specs.Prelude.{◌≡◌, ◌≤◌, ◌<◌, ◌⊎◌, ℕ, IfOk, IsTrue, map};
 ghost use Rattle.std.specs.List.{All};
 ghost use Rattle.std.specs.Option.{option_or};
 ghost use Rattle.cfi_unwind.specs.FdeViews.{fde_view};
@@ -126,14 +126,29 @@ pub(crate) fn spans_of<R: Reader<Offset = usize>>(
     Ok(spans)
 }
 
-/// Pieces that ascend: each address belongs to the first of the spans that has it.
+/// Whether each piece has an address and begins at or above the end of the one before it.
+fn is_ascending(spans: &[Piece]) -> bool
+    ensures { IsTrue result → Ascend 0 spans.now }
+{
+    let mut end = 0;
+    for span in spans {
+        if span.from < end || span.to <= span.from {
+            return false;
+        }
+        end = span.to;
+    }
+    true
+}
+
+/// Pieces that ascend: each address belongs to the first of the spans that has it. Spans that
+/// ascend already, as those of most sections, are gone through once.
 pub(crate) fn resolve(alloc: Global, spans: &[Piece]) -> Result<Vec<Piece>, AllocError>
     requires { All (λ span. span.from < span.to) spans.now }
     ensures ascend { IfOk result (λ pieces. Ascend 0 pieces.items) }
     ensures owner { IfOk result (λ pieces. (a : ℕ) →
         owner a pieces.items ≡ owner a spans.now) }
 {
-    if spans.len() <= 1 {
+    if spans.len() <= 1 || is_ascending(spans) {
         let pieces = Vec::from_slice(alloc, spans)?;
         return Ok(pieces);
     }

@@ -1,28 +1,31 @@
-//! Whether kept rows say the same.
-ghost use Rattle.std.specs.Prelude.{◌≡◌, IsTrue, Result};
-ghost use Rattle.gimli_cfi.specs.Words.{map_ok};
-ghost use Rattle.cfi_compiled.specs.CompiledRows.{parts_kept};
+//! Whether what rows say is equal.
+ghost use Rattle.std.specs.Prelude.{◌≡◌, IsTrue};
 
-use crate::row::CompiledRow;
-use gimli_cfi::{CfaRule, Error, Register, RegisterRule};
+use crate::rests::KeptRow;
+use gimli_cfi::{CfaRule, Error, Register, RegisterRule, Result};
 
-/// Whether two results say the same.
-pub(crate) fn is_same(
-    a: &std::result::Result<CompiledRow, Error>,
-    b: &std::result::Result<CompiledRow, Error>,
-) -> bool
-    ensures { IsTrue result → map_ok parts_kept a.now ≡ map_ok parts_kept b.now }
+/// Whether two results are the same.
+#[inline(always)]
+pub(crate) fn is_same(a: Result<KeptRow>, b: Result<KeptRow>) -> bool
+    ensures { IsTrue result → a ≡ b }
 {
     match a {
         Ok(a) => match b {
-            Ok(b) => a.is_same(b),
+            Ok(b) => is_same_row(a, b),
             Err(_) => false,
         },
         Err(a) => match b {
             Ok(_) => false,
-            Err(b) => is_same_error(*a, *b),
+            Err(b) => is_same_error(a, b),
         },
     }
+}
+
+/// Whether two kept rows are the same.
+fn is_same_row(a: KeptRow, b: KeptRow) -> bool
+    ensures { IsTrue result → a ≡ b }
+{
+    a.rest == b.rest && is_same_cfa(a.cfa, b.cfa)
 }
 
 /// Whether both are the error for an address that no FDE contains.
@@ -39,7 +42,7 @@ fn is_same_error(a: Error, b: Error) -> bool
 }
 
 /// Whether two rules of the CFA are equal.
-pub(crate) fn is_same_cfa(a: CfaRule<usize>, b: CfaRule<usize>) -> bool
+fn is_same_cfa(a: CfaRule<usize>, b: CfaRule<usize>) -> bool
     ensures { IsTrue result → a ≡ b }
 {
     a == b
@@ -53,6 +56,7 @@ fn is_same_rule(a: RegisterRule<usize>, b: RegisterRule<usize>) -> bool
 }
 
 /// Whether two registers with their rules are equal.
+#[inline(always)]
 pub(crate) fn is_same_pair(
     a: (Register, RegisterRule<usize>),
     b: (Register, RegisterRule<usize>),
@@ -60,22 +64,4 @@ pub(crate) fn is_same_pair(
     ensures { IsTrue result → a ≡ b }
 {
     a.0.0 == b.0.0 && is_same_rule(a.1, b.1)
-}
-
-/// Whether two lists of rules are equal.
-pub(crate) fn is_same_rules(
-    a: &[(Register, RegisterRule<usize>)],
-    b: &[(Register, RegisterRule<usize>)],
-) -> bool
-    ensures { IsTrue result → a.now ≡ b.now }
-{
-    if a.len() != b.len() {
-        return false;
-    }
-    for index in 0..a.len() {
-        if !is_same_pair(a[index], b[index]) {
-            return false;
-        }
-    }
-    true
 }

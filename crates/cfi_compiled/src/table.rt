@@ -1,11 +1,12 @@
 //! Compiled tables.
-ghost use Rattle.std.specs.Prelude.{◌≡◌, length};
-ghost use Rattle.cfi_compiled.specs.CompiledRows.{parts_lent};
-ghost use Rattle.cfi_compiled.specs.CompiledTables.{parts_at, parts_numbered, steps_of};
-ghost use Rattle.cfi_compiled.specs.CompiledTables.{results_of, step_view, steps_left};
-ghost use Rattle.cfi_compiled.specs.Steps.{Rise};
+ghost use Rattle.std.specs.Prelude.{◌≡◌, ◌<◌, ◌+◌, ◌^◌, length, IfOk, IfSome};
+ghost use Rattle.cfi_compiled.specs.CompiledRows.{HasDistinctRegisters, parts_lent};
+ghost use Rattle.cfi_compiled.specs.CompiledTables.{IsSound, IsStepOf, parts_at, parts_numbered};
+ghost use Rattle.cfi_compiled.specs.CompiledTables.{results_of, steps_of};
+ghost use Rattle.cfi_compiled.specs.KeptRows.{AreNamed, results_in};
 ghost use Rattle.cfi_compiled.specs.StepLists.{numbered};
 
+use crate::rests::{KeptRow, Rests};
 use crate::row::CompiledRow;
 use crate::step_list::StepList;
 use gimli_cfi::{Error, Result};
@@ -19,7 +20,8 @@ use std::marker::Model;
 /// bytes are read there.
 ///
 /// The table has a step for each address at which the row changes, and each distinct row once; a
-/// step names its row by number. So a lookup is a binary search in the steps.
+/// step names its row by number. So a lookup is a binary search in the steps. Rows that differ in
+/// the rule of the CFA alone share the rules of the registers.
 ///
 /// # Example
 ///
@@ -32,53 +34,56 @@ use std::marker::Model;
 ///     let return_address = row.register(Register(16));
 /// }
 /// ```
-#[derive(Drop)]
+#[derive(Debug, Drop)]
 pub struct CompiledTable {
-    results: Vec<Result<CompiledRow>>,
-    steps: StepList,
+    rests: Rests,
+    rows: Vec<Result<KeptRow>>,
+    pub(crate) steps: StepList,
 }
 
 impl Model for CompiledTable {
-    ghost use Rattle.cfi_compiled.specs.CompiledTables.{NumberedSteps, AreNumbersOf, steps_of};
+    ghost use Rattle.cfi_compiled.specs.CompiledTables.{TableContents, IsSound};
     ghost use Rattle.cfi_compiled.specs.StepLists.{numbered};
-    ghost use Rattle.cfi_compiled.specs.Steps.{Rise};
 
-    ghost Value = { NumberedSteps };
+    ghost Value = { TableContents };
 
     ghost view = { λ table. record {
-      results = table.results.items;
+      lists = table.rests;
+      rows = table.rows.items;
       numbers = numbered table.steps;
     } };
 
-    ghost invariant = { λ table.
-        Rise 0 (steps_of (record { results = table.results.items; numbers = numbered table.steps }))
-        × AreNumbersOf table.results.items (numbered table.steps) };
+    ghost invariant = { λ table. IsSound (record {
+      lists = table.rests;
+      rows = table.rows.items;
+      numbers = numbered table.steps;
+    }) };
 }
 
 impl CompiledTable {
-    ghost use Rattle.std.specs.Prelude.{◌≡◌, length};
-    ghost use Rattle.cfi_compiled.specs.CompiledTables.{AreNumbersOf, parts_at, steps_of};
+    ghost use Rattle.std.specs.Prelude.{◌≡◌, ◌<◌, ◌+◌, ◌^◌, length, IfOk, IfSome};
+    ghost use Rattle.cfi_compiled.specs.CompiledTables.{IsSound, IsStepOf, parts_at, steps_of};
     ghost use Rattle.cfi_compiled.specs.StepLists.{numbered};
 
-    /// The table of these steps, whose numbers are those of the results.
-    pub(crate) fn of(results: Vec<Result<CompiledRow>>, steps: StepList) -> Self
-        requires rise { Rise 0
-            (steps_of (record { results = results.items; numbers = numbered steps })) }
-        requires numbers { AreNumbersOf results.items (numbered steps) }
-        ensures { result ≡ record { results = results.items; numbers = numbered steps } }
+    /// The table of these steps, whose numbers are those of the rows.
+    pub(crate) fn of(rests: Rests, rows: Vec<Result<KeptRow>>, steps: StepList) -> Self
+        requires { IsSound
+            (record { lists = rests; rows = rows.items; numbers = numbered steps }) }
+        ensures { result ≡ record { lists = rests; rows = rows.items; numbers = numbered steps } }
     {
-        CompiledTable { results, steps }
+        CompiledTable { rests, rows, steps }
     }
 
     /// Returns what the row of the address says, or the error that `row_by_scan` returns for it
     /// with enough memory: `NoUnwindInfoForAddress` if no FDE contains the address, else the first
     /// error on the way to the row (DWARF 5 section 6.4.3). A binary search among the steps; does
     /// not allocate.
-    pub fn row(&self, address: u64) -> Result<&CompiledRow>
-        ensures { parts_lent result ≡ parts_at self.now address }
+    pub fn row(&self, address: u64) -> Result<CompiledRow<'_>>
+        ensures row { parts_lent result ≡ parts_at self.now address }
+        ensures distinct { IfOk result HasDistinctRegisters }
     {
         match self.steps.number_at(address) {
-            Some(number) => result_at(self.results.as_slice(), number),
+            Some(number) => result_at(&self.rests, self.rows.as_slice(), number),
             None => Err(Error::NoUnwindInfoForAddress),
         }
     }
@@ -98,70 +103,35 @@ impl CompiledTable {
     pub fn results_len(&self) -> usize
         ensures { result ≡ length (results_of self.now) }
     {
-        self.results.len()
+        self.rows.len()
     }
 
-    /// Iterates over the steps, in the order of their addresses. For an address the table has what
-    /// the last step at or below it has. Does not allocate.
+    /// The first address of the step with an index, and its result.
     #[inline(always)]
-    pub fn iter(&self) -> CompiledSteps<'_>
-        ensures steps { steps_left result ≡ steps_of self.now }
-        ensures order { Rise 0 (steps_of self.now) }
+    pub(crate) fn step(&self, index: usize) -> Option<(u64, Result<CompiledRow<'_>>)>
+        ensures step { IsStepOf self.now index result }
+        ensures room { IfSome result (λ _. index + 1 < 2 ^ 64) }
     {
-        CompiledSteps {
-            results: self.results.as_slice(),
-            steps: &self.steps,
-            next: 0,
-        }
+        let step = self.steps.get(index)?;
+        let result = result_at(&self.rests, self.rows.as_slice(), step.number);
+        Some((step.start, result))
     }
 }
 
 /// The result with a number.
 #[inline(always)]
-fn result_at(results: &[Result<CompiledRow>], number: usize) -> Result<&CompiledRow>
-    ensures { parts_lent result ≡ parts_numbered results.now number }
+fn result_at<'a>(
+    rests: &'a Rests,
+    rows: &'a [Result<KeptRow>],
+    number: usize,
+) -> Result<CompiledRow<'a>>
+    requires { AreNamed rests.now rows.now }
+    ensures parts { parts_lent result ≡ parts_numbered (results_in rests.now rows.now) number }
+    ensures distinct { IfOk result HasDistinctRegisters }
 {
-    match results.get(number) {
-        Some(Ok(row)) => Ok(row),
+    match rows.get(number) {
+        Some(Ok(kept)) => Ok(rests.row(kept)),
         Some(Err(error)) => Err(*error),
         None => Err(Error::NoUnwindInfoForAddress),
-    }
-}
-
-/// A step of a compiled table: from an address on, up to the start of the next step, each address
-/// has this row or error.
-#[derive(Clone, Copy, Debug)]
-pub struct CompiledStep<'a> {
-    /// The first address.
-    pub start: u64,
-    /// What the row of the address says, or the error.
-    pub row: Result<&'a CompiledRow>,
-}
-
-/// Iterates over the steps of a compiled table, in the order of their addresses.
-#[derive(Clone, Copy, Debug)]
-pub struct CompiledSteps<'a> {
-    results: &'a [Result<CompiledRow>],
-    steps: &'a StepList,
-    next: usize,
-}
-
-impl<'a> Iterator for CompiledSteps<'a> {
-    ghost use Rattle.std.specs.Iterator.{YieldsFirstBy, item_count};
-
-    type Item = CompiledStep<'a>;
-
-    ghost next_gives = { YieldsFirstBy step_view steps_left };
-
-    ghost remaining = { item_count steps_left };
-
-    #[inline(always)]
-    fn next(&mut self) -> Option<CompiledStep<'a>> {
-        let step = self.steps.get(self.next)?;
-        self.next += 1;
-        Some(CompiledStep {
-            start: step.start,
-            row: result_at(self.results, step.number),
-        })
     }
 }

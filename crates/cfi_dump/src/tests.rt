@@ -17,6 +17,14 @@ fde 0x14 length=28 cie=0x0 0x1000 0x1020
 0x1004 0x1020 cfa=r6+16 args=0 r6=offset(-16) r16=offset(-8)
 ";
 
+/// The rows for all addresses, before, in and after it.
+const THREE_ROWS_COMPILED: &str = "0x0 refused NoUnwindInfoForAddress
+0x1000 cfa=r7+8 args=0 r16=offset(-8)
+0x1001 cfa=r7+16 args=0 r6=offset(-16) r16=offset(-8)
+0x1004 cfa=r6+16 args=0 r6=offset(-16) r16=offset(-8)
+0x1020 refused NoUnwindInfoForAddress
+";
+
 /// A state is restored that was never remembered: the rows go on after it.
 const REFUSED: &str = "10000000 ffffffff 04000800 017810 0c0708 9001 \
     17000000 00000000 0010000000000000 2000000000000000 41 0b 42";
@@ -65,8 +73,9 @@ fn prints(
 }
 
 /// Words, sections and what is printed of them.
-const WORKED: [(&str, &str, &str); 4] = [
+const WORKED: [(&str, &str, &str); 5] = [
     ("debug_frame le 8", THREE_ROWS, THREE_ROWS_PRINTED),
+    ("debug_frame le 8 compiled", THREE_ROWS, THREE_ROWS_COMPILED),
     ("debug_frame le 8 input=hex", REFUSED, REFUSED_PRINTED),
     ("eh_frame le 8 section=0x2000", LETTERS, LETTERS_PRINTED),
     ("eh_frame be 4", "", ""),

@@ -1,5 +1,5 @@
 //! The entries of a section.
-ghost use Rattle.std.specs.Prelude.{◌≡◌, IfOk};
+ghost use Rattle.std.specs.Prelude.{IfOk};
 ghost use Rattle.cfi_read_core.specs.CallFrameSections.{IsOf};
 
 use crate::answers::Answers;
@@ -18,32 +18,41 @@ pub fn put_entries<R: Reader, S: UnwindSection<R>>(
     for _ in 0..u64::MAX {
         match entries.next() {
             Ok(None) => break,
-            Ok(Some(CieOrFde::Cie(cie))) => answers.put_cie(&cie),
-            Ok(Some(CieOrFde::Fde(partial))) => {
-                answers.put_partial(partial.offset().into_u64(), partial.entry_len().into_u64());
-                match whole(section, &partial) {
-                    Ok(fde) => answers.put_fde(&fde),
-                    Err(error) => answers.put_error(error),
-                }
-            }
+            Ok(Some(entry)) => put_entry(entry, answers),
             Err(error) => answers.put_error(error),
         }
     }
     answers.put_end();
 }
 
+fn put_entry<R: Reader, S: UnwindSection<R>>(entry: CieOrFde<'_, S, R>, answers: &mut Answers<'_>) {
+    match entry {
+        CieOrFde::Cie(cie) => answers.put_cie(&cie),
+        CieOrFde::Fde(partial) => put_fde(&partial, answers),
+    }
+}
+
+fn put_fde<R: Reader, S: UnwindSection<R>>(
+    partial: &PartialFrameDescriptionEntry<'_, S, R>,
+    answers: &mut Answers<'_>,
+) {
+    answers.put_partial(partial.offset().into_u64(), partial.entry_len().into_u64());
+    match whole(partial) {
+        Ok(fde) => answers.put_fde(&fde),
+        Err(error) => answers.put_error(error),
+    }
+}
+
 /// The whole FDE, with its CIE in the section.
-pub fn whole<'b, R: Reader, S: UnwindSection<R>>(
-    section: &S,
-    partial: &PartialFrameDescriptionEntry<'b, S, R>,
+pub fn whole<R: Reader, S: UnwindSection<R>>(
+    partial: &PartialFrameDescriptionEntry<'_, S, R>,
 ) -> Result<FrameDescriptionEntry<R>>
-    requires { partial.now.section ≡ section.now }
     ensures part { IfOk result (λ fde.
-        IsOf (R.position fde.instructions) (S.view section.now).position) }
+        IsOf (R.position fde.instructions) (S.view partial.now.section).position) }
     ensures cie_part { IfOk result (λ fde.
-        IsOf (R.position fde.cie.initial_instructions) (S.view section.now).position) }
+        IsOf (R.position fde.cie.initial_instructions) (S.view partial.now.section).position) }
 {
-    let reader = *section.section();
+    let reader = partial.offset();
     partial.parse(|from: &S, bases: &BaseAddresses, offset: S::Offset| {
         let _reader = reader;
         from.cie_from_offset(bases, offset)

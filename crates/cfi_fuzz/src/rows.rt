@@ -6,8 +6,9 @@ ghost use Rattle.cfi_read_core.specs.Addresses.{IsAddressSize};
 use crate::answers::Answers;
 use crate::entries::whole;
 use gimli_cfi::{
-    BaseAddresses, CieOrFde, EhFrame, EhFrameHdr, FrameDescriptionEntry, Reader, UnwindContext,
-    UnwindContextStorage, UnwindSection, row_by_header, row_by_scan,
+    BaseAddresses, CieOrFde, EhFrame, EhFrameHdr, FrameDescriptionEntry,
+    PartialFrameDescriptionEntry, Reader, UnwindContext, UnwindContextStorage, UnwindSection,
+    row_by_header, row_by_scan,
 };
 use std::alloc::Global;
 
@@ -37,13 +38,25 @@ fn put_rows_in<R: Reader, Section: UnwindSection<R>, S: UnwindContextStorage<R::
             break;
         };
         if let CieOrFde::Fde(partial) = entry {
-            if let Ok(fde) = whole(section, &partial) {
-                answers.put_fde(&fde);
-                put_rows_of(section, bases, &fde, context, answers);
-            }
+            put_fde_and_rows(section, bases, &partial, context, answers);
         }
     }
     answers.put_end();
+}
+
+fn put_fde_and_rows<R: Reader, Section: UnwindSection<R>, S: UnwindContextStorage<R::Offset>>(
+    section: &Section,
+    bases: &BaseAddresses,
+    partial: &PartialFrameDescriptionEntry<'_, Section, R>,
+    context: &mut UnwindContext<R::Offset, S>,
+    answers: &mut Answers<'_>,
+)
+    requires { partial.now.section ≡ section.now }
+{
+    if let Ok(fde) = whole(partial) {
+        answers.put_fde(&fde);
+        put_rows_of(section, bases, &fde, context, answers);
+    }
 }
 
 fn put_rows_of<'x, R: Reader, Section: UnwindSection<R>, S: UnwindContextStorage<R::Offset>>(

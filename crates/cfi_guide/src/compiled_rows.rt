@@ -39,7 +39,7 @@ pub fn row_by_both<'a, R: Reader<Offset = usize>, Section: UnwindSection<R>>(
     ctx: &'a mut UnwindContext<usize>,
     address: u64,
 ) -> (
-    Result<&'a CompiledRow, Error>,
+    Result<CompiledRow<'a>, Error>,
     Result<&'a UnwindTableRow<usize, <StoreOnHeap as UnwindContextStorage<usize>>::Rules>, Error>,
 )
     requires { IsCompiled (Some 192) (Some 4)

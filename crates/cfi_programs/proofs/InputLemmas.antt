@@ -1,11 +1,15 @@
 -- What is read of the input.
-use Rattle.std.proofs.Common.{◌≡◌, ◌≢◌, ℕ, ◌+◌, ◌<◌, ◌≤◌, Bool, true, false, List, length, take, drop, get_or, refl, sym, ap, ◌∙◌, arith, add-one, nat_lt}
+use Rattle.std.proofs.Common.{◌≡◌, ◌≢◌, ◌⊎◌, inl, inr, ℕ, ◌+◌, ◌<◌, ◌≤◌, Bool, true, false, List, [], length, take, drop, get_or, Option, Some, None, Result, Ok, Err, refl, sym, ap, ◌∙◌, arith, add-one, nat_lt}
+use Rattle.std.specs.Result.{IsErr}
 use Rattle.std.proofs.Math.Seq.{drop-cons}
 use Rattle.std.proofs.lemmas.Bool.Decides.{nat_tests}
 use Rattle.std.proofs.lemmas.List.{drop_all, get_or-take, length-take-le}
 use Rattle.std.proofs.lemmas.List.Sums.{passes_at_first, position_or_len_is}
 use Rattle.std.specs.List.{All, after_first, position_or_len}
-use Rattle.cfi_programs.specs.Input.{decoded_bytes, is_line_feed}
+use Rattle.hex.specs.declared.error.FromHexError.{FromHexError}
+use Rattle.cfi_programs.specs.declared.input.InputError.{InputError}
+use Rattle.cfi_programs.specs.declared.input.InputError.TheVariants.{Unreadable, NotHexadecimal, OutOfMemory}
+use Rattle.cfi_programs.specs.Input.{IsDecoded, bytes_by, decoded_bytes, is_line_feed, with_header}
 
 -- ---- two parts
 
@@ -32,3 +36,23 @@ line_end xs n le before found =
     (λ h. let feed : get_or xs n 0 ≡ 10 = found h in grind (arith, nat_tests))
 
 -- ---- what comes of the parts
+
+-- without a header the text is the section
+pub whole_read : (header : Option ℕ) (text section headed : List ℕ) → header ≡ None → decoded_bytes text ≡ Ok section → headed ≡ [] → bytes_by header text ≡ Some (record { section = section; header = headed })
+whole_read header text section headed none read empty = rw (none, read, empty) refl
+
+no_bytes : (section header : Result (List ℕ) FromHexError) → IsErr section → with_header section header ≡ None
+no_bytes (Ok section) header err = cc
+no_bytes (Err e) header err = refl
+
+-- why a text is not decoded
+abbrev pub IsRefusedAs : List ℕ → InputError → Type 0
+IsRefusedAs text e = (e ≡ OutOfMemory) ⊎ ((e ≡ NotHexadecimal) × IsErr (decoded_bytes text))
+
+pub whole_refused : (header : Option ℕ) (text : List ℕ) (e : InputError) → header ≡ None → IsRefusedAs text e → IsDecoded header text (Err e)
+whole_refused header text e none (inl memory) = rw memory tt
+whole_refused header text e none (inr (digits, err)) = rw (digits, none) (no_bytes (decoded_bytes text) (Ok []) err)
+
+pub not_unreadable : (text : List ℕ) (e : InputError) → IsRefusedAs text e → e ≢ Unreadable
+not_unreadable text e (inl memory) is = cc
+not_unreadable text e (inr (digits, err)) is = cc

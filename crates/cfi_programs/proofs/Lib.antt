@@ -18,5 +18,6 @@ pub mod CheckRequestLemmas
 pub mod CheckVerdictLemmas
 pub mod DumpRowsWritten
 pub mod DumpSectionWritten
+pub mod DumpCompiledWritten
 pub mod DumpRequestLemmas
 pub mod DumpRunLemmas

@@ -1,4 +1,4 @@
--- The text of no section begins as the lines do that say that words or input are wrong.
+-- No output begins as the lines do that say that words or input are wrong.
 use Rattle.std.specs.Prelude.{◌≡◌, ℕ, ◌==◌, false, get_or, Option, Some, None, List, [], ◌∷◌, ◌++◌, Result, Ok, Err, flat_map, refl}
 use Rattle.std.proofs.Common.{lit≤, subst, sym}
 use Rattle.cfi_read_core.specs.declared.error.Error.{Error}
@@ -6,12 +6,17 @@ use Rattle.cfi_entry.specs.Entries.{Entry, CieEntry, FdeEntry, entries}
 use Rattle.cfi_entry.specs.Fdes.{Fde, PartialFde}
 use Rattle.cfi_entry.specs.Sections.{Section}
 use Rattle.cfi_unwind.specs.Scan.{read_fde}
+use Rattle.cfi_compiled.specs.Steps.{Step}
+use Rattle.gimli_cfi.specs.Words.{Parts}
 use Rattle.cfi_programs.specs.Input.{Bytes}
 use Rattle.cfi_programs.specs.Lines.{Line}
 use Rattle.cfi_programs.specs.Runs.{IsPlain}
 use Rattle.cfi_programs.specs.SectionOfWords.{section_of}
 use Rattle.cfi_programs.specs.declared.dump.command_line.Request.{Request}
-use Rattle.cfi_programs.specs.DumpProgramOutput.{dump_tool}
+use Rattle.cfi_programs.specs.declared.dump.command_line.Printed.{Printed}
+use Rattle.cfi_programs.specs.declared.dump.command_line.Printed.TheVariants.{Entries, Compiled}
+use Rattle.cfi_programs.specs.DumpCompiledTexts.{step_text, steps_text}
+use Rattle.cfi_programs.specs.DumpProgramOutput.{IsOutput, dump_tool}
 use Rattle.cfi_programs.specs.DumpSectionTexts.{entries_text, entry_text, fde_text, refusal_text, section_text}
 
 -- the text does not begin with a w
@@ -36,5 +41,19 @@ plain_section section = record {
   low = lit≤ tt;
 }
 
+plain_step : (start : ℕ) (parts : Result (Parts ℕ) Error) (more : List ℕ) → IsPlainText (step_text start parts ++ more)
+plain_step start (Ok parts) more = refl
+plain_step start (Err error) more = refl
+
+plain_steps : (steps : List Step) → IsPlainText (steps_text steps)
+unfolding steps_text
+plain_steps [] = refl
+plain_steps (step ∷ steps) = plain_step step.start step.parts (flat_map (λ step. step_text step.start step.parts) steps)
+
+plain_output : (what : Printed) (section : Section) (printed : Line) → IsOutput what section printed → IsPlain printed
+plain_output Entries section printed e = subst (λ line. IsPlain line) (sym e) (plain_section section)
+plain_output Compiled section printed (table, is, e) =
+    subst (λ line. IsPlain line) (sym e) (record { beginning = plain_steps _; low = lit≤ tt })
+
 pub plain : (request : Request) (bytes : Bytes) (printed : Line) → dump_tool.IsLine request bytes printed → IsPlain printed
-plain request bytes printed e = subst (λ line. IsPlain line) (sym e) (plain_section (section_of request.section bytes.section))
+plain request bytes printed is = plain_output request.printed (section_of request.section bytes.section) printed is

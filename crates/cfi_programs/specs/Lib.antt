@@ -15,6 +15,7 @@ pub mod CheckProgramOutput
 pub mod CheckPlainLines
 pub mod DumpEntryLines
 pub mod DumpSectionTexts
+pub mod DumpCompiledTexts
 pub mod DumpCommandLine
 pub mod DumpProgramOutput
 pub mod DumpPlainLines

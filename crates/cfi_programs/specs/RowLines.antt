@@ -8,6 +8,7 @@ use Rattle.cfi_state.specs.declared.table.rules.CfaRule.{CfaRule}
 use Rattle.cfi_state.specs.declared.table.rules.CfaRule.TheVariants as cfas
 use Rattle.cfi_state.specs.declared.table.rules.RegisterRule.{RegisterRule}
 use Rattle.cfi_state.specs.declared.table.rules.RegisterRule.TheVariants as rules
+use Rattle.cfi_state.specs.Machine.{Parts}
 use Rattle.cfi_state.specs.Row.{Row}
 use Rattle.cfi_programs.specs.Lines.{Line, address_text, line, refusal_line}
 
@@ -56,11 +57,11 @@ row_head row =
     ++ codes " args=" ++ decimal row.parts.args_size
 
 -- the rules of all registers, by rising number
-abbrev pub row_rules : Row ℕ → List ℕ
-row_rules row = rules_text 65536 0 (map.get row.parts.rules)
+abbrev pub parts_rules : Parts ℕ → List ℕ
+parts_rules parts = rules_text 65536 0 (map.get parts.rules)
 
 abbrev pub row_text : Row ℕ → List ℕ
-row_text row = row_head row ++ row_rules row
+row_text row = row_head row ++ parts_rules row.parts
 
 -- ---- the line, with its line feed, and the status
 

@@ -17,7 +17,7 @@ use std::io::Read;
 const CHUNK: usize = 16384;
 
 /// Why there are no bytes.
-#[derive(Clone, Copy, Debug, PartialEq, Eq)]
+#[derive(Clone, Copy)]
 pub enum InputError {
     /// A read failed.
     Unreadable,
@@ -73,7 +73,7 @@ pub fn read_bytes<R: Read>(alloc: Global, input: &mut R) -> Result<Sections, Inp
 }
 
 /// What the input holds.
-#[derive(Debug, Drop)]
+#[derive(Drop)]
 pub struct Sections {
     /// The bytes of the section.
     pub section: Vec<u8>,

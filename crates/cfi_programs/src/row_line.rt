@@ -2,9 +2,11 @@
 ghost use Rattle.std.specs.Prelude.{◌≡◌, ◌≤◌, ◌+◌, ◌++◌, ℕ, [], ◌∷◌, Some, None, Err, IfSome};
 ghost use Rattle.std.specs.FinMap as map;
 ghost use Rattle.cfi_read_core.specs.ReaderCalls.{map_ok};
+ghost use Rattle.gimli_cfi.specs.Words.{Parts};
 ghost use Rattle.cfi_programs.specs.WriterOutput.{Writes, Prints};
-ghost use Rattle.cfi_programs.specs.RowLines.{answer_line, cfa_text, row_head, row_rules};
-ghost use Rattle.cfi_programs.specs.RowLines.{row_text, rule_text};
+ghost use Rattle.cfi_programs.specs.RowLines.{answer_line, cfa_text, expression_text};
+ghost use Rattle.cfi_programs.specs.RowLines.{offset_text, parts_rules, row_head, row_text};
+ghost use Rattle.cfi_programs.specs.RowLines.{rule_text};
 
 use crate::lines::{Address, write_part, write_refusal, write_text};
 use gimli_cfi::{
@@ -13,6 +15,34 @@ use gimli_cfi::{
 use std::fmt::{Display, Formatter};
 use std::io::Write;
 use std::{fmt, io};
+
+/// An offset from a register, with its sign.
+#[derive(Clone, Copy)]
+struct SignedOffset(i64);
+
+impl Display for SignedOffset {
+    ghost output = { λ offset. Some (offset_text offset.0) };
+
+    fn fmt<W: fmt::Write>(&self, f: &mut Formatter<W>) -> fmt::Result {
+        if self.0 < 0 {
+            write!(f, "{}", self.0)
+        } else {
+            write!(f, "+{}", self.0)
+        }
+    }
+}
+
+/// Where an expression is, and its length.
+#[derive(Clone, Copy)]
+struct Place(UnwindExpression<usize>);
+
+impl Display for Place {
+    ghost output = { λ place. Some (expression_text place.0) };
+
+    fn fmt<W: fmt::Write>(&self, f: &mut Formatter<W>) -> fmt::Result {
+        write!(f, "expr@{}:{}", self.0.offset, self.0.length)
+    }
+}
 
 /// The rule of the canonical frame address.
 #[derive(Clone, Copy)]
@@ -24,16 +54,10 @@ impl Display for Cfa {
     fn fmt<W: fmt::Write>(&self, f: &mut Formatter<W>) -> fmt::Result {
         match self.0 {
             CfaRule::RegisterAndOffset { register, offset } => {
-                if offset < 0 {
-                    write!(f, "r{}{}", register.0, offset)
-                } else {
-                    write!(f, "r{}+{}", register.0, offset)
-                }
+                let offset = SignedOffset(offset);
+                write!(f, "r{}{offset}", register.0)
             }
-            CfaRule::Expression(UnwindExpression { offset, length }) => write!(
-                f,
-                "expr@{offset}:{length}"
-            ),
+            CfaRule::Expression(expression) => Place(expression).fmt(f),
         }
     }
 }
@@ -47,19 +71,17 @@ impl Display for Rule {
 
     fn fmt<W: fmt::Write>(&self, f: &mut Formatter<W>) -> fmt::Result {
         match self.0 {
-            RegisterRule::Undefined => write!(f, "undefined"),
-            RegisterRule::SameValue => write!(f, "same"),
+            RegisterRule::Undefined => f.write_str("undefined"),
+            RegisterRule::SameValue => f.write_str("same"),
             RegisterRule::Offset(offset) => write!(f, "offset({offset})"),
             RegisterRule::ValOffset(offset) => write!(f, "val_offset({offset})"),
             RegisterRule::Register(register) => write!(f, "r{}", register.0),
-            RegisterRule::Expression(UnwindExpression { offset, length }) => write!(
-                f,
-                "expr@{offset}:{length}"
-            ),
-            RegisterRule::ValExpression(UnwindExpression { offset, length }) => {
-                write!(f, "val_expr@{offset}:{length}")
+            RegisterRule::Expression(expression) => Place(expression).fmt(f),
+            RegisterRule::ValExpression(expression) => {
+                let place = Place(expression);
+                write!(f, "val_{place}")
             }
-            RegisterRule::Architectural => write!(f, "architectural"),
+            RegisterRule::Architectural => f.write_str("architectural"),
             RegisterRule::Constant(value) => write!(f, "constant({value})"),
         }
     }
@@ -112,16 +134,46 @@ fn write_head<W: Write, A: ArrayLike<Item = (Register, RegisterRule<usize>)>>(
     )
 }
 
+/// What has rules of registers.
+pub(crate) trait HasRules {
+    /// What it says.
+    ghost parts: { Self → Parts ℕ };
+
+    /// Returns the register's rule, if it has one.
+    fn rule(&self, register: Register) -> Option<RegisterRule<usize>>
+        ensures { result ≡ map.get (parts self.now).rules register.0 };
+
+    /// Returns a number above that of each register with a rule.
+    fn end(&self) -> u32
+        ensures within { result ≤ 65536 }
+        ensures above { (register : ℕ) → result ≤ register →
+            map.get (parts self.now).rules register ≡ None };
+}
+
+impl<A: ArrayLike<Item = (Register, RegisterRule<usize>)>> HasRules for UnwindTableRow<usize, A> {
+    ghost parts = { λ row. row.parts };
+
+    fn rule(&self, register: Register) -> Option<RegisterRule<usize>> {
+        self.register(register)
+    }
+
+    fn end(&self) -> u32 {
+        let mut end = 0u32;
+        for (register, _) in self.registers() {
+            end = end.max(number_behind(*register));
+        }
+        end
+    }
+}
+
 /// Writes the rules, in ascending order of the registers.
-fn write_rules<W: Write, A: ArrayLike<Item = (Register, RegisterRule<usize>)>>(
-    output: &mut W,
-    row: &UnwindTableRow<usize, A>,
-) -> io::Result<()>
-    ensures { Writes (W.contents output.old) (W.contents output.new) result (row_rules row.now) }
+pub(crate) fn write_rules<W: Write, H: HasRules>(output: &mut W, row: &H) -> io::Result<()>
+    ensures { Writes (W.contents output.old) (W.contents output.new) result
+        (parts_rules (H.parts row.now)) }
 {
-    let end = end_of_rules(row);
+    let end = row.end();
     for number in 0..end {
-        if let Some(rule) = row.register(Register(number as u16)) {
+        if let Some(rule) = row.rule(Register(number as u16)) {
             let rule = Rule(rule);
             write_part(output, format_args!(" r{number}={rule}"))?;
         }
@@ -129,23 +181,8 @@ fn write_rules<W: Write, A: ArrayLike<Item = (Register, RegisterRule<usize>)>>(
     Ok(())
 }
 
-/// Returns a number above that of each register with a rule.
-fn end_of_rules<A: ArrayLike<Item = (Register, RegisterRule<usize>)>>(
-    row: &UnwindTableRow<usize, A>,
-) -> u32
-    ensures within { result ≤ 65536 }
-    ensures above { (register : ℕ) → result ≤ register →
-        map.get row.now.parts.rules register ≡ None }
-{
-    let mut end = 0u32;
-    for (register, _) in row.registers() {
-        end = end.max(number_behind(*register));
-    }
-    end
-}
-
 /// Returns the number after that of the register.
-fn number_behind(register: Register) -> u32
+pub(crate) fn number_behind(register: Register) -> u32
     ensures number { result ≡ register.0 + 1 }
     ensures within { result ≤ 65536 }
 {

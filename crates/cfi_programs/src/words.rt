@@ -15,7 +15,7 @@ use std::rt::Env;
 use std::{env, io};
 
 /// The section that the input holds.
-#[derive(Clone, Copy, Debug, PartialEq, Eq)]
+#[derive(Clone, Copy)]
 pub enum Kind {
     /// `.debug_frame` (DWARF 5 section 6.4).
     DebugFrame,
@@ -24,7 +24,7 @@ pub enum Kind {
 }
 
 /// What the words say of the section.
-#[derive(Clone, Copy, Debug, PartialEq, Eq)]
+#[derive(Clone, Copy)]
 pub struct SectionWords {
     /// The section that the input holds.
     pub kind: Kind,

@@ -8,7 +8,7 @@ use std::test::Fail;
 /// The CFA, the rule of the frame pointer, and how many registers have a rule.
 type Shown = Result<(CfaRule<usize>, Option<RegisterRule<usize>>, usize), Error>;
 
-fn shown(row: Result<&CompiledRow, Error>) -> Shown {
+fn shown(row: Result<CompiledRow<'_>, Error>) -> Shown {
     let row = row?;
     Ok((*row.cfa(), row.register(Register(6)), row.registers().len()))
 }

@@ -13,7 +13,7 @@ type Slice<'a> = EndianSlice<'a, LittleEndian>;
 
 /// Whether a row of a table says what the row says, but its addresses.
 fn says<A: ArrayLike<Item = (Register, RegisterRule<usize>)>>(
-    kept: &CompiledRow,
+    kept: CompiledRow<'_>,
     row: &UnwindTableRow<usize, A>,
 ) -> bool {
     if *kept.cfa() != *row.cfa() || kept.saved_args_size() != row.saved_args_size() {

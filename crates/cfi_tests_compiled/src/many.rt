@@ -20,7 +20,7 @@ fn section_of(alloc: Global, count: u64, distance: u64) -> Result<Vec<u8>, Fail>
     Ok(bytes)
 }
 
-fn offset_of(row: Result<&CompiledRow, Error>) -> Result<i64, Error> {
+fn offset_of(row: Result<CompiledRow<'_>, Error>) -> Result<i64, Error> {
     match *row?.cfa() {
         CfaRule::RegisterAndOffset {
             register: Register(7),
@@ -46,9 +46,9 @@ fn around(table: &CompiledTable, start: u64) -> [Result<i64, Error>; 5] {
 const AROUND: [Result<i64, Error>; 5] = [NONE, Ok(8), Ok(16), Ok(16), NONE];
 
 /// In the first section the steps of a page end in the middle of an FDE, in the second each FDE is
-/// in pages of its own with others empty between them, and in the third there are more pages than
-/// steps.
-const SPACED: [(u64, u64); 3] = [(3000, 0x50), (700, 0x1_8fff), (30, 0x1000_0000_0000)];
+/// in pages of its own with others empty between them, and in the third there are far more pages
+/// than steps.
+const SPACED: [(u64, u64); 3] = [(3000, 0x50), (700, 0xfff), (30, 0x1000_0000_0000)];
 
 #[test]
 fn rows_of_many_fdes(rt: HostRuntime) -> Result<(), Fail> {

@@ -6,7 +6,7 @@ ghost use Rattle.cfi_programs.specs.CheckCommandLine.{request_of, with_header};
 use crate::words::{SectionWords, first, with_options};
 
 /// What the words ask for: a check of `.eh_frame` and its header.
-#[derive(Clone, Copy, Debug, PartialEq, Eq)]
+#[derive(Clone, Copy)]
 pub struct Request {
     /// What they say of the section.
     pub words: SectionWords,

@@ -14,7 +14,7 @@ use gimli_cfi::hdr::{FaithfulTable, Unfaithful};
 use gimli_cfi::{BaseAddresses, EhFrame, EhFrameHdr, Error, Reader};
 
 /// The result of a check.
-#[derive(Clone, Copy, Debug, PartialEq, Eq)]
+#[derive(Clone, Copy)]
 pub enum Verdict {
     /// The table lists the FDEs of the section faithfully, in so many rows.
     Faithful(u64),

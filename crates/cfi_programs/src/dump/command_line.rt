@@ -7,7 +7,7 @@ ghost use Rattle.cfi_programs.specs.DumpCommandLine.{set_section};
 use crate::words::{SectionWords, first, with_option};
 
 /// How the input holds the section.
-#[derive(Clone, Copy, Debug, PartialEq, Eq)]
+#[derive(Clone, Copy)]
 pub enum Form {
     /// In hexadecimal; spaces and line ends don't count.
     Hexadecimal,
@@ -15,13 +15,24 @@ pub enum Form {
     Bytes,
 }
 
+/// What is printed of the section.
+#[derive(Clone, Copy)]
+pub enum Printed {
+    /// Each entry, and after each FDE its rows.
+    Entries,
+    /// The rows for all addresses, by a compiled table.
+    Compiled,
+}
+
 /// What the words ask for.
-#[derive(Clone, Copy, Debug, PartialEq, Eq)]
+#[derive(Clone, Copy)]
 pub struct Request {
     /// The section, its byte order, the size of an address, the bases and the vendor.
     pub section: SectionWords,
     /// How the input holds the section.
     pub form: Form,
+    /// What is printed of it.
+    pub printed: Printed,
 }
 
 /// Returns what the words after the program's name ask for; `None` where they are wrong.
@@ -34,13 +45,15 @@ pub fn parse(words: &[&str]) -> Option<Request>
     asked_by(first(kind, order, size)?, options)
 }
 
-/// Returns what the options ask for of the section; in hexadecimal, where they don't say otherwise.
+/// Returns what the options ask for of the section; its entries, and the input in hexadecimal,
+/// where they don't say otherwise.
 fn asked_by(section: SectionWords, options: &[&str]) -> Option<Request>
     ensures { result ≡ asked_by section (texts options.now) }
 {
     let mut request = Request {
         section,
         form: Form::Hexadecimal,
+        printed: Printed::Entries,
     };
     for word in options {
         request = with_word(request, word)?;
@@ -61,6 +74,12 @@ fn with_word(request: Request, word: &str) -> Option<Request>
     if word == "input=hex" {
         return Some(Request {
             form: Form::Hexadecimal,
+            ..request
+        });
+    }
+    if word == "compiled" {
+        return Some(Request {
+            printed: Printed::Compiled,
             ..request
         });
     }

@@ -8,7 +8,7 @@ use crate::words;
 use crate::words::{SectionWords, number_in};
 
 /// Where an unwind keeps its rows.
-#[derive(Clone, Copy, Debug, PartialEq, Eq)]
+#[derive(Clone, Copy)]
 pub enum Storage {
     /// Room for a fixed number of rules and rows.
     OnHeap,
@@ -17,7 +17,7 @@ pub enum Storage {
 }
 
 /// What the words ask for.
-#[derive(Clone, Copy, Debug, PartialEq, Eq)]
+#[derive(Clone, Copy)]
 pub struct Request {
     /// What they say of the section.
     pub words: SectionWords,

@@ -4,10 +4,14 @@ use Rattle.cfi_compiled.specs.declared.pieces.Piece.{Piece}
 use Rattle.cfi_compiled.specs.Pieces.{Ascend, owner}
 use Rattle.cfi_compiled.proofs.Overlay.{owner_split, short_ascend}
 use Rattle.cfi_compiled.proofs.pieces.+resolve.Goals as goal
+use Rattle.cfi_compiled.proofs.pieces.+resolve.Goals.{then-spans-le1-via-then-spans-le1, then-spans-le1-via-else-spans-le1+then-is_ascending}
 
 pub returns-then-spans-le1-clause-ascend : goal.returns-then-spans-le1-clause-ascend
 returns-then-spans-le1-clause-ascend t c =
-    let ascend : Ascend 0 c.args.spans.now = short_ascend c.args.spans.now c.if-spans-le1.true c.requires in
+    let ascend : Ascend 0 c.args.spans.now = elim c.then-spans-le1.branch [
+      | then-spans-le1-via-then-spans-le1 w ↦ short_ascend c.args.spans.now w.if-spans-le1.true c.requires
+      | then-spans-le1-via-else-spans-le1+then-is_ascending w ↦ w.is_ascending.ensures w.if-is_ascending.true
+    ] in
     subst (λ (l : List Piece). Ascend 0 l) (sym c.in_ok-pieces.ensures.items) ascend
 
 pub returns-clause-owner : goal.returns-clause-owner

@@ -1,47 +1,54 @@
 use Rattle.std.proofs.Common.{◌≤◌, ◌<◌, List, length, sym, ap, subst, ◌∙◌, arith}
 use Rattle.cfi_compiled.specs.declared.step_list.NumberedStep.{NumberedStep}
-use Rattle.cfi_compiled.specs.CompiledTables.{NumberedSteps, parts_at, parts_numbered, results_of, steps_of}
+use Rattle.cfi_compiled.specs.CompiledTables.{TableContents, parts_at, parts_numbered, results_of, steps_of}
+use Rattle.cfi_compiled.specs.KeptRows.{results_in}
 use Rattle.cfi_compiled.specs.Steps.{free_from}
 use Rattle.cfi_compiled.proofs.Grown.{rise_pushed, before_pushed, from_pushed, repeated, free_pushed, unchanged}
 use Rattle.cfi_compiled.proofs.builder.TableBuilder.push.Goals as goal
 
 pub returns-then-ends_with-clause-after : goal.returns-then-ends_with-clause-after
 returns-then-ends_with-clause-after c a from =
-    let results = c.self.inside.results.items in
-    let free = subst (λ (f : NumberedSteps). free_from 0 (steps_of f) ≤ c.args.from) (sym c.self.view_is) c.requires.free in
+    let rows = c.self.inside.rows.items in
+    let results = results_in c.self.inside.rests rows in
+    let free = subst (λ (f : TableContents). free_from 0 (steps_of f) ≤ c.args.from) (sym c.self.view_is) c.requires.free in
     let ends = rw c.as_slice.ensures.value at (c.ends_with.ensures c.if-ends_with.true) in
-    ap (λ (f : NumberedSteps). parts_at f a) (sym c.self.view_is)
-    ∙ repeated results results (unchanged results) _ c.self.invariant.0 c.self.invariant.1 a _ ends (omega (arith, free, from))
-    ∙ ap (λ (f : NumberedSteps). parts_numbered (results_of f) c.args.number) c.self.view_is
+    ap (λ (f : TableContents). parts_at f a) (sym c.self.view_is)
+    ∙ repeated results results (unchanged results) _ c.self.invariant.rise c.self.invariant.numbers a _ ends (omega (arith, free, from))
+    ∙ ap (λ (f : TableContents). parts_numbered (results_of f) c.args.number) c.self.view_is
 
 pub invariant_of-self-2 : goal.invariant_of-self-2
 invariant_of-self-2 c =
-    let results = c.self.inside.results.items in
-    let free = subst (λ (f : NumberedSteps). free_from 0 (steps_of f) ≤ c.args.from) (sym c.self.view_is) c.requires.free in
-    let within = subst (λ (f : NumberedSteps). c.args.number < length (results_of f)) (sym c.self.view_is) c.requires.number in
-    rw c.in_ok-push.ensures.items (rise_pushed results results (unchanged results) _ c.self.invariant.0 c.self.invariant.1 (record { start = c.args.from; number = c.args.number }) free within)
+    let rows = c.self.inside.rows.items in
+    let results = results_in c.self.inside.rests rows in
+    let free = subst (λ (f : TableContents). free_from 0 (steps_of f) ≤ c.args.from) (sym c.self.view_is) c.requires.free in
+    let within = subst (λ (f : TableContents). c.args.number < length (results_of f)) (sym c.self.view_is) c.requires.number in
+    let pushed = rise_pushed results results (unchanged results) _ c.self.invariant.rise c.self.invariant.numbers (record { start = c.args.from; number = c.args.number }) free within in
+    rw c.in_ok-push.ensures.items (record { rise = pushed.0; numbers = pushed.1; named = c.self.invariant.named })
 
 pub returns-clause-before : goal.returns-clause-before
 returns-clause-before c a below =
-    let results = c.self.inside.results.items in
-    let free = subst (λ (f : NumberedSteps). free_from 0 (steps_of f) ≤ c.args.from) (sym c.self.view_is) c.requires.free in
-    ap (λ (n : List NumberedStep). parts_at (record { results = results; numbers = n }) a) c.in_ok-push.ensures.items
-    ∙ before_pushed results results (unchanged results) _ c.self.invariant.0 c.self.invariant.1 (record { start = c.args.from; number = c.args.number }) free a below
-    ∙ ap (λ (f : NumberedSteps). parts_at f a) c.self.view_is
+    let rows = c.self.inside.rows.items in
+    let results = results_in c.self.inside.rests rows in
+    let free = subst (λ (f : TableContents). free_from 0 (steps_of f) ≤ c.args.from) (sym c.self.view_is) c.requires.free in
+    ap (λ (n : List NumberedStep). parts_at (record { lists = c.self.inside.rests; rows = rows; numbers = n }) a) c.in_ok-push.ensures.items
+    ∙ before_pushed results results (unchanged results) _ c.self.invariant.rise c.self.invariant.numbers (record { start = c.args.from; number = c.args.number }) free a below
+    ∙ ap (λ (f : TableContents). parts_at f a) c.self.view_is
 
 pub returns-clause-after : goal.returns-clause-after
 returns-clause-after c a from =
-    let results = c.self.inside.results.items in
-    let free = subst (λ (f : NumberedSteps). free_from 0 (steps_of f) ≤ c.args.from) (sym c.self.view_is) c.requires.free in
-    ap (λ (n : List NumberedStep). parts_at (record { results = results; numbers = n }) a) c.in_ok-push.ensures.items
-    ∙ from_pushed results results (unchanged results) _ c.self.invariant.0 c.self.invariant.1 (record { start = c.args.from; number = c.args.number }) free a from
-    ∙ ap (λ (f : NumberedSteps). parts_numbered (results_of f) c.args.number) c.self.view_is
+    let rows = c.self.inside.rows.items in
+    let results = results_in c.self.inside.rests rows in
+    let free = subst (λ (f : TableContents). free_from 0 (steps_of f) ≤ c.args.from) (sym c.self.view_is) c.requires.free in
+    ap (λ (n : List NumberedStep). parts_at (record { lists = c.self.inside.rests; rows = rows; numbers = n }) a) c.in_ok-push.ensures.items
+    ∙ from_pushed results results (unchanged results) _ c.self.invariant.rise c.self.invariant.numbers (record { start = c.args.from; number = c.args.number }) free a from
+    ∙ ap (λ (f : TableContents). parts_numbered (results_of f) c.args.number) c.self.view_is
 
 pub returns-clause-free : goal.returns-clause-free
 returns-clause-free c =
-    let results = c.self.inside.results.items in
-    let free = subst (λ (f : NumberedSteps). free_from 0 (steps_of f) ≤ c.args.from) (sym c.self.view_is) c.requires.free in
+    let rows = c.self.inside.rows.items in
+    let results = results_in c.self.inside.rests rows in
+    let free = subst (λ (f : TableContents). free_from 0 (steps_of f) ≤ c.args.from) (sym c.self.view_is) c.requires.free in
     let is =
-    ap (λ (n : List NumberedStep). free_from 0 (steps_of (record { results = results; numbers = n }))) c.in_ok-push.ensures.items
-    ∙ free_pushed results results (unchanged results) _ c.self.invariant.0 c.self.invariant.1 (record { start = c.args.from; number = c.args.number }) free in
+    ap (λ (n : List NumberedStep). free_from 0 (steps_of (record { lists = c.self.inside.rests; rows = rows; numbers = n }))) c.in_ok-push.ensures.items
+    ∙ free_pushed results results (unchanged results) _ c.self.invariant.rise c.self.invariant.numbers (record { start = c.args.from; number = c.args.number }) free in
     omega (arith, is)

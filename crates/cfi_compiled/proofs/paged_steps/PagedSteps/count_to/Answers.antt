@@ -1,5 +1,5 @@
-use Rattle.std.proofs.Common.{◌≡◌, ◌+◌, ◌-◌, ◌/◌, ◌≤◌, suc, length, ap, subst, ◌∙◌, arith}
-use Rattle.cfi_compiled.specs.PagedSteps.{IsSplitIn, PagedView, begin_of}
+use Rattle.std.proofs.Common.{◌≡◌, ◌+◌, ◌-◌, ◌/◌, suc, length, subst, arith}
+use Rattle.cfi_compiled.specs.PagedSteps.{PagedView, begin_of}
 use Rattle.cfi_compiled.specs.SearchedSteps.{IsSplit}
 use Rattle.cfi_compiled.proofs.PagedSearch.{split_before, split_in, begins_in_order, begins_inside}
 use Rattle.cfi_compiled.proofs.paged_steps.PagedSteps.count_to.Goals as goal
@@ -13,7 +13,7 @@ pub count_up_to-requires-clause-order : goal.count_up_to-requires-clause-order
 count_up_to-requires-clause-order c =
     let ends = c.self.inside.ends.items in
     let count = length c.self.inside.steps.items in
-    let p = c.args.address / 65536 - c.self.inside.first in
+    let p = c.args.address / 512 - c.self.inside.first in
     let next : p + 1 ≡ suc p = omega arith in
     let many : c.len.result ≡ count = omega (arith, c.len.ensures, c.self.inside.steps.ok.0) in
     let begin : c.begin_of-begin.result ≡ begin_of ends count p = rw (c.as_slice-ends.ensures.value, many) at c.begin_of-begin.ensures in
@@ -26,7 +26,7 @@ pub count_up_to-requires-clause-inside : goal.count_up_to-requires-clause-inside
 count_up_to-requires-clause-inside c =
     let ends = c.self.inside.ends.items in
     let count = length c.self.inside.steps.items in
-    let p = c.args.address / 65536 - c.self.inside.first in
+    let p = c.args.address / 512 - c.self.inside.first in
     let next : p + 1 ≡ suc p = omega arith in
     let many-2 : c.len-2.result ≡ count = omega (arith, c.len-2.ensures, c.self.inside.steps.ok.0) in
     let end : c.begin_of-end.result ≡ begin_of ends count (suc p) = rw (c.as_slice-ends.ensures.value, many-2, next) at c.begin_of-end.ensures in
@@ -37,7 +37,7 @@ pub returns : goal.returns
 returns c =
     let ends = c.self.inside.ends.items in
     let count = length c.self.inside.steps.items in
-    let p = c.args.address / 65536 - c.self.inside.first in
+    let p = c.args.address / 512 - c.self.inside.first in
     let next : p + 1 ≡ suc p = omega arith in
     let many : c.len.result ≡ count = omega (arith, c.len.ensures, c.self.inside.steps.ok.0) in
     let begin : c.begin_of-begin.result ≡ begin_of ends count p = rw (c.as_slice-ends.ensures.value, many) at c.begin_of-begin.ensures in

@@ -1,4 +1,4 @@
-use Rattle.std.proofs.Common.{length, sym, ap, ◌∙◌, arith}
+use Rattle.std.proofs.Common.{length, ap, arith}
 use Rattle.cfi_compiled.specs.PagedSteps.{PagedView}
 use Rattle.cfi_compiled.proofs.PagedSearch.{how_many}
 use Rattle.cfi_compiled.proofs.paged_steps.PagedSteps.len.Goals as goal

@@ -1,4 +1,4 @@
-use Rattle.std.proofs.Common.{◌≡◌, ◌+◌, ◌-◌, ◌/◌, ◌<◌, List, [], ◌∷◌, ◌++◌, length, get_or, sym, ap, ◌∙◌, arith}
+use Rattle.std.proofs.Common.{◌+◌, ◌-◌, ◌/◌, ◌<◌, List, [], ◌∷◌, ◌++◌, length, get_or, sym, ap, ◌∙◌, arith}
 use Rattle.std.proofs.lemmas.List.{take_more}
 use Rattle.cfi_compiled.specs.declared.step_list.NumberedStep.{NumberedStep}
 use Rattle.cfi_compiled.proofs.PagedTables.{any_default, pages_in_order}
@@ -14,15 +14,13 @@ loop-index-preserved c =
     let none : NumberedStep = record { start = 0; number = 0 } in
     let step = get_or steps index none in
     let inside : index < length steps = omega (arith, c.loop-index-test.true) in
-    let number : c.in-Ok-try_from.number ≡ step.number = c.in-Ok-try_from.ensures.1 in
     record {
       so_far =
           c.in_ok-push.ensures.steps
-          ∙ ap (λ n. c.loop-index.paged.steps ++ record { start = step.start; number = n } ∷ []) number
           ∙ ap (λ (l : List NumberedStep). l ++ step ∷ []) c.loop-index.invariant.so_far
           ∙ sym (take_more steps index none inside);
       page = λ d less.
           let up = pages_in_order steps c.requires index (index + 1) d (omega arith) less in
-          let same = ap (λ (s : NumberedStep). s.start / 65536) (any_default steps index none d inside) in
+          let same = ap (λ (s : NumberedStep). s.start / 512) (any_default steps index none d inside) in
           omega (arith, up, same, c.in_ok-push.ensures.page);
     }

@@ -1,5 +1,4 @@
-use Rattle.std.proofs.Common.{◌≡◌, ◌+◌, ◌-◌, ◌/◌, ◌^◌, ◌<◌, ◌≤◌, List, [], ◌∷◌, ◌++◌, ℕ, length, sym, ap, subst, ◌∙◌, arith}
-use Rattle.cfi_compiled.specs.declared.step_list.NumberedStep.{NumberedStep}
+use Rattle.std.proofs.Common.{◌≡◌, ◌-◌, ◌/◌, ◌<◌, ◌≤◌, List, [], ◌∷◌, ◌++◌, ℕ, length, sym, ap, subst, ◌∙◌, arith}
 use Rattle.cfi_compiled.specs.PagedSteps.{IsPaged, PagedView, paged_from}
 use Rattle.cfi_compiled.proofs.PagedSearch.{how_many}
 use Rattle.cfi_compiled.proofs.PagedPushes.{all_pushed, end_more, longer, same_steps}
@@ -19,7 +18,7 @@ loop-self-preserved c =
     let ends = c.loop-self.self-inside.ends.items in
     let count : c.len-count.result ≡ length steps = omega (arith, c.len-count.ensures, c.self.inside.steps.ok.0) in
     let grown : c.push.new.self.items ≡ ends ++ length steps ∷ [] = c.in_ok-push.ensures.items ∙ ap (λ n. ends ++ n ∷ []) count in
-    let fewer : length ends < c.args.start / 65536 - first = omega (arith, c.loop-self-test.true, c.len.ensures, c.loop-self.self-inside.ends.ok.0) in
+    let fewer : length ends < c.args.start / 512 - first = omega (arith, c.loop-self-test.true, c.len.ensures, c.loop-self.self-inside.ends.ok.0) in
     let long = longer ends (length steps) in
     let now = ap (λ (l : List ℕ). length l) grown in
     record {
@@ -33,7 +32,7 @@ loop-self-preserved c =
 
 pub returns-clause-steps : goal.returns-clause-steps
 returns-clause-steps c =
-    let all : c.args.start / 65536 - c.self.inside.first ≤ length c.loop-self.self-inside.ends.items = omega (arith, c.loop-self-test.false, c.len.ensures, c.loop-self.self-inside.ends.ok.0) in
+    let all : c.args.start / 512 - c.self.inside.first ≤ length c.loop-self.self-inside.ends.items = omega (arith, c.loop-self-test.false, c.len.ensures, c.loop-self.self-inside.ends.ok.0) in
     let is = ap (λ (v : PagedView). v.page) c.self.view_is in
-    all_pushed _ _ _ _ _ _ _ _ _ c.loop-self.invariant all c.args.start c.args.number (omega (arith, is, c.requires.page)) c.push-2.new.self.items c.in_ok-push-2.ensures.items
+    all_pushed _ _ _ _ _ _ _ _ _ c.loop-self.invariant all c.args.start c.args.number (omega (arith, is, c.requires.page)) c.of.result c.of.ensures.offset c.of.ensures.number c.push-2.new.self.items c.in_ok-push-2.ensures.items
     ∙ ap (λ (v : PagedView). v.steps ++ record { start = c.args.start; number = c.args.number } ∷ []) c.self.view_is

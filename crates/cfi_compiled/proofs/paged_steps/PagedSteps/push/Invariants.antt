@@ -1,4 +1,4 @@
-use Rattle.std.proofs.Common.{◌-◌, length}
+use Rattle.std.proofs.Common.{◌-◌}
 use Rattle.cfi_compiled.proofs.PagedPushes.{IsPushing}
 use Rattle.cfi_compiled.proofs.paged_steps.PagedSteps.push.Given as goal
 

@@ -1,4 +1,4 @@
-use Rattle.std.proofs.Common.{◌≡◌, ℕ, ◌+◌, [], List, Some, drop, get_or, sym, ap, ◌∙◌, arith}
+use Rattle.std.proofs.Common.{◌≡◌, ℕ, ◌+◌, [], List, drop, get_or, sym, ap, ◌∙◌, arith}
 use Rattle.std.proofs.lemmas.List.{drop_all, drop_more}
 use Rattle.std.specs.FinMap.{get}
 use Rattle.cfi_read_core.specs.declared.common.Register.{Register}
@@ -13,30 +13,26 @@ nothing = (record { 0 = 0 }, Undefined)
 
 pub returns-then-eq : goal.returns-then-eq
 returns-then-eq c =
-    let items = c.args.self.now.rules.items in
-    let same = c.as_slice-pair-items.ensures.value in
-    let pair = get_or items c.loop-pair.pair-index nothing in
-    let there = drop_more items c.loop-pair.pair-index nothing (rw same at c.loop-pair-test.true) in
-    ap (λ (l : List (Register × RegisterRule ℕ)). Some (get_or l c.loop-pair.pair-index nothing).1) same
-    ∙ sym (rule_first pair (drop (c.loop-pair.pair-index + 1) items) c.args.register.0 (rw same at (sym c.eq.ensures ∙ c.if-eq.true)))
+    let pairs = c.args.self.now.rules.now in
+    let pair = get_or pairs c.loop-pair.pair-index nothing in
+    let there = drop_more pairs c.loop-pair.pair-index nothing c.loop-pair-test.true in
+    sym (rule_first pair (drop (c.loop-pair.pair-index + 1) pairs) c.args.register.0 (sym c.eq.ensures ∙ c.if-eq.true))
     ∙ ap (λ (l : List (Register × RegisterRule ℕ)). get (rules_of l) c.args.register.0) (sym there)
     ∙ c.loop-pair.invariant
 
 pub loop-pair-preserved : goal.loop-pair-preserved
 loop-pair-preserved c =
-    let items = c.args.self.now.rules.items in
-    let same = c.as_slice-pair-items.ensures.value in
-    let pair = get_or items c.loop-pair.pair-index nothing in
-    let there = drop_more items c.loop-pair.pair-index nothing (rw same at c.loop-pair-test.true) in
-    sym (rule_later pair (drop (c.loop-pair.pair-index + 1) items) c.args.register.0 (rw same at (sym c.eq.ensures ∙ c.if-eq.false)))
+    let pairs = c.args.self.now.rules.now in
+    let pair = get_or pairs c.loop-pair.pair-index nothing in
+    let there = drop_more pairs c.loop-pair.pair-index nothing c.loop-pair-test.true in
+    sym (rule_later pair (drop (c.loop-pair.pair-index + 1) pairs) c.args.register.0 (sym c.eq.ensures ∙ c.if-eq.false))
     ∙ ap (λ (l : List (Register × RegisterRule ℕ)). get (rules_of l) c.args.register.0) (sym there)
     ∙ c.loop-pair.invariant
 
 pub returns : goal.returns
 returns c =
-    let items = c.args.self.now.rules.items in
-    let same = c.as_slice-pair-items.ensures.value in
-    let none : drop c.loop-pair.pair-index items ≡ [] = let past = rw same at c.loop-pair-test.false in drop_all c.loop-pair.pair-index items (omega (arith, past)) in
+    let pairs = c.args.self.now.rules.now in
+    let none : drop c.loop-pair.pair-index pairs ≡ [] = drop_all c.loop-pair.pair-index pairs (omega (arith, c.loop-pair-test.false)) in
     sym (rule_none c.args.register.0)
     ∙ ap (λ (l : List (Register × RegisterRule ℕ)). get (rules_of l) c.args.register.0) (sym none)
     ∙ c.loop-pair.invariant

@@ -1,25 +1,26 @@
-use Rattle.std.proofs.Common.{◌≡◌, refl, sym, ap, ◌∙◌, arith}
+use Rattle.std.proofs.Common.{refl, sym, ap, ◌∙◌, arith}
 use Rattle.cfi_compiled.specs.declared.step_list.NumberedStep.{NumberedStep}
-use Rattle.cfi_compiled.specs.CompiledTables.{parts_at, parts_numbered}
+use Rattle.cfi_compiled.specs.CompiledTables.{TableContents, parts_at, parts_numbered}
+use Rattle.cfi_compiled.specs.KeptRows.{results_in}
 use Rattle.cfi_compiled.specs.StepLists.{numbered}
 use Rattle.cfi_compiled.proofs.Searched.{found_at, found_before}
 use Rattle.cfi_compiled.proofs.table.CompiledTable.row.Goals as goal
 
-pub returns-in-Some : goal.returns-in-Some
-returns-in-Some c =
-    let results = c.self.inside.results.items in
+pub returns-in-Some-clause-row : goal.returns-in-Some-clause-row
+returns-in-Some-clause-row c =
+    let results = results_in c.self.inside.rests c.self.inside.rows.items in
     let steps = numbered c.self.inside.steps in
     let none : NumberedStep = record { start = 0; number = 0 } in
     let found = c.in-Some.ensures in
     let split = found.1 in
-    let got = rw c.as_slice.ensures.value at c.result_at.ensures in
+    let got = rw c.as_slice.ensures.value at c.result_at.ensures.parts in
     got
     ∙ ap (parts_numbered results) (sym (found.2 none))
-    ∙ found_at results steps c.args.address c.self.invariant.0 none found.0 (omega (arith, split.inside)) (split.from found.0 none refl) (λ j is more. split.up_to j none is more)
-    ∙ ap (λ f. parts_at f c.args.address) c.self.view_is
+    ∙ found_at results steps c.args.address c.self.invariant.rise none found.0 (omega (arith, split.inside)) (split.from found.0 none refl) (λ j is more. split.up_to j none is more)
+    ∙ ap (λ (f : TableContents). parts_at f c.args.address) c.self.view_is
 
-pub returns-in-None : goal.returns-in-None
-returns-in-None c =
+pub returns-in-None-clause-row : goal.returns-in-None-clause-row
+returns-in-None-clause-row c =
     let split = c.in-None.ensures in
-    found_before c.self.inside.results.items (numbered c.self.inside.steps) c.args.address (λ d some. split.up_to 0 d refl some)
-    ∙ ap (λ f. parts_at f c.args.address) c.self.view_is
+    found_before (results_in c.self.inside.rests c.self.inside.rows.items) (numbered c.self.inside.steps) c.args.address (λ d some. split.up_to 0 d refl some)
+    ∙ ap (λ (f : TableContents). parts_at f c.args.address) c.self.view_is

@@ -1,6 +1,0 @@
-use Rattle.std.proofs.Common.{◌≡◌}
-use Rattle.cfi_fuzz.proofs.entries.put_entries.Given as goal
-
--- the entries are those of the section
-abbrev pub invariant-loop : goal.invariant-loop
-invariant-loop g l = l.entries.section ≡ l.section

@@ -1,0 +1,24 @@
+use Rattle.std.proofs.Common.{subst, List, ℕ}
+use Rattle.cfi_compiled.specs.CompiledTables.{steps_of}
+use Rattle.cfi_compiled.specs.TableSteps.{step_view, steps_left}
+use Rattle.cfi_programs.specs.DumpCompiledTexts.{step_text, steps_text}
+use Rattle.cfi_programs.proofs.DumpCompiledWritten.{none_left, one_more}
+use Rattle.cfi_programs.proofs.WrittenLemmas.{IsGiven, beginning_then, given_all, given_then, writes_refused}
+use Rattle.cfi_programs.proofs.dump.compiled.write_steps.Goals as goal
+
+pub loop-step-preserved : goal.loop-step-preserved
+loop-step-preserved g c =
+    let left = steps_left c.next.new.self in
+    let step = step_view c.in-Some.step in
+    let to_write = subst (λ xs. IsGiven (g.W.Write.contents c.args.output.now) (g.W.Write.contents c.loop-step.output) xs (steps_text (steps_of c.args.table.now))) (one_more _ left step c.in-Some.ensures.steps) c.loop-step.invariant.2 in
+    (tt, tt, given_then _ _ _ (step_text step.start step.parts) (steps_text left) _ to_write c.in_ok-write_step.ensures)
+
+pub returns-in_err-write_step : goal.returns-in_err-write_step
+returns-in_err-write_step g c =
+    let left = steps_left c.next.new.self in
+    let step = step_view c.in-Some.step in
+    let to_write = subst (λ xs. IsGiven (g.W.Write.contents c.args.output.now) (g.W.Write.contents c.loop-step.output) xs (steps_text (steps_of c.args.table.now))) (one_more _ left step c.in-Some.ensures.steps) c.loop-step.invariant.2 in
+    writes_refused _ _ _ _ c.from_residual.ensures.0 (beginning_then _ _ _ (step_text step.start step.parts) (steps_text left) _ to_write c.in_err-write_step.ensures)
+
+pub returns : goal.returns
+returns g c = given_all _ _ _ _ c.loop-step.invariant.2 (none_left _ c.in-None.ensures.steps.0)

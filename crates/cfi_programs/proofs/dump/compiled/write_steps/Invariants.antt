@@ -1,0 +1,12 @@
+use Rattle.cfi_compiled.specs.CompiledTables.{steps_of}
+use Rattle.cfi_compiled.specs.TableSteps.{steps_left}
+use Rattle.cfi_programs.specs.DumpCompiledTexts.{steps_text}
+use Rattle.cfi_programs.proofs.WrittenLemmas.{IsGiven}
+use Rattle.cfi_programs.proofs.dump.compiled.write_steps.Given as goal
+
+-- what is left to write is the text of the steps that are left
+abbrev pub invariant-loop-step : goal.invariant-loop-step
+invariant-loop-step g l =
+    (goal.iterator-loop-step g).can_next l.step-iterator ×
+    (goal.iterator-loop-step g).is_finite l.step-iterator ×
+    IsGiven (g.W.Write.contents l.initial.output) (g.W.Write.contents l.output) (steps_text (steps_left l.step-iterator)) (steps_text (steps_of l.table))

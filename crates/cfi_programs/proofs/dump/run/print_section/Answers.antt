@@ -1,0 +1,12 @@
+use Rattle.std.proofs.Common.{inl, refl}
+use Rattle.cfi_entry.specs.Sections.{section_of}
+use Rattle.cfi_programs.specs.DumpProgramOutput.{text_output}
+use Rattle.cfi_programs.specs.DumpSectionTexts.{section_text}
+use Rattle.cfi_programs.proofs.dump.run.print_section.Goals as goal
+
+pub returns-in-Entries : goal.returns-in-Entries
+returns-in-Entries g c = rw c.in-Entries.is
+    (text_output (section_text (section_of (g.S._UnwindSectionPrivate.view c.args.section.now) c.args.bases.now)), c.print_entries.ensures, inl refl)
+
+pub returns-in-Compiled : goal.returns-in-Compiled
+returns-in-Compiled g c = rw c.in-Compiled.is c.print_compiled.ensures
