@@ -108,7 +108,6 @@ pub fn give_offset<T: ReaderOffset, S: UnwindContextStorage<T>>(
 }
 
 /// Runs `DW_CFA_restore`. Returns `None`, and fails as `evaluate` does.
-#[inline(always)]
 pub fn restore_initial<T: ReaderOffset, S: UnwindContextStorage<T>>(
     context: &mut UnwindContext<T, S>,
     register: Register,
@@ -136,7 +135,6 @@ pub fn define_cfa<T: ReaderOffset, S: UnwindContextStorage<T>>(
 }
 
 /// Runs `DW_CFA_def_cfa_register`. Returns `None`, and fails as `evaluate` does.
-#[inline(always)]
 pub fn define_cfa_register<T: ReaderOffset, S: UnwindContextStorage<T>>(
     context: &mut UnwindContext<T, S>,
     register: Register,
@@ -168,7 +166,6 @@ pub fn define_cfa_offset<T: ReaderOffset, S: UnwindContextStorage<T>>(
 }
 
 /// Runs `DW_CFA_remember_state`. Returns `None`, and fails as `evaluate` does.
-#[inline(always)]
 pub fn remember_state<T: ReaderOffset, S: UnwindContextStorage<T>>(
     context: &mut UnwindContext<T, S>,
 ) -> Result<Option<u64>>
@@ -180,7 +177,6 @@ pub fn remember_state<T: ReaderOffset, S: UnwindContextStorage<T>>(
 }
 
 /// Runs `DW_CFA_restore_state`. Returns `None`, and fails as `evaluate` does.
-#[inline(always)]
 pub fn restore_state<T: ReaderOffset, S: UnwindContextStorage<T>>(
     context: &mut UnwindContext<T, S>,
 ) -> Result<Option<u64>>
