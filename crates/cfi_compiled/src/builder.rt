@@ -3,8 +3,8 @@ ghost use Rattle.std.specs.Prelude.{◌≡◌, ◌≤◌, ◌<◌, ◌+◌, ℕ,
 ghost use Rattle.std.specs.Prelude.{IfOk, IsTrue, OnOk, Result as TheResult};
 ghost use Rattle.gimli_cfi.specs.Words.{Error as TheError, map_ok};
 ghost use Rattle.cfi_compiled.specs.declared.rests.KeptRow.{KeptRow as Kept};
-ghost use Rattle.cfi_compiled.specs.CompiledTables.{EndsWith, IsAdded, IsResultAt, parts_at, parts_numbered};
-ghost use Rattle.cfi_compiled.specs.CompiledTables.{results_of, steps_of};
+ghost use Rattle.cfi_compiled.specs.CompiledTables.{EndsWith, IsAdded, IsResultAt, parts_at};
+ghost use Rattle.cfi_compiled.specs.CompiledTables.{parts_numbered, results_of, steps_of};
 ghost use Rattle.cfi_compiled.specs.KeptRows.{IsRestOf, parts_in};
 ghost use Rattle.cfi_compiled.specs.Steps.{IsFrom, SameBelow, free_from};
 
