@@ -3,6 +3,7 @@ use Rattle.std.proofs.Common.{◌≡◌, ℕ, suc, ◌<◌, ◌≤◌, List, [],
 use Rattle.std.specs.Prelude.{IfOk}
 use Rattle.std.proofs.lemmas.List.{append-nil, map_push, get_or-map}
 use Rattle.std.proofs.lemmas.List.Elements.{All-push}
+use Rattle.std.proofs.Math.ListN.{length-map}
 use Rattle.cfi_read_core.specs.declared.error.Error.{Error}
 use Rattle.cfi_read_core.specs.declared.error.Error.TheVariants.{NoUnwindInfoForAddress}
 use Rattle.cfi_read_core.specs.ReaderCalls.{map_ok}
@@ -70,12 +71,16 @@ module _ (lists : RestLists) (answer : Result KeptRow Error) (old new : List (Re
       added
 
 result_at : (lists : RestLists) (rows : List (Result KeptRow Error)) (answer : Result KeptRow Error) (number : ℕ) → number < length rows → get_or rows number answer ≡ answer
-    → parts_numbered (results_in lists rows) number ≡ map_ok (parts_in lists) answer
-result_at lists rows answer number within is =
-    get_or-map (map_ok (parts_in lists)) rows number answer (Err NoUnwindInfoForAddress) within ∙ ap (map_ok (parts_in lists)) is
+    → (number < length (results_in lists rows)) × (parts_numbered (results_in lists rows) number ≡ map_ok (parts_in lists) answer)
+result_at lists rows answer number within is = (
+  simp length-map within,
+  get_or-map (map_ok (parts_in lists)) rows number answer (Err NoUnwindInfoForAddress) within ∙ ap (map_ok (parts_in lists)) is,
+)
 
 pub result_named : {E : Type 0} → (lists shown : RestLists) → lists ≡ shown → (rows : List (Result KeptRow Error)) (answer : Result KeptRow Error) (found : Result ℕ E)
     → IfOk found (λ n. n < length rows) → IfOk found (λ n. (d : Result KeptRow Error) → get_or rows n d ≡ answer)
-    → IfOk found (λ n. parts_numbered (results_in lists rows) n ≡ map_ok (parts_in shown) answer)
-result_named lists shown is_shown rows answer (Ok n) within is = result_at lists rows answer n within (is answer) ∙ ap (λ l. map_ok (parts_in l) answer) is_shown
+    → IfOk found (λ n. (n < length (results_in lists rows)) × (parts_numbered (results_in lists rows) n ≡ map_ok (parts_in shown) answer))
+result_named lists shown is_shown rows answer (Ok n) within is =
+    let here = result_at lists rows answer n within (is answer) in
+    (here.0, here.1 ∙ ap (λ l. map_ok (parts_in l) answer) is_shown)
 result_named lists shown is_shown rows answer (Err e) within is = tt

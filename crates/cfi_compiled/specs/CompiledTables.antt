@@ -42,6 +42,11 @@ pub record IsSound (table : TableContents) : Type 0 where
   pub numbers : AreNumbersOf (results_of table) table.numbers
   pub named : AreNamed table.lists table.rows
 
+-- the result with this number is this one
+abbrev pub IsResultAt : TableContents → Result (Parts ℕ) Error → ℕ → Type 0
+IsResultAt table result number =
+    (number < length (results_of table)) × (parts_numbered (results_of table) number ≡ result)
+
 -- the last step has this number
 abbrev pub EndsWith : ℕ → List NumberedStep → Type 0
 EndsWith number steps =

@@ -3,14 +3,15 @@ ghost use Rattle.std.specs.Prelude.{◌≡◌, ◌≤◌, ◌<◌, ◌+◌, ℕ,
 ghost use Rattle.std.specs.Prelude.{IfOk, IsTrue, OnOk, Result as TheResult};
 ghost use Rattle.gimli_cfi.specs.Words.{Error as TheError, map_ok};
 ghost use Rattle.cfi_compiled.specs.declared.rests.KeptRow.{KeptRow as Kept};
-ghost use Rattle.cfi_compiled.specs.CompiledTables.{EndsWith, IsAdded, parts_at, parts_numbered};
-ghost use Rattle.cfi_compiled.specs.CompiledTables.{results_of, steps_of};
+ghost use Rattle.cfi_compiled.specs.CompiledTables.{EndsWith, IsAdded, IsResultAt, parts_at};
+ghost use Rattle.cfi_compiled.specs.CompiledTables.{parts_numbered, results_of, steps_of};
 ghost use Rattle.cfi_compiled.specs.KeptRows.{IsRestOf, parts_in};
 ghost use Rattle.cfi_compiled.specs.Steps.{IsFrom, SameBelow, free_from};
 
+use crate::guesses::Guesses;
 use crate::hash::hash_of_answer;
 use crate::rests::{KeptRow, RestBuilder};
-use crate::same::is_same;
+use crate::same::{is_same, is_same_cfa};
 use crate::slots::{Slots, Sought};
 use crate::step_list::{NumberedStep, StepList};
 use crate::steps::{NoMemory, StepSink};
@@ -26,6 +27,7 @@ pub(crate) struct TableBuilder {
     rests: RestBuilder,
     rows: Vec<Result<KeptRow>>,
     slots: Slots,
+    guesses: Guesses,
     numbers: Vec<NumberedStep>,
 }
 
@@ -61,6 +63,7 @@ impl TableBuilder {
             rests: RestBuilder::new(alloc),
             rows: Vec::new(alloc),
             slots: Slots::new(alloc),
+            guesses: Guesses::new(alloc),
             numbers: Vec::new(alloc),
         }
     }
@@ -79,6 +82,43 @@ impl TableBuilder {
         rows.shrink_to_fit();
         let steps = StepList::of(alloc, numbers)?;
         Ok(CompiledTable::of(rests.finish(), rows, steps))
+    }
+
+    /// Whether this is the number of what a row says.
+    #[inline(always)]
+    fn is_of<A: ArrayLike<Item = (Register, RegisterRule<usize>)>>(
+        &self,
+        number: usize,
+        row: &UnwindTableRow<usize, A>,
+    ) -> bool
+        ensures { IsTrue result → IsResultAt self.now (Ok row.now.parts) number }
+    {
+        if number >= self.rows.len() {
+            return false;
+        }
+        match self.rows[number] {
+            Ok(kept) => is_same_cfa(kept.cfa, *row.cfa()) && self.rests.is_of(kept.rest, row),
+            Err(_) => false,
+        }
+    }
+
+    /// The number of what a row says, which is added if it isn't there.
+    fn number_of_row<A: ArrayLike<Item = (Register, RegisterRule<usize>)>>(
+        &mut self,
+        row: &UnwindTableRow<usize, A>,
+    ) -> std::result::Result<usize, NoMemory>
+        ensures same { OnOk result ((a : ℕ) → parts_at self.new a ≡ parts_at self.old a) }
+        ensures free { OnOk result
+            (free_from 0 (steps_of self.new) ≡ free_from 0 (steps_of self.old)) }
+        ensures number { IfOk result (IsResultAt self.new (Ok row.now.parts)) }
+    {
+        let guess = self.guesses.next();
+        if self.is_of(guess, row) {
+            return Ok(guess);
+        }
+        let rest = self.rest_of(row)?;
+        let cfa = *row.cfa();
+        self.number_of(Ok(KeptRow { cfa, rest }))
     }
 
     /// The number of what a row says but the CFA.
@@ -100,10 +140,8 @@ impl TableBuilder {
         ensures same { OnOk result ((a : ℕ) → parts_at self.new a ≡ parts_at self.old a) }
         ensures free { OnOk result
             (free_from 0 (steps_of self.new) ≡ free_from 0 (steps_of self.old)) }
-        ensures number { IfOk result (λ number. number < length (results_of self.new)) }
-        ensures means { IfOk result (λ number.
-            parts_numbered (results_of self.new) number
-            ≡ map_ok (parts_in self.old.lists) answer) }
+        ensures number { IfOk result
+            (IsResultAt self.new (map_ok (parts_in self.old.lists) answer)) }
     {
         number_of(&mut self.rows, &mut self.slots, answer)
     }
@@ -120,6 +158,7 @@ impl TableBuilder {
         if ends_with(self.numbers.as_slice(), number) {
             return Ok(());
         }
+        self.guesses.learn(number)?;
         self.numbers.push(NumberedStep {
             start: from,
             number,
@@ -141,9 +180,7 @@ impl StepSink for TableBuilder {
         from: u64,
         row: &UnwindTableRow<usize, A>,
     ) -> std::result::Result<(), NoMemory> {
-        let rest = self.rest_of(row)?;
-        let cfa = *row.cfa();
-        let number = self.number_of(Ok(KeptRow { cfa, rest }))?;
+        let number = self.number_of_row(row)?;
         self.push(from, number)
     }
 

@@ -9,6 +9,7 @@ mod builder;
 mod compile;
 mod compiled_steps;
 mod fdes;
+mod guesses;
 mod hash;
 mod paged_steps;
 mod pieces;

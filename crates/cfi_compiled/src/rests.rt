@@ -183,6 +183,18 @@ impl RestBuilder {
         }
     }
 
+    /// Whether this is the number of a row's rest.
+    #[inline(always)]
+    pub(crate) fn is_of<A: ArrayLike<Item = (Register, RegisterRule<usize>)>>(
+        &self,
+        number: usize,
+        row: &UnwindTableRow<usize, A>,
+    ) -> bool
+        ensures { IsTrue result → IsRestOf self.now row.now.parts number }
+    {
+        self.rests.is_of(number, row)
+    }
+
     /// The number of a row's rest, which is added if it isn't there. The row before mostly had the
     /// same.
     pub(crate) fn number_of<A: ArrayLike<Item = (Register, RegisterRule<usize>)>>(

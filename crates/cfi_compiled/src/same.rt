@@ -42,16 +42,24 @@ fn is_same_error(a: Error, b: Error) -> bool
 }
 
 /// Whether two rules of the CFA are equal.
-fn is_same_cfa(a: CfaRule<usize>, b: CfaRule<usize>) -> bool
+#[inline(always)]
+pub(crate) fn is_same_cfa(a: CfaRule<usize>, b: CfaRule<usize>) -> bool
     ensures { IsTrue result → a ≡ b }
 {
     a == b
 }
 
 /// Whether two rules of a register are equal.
+#[inline(always)]
 fn is_same_rule(a: RegisterRule<usize>, b: RegisterRule<usize>) -> bool
     ensures { IsTrue result → a ≡ b }
 {
+    if let RegisterRule::Offset(a) = a {
+        if let RegisterRule::Offset(b) = b {
+            return a == b;
+        }
+        return false;
+    }
     a == b
 }
 

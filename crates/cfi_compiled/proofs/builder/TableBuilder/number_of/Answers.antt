@@ -32,6 +32,6 @@ returns-clause-free c =
     (same_free _ _ extends _ c.self.invariant.rise c.self.invariant.numbers
     ∙ ap (λ (f : TableContents). free_from 0 (steps_of f)) c.self.view_is)
 
-pub returns-clause-means : goal.returns-clause-means
-returns-clause-means c =
+pub returns-clause-number : goal.returns-clause-number
+returns-clause-number c =
     result_named c.self.inside.rests c.args.self.now.lists (ap (λ (t : TableContents). t.lists) c.self.view_is) _ c.args.answer c.number_of.result c.number_of.ensures.number c.number_of.ensures.means
