@@ -47,5 +47,5 @@ build_cfi_c() {
 
 # worked_rows: the worked rows of the program's tests, a case a line.
 worked_rows() {
-    .ci/worked_rows.py crates/cfi_rows/src/tests.rt crates/cfi_rows/src/tests/header.rt
+    .ci/worked_rows.py crates/cfi_tests_programs/src/rows.rt crates/cfi_tests_programs/src/rows/header.rt
 }

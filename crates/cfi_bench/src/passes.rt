@@ -111,17 +111,15 @@ fn entries<R: Reader<Offset = usize>, S: UnwindSection<R>>(
 }
 
 /// Returns the whole FDE, with its CIE in the section.
-fn whole<'b, R: Reader, S: UnwindSection<R>>(
-    section: &S,
-    partial: &PartialFrameDescriptionEntry<'b, S, R>,
+fn whole<R: Reader, S: UnwindSection<R>>(
+    partial: &PartialFrameDescriptionEntry<'_, S, R>,
 ) -> Result<FrameDescriptionEntry<R>>
-    requires { partial.now.section ≡ section.now }
     ensures part { IfOk result (λ fde.
-        IsOf (R.position fde.instructions) (S.view section.now).position) }
+        IsOf (R.position fde.instructions) (S.view partial.now.section).position) }
     ensures cie_part { IfOk result (λ fde.
-        IsOf (R.position fde.cie.initial_instructions) (S.view section.now).position) }
+        IsOf (R.position fde.cie.initial_instructions) (S.view partial.now.section).position) }
 {
-    let reader = *section.section();
+    let reader = partial.offset();
     partial.parse(|from: &S, bases: &BaseAddresses, offset: S::Offset| {
         let _reader = reader;
         from.cie_from_offset(bases, offset)
@@ -135,13 +133,19 @@ fn fdes<R: Reader, S: UnwindSection<R>>(section: &S, bases: &BaseAddresses) -> R
         match entries.next()? {
             None => break,
             Some(CieOrFde::Cie(_)) => {}
-            Some(CieOrFde::Fde(partial)) => {
-                let fde = whole(section, &partial)?;
-                done.take(fde.initial_address() ^ fde.len());
-            }
+            Some(CieOrFde::Fde(partial)) => take_fde(&partial, &mut done)?,
         }
     }
     Ok(done)
+}
+
+fn take_fde<R: Reader, S: UnwindSection<R>>(
+    partial: &PartialFrameDescriptionEntry<'_, S, R>,
+    done: &mut Done,
+) -> Result<()> {
+    let fde = whole(partial)?;
+    done.take(fde.initial_address() ^ fde.len());
+    Ok(())
 }
 
 /// The rows of an FDE, each by its sum.
@@ -174,6 +178,27 @@ fn walk_fde<
     }
 }
 
+/// The rows of an FDE that is read with its CIE.
+fn walk_partial<
+    'x,
+    R: Reader<Offset = usize>,
+    Section: UnwindSection<R>,
+    S: UnwindContextStorage<usize>,
+    Sum: SumOfRow,
+>(
+    section: &'x Section,
+    bases: &'x BaseAddresses,
+    partial: &PartialFrameDescriptionEntry<'_, Section, R>,
+    context: &mut UnwindContext<usize, S>,
+    done: &mut Done,
+) -> Result<()>
+    requires { partial.now.section ≡ section.now }
+{
+    let fde = whole(partial)?;
+    walk_fde::<R, Section, S, Sum>(section, bases, &fde, context, done);
+    Ok(())
+}
+
 fn walk<R: Reader<Offset = usize>, S: UnwindSection<R>, Sum: SumOfRow>(
     alloc: Global,
     section: &S,
@@ -196,8 +221,7 @@ fn walk_in<
             break;
         };
         if let CieOrFde::Fde(partial) = entry {
-            let fde = whole(section, &partial)?;
-            walk_fde::<R, Section, S, Sum>(section, bases, &fde, context, &mut done);
+            walk_partial::<R, Section, S, Sum>(section, bases, &partial, context, &mut done)?;
         }
     }
     Ok(done)

@@ -9,9 +9,6 @@ ghost use Rattle.std.specs.Process.{exit_status};
 ghost use Rattle.cfi_programs.specs.DumpProgramOutput.{dump_tool};
 ghost use Rattle.cfi_programs.specs.Runs.{PrintsRun};
 
-#[cfg(test)]
-mod tests;
-
 use cfi_programs::dump::Request;
 use cfi_programs::run::run_process;
 use std::alloc::AllocGlobal;

@@ -10,9 +10,6 @@ ghost use Rattle.std.specs.Process.{exit_status};
 ghost use Rattle.cfi_programs.specs.RowsProgramOutput.{rows_tool};
 ghost use Rattle.cfi_programs.specs.Runs.{PrintsRun};
 
-#[cfg(test)]
-mod tests;
-
 use cfi_programs::rows::Request;
 use cfi_programs::run::run_process;
 use std::alloc::AllocGlobal;
