@@ -2,13 +2,13 @@
 //!
 //! The contracts of calls that take the closure by value say nothing of its last state, so the
 //! counts are tested here.
-use crate::searches::{HEADER, SECTION, bases, read_header, second_target, start_of, table_of};
-use cfi_tests_bytes::ended;
+use crate::searches::{HEADER, SECTION, Shown, bases, read_header, shown, table_of};
 use gimli_cfi::{
     BaseAddresses, CommonInformationEntry, DebugFrame, DebugFrameOffset, EhFrame, EhHdrTable,
-    Error, FrameDescriptionEntry, LittleEndian, Reader, ReaderOffsetId, UnwindContext,
-    UnwindSection,
+    EndianSlice, Error, FrameDescriptionEntry, LittleEndian, Reader, ReaderOffsetId, UnwindContext,
+    UnwindContextStorage, UnwindSection,
 };
+use std::process::Abort;
 use std::test::Fail;
 
 /// A CIE of `.debug_frame`; FDEs at 20 and 44 for 0x1000 and 0x2000, of 0x20 addresses each; at 68
@@ -99,8 +99,8 @@ fn for_address<R: Reader<Offset = usize>>(
 }
 
 /// `UnwindSection::unwind_info_for_address`: the start address of the row.
-fn row_for_address<R: Reader<Offset = usize>>(
-    context: &mut UnwindContext<usize>,
+fn row_for_address<R: Reader<Offset = usize>, S: UnwindContextStorage<usize>>(
+    context: &mut UnwindContext<usize, S>,
     section: &DebugFrame<R>,
     address: u64,
     refuses: bool,
@@ -114,12 +114,21 @@ fn row_for_address<R: Reader<Offset = usize>>(
         }
         from.cie_from_offset(bases, offset)
     });
-    (start_of(found), asked)
+    let start = match found {
+        Ok(row) => Ok(row.start_address()),
+        Err(refusal) => Err(refusal),
+    };
+    (start, asked)
 }
 
-/// Both calls for an address, over the section up to the given length.
-fn by_scan(context: &mut UnwindContext<usize>, bytes: &[u8], address: u64, refuses: bool) -> Both {
-    let section = DebugFrame::new(bytes, LittleEndian);
+/// Both calls for an address.
+fn both_by_scan<R: Reader<Offset = usize>, S: UnwindContextStorage<usize>>(
+    context: &mut UnwindContext<usize, S>,
+    section: R,
+    address: u64,
+    refuses: bool,
+) -> Both {
+    let section = DebugFrame::from(section);
     let fde = for_address(&section, address, refuses);
     (fde, row_for_address(context, &section, address, refuses))
 }
@@ -142,14 +151,14 @@ pub(crate) fn fde_by_table<R: Reader<Offset = usize>>(
     (offset_of(found), asked)
 }
 
-/// `EhHdrTable::unwind_info_for_address`: the start address of the row.
-pub(crate) fn row_by_cies<R: Reader<Offset = usize>>(
-    context: &mut UnwindContext<usize>,
+/// `EhHdrTable::unwind_info_for_address`.
+pub(crate) fn row_by_cies<R: Reader<Offset = usize>, S: UnwindContextStorage<usize>>(
+    context: &mut UnwindContext<usize, S>,
     table: &EhHdrTable<'_, R>,
     frame: &EhFrame<R>,
     address: u64,
     refuses: bool,
-) -> Asked<u64> {
+) -> Asked<Shown> {
     let mut asked = 0u32;
     let bases = bases();
     let found = table.unwind_info_for_address(
@@ -165,33 +174,55 @@ pub(crate) fn row_by_cies<R: Reader<Offset = usize>>(
             from.cie_from_offset(bases, offset)
         },
     );
-    (start_of(found), asked)
+    (shown(found), asked)
+}
+
+/// The start address of a row.
+fn start_of(row: Asked<Shown>) -> Asked<u64> {
+    match row {
+        (Ok((start, _, _)), asked) => (Ok(start), asked),
+        (Err(refusal), asked) => (Err(refusal), asked),
+    }
 }
 
 /// Both calls for an address, by a table.
-fn both_by_table<R: Reader<Offset = usize>>(
-    context: &mut UnwindContext<usize>,
+fn both_by_table<R: Reader<Offset = usize>, S: UnwindContextStorage<usize>>(
+    context: &mut UnwindContext<usize, S>,
     table: &EhHdrTable<'_, R>,
     frame: &EhFrame<R>,
     address: u64,
     refuses: bool,
 ) -> Both {
     let fde = fde_by_table(table, frame, address, refuses);
-    (fde, row_by_cies(context, table, frame, address, refuses))
+    let row = row_by_cies(context, table, frame, address, refuses);
+    (fde, start_of(row))
 }
 
-/// The same from the bytes of a header.
-fn by_table(
-    context: &mut UnwindContext<usize>,
+/// The same from a reader of the section and one of a header.
+fn both_by_header<R: Reader<Offset = usize>, S: UnwindContextStorage<usize>>(
+    context: &mut UnwindContext<usize, S>,
+    section: R,
+    header: R,
+    address: u64,
+    refuses: bool,
+) -> Result<Both, Error> {
+    let parsed = read_header(header, &bases(), 8)?;
+    let table = table_of(&parsed)?;
+    let frame = EhFrame::from(section);
+    Ok(both_by_table(context, &table, &frame, address, refuses))
+}
+
+/// The same from bytes.
+fn by_table<S: UnwindContextStorage<usize>>(
+    context: &mut UnwindContext<usize, S>,
     section: &[u8],
     header: &[u8],
     address: u64,
     refuses: bool,
 ) -> Result<Both, Error> {
-    let frame = EhFrame::new(section, LittleEndian);
-    let parsed = read_header(header, &bases())?;
-    let table = table_of(&parsed)?;
-    Ok(both_by_table(context, &table, &frame, address, refuses))
+    let section = EndianSlice::new(section, LittleEndian);
+    let header = EndianSlice::new(header, LittleEndian);
+    both_by_header(context, section, header, address, refuses)
 }
 
 /// The offset of the FDE and the start address of the row, or an error.
@@ -206,33 +237,43 @@ fn both(found: Found, asked: u32) -> Both {
 }
 
 /// Both calls for the FDE at an offset.
-fn read_at(offset: usize, refuses: bool) -> [Asked<usize>; 2] {
-    let section = DebugFrame::new(&FDES, LittleEndian);
+fn read_at<R: Reader<Offset = usize>>(
+    section: R,
+    offset: usize,
+    refuses: bool,
+) -> [Asked<usize>; 2] {
+    let section = DebugFrame::from(section);
     [
         at_offset(&section, offset, refuses),
         parsed(&section, offset, refuses),
     ]
 }
 
+/// The offset of an FDE, and whether `get_cie` fails; the result, and how often the closure was
+/// called.
+const FDES_AT: [(usize, bool, Asked<usize>); 6] = [
+    (20, false, (Ok(20), 1)),
+    (44, false, (Ok(44), 1)),
+    (
+        68,
+        false,
+        (Err(Error::UnexpectedEof(ReaderOffsetId(84))), 1),
+    ),
+    (0, false, (Err(Error::NotCiePointer(0)), 0)),
+    (
+        84,
+        false,
+        (Err(Error::UnexpectedEof(ReaderOffsetId(84))), 0),
+    ),
+    (44, true, (Err(Error::UnknownAugmentation), 1)),
+];
+
 #[test]
 fn one_fde_asks_once(rt: HostRuntime) {
-    let found = [
-        read_at(20, false),
-        read_at(44, false),
-        read_at(68, false),
-        read_at(0, false),
-        read_at(84, false),
-        read_at(44, true),
-    ];
-    let expected = [
-        [(Ok(20), 1); 2],
-        [(Ok(44), 1); 2],
-        [(Err(ended(84)), 1); 2],
-        [(Err(Error::NotCiePointer(0)), 0); 2],
-        [(Err(ended(84)), 0); 2],
-        [(Err(Error::UnknownAugmentation), 1); 2],
-    ];
-    assert_eq!(rt; found, expected);
+    for (offset, refuses, asked) in &FDES_AT {
+        let section = EndianSlice::new(&FDES, LittleEndian);
+        assert_eq!(rt; read_at(section, *offset, *refuses), [*asked; 2]);
+    }
 }
 
 /// The length of the section, an address, and whether `get_cie` fails; the result, and how often
@@ -258,49 +299,102 @@ const SCANS: [(usize, u64, bool, Found, u32); 6] = [
     (84, 0x2008, true, Err(Error::UnknownAugmentation), 1),
 ];
 
+/// Checks those results with one context.
+fn check_scans<S: UnwindContextStorage<usize>>(
+    rt: &impl Abort,
+    context: &mut UnwindContext<usize, S>,
+) {
+    for (count, address, refuses, found, asked) in &SCANS {
+        let bytes = FDES.get(..*count).unwrap_or_default();
+        let section = EndianSlice::new(bytes, LittleEndian);
+        let by_scan = both_by_scan(context, section, *address, *refuses);
+        assert_eq!(rt; by_scan, both(*found, *asked), "for {address}");
+    }
+}
+
 #[test]
 fn a_scan_asks_once_an_fde(rt: HostRuntime) -> Result<(), Fail> {
     let mut context: UnwindContext<usize> = UnwindContext::new(rt.alloc())?;
-    for (count, address, refuses, found, asked) in &SCANS {
-        let bytes = FDES.get(..*count).unwrap_or_default();
-        let by_scan = by_scan(&mut context, bytes, *address, *refuses);
-        assert_eq!(rt; by_scan, both(*found, *asked), "for {address}");
-    }
+    check_scans(&rt, &mut context);
     Ok(())
+}
+
+/// The section whose second FDE is longer than the rest of the section.
+const CUT: [u8; 88] = [
+    0x14, 0, 0, 0, 0, 0, 0, 0, 1, 0x7a, 0x52, 0, 1, 0x78, 0x10, 1, 0x1b, 0x0c, 7, 8, 0x90, 1, 0, 0,
+    0x10, 0, 0, 0, 0x1c, 0, 0, 0, 0xe0, 0xef, 0xff, 0xff, 0x10, 0, 0, 0, 0, 0, 0, 0, 0x10, 0, 0, 0,
+    0x30, 0, 0, 0, 0xdc, 0xef, 0xff, 0xff, 0x10, 0, 0, 0, 0x20, 0x41, 0x0e, 0x10, 0x10, 0, 0, 0,
+    0x44, 0, 0, 0, 0xd8, 0xef, 0xff, 0xff, 0x20, 0, 0, 0, 0, 0, 0, 0, 0, 0, 0, 0,
+];
+
+/// The header, whose second row leads to the CIE.
+const TO_THE_CIE: [u8; 36] = [
+    1, 0x1b, 0x03, 0x3b, 0xfc, 0, 0, 0, 3, 0, 0, 0, 0, 0xf1, 0xff, 0xff, 0x18, 1, 0, 0, 0x10, 0xf1,
+    0xff, 0xff, 0, 1, 0, 0, 0x20, 0xf1, 0xff, 0xff, 0x40, 1, 0, 0,
+];
+
+/// A header of one row, which is indirect.
+const INDIRECT: [u8; 20] = [
+    1, 0x1b, 0x03, 0xbb, 0xfc, 0, 0, 0, 1, 0, 0, 0, 0, 0xf1, 0xff, 0xff, 0x18, 1, 0, 0,
+];
+
+/// The section, the header, an address, and whether `get_cie` fails; the result, and how often the
+/// closure was called.
+const BY_TABLES: [(&[u8], &[u8], u64, bool, Found, u32); 8] = [
+    (&SECTION, &HEADER, 0x1018, false, Ok((44, 0x1011)), 1),
+    (&SECTION, &HEADER, 0x103f, false, Ok((64, 0x1020)), 1),
+    (&SECTION, &HEADER, 0xff0, false, NONE, 1),
+    (&SECTION, &HEADER, 0x1040, false, NONE, 1),
+    (
+        &SECTION,
+        &TO_THE_CIE,
+        0x1018,
+        false,
+        Err(Error::NotCiePointer(0)),
+        0,
+    ),
+    (
+        &CUT,
+        &HEADER,
+        0x1018,
+        false,
+        Err(Error::UnexpectedEof(ReaderOffsetId(61))),
+        1,
+    ),
+    (
+        &SECTION,
+        &HEADER,
+        0x1018,
+        true,
+        Err(Error::UnknownAugmentation),
+        1,
+    ),
+    (
+        &SECTION,
+        &INDIRECT,
+        0x1000,
+        false,
+        Err(Error::UnsupportedIndirectPointer),
+        0,
+    ),
+];
+
+const NONE: Found = Err(Error::NoUnwindInfoForAddress);
+
+/// Checks those results with one context.
+fn check_tables<S: UnwindContextStorage<usize>>(
+    rt: &impl Abort,
+    context: &mut UnwindContext<usize, S>,
+) {
+    for (section, header, address, refuses, found, asked) in &BY_TABLES {
+        let by_table = by_table(context, section, header, *address, *refuses);
+        assert_eq!(rt; by_table, Ok(both(*found, *asked)), "for {address}");
+    }
 }
 
 #[test]
 fn a_table_asks_once(rt: HostRuntime) -> Result<(), Fail> {
     let mut context: UnwindContext<usize> = UnwindContext::new(rt.alloc())?;
-    let mut cut = SECTION;
-    cut[60] = 0x20;
-    let before = second_target([0, 1, 0, 0]);
-    let none = Err(Error::NoUnwindInfoForAddress);
-    let cases: [(&[u8], &[u8], u64, bool, Found, u32); 6] = [
-        (&SECTION, &HEADER, 0x1018, false, Ok((44, 0x1011)), 1),
-        (&SECTION, &HEADER, 0xff0, false, none, 1),
-        (&SECTION, &HEADER, 0x1040, false, none, 1),
-        (
-            &SECTION,
-            &before,
-            0x1018,
-            false,
-            Err(Error::NotCiePointer(0)),
-            0,
-        ),
-        (&cut, &HEADER, 0x1018, false, Err(ended(61)), 1),
-        (
-            &SECTION,
-            &HEADER,
-            0x1018,
-            true,
-            Err(Error::UnknownAugmentation),
-            1,
-        ),
-    ];
-    for (section, header, address, refuses, found, asked) in cases {
-        let by_table = by_table(&mut context, section, header, address, refuses);
-        assert_eq!(rt; by_table, Ok(both(found, asked)), "for {address}");
-    }
+    check_tables(&rt, &mut context);
     Ok(())
 }

@@ -3,14 +3,15 @@ ghost use Rattle.std.specs.Ordering.{on};
 ghost use Rattle.std.specs.Cmp.{on_per, on_equiv};
 
 use crate::asked::{fde_by_table, row_by_cies};
-use crate::searches::{HEADER, Listed, SECTION, Slice, bases, table_of};
+use crate::searches::{HEADER, Listed, SECTION, Slice, bases, read_header, table_of};
 use gimli_cfi::{
-    BaseAddresses, EhFrame, EhFrameHdr, EhFrameOffset, EhHdrTable, EndianSlice, Error,
-    FaithfulTable, LittleEndian, Reader, StartSource, TableStarts, UnwindContext, UnwindSection,
-    row_by_header, row_by_table,
+    EhFrame, EhFrameHdr, EhFrameOffset, EhHdrTable, EndianSlice, Error, FaithfulTable,
+    LittleEndian, Reader, StartSource, TableStarts, UnwindContext, UnwindContextStorage,
+    UnwindSection, row_by_header, row_by_table,
 };
 use std::alloc::{AllocError, Global};
 use std::cell::Cell;
+use std::process::Abort;
 use std::test::Fail;
 
 /// A reader that counts the reads of numbers of a fixed width, over all its copies.
@@ -102,107 +103,6 @@ impl<R: Reader> Reader for Counted<'_, R> {
     ghost greatest = { λ r. R.greatest r.inner };
 }
 
-/// How many numbers of the header `lookup` reads for an address, and how many `row_by_table`.
-///
-/// It is generic over the reader: the check takes much longer if the calls name the type `Counted`.
-fn reads_of<R: Reader>(
-    header: EhFrameHdr<R>,
-    frame: &EhFrame<R>,
-    reads: &Cell<u32>,
-    context: &mut UnwindContext<R::Offset>,
-    address: u64,
-) -> Result<Option<(u32, u32)>, Error> {
-    let bases = BaseAddresses::default().set_eh_frame_hdr(0x1f00);
-    let parsed = header.parse(&bases, 8)?;
-    let Some(table) = parsed.table() else {
-        return Ok(None);
-    };
-    reads.set(0);
-    let _target = table.lookup(address, &bases);
-    let looked_up = reads.get();
-    let mut starts = TableStarts::new(&table, &bases)?;
-    reads.set(0);
-    let _row = row_by_table(&table, &mut starts, frame, &bases, context, address);
-    Ok(Some((looked_up, reads.get())))
-}
-
-fn counting<'a>(bytes: &'a [u8], reads: &'a Cell<u32>) -> Counted<'a, Slice<'a>> {
-    Counted {
-        inner: EndianSlice::new(bytes, LittleEndian),
-        reads,
-    }
-}
-
-/// The same from the bytes of a header, with an empty section.
-fn reads_for(
-    header: &[u8],
-    context: &mut UnwindContext<usize>,
-    address: u64,
-) -> Result<Option<(u32, u32)>, Error> {
-    let elsewhere = Cell::new(0u32);
-    let reads = Cell::new(0u32);
-    let frame = EhFrame::from(counting(&[], &elsewhere));
-    let header = EhFrameHdr::from(counting(header, &reads));
-    reads_of(header, &frame, &reads, context, address)
-}
-
-/// The most numbers that either call reads for one of these addresses.
-fn most_reads(header: &[u8], context: &mut UnwindContext<usize>) -> Result<Option<u32>, Error> {
-    let mut most = 0u32;
-    for address in [0u64, 1, 4000, 8001, 15999, 16000, 40000, 70000] {
-        let Some((looked_up, by_table)) = reads_for(header, context, address)? else {
-            return Ok(None);
-        };
-        most = most.max(looked_up).max(by_table);
-    }
-    Ok(Some(most))
-}
-
-/// Writes a header of a thousand rows, whose starts are the multiples of a factor without their
-/// upper bits.
-fn write_rows(header: &mut Vec<u8>, factor: u32) -> Result<(), AllocError> {
-    header.extend_from_slice(&[1, 3, 3, 3, 0, 0, 0, 0, 0xe8, 3, 0, 0])?;
-    for row in 0..1000u32 {
-        let start = row.wrapping_mul(factor) % 65536;
-        let both = u64::from(start) | (u64::from(row) << 32);
-        header.extend_from_slice(&both.to_le_bytes())?;
-    }
-    Ok(())
-}
-
-/// Whether no search in those thousand rows reads more than the eleven numbers that halving needs.
-fn are_halved(
-    alloc: Global,
-    context: &mut UnwindContext<usize>,
-    factor: u32,
-) -> Result<bool, Fail> {
-    let mut header = Vec::new(alloc);
-    write_rows(&mut header, factor)?;
-    let most = most_reads(&header, context)?;
-    Ok(matches!(most, Some(0..=11)))
-}
-
-#[test]
-fn starts_are_read_by_halving(rt: HostRuntime) -> Result<(), Fail> {
-    let mut context: UnwindContext<usize> = UnwindContext::new(rt.alloc())?;
-    let one: [u8; 20] = [1, 3, 3, 3, 0, 0, 0, 0, 1, 0, 0, 0, 0, 1, 0, 0, 0, 2, 0, 0];
-    let few = [
-        reads_for(&one, &mut context, 0x180),
-        // Two starts and the target.
-        reads_for(&HEADER, &mut context, 0x1018),
-    ];
-    // A thousand rows in order, and a thousand whose starts go up and down.
-    let many = [
-        are_halved(rt.alloc(), &mut context, 16)?,
-        are_halved(rt.alloc(), &mut context, 40503)?,
-    ];
-    assert_eq!(rt;
-        (few, many),
-        ([Ok(Some((1, 1))), Ok(Some((3, 3)))], [true; 2])
-    );
-    Ok(())
-}
-
 /// How many numbers were read, of the header and of the section.
 type Reads = (u32, u32);
 
@@ -232,9 +132,9 @@ struct Listing<'a, R: Reader> {
 }
 
 /// By the calls that take no source: `lookup`, `fde_for_address`, `unwind_info_for_address`.
-fn by_table<R: Reader<Offset = usize>>(
+fn by_table<R: Reader<Offset = usize>, S: UnwindContextStorage<usize>>(
     of: &Listing<'_, R>,
-    context: &mut UnwindContext<usize>,
+    context: &mut UnwindContext<usize, S>,
     address: u64,
 ) -> [Reads; 3] {
     let _before = of.counts.since();
@@ -246,59 +146,72 @@ fn by_table<R: Reader<Offset = usize>>(
     [looked_up, found, of.counts.since()]
 }
 
-/// By the table's own starts: `TableStarts::new`, the start of row 1, `lookup_in`, `row_by_table`.
-fn by_starts<R: Reader<Offset = usize>>(
-    of: &Listing<'_, R>,
-    context: &mut UnwindContext<usize>,
-    address: u64,
-) -> Result<[Reads; 4], Error> {
+/// By the table's own starts: `TableStarts::new`, and the start of row 1.
+fn by_starts<R: Reader<Offset = usize>>(of: &Listing<'_, R>) -> Result<[Reads; 2], Error> {
     let bases = bases();
     let _before = of.counts.since();
     let mut starts = TableStarts::new(&of.table, &bases)?;
     let made = of.counts.since();
     let _start = starts.start(1);
-    let started = of.counts.since();
-    let _target = of.table.lookup_in(&mut starts, address, &bases);
-    let looked_up = of.counts.since();
-    let _row = row_by_table(&of.table, &mut starts, of.frame, &bases, context, address);
-    Ok([made, started, looked_up, of.counts.since()])
+    Ok([made, of.counts.since()])
 }
 
-/// By starts that aren't read from the header: `lookup_in` and `row_by_table`; and how many starts
-/// both asked for.
-fn by_list<R: Reader<Offset = usize>>(
+/// By a source of starts: `lookup_in` and `row_by_table`.
+fn by_source<R: Reader<Offset = usize>, S: UnwindContextStorage<usize>, I: StartSource>(
     of: &Listing<'_, R>,
-    context: &mut UnwindContext<usize>,
+    starts: &mut I,
+    context: &mut UnwindContext<usize, S>,
+    address: u64,
+) -> [Reads; 2] {
+    let bases = bases();
+    let _before = of.counts.since();
+    let _target = of.table.lookup_in(starts, address, &bases);
+    let looked_up = of.counts.since();
+    let _row = row_by_table(&of.table, starts, of.frame, &bases, context, address);
+    [looked_up, of.counts.since()]
+}
+
+/// The same by the table's own starts.
+fn by_own_starts<R: Reader<Offset = usize>, S: UnwindContextStorage<usize>>(
+    of: &Listing<'_, R>,
+    context: &mut UnwindContext<usize, S>,
+    address: u64,
+) -> Result<[Reads; 2], Error> {
+    let bases = bases();
+    let mut starts = TableStarts::new(&of.table, &bases)?;
+    Ok(by_source(of, &mut starts, context, address))
+}
+
+/// By starts that aren't read from the header; and how many starts both calls asked for.
+fn by_list<R: Reader<Offset = usize>, S: UnwindContextStorage<usize>>(
+    of: &Listing<'_, R>,
+    context: &mut UnwindContext<usize, S>,
     address: u64,
 ) -> ([Reads; 2], u32) {
-    let bases = bases();
     let mut starts = Listed::new(&[0x1000, 0x1010, 0x1020]);
-    let _before = of.counts.since();
-    let _target = of.table.lookup_in(&mut starts, address, &bases);
-    let looked_up = of.counts.since();
-    let _row = row_by_table(&of.table, &mut starts, of.frame, &bases, context, address);
-    ([looked_up, of.counts.since()], starts.made)
+    let reads = by_source(of, &mut starts, context, address);
+    (reads, starts.made)
 }
 
 /// By a table that was checked.
-fn by_checked_table<R: Reader<Offset = usize>>(
+fn by_checked_table<R: Reader<Offset = usize>, S: UnwindContextStorage<usize>>(
     of: &Listing<'_, R>,
-    context: &mut UnwindContext<usize>,
+    context: &mut UnwindContext<usize, S>,
     address: u64,
-) -> Result<Reads, Error> {
+) -> Option<Reads> {
     let bases = bases();
     let Ok(checked) = FaithfulTable::new(&of.table, of.frame, &bases) else {
-        return Err(Error::NoUnwindInfoForAddress);
+        return None;
     };
     let _before = of.counts.since();
     let _row = checked.row(context, address);
-    Ok(of.counts.since())
+    Some(of.counts.since())
 }
 
 /// By the FDE at an offset of the section, and then its row.
-fn by_offset<R: Reader<Offset = usize>>(
+fn by_offset<R: Reader<Offset = usize>, S: UnwindContextStorage<usize>>(
     of: &Listing<'_, R>,
-    context: &mut UnwindContext<usize>,
+    context: &mut UnwindContext<usize, S>,
     offset: usize,
     address: u64,
 ) -> Result<[Reads; 2], Error> {
@@ -314,63 +227,86 @@ fn by_offset<R: Reader<Offset = usize>>(
 }
 
 /// By a header that isn't parsed yet.
-fn by_header<R: Reader<Offset = usize>>(
-    header: &EhFrameHdr<R>,
+fn by_header<R: Reader<Offset = usize>, S: UnwindContextStorage<usize>>(
+    header: R,
     frame: &EhFrame<R>,
     counts: &Counts<'_>,
-    context: &mut UnwindContext<usize>,
+    context: &mut UnwindContext<usize, S>,
     address: u64,
 ) -> Reads {
+    let header = EhFrameHdr::from(header);
     let _before = counts.since();
-    let _row = row_by_header(header, 8, frame, &bases(), context, address);
+    let _row = row_by_header(&header, 8, frame, &bases(), context, address);
     counts.since()
 }
 
-/// What each call reads for 0x1018, whose row is the second of the FDE at 44.
-#[derive(Debug, Drop, PartialEq, Eq)]
-struct AllReads {
-    by_header: Reads,
-    by_table: [Reads; 3],
-    by_starts: [Reads; 4],
-    by_list: ([Reads; 2], u32),
-    by_checked_table: Reads,
-    by_offset: [Reads; 2],
+/// What each call by the table reads for an address.
+type ByTable = (
+    [Reads; 3],
+    Result<[Reads; 2], Error>,
+    Result<[Reads; 2], Error>,
+    ([Reads; 2], u32),
+    Option<Reads>,
+);
+
+fn all_by_table<R: Reader<Offset = usize>, S: UnwindContextStorage<usize>>(
+    of: &Listing<'_, R>,
+    context: &mut UnwindContext<usize, S>,
+    address: u64,
+) -> ByTable {
+    (
+        by_table(of, context, address),
+        by_starts(of),
+        by_own_starts(of, context, address),
+        by_list(of, context, address),
+        by_checked_table(of, context, address),
+    )
 }
 
-fn all_reads<R: Reader<Offset = usize>>(
-    header: EhFrameHdr<R>,
+/// The same; by the FDE at 44 and then its row; and by the header.
+type AllReads = (ByTable, Result<[Reads; 2], Error>, Reads);
+
+fn all_reads<R: Reader<Offset = usize>, S: UnwindContextStorage<usize>>(
+    header: R,
     frame: &EhFrame<R>,
     counts: &Counts<'_>,
-    context: &mut UnwindContext<usize>,
+    context: &mut UnwindContext<usize, S>,
+    address: u64,
 ) -> Result<AllReads, Error> {
-    let by_header = by_header(&header, frame, counts, context, 0x1018);
-    let parsed = header.parse(&bases(), 8)?;
+    let by_header = by_header(header, frame, counts, context, address);
+    let parsed = read_header(header, &bases(), 8)?;
     let of = Listing {
         table: table_of(&parsed)?,
         frame,
         counts,
     };
-    Ok(AllReads {
-        by_header,
-        by_table: by_table(&of, context, 0x1018),
-        by_starts: by_starts(&of, context, 0x1018)?,
-        by_list: by_list(&of, context, 0x1018),
-        by_checked_table: by_checked_table(&of, context, 0x1018)?,
-        by_offset: by_offset(&of, context, 44, 0x1018)?,
-    })
+    let by_table = all_by_table(&of, context, address);
+    Ok((by_table, by_offset(&of, context, 44, address), by_header))
 }
 
-/// The same over the section of three FDEs and its header.
-fn all_reads_of_three(context: &mut UnwindContext<usize>) -> Result<AllReads, Error> {
+fn counting<'a>(bytes: &'a [u8], reads: &'a Cell<u32>) -> Counted<'a, Slice<'a>> {
+    Counted {
+        inner: EndianSlice::new(bytes, LittleEndian),
+        reads,
+    }
+}
+
+/// The same from the bytes of a header and of a section.
+fn all_reads_in<S: UnwindContextStorage<usize>>(
+    header: &[u8],
+    section: &[u8],
+    context: &mut UnwindContext<usize, S>,
+    address: u64,
+) -> Result<AllReads, Error> {
     let of_header = Cell::new(0u32);
     let of_section = Cell::new(0u32);
     let counts = Counts {
         of_header: &of_header,
         of_section: &of_section,
     };
-    let frame = EhFrame::from(counting(&SECTION, counts.of_section));
-    let header = EhFrameHdr::from(counting(&HEADER, counts.of_header));
-    all_reads(header, &frame, &counts, context)
+    let header = counting(header, counts.of_header);
+    let frame = EhFrame::from(counting(section, counts.of_section));
+    all_reads(header, &frame, &counts, context, address)
 }
 
 /// The FDE's length and id; its CIE's length, id and version, two letters with the zero after them
@@ -387,17 +323,100 @@ const HEAD: u32 = 6;
 /// Two starts, which is as many as halving three rows takes, and a target.
 const SEARCH: u32 = 2 + 1;
 
+/// What the calls read for 0x1018, whose row is the second of the FDE at 44.
+const ALL_READS: AllReads = (
+    (
+        [(SEARCH, 0), (SEARCH, FDE), (SEARCH, FDE + ROWS)],
+        Ok([(0, 0), (1, 0)]),
+        Ok([(SEARCH, 0), (SEARCH, FDE + ROWS)]),
+        ([(1, 0), (1, FDE + ROWS)], 4),
+        Some((SEARCH, FDE + ROWS)),
+    ),
+    Ok([(0, FDE), (0, ROWS)]),
+    (HEAD + SEARCH, FDE + ROWS),
+);
+
 #[test]
 fn what_each_call_reads(rt: HostRuntime) -> Result<(), Fail> {
     let mut context: UnwindContext<usize> = UnwindContext::new(rt.alloc())?;
-    let expected = AllReads {
-        by_header: (HEAD + SEARCH, FDE + ROWS),
-        by_table: [(SEARCH, 0), (SEARCH, FDE), (SEARCH, FDE + ROWS)],
-        by_starts: [(0, 0), (1, 0), (SEARCH, 0), (SEARCH, FDE + ROWS)],
-        by_list: ([(1, 0), (1, FDE + ROWS)], 4),
-        by_checked_table: (SEARCH, FDE + ROWS),
-        by_offset: [(0, FDE), (0, ROWS)],
-    };
-    assert_eq!(rt; all_reads_of_three(&mut context), Ok(expected));
+    let found = all_reads_in(&HEADER, &SECTION, &mut context, 0x1018);
+    assert_eq!(rt; found, Ok(ALL_READS));
     Ok(())
+}
+
+/// How many numbers of the header `lookup` reads for an address, and how many `row_by_table`, with
+/// an empty section.
+fn reads_for<S: UnwindContextStorage<usize>>(
+    header: &[u8],
+    context: &mut UnwindContext<usize, S>,
+    address: u64,
+) -> Result<(u32, u32), Error> {
+    let ((by_table, _, by_starts, _, _), _, _) = all_reads_in(header, &[], context, address)?;
+    Ok((by_table[0].0, by_starts?[1].0))
+}
+
+/// The most numbers that either call reads for one of these addresses.
+fn most_reads<S: UnwindContextStorage<usize>>(
+    header: &[u8],
+    context: &mut UnwindContext<usize, S>,
+) -> Result<u32, Error> {
+    let mut most = 0u32;
+    for address in [0u64, 1, 4000, 8001, 15999, 16000, 40000, 70000] {
+        let (looked_up, by_table) = reads_for(header, context, address)?;
+        most = most.max(looked_up).max(by_table);
+    }
+    Ok(most)
+}
+
+/// Writes a header of a thousand rows, whose starts are the multiples of a factor without their
+/// upper bits.
+fn write_rows(header: &mut Vec<u8>, factor: u32) -> Result<(), AllocError> {
+    header.extend_from_slice(&[1, 3, 3, 3, 0, 0, 0, 0, 0xe8, 3, 0, 0])?;
+    for row in 0..1000u32 {
+        let start = row.wrapping_mul(factor) % 65536;
+        let both = u64::from(start) | (u64::from(row) << 32);
+        header.extend_from_slice(&both.to_le_bytes())?;
+    }
+    Ok(())
+}
+
+/// The most numbers that a search in those thousand rows reads.
+fn most_in_rows<S: UnwindContextStorage<usize>>(
+    alloc: Global,
+    context: &mut UnwindContext<usize, S>,
+    factor: u32,
+) -> Result<u32, Fail> {
+    let mut header = Vec::new(alloc);
+    write_rows(&mut header, factor)?;
+    Ok(most_reads(&header, context)?)
+}
+
+/// A header with one row.
+const ONE_ROW: [u8; 20] = [1, 3, 3, 3, 0, 0, 0, 0, 1, 0, 0, 0, 0, 1, 0, 0, 0, 2, 0, 0];
+
+/// Checks how often the starts of one row and of three are read, and that no search in a thousand
+/// reads more than the eleven numbers that halving needs, whether their starts are in order or go
+/// up and down.
+fn check_halving<S: UnwindContextStorage<usize>>(
+    rt: &(impl Abort + AllocGlobal),
+    context: &mut UnwindContext<usize, S>,
+) -> Result<(), Fail> {
+    let few = [
+        reads_for(&ONE_ROW, context, 0x180),
+        // Two starts and the target.
+        reads_for(&HEADER, context, 0x1018),
+    ];
+    let in_order = most_in_rows(rt.alloc(), context, 16)?;
+    let up_and_down = most_in_rows(rt.alloc(), context, 40503)?;
+    assert_eq!(rt;
+        (few, in_order <= 11, up_and_down <= 11),
+        ([Ok((1, 1)), Ok((3, 3))], true, true)
+    );
+    Ok(())
+}
+
+#[test]
+fn starts_are_read_by_halving(rt: HostRuntime) -> Result<(), Fail> {
+    let mut context: UnwindContext<usize> = UnwindContext::new(rt.alloc())?;
+    check_halving(&rt, &mut context)
 }

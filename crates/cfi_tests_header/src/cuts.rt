@@ -1,21 +1,17 @@
 //! Headers that are cut at every length: the error of parsing one, or of a search in its table.
-use crate::searches::Slice;
-use cfi_tests_bytes::{bytes_of, ended};
+use crate::searches::read_header;
+use cfi_tests_bytes::ended;
 use gimli_cfi::{
-    BaseAddresses, BigEndian, DwEhPe, EhFrameHdr, EndianSlice, Error, LittleEndian, NarrowSlice,
+    BaseAddresses, BigEndian, DwEhPe, EndianSlice, Endianity, Error, LittleEndian, NarrowSlice,
     Pointer, Reader, ReaderOffsetId,
 };
 use std::process::Abort;
-use std::test::Fail;
 
 /// The target of 0x1018, or the pointer of a header without a table.
 type Answer = Result<Pointer, Error>;
 
-fn answer_of<R: Reader>(header: EhFrameHdr<R>, bases: &BaseAddresses, size: u8) -> Answer {
-    if !matches!(size, 1 | 2 | 4 | 8) {
-        return Err(Error::UnsupportedAddressSize(size));
-    }
-    let parsed = header.parse(bases, size)?;
+fn answer_of<R: Reader>(reader: R, bases: &BaseAddresses, size: u8) -> Answer {
+    let parsed = read_header(reader, bases, size)?;
     match parsed.table() {
         Some(table) => table.lookup(0x1018, bases),
         None => Ok(parsed.eh_frame_ptr()),
@@ -38,7 +34,7 @@ fn answer_of_a_cut(ends: Ends, count: usize) -> Answer {
 
 /// A header, its address, the size of addresses, and where it ends if it is cut; then the length
 /// from which on the answers are these, with offsets of eight bytes and of four.
-type Cut = (&'static str, Option<u64>, u8, Ends, usize, [Answer; 2]);
+type Cut = (&'static [u8], Option<u64>, u8, Ends, usize, [Answer; 2]);
 
 /// What is expected of the first bytes of a header.
 fn expected(of: &Cut, count: usize) -> [Answer; 2] {
@@ -50,19 +46,32 @@ fn expected(of: &Cut, count: usize) -> [Answer; 2] {
     }
 }
 
-/// The answers for the first bytes of a header, with offsets of eight bytes and of four.
-fn found(of: &Cut, bytes: &[u8]) -> Result<[Answer; 2], Error> {
-    let (_, address, size, _, _, _) = of;
-    let bases = match address {
-        Some(address) => BaseAddresses::default().set_eh_frame_hdr(*address),
+/// The bases of a header at an address, if the address is known.
+fn based(header: Option<u64>) -> BaseAddresses {
+    match header {
+        Some(address) => BaseAddresses::default().set_eh_frame_hdr(address),
         None => BaseAddresses::default(),
-    };
-    let wide: EhFrameHdr<Slice> = EhFrameHdr::new(bytes, LittleEndian);
-    let narrow = EhFrameHdr::from(NarrowSlice::new(bytes, LittleEndian)?);
-    Ok([
-        answer_of(wide, &bases, *size),
-        answer_of(narrow, &bases, *size),
-    ])
+    }
+}
+
+/// The answer for bytes, with offsets of eight bytes.
+fn wide<E: Endianity>(bytes: &[u8], endian: E, bases: &BaseAddresses, size: u8) -> Answer {
+    answer_of(EndianSlice::new(bytes, endian), bases, size)
+}
+
+/// With offsets of four bytes.
+fn narrow<E: Endianity>(bytes: &[u8], endian: E, bases: &BaseAddresses, size: u8) -> Answer {
+    answer_of(NarrowSlice::new(bytes, endian)?, bases, size)
+}
+
+/// Both answers for the first bytes of a header.
+fn found<E: Endianity>(of: &Cut, count: usize, endian: E) -> [Answer; 2] {
+    let bytes = of.0.get(..count).unwrap_or_default();
+    let bases = based(of.1);
+    [
+        wide(bytes, endian, &bases, of.2),
+        narrow(bytes, endian, &bases, of.2),
+    ]
 }
 
 /// The version, and the encodings of the pointer, of the count and of the rows.
@@ -88,7 +97,7 @@ const WIDE_ROWS: Ends = &[(0, 0), (1, 1), (2, 2), (3, 3), (4, 4), (12, 12)];
 
 const WITHOUT_ROWS: [Cut; 12] = [
     (
-        "01 1b ff ff 10000000",
+        &[1, 0x1b, 0xff, 0xff, 0x10, 0, 0, 0],
         Some(0x1f00),
         8,
         FOUR_BYTES,
@@ -96,7 +105,7 @@ const WITHOUT_ROWS: [Cut; 12] = [
         [Ok(Pointer::Direct(0x1f14)); 2],
     ),
     (
-        "01 9b ff ff f0ffffff",
+        &[1, 0x9b, 0xff, 0xff, 0xf0, 0xff, 0xff, 0xff],
         Some(0x1f00),
         8,
         FOUR_BYTES,
@@ -104,7 +113,7 @@ const WITHOUT_ROWS: [Cut; 12] = [
         [Ok(Pointer::Indirect(0x1ef4)); 2],
     ),
     (
-        "01 1b ff ff 20000000",
+        &[1, 0x1b, 0xff, 0xff, 0x20, 0, 0, 0],
         Some(0xffff_fff0),
         4,
         FOUR_BYTES,
@@ -112,7 +121,7 @@ const WITHOUT_ROWS: [Cut; 12] = [
         [Ok(Pointer::Direct(0x14)); 2],
     ),
     (
-        "01 01 ff ff 8001",
+        &[1, 1, 0xff, 0xff, 0x80, 1],
         None,
         8,
         &[(0, 0), (1, 1), (2, 2), (3, 3), (4, 4), (5, 5)],
@@ -120,7 +129,7 @@ const WITHOUT_ROWS: [Cut; 12] = [
         [Ok(Pointer::Direct(128)); 2],
     ),
     (
-        "01 09 ff ff 7f",
+        &[1, 9, 0xff, 0xff, 0x7f],
         None,
         2,
         FOUR_BYTES,
@@ -128,7 +137,7 @@ const WITHOUT_ROWS: [Cut; 12] = [
         [Ok(Pointer::Direct(0xffff)); 2],
     ),
     (
-        "01 1b ff ff 10000000",
+        &[1, 0x1b, 0xff, 0xff, 0x10, 0, 0, 0],
         None,
         8,
         FOUR_BYTES,
@@ -136,7 +145,7 @@ const WITHOUT_ROWS: [Cut; 12] = [
         [Err(Error::PcRelativePointerButSectionBaseIsUndefined); 2],
     ),
     (
-        "01 05 ff ff",
+        &[1, 5, 0xff, 0xff],
         None,
         8,
         FOUR_BYTES,
@@ -144,7 +153,7 @@ const WITHOUT_ROWS: [Cut; 12] = [
         [Err(Error::UnknownPointerEncoding(DwEhPe(0x05))); 2],
     ),
     (
-        "01 40 ff ff",
+        &[1, 0x40, 0xff, 0xff],
         None,
         8,
         FOUR_BYTES,
@@ -152,7 +161,7 @@ const WITHOUT_ROWS: [Cut; 12] = [
         [Err(Error::FuncRelativePointerInBadContext); 2],
     ),
     (
-        "01 50 ff ff",
+        &[1, 0x50, 0xff, 0xff],
         None,
         8,
         FOUR_BYTES,
@@ -160,7 +169,7 @@ const WITHOUT_ROWS: [Cut; 12] = [
         [Err(Error::UnsupportedPointerEncoding(DwEhPe(0x50))); 2],
     ),
     (
-        "01 ff 03 3b",
+        &[1, 0xff, 3, 0x3b],
         Some(0x1f00),
         8,
         FOUR_BYTES,
@@ -168,7 +177,7 @@ const WITHOUT_ROWS: [Cut; 12] = [
         [Err(Error::CannotParseOmitPointerEncoding); 2],
     ),
     (
-        "01 1b 13 3b fc000000 03000000",
+        &[1, 0x1b, 0x13, 0x3b, 0xfc, 0, 0, 0, 3, 0, 0, 0],
         Some(0x1f00),
         8,
         FOUR_BYTES,
@@ -176,7 +185,7 @@ const WITHOUT_ROWS: [Cut; 12] = [
         [Err(Error::UnsupportedPointerEncoding(DwEhPe(0x13))); 2],
     ),
     (
-        "02",
+        &[2],
         None,
         8,
         FOUR_BYTES,
@@ -189,7 +198,10 @@ const WITHOUT_ROWS: [Cut; 12] = [
 /// is indirect; 2^63 rows, and 2^29.
 const WITH_ROWS: [Cut; 11] = [
     (
-        "01 1b 03 3b fc000000 03000000 00f1ffff 18010000 10f1ffff 2c010000 20f1ffff 40010000",
+        &[
+            1, 0x1b, 3, 0x3b, 0xfc, 0, 0, 0, 3, 0, 0, 0, 0, 0xf1, 0xff, 0xff, 0x18, 1, 0, 0, 0x10,
+            0xf1, 0xff, 0xff, 0x2c, 1, 0, 0, 0x20, 0xf1, 0xff, 0xff, 0x40, 1, 0, 0,
+        ],
         Some(0x1f00),
         8,
         THREE_ROWS,
@@ -197,7 +209,10 @@ const WITH_ROWS: [Cut; 11] = [
         [Ok(Pointer::Direct(0x202c)); 2],
     ),
     (
-        "01 1b 03 3b fc000000 03000000 00f1ffff 18010000 10f1ffff 18010000 20f1ffff 40010000",
+        &[
+            1, 0x1b, 3, 0x3b, 0xfc, 0, 0, 0, 3, 0, 0, 0, 0, 0xf1, 0xff, 0xff, 0x18, 1, 0, 0, 0x10,
+            0xf1, 0xff, 0xff, 0x18, 1, 0, 0, 0x20, 0xf1, 0xff, 0xff, 0x40, 1, 0, 0,
+        ],
         Some(0x1f00),
         8,
         THREE_ROWS,
@@ -205,7 +220,10 @@ const WITH_ROWS: [Cut; 11] = [
         [Ok(Pointer::Direct(0x2018)); 2],
     ),
     (
-        "01 1b 03 3b fc000000 03000000 00f1ffff 18010000 10f1ffff 00010000 20f1ffff 40010000",
+        &[
+            1, 0x1b, 3, 0x3b, 0xfc, 0, 0, 0, 3, 0, 0, 0, 0, 0xf1, 0xff, 0xff, 0x18, 1, 0, 0, 0x10,
+            0xf1, 0xff, 0xff, 0, 1, 0, 0, 0x20, 0xf1, 0xff, 0xff, 0x40, 1, 0, 0,
+        ],
         Some(0x1f00),
         8,
         THREE_ROWS,
@@ -213,7 +231,10 @@ const WITH_ROWS: [Cut; 11] = [
         [Ok(Pointer::Direct(0x2000)); 2],
     ),
     (
-        "01 1b 03 3b fc000000 03000000 00f1ffff 18010000 10f1ffff 54010000 20f1ffff 40010000",
+        &[
+            1, 0x1b, 3, 0x3b, 0xfc, 0, 0, 0, 3, 0, 0, 0, 0, 0xf1, 0xff, 0xff, 0x18, 1, 0, 0, 0x10,
+            0xf1, 0xff, 0xff, 0x54, 1, 0, 0, 0x20, 0xf1, 0xff, 0xff, 0x40, 1, 0, 0,
+        ],
         Some(0x1f00),
         8,
         THREE_ROWS,
@@ -221,7 +242,10 @@ const WITH_ROWS: [Cut; 11] = [
         [Ok(Pointer::Direct(0x2054)); 2],
     ),
     (
-        "01 1b 03 3b fc000000 03000000 00f1ffff 18010000 10f1ffff 59010000 20f1ffff 40010000",
+        &[
+            1, 0x1b, 3, 0x3b, 0xfc, 0, 0, 0, 3, 0, 0, 0, 0, 0xf1, 0xff, 0xff, 0x18, 1, 0, 0, 0x10,
+            0xf1, 0xff, 0xff, 0x59, 1, 0, 0, 0x20, 0xf1, 0xff, 0xff, 0x40, 1, 0, 0,
+        ],
         Some(0x1f00),
         8,
         THREE_ROWS,
@@ -229,7 +253,10 @@ const WITH_ROWS: [Cut; 11] = [
         [Ok(Pointer::Direct(0x2059)); 2],
     ),
     (
-        "01 1b 03 3b fc000000 03000000 00f1ffff 18010000 10f1ffff ff000000 20f1ffff 40010000",
+        &[
+            1, 0x1b, 3, 0x3b, 0xfc, 0, 0, 0, 3, 0, 0, 0, 0, 0xf1, 0xff, 0xff, 0x18, 1, 0, 0, 0x10,
+            0xf1, 0xff, 0xff, 0xff, 0, 0, 0, 0x20, 0xf1, 0xff, 0xff, 0x40, 1, 0, 0,
+        ],
         Some(0x1f00),
         8,
         THREE_ROWS,
@@ -237,7 +264,10 @@ const WITH_ROWS: [Cut; 11] = [
         [Ok(Pointer::Direct(0x1fff)); 2],
     ),
     (
-        "01 1b 03 bb fc000000 03000000 00f1ffff 18010000 10f1ffff 2c010000 20f1ffff 40010000",
+        &[
+            1, 0x1b, 3, 0xbb, 0xfc, 0, 0, 0, 3, 0, 0, 0, 0, 0xf1, 0xff, 0xff, 0x18, 1, 0, 0, 0x10,
+            0xf1, 0xff, 0xff, 0x2c, 1, 0, 0, 0x20, 0xf1, 0xff, 0xff, 0x40, 1, 0, 0,
+        ],
         Some(0x1f00),
         8,
         THREE_ROWS,
@@ -245,7 +275,10 @@ const WITH_ROWS: [Cut; 11] = [
         [Err(Error::UnsupportedIndirectPointer); 2],
     ),
     (
-        "01 1b 03 31 fc000000 03000000 00f1ffff 18010000 10f1ffff 2c010000 20f1ffff 40010000",
+        &[
+            1, 0x1b, 3, 0x31, 0xfc, 0, 0, 0, 3, 0, 0, 0, 0, 0xf1, 0xff, 0xff, 0x18, 1, 0, 0, 0x10,
+            0xf1, 0xff, 0xff, 0x2c, 1, 0, 0, 0x20, 0xf1, 0xff, 0xff, 0x40, 1, 0, 0,
+        ],
         Some(0x1f00),
         8,
         THREE_ROWS,
@@ -253,7 +286,9 @@ const WITH_ROWS: [Cut; 11] = [
         [Err(Error::UnsupportedPointerEncoding(DwEhPe(0x31))); 2],
     ),
     (
-        "01 1b 03 bb fc000000 01000000 00f1ffff 18010000",
+        &[
+            1, 0x1b, 3, 0xbb, 0xfc, 0, 0, 0, 1, 0, 0, 0, 0, 0xf1, 0xff, 0xff, 0x18, 1, 0, 0,
+        ],
         Some(0x1f00),
         8,
         &[
@@ -270,7 +305,9 @@ const WITH_ROWS: [Cut; 11] = [
         [Ok(Pointer::Indirect(0x2018)); 2],
     ),
     (
-        "01 00 04 04 0020000000000000 0000000000000080",
+        &[
+            1, 0, 4, 4, 0, 0x20, 0, 0, 0, 0, 0, 0, 0, 0, 0, 0, 0, 0, 0, 0x80,
+        ],
         None,
         8,
         WIDE_ROWS,
@@ -278,7 +315,9 @@ const WITH_ROWS: [Cut; 11] = [
         [Err(Error::UnsupportedOffset); 2],
     ),
     (
-        "01 00 04 04 0020000000000000 0000002000000000",
+        &[
+            1, 0, 4, 4, 0, 0x20, 0, 0, 0, 0, 0, 0, 0, 0, 0, 0x20, 0, 0, 0, 0,
+        ],
         None,
         8,
         WIDE_ROWS,
@@ -290,30 +329,14 @@ const WITH_ROWS: [Cut; 11] = [
     ),
 ];
 
-/// Checks each header of a table, cut to each length.
-fn check_cuts(rt: &(impl Abort + AllocGlobal), cuts: &[Cut]) -> Result<(), Fail> {
-    for cut in cuts {
-        let bytes = bytes_of(rt.alloc(), cut.0)?;
-        for count in 0..=bytes.len() {
-            let Some(first) = bytes.get(..count) else {
-                return Err(Fail::new("a cut is longer than the header"));
-            };
-            let answers = Ok(expected(cut, count));
-            assert_eq!(rt; found(cut, first), answers, "{}: {count} bytes", cut.0);
-        }
-    }
-    Ok(())
-}
-
-#[test]
-fn headers_cut_at_every_length(rt: HostRuntime) -> Result<(), Fail> {
-    check_cuts(&rt, &WITHOUT_ROWS)?;
-    check_cuts(&rt, &WITH_ROWS)
-}
-
 /// The same in big-endian order, with two rows.
-const BIG_ENDIAN: (&str, Ends) = (
-    "01 1b 03 3b 000000fc 00000002 fffff100 00000118 fffff110 0000012c",
+const BIG_ENDIAN: [Cut; 1] = [(
+    &[
+        1, 0x1b, 3, 0x3b, 0, 0, 0, 0xfc, 0, 0, 0, 2, 0xff, 0xff, 0xf1, 0, 0, 0, 1, 0x18, 0xff,
+        0xff, 0xf1, 0x10, 0, 0, 1, 0x2c,
+    ],
+    Some(0x1f00),
+    8,
     &[
         (0, 0),
         (1, 1),
@@ -325,22 +348,28 @@ const BIG_ENDIAN: (&str, Ends) = (
         (20, 20),
         (24, 24),
     ],
-);
+    28,
+    [Ok(Pointer::Direct(0x202c)); 2],
+)];
+
+/// Checks a header, cut to each length.
+fn check_cut<E: Endianity>(rt: &impl Abort, endian: E, of: &Cut) {
+    for count in 0..=of.0.len() {
+        let answers = found(of, count, endian);
+        assert_eq!(rt; answers, expected(of, count), "{:?}: {count} bytes", of.0);
+    }
+}
+
+/// Checks each header of a table.
+fn check_cuts<E: Endianity>(rt: &impl Abort, endian: E, cuts: &[Cut]) {
+    for cut in cuts {
+        check_cut(rt, endian, cut);
+    }
+}
 
 #[test]
-fn a_big_endian_header_cut_at_every_length(rt: HostRuntime) -> Result<(), Fail> {
-    let (text, ends) = BIG_ENDIAN;
-    let bytes = bytes_of(rt.alloc(), text)?;
-    let bases = BaseAddresses::default().set_eh_frame_hdr(0x1f00);
-    for count in 0..28usize {
-        let Some(first) = bytes.get(..count) else {
-            return Err(Fail::new("a cut is longer than the header"));
-        };
-        let header: EhFrameHdr<EndianSlice<BigEndian>> = EhFrameHdr::new(first, BigEndian);
-        let answer = answer_of_a_cut(ends, count);
-        assert_eq!(rt; answer_of(header, &bases, 8), answer, "{count} bytes");
-    }
-    let whole = EhFrameHdr::new(bytes.as_slice(), BigEndian);
-    assert_eq!(rt; answer_of(whole, &bases, 8), Ok(Pointer::Direct(0x202c)));
-    Ok(())
+fn headers_cut_at_every_length(rt: HostRuntime) {
+    check_cuts(&rt, LittleEndian, &WITHOUT_ROWS);
+    check_cuts(&rt, LittleEndian, &WITH_ROWS);
+    check_cuts(&rt, BigEndian, &BIG_ENDIAN);
 }

@@ -1,18 +1,18 @@
 //! Tables of `.eh_frame_hdr` that list the FDEs of their section faithfully, and the faults of
 //! others.
-use crate::searches::{HEADER, SECTION, Shown, bases, by_scan, read_header, shown, table_of};
+use crate::searches::{HEADER, SECTION, Shown, bases, read_header, shown, table_of};
 use cfi_tests_bytes::ended;
 use gimli_cfi::{
-    DwEhPe, EhFrame, Error, FaithfulTable, LittleEndian, ParsedEhFrameHdr, Reader, Unfaithful,
-    UnwindContext,
+    DwEhPe, EhFrame, EndianSlice, Error, FaithfulTable, LittleEndian, ParsedEhFrameHdr, Reader,
+    Unfaithful, UnwindContext, UnwindContextStorage,
 };
-use std::test::Fail;
 
 /// What is wrong with a header's table; `None` if it is faithful.
 type Reason = Result<Option<Unfaithful>, Error>;
 
-fn reason_in<R: Reader>(parsed: &ParsedEhFrameHdr<R>, frame: &EhFrame<R>) -> Reason {
-    match FaithfulTable::new(&table_of(parsed)?, frame, &bases()) {
+fn reason_of<R: Reader>(header: R, section: R) -> Reason {
+    let parsed = read_header(header, &bases(), 8)?;
+    match FaithfulTable::new(&table_of(&parsed)?, &EhFrame::from(section), &bases()) {
         Ok(_) => Ok(None),
         Err(reason) => Ok(Some(reason)),
     }
@@ -20,8 +20,10 @@ fn reason_in<R: Reader>(parsed: &ParsedEhFrameHdr<R>, frame: &EhFrame<R>) -> Rea
 
 /// The same from the bytes of a header and of a section.
 fn reason(header: &[u8], section: &[u8]) -> Reason {
-    let frame = EhFrame::new(section, LittleEndian);
-    reason_in(&read_header(header, &bases())?, &frame)
+    reason_of(
+        EndianSlice::new(header, LittleEndian),
+        EndianSlice::new(section, LittleEndian),
+    )
 }
 
 /// The bytes, with some of them replaced from an index on.
@@ -203,44 +205,14 @@ fn refused_parts(rt: HostRuntime) {
 }
 
 /// The row for an address by a checked table.
-fn by_checked_table<R: Reader<Offset = usize>>(
+pub(crate) fn row_by_checked_table<R: Reader<Offset = usize>, S: UnwindContextStorage<usize>>(
     parsed: &ParsedEhFrameHdr<R>,
     frame: &EhFrame<R>,
-    context: &mut UnwindContext<usize>,
+    context: &mut UnwindContext<usize, S>,
     address: u64,
-) -> Result<Result<Shown, Error>, Error> {
+) -> Result<Shown, Error> {
     match FaithfulTable::new(&table_of(parsed)?, frame, &bases()) {
-        Ok(checked) => Ok(shown(checked.row(context, address))),
-        Err(_) => Err(Error::NoUnwindInfoForAddress),
+        Ok(checked) => shown(checked.row(context, address)),
+        Err(_) => Err(Error::UnsupportedOffset),
     }
-}
-
-/// The same, and then by a scan of the section.
-fn both_ways(
-    context: &mut UnwindContext<usize>,
-    address: u64,
-) -> Result<[Result<Shown, Error>; 2], Error> {
-    let frame = EhFrame::new(&SECTION, LittleEndian);
-    let parsed = read_header(&HEADER, &bases())?;
-    let by_table = by_checked_table(&parsed, &frame, context, address)?;
-    Ok([by_table, by_scan(&frame, context, address)])
-}
-
-/// Addresses and their rows.
-const ROWS: [(u64, Result<Shown, Error>); 5] = [
-    (0xfff, Err(Error::NoUnwindInfoForAddress)),
-    (0x1000, Ok((0x1000, 0x1010, Some(8)))),
-    (0x1011, Ok((0x1011, 0x1020, Some(16)))),
-    (0x103f, Ok((0x1020, 0x1040, Some(8)))),
-    (0x1040, Err(Error::NoUnwindInfoForAddress)),
-];
-
-#[test]
-fn rows_by_a_checked_table(rt: HostRuntime) -> Result<(), Fail> {
-    let mut context: UnwindContext<usize> = UnwindContext::new(rt.alloc())?;
-    for (address, row) in &ROWS {
-        let found = both_ways(&mut context, *address);
-        assert_eq!(rt; found, Ok([*row; 2]), "for {address}");
-    }
-    Ok(())
 }
