@@ -5,7 +5,7 @@ use gimli_cfi::{
     BaseAddresses, DebugFrame, EhFrame, EndianSlice, Error, LittleEndian, NarrowSlice, Reader,
     ReaderOffsetId, SectionId, UnwindContext, UnwindContextStorage, UnwindSection, row_by_scan,
 };
-use std::alloc::Global;
+use std::alloc::{AllocError, Global};
 use std::process::Abort;
 use std::test::Fail;
 
@@ -22,42 +22,37 @@ fn row_in<R: Reader, S: UnwindSection<R>, C: UnwindContextStorage<R::Offset>>(
     Ok((row.start_address(), row.end_address()))
 }
 
-type Wide<'a> = EndianSlice<'a, LittleEndian>;
-
-type Narrow<'a> = NarrowSlice<'a, LittleEndian>;
+/// In a section of either kind.
+fn row_of<R: Reader, C: UnwindContextStorage<R::Offset>>(
+    id: SectionId,
+    reader: R,
+    context: &mut UnwindContext<R::Offset, C>,
+    address: u64,
+) -> Answer {
+    match id {
+        SectionId::DebugFrame => row_in(context, &DebugFrame::from(reader), address),
+        _ => row_in(context, &EhFrame::from(reader), address),
+    }
+}
 
 /// With offsets of eight bytes.
-fn wide<'a, S: UnwindSection<Wide<'a>>>(
-    alloc: Global,
-    section: &S,
+fn wide<C: UnwindContextStorage<usize>>(
+    id: SectionId,
+    bytes: &[u8],
+    context: &mut UnwindContext<usize, C>,
     address: u64,
-) -> Result<Answer, Fail> {
-    let mut context: UnwindContext<usize> = UnwindContext::new(alloc)?;
-    Ok(row_in(&mut context, section, address))
+) -> Answer {
+    row_of(id, EndianSlice::new(bytes, LittleEndian), context, address)
 }
 
 /// With offsets of four bytes.
-fn narrow<'a, S: UnwindSection<Narrow<'a>>>(
-    alloc: Global,
-    section: &S,
+fn narrow<C: UnwindContextStorage<u32>>(
+    id: SectionId,
+    bytes: &[u8],
+    context: &mut UnwindContext<u32, C>,
     address: u64,
-) -> Result<Answer, Fail> {
-    let mut context: UnwindContext<u32> = UnwindContext::new(alloc)?;
-    Ok(row_in(&mut context, section, address))
-}
-
-/// In `.debug_frame`, with both.
-fn in_debug_frame(alloc: Global, bytes: &[u8], address: u64) -> Result<[Answer; 2], Fail> {
-    let by_wide = wide(alloc, &DebugFrame::new(bytes, LittleEndian), address)?;
-    let section = DebugFrame::from(NarrowSlice::new(bytes, LittleEndian)?);
-    Ok([by_wide, narrow(alloc, &section, address)?])
-}
-
-/// The same in `.eh_frame`.
-fn in_eh_frame(alloc: Global, bytes: &[u8], address: u64) -> Result<[Answer; 2], Fail> {
-    let by_wide = wide(alloc, &EhFrame::new(bytes, LittleEndian), address)?;
-    let section = EhFrame::from(NarrowSlice::new(bytes, LittleEndian)?);
-    Ok([by_wide, narrow(alloc, &section, address)?])
+) -> Answer {
+    row_of(id, NarrowSlice::new(bytes, LittleEndian)?, context, address)
 }
 
 /// What a cut section returns, from each of these lengths on: `UnexpectedEof` of a place, or no
@@ -347,79 +342,121 @@ const EH_FRAMES: [Cut; 9] = [
 ];
 
 /// What both return for the first bytes of a section.
-fn found_in(
-    alloc: Global,
+fn found_in<W: UnwindContextStorage<usize>, N: UnwindContextStorage<u32>>(
     id: SectionId,
     bytes: &[u8],
     count: usize,
     address: u64,
-) -> Result<[Answer; 2], Fail> {
-    let Some(cut) = bytes.get(..count) else {
-        return Err(Fail::new("a cut is longer than the section"));
-    };
-    match id {
-        SectionId::DebugFrame => in_debug_frame(alloc, cut, address),
-        _ => in_eh_frame(alloc, cut, address),
+    eight: &mut UnwindContext<usize, W>,
+    four: &mut UnwindContext<u32, N>,
+) -> [Answer; 2] {
+    let cut = bytes.get(..count).unwrap_or_default();
+    [
+        wide(id, cut, eight, address),
+        narrow(id, cut, four, address),
+    ]
+}
+
+/// What is expected of the first bytes of a section.
+fn expected(of: &Cut, count: usize, length: usize) -> [Answer; 2] {
+    let (_, _, ends, whole) = of;
+    if count == length {
+        *whole
+    } else {
+        [answer_of_a_cut(ends, count); 2]
     }
 }
 
 /// Checks the section of these bytes, cut to each length.
-fn check_bytes(
-    rt: &(impl Abort + AllocGlobal),
+fn check_bytes<W: UnwindContextStorage<usize>, N: UnwindContextStorage<u32>>(
+    rt: &impl Abort,
+    eight: &mut UnwindContext<usize, W>,
+    four: &mut UnwindContext<u32, N>,
     id: SectionId,
     bytes: &[u8],
     of: &Cut,
-) -> Result<(), Fail> {
-    let (text, address, ends, whole) = of;
+) {
     for count in 0..=bytes.len() {
-        let answers = if count == bytes.len() {
-            *whole
-        } else {
-            [answer_of_a_cut(ends, count); 2]
-        };
-        let found = found_in(rt.alloc(), id, bytes, count, *address)?;
-        assert_eq!(rt; found, answers, "{text}: {count} bytes");
+        let found = found_in(id, bytes, count, of.1, eight, four);
+        let answers = expected(of, count, bytes.len());
+        assert_eq!(rt; found, answers, "{}: {count} bytes", of.0);
+    }
+}
+
+/// The same for each section of a table.
+fn check_cuts<W: UnwindContextStorage<usize>, N: UnwindContextStorage<u32>>(
+    rt: &(impl Abort + AllocGlobal),
+    eight: &mut UnwindContext<usize, W>,
+    four: &mut UnwindContext<u32, N>,
+    id: SectionId,
+    cuts: &[Cut],
+) -> Result<(), Fail> {
+    for cut in cuts {
+        let bytes = bytes_of(rt.alloc(), cut.0)?;
+        check_bytes(rt, eight, four, id, bytes.as_slice(), cut);
     }
     Ok(())
 }
 
-/// The same for each section of a table.
-fn check_cuts(rt: &(impl Abort + AllocGlobal), id: SectionId, cuts: &[Cut]) -> Result<(), Fail> {
-    for cut in cuts {
-        let bytes = bytes_of(rt.alloc(), cut.0)?;
-        check_bytes(rt, id, bytes.as_slice(), cut)?;
+/// The same for all three tables.
+fn check_tables<W: UnwindContextStorage<usize>, N: UnwindContextStorage<u32>>(
+    rt: &(impl Abort + AllocGlobal),
+    eight: &mut UnwindContext<usize, W>,
+    four: &mut UnwindContext<u32, N>,
+) -> Result<(), Fail> {
+    check_cuts(rt, eight, four, SectionId::DebugFrame, &DEBUG_FRAMES)?;
+    check_cuts(rt, eight, four, SectionId::DebugFrame, &REFUSED)?;
+    check_cuts(rt, eight, four, SectionId::EhFrame, &EH_FRAMES)
+}
+
+/// A CIE without rules, and an FDE whose instructions have 451 bytes.
+const MANY_RULES: [u8; 42] = [
+    0x0e, 0, 0, 0, 0xff, 0xff, 0xff, 0xff, 4, 0, 8, 0, 1, 0x78, 0x10, 0x0c, 7, 8, 0xd7, 1, 0, 0, 0,
+    0, 0, 0, 0, 0x10, 0, 0, 0, 0, 0, 0, 0x20, 0, 0, 0, 0, 0, 0, 0,
+];
+
+/// That section with instructions that give 193 registers the rule `Undefined`.
+fn many_rules(alloc: Global) -> Result<Vec<u8>, AllocError> {
+    let mut bytes = Vec::new(alloc);
+    bytes.extend_from_slice(&MANY_RULES)?;
+    for register in 0..193u8 {
+        // From 128 on a number takes two bytes.
+        let taken = if register < 128 { 2 } else { 3 };
+        bytes.extend_from_slice([7, register, 1].get(..taken).unwrap_or_default())?;
     }
+    Ok(bytes)
+}
+
+/// Checks that section, which is cut at every length too.
+fn check_many_rules<W: UnwindContextStorage<usize>, N: UnwindContextStorage<u32>>(
+    rt: &(impl Abort + AllocGlobal),
+    eight: &mut UnwindContext<usize, W>,
+    four: &mut UnwindContext<u32, N>,
+) -> Result<(), Fail> {
+    let bytes = many_rules(rt.alloc())?;
+    let refused = [Err(Error::TooManyRegisterRules); 2];
+    let cut: Cut = ("193 rules", 0x1000, AT_18, refused);
+    check_bytes(
+        rt,
+        eight,
+        four,
+        SectionId::DebugFrame,
+        bytes.as_slice(),
+        &cut,
+    );
     Ok(())
 }
 
 #[test]
 fn sections_cut_at_every_length(rt: HostRuntime) -> Result<(), Fail> {
-    check_cuts(&rt, SectionId::DebugFrame, &DEBUG_FRAMES)?;
-    check_cuts(&rt, SectionId::DebugFrame, &REFUSED)?;
-    check_cuts(&rt, SectionId::EhFrame, &EH_FRAMES)
-}
-
-/// A section whose one FDE gives 193 registers the rule `Undefined`.
-fn many_rules(alloc: Global) -> Result<Vec<u8>, Fail> {
-    let mut bytes = bytes_of(
-        alloc,
-        "0e000000 ffffffff 04000800 017810 0c0708 \
-        d7010000 00000000 0010000000000000 2000000000000000",
-    )?;
-    for register in 0..193u8 {
-        bytes.extend_from_slice(&[7, register])?;
-        // From 128 on a number takes two bytes.
-        if register >= 128 {
-            bytes.extend_from_slice(&[1])?;
-        }
-    }
-    Ok(bytes)
+    let mut eight: UnwindContext<usize> = UnwindContext::new(rt.alloc())?;
+    let mut four: UnwindContext<u32> = UnwindContext::new(rt.alloc())?;
+    check_tables(&rt, &mut eight, &mut four)
 }
 
 #[test]
 fn more_rules_than_there_is_room_for(rt: HostRuntime) -> Result<(), Fail> {
-    let bytes = many_rules(rt.alloc())?;
-    let refused = [Err(Error::TooManyRegisterRules); 2];
-    let cut: Cut = ("193 rules", 0x1000, AT_18, refused);
-    check_bytes(&rt, SectionId::DebugFrame, bytes.as_slice(), &cut)
+    let mut eight: UnwindContext<usize> = UnwindContext::new(rt.alloc())?;
+    let mut four: UnwindContext<u32> = UnwindContext::new(rt.alloc())?;
+    check_many_rules(&rt, &mut eight, &mut four)
 }

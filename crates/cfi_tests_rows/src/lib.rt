@@ -1,13 +1,11 @@
-//! Tests of rows, over both readers and both storages, and runs of the programs of CALLING.md. The
-//! expected values are those of the standards, or were worked out by hand.
+//! Tests of rows, over both readers and both storages. The expected values are those of the
+//! standards, or were worked out by hand.
 #![tactic(auto)]
 
 #[cfg(test)]
 mod cuts;
 #[cfg(test)]
 mod derives;
-#[cfg(test)]
-mod guide;
 #[cfg(test)]
 mod own_section;
 #[cfg(test)]

@@ -8,6 +8,7 @@ use gimli_cfi::{
     Error, Format, Reader, UnwindContext, UnwindContextStorage, UnwindSection, Vendor, row_by_scan,
 };
 use std::cell::Cell;
+use std::process::Abort;
 use std::test::Fail;
 
 /// A section that counts the CIEs that are read by their offsets.
@@ -123,6 +124,19 @@ fn by_cies<R: Reader<Offset = usize>, C: UnwindContextStorage<usize>>(
     (row, cies.get())
 }
 
+/// The same by both.
+fn by_both<R: Reader<Offset = usize>, C: UnwindContextStorage<usize>>(
+    reader: R,
+    context: &mut UnwindContext<usize, C>,
+    address: u64,
+) -> [Counted; 2] {
+    let section = DebugFrame::from(reader);
+    [
+        by_scan(section, context, address),
+        by_cies(section, context, address),
+    ]
+}
+
 /// Addresses and their rows; how many CIEs a scan reads for them, and a scan with a `get_cie`.
 const ROWS: [(u64, Result<Shown, Error>, u32, u32); 3] = [
     (0x1000, Ok((0x1000, 0x1020, R7_8, None, RETURNS)), 1, 1),
@@ -130,16 +144,21 @@ const ROWS: [(u64, Result<Shown, Error>, u32, u32); 3] = [
     (0x3000, Err(Error::NoUnwindInfoForAddress), 1, 2),
 ];
 
+/// Checks those rows with one context.
+fn check_counts<R: Reader<Offset = usize>, C: UnwindContextStorage<usize>>(
+    rt: &impl Abort,
+    reader: R,
+    context: &mut UnwindContext<usize, C>,
+) {
+    for (address, row, once, each) in &ROWS {
+        let found = by_both(reader, context, *address);
+        assert_eq!(rt; found, [(*row, *once), (*row, *each)], "for {address}");
+    }
+}
+
 #[test]
 fn a_section_that_counts_its_cies(rt: HostRuntime) -> Result<(), Fail> {
     let mut context: UnwindContext<usize> = UnwindContext::new(rt.alloc())?;
-    for (address, row, once, each) in &ROWS {
-        let section = DebugFrame::from(two_cies());
-        let found = [
-            by_scan(section, &mut context, *address),
-            by_cies(section, &mut context, *address),
-        ];
-        assert_eq!(rt; found, [(*row, *once), (*row, *each)], "for {address}");
-    }
+    check_counts(&rt, two_cies(), &mut context);
     Ok(())
 }

@@ -4,12 +4,12 @@ ghost use Rattle.std.specs.Vec as vec;
 ghost use Rattle.std.specs.Prelude.{◌≡◌, None, false};
 ghost use Rattle.gimli_cfi.specs.Words.{refill-same};
 
-use crate::reuse::{check_three_rows, row_of};
+use crate::reuse::{check_three_rows, row_in};
 use crate::rows::Shown;
 use cfi_tests_bytes::bytes_of;
 use gimli_cfi::{
-    ArrayLike, CopyList, DebugFrame, Error, LittleEndian, Reader, ReaderOffset, Refused, Register,
-    RegisterRule, StoreGrowing, UnwindContext, UnwindContextStorage, UnwindTableRow, Vendor, Why,
+    ArrayLike, CopyList, Error, ReaderOffset, Refused, Register, RegisterRule, StoreGrowing,
+    UnwindContext, UnwindContextStorage, UnwindTableRow, Vendor, Why,
 };
 use std::alloc::{AllocFailed, Global};
 use std::cell::Cell;
@@ -185,27 +185,22 @@ impl<T: ReaderOffset> UnwindContextStorage<T> for StoreRefusing {
 ///
 /// They take back what its rules were told, tell the list of rows by a row that they remember and
 /// restore, and then tell the list of rules.
-fn telling(alloc: Global, of_rules: u8, of_rows: u8) -> Result<Vec<u8>, Fail> {
-    let mut bytes = bytes_of(
-        alloc,
-        "0b000000 ffffffff 04000800 010110 \
-        25000000 00000000 0010000000000000 2000000000000000 14fdff0300 14feff03",
-    )?;
-    bytes.extend_from_slice(&[of_rows, 0x0a, 0x0b, 0x14, 0xff, 0xff, 3, of_rules])?;
-    Ok(bytes)
-}
+const TELLING: [u8; 56] = [
+    0x0b, 0, 0, 0, 0xff, 0xff, 0xff, 0xff, 4, 0, 8, 0, 1, 1, 0x10, 0x25, 0, 0, 0, 0, 0, 0, 0, 0,
+    0x10, 0, 0, 0, 0, 0, 0, 0x20, 0, 0, 0, 0, 0, 0, 0, 0x14, 0xfd, 0xff, 3, 0, 0x14, 0xfe, 0xff, 3,
+    0, 0x0a, 0x0b, 0x14, 0xff, 0xff, 3, 0,
+];
 
 /// Tells the lists of a context which of their growths fails in the next unwind.
 fn tell<S: UnwindContextStorage<usize>>(
-    alloc: Global,
     context: &mut UnwindContext<usize, S>,
     of_rules: u8,
     of_rows: u8,
-) -> Result<(), Fail> {
-    let bytes = telling(alloc, of_rules, of_rows)?;
-    let section = DebugFrame::new(bytes.as_slice(), LittleEndian);
-    let _told = row_of(&section, context, 0x1000)?;
-    Ok(())
+) -> Result<Shown, Error> {
+    let mut bytes = TELLING;
+    bytes[48] = of_rows;
+    bytes[55] = of_rules;
+    row_in(&bytes, Vendor::AArch64, context, 0x1000)
 }
 
 /// Sections with remembered states, in a CIE, in an FDE and in both, and one whose CIE moves; the
@@ -255,9 +250,9 @@ const SECTIONS: [(&str, u64); 8] = [
 
 /// The section of a text, the address of a row, and that row.
 #[derive(Clone, Copy)]
-struct Unwind<'a, R: Reader> {
+struct Unwind<'a> {
     text: &'a str,
-    section: DebugFrame<R>,
+    bytes: &'a [u8],
     address: u64,
     row: Result<Shown, Error>,
 }
@@ -267,15 +262,15 @@ const GROWTHS: u8 = 20;
 
 /// Whether an unwind with a fresh context reaches the growth of the rules or of the rows that
 /// fails, after which the context can be used again.
-fn meets<R: Reader<Offset = usize>, S: UnwindContextStorage<usize>>(
+fn meets<S: UnwindContextStorage<usize>>(
     rt: &(impl Abort + AllocGlobal),
-    of: &Unwind<'_, R>,
+    of: &Unwind<'_>,
     context: &mut UnwindContext<usize, S>,
     of_rules: u8,
     of_rows: u8,
 ) -> Result<bool, Fail> {
-    tell(rt.alloc(), context, of_rules, of_rows)?;
-    let answer = row_of(&of.section, context, of.address);
+    let _told = tell(context, of_rules, of_rows)?;
+    let answer = row_in(of.bytes, Vendor::AArch64, context, of.address);
     if answer == of.row {
         return Ok(false);
     }
@@ -289,10 +284,21 @@ fn meets<R: Reader<Offset = usize>, S: UnwindContextStorage<usize>>(
     Ok(true)
 }
 
-/// How many growths of the rules or of the rows an unwind makes, or `GROWTHS` if that is not known.
-fn growths_met<R: Reader<Offset = usize>, S: UnwindContextStorage<usize>>(
+/// The same with a fresh context.
+fn meets_afresh<S: UnwindContextStorage<usize>>(
     rt: &(impl Abort + AllocGlobal),
-    of: &Unwind<'_, R>,
+    of: &Unwind<'_>,
+    of_rules: u8,
+    of_rows: u8,
+) -> Result<bool, Fail> {
+    let mut context: UnwindContext<usize, S> = UnwindContext::new_in(rt.alloc())?;
+    meets(rt, of, &mut context, of_rules, of_rows)
+}
+
+/// How many growths of the rules or of the rows an unwind makes, or `GROWTHS` if that is not known.
+fn growths_met<S: UnwindContextStorage<usize>>(
+    rt: &(impl Abort + AllocGlobal),
+    of: &Unwind<'_>,
     refuses_rows: bool,
 ) -> Result<u8, Fail> {
     for growth in 1..GROWTHS {
@@ -301,22 +307,15 @@ fn growths_met<R: Reader<Offset = usize>, S: UnwindContextStorage<usize>>(
         } else {
             (growth, 0)
         };
-        let mut context: UnwindContext<usize, S> = UnwindContext::new_in(rt.alloc())?;
-        if !meets(rt, of, &mut context, of_rules, of_rows)? {
+        if !meets_afresh::<S>(rt, of, of_rules, of_rows)? {
             return Ok(growth.saturating_sub(1));
         }
     }
     Ok(GROWTHS)
 }
 
-/// Checks an unwind in which each of its growths fails in turn; returns whether one of them was of
-/// rows.
-fn check_growths<R: Reader<Offset = usize>>(
-    rt: &(impl Abort + AllocGlobal),
-    of: &Unwind<'_, R>,
-) -> Result<bool, Fail> {
-    let of_rules = growths_met::<_, StoreRefusing>(rt, of, false)?;
-    let of_rows = growths_met::<_, StoreRefusing>(rt, of, true)?;
+/// Checks that a section has a row, and that the numbers of its growths are known.
+fn check_counts(rt: &impl Abort, of: &Unwind<'_>, of_rules: u8, of_rows: u8) {
     assert_eq!(rt;
         (
             of.row.is_ok(),
@@ -327,37 +326,62 @@ fn check_growths<R: Reader<Offset = usize>>(
         "{}: {of_rules} growths of rules, {of_rows} of rows",
         of.text
     );
+}
+
+/// Checks an unwind in which each of its growths fails in turn; returns whether one of them was of
+/// rows.
+fn check_growths<S: UnwindContextStorage<usize>>(
+    rt: &(impl Abort + AllocGlobal),
+    of: &Unwind<'_>,
+) -> Result<bool, Fail> {
+    let of_rules = growths_met::<S>(rt, of, false)?;
+    let of_rows = growths_met::<S>(rt, of, true)?;
+    check_counts(rt, of, of_rules, of_rows);
     Ok(of_rows > 0)
 }
 
 /// Checks such an unwind for the section of a text.
-fn check_section(
+fn check_section<S: UnwindContextStorage<usize>, G: UnwindContextStorage<usize>>(
     rt: &(impl Abort + AllocGlobal),
-    growing: &mut UnwindContext<usize, StoreGrowing>,
+    growing: &mut UnwindContext<usize, G>,
     text: &str,
     address: u64,
 ) -> Result<bool, Fail> {
     let bytes = bytes_of(rt.alloc(), text)?;
-    let mut section = DebugFrame::new(bytes.as_slice(), LittleEndian);
-    section.set_vendor(Vendor::AArch64);
-    let row = row_of(&section, growing, address);
+    let row = row_in(bytes.as_slice(), Vendor::AArch64, growing, address);
     let of = Unwind {
         text,
-        section,
+        bytes: bytes.as_slice(),
         address,
         row,
     };
-    check_growths(rt, &of)
+    check_growths::<S>(rt, &of)
+}
+
+/// The same for each of the sections, whose rows are those of a growing storage.
+fn check_sections<S: UnwindContextStorage<usize>, G: UnwindContextStorage<usize>>(
+    rt: &(impl Abort + AllocGlobal),
+    growing: &mut UnwindContext<usize, G>,
+) -> Result<bool, Fail> {
+    let mut grew_rows = false;
+    for (text, address) in &SECTIONS {
+        // A row that the stack once allocated is used again, so not every section grows it.
+        grew_rows |= check_section::<S, G>(rt, growing, text, *address)?;
+    }
+    Ok(grew_rows)
+}
+
+/// The same with a fresh context.
+fn grows_rows<S: UnwindContextStorage<usize>, G: UnwindContextStorage<usize>>(
+    rt: &(impl Abort + AllocGlobal),
+) -> Result<bool, Fail> {
+    let mut growing: UnwindContext<usize, G> = UnwindContext::new_in(rt.alloc())?;
+    check_sections::<S, G>(rt, &mut growing)
 }
 
 #[test]
 fn each_growth_in_turn(rt: HostRuntime) -> Result<(), Fail> {
-    let mut growing: UnwindContext<usize, StoreGrowing> = UnwindContext::new_in(rt.alloc())?;
-    let mut grew_rows = false;
-    for (text, address) in SECTIONS {
-        // A row that the stack once allocated is used again, so not every section grows it.
-        grew_rows |= check_section(&rt, &mut growing, text, address)?;
-    }
+    let grew_rows = grows_rows::<StoreRefusing, StoreGrowing>(&rt)?;
     assert!(rt; grew_rows);
     Ok(())
 }

@@ -3,13 +3,14 @@ ghost use Rattle.std.proofs.Common.{lit≤};
 ghost use Rattle.std.specs.Prelude.{IfOk};
 ghost use Rattle.gimli_cfi.specs.Words.{IsCieOf};
 
+use crate::register_order::with_program;
 use crate::rows::{R7_8, RETURNS, Shown, hands_out, shown};
 use arrayvec::ArrayVec;
-use cfi_tests_bytes::{THREE_ROWS, bytes_of, joined};
+use cfi_tests_bytes::{THREE_ROWS, bytes_of};
 use gimli_cfi::{
-    ArrayLike, BaseAddresses, CopyList, DebugFrame, DebugFrameOffset, Error, LittleEndian, Reader,
-    ReaderOffset, ReaderOffsetId, Register, RegisterRule, Section, StoreGrowing, StoreOnHeap,
-    UnwindContext, UnwindContextStorage, UnwindSection, UnwindTableRow, row_by_scan,
+    BaseAddresses, CopyList, DebugFrame, DebugFrameOffset, EndianSlice, Error, LittleEndian,
+    Reader, ReaderOffset, ReaderOffsetId, Register, RegisterRule, StoreOnHeap, UnwindContext,
+    UnwindContextStorage, UnwindSection, UnwindTableRow, Vendor, row_by_scan,
 };
 use std::alloc::Global;
 use std::process::Abort;
@@ -24,17 +25,6 @@ impl<T: ReaderOffset> UnwindContextStorage<T> for StoreOfOne {
     type Stack = ArrayVec<UnwindTableRow<T, Self::Rules>, 1>;
 
     ghost has_room = { lit≤ tt };
-}
-
-/// A storage whose rules are copied into memory of their own.
-struct StoreBoxed;
-
-impl<T: ReaderOffset> UnwindContextStorage<T> for StoreBoxed {
-    type Rules = Box<ArrayVec<(Register, RegisterRule<T>), 8>>;
-
-    type Stack = Vec<UnwindTableRow<T, Self::Rules>>;
-
-    ghost has_room = { tt };
 }
 
 /// A CIE without rules; an FDE of three, the first of which is given twice.
@@ -57,24 +47,42 @@ const FULL_CIE: &str = "15000000 ffffffff 04000800 017810 0c0708 9001 8602 0a0a0
 const CUT: &str = "10000000 ffffffff 04000800 017810 0c0708 9001 \
     16000000 00000000 0010000000000000 2000000000000000 41 02";
 
-pub(crate) fn row_of<R: Reader<Offset = usize>, S: UnwindContextStorage<usize>>(
-    section: &DebugFrame<R>,
+fn row_of<R: Reader<Offset = usize>, S: UnwindContextStorage<usize>>(
+    reader: R,
+    vendor: Vendor,
     context: &mut UnwindContext<usize, S>,
     address: u64,
 ) -> Result<Shown, Error> {
-    let row = row_by_scan(section, &BaseAddresses::default(), context, address)?;
+    let mut section = DebugFrame::from(reader);
+    section.set_vendor(vendor);
+    let row = row_by_scan(&section, &BaseAddresses::default(), context, address)?;
     Ok(shown(row))
+}
+
+/// The row of a section for an address.
+pub(crate) fn row_in<S: UnwindContextStorage<usize>>(
+    bytes: &[u8],
+    vendor: Vendor,
+    context: &mut UnwindContext<usize, S>,
+    address: u64,
+) -> Result<Shown, Error> {
+    row_of(
+        EndianSlice::new(bytes, LittleEndian),
+        vendor,
+        context,
+        address,
+    )
 }
 
 /// The row of the FDE for 0x1000 for another address. The closure captures a value, and says that
 /// the CIE is of the section that it is given.
 fn row_of_the_fde<R: Reader<Offset = usize>, S: UnwindContextStorage<usize>>(
-    section: &DebugFrame<R>,
+    reader: R,
     context: &mut UnwindContext<usize, S>,
     address: u64,
 ) -> Result<Shown, Error> {
+    let section = DebugFrame::from(reader);
     let bases = BaseAddresses::default();
-    let reader = *section.reader();
     let fde = section.fde_for_address(
         &bases,
         0x1000,
@@ -85,43 +93,52 @@ fn row_of_the_fde<R: Reader<Offset = usize>, S: UnwindContextStorage<usize>>(
             from.cie_from_offset(bases, offset)
         },
     )?;
-    let row = fde.unwind_info_for_address(section, &bases, context, address)?;
+    let row = fde.unwind_info_for_address(&section, &bases, context, address)?;
     Ok(shown(row))
+}
+
+/// Whether two contexts are equal.
+pub(crate) fn are_equal<S: UnwindContextStorage<usize>>(
+    one: &UnwindContext<usize, S>,
+    other: &UnwindContext<usize, S>,
+) -> bool {
+    *one == *other
+}
+
+/// A row or an error, and whether the context is as it should be after it.
+type Left = (Result<Shown, Error>, bool);
+
+/// Whether there is no FDE for an address.
+fn has_no_fde(row: Result<Shown, Error>) -> bool {
+    row == Err(Error::NoUnwindInfoForAddress)
 }
 
 /// What the context and a fresh one return for an address of the section of three rows, and whether
 /// they are equal after it.
-type BesideFresh = (Result<Shown, Error>, Result<Shown, Error>, bool);
-
-fn beside_fresh<R: Reader<Offset = usize>, S: UnwindContextStorage<usize>>(
-    alloc: Global,
-    section: &DebugFrame<R>,
+fn beside_fresh<S: UnwindContextStorage<usize>>(
     context: &mut UnwindContext<usize, S>,
+    fresh: &mut UnwindContext<usize, S>,
     address: u64,
-) -> Result<BesideFresh, Error> {
-    let mut fresh: UnwindContext<usize, S> = UnwindContext::new_in(alloc)?;
-    let expected = row_of(section, &mut fresh, address);
-    let answer = row_of(section, context, address);
-    Ok((answer, expected, *context == fresh))
+) -> [Left; 2] {
+    let expected = row_in(&THREE_ROWS, Vendor::Default, fresh, address);
+    let answer = row_in(&THREE_ROWS, Vendor::Default, context, address);
+    // An address without an FDE leaves the context as it is.
+    let is_as_fresh = are_equal(context, fresh) || has_no_fde(expected);
+    [(answer, is_as_fresh), (expected, true)]
 }
 
 /// Checks that the context returns the same for an address as a fresh one, and is equal to that
 /// afterwards.
-fn check_row<R: Reader<Offset = usize>, S: UnwindContextStorage<usize>>(
+fn check_row<S: UnwindContextStorage<usize>>(
     rt: &(impl Abort + AllocGlobal),
-    section: &DebugFrame<R>,
     context: &mut UnwindContext<usize, S>,
     address: u64,
     after: &str,
 ) -> Result<(), Fail> {
-    let (answer, expected, are_equal) = beside_fresh(rt.alloc(), section, context, address)?;
-    // An address without an FDE leaves the context as it is.
-    let is_as_fresh = are_equal || expected == Err(Error::NoUnwindInfoForAddress);
-    assert_eq!(rt;
-        (answer, is_as_fresh),
-        (expected, true),
-        "{after}: {address}"
-    );
+    let mut fresh: UnwindContext<usize, S> = UnwindContext::new_in(rt.alloc())?;
+    let [answer, expected] = beside_fresh(context, &mut fresh, address);
+    drop(fresh);
+    assert_eq!(rt; answer, expected, "{after}: {address}");
     Ok(())
 }
 
@@ -131,53 +148,44 @@ pub(crate) fn check_three_rows<S: UnwindContextStorage<usize>>(
     context: &mut UnwindContext<usize, S>,
     after: &str,
 ) -> Result<(), Fail> {
-    let section = DebugFrame::new(&THREE_ROWS, LittleEndian);
     for address in [0x1000, 0x1002, 0x1004, 0x1020] {
-        check_row(rt, &section, context, address, after)?;
+        check_row(rt, context, address, after)?;
     }
+    Ok(())
+}
+
+/// Checks that a section has no room for its states, and then the section of three rows.
+fn check_full<S: UnwindContextStorage<usize>>(
+    rt: &(impl Abort + AllocGlobal),
+    context: &mut UnwindContext<usize, S>,
+    bytes: &[u8],
+    text: &str,
+) -> Result<(), Fail> {
+    let row = row_in(bytes, Vendor::Default, context, 0x1000);
+    assert_eq!(rt; row, Err(Error::StackFull), "{text}");
+    check_three_rows(rt, context, text)
+}
+
+/// The same for each of three sections. For the last of them the error is that of making the table
+/// too.
+fn check_full_stacks<S: UnwindContextStorage<usize>>(
+    rt: &(impl Abort + AllocGlobal),
+    context: &mut UnwindContext<usize, S>,
+) -> Result<(), Fail> {
+    for text in [TWO_RULES, FOUR_STATES, FULL_CIE] {
+        let bytes = bytes_of(rt.alloc(), text)?;
+        check_full(rt, context, bytes.as_slice(), text)?;
+    }
+    let bytes = bytes_of(rt.alloc(), FULL_CIE)?;
+    let table = hands_out(bytes.as_slice(), context, &[]);
+    assert_eq!(rt; table, Err(Error::StackFull));
     Ok(())
 }
 
 #[test]
 fn after_a_full_stack(rt: HostRuntime) -> Result<(), Fail> {
     let mut context: UnwindContext<usize> = UnwindContext::new(rt.alloc())?;
-    for text in [TWO_RULES, FOUR_STATES, FULL_CIE] {
-        let bytes = bytes_of(rt.alloc(), text)?;
-        let section = DebugFrame::new(bytes.as_slice(), LittleEndian);
-        assert_eq!(rt;
-            row_of(&section, &mut context, 0x1000),
-            Err(Error::StackFull),
-            "{text}"
-        );
-        check_three_rows(&rt, &mut context, text)?;
-    }
-    Ok(())
-}
-
-/// The error is that of making the table.
-#[test]
-fn a_table_of_a_cie_that_fills_the_stack(rt: HostRuntime) -> Result<(), Fail> {
-    let bytes = bytes_of(rt.alloc(), FULL_CIE)?;
-    let section = DebugFrame::new(bytes.as_slice(), LittleEndian);
-    let mut context: UnwindContext<usize> = UnwindContext::new(rt.alloc())?;
-    assert_eq!(rt;
-        hands_out(&section, &mut context, &[]),
-        Err(Error::StackFull)
-    );
-    Ok(())
-}
-
-/// The row of one section for 0x1000, and those of another for 0x1000 and 0x1001.
-fn of_both<R: Reader<Offset = usize>, S: UnwindContextStorage<usize>>(
-    section: &DebugFrame<R>,
-    other: &DebugFrame<R>,
-    context: &mut UnwindContext<usize, S>,
-) -> [Result<Shown, Error>; 3] {
-    [
-        row_of(section, context, 0x1000),
-        row_of(other, context, 0x1000),
-        row_of(other, context, 0x1001),
-    ]
+    check_full_stacks(&rt, &mut context)
 }
 
 const KEPT: Option<RegisterRule<usize>> = Some(RegisterRule::Offset(-24));
@@ -197,92 +205,146 @@ const OF_BOTH: [Result<Shown, Error>; 3] = [
     Err(Error::TooManyRegisterRules),
 ];
 
-/// Whether a section returns these results, and then its row and those of the section of three
-/// rows.
-fn past_one_rule<S: UnwindContextStorage<usize>>(
+/// The row of a section for 0x1000, and those of the section of three rows for 0x1000 and 0x1001.
+fn of_both<S: UnwindContextStorage<usize>>(
+    bytes: &[u8],
+    context: &mut UnwindContext<usize, S>,
+) -> [Result<Shown, Error>; 3] {
+    [
+        row_in(bytes, Vendor::Default, context, 0x1000),
+        row_in(&THREE_ROWS, Vendor::Default, context, 0x1000),
+        row_in(&THREE_ROWS, Vendor::Default, context, 0x1001),
+    ]
+}
+
+/// Checks a storage of one rule and one row.
+fn check_one_rule<S: UnwindContextStorage<usize>>(
+    rt: &(impl Abort + AllocGlobal),
     context: &mut UnwindContext<usize, S>,
     bytes: &[u8],
-) -> (Result<bool, Error>, [Result<Shown, Error>; 3]) {
-    let section = DebugFrame::new(bytes, LittleEndian);
-    let three = DebugFrame::new(&THREE_ROWS, LittleEndian);
-    (
-        hands_out(&section, context, &PAST_ONE_RULE),
-        of_both(&section, &three, context),
-    )
+) -> Result<(), Fail> {
+    let table = hands_out(bytes, context, &PAST_ONE_RULE);
+    let rows = of_both(bytes, context);
+    assert_eq!(rt; (table, rows), (Ok((true, None)), OF_BOTH));
+    check_three_rows(rt, context, THREE_RULES)
+}
+
+/// The same with a fresh context.
+fn check_one_rule_of<S: UnwindContextStorage<usize>>(
+    rt: &(impl Abort + AllocGlobal),
+    bytes: &[u8],
+) -> Result<(), Fail> {
+    let mut context: UnwindContext<usize, S> = UnwindContext::new_in(rt.alloc())?;
+    check_one_rule(rt, &mut context, bytes)
 }
 
 #[test]
 fn after_one_rule_too_many(rt: HostRuntime) -> Result<(), Fail> {
     let bytes = bytes_of(rt.alloc(), THREE_RULES)?;
-    let mut context: UnwindContext<usize, StoreOfOne> = UnwindContext::new_in(rt.alloc())?;
-    let found = past_one_rule(&mut context, bytes.as_slice());
-    assert_eq!(rt; found, (Ok(true), OF_BOTH));
-    check_three_rows(&rt, &mut context, THREE_RULES)
+    check_one_rule_of::<StoreOfOne>(&rt, bytes.as_slice())
 }
 
 /// The rows for 0x1000, 0x1001 and 0x5000 by the FDE's own call, and for 0x1001 by the section's.
 fn by_both_calls<R: Reader<Offset = usize>, S: UnwindContextStorage<usize>>(
-    section: &DebugFrame<R>,
+    reader: R,
     context: &mut UnwindContext<usize, S>,
 ) -> [Result<Shown, Error>; 4] {
     [
-        row_of_the_fde(section, context, 0x1000),
-        row_of_the_fde(section, context, 0x1001),
-        row_of_the_fde(section, context, 0x5000),
-        row_of(section, context, 0x1001),
+        row_of_the_fde(reader, context, 0x1000),
+        row_of_the_fde(reader, context, 0x1001),
+        row_of_the_fde(reader, context, 0x5000),
+        row_of(reader, Vendor::Default, context, 0x1001),
     ]
 }
 
 const ENDED: Result<Shown, Error> = Err(Error::UnexpectedEof(ReaderOffsetId(46)));
 
+/// Checks the section whose second instruction is cut off.
+fn check_cut<S: UnwindContextStorage<usize>>(
+    rt: &(impl Abort + AllocGlobal),
+    context: &mut UnwindContext<usize, S>,
+    bytes: &[u8],
+) -> Result<(), Fail> {
+    let rows = by_both_calls(EndianSlice::new(bytes, LittleEndian), context);
+    assert_eq!(rt; rows, [FIRST, ENDED, ENDED, ENDED]);
+    check_three_rows(rt, context, CUT)
+}
+
+/// The same with a fresh context.
+fn check_cut_of<S: UnwindContextStorage<usize>>(
+    rt: &(impl Abort + AllocGlobal),
+    bytes: &[u8],
+) -> Result<(), Fail> {
+    let mut context: UnwindContext<usize, S> = UnwindContext::new_in(rt.alloc())?;
+    check_cut(rt, &mut context, bytes)
+}
+
 /// The FDE's own call goes on to rows outside its range, up to the instruction that can't be read.
 #[test]
 fn a_cut_instruction(rt: HostRuntime) -> Result<(), Fail> {
     let bytes = bytes_of(rt.alloc(), CUT)?;
-    let section = DebugFrame::new(bytes.as_slice(), LittleEndian);
-    let mut context: UnwindContext<usize> = UnwindContext::new(rt.alloc())?;
-    let rows = by_both_calls(&section, &mut context);
-    assert_eq!(rt; rows, [FIRST, ENDED, ENDED, ENDED]);
-    check_three_rows(&rt, &mut context, CUT)
+    check_cut_of::<StoreOnHeap>(&rt, bytes.as_slice())
 }
-
-/// A CIE, and an FDE without its four bytes of instructions.
-const NO_PROGRAM: &str = "10000000 ffffffff 04000800 017810 0c0708 9001 \
-    18000000 00000000 0010000000000000 2000000000000000";
 
 /// Whether the rows of two sections for 0x1000 are equal, and whether they are not.
 fn compared<R: Reader<Offset = usize>, S: UnwindContextStorage<usize>>(
-    first: &DebugFrame<R>,
-    second: &DebugFrame<R>,
+    first: R,
+    second: R,
     one: &mut UnwindContext<usize, S>,
     other: &mut UnwindContext<usize, S>,
 ) -> Result<(bool, bool), Error> {
     let bases = BaseAddresses::default();
-    let row = row_by_scan(first, &bases, one, 0x1000)?;
-    let other_row = row_by_scan(second, &bases, other, 0x1000)?;
+    let row = row_by_scan(&DebugFrame::from(first), &bases, one, 0x1000)?;
+    let other_row = row_by_scan(&DebugFrame::from(second), &bases, other, 0x1000)?;
     Ok((*row == *other_row, *row != *other_row))
 }
 
+/// How the row of instructions compares with that of rules for 6 and then 7.
+fn compared_with<S: UnwindContextStorage<usize>>(
+    program: [u8; 4],
+    one: &mut UnwindContext<usize, S>,
+    other: &mut UnwindContext<usize, S>,
+) -> Result<(bool, bool), Error> {
+    compared(
+        EndianSlice::new(&with_program([0x86, 2, 0x87, 1]), LittleEndian),
+        EndianSlice::new(&with_program(program), LittleEndian),
+        one,
+        other,
+    )
+}
+
 /// Instructions, and how their row compares with that of "8602 8701".
-const COMPARISONS: [(&str, (bool, bool)); 2] = [
-    ("8701 8602", (true, false)),
-    ("8702 8601", (false, true)),
+const COMPARISONS: [([u8; 4], (bool, bool)); 2] = [
+    ([0x87, 1, 0x86, 2], (true, false)),
+    ([0x87, 2, 0x86, 1], (false, true)),
 ];
+
+/// Checks those with two contexts.
+fn check_orders<S: UnwindContextStorage<usize>>(
+    rt: &impl Abort,
+    one: &mut UnwindContext<usize, S>,
+    other: &mut UnwindContext<usize, S>,
+) {
+    for (program, expected) in &COMPARISONS {
+        let found = compared_with(*program, one, other);
+        assert_eq!(rt; found, Ok(*expected), "{program:?}");
+    }
+}
+
+/// The same with two fresh contexts.
+fn check_orders_of<S: UnwindContextStorage<usize>>(
+    rt: &(impl Abort + AllocGlobal),
+) -> Result<(), Fail> {
+    let mut one: UnwindContext<usize, S> = UnwindContext::new_in(rt.alloc())?;
+    let mut other: UnwindContext<usize, S> = UnwindContext::new_in(rt.alloc())?;
+    check_orders(rt, &mut one, &mut other);
+    Ok(())
+}
 
 /// Two rows whose rules are in another order are equal, and no other two.
 #[test]
 fn rows_by_their_rules(rt: HostRuntime) -> Result<(), Fail> {
-    let mut one: UnwindContext<usize> = UnwindContext::new(rt.alloc())?;
-    let mut other: UnwindContext<usize> = UnwindContext::new(rt.alloc())?;
-    let bytes = joined(rt.alloc(), NO_PROGRAM, "8602 8701")?;
-    let first = DebugFrame::new(bytes.as_slice(), LittleEndian);
-    for (program, expected) in &COMPARISONS {
-        let bytes = joined(rt.alloc(), NO_PROGRAM, program)?;
-        let second = DebugFrame::new(bytes.as_slice(), LittleEndian);
-        let found = compared(&first, &second, &mut one, &mut other)?;
-        assert_eq!(rt; found, *expected, "{program}");
-    }
-    Ok(())
+    check_orders_of::<StoreOnHeap>(&rt)
 }
 
 /// Whether the copy of a row is equal to it, and how many rules it has.
@@ -293,49 +355,35 @@ fn copied_row<A: CopyList<Item = (Register, RegisterRule<usize>)>>(
     Ok((copy == *row, copy.registers().count()))
 }
 
-/// For a context that returned a row: its copy, whether its own copy is equal to it, and whether
-/// that is equal to a fresh one.
-fn copied<R: Reader<Offset = usize>, S: UnwindContextStorage<usize>>(
+/// The copy of the row for 0x1002 that a context returns.
+fn copied_row_in<R: Reader<Offset = usize>, S: UnwindContextStorage<usize>>(
+    reader: R,
+    context: &mut UnwindContext<usize, S>,
+) -> Result<(bool, usize), Error> {
+    let section = DebugFrame::from(reader);
+    copied_row(row_by_scan(&section, &BaseAddresses::default(), context, 0x1002)?)
+}
+
+/// Whether a context's copy is equal to it, and whether that is equal to a fresh one.
+fn copied_context<S: UnwindContextStorage<usize>>(
     alloc: Global,
-    section: &DebugFrame<R>,
-) -> Result<((bool, usize), bool, bool), Error> {
-    let bases = BaseAddresses::default();
-    let mut context: UnwindContext<usize, S> = UnwindContext::new_in(alloc)?;
-    let of_row = copied_row(row_by_scan(section, &bases, &mut context, 0x1002)?)?;
+    context: &UnwindContext<usize, S>,
+    fresh: &UnwindContext<usize, S>,
+) -> Result<(bool, bool), Error> {
     let copy = context.try_clone(alloc)?;
-    let fresh: UnwindContext<usize, S> = UnwindContext::new_in(alloc)?;
-    Ok((of_row, copy == context, copy == fresh))
+    Ok((are_equal(&copy, context), are_equal(&copy, fresh)))
 }
 
-type OneRule = Box<ArrayVec<(Register, RegisterRule<usize>), 1>>;
+/// Both for a context, with a fresh one.
+type Copied = (Result<(bool, usize), Error>, Result<(bool, bool), Error>);
 
-/// The copy of a list into which the rule was put, and whether there was room.
-fn copied_rule(
+pub(crate) fn copied<S: UnwindContextStorage<usize>>(
     alloc: Global,
-    rule: (Register, RegisterRule<usize>),
-) -> Result<(OneRule, bool), Error> {
-    let mut rules = OneRule::make(alloc)?;
-    let is_put = ArrayLike::try_push(&mut rules, rule).is_ok();
-    Ok((rules.copy()?, is_put))
+    context: &mut UnwindContext<usize, S>,
+    fresh: &UnwindContext<usize, S>,
+) -> Copied {
+    let row = copied_row_in(EndianSlice::new(&THREE_ROWS, LittleEndian), context);
+    (row, copied_context(alloc, context, fresh))
 }
 
-const COPIED: [Result<((bool, usize), bool, bool), Error>; 3] = [Ok(((true, 2), true, false)); 3];
-
-#[test]
-fn copies_are_equal(rt: HostRuntime) -> Result<(), Fail> {
-    let alloc = rt.alloc();
-    let section = DebugFrame::new(&THREE_ROWS, LittleEndian);
-    let found = [
-        copied::<_, StoreOnHeap>(alloc, &section),
-        copied::<_, StoreGrowing>(alloc, &section),
-        copied::<_, StoreBoxed>(alloc, &section),
-    ];
-    assert_eq!(rt; found, COPIED, "fixed, growing, boxed rules");
-    let rule = (Register(6), RegisterRule::Offset(-16));
-    let (rules, is_put) = copied_rule(alloc, rule)?;
-    assert_eq!(rt;
-        (is_put, ArrayLike::as_slice(&rules)),
-        (true, [rule].as_slice())
-    );
-    Ok(())
-}
+pub(crate) const COPIED: Copied = (Ok((true, 2)), Ok((true, false)));

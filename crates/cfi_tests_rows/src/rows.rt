@@ -6,6 +6,7 @@ use gimli_cfi::{
     UnwindContextStorage, UnwindExpression, UnwindSection, UnwindTable, UnwindTableRow,
     scan_for_fde,
 };
+use std::process::Abort;
 use std::test::Fail;
 
 /// The CIE; an FDE that remembers a row, sets the CFA, advances and restores.
@@ -100,31 +101,40 @@ fn yields<R: Reader<Offset = usize>, S: UnwindContextStorage<usize>>(
     true
 }
 
-/// Whether the FDE for 0x1000 has these rows in order, and no current row after the last.
-pub(crate) fn hands_out<R: Reader<Offset = usize>, S: UnwindContextStorage<usize>>(
-    section: &DebugFrame<R>,
-    context: &mut UnwindContext<usize, S>,
-    answers: Answers<'_>,
-) -> Result<bool, Error> {
-    let bases = BaseAddresses::default();
-    let fde = scan_for_fde(section, &bases, 0x1000)?;
-    let mut table = fde.rows(section, &bases, context)?;
-    Ok(yields(&mut table, answers) && table.into_current_row().is_none())
+/// Where a row ends.
+fn end_of<A: ArrayLike<Item = (Register, RegisterRule<usize>)>>(
+    row: Option<&UnwindTableRow<usize, A>>,
+) -> Option<u64> {
+    match row {
+        Some(row) => Some(row.end_address()),
+        None => None,
+    }
 }
 
-/// Where the first row of the FDE for 0x1000 ends, by the row that the table leaves.
-fn first_end<R: Reader<Offset = usize>, S: UnwindContextStorage<usize>>(
-    section: &DebugFrame<R>,
+/// Whether the FDE for 0x1000 has these rows in order, and where the row ends that the table leaves
+/// after them.
+type HandedOut = Result<(bool, Option<u64>), Error>;
+
+fn handed_out<R: Reader<Offset = usize>, S: UnwindContextStorage<usize>>(
+    reader: R,
     context: &mut UnwindContext<usize, S>,
-) -> Result<Option<u64>, Error> {
+    answers: Answers<'_>,
+) -> HandedOut {
+    let section = DebugFrame::from(reader);
     let bases = BaseAddresses::default();
-    let fde = scan_for_fde(section, &bases, 0x1000)?;
-    let mut table = UnwindTable::new(section, &bases, context, &fde)?;
-    let _first = table.next_row()?;
-    match table.into_current_row() {
-        Some(row) => Ok(Some(row.end_address())),
-        None => Ok(None),
-    }
+    let fde = scan_for_fde(&section, &bases, 0x1000)?;
+    let mut table = UnwindTable::new(&section, &bases, context, &fde)?;
+    let are_right = yields(&mut table, answers);
+    Ok((are_right, end_of(table.into_current_row())))
+}
+
+/// The same for the bytes of a section.
+pub(crate) fn hands_out<S: UnwindContextStorage<usize>>(
+    bytes: &[u8],
+    context: &mut UnwindContext<usize, S>,
+    answers: Answers<'_>,
+) -> HandedOut {
+    handed_out(EndianSlice::new(bytes, LittleEndian), context, answers)
 }
 
 /// The CFA r7+8.
@@ -172,9 +182,11 @@ const AT_ONCE: Answers<'static> = &[
     Ok(None),
 ];
 
-const TABLES: [(&[u8], Answers<'static>); 7] = [
-    (&LARGE_FACTOR, AT_ONCE),
-    (&SET_LOC, AT_ONCE),
+/// Sections, their rows, and where the row ends that the table leaves: after the last row there is
+/// none.
+const TABLES: [(&[u8], Answers<'static>, Option<u64>); 8] = [
+    (&LARGE_FACTOR, AT_ONCE, None),
+    (&SET_LOC, AT_ONCE, None),
     (
         &THREE_ROWS,
         &[
@@ -184,6 +196,12 @@ const TABLES: [(&[u8], Answers<'static>); 7] = [
             Ok(None),
             Ok(None),
         ],
+        None,
+    ),
+    (
+        &THREE_ROWS,
+        &[Ok(Some((0x1000, 0x1001, R7_8, None, RETURNS)))],
+        Some(0x1001),
     ),
     (
         &REMEMBERED,
@@ -192,10 +210,12 @@ const TABLES: [(&[u8], Answers<'static>); 7] = [
             Ok(Some((0x1002, 0x1020, R7_8, None, RETURNS))),
             Ok(None),
         ],
+        None,
     ),
     (
         &CIE_MOVES,
         &[Ok(Some((0x1000, 0x1020, R7_8, None, RETURNS))), Ok(None)],
+        None,
     ),
     (
         &EXPRESSION,
@@ -204,6 +224,7 @@ const TABLES: [(&[u8], Answers<'static>); 7] = [
             Ok(Some((0x1000, 0x1020, BY_EXPRESSION, SAVED, RETURNS))),
             Ok(None),
         ],
+        None,
     ),
     (
         &NOTHING_REMEMBERED,
@@ -212,24 +233,25 @@ const TABLES: [(&[u8], Answers<'static>); 7] = [
             Ok(Some((0x1000, 0x1020, R7_16, None, RETURNS))),
             Ok(None),
         ],
+        None,
     ),
 ];
+
+/// Checks those rows with one context.
+fn check_tables<S: UnwindContextStorage<usize>>(
+    rt: &impl Abort,
+    context: &mut UnwindContext<usize, S>,
+) {
+    for (bytes, answers, end) in &TABLES {
+        let found = hands_out(bytes, context, answers);
+        assert_eq!(rt; found, Ok((true, *end)));
+    }
+}
 
 #[test]
 fn rows_one_by_one(rt: HostRuntime) -> Result<(), Fail> {
     let mut context: UnwindContext<usize> = UnwindContext::new(rt.alloc())?;
-    for (bytes, answers) in &TABLES {
-        let section = DebugFrame::new(bytes, LittleEndian);
-        assert_eq!(rt; hands_out(&section, &mut context, answers), Ok(true));
-    }
-    Ok(())
-}
-
-#[test]
-fn the_current_row_outlives_the_table(rt: HostRuntime) -> Result<(), Fail> {
-    let section = DebugFrame::new(&THREE_ROWS, LittleEndian);
-    let mut context: UnwindContext<usize> = UnwindContext::new(rt.alloc())?;
-    assert_eq!(rt; first_end(&section, &mut context), Ok(Some(0x1001)));
+    check_tables(&rt, &mut context);
     Ok(())
 }
 
@@ -260,19 +282,26 @@ pub(crate) fn two_cies() -> EndianSlice<'static, LittleEndian> {
     EndianSlice::new(&TWO_CIES, LittleEndian)
 }
 
+/// A row, and how often `get_cie` was called.
+type Asked = (Result<Shown, Error>, u32);
+
 /// The row that the two CIEs give for an address, if the first call of `get_cie` returns the CIE at
-/// 0 and each further one that at 20; and how many calls there were.
+/// 0 or an error, and each further one that at 20.
 fn with_changing_cies<R: Reader<Offset = usize>, S: UnwindContextStorage<usize>>(
     reader: R,
     context: &mut UnwindContext<usize, S>,
     address: u64,
-) -> (Result<Shown, Error>, u32) {
+    refuses: bool,
+) -> Asked {
     let section = DebugFrame::from(reader);
     let bases = BaseAddresses::default();
     let mut asked = 0u32;
     let found = section.unwind_info_for_address(&bases, context, address, |from, bases, _| {
         let offset = if asked == 0 { 0 } else { 20 };
         asked = asked.saturating_add(1);
+        if refuses && offset == 0 {
+            return Err(Error::UnknownAugmentation);
+        }
         from.cie_from_offset(bases, DebugFrameOffset(offset))
     });
     let answer = match found {
@@ -282,47 +311,40 @@ fn with_changing_cies<R: Reader<Offset = usize>, S: UnwindContextStorage<usize>>
     (answer, asked)
 }
 
-const WITH_CHANGING_CIES: [(u64, Result<Shown, Error>, u32); 3] = [
-    (0x1000, Ok((0x1000, 0x1020, R7_8, None, RETURNS)), 1),
-    (0x2000, Ok((0x2000, 0x2020, R7_16, None, RETURNS)), 2),
-    (0x3000, Err(Error::NoUnwindInfoForAddress), 2),
+const REFUSED: Asked = (Err(Error::UnknownAugmentation), 1);
+
+/// Addresses, whether the first call is an error, the rows, and how many calls there are.
+const WITH_CHANGING_CIES: [(u64, bool, Asked); 5] = [
+    (
+        0x1000,
+        false,
+        (Ok((0x1000, 0x1020, R7_8, None, RETURNS)), 1),
+    ),
+    (
+        0x2000,
+        false,
+        (Ok((0x2000, 0x2020, R7_16, None, RETURNS)), 2),
+    ),
+    (0x3000, false, (Err(Error::NoUnwindInfoForAddress), 2)),
+    (0x1000, true, REFUSED),
+    (0x2000, true, REFUSED),
 ];
 
-#[test]
-fn a_get_cie_that_changes(rt: HostRuntime) -> Result<(), Fail> {
-    let mut context: UnwindContext<usize> = UnwindContext::new(rt.alloc())?;
-    for (address, row, asked) in &WITH_CHANGING_CIES {
-        let found = with_changing_cies(two_cies(), &mut context, *address);
-        assert_eq!(rt; found, (*row, *asked));
-    }
-    Ok(())
-}
-
-/// The error of looking up an address if the first call of `get_cie` fails.
-fn refused_at_first<R: Reader<Offset = usize>, S: UnwindContextStorage<usize>>(
+/// Checks those rows with one context.
+fn check_changing_cies<R: Reader<Offset = usize>, S: UnwindContextStorage<usize>>(
+    rt: &impl Abort,
     reader: R,
     context: &mut UnwindContext<usize, S>,
-    address: u64,
-) -> Option<Error> {
-    let section = DebugFrame::from(reader);
-    let bases = BaseAddresses::default();
-    let mut asked = 0u32;
-    let found = section.unwind_info_for_address(&bases, context, address, |from, bases, offset| {
-        if asked == 0 {
-            asked = 1;
-            return Err(Error::UnknownAugmentation);
-        }
-        from.cie_from_offset(bases, offset)
-    });
-    found.err()
+) {
+    for (address, refuses, asked) in &WITH_CHANGING_CIES {
+        let found = with_changing_cies(reader, context, *address, *refuses);
+        assert_eq!(rt; found, *asked);
+    }
 }
 
 #[test]
-fn a_get_cie_that_refuses(rt: HostRuntime) -> Result<(), Fail> {
+fn a_get_cie_that_changes_or_refuses(rt: HostRuntime) -> Result<(), Fail> {
     let mut context: UnwindContext<usize> = UnwindContext::new(rt.alloc())?;
-    for address in [0x1000, 0x2000] {
-        let refused = refused_at_first(two_cies(), &mut context, address);
-        assert_eq!(rt; refused, Some(Error::UnknownAugmentation));
-    }
+    check_changing_cies(&rt, two_cies(), &mut context);
     Ok(())
 }
