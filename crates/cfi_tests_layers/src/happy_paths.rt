@@ -5,18 +5,22 @@ use cfi_read_core::constants::{DW_EH_PE_absptr, DW_EH_PE_pcrel, DW_EH_PE_sdata4}
 use cfi_read_core::{
     DebugFrameOffset, DwEhPe, EhFrameOffset, EndianSlice, Error, LittleEndian, Reader, Vendor,
 };
-use cfi_tests_bytes::bytes_of;
 use cfi_unwind::entry::{CommonInformationEntry, FrameDescriptionEntry};
 use cfi_unwind::unwind_section::{DebugFrame, EhFrame, UnwindSection};
-use std::test::Fail;
 
 /// A CIE of version 1 and an FDE of addresses of two bytes, whose instructions toggle the sign
 /// state.
-const NARROW: &str = "09000000 ffffffff 01 00 017810 09000000 00000000 0010 2000 2d";
+const NARROW: [u8; 26] = [
+    9, 0, 0, 0, 0xff, 0xff, 0xff, 0xff, 1, 0, 1, 0x78, 0x10, 9, 0, 0, 0, 0, 0, 0, 0, 0, 0x10, 0x20,
+    0, 0x2d,
+];
 
 /// A CIE with a personality, encodings of language-specific data and of addresses, and the mark of
 /// a signal trampoline.
-const LETTERS: &str = "1a000000 00000000 01 7a504c525300 017810 0b 00 1122334455667788 1b 1b";
+const LETTERS: [u8; 30] = [
+    0x1a, 0, 0, 0, 0, 0, 0, 0, 1, 0x7a, 0x50, 0x4c, 0x52, 0x53, 0, 1, 0x78, 0x10, 0x0b, 0, 0x11,
+    0x22, 0x33, 0x44, 0x55, 0x66, 0x77, 0x88, 0x1b, 0x1b,
+];
 
 #[test]
 fn bases(rt: HostRuntime) {
@@ -56,23 +60,23 @@ fn addresses_of<R: Reader>(fde: &FrameDescriptionEntry<R>) -> Addresses {
 type Instruction = Result<Option<CallFrameInstruction<usize>>, Error>;
 
 /// The offsets and the length of an FDE, before it is parsed whole.
-fn places_at<R, S>(section: &S, offset: S::Offset) -> Result<Places, Error>
-where
-    R: Reader<Offset = usize>,
-    S: UnwindSection<R, Offset = DebugFrameOffset<usize>>,
-{
+fn places_at<R: Reader<Offset = usize>>(
+    section: &DebugFrame<R>,
+    offset: usize,
+) -> Result<Places, Error> {
     let bases = BaseAddresses::default();
-    let part = section.partial_fde_from_offset(&bases, offset)?;
+    let part = section.partial_fde_from_offset(&bases, DebugFrameOffset(offset))?;
     Ok((part.offset(), part.cie_offset(), part.entry_len()))
 }
 
-/// The addresses of the FDE at 13, which is parsed in two steps, and its first two instructions.
-fn fde_at_13<R: Reader<Offset = usize>>(
+/// The addresses of an FDE, and its first two instructions.
+fn fde_at<R: Reader<Offset = usize>>(
     section: &DebugFrame<R>,
+    offset: usize,
 ) -> Result<(Addresses, Instruction, Instruction), Error> {
     let bases = BaseAddresses::default();
-    let part = section.partial_fde_from_offset(&bases, DebugFrameOffset(13))?;
-    let fde = part.parse(DebugFrame::cie_from_offset)?;
+    let offset = DebugFrameOffset(offset);
+    let fde = section.fde_from_offset(&bases, offset, DebugFrame::cie_from_offset)?;
     let mut instructions = fde.instructions(section, &bases);
     let first = instructions.next();
     Ok((addresses_of(&fde), first, instructions.next()))
@@ -88,10 +92,7 @@ fn of_narrow<R: Reader<Offset = usize>>(reader: R) -> OfNarrow {
     let mut section = DebugFrame::from(reader);
     section.set_address_size(2);
     section.set_vendor(Vendor::AArch64);
-    (
-        places_at(&section, DebugFrameOffset(13)),
-        fde_at_13(&section),
-    )
+    (places_at(&section, 13), fde_at(&section, 13))
 }
 
 const PLACES: Result<Places, Error> = Ok((13, DebugFrameOffset(0), 9));
@@ -103,11 +104,9 @@ const OF_NARROW: Result<(Addresses, Instruction, Instruction), Error> = Ok((
 ));
 
 #[test]
-fn the_settings_of_a_section(rt: HostRuntime) -> Result<(), Fail> {
-    let bytes = bytes_of(rt.alloc(), NARROW)?;
-    let found = of_narrow(EndianSlice::new(bytes.as_slice(), LittleEndian));
+fn the_settings_of_a_section(rt: HostRuntime) {
+    let found = of_narrow(EndianSlice::new(&NARROW, LittleEndian));
     assert_eq!(rt; found, (PLACES, OF_NARROW));
-    Ok(())
 }
 
 /// Whether a CIE has language-specific data, is of a signal trampoline, and has an augmentation.
@@ -137,9 +136,8 @@ fn pointers_of<R: Reader>(cie: &CommonInformationEntry<R>) -> Pointers {
 }
 
 /// The marks and the pointers of the CIE at 0.
-fn letters_of<R: Reader<Offset = usize>>(
-    section: &EhFrame<R>,
-) -> Result<([bool; 3], Pointers), Error> {
+fn letters_of<R: Reader<Offset = usize>>(reader: R) -> Result<([bool; 3], Pointers), Error> {
+    let section = EhFrame::from(reader);
     let cie = section.cie_from_offset(&BaseAddresses::default(), EhFrameOffset(0))?;
     Ok((marks_of(&cie), pointers_of(&cie)))
 }
@@ -159,9 +157,7 @@ const OF_LETTERS: Result<([bool; 3], Pointers), Error> = Ok((
 ));
 
 #[test]
-fn the_letters_of_a_cie(rt: HostRuntime) -> Result<(), Fail> {
-    let bytes = bytes_of(rt.alloc(), LETTERS)?;
-    let section = EhFrame::new(bytes.as_slice(), LittleEndian);
-    assert_eq!(rt; letters_of(&section), OF_LETTERS);
-    Ok(())
+fn the_letters_of_a_cie(rt: HostRuntime) {
+    let found = letters_of(EndianSlice::new(&LETTERS, LittleEndian));
+    assert_eq!(rt; found, OF_LETTERS);
 }

@@ -3,11 +3,10 @@ use cfi_parts::instruction::{CallFrameInstruction, UnwindExpression};
 use cfi_parts::pointer::BaseAddresses;
 use cfi_read_core::constants::DwCfa;
 use cfi_read_core::{
-    DebugFrameOffset, Error, LittleEndian, Reader, ReaderOffsetId, Register, Vendor,
+    DebugFrameOffset, EndianSlice, Error, LittleEndian, Reader, ReaderOffsetId, Register, Vendor,
 };
-use cfi_tests_bytes::{bytes_of, joined};
 use cfi_unwind::unwind_section::{DebugFrame, UnwindSection};
-use std::alloc::Global;
+use std::alloc::{AllocError, Global};
 use std::test::Fail;
 
 type Instruction = CallFrameInstruction<usize>;
@@ -19,23 +18,29 @@ type FirstTwo = (
 );
 
 /// A CIE at 0.
-const CIE: &str = "10000000 ffffffff 04000800 017810 0c0708 9001";
-
-/// A CIE at 0 whose FDEs have signed addresses of four bytes.
-const ENCODED_CIE: &str = "0d000000 ffffffff 01 7a5200 017810 01 0b";
+const CIE: [u8; 20] = [
+    0x10, 0, 0, 0, 0xff, 0xff, 0xff, 0xff, 4, 0, 8, 0, 1, 0x78, 0x10, 0x0c, 7, 8, 0x90, 1,
+];
 
 /// The first instruction of the FDE at the offset, and the one after it.
 fn first_two<R: Reader<Offset = usize>>(
-    section: &DebugFrame<R>,
+    reader: R,
+    vendor: Vendor,
     offset: usize,
 ) -> Result<FirstTwo, Error> {
+    let mut section = DebugFrame::from(reader);
+    section.set_vendor(vendor);
     let bases = BaseAddresses::default();
     let offset = DebugFrameOffset(offset);
     let fde = section.fde_from_offset(&bases, offset, DebugFrame::cie_from_offset)?;
-    let mut instructions = fde.instructions(section, &bases);
+    let mut instructions = fde.instructions(&section, &bases);
     let first = instructions.next();
-    let second = instructions.next();
-    Ok((first, second))
+    Ok((first, instructions.next()))
+}
+
+/// The same from bytes.
+fn first_two_in(bytes: &[u8], vendor: Vendor, offset: usize) -> Result<FirstTwo, Error> {
+    first_two(EndianSlice::new(bytes, LittleEndian), vendor, offset)
 }
 
 /// Addresses from 0x1000 up to 0x1020, for the CIE at 0.
@@ -44,8 +49,9 @@ const RANGE: [u8; 20] = [
 ];
 
 /// A CIE of 20 bytes, and an FDE whose instructions begin at 44.
-fn with_program(alloc: Global, program: &[u8]) -> Result<Vec<u8>, Fail> {
-    let mut bytes = bytes_of(alloc, CIE)?;
+fn with_program(alloc: Global, program: &[u8]) -> Result<Vec<u8>, AllocError> {
+    let mut bytes = Vec::new(alloc);
+    bytes.extend_from_slice(&CIE)?;
     let size = u32::try_from(program.len()).unwrap_or(u32::MAX);
     let length = 20u32.saturating_add(size);
     bytes.extend_from_slice(&length.to_le_bytes())?;
@@ -57,9 +63,7 @@ fn with_program(alloc: Global, program: &[u8]) -> Result<Vec<u8>, Fail> {
 /// The first two instructions of that FDE.
 fn of_program(alloc: Global, program: &[u8], vendor: Vendor) -> Result<FirstTwo, Fail> {
     let bytes = with_program(alloc, program)?;
-    let mut section = DebugFrame::new(bytes.as_slice(), LittleEndian);
-    section.set_vendor(vendor);
-    Ok(first_two(&section, 20)?)
+    Ok(first_two_in(bytes.as_slice(), vendor, 20)?)
 }
 
 /// Instructions, one for each FDE.
@@ -201,13 +205,11 @@ const PROGRAMS: [(&[u8], Vendor, FirstTwo); 6] = [
     ),
 ];
 
-/// The first two instructions of an FDE that sets its location, after a CIE of encoded addresses.
-fn of_encoded(alloc: Global) -> Result<FirstTwo, Fail> {
-    let fde = "12000000 00000000 00100000 20000000 00 01 f0ffffff";
-    let bytes = joined(alloc, ENCODED_CIE, fde)?;
-    let section = DebugFrame::new(bytes.as_slice(), LittleEndian);
-    Ok(first_two(&section, 17)?)
-}
+/// A CIE whose FDEs have signed addresses of four bytes, and an FDE at 17 that sets its location.
+const ENCODED: [u8; 39] = [
+    0x0d, 0, 0, 0, 0xff, 0xff, 0xff, 0xff, 1, 0x7a, 0x52, 0, 1, 0x78, 0x10, 1, 0x0b, 0x12, 0, 0, 0,
+    0, 0, 0, 0, 0, 0x10, 0, 0, 0x20, 0, 0, 0, 0, 1, 0xf0, 0xff, 0xff, 0xff,
+];
 
 const SET_LOC: FirstTwo = (
     Ok(Some(CallFrameInstruction::SetLoc {
@@ -221,17 +223,17 @@ fn refusals_end_the_instructions(rt: HostRuntime) -> Result<(), Fail> {
     for (program, vendor, read) in &PROGRAMS {
         assert_eq!(rt; of_program(rt.alloc(), program, *vendor)?, *read);
     }
-    assert_eq!(rt; of_encoded(rt.alloc())?, SET_LOC);
     Ok(())
 }
 
 /// The first three results of reading the instructions of the CIE at 0.
 fn first_three<R: Reader<Offset = usize>>(
-    section: &DebugFrame<R>,
+    reader: R,
 ) -> Result<[Result<Option<Instruction>, Error>; 3], Error> {
+    let section = DebugFrame::from(reader);
     let bases = BaseAddresses::default();
     let cie = section.cie_from_offset(&bases, DebugFrameOffset(0))?;
-    let mut instructions = cie.instructions(section, &bases);
+    let mut instructions = cie.instructions(&section, &bases);
     Ok([
         instructions.next(),
         instructions.next(),
@@ -240,9 +242,7 @@ fn first_three<R: Reader<Offset = usize>>(
 }
 
 #[test]
-fn of_a_cie(rt: HostRuntime) -> Result<(), Fail> {
-    let bytes = bytes_of(rt.alloc(), CIE)?;
-    let section = DebugFrame::new(bytes.as_slice(), LittleEndian);
+fn of_a_cie_and_of_encoded_addresses(rt: HostRuntime) {
     let cfa = CallFrameInstruction::DefCfa {
         register: Register(7),
         offset: 8,
@@ -251,9 +251,10 @@ fn of_a_cie(rt: HostRuntime) -> Result<(), Fail> {
         register: Register(16),
         factored_offset: 1,
     };
+    let of_cie = first_three(EndianSlice::new(&CIE, LittleEndian));
+    let of_encoded = first_two_in(&ENCODED, Vendor::Default, 17);
     assert_eq!(rt;
-        first_three(&section),
-        Ok([Ok(Some(cfa)), Ok(Some(saved)), Ok(None)])
+        (of_cie, of_encoded),
+        (Ok([Ok(Some(cfa)), Ok(Some(saved)), Ok(None)]), Ok(SET_LOC))
     );
-    Ok(())
 }

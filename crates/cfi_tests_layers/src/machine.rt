@@ -13,7 +13,6 @@ use cfi_state::table::machine::{Parameters, current_row, end_cie, evaluate, rese
 use cfi_state::table::row::UnwindTableRow;
 use cfi_state::table::rules::RegisterRule;
 use std::alloc::Global;
-use std::test::Fail;
 
 /// A storage of one rule a row and one row.
 struct StoreOfOne;
@@ -149,12 +148,6 @@ fn counted<S: UnwindContextStorage<usize>>(alloc: Global) -> Result<Counted> {
     counted_by(alloc, &mut context)
 }
 
-#[test]
-fn remembered_rows_are_counted(rt: HostRuntime) -> std::result::Result<(), Fail> {
-    assert_eq!(rt; counted::<StoreOnHeap>(rt.alloc()), Ok(COUNTED));
-    Ok(())
-}
-
 /// What a context returns for a rule, for a second one, and for a remembered row.
 fn one_and_more<S: UnwindContextStorage<usize>>(
     context: &mut UnwindContext<usize, S>,
@@ -206,10 +199,30 @@ const PAST_ONE: Result<[Result<Option<u64>>; 3]> = Ok([
 
 const PAST_TWO_HUNDRED: Result<(usize, Option<u64>)> = Ok((200, Some(0x1004)));
 
+/// What storages return: one with room for four rows, one of one rule and one row, and one without
+/// a limit.
+type OfStorages = (
+    Result<Counted>,
+    Result<[Result<Option<u64>>; 3]>,
+    Result<(usize, Option<u64>)>,
+);
+
+/// It is generic over the storages, since the check takes longer for each call that names one.
+fn of_storages<A, B, C>(alloc: Global) -> OfStorages
+where
+    A: UnwindContextStorage<usize>,
+    B: UnwindContextStorage<usize>,
+    C: UnwindContextStorage<usize>,
+{
+    (
+        counted::<A>(alloc),
+        past_one::<B>(alloc),
+        past_two_hundred::<C>(alloc),
+    )
+}
+
 #[test]
-fn limits_are_those_of_the_storage(rt: HostRuntime) -> std::result::Result<(), Fail> {
-    let of_one = past_one::<StoreOfOne>(rt.alloc());
-    let of_growing = past_two_hundred::<StoreGrowing>(rt.alloc());
-    assert_eq!(rt; (of_one, of_growing), (PAST_ONE, PAST_TWO_HUNDRED));
-    Ok(())
+fn limits_are_those_of_the_storage(rt: HostRuntime) {
+    let found = of_storages::<StoreOnHeap, StoreOfOne, StoreGrowing>(rt.alloc());
+    assert_eq!(rt; found, (Ok(COUNTED), PAST_ONE, PAST_TWO_HUNDRED));
 }

@@ -4,7 +4,6 @@ use cfi_read_core::{
     BigEndian, EndianSlice, Error, LittleEndian, NarrowSlice, Reader, ReaderAddress,
     ReaderOffsetId, Register, RunTimeEndian,
 };
-use cfi_tests_bytes::ended;
 use std::test::Fail;
 
 /// The value of an unsigned LEB128 number, and the place after it.
@@ -26,11 +25,18 @@ fn place<R: Reader>(reader: &R) -> u64 {
     reader.place().into_u64()
 }
 
-/// What a reader of each kind returns for an unsigned number.
-fn uleb128_of_both(bytes: &[u8]) -> Result<[(Result<u64, Error>, u64); 2], Error> {
+/// The unsigned number, and the signed one.
+type Leb128 = ((Result<u64, Error>, u64), (Result<i64, Error>, u64));
+
+fn leb128<R: Reader>(reader: R) -> Leb128 {
+    (uleb128(reader), sleb128(reader))
+}
+
+/// What a reader of each kind returns for both.
+fn leb128_of_both(bytes: &[u8]) -> Result<[Leb128; 2], Error> {
     Ok([
-        uleb128(EndianSlice::new(bytes, LittleEndian)),
-        uleb128(NarrowSlice::new(bytes, BigEndian)?),
+        leb128(EndianSlice::new(bytes, LittleEndian)),
+        leb128(NarrowSlice::new(bytes, RunTimeEndian::Big)?),
     ])
 }
 
@@ -60,17 +66,10 @@ const UNSIGNED: [(&[u8], (Result<u64, Error>, u64)); 9] = [
 #[test]
 fn unsigned_leb128(rt: HostRuntime) -> Result<(), Fail> {
     for (bytes, read) in &UNSIGNED {
-        assert_eq!(rt; uleb128_of_both(bytes), Ok([*read; 2]));
+        let [(by_wide, _), (by_narrow, _)] = leb128_of_both(bytes)?;
+        assert_eq!(rt; (by_wide, by_narrow), (*read, *read));
     }
     Ok(())
-}
-
-/// What a reader of each kind returns for a signed number.
-fn sleb128_of_both(bytes: &[u8]) -> Result<[(Result<i64, Error>, u64); 2], Error> {
-    Ok([
-        sleb128(EndianSlice::new(bytes, LittleEndian)),
-        sleb128(NarrowSlice::new(bytes, RunTimeEndian::Big)?),
-    ])
 }
 
 /// The same for signed ones.
@@ -96,7 +95,8 @@ const SIGNED: [(&[u8], (Result<i64, Error>, u64)); 10] = [
 #[test]
 fn signed_leb128(rt: HostRuntime) -> Result<(), Fail> {
     for (bytes, read) in &SIGNED {
-        assert_eq!(rt; sleb128_of_both(bytes), Ok([*read; 2]));
+        let [(_, by_wide), (_, by_narrow)] = leb128_of_both(bytes)?;
+        assert_eq!(rt; (by_wide, by_narrow), (*read, *read));
     }
     Ok(())
 }
@@ -147,39 +147,59 @@ fn lengths_and_fixed_widths(rt: HostRuntime) -> Result<(), Fail> {
     Ok(())
 }
 
-/// The error of reading a second text, the place after it, and the error of reading two bytes.
-fn past_the_text<R: Reader<Offset = usize>>(
-    reader: &mut R,
-) -> (Option<Error>, usize, Option<Error>) {
-    let refusal = reader.read_null_terminated_slice().err();
-    (refusal, reader.place(), reader.split(2).err())
+/// The two bytes of a text, and whether it has no more; the place after it, the error of reading
+/// another text, the place after that, and the error of reading two bytes; and whether the reader
+/// is empty after one byte.
+type Texts = (
+    (Result<u8, Error>, Result<u8, Error>, bool),
+    (usize, Option<Error>, usize, Option<Error>),
+    (Result<(), Error>, bool),
+);
+
+fn two_bytes<R: Reader>(reader: R) -> (Result<u8, Error>, Result<u8, Error>, bool) {
+    let mut reader = reader;
+    (reader.read_u8(), reader.read_u8(), reader.is_empty())
 }
 
-#[test]
-fn texts_parts_and_places(rt: HostRuntime) -> Result<(), Fail> {
-    let mut reader = EndianSlice::new(b"zR\x00x", LittleEndian);
+fn texts<R: Reader<Offset = usize>>(reader: R) -> Result<Texts, Error> {
+    let mut reader = reader;
     let text = reader.read_null_terminated_slice()?;
     let behind = reader.place();
-    assert_eq!(rt;
-        (text.slice(), behind, past_the_text(&mut reader)),
-        (b"zR".as_slice(), 3, (Some(ended(3)), 3, Some(ended(3))))
-    );
-    let mut sizes = EndianSlice::new(&[8, 3], LittleEndian);
-    assert_eq!(rt;
-        (
-            (reader.skip(1), reader.is_empty()),
-            (
-                sizes.read_address_size(),
-                sizes.read_address_size(),
-                sizes.place()
-            ),
-        ),
-        (
-            (Ok(()), true),
-            (Ok(8), Err(Error::UnsupportedAddressSize(3)), 2),
-        )
-    );
-    Ok(())
+    let refusal = reader.read_null_terminated_slice().err();
+    let past = (behind, refusal, reader.place(), reader.split(2).err());
+    let skipped = (reader.skip(1), reader.is_empty());
+    Ok((two_bytes(text), past, skipped))
+}
+
+/// A size of addresses, the next one, and the place after it.
+type Sizes = (Result<u8, Error>, Result<u8, Error>, usize);
+
+fn sizes<R: Reader<Offset = usize>>(reader: R) -> Sizes {
+    let mut reader = reader;
+    (
+        reader.read_address_size(),
+        reader.read_address_size(),
+        reader.place(),
+    )
+}
+
+const TEXTS: Texts = (
+    (Ok(b'z'), Ok(b'R'), true),
+    (
+        3,
+        Some(Error::UnexpectedEof(ReaderOffsetId(3))),
+        3,
+        Some(Error::UnexpectedEof(ReaderOffsetId(3))),
+    ),
+    (Ok(()), true),
+);
+
+#[test]
+fn texts_parts_and_places(rt: HostRuntime) {
+    let texts = texts(EndianSlice::new(b"zR\x00x", LittleEndian));
+    let sizes = sizes(EndianSlice::new(&[8, 3], LittleEndian));
+    let refusal = Error::UnsupportedAddressSize(3);
+    assert_eq!(rt; (texts, sizes), (Ok(TEXTS), (Ok(8), Err(refusal), 2)));
 }
 
 #[test]
