@@ -5,6 +5,7 @@ use Rattle.std.proofs.lemmas.Nat.{div-add-mod'}
 use Rattle.std.proofs.Math.ListN.{get_or-eq_default}
 use Rattle.cfi_compiled.specs.declared.step_list.NumberedStep.{NumberedStep}
 use Rattle.cfi_compiled.specs.declared.paged_steps.PagedStep.{PagedStep}
+use Rattle.cfi_compiled.specs.CompiledTables.{EndsWith}
 use Rattle.cfi_compiled.specs.PagedSteps.{IsPaged, IsSplitIn, begin_of, number_of, offset_of, pages_passed, view_of}
 use Rattle.cfi_compiled.specs.SearchedSteps.{IsSplit}
 use Rattle.cfi_compiled.proofs.PagedLists.{passed_up_to, passed_few, passed_at_least, paged_at, paged_length, unpaged}
@@ -13,6 +14,11 @@ other_default : (l : List ℕ) (i d : ℕ) → i < length l → get_or l i d ≡
 other_default [] i d inside = absurd (omega arith)
 other_default (x ∷ l) zero d inside = refl
 other_default (x ∷ l) (suc i) d inside = other_default l i d (omega arith)
+
+-- with no other step the first one is the last
+pub lead_ends : (lead first : ℕ) (ends : List ℕ) (steps : List PagedStep) → length steps ≡ 0 → (number : ℕ) → lead ≡ number → EndsWith number (view_of lead first ends steps).steps
+lead_ends lead first ends [] none number is = (record { start = 0; number = lead }, 0, refl, refl, is)
+lead_ends lead first ends (step ∷ steps) none number is = absurd (omega (arith, none))
 
 module _ (lead first : ℕ) (ends : List ℕ) (steps : List PagedStep) (paged : IsPaged first ends steps) where
   -- ---- where a page begins
@@ -89,6 +95,11 @@ module _ (lead first : ℕ) (ends : List ℕ) (steps : List PagedStep) (paged : 
 
   pub number_after_first : (j : ℕ) (d : NumberedStep) (e : PagedStep) → j < length steps → (get_or all_steps (suc j) d).number ≡ number_of (get_or steps j e)
   number_after_first j d e inside = ap (λ (s : NumberedStep). s.number) (step_after_first j d e inside)
+
+  -- the last step is that with the last index
+  pub last_ends : (i : ℕ) → i + 1 ≡ length steps → (e : PagedStep) (number : ℕ) → number_of (get_or steps i e) ≡ number → EndsWith number all_steps
+  last_ends i last e number is =
+      (unpaged first ends i (get_or steps i e), suc i, omega (arith, how_many, last), step_after_first i (unpaged first ends i (get_or steps i e)) e (omega (arith, last)), is)
 
   start_after_first : (j : ℕ) (d : NumberedStep) (e : PagedStep) → j < length steps → (get_or all_steps (suc j) d).start ≡ (first + pages_passed ends j) * 512 + offset_of (get_or steps j e)
   start_after_first j d e inside = ap (λ (s : NumberedStep). s.start) (step_after_first j d e inside)

@@ -1,8 +1,10 @@
 -- All steps in pages.
-use Rattle.std.proofs.Common.{◌≡◌, ℕ, zero, suc, ◌+◌, ◌/◌, ◌<◌, ◌≤◌, List, [], ◌∷◌, length, take, get_or, refl, arith}
+use Rattle.std.proofs.Common.{◌≡◌, ℕ, zero, suc, ◌+◌, ◌/◌, ◌<◌, ◌≤◌, List, [], ◌∷◌, ◌++◌, length, take, get_or, refl, sym, ap, ◌∙◌, arith}
+use Rattle.std.proofs.lemmas.List.{take_all, take_more}
 use Rattle.cfi_compiled.specs.declared.step_list.NumberedStep.{NumberedStep}
 use Rattle.cfi_compiled.specs.PagedSteps.{PagedView}
 use Rattle.cfi_compiled.specs.SearchedSteps.{Ascend}
+use Rattle.cfi_compiled.proofs.PagedPushes.{longer}
 
 at_least : (steps : List NumberedStep) (low : ℕ) → Ascend low steps → (j : ℕ) (d : NumberedStep) → j < length steps → low ≤ (get_or steps j d).start
 at_least [] low ascend j d inside = absurd (omega arith)
@@ -28,3 +30,17 @@ pub any_default : (steps : List NumberedStep) (i : ℕ) (d e : NumberedStep) →
 any_default [] i d e inside = absurd (omega arith)
 any_default (step ∷ steps) zero d e inside = refl
 any_default (step ∷ steps) (suc i) d e inside = any_default steps i d e (omega arith)
+
+-- while steps are listed one by one
+pub listed_more : (all listed : List NumberedStep) (step : NumberedStep) → listed ≡ take (length listed) all → length listed < length all → ((d : NumberedStep) → get_or all (length listed) d ≡ step)
+    → listed ++ step ∷ [] ≡ take (length (listed ++ step ∷ [])) all
+listed_more all listed step so_far inside at =
+    let long = longer listed step in
+    let many : length listed + 1 ≡ length (listed ++ step ∷ []) = omega (arith, long) in
+    ap (λ (l : List NumberedStep). l ++ step ∷ []) so_far
+    ∙ ap (λ s. take (length listed) all ++ s ∷ []) (sym (at step))
+    ∙ sym (take_more all (length listed) step inside)
+    ∙ ap (λ n. take n all) many
+
+pub all_listed : (all listed : List NumberedStep) → listed ≡ take (length listed) all → length all ≤ length listed → listed ≡ all
+all_listed all listed so_far most = so_far ∙ take_all (length listed) all most

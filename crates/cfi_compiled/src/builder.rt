@@ -3,7 +3,7 @@ ghost use Rattle.std.specs.Prelude.{◌≡◌, ◌≤◌, ◌<◌, ◌+◌, ℕ,
 ghost use Rattle.std.specs.Prelude.{IfOk, IsTrue, OnOk, Result as TheResult};
 ghost use Rattle.gimli_cfi.specs.Words.{Error as TheError, map_ok};
 ghost use Rattle.cfi_compiled.specs.declared.rests.KeptRow.{KeptRow as Kept};
-ghost use Rattle.cfi_compiled.specs.CompiledTables.{EndsWith, IsAdded, IsResultAt, parts_at};
+ghost use Rattle.cfi_compiled.specs.CompiledTables.{IsAdded, IsResultAt, parts_at};
 ghost use Rattle.cfi_compiled.specs.CompiledTables.{parts_numbered, results_of, steps_of};
 ghost use Rattle.cfi_compiled.specs.KeptRows.{IsRestOf, parts_in};
 ghost use Rattle.cfi_compiled.specs.Steps.{IsFrom, SameBelow, free_from};
@@ -28,24 +28,25 @@ pub(crate) struct TableBuilder {
     rows: Vec<Result<KeptRow>>,
     slots: Slots,
     guesses: Guesses,
-    numbers: Vec<NumberedStep>,
+    steps: StepList,
 }
 
 impl Model for TableBuilder {
     ghost use Rattle.cfi_compiled.specs.CompiledTables.{TableContents, IsSound};
+    ghost use Rattle.cfi_compiled.specs.StepLists.{numbered};
 
     ghost Value = { TableContents };
 
     ghost view = { λ table. record {
       lists = table.rests;
       rows = table.rows.items;
-      numbers = table.numbers.items;
+      numbers = numbered table.steps;
     } };
 
     ghost invariant = { λ table. IsSound (record {
       lists = table.rests;
       rows = table.rows.items;
-      numbers = table.numbers.items;
+      numbers = numbered table.steps;
     }) };
 }
 
@@ -64,7 +65,7 @@ impl TableBuilder {
             rows: Vec::new(alloc),
             slots: Slots::new(alloc),
             guesses: Guesses::new(alloc),
-            numbers: Vec::new(alloc),
+            steps: StepList::new(alloc),
         }
     }
 
@@ -76,11 +77,11 @@ impl TableBuilder {
             alloc,
             rests,
             mut rows,
-            numbers,
+            steps,
             ..
         } = self;
         rows.shrink_to_fit();
-        let steps = StepList::of(alloc, numbers)?;
+        let steps = steps.finish(alloc)?;
         Ok(CompiledTable::of(rests.finish(), rows, steps))
     }
 
@@ -155,20 +156,18 @@ impl TableBuilder {
             (IsFrom from (parts_at self.new) (parts_numbered (results_of self.old) number)) }
         ensures free { OnOk result (free_from 0 (steps_of self.new) ≤ from + 1) }
     {
-        if ends_with(self.numbers.as_slice(), number) {
+        if self.steps.ends_with(number) {
             return Ok(());
         }
         self.guesses.learn(number)?;
-        self.numbers.push(NumberedStep {
-            start: from,
-            number,
-        })?;
+        let start = from;
+        self.steps.push(self.alloc, NumberedStep { start, number })?;
         Ok(())
     }
 }
 
 impl StepSink for TableBuilder {
-    ghost use Rattle.cfi_compiled.specs.CompiledTables.{EndsWith, parts_at, steps_of};
+    ghost use Rattle.cfi_compiled.specs.CompiledTables.{parts_at, steps_of};
     ghost use Rattle.cfi_compiled.specs.Steps.{free_from};
 
     ghost answer = { parts_at };
@@ -188,18 +187,6 @@ impl StepSink for TableBuilder {
         let number = self.number_of(Err(error))?;
         self.push(from, number)
     }
-}
-
-/// Whether the last step has this number.
-#[inline(always)]
-fn ends_with(steps: &[NumberedStep], number: usize) -> bool
-    ensures { IsTrue result → EndsWith number steps.now }
-{
-    if steps.is_empty() {
-        return false;
-    }
-    let last = steps[steps.len() - 1];
-    last.number == number
 }
 
 /// The number of a result: that of an equal one, else a new number, with which it is added. Of

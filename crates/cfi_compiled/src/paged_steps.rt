@@ -1,6 +1,7 @@
 //! Steps of three bytes each.
 ghost use Rattle.std.specs.Prelude.{◌≡◌, ◌≤◌, ◌<◌, ◌+◌, ◌/◌, ◌^◌, ◌∷◌, ◌++◌, [], length};
-ghost use Rattle.std.specs.Prelude.{IfOk, IfSome, OnOk};
+ghost use Rattle.std.specs.Prelude.{IfErr, IfOk, IfSome, IsTrue, OnOk};
+ghost use Rattle.cfi_compiled.specs.CompiledTables.{EndsWith};
 ghost use Rattle.cfi_compiled.specs.PagedSteps.{IsSplitIn, Rising, begin_of, number_of};
 ghost use Rattle.cfi_compiled.specs.PagedSteps.{offset_of, pages_passed};
 ghost use Rattle.cfi_compiled.specs.SearchedSteps.{Ascend, IsNumberAt, IsSplit, IsStepAt};
@@ -15,6 +16,10 @@ const PAGE: u64 = 512;
 
 /// How many numbers 15 bits tell apart.
 const NUMBERS: usize = 32768;
+
+/// How many steps are counted beyond those there are, when pages are compared with steps while a
+/// table is made: the first steps may lie far apart.
+const SPARE_STEPS: u64 = 16;
 
 /// A step, in three bytes: its distance from the beginning of its page in the lower 9 bits, and its
 /// number in the others.
@@ -128,14 +133,35 @@ impl PagedSteps {
         })
     }
 
+    /// Whether one more step may be pushed: its number has at most 15 bits, its page is that of the
+    /// last step or a later one, and there are not many more than three pages a step then.
+    #[inline(always)]
+    pub(crate) fn takes(&self, start: u64, number: usize) -> bool
+        ensures page { IsTrue result → self.now.page ≤ start / 512 }
+        ensures room { IsTrue result → length self.now.steps < 2 ^ 32 }
+        ensures number { IsTrue result → number < 32768 }
+    {
+        let count = self.steps.len();
+        if number >= NUMBERS || count >= u32::MAX as usize {
+            return false;
+        }
+        let page = start / PAGE;
+        if page < self.first + self.ends.len() as u64 {
+            return false;
+        }
+        (page - self.first) / 3 <= count as u64 + SPARE_STEPS
+    }
+
     /// One more step, in the page of the last one or a later one.
-    fn push(&mut self, start: u64, number: usize) -> Result<(), NoMemory>
+    #[inline(always)]
+    pub(crate) fn push(&mut self, start: u64, number: usize) -> Result<(), NoMemory>
         requires page { self.old.page ≤ start / 512 }
         requires room { length self.old.steps < 2 ^ 32 }
         requires number { number < 32768 }
         ensures page { OnOk result (self.new.page ≡ start / 512) }
         ensures steps { OnOk result (self.new.steps
             ≡ self.old.steps ++ record { start = start; number = number } ∷ []) }
+        ensures kept { IfErr result (λ _. self.new.steps ≡ self.old.steps) }
     {
         let pages = start / PAGE - self.first;
         let count = self.steps.len() as u32;
@@ -144,6 +170,38 @@ impl PagedSteps {
         }
         self.steps.push(PagedStep::of(start % PAGE, number))?;
         Ok(())
+    }
+
+    /// Whether the last step has this number.
+    #[inline(always)]
+    pub(crate) fn ends_with(&self, number: usize) -> bool
+        ensures { IsTrue result → EndsWith number self.now.steps }
+    {
+        let count = self.steps.len();
+        if count == 0 {
+            return self.lead == number;
+        }
+        let last = self.steps[count - 1];
+        last.number() == number
+    }
+
+    /// The steps in a list.
+    pub(crate) fn to_list(&self, alloc: Global) -> Result<Vec<NumberedStep>, NoMemory>
+        ensures { IfOk result (λ list. list.items ≡ self.now.steps) }
+    {
+        let mut list = Vec::new(alloc);
+        while let Some(step) = self.get(list.len()) {
+            list.push(step)?;
+        }
+        Ok(list)
+    }
+
+    /// Frees what the lists have in reserve.
+    pub(crate) fn shrink(&mut self)
+        ensures { self.new ≡ self.old }
+    {
+        self.ends.shrink_to_fit();
+        self.steps.shrink_to_fit();
     }
 
     /// The number of the last step at or below an address.

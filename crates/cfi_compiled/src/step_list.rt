@@ -1,5 +1,6 @@
 //! The steps of a table: in pages where they fit in these, else one by one.
-ghost use Rattle.std.specs.Prelude.{◌≡◌, ◌<◌, ◌+◌, ◌^◌, length, IfOk, IfSome};
+ghost use Rattle.std.specs.Prelude.{◌≡◌, ◌<◌, ◌+◌, ◌^◌, length, IfOk, IfSome, IsTrue};
+ghost use Rattle.cfi_compiled.specs.CompiledTables.{EndsWith};
 ghost use Rattle.cfi_compiled.specs.SearchedSteps.{Ascend, IsNumberAt, IsSplit, IsStepAt};
 
 use crate::paged_steps::PagedSteps;
@@ -21,12 +22,86 @@ pub(crate) enum StepList {
 }
 
 impl StepList {
-    ghost use Rattle.std.specs.Prelude.{◌≡◌, ◌<◌, ◌+◌, ◌^◌, length, IfOk, IfSome};
+    ghost use Rattle.std.specs.Prelude.{◌≡◌, ◌<◌, ◌+◌, ◌^◌, ◌∷◌, ◌++◌, [], length};
+    ghost use Rattle.std.specs.Prelude.{IfOk, IfSome, IsTrue, OnOk};
+    ghost use Rattle.cfi_compiled.specs.CompiledTables.{EndsWith, IsAdded};
     ghost use Rattle.cfi_compiled.specs.SearchedSteps.{Ascend, IsNumberAt, IsStepAt};
     ghost use Rattle.cfi_compiled.specs.StepLists.{numbered};
 
+    /// No step yet.
+    pub(crate) fn new(alloc: Global) -> StepList
+        ensures { numbered result ≡ [] }
+    {
+        StepList::Wide(Vec::new(alloc))
+    }
+
+    /// Whether the last step has this number.
+    #[inline(always)]
+    pub(crate) fn ends_with(&self, number: usize) -> bool
+        ensures { IsTrue result → EndsWith number (numbered self.now) }
+    {
+        match self {
+            StepList::Wide(steps) => ends_with(steps.as_slice(), number),
+            StepList::Paged(paged) => paged.ends_with(number),
+        }
+    }
+
+    /// One more step, above the others. Steps are put in pages as soon as there are two, and one by
+    /// one from the first on that doesn't fit in these.
+    #[inline(always)]
+    pub(crate) fn push(&mut self, alloc: Global, step: NumberedStep) -> Result<(), NoMemory>
+        requires { Ascend 0 (numbered self.old ++ step ∷ []) }
+        ensures pushed { OnOk result (numbered self.new ≡ numbered self.old ++ step ∷ []) }
+        ensures added { IsAdded step (numbered self.old) (numbered self.new) }
+    {
+        if let StepList::Paged(paged) = self {
+            if paged.takes(step.start, step.number) {
+                return paged.push(step.start, step.number);
+            }
+        }
+        self.push_apart(alloc, step)
+    }
+
+    /// One more step, which doesn't fit in the pages, or where there are none yet.
+    fn push_apart(&mut self, alloc: Global, step: NumberedStep) -> Result<(), NoMemory>
+        requires { Ascend 0 (numbered self.old ++ step ∷ []) }
+        ensures pushed { OnOk result (numbered self.new ≡ numbered self.old ++ step ∷ []) }
+        ensures added { IsAdded step (numbered self.old) (numbered self.new) }
+    {
+        match self {
+            StepList::Paged(paged) => {
+                let mut steps = paged.to_list(alloc)?;
+                steps.push(step)?;
+                *self = StepList::Wide(steps);
+            }
+            StepList::Wide(steps) => {
+                steps.push(step)?;
+                if steps.len() == 2 {
+                    if let Some(paged) = PagedSteps::of(alloc, steps.as_slice())? {
+                        *self = StepList::Paged(paged);
+                    }
+                }
+            }
+        }
+        Ok(())
+    }
+
+    /// The steps in as little memory as they need: in pages if all fit.
+    pub(crate) fn finish(self, alloc: Global) -> Result<StepList, NoMemory>
+        requires { Ascend 0 (numbered self) }
+        ensures { IfOk result (λ list. numbered list ≡ numbered self) }
+    {
+        match self {
+            StepList::Wide(steps) => StepList::of(alloc, steps),
+            StepList::Paged(mut paged) => {
+                paged.shrink();
+                Ok(StepList::Paged(paged))
+            }
+        }
+    }
+
     /// These steps, in pages if they fit.
-    pub(crate) fn of(alloc: Global, steps: Vec<NumberedStep>) -> Result<StepList, NoMemory>
+    fn of(alloc: Global, steps: Vec<NumberedStep>) -> Result<StepList, NoMemory>
         requires { Ascend 0 steps.items }
         ensures { IfOk result (λ list. numbered list ≡ steps.items) }
     {
@@ -67,6 +142,18 @@ impl StepList {
             StepList::Paged(paged) => paged.get(index),
         }
     }
+}
+
+/// Whether the last step has this number.
+#[inline(always)]
+fn ends_with(steps: &[NumberedStep], number: usize) -> bool
+    ensures { IsTrue result → EndsWith number steps.now }
+{
+    if steps.is_empty() {
+        return false;
+    }
+    let last = steps[steps.len() - 1];
+    last.number == number
 }
 
 fn step_at(steps: &[NumberedStep], index: usize) -> Option<NumberedStep>
