@@ -1,4 +1,4 @@
-use Rattle.std.proofs.Common.{◌≡◌, ◌+◌, ◌-◌, ◌*◌, ◌<◌, suc, length, get_or, sym, ap, ◌∙◌, arith}
+use Rattle.std.proofs.Common.{◌≡◌, ◌+◌, ◌-◌, ◌*◌, ◌<◌, ◌≤◌, suc, length, get_or, sym, ap, ◌∙◌, arith}
 use Rattle.cfi_compiled.specs.declared.paged_steps.PagedStep.{PagedStep}
 use Rattle.cfi_compiled.specs.PagedSteps.{PagedView, number_of, offset_of, view_of}
 use Rattle.cfi_compiled.proofs.PagedLists.{passed_few, unpaged}
@@ -13,21 +13,21 @@ returns-then-index-len-clause-step c =
 
 pub overflow_add-page : goal.overflow_add-page
 overflow_add-page c =
-    let few = passed_few c.as_slice.result.now (c.args.index - 1) in
-    omega (arith, few, c.pages_passed.ensures, c.as_slice.ensures.len, c.self.inside.ends.ok.0, c.self.invariant.below)
+    let few : c.pages_passed.result ≤ length c.as_slice.result.now = rw c.pages_passed.ensures (passed_few _ _) in
+    omega (arith, few, c.as_slice.ensures.len, c.self.inside.ends.ok.0, c.self.invariant.below)
 
 pub overflow_mul-result : goal.overflow_mul-result
 overflow_mul-result c =
-    let few = passed_few c.as_slice.result.now (c.args.index - 1) in
-    omega (arith, few, c.pages_passed.ensures, c.as_slice.ensures.len, c.self.inside.ends.ok.0, c.self.invariant.below)
+    let few : c.pages_passed.result ≤ length c.as_slice.result.now = rw c.pages_passed.ensures (passed_few _ _) in
+    omega (arith, few, c.as_slice.ensures.len, c.self.inside.ends.ok.0, c.self.invariant.below)
 
 pub overflow_add-result : goal.overflow_add-result
 overflow_add-result c =
-    let few = passed_few c.as_slice.result.now (c.args.index - 1) in
+    let few : c.pages_passed.result ≤ length c.as_slice.result.now = rw c.pages_passed.ensures (passed_few _ _) in
     let inside : c.args.index - 1 < length c.self.inside.steps.items = omega (arith, c.if-index-eq0.false, c.if-index-len.false, c.len.ensures, c.self.inside.steps.ok.0) in
     let less = c.self.invariant.offsets (c.args.index - 1) c.index-step.result.now inside in
     let offset = ap (λ (s : PagedStep). offset_of s) c.index-step.ensures in
-    omega (arith, few, c.pages_passed.ensures, c.as_slice.ensures.len, c.self.inside.ends.ok.0, c.self.invariant.below, less, offset, c.from.ensures, c.offset.ensures)
+    omega (arith, few, c.as_slice.ensures.len, c.self.inside.ends.ok.0, c.self.invariant.below, less, offset, c.from.ensures, c.offset.ensures)
 
 pub returns-clause-step : goal.returns-clause-step
 returns-clause-step c =
