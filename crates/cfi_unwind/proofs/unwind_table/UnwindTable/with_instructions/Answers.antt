@@ -10,3 +10,6 @@ returns-in_err-run_initial-clause-kept g c =
 
 pub returns-clause-kept : goal.returns-clause-kept
 returns-clause-kept g c = keeps-program _ _ _ (Ok _) c.in_ok-run_initial.ensures
+
+pub run_initial-requires : goal.run_initial-requires
+run_initial-requires g c = record { empty = assumption }

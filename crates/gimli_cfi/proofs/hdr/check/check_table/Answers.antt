@@ -25,6 +25,12 @@ returns-clause-faithful g c =
     if_ok c.check_fdes.result (λ done listed. (c.in_ok-eh_frame.eh_frame, at, faithful l.header l.table c.in_ok-eh_frame.eh_frame l.section rising listed (some_of (value_size l.table.encoding) c.in_ok-size.size _ (sym c.in_ok-size.ensures.given ∙ c.searchable_size.ensures))))
     c.check_fdes.ensures.listed
 
+pub returns-clause-reason : goal.returns-clause-reason
+returns-clause-reason g c =
+    let l = listing_view g.R.Reader.position c.args.table.now c.args.frame.now c.args.bases.now in
+    let at : l.eh_frame ≡ Direct c.in_ok-eh_frame.eh_frame = direct_at l.eh_frame c.in_ok-eh_frame.eh_frame (sym c.in_ok-eh_frame.ensures.given ∙ c.direct.ensures) in
+    if_err c.check_fdes.result (λ reason why. reason_of_fdes l c.in_ok-eh_frame.eh_frame reason at why) c.check_fdes.ensures.reason
+
 pub returns-clause-unfaithful : goal.returns-clause-unfaithful
 returns-clause-unfaithful g c =
     let l = listing_view g.R.Reader.position c.args.table.now c.args.frame.now c.args.bases.now in

@@ -1,4 +1,4 @@
-use Rattle.std.proofs.Common.{◌≡◌, ◌+◌, ◌-◌, Err, arith, rules}
+use Rattle.std.proofs.Common.{◌≡◌, ◌+◌, ◌-◌, Err, arith, refl, rules}
 use Rattle.cfi_entry.proofs.Within.{behind_of}
 use Rattle.gimli_cfi.proofs.HeaderReads.{onward_row}
 use Rattle.gimli_cfi.proofs.RowWalk.{none_left, first_left}
@@ -32,3 +32,6 @@ returns-clause-met g c =
     let read = c.in_ok-found.ensures in
     let lower : c.args.self.now.remain ≡ (c.args.self.now.remain - 1) + 1 = omega arith in
     (lower, first_left section _ stands behind _ read.0 _ _ lower read.1)
+
+pub returns-in_err-found-clause-after : goal.returns-in_err-found-clause-after
+returns-in_err-found-clause-after g c = refl

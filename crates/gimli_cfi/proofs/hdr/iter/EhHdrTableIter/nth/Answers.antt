@@ -35,3 +35,6 @@ returns-clause-unchanged g c = λ e refused.
     not_refused _ _ e
     (past_given (walk_view g.R.Reader.position c.args.self.now) c.args.n _ _ (sym c.in_ok-size.ensures) _ (g.R.Reader.position c.pass_rows.new.input) c.if-self-rows.false passed.0 passed.1)
     refused
+
+pub returns-in_err-pass_rows-clause-unchanged : goal.returns-in_err-pass_rows-clause-unchanged
+returns-in_err-pass_rows-clause-unchanged g c = λ e refused. refl
