@@ -1,3 +1,4 @@
+pub mod Cases
 pub mod Chains
 pub mod EntrySteps
 pub mod Laws

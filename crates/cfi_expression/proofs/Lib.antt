@@ -1,3 +1,4 @@
+pub mod Cases
 pub mod Shifts
 pub mod Running
 pub mod Worked

@@ -1,12 +1,12 @@
 -- A list that loses an item, and one that gets an item in its midst.
-use Rattle.std.specs.Result.{OnOk, is_ok}
+use Rattle.std.specs.Result.{OnOk, is_ok, IsOk}
 use Rattle.std.proofs.Common.{Result, Ok, Err, ◌≡◌, ℕ, ◌<◌, Option, Some, None, List, [], ◌∷◌, ◌++◌, length, get_or, take, drop, suc, ◌≤◌, ◌+◌, ◌-◌, refl, sym, ap, ◌∙◌, arith}
 use Rattle.std.proofs.Math.ListN.{drop_of_length-le}
 use Rattle.std.proofs.Math.Numerals.{add-one}
 use Rattle.std.proofs.lemmas.List.{length-append, length-drop, length-take-le, drop_more, take_more, append_assoc, same_from_push}
 use Rattle.std.proofs.lemmas.List.Edits.{length-remove, paste_all, swap_is}
 use Rattle.std.specs.List.{remove, copy_within, insert, swap}
-use Rattle.std.specs.Option.{IfSome, IfNone}
+use Rattle.std.specs.Option.{IfSome, IfNone, option_to_list}
 
 -- the items up to the last, which is popped off what was written back
 pub popped : {A : Type 0} (items : List A) (place : ℕ) (last_of : A → A) (written held rest : List A) (o : Option A) → place < length items
@@ -74,3 +74,13 @@ pub as_accepted : {X Y E F : Type 0} (call : Result X E) (answer : Result Y F) (
 as_accepted (Ok x) (Ok y) P same holds = holds
 as_accepted (Err e) (Ok y) P same holds = absurd (cc)
 as_accepted call (Err e) P same holds = tt
+
+-- an item that was taken is the last of those before
+pub last_taken : {A : Type 0} (taken : Option A) (before after : List A) → before ≡ after ++ option_to_list taken → IfSome taken (λ item. before ≡ after ++ item ∷ [])
+last_taken (Some item) before after is = is
+last_taken None before after is = tt
+
+-- what holds of an accepted call
+pub of_ok : {X E : Type 0} (call : Result X E) (P : Type 0) → IsOk call → OnOk call P → P
+of_ok (Ok x) P ok holds = holds
+of_ok (Err e) P ok holds = absurd (cc)

@@ -1,4 +1,5 @@
-use Rattle.std.proofs.Common.{◌∙◌, refl, sym, arith}
+use Rattle.std.proofs.Common.{◌∙◌, refl, sym, ap, arith}
+use Rattle.cfi_read_core.specs.ReadFunctions.{Position, Source}
 use Rattle.cfi_parts.specs.ReadingParameters.{instruction_context}
 use Rattle.cfi_parts.proofs.ExpressionPlaces.{read_in}
 use Rattle.cfi_parts.proofs.Walk.{one_read, further, fewer_left, refused, at_end, at_exhausted}
@@ -35,3 +36,8 @@ returns-in-Err-clause-visits g c =
     let read = c.in-Err.ensures in
     let context = instruction_context g.R.Reader.position c.args.parameters.now in
     ((refused context (g.R.Reader.position c.args.input.now) _ _ some_left read.0.0, at_exhausted context (g.R.Reader.position c.visit_instruction.new.input) _ c.empty.ensures), read.1)
+
+pub returns-in-Err-clause-behind : goal.returns-in-Err-clause-behind
+returns-in-Err-clause-behind g c =
+    let sound = g.met.R.Reader.sound c.args.input.now in
+    omega (arith, c.requires, sound.ordered, ap (λ (p : Position). p.place) c.empty.ensures, ap (λ (s : Source). s.last) c.in-Err.ensures.0.1)
