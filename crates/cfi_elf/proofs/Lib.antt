@@ -1,5 +1,7 @@
 pub mod Chains
+mod Contents
 pub mod EntrySteps
+mod FileKinds
 pub mod Laws
 pub mod NameSteps
 mod Worked
