@@ -1,7 +1,6 @@
 -- The bytes of a section, by its type and its flags.
-use Rattle.std.proofs.Common.{◌≡◌, ℕ, List, Result, Err, refl, ne_eqb}
+use Rattle.std.proofs.Common.{◌≡◌, Err, refl, ne_eqb}
 use Rattle.std.specs.Prelude.{bit_and}
-use Rattle.cfi_elf.specs.declared.error.ElfError.{ElfError}
 use Rattle.cfi_elf.specs.declared.error.ElfError.TheVariants.{SectionOutOfBounds, Compressed}
 use Rattle.cfi_elf.specs.declared.section_header.SectionHeader.{SectionHeader}
 use Rattle.cfi_elf.specs.ElfFiles.{File}
