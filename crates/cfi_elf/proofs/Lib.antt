@@ -1,6 +1,8 @@
 pub mod Cases
 pub mod Chains
+mod Contents
 pub mod EntrySteps
+mod FileKinds
 pub mod Laws
 pub mod NameSteps
 mod Worked

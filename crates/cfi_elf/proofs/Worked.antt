@@ -1,5 +1,5 @@
 -- A file of 32 bits, the most significant byte first, by computation; headers and symbols of 64 bits.
-use Rattle.std.proofs.Common.{◌≡◌, ℕ, ◌+◌, ◌-◌, ◌*◌, List, [], ◌∷◌, codes, false, Option, Some, None, Result, Ok, Err, refl}
+use Rattle.std.proofs.Common.{◌≡◌, ℕ, ◌+◌, ◌-◌, ◌*◌, List, [], ◌∷◌, codes, false, Option, Some, None, Result, Ok, Err, refl, ap, ◌∙◌}
 use Rattle.std.specs.Prelude.{nat_lt, if◌then◌else◌, take}
 use Rattle.cfi_read_core.specs.declared.endianity.RunTimeEndian.TheVariants.{Big}
 use Rattle.cfi_read_core.specs.Numbers.{unsigned}
@@ -36,9 +36,46 @@ header_bytes = bytes_behind None (codes "7f454c460102010000000000000000000002000
 abbrev worked : List ℕ
 worked = bytes_behind None (codes "7f454c460102010000000000000000000002000800000001000010540000003400000066000000000034002000010028000300020000000100000054000010540000105400000004000000080000000500000001909192c3002e74657874002e6e616d657300000000000000000000000000000000000000000000000000000000000000000000000001000000000000000100000001000000060000105400000054000000040000000000000000000000010000000000000007000000030000000000000000000000580000000e00000000000000000000000100000000")
 
+-- the same bytes one by one, and the file of them, so that each case begins with these
+abbrev worked_bytes : List ℕ
+worked_bytes =
+    0x7f ∷ 0x45 ∷ 0x4c ∷ 0x46 ∷ 1 ∷ 2 ∷ 1 ∷ 0 ∷ 0 ∷ 0 ∷ 0 ∷ 0 ∷ 0 ∷ 0 ∷ 0 ∷ 0 ∷ 0 ∷ 2 ∷ 0 ∷ 8 ∷
+    0 ∷ 0 ∷ 0 ∷ 1 ∷ 0 ∷ 0 ∷ 0x10 ∷ 0x54 ∷ 0 ∷ 0 ∷ 0 ∷ 0x34 ∷ 0 ∷ 0 ∷ 0 ∷ 0x66 ∷ 0 ∷ 0 ∷ 0 ∷ 0 ∷
+    0 ∷ 0x34 ∷ 0 ∷ 0x20 ∷ 0 ∷ 1 ∷ 0 ∷ 0x28 ∷ 0 ∷ 3 ∷ 0 ∷ 2 ∷ 0 ∷ 0 ∷ 0 ∷ 1 ∷ 0 ∷ 0 ∷ 0 ∷ 0x54 ∷
+    0 ∷ 0 ∷ 0x10 ∷ 0x54 ∷ 0 ∷ 0 ∷ 0x10 ∷ 0x54 ∷ 0 ∷ 0 ∷ 0 ∷ 4 ∷ 0 ∷ 0 ∷ 0 ∷ 8 ∷ 0 ∷ 0 ∷ 0 ∷ 5 ∷
+    0 ∷ 0 ∷ 0 ∷ 1 ∷ 0x90 ∷ 0x91 ∷ 0x92 ∷ 0xc3 ∷ 0 ∷ 0x2e ∷ 0x74 ∷ 0x65 ∷ 0x78 ∷ 0x74 ∷ 0 ∷ 0x2e ∷ 0x6e ∷ 0x61 ∷ 0x6d ∷ 0x65 ∷
+    0x73 ∷ 0 ∷ 0 ∷ 0 ∷ 0 ∷ 0 ∷ 0 ∷ 0 ∷ 0 ∷ 0 ∷ 0 ∷ 0 ∷ 0 ∷ 0 ∷ 0 ∷ 0 ∷ 0 ∷ 0 ∷ 0 ∷ 0 ∷
+    0 ∷ 0 ∷ 0 ∷ 0 ∷ 0 ∷ 0 ∷ 0 ∷ 0 ∷ 0 ∷ 0 ∷ 0 ∷ 0 ∷ 0 ∷ 0 ∷ 0 ∷ 0 ∷ 0 ∷ 1 ∷ 0 ∷ 0 ∷
+    0 ∷ 0 ∷ 0 ∷ 0 ∷ 0 ∷ 1 ∷ 0 ∷ 0 ∷ 0 ∷ 1 ∷ 0 ∷ 0 ∷ 0 ∷ 6 ∷ 0 ∷ 0 ∷ 0x10 ∷ 0x54 ∷ 0 ∷ 0 ∷
+    0 ∷ 0x54 ∷ 0 ∷ 0 ∷ 0 ∷ 4 ∷ 0 ∷ 0 ∷ 0 ∷ 0 ∷ 0 ∷ 0 ∷ 0 ∷ 0 ∷ 0 ∷ 0 ∷ 0 ∷ 1 ∷ 0 ∷ 0 ∷
+    0 ∷ 0 ∷ 0 ∷ 0 ∷ 0 ∷ 7 ∷ 0 ∷ 0 ∷ 0 ∷ 3 ∷ 0 ∷ 0 ∷ 0 ∷ 0 ∷ 0 ∷ 0 ∷ 0 ∷ 0 ∷ 0 ∷ 0 ∷
+    0 ∷ 0x58 ∷ 0 ∷ 0 ∷ 0 ∷ 0xe ∷ 0 ∷ 0 ∷ 0 ∷ 0 ∷ 0 ∷ 0 ∷ 0 ∷ 0 ∷ 0 ∷ 0 ∷ 0 ∷ 1 ∷ 0 ∷ 0 ∷
+    0 ∷ 0 ∷ []
+
+same_bytes : worked ≡ worked_bytes
+same_bytes = refl
+
+abbrev worked_file : File
+worked_file = record {
+  bytes = worked_bytes;
+  identification = record { class = Elf32; «data» = Big };
+  header = record {
+    kind = record { e_type = 2; e_machine = 8; e_version = 1 };
+    offsets = record { e_phoff = 52; e_shoff = 102 };
+    sizes = record { e_phentsize = 32; e_phnum = 1; e_shentsize = 40; e_shnum = 3; e_shstrndx = 2 };
+  };
+}
+
+is_file : elf_file worked_bytes ≡ Ok worked_file
+unfolding computing
+is_file = refl
+
 -- what a definition says of the file
 abbrev of_worked : {A : Type 0} → (File → Result A ElfError) → Result A ElfError
 of_worked f = and_then (elf_file worked) f
+
+says : {A : Type 0} (f : File → Result A ElfError) → of_worked f ≡ f worked_file
+says f = ap (λ (bytes : List ℕ). and_then (elf_file bytes) f) same_bytes ∙ ap (λ (r : Result File ElfError). and_then r f) is_file
 
 its_header : of_worked (λ file. Ok file.header) ≡ Ok (record {
   kind = record { e_type = 2; e_machine = 8; e_version = 1 };
@@ -46,32 +83,32 @@ its_header : of_worked (λ file. Ok file.header) ≡ Ok (record {
   sizes = record { e_phentsize = 32; e_phnum = 1; e_shentsize = 40; e_shnum = 3; e_shstrndx = 2 };
 })
 unfolding computing
-its_header = refl
+its_header = says (λ file. Ok file.header) ∙ refl
 
 its_identification : of_worked (λ file. Ok file.identification) ≡ Ok (record { class = Elf32; «data» = Big })
 unfolding computing
-its_identification = refl
+its_identification = says (λ file. Ok file.identification) ∙ refl
 
 its_text : of_worked (λ file. section_named file (codes ".text")) ≡ Ok (Some (record { address = 0x1054; bytes = 0x90 ∷ 0x91 ∷ 0x92 ∷ 0xc3 ∷ [] }))
 unfolding computing
-its_text = refl
+its_text = says (λ file. section_named file (codes ".text")) ∙ refl
 
 no_beginning_of_a_name : of_worked (λ file. section_named file (codes ".tex")) ≡ Ok None
 unfolding computing
-no_beginning_of_a_name = refl
+no_beginning_of_a_name = says (λ file. section_named file (codes ".tex")) ∙ refl
 
 loaded_in_the_middle : of_worked (λ file. loaded_bytes file 0x1056) ≡ Ok (Some (0x92 ∷ 0xc3 ∷ []))
 unfolding computing
-loaded_in_the_middle = refl
+loaded_in_the_middle = says (λ file. loaded_bytes file 0x1056) ∙ refl
 
 -- the segment has eight bytes in memory, and four in the file
 not_in_the_file : of_worked (λ file. loaded_bytes file 0x1058) ≡ Ok None
 unfolding computing
-not_in_the_file = refl
+not_in_the_file = says (λ file. loaded_bytes file 0x1058) ∙ refl
 
 no_header_segment : of_worked eh_frame_hdr_segment ≡ Ok None
 unfolding computing
-no_header_segment = refl
+no_header_segment = says eh_frame_hdr_segment ∙ refl
 
 -- ---- cut, and changed
 

@@ -1,9 +1,10 @@
 -- The bytes of an expression that lies in a section are there.
-use Rattle.std.proofs.Common.{◌≡◌, ◌≤◌, ◌+◌, ◌-◌, ℕ, Bool, true, false, Ok, Err, refl, ap, ◌∙◌, subst, arith}
+use Rattle.std.proofs.Common.{◌≡◌, ◌≤◌, ◌+◌, ◌-◌, ℕ, Bool, true, false, Ok, Err, Result, refl, sym, ap, ◌∙◌, subst, arith}
 use Rattle.std.specs.Prelude.{nat_le, if◌then◌else◌}
 use borrow.Author.Tests.{leb-true, le-leb}
-use Rattle.cfi_read_core.specs.ReadFunctions.{Source, Position, Extent, Outcome, carry_on, split, give, unexpected_eof}
-use Rattle.cfi_read_core.specs.ReaderCalls.{IsPartOf, extent_of}
+use Rattle.cfi_read_core.specs.ReadFunctions.{Source, Position, Extent, Outcome, carry_on, skip, split, give, unexpected_eof}
+use Rattle.cfi_read_core.specs.declared.error.Error.{Error}
+use Rattle.cfi_read_core.specs.ReaderCalls.{IsPartOf, Reads, extent_of, read_at}
 use Rattle.cfi_read_core.specs.declared.instruction.UnwindExpression.{UnwindExpression}
 use Rattle.cfi_read_core.specs.CallFrameSections.{IsOf}
 use Rattle.cfi_read_core.specs.ExpressionPlaces.{LiesIn, place_in, expression_bytes}
@@ -17,6 +18,26 @@ bytes_at e source first h k =
     let skipped : nat_le e.offset (source.last - first) ≡ true = le-leb _ _ h in
     let there : nat_le e.length (source.last - (first + e.offset)) ≡ true = le-leb _ _ k in
     rw (skipped, there) refl
+
+-- what a reader that stands as a section gives
+pub bytes_read : {there section : Position} (e : UnwindExpression ℕ) {answer : Result Extent Error} {after : ℕ} → there ≡ section → expression_bytes e there.source there.place ≡ record { value = answer; place = after } → answer ≡ read_at section (expression_bytes e)
+bytes_read e same is = sym (ap (λ (o : Outcome Extent). o.value) is) ∙ ap (λ (s : Position). (expression_bytes e s.source s.place).value) same
+
+pub skip_refused : (e : UnwindExpression ℕ) (old new : Position) (error : Error) → Reads (λ (x : Unit). x) (skip e.offset) old (Err error) new →
+    (expression_bytes e old.source old.place ≡ record { value = Err error; place = new.place }) × (new.source ≡ old.source)
+unfolding expression_bytes
+skip_refused e old new error read = (ap (λ (o : Outcome Unit). carry_on (λ (x : Unit). split e.length) old.source o.value o.place) read.0, read.1)
+
+pub skip_passed : (e : UnwindExpression ℕ) (old mid new : Position) (answer : Result Extent Error) → Reads (λ (x : Unit). x) (skip e.offset) old (Ok tt) mid →
+    (split e.length mid.source mid.place ≡ record { value = answer; place = new.place }) × (new.source ≡ mid.source) →
+    (expression_bytes e old.source old.place ≡ record { value = answer; place = new.place }) × (new.source ≡ old.source)
+unfolding expression_bytes
+skip_passed e old mid new answer first second = (
+  ap (λ (o : Outcome Unit). carry_on (λ (x : Unit). split e.length) old.source o.value o.place) first.0
+      ∙ ap (λ (s : Source). split e.length s mid.place) (sym first.1)
+      ∙ second.0,
+  second.1 ∙ first.1,
+)
 
 -- a reader that stands as a section in which the bytes lie
 pub bytes_are_there : {there section : Position} (e : UnwindExpression ℕ) → there ≡ section → LiesIn section e → (expression_bytes e there.source there.place).value ≡ Ok (place_in section e)

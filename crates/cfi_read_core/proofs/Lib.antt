@@ -7,3 +7,4 @@ mod Stretches
 pub mod Texts
 pub mod SignedLeb128
 mod ExpressionBytes
+pub mod ReadNumbers
