@@ -1,4 +1,4 @@
-use Rattle.std.proofs.Common.{◌≡◌, ◌∙◌, Err, rules, sym}
+use Rattle.std.proofs.Common.{◌≡◌, ◌∙◌, Err, rules, refl, sym}
 use Rattle.cfi_expression.specs.Frames.{frame_view}
 use Rattle.cfi_expression.proofs.Running.{all_done, none_left, one_done, one_failed}
 use Rattle.cfi_expression.proofs.evaluation.run.Goals as goal
@@ -25,3 +25,6 @@ pub returns : goal.returns
 returns g c =
     all_done (frame_view g.M.Memory.number_at c.args.frame.now) (g.R.Reader.position c.args.expression.now) (g.R.Reader.position c.loop-input.input) c.loop-input.invariant.0
     c.loop-input.left c.loop-input.stack _ c.loop-input.invariant.1 c.pop.result c.pop.new.self (sym c.is_empty.ensures ∙ c.loop-input-test.false) c.pop.ensures
+
+pub loop-input-init : goal.loop-input-init
+loop-input-init g c = (refl, refl)
