@@ -9,7 +9,6 @@ use gimli_cfi::{
     UnwindContextStorage, UnwindSection,
 };
 use std::process::Abort;
-use std::test::Fail;
 
 /// A CIE of `.debug_frame`; FDEs at 20 and 44 for 0x1000 and 0x2000, of 0x20 addresses each; at 68
 /// an FDE that ends after its first address.
@@ -299,8 +298,8 @@ const SCANS: [(usize, u64, bool, Found, u32); 6] = [
     (84, 0x2008, true, Err(Error::UnknownAugmentation), 1),
 ];
 
-/// Checks those results with one context.
-fn check_scans<S: UnwindContextStorage<usize>>(
+/// Checks those results.
+pub(crate) fn a_scan_asks_once_an_fde<S: UnwindContextStorage<usize>>(
     rt: &impl Abort,
     context: &mut UnwindContext<usize, S>,
 ) {
@@ -310,13 +309,6 @@ fn check_scans<S: UnwindContextStorage<usize>>(
         let by_scan = both_by_scan(context, section, *address, *refuses);
         assert_eq!(rt; by_scan, both(*found, *asked), "for {address}");
     }
-}
-
-#[test]
-fn a_scan_asks_once_an_fde(rt: HostRuntime) -> Result<(), Fail> {
-    let mut context: UnwindContext<usize> = UnwindContext::new(rt.alloc())?;
-    check_scans(&rt, &mut context);
-    Ok(())
 }
 
 /// The section whose second FDE is longer than the rest of the section.
@@ -338,63 +330,72 @@ const INDIRECT: [u8; 20] = [
     1, 0x1b, 0x03, 0xbb, 0xfc, 0, 0, 0, 1, 0, 0, 0, 0, 0xf1, 0xff, 0xff, 0x18, 1, 0, 0,
 ];
 
-/// The section, the header, an address, and whether `get_cie` fails; the result, and how often the
-/// closure was called.
-const BY_TABLES: [(&[u8], &[u8], u64, bool, Found, u32); 8] = [
-    (&SECTION, &HEADER, 0x1018, false, Ok((44, 0x1011)), 1),
-    (&SECTION, &HEADER, 0x103f, false, Ok((64, 0x1020)), 1),
-    (&SECTION, &HEADER, 0xff0, false, NONE, 1),
-    (&SECTION, &HEADER, 0x1040, false, NONE, 1),
-    (
-        &SECTION,
-        &TO_THE_CIE,
-        0x1018,
-        false,
-        Err(Error::NotCiePointer(0)),
-        0,
-    ),
-    (
-        &CUT,
-        &HEADER,
-        0x1018,
-        false,
-        Err(Error::UnexpectedEof(ReaderOffsetId(61))),
-        1,
-    ),
-    (
-        &SECTION,
-        &HEADER,
-        0x1018,
-        true,
-        Err(Error::UnknownAugmentation),
-        1,
-    ),
-    (
-        &SECTION,
-        &INDIRECT,
-        0x1000,
-        false,
-        Err(Error::UnsupportedIndirectPointer),
-        0,
-    ),
-];
+/// An address, and whether `get_cie` fails; the result, and how often the closure was called.
+type ByTable = (u64, bool, Found, u32);
 
 const NONE: Found = Err(Error::NoUnwindInfoForAddress);
 
-/// Checks those results with one context.
+/// The section and header as they should be.
+const FAITHFUL: [ByTable; 5] = [
+    (0x1018, false, Ok((44, 0x1011)), 1),
+    (0x103f, false, Ok((64, 0x1020)), 1),
+    (0xff0, false, NONE, 1),
+    (0x1040, false, NONE, 1),
+    (0x1018, true, Err(Error::UnknownAugmentation), 1),
+];
+
+const BY_THE_CIE: [ByTable; 1] = [(0x1018, false, Err(Error::NotCiePointer(0)), 0)];
+
+const BY_A_CUT_FDE: [ByTable; 1] = [(
+    0x1018,
+    false,
+    Err(Error::UnexpectedEof(ReaderOffsetId(61))),
+    1,
+)];
+
+const BY_AN_INDIRECT_ROW: [ByTable; 1] = [(
+    0x1000,
+    false,
+    Err(Error::UnsupportedIndirectPointer),
+    0,
+)];
+
+/// Checks those results for one section and header.
 fn check_tables<S: UnwindContextStorage<usize>>(
     rt: &impl Abort,
     context: &mut UnwindContext<usize, S>,
+    name: &str,
+    section: &[u8],
+    header: &[u8],
+    answers: &[ByTable],
 ) {
-    for (section, header, address, refuses, found, asked) in &BY_TABLES {
+    for (address, refuses, found, asked) in answers {
         let by_table = by_table(context, section, header, *address, *refuses);
-        assert_eq!(rt; by_table, Ok(both(*found, *asked)), "for {address}");
+        assert_eq!(rt; by_table, Ok(both(*found, *asked)), "{name}: {address}");
     }
 }
 
-#[test]
-fn a_table_asks_once(rt: HostRuntime) -> Result<(), Fail> {
-    let mut context: UnwindContext<usize> = UnwindContext::new(rt.alloc())?;
-    check_tables(&rt, &mut context);
-    Ok(())
+/// The same for each section and header.
+pub(crate) fn a_table_asks_once<S: UnwindContextStorage<usize>>(
+    rt: &impl Abort,
+    context: &mut UnwindContext<usize, S>,
+) {
+    check_tables(rt, context, "faithful", &SECTION, &HEADER, &FAITHFUL);
+    check_tables(
+        rt,
+        context,
+        "to the CIE",
+        &SECTION,
+        &TO_THE_CIE,
+        &BY_THE_CIE,
+    );
+    check_tables(rt, context, "a cut FDE", &CUT, &HEADER, &BY_A_CUT_FDE);
+    check_tables(
+        rt,
+        context,
+        "an indirect row",
+        &SECTION,
+        &INDIRECT,
+        &BY_AN_INDIRECT_ROW,
+    );
 }

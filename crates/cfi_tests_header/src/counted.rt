@@ -324,7 +324,7 @@ const HEAD: u32 = 6;
 const SEARCH: u32 = 2 + 1;
 
 /// What the calls read for 0x1018, whose row is the second of the FDE at 44.
-const ALL_READS: AllReads = (
+const ALL_READS: Result<AllReads, Error> = Ok((
     (
         [(SEARCH, 0), (SEARCH, FDE), (SEARCH, FDE + ROWS)],
         Ok([(0, 0), (1, 0)]),
@@ -334,14 +334,15 @@ const ALL_READS: AllReads = (
     ),
     Ok([(0, FDE), (0, ROWS)]),
     (HEAD + SEARCH, FDE + ROWS),
-);
+));
 
-#[test]
-fn what_each_call_reads(rt: HostRuntime) -> Result<(), Fail> {
-    let mut context: UnwindContext<usize> = UnwindContext::new(rt.alloc())?;
-    let found = all_reads_in(&HEADER, &SECTION, &mut context, 0x1018);
-    assert_eq!(rt; found, Ok(ALL_READS));
-    Ok(())
+/// Checks those numbers.
+pub(crate) fn what_each_call_reads<S: UnwindContextStorage<usize>>(
+    rt: &impl Abort,
+    context: &mut UnwindContext<usize, S>,
+) {
+    let found = all_reads_in(&HEADER, &SECTION, context, 0x1018);
+    assert_eq!(rt; found, ALL_READS);
 }
 
 /// How many numbers of the header `lookup` reads for an address, and how many `row_by_table`, with
@@ -394,10 +395,12 @@ fn most_in_rows<S: UnwindContextStorage<usize>>(
 /// A header with one row.
 const ONE_ROW: [u8; 20] = [1, 3, 3, 3, 0, 0, 0, 0, 1, 0, 0, 0, 0, 1, 0, 0, 0, 2, 0, 0];
 
+const FEW: ([Result<(u32, u32), Error>; 2], bool, bool) = ([Ok((1, 1)), Ok((3, 3))], true, true);
+
 /// Checks how often the starts of one row and of three are read, and that no search in a thousand
 /// reads more than the eleven numbers that halving needs, whether their starts are in order or go
 /// up and down.
-fn check_halving<S: UnwindContextStorage<usize>>(
+pub(crate) fn starts_are_read_by_halving<S: UnwindContextStorage<usize>>(
     rt: &(impl Abort + AllocGlobal),
     context: &mut UnwindContext<usize, S>,
 ) -> Result<(), Fail> {
@@ -408,15 +411,6 @@ fn check_halving<S: UnwindContextStorage<usize>>(
     ];
     let in_order = most_in_rows(rt.alloc(), context, 16)?;
     let up_and_down = most_in_rows(rt.alloc(), context, 40503)?;
-    assert_eq!(rt;
-        (few, in_order <= 11, up_and_down <= 11),
-        ([Ok((1, 1)), Ok((3, 3))], true, true)
-    );
+    assert_eq!(rt; (few, in_order <= 11, up_and_down <= 11), FEW);
     Ok(())
-}
-
-#[test]
-fn starts_are_read_by_halving(rt: HostRuntime) -> Result<(), Fail> {
-    let mut context: UnwindContext<usize> = UnwindContext::new(rt.alloc())?;
-    check_halving(&rt, &mut context)
 }

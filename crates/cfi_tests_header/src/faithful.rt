@@ -1,10 +1,9 @@
 //! Tables of `.eh_frame_hdr` that list the FDEs of their section faithfully, and the faults of
 //! others.
 use crate::searches::{HEADER, SECTION, Shown, bases, read_header, shown, table_of};
-use cfi_tests_bytes::ended;
 use gimli_cfi::{
     DwEhPe, EhFrame, EndianSlice, Error, FaithfulTable, LittleEndian, ParsedEhFrameHdr, Reader,
-    Unfaithful, UnwindContext, UnwindContextStorage,
+    ReaderOffsetId, Unfaithful, UnwindContext, UnwindContextStorage,
 };
 
 /// What is wrong with a header's table; `None` if it is faithful.
@@ -71,6 +70,8 @@ fn fde_within_an_fde() -> [u8; 108] {
     with(with(section, 64, &[0x24]), 84, &inner)
 }
 
+const FAITHFUL: [Reason; 5] = [Ok(None); 5];
+
 #[test]
 fn faithful_tables(rt: HostRuntime) {
     let found = [
@@ -82,7 +83,7 @@ fn faithful_tables(rt: HostRuntime) {
         with_section(36, &[0xff, 0xff, 0xff, 0xff]),
         reason(&HEADER, &fde_within_an_fde()),
     ];
-    assert_eq!(rt; found, [Ok(None); 5]);
+    assert_eq!(rt; found, FAITHFUL);
 }
 
 /// The header without its second row.
@@ -90,6 +91,18 @@ fn without_second_row() -> [u8; 36] {
     let first_and_third = [0x20, 0xf1, 0xff, 0xff, 0x40, 1, 0, 0];
     with(with(HEADER, 8, &[2]), 20, &first_and_third)
 }
+
+const SECOND: Reason = Ok(Some(Unfaithful::NoRow {
+    offset: 44,
+    address: 0x1010,
+}));
+
+const THIRD: Reason = Ok(Some(Unfaithful::NoRow {
+    offset: 64,
+    address: 0x1020,
+}));
+
+const NO_ROWS: [Reason; 6] = [SECOND, THIRD, SECOND, SECOND, SECOND, THIRD];
 
 #[test]
 fn rows_that_list_no_fde(rt: HostRuntime) {
@@ -104,74 +117,90 @@ fn rows_that_list_no_fde(rt: HostRuntime) {
         // A target is inside an entry, at what looks like the FDE.
         reason(&with(HEADER, 32, &[0x54]), &fde_within_an_fde()),
     ];
-    let second = Ok(Some(Unfaithful::NoRow {
-        offset: 44,
-        address: 0x1010,
-    }));
-    let third = Ok(Some(Unfaithful::NoRow {
-        offset: 64,
-        address: 0x1020,
-    }));
-    assert_eq!(rt; found, [second, third, second, second, second, third]);
+    assert_eq!(rt; found, NO_ROWS);
 }
 
 /// What is wrong if a row starts at or below the one before it.
-fn order(row: u64, before: u64, start: u64) -> Reason {
-    Ok(Some(Unfaithful::Order { row, before, start }))
-}
+const OUT_OF_ORDER: [Reason; 3] = [
+    Ok(Some(Unfaithful::Order {
+        row: 1,
+        before: 0x1010,
+        start: 0x1000,
+    })),
+    Ok(Some(Unfaithful::Order {
+        row: 1,
+        before: 0x1000,
+        start: 0x1000,
+    })),
+    Ok(Some(Unfaithful::Order {
+        row: 2,
+        before: 0x1010,
+        start: 0x1008,
+    })),
+];
+
+/// The first two rows are swapped.
+const SWAPPED: [u8; 16] = [
+    0x10, 0xf1, 0xff, 0xff, 0x2c, 1, 0, 0, 0, 0xf1, 0xff, 0xff, 0x18, 1, 0, 0,
+];
+
+/// The first row is listed twice.
+const TWICE: [u8; 8] = [0, 0xf1, 0xff, 0xff, 0x18, 1, 0, 0];
 
 #[test]
 fn rows_out_of_order(rt: HostRuntime) {
-    // The first two rows are swapped.
-    let swapped = [
-        0x10, 0xf1, 0xff, 0xff, 0x2c, 1, 0, 0, 0, 0xf1, 0xff, 0xff, 0x18, 1, 0, 0,
-    ];
-    // The first row is listed twice.
-    let first = [0, 0xf1, 0xff, 0xff, 0x18, 1, 0, 0];
     let found = [
-        with_header(12, &swapped),
-        with_header(20, &first),
+        with_header(12, &SWAPPED),
+        with_header(20, &TWICE),
         // The last row starts below the one before it.
         with_header(28, &[8]),
     ];
-    let expected = [
-        order(1, 0x1010, 0x1000),
-        order(1, 0x1000, 0x1000),
-        order(2, 0x1010, 0x1008),
-    ];
-    assert_eq!(rt; found, expected);
+    assert_eq!(rt; found, OUT_OF_ORDER);
 }
 
-#[test]
-fn overlapping_fdes(rt: HostRuntime) {
-    assert_eq!(rt;
-        with_section(36, &[0x11]),
-        Ok(Some(Unfaithful::Overlap {
-            offset: 24,
-            end: 0x1011,
-            next: 0x1010,
-        }))
-    );
-}
+/// The first FDE ends after the second begins; then counts that differ.
+const OVERLAP_AND_COUNTS: [Reason; 4] = [
+    Ok(Some(Unfaithful::Overlap {
+        offset: 24,
+        end: 0x1011,
+        next: 0x1010,
+    })),
+    Ok(Some(Unfaithful::Count { rows: 4, fdes: 3 })),
+    Ok(Some(Unfaithful::Count { rows: 3, fdes: 0 })),
+    Ok(Some(Unfaithful::Row {
+        row: 3,
+        refusal: Error::UnexpectedEof(ReaderOffsetId(36)),
+    })),
+];
 
 #[test]
-fn counts_that_differ(rt: HostRuntime) {
+fn overlapping_fdes_and_counts_that_differ(rt: HostRuntime) {
     let found = [
+        with_section(36, &[0x11]),
         reason(&four_rows(), &SECTION),
         reason(&HEADER, &SECTION[..24]),
         // The fourth row is missing.
         with_header(8, &[4]),
     ];
-    let expected = [
-        Ok(Some(Unfaithful::Count { rows: 4, fdes: 3 })),
-        Ok(Some(Unfaithful::Count { rows: 3, fdes: 0 })),
-        Ok(Some(Unfaithful::Row {
-            row: 3,
-            refusal: ended(36),
-        })),
-    ];
-    assert_eq!(rt; found, expected);
+    assert_eq!(rt; found, OVERLAP_AND_COUNTS);
 }
+
+const REFUSED: [Reason; 5] = [
+    Ok(Some(Unfaithful::Row {
+        row: 0,
+        refusal: Error::UnsupportedIndirectPointer,
+    })),
+    Ok(Some(Unfaithful::Header(Error::UnsupportedIndirectPointer))),
+    Ok(Some(Unfaithful::Header(Error::UnsupportedPointerEncoding(DwEhPe(0x31))))),
+    Ok(Some(Unfaithful::Fde {
+        offset: 44,
+        refusal: Error::NotCieId(24),
+    })),
+    Ok(Some(Unfaithful::Entry {
+        offset: 64,
+        refusal: Error::UnexpectedEof(ReaderOffsetId(68)),
+    })),
+];
 
 #[test]
 fn refused_parts(rt: HostRuntime) {
@@ -185,23 +214,7 @@ fn refused_parts(rt: HostRuntime) {
         with_section(48, &[0x18]),
         reason(&HEADER, &SECTION[..80]),
     ];
-    let expected = [
-        Ok(Some(Unfaithful::Row {
-            row: 0,
-            refusal: Error::UnsupportedIndirectPointer,
-        })),
-        Ok(Some(Unfaithful::Header(Error::UnsupportedIndirectPointer))),
-        Ok(Some(Unfaithful::Header(Error::UnsupportedPointerEncoding(DwEhPe(0x31))))),
-        Ok(Some(Unfaithful::Fde {
-            offset: 44,
-            refusal: Error::NotCieId(24),
-        })),
-        Ok(Some(Unfaithful::Entry {
-            offset: 64,
-            refusal: ended(68),
-        })),
-    ];
-    assert_eq!(rt; found, expected);
+    assert_eq!(rt; found, REFUSED);
 }
 
 /// The row for an address by a checked table.

@@ -4,6 +4,7 @@ use gimli_cfi::{
     BaseAddresses, BigEndian, DwEhPe, EhFrameHdr, EhHdrTable, EhHdrTableIter, EndianSlice, Error,
     LittleEndian, NarrowSlice, Pointer, Reader, ReaderOffsetId, Section, SectionId,
 };
+use std::process::Abort;
 
 /// The header of three rows with a count of four: the bytes of the fourth row are missing.
 const ONE_ROW_MISSING: [u8; 36] = [
@@ -47,28 +48,45 @@ fn shown_narrow(bytes: &[u8], bases: &BaseAddresses) -> Shown {
 /// A header without a table that points to this.
 const POINTS_TO_5: Shown = Ok((Pointer::Direct(5), None));
 
-/// Headers without a table, and headers with encodings that are refused; `cuts` has others.
-const WITHOUT_ROWS: [(&[u8], Shown); 6] = [
-    (&[1, 0x01, 0x03, 0x3b, 5, 0, 0, 0, 0], POINTS_TO_5),
-    (&[1, 0x01, 0x03, 0xff, 5], POINTS_TO_5),
-    (&[1, 0x01, 0xff, 0x3b, 5], POINTS_TO_5),
+/// Headers without a table, and headers with encodings that are refused; `cuts` has others. The
+/// bytes, and how many of them are the header.
+const WITHOUT_ROWS: [([u8; 12], usize, Shown); 6] = [
     (
-        &[1, 0x1b, 0x83, 0x3b, 0xfc, 0, 0, 0, 3, 0, 0, 0],
+        [1, 0x01, 0x03, 0x3b, 5, 0, 0, 0, 0, 0, 0, 0],
+        9,
+        POINTS_TO_5,
+    ),
+    (
+        [1, 0x01, 0x03, 0xff, 5, 0, 0, 0, 0, 0, 0, 0],
+        5,
+        POINTS_TO_5,
+    ),
+    (
+        [1, 0x01, 0xff, 0x3b, 5, 0, 0, 0, 0, 0, 0, 0],
+        5,
+        POINTS_TO_5,
+    ),
+    (
+        [1, 0x1b, 0x83, 0x3b, 0xfc, 0, 0, 0, 3, 0, 0, 0],
+        12,
         Err(Error::UnsupportedPointerEncoding(DwEhPe(0x83))),
     ),
     (
-        &[1, 0x1b, 0x05, 0x06],
+        [1, 0x1b, 0x05, 0x06, 0, 0, 0, 0, 0, 0, 0, 0],
+        4,
         Err(Error::UnknownPointerEncoding(DwEhPe(0x05))),
     ),
     (
-        &[1, 0x1b, 0x03, 0x06],
+        [1, 0x1b, 0x03, 0x06, 0, 0, 0, 0, 0, 0, 0, 0],
+        4,
         Err(Error::UnknownPointerEncoding(DwEhPe(0x06))),
     ),
 ];
 
 #[test]
 fn headers_without_rows(rt: HostRuntime) {
-    for (bytes, header) in &WITHOUT_ROWS {
+    for (bytes, count, header) in &WITHOUT_ROWS {
+        let bytes = bytes.get(..*count).unwrap_or_default();
         let bases = at(0x1f00);
         let found = [shown_wide(bytes, &bases), shown_narrow(bytes, &bases)];
         assert_eq!(rt; found, [*header; 2], "for {bytes:?}");
@@ -136,89 +154,107 @@ fn refused_in<R: Reader>(reader: R) -> Result<(u32, u32), Error> {
 /// A step after the last row.
 const NO_ROW: Step = (Ok(None), (0, Some(0)));
 
-/// The third row of the header that has one that can't be read begins after the number that could
-/// not be read.
-const WALKS: [(&[u8], u8, Pointer, [Step; 5]); 3] = [
-    (
-        &HEADER,
-        8,
-        Pointer::Direct(0x2000),
-        [
-            (
-                Ok(Some((Pointer::Direct(0x1000), Pointer::Direct(0x2018)))),
-                (2, Some(2)),
-            ),
-            (
-                Ok(Some((Pointer::Direct(0x1010), Pointer::Direct(0x202c)))),
-                (1, Some(1)),
-            ),
-            (
-                Ok(Some((Pointer::Direct(0x1020), Pointer::Direct(0x2040)))),
-                (0, Some(0)),
-            ),
-            NO_ROW,
-            NO_ROW,
-        ],
-    ),
-    (
-        &ONE_ROW_MISSING,
-        8,
-        Pointer::Direct(0x2000),
-        [
-            (
-                Ok(Some((Pointer::Direct(0x1000), Pointer::Direct(0x2018)))),
-                (3, Some(3)),
-            ),
-            (
-                Ok(Some((Pointer::Direct(0x1010), Pointer::Direct(0x202c)))),
-                (2, Some(2)),
-            ),
-            (
-                Ok(Some((Pointer::Direct(0x1020), Pointer::Direct(0x2040)))),
-                (1, Some(1)),
-            ),
-            (Err(Error::UnexpectedEof(ReaderOffsetId(36))), (0, Some(0))),
-            NO_ROW,
-        ],
-    ),
-    (
-        &REFUSED_ROW,
-        1,
-        Pointer::Direct(0x20),
-        [
-            (
-                Ok(Some((Pointer::Direct(1), Pointer::Direct(2)))),
-                (2, Some(2)),
-            ),
-            (Err(Error::BadUnsignedLeb128), (1, Some(1))),
-            (
-                Ok(Some((Pointer::Direct(5), Pointer::Direct(6)))),
-                (0, Some(0)),
-            ),
-            NO_ROW,
-            NO_ROW,
-        ],
-    ),
-];
+/// The pointer and the steps of a header that lists three rows.
+const OF_THREE_ROWS: Walked = Ok((
+    Pointer::Direct(0x2000),
+    [
+        (
+            Ok(Some((Pointer::Direct(0x1000), Pointer::Direct(0x2018)))),
+            (2, Some(2)),
+        ),
+        (
+            Ok(Some((Pointer::Direct(0x1010), Pointer::Direct(0x202c)))),
+            (1, Some(1)),
+        ),
+        (
+            Ok(Some((Pointer::Direct(0x1020), Pointer::Direct(0x2040)))),
+            (0, Some(0)),
+        ),
+        NO_ROW,
+        NO_ROW,
+    ],
+));
+
+const OF_ONE_ROW_MISSING: Walked = Ok((
+    Pointer::Direct(0x2000),
+    [
+        (
+            Ok(Some((Pointer::Direct(0x1000), Pointer::Direct(0x2018)))),
+            (3, Some(3)),
+        ),
+        (
+            Ok(Some((Pointer::Direct(0x1010), Pointer::Direct(0x202c)))),
+            (2, Some(2)),
+        ),
+        (
+            Ok(Some((Pointer::Direct(0x1020), Pointer::Direct(0x2040)))),
+            (1, Some(1)),
+        ),
+        (Err(Error::UnexpectedEof(ReaderOffsetId(36))), (0, Some(0))),
+        NO_ROW,
+    ],
+));
+
+/// The third row begins after the number that could not be read.
+const OF_REFUSED_ROW: Walked = Ok((
+    Pointer::Direct(0x20),
+    [
+        (
+            Ok(Some((Pointer::Direct(1), Pointer::Direct(2)))),
+            (2, Some(2)),
+        ),
+        (Err(Error::BadUnsignedLeb128), (1, Some(1))),
+        (
+            Ok(Some((Pointer::Direct(5), Pointer::Direct(6)))),
+            (0, Some(0)),
+        ),
+        NO_ROW,
+        NO_ROW,
+    ],
+));
+
+const OF_BIG_ENDIAN: Walked = Ok((
+    Pointer::Direct(0x2000),
+    [
+        (
+            Ok(Some((Pointer::Direct(0x1000), Pointer::Direct(0x2018)))),
+            (0, Some(0)),
+        ),
+        NO_ROW,
+        NO_ROW,
+        NO_ROW,
+        NO_ROW,
+    ],
+));
+
+/// Checks the pointer and the steps of a header.
+fn check_walk(rt: &impl Abort, name: &str, bytes: &[u8], size: u8, steps: &Walked) {
+    assert_eq!(rt; walked_in(bytes, size), *steps, "{name}");
+}
 
 #[test]
 fn rows_in_order(rt: HostRuntime) {
-    for (bytes, size, pointer, steps) in &WALKS {
-        let found = walked_in(bytes, *size);
-        assert_eq!(rt; found, Ok((*pointer, *steps)), "for {bytes:?}");
-    }
+    check_walk(&rt, "three rows", &HEADER, 8, &OF_THREE_ROWS);
+    check_walk(
+        &rt,
+        "one row missing",
+        &ONE_ROW_MISSING,
+        8,
+        &OF_ONE_ROW_MISSING,
+    );
+    check_walk(&rt, "a refused row", &REFUSED_ROW, 1, &OF_REFUSED_ROW);
 }
+
+/// The pointer and the size hint; how many rows fail without bases, and how many do not.
+const COUNTED: (Shown, Result<(u32, u32), Error>) = (
+    Ok((Pointer::Direct(0x2000), Some((3, Some(3))))),
+    Ok((3, 0)),
+);
 
 #[test]
 fn rows_are_counted_and_need_their_bases(rt: HostRuntime) {
     let refused = refused_in(EndianSlice::new(&HEADER, LittleEndian));
-    assert_eq!(rt;
-        (shown_wide(&HEADER, &at(0x1f00)), refused),
-        (
-            Ok((Pointer::Direct(0x2000), Some((3, Some(3))))),
-            Ok((3, 0))
-        )
-    );
+    assert_eq!(rt; (shown_wide(&HEADER, &at(0x1f00)), refused), COUNTED);
 }
 
 /// A header in big-endian order with one row.
@@ -228,10 +264,8 @@ const BIG_ENDIAN: [u8; 14] = [
 
 #[test]
 fn big_endian_rows(rt: HostRuntime) {
-    let row = Ok(Some((Pointer::Direct(0x1000), Pointer::Direct(0x2018))));
-    let steps = [(row, (0, Some(0))), NO_ROW, NO_ROW, NO_ROW, NO_ROW];
     let found = walked(EndianSlice::new(&BIG_ENDIAN, BigEndian), 2);
-    assert_eq!(rt; found, Ok((Pointer::Direct(0x2000), steps)));
+    assert_eq!(rt; found, OF_BIG_ENDIAN);
 }
 
 #[test]

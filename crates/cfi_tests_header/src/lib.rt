@@ -14,3 +14,5 @@ mod faithful;
 mod headers;
 #[cfg(test)]
 mod searches;
+#[cfg(test)]
+mod with_context;

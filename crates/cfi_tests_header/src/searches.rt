@@ -4,7 +4,6 @@ ghost use Rattle.gimli_cfi.specs.Words.{NoUnwindInfoForAddress};
 
 use crate::asked::row_by_cies;
 use crate::faithful::row_by_checked_table;
-use cfi_tests_bytes::ended;
 use gimli_cfi::{
     ArrayLike, BaseAddresses, CallCount, CfaRule, DwEhPe, EhFrame, EhFrameHdr, EhFrameOffset,
     EhHdrTable, EndianSlice, Error, LittleEndian, NarrowSlice, ParsedEhFrameHdr, Pointer, Reader,
@@ -12,7 +11,6 @@ use gimli_cfi::{
     UnwindContextStorage, UnwindTableRow, row_by_scan, row_by_table, search_starts,
 };
 use std::process::Abort;
-use std::test::Fail;
 
 pub(crate) type Slice<'a> = EndianSlice<'a, LittleEndian>;
 
@@ -207,21 +205,27 @@ fn encoded(encoding: u8) -> [u8; 36] {
     header
 }
 
-#[test]
-fn lookups(rt: HostRuntime) {
-    let targets = [
-        Ok(Pointer::Direct(0x2018)),
+const LOOKUPS: Result<(Targets, Offsets), Error> = Ok((
+    (
+        [
+            Ok(Pointer::Direct(0x2018)),
+            Ok(Pointer::Direct(0x202c)),
+            Ok(Pointer::Direct(0x2040)),
+        ],
         Ok(Pointer::Direct(0x202c)),
-        Ok(Pointer::Direct(0x2040)),
-    ];
-    let offsets = [
+    ),
+    [
         Ok(EhFrameOffset(24)),
         Ok(EhFrameOffset(0)),
         Err(Error::OffsetOutOfBounds(0x1fff)),
         Err(Error::UnsupportedIndirectPointer),
-    ];
+    ],
+));
+
+#[test]
+fn lookups(rt: HostRuntime) {
     let found = targets_and_offsets(EndianSlice::new(&HEADER, LittleEndian));
-    assert_eq!(rt; found, Ok(((targets, targets[1]), offsets)));
+    assert_eq!(rt; found, LOOKUPS);
 }
 
 /// Addresses and their rows.
@@ -236,8 +240,8 @@ const ROWS: [(u64, Result<Shown, Error>); 8] = [
     (0x1040, Err(Error::NoUnwindInfoForAddress)),
 ];
 
-/// Checks those rows with one context.
-fn check_rows<S: UnwindContextStorage<usize>>(
+/// Checks those rows.
+pub(crate) fn table_and_scan_agree<S: UnwindContextStorage<usize>>(
     rt: &impl Abort,
     context: &mut UnwindContext<usize, S>,
 ) {
@@ -245,13 +249,6 @@ fn check_rows<S: UnwindContextStorage<usize>>(
         let found = each_way_in(&HEADER, context, *address);
         assert_eq!(rt; found, Ok([*row; 4]), "for {address}");
     }
-}
-
-#[test]
-fn table_and_scan_agree(rt: HostRuntime) -> Result<(), Fail> {
-    let mut context: UnwindContext<usize> = UnwindContext::new(rt.alloc())?;
-    check_rows(&rt, &mut context);
-    Ok(())
 }
 
 /// Other targets of the second row, and the errors.
@@ -263,7 +260,7 @@ const OTHER_TARGETS: [([u8; 4], Error); 5] = [
     ([0xff, 0, 0, 0], Error::OffsetOutOfBounds(0x1fff)),
 ];
 
-/// Checks those errors with one context.
+/// Checks those errors.
 fn check_targets<S: UnwindContextStorage<usize>>(
     rt: &impl Abort,
     context: &mut UnwindContext<usize, S>,
@@ -294,12 +291,13 @@ const BY_OTHERS: [Result<Shown, Error>; 4] = [
     Ok((0x1000, 0x1010, Some(8))),
 ];
 
-#[test]
-fn dishonest_tables(rt: HostRuntime) -> Result<(), Fail> {
-    let mut context: UnwindContext<usize> = UnwindContext::new(rt.alloc())?;
-    check_targets(&rt, &mut context);
-    assert_eq!(rt; by_others(&mut context), BY_OTHERS);
-    Ok(())
+/// Checks the errors and rows of tables that don't list the FDEs as they are.
+pub(crate) fn dishonest_tables<S: UnwindContextStorage<usize>>(
+    rt: &impl Abort,
+    context: &mut UnwindContext<usize, S>,
+) {
+    check_targets(rt, context);
+    assert_eq!(rt; by_others(context), BY_OTHERS);
 }
 
 type Row = Result<Option<(Pointer, Pointer)>, Error>;
@@ -345,6 +343,32 @@ fn first_row_and_starts<R: Reader>(header: R) -> Result<(Row, bool), Error> {
     Ok((row, TableStarts::new(&table, &bases).is_ok()))
 }
 
+const SECOND_ROW: Row = Ok(Some((Pointer::Direct(0x1010), Pointer::Direct(0x202c))));
+
+const THIRD_ROW: Row = Ok(Some((Pointer::Direct(0x1020), Pointer::Direct(0x2040))));
+
+/// The first bytes of the rows as two LEB128 numbers, 0 and 0x31f_fff1.
+const FIRST_OF_OTHER: Row = Ok(Some((Pointer::Direct(0x1f00), Pointer::Direct(0x320_1ef1))));
+
+const REFUSED: Row = Err(Error::UnsupportedPointerEncoding(DwEhPe(0x31)));
+
+/// What is passed in four ways; the first row of the other table, and whether its starts can be
+/// read.
+type PassedAtOnce = (
+    [Result<Option<Passed>, Error>; 4],
+    Result<(Row, bool), Error>,
+);
+
+const PASSED_AT_ONCE: PassedAtOnce = (
+    [
+        Ok(Some((SECOND_ROW, 1, THIRD_ROW))),
+        Ok(Some((THIRD_ROW, 0, Ok(None)))),
+        Ok(Some((Ok(None), 0, Ok(None)))),
+        Ok(Some((REFUSED, 3, FIRST_OF_OTHER))),
+    ],
+    Ok((FIRST_OF_OTHER, false)),
+);
+
 #[test]
 fn rows_passed_at_once(rt: HostRuntime) {
     let other = encoded(0x31);
@@ -354,20 +378,18 @@ fn rows_passed_at_once(rt: HostRuntime) {
         passed_in(&HEADER, 3),
         passed_in(&other, 0),
     ];
-    let second = (Pointer::Direct(0x1010), Pointer::Direct(0x202c));
-    let third = (Pointer::Direct(0x1020), Pointer::Direct(0x2040));
-    // The first bytes of the rows as two LEB128 numbers, 0 and 0x31f_fff1.
-    let first = Ok(Some((Pointer::Direct(0x1f00), Pointer::Direct(0x320_1ef1))));
-    let refusal = Error::UnsupportedPointerEncoding(DwEhPe(0x31));
-    let expected = [
-        Ok(Some((Ok(Some(second)), 1, Ok(Some(third))))),
-        Ok(Some((Ok(Some(third)), 0, Ok(None)))),
-        Ok(Some((Ok(None), 0, Ok(None)))),
-        Ok(Some((Err(refusal), 3, first))),
-    ];
     let of_other = first_row_and_starts(EndianSlice::new(&other, LittleEndian));
-    assert_eq!(rt; (found, of_other), (expected, Ok((first, false))));
+    assert_eq!(rt; (found, of_other), PASSED_AT_ONCE);
 }
+
+const ABSENT: Row = Err(Error::UnexpectedEof(ReaderOffsetId(20)));
+
+/// Half of 2^64 rows are left, and then 2^29.
+const NOT_THERE: [Result<Option<Passed>, Error>; 3] = [
+    Ok(Some((ABSENT, 0x8000_0000_0000_0000, ABSENT))),
+    Ok(Some((ABSENT, 0x2000_0000, ABSENT))),
+    Ok(Some((Err(Error::UnsupportedOffset), 0x2000_0000, ABSENT))),
+];
 
 #[test]
 fn rows_that_are_not_there(rt: HostRuntime) {
@@ -379,15 +401,7 @@ fn rows_that_are_not_there(rt: HostRuntime) {
         passed_in(&fewer, 0x1000_0000),
         passed_in_narrow(&fewer, 0x1000_0000),
     ];
-    let half: usize = 1 << 63;
-    let count: usize = 0x2000_0000;
-    let absent = Err(ended(20));
-    let expected = [
-        Ok(Some((absent, half, absent))),
-        Ok(Some((absent, count, absent))),
-        Ok(Some((Err(Error::UnsupportedOffset), count, absent))),
-    ];
-    assert_eq!(rt; found, expected);
+    assert_eq!(rt; found, NOT_THERE);
 }
 
 /// Starts in a list, and how many calls were made.
@@ -466,20 +480,10 @@ fn searched_in_all(address: u64) -> Searched {
     (row, source.made)
 }
 
-#[test]
-fn searches_by_halving(rt: HostRuntime) {
-    let rising = [10, 20, 30];
-    let unordered = [30, 10, 20];
-    let found = [
-        searched(&rising, 5),
-        searched(&rising, 25),
-        searched(&rising, 30),
-        searched(&unordered, 15),
-        searched(&unordered, 35),
-        searched(&[10], 5),
-        searched(&[1, 3, 5, 7, 9], 8),
-    ];
-    let expected = [
+/// The results of searches in lists, then the row that one in all rows finds, and whether it makes
+/// no more calls than halving needs.
+const SEARCHED: ([Searched; 7], Result<u64, Error>, bool) = (
+    [
         (Ok(0), 1),
         (Ok(1), 2),
         (Ok(2), 2),
@@ -487,7 +491,22 @@ fn searches_by_halving(rt: HostRuntime) {
         (Ok(2), 2),
         (Ok(0), 0),
         (Ok(3), 3),
+    ],
+    Ok(12345),
+    true,
+);
+
+#[test]
+fn searches_by_halving(rt: HostRuntime) {
+    let found = [
+        searched(&[10, 20, 30], 5),
+        searched(&[10, 20, 30], 25),
+        searched(&[10, 20, 30], 30),
+        searched(&[30, 10, 20], 15),
+        searched(&[30, 10, 20], 35),
+        searched(&[10], 5),
+        searched(&[1, 3, 5, 7, 9], 8),
     ];
     let (row, made) = searched_in_all(12345);
-    assert_eq!(rt; (found, row, made <= 64), (expected, Ok(12345), true));
+    assert_eq!(rt; (found, row, made <= 64), SEARCHED);
 }

@@ -2,14 +2,13 @@
 ghost use Rattle.std.specs.Prelude.{◌≡◌, ◌==◌};
 ghost use Rattle.gimli_cfi.specs.Words.{cie_id, has_sizes, id_width, width_of, zero_length_ends};
 
-use crate::rows::{R7_8, RETURNS, Shown, shown, two_cies};
+use crate::rows::{R7_8, RETURNS, Shown, row_of_section, shown};
 use gimli_cfi::{
     _UnwindSectionPrivate, BaseAddresses, CieOffsetEncoding, CommonInformationEntry, DebugFrame,
-    Error, Format, Reader, UnwindContext, UnwindContextStorage, UnwindSection, Vendor, row_by_scan,
+    Error, Format, Reader, UnwindContext, UnwindContextStorage, UnwindSection, Vendor,
 };
 use std::cell::Cell;
 use std::process::Abort;
-use std::test::Fail;
 
 /// A section that counts the CIEs that are read by their offsets.
 #[derive(Clone, Copy, Debug)]
@@ -96,10 +95,7 @@ fn by_scan<R: Reader<Offset = usize>, C: UnwindContextStorage<usize>>(
 ) -> Counted {
     let cies = Cell::new(0u32);
     let section = CountedCies { inner, cies: &cies };
-    let row = match row_by_scan(&section, &BaseAddresses::default(), context, address) {
-        Ok(row) => Ok(shown(row)),
-        Err(refusal) => Err(refusal),
-    };
+    let row = row_of_section(&section, context, address);
     (row, cies.get())
 }
 
@@ -144,21 +140,13 @@ const ROWS: [(u64, Result<Shown, Error>, u32, u32); 3] = [
     (0x3000, Err(Error::NoUnwindInfoForAddress), 1, 2),
 ];
 
-/// Checks those rows with one context.
-fn check_counts<R: Reader<Offset = usize>, C: UnwindContextStorage<usize>>(
-    rt: &impl Abort,
-    reader: R,
-    context: &mut UnwindContext<usize, C>,
-) {
+/// Checks those rows.
+pub(crate) fn a_section_that_counts_its_cies<
+    R: Reader<Offset = usize>,
+    C: UnwindContextStorage<usize>,
+>(rt: &impl Abort, reader: R, context: &mut UnwindContext<usize, C>) {
     for (address, row, once, each) in &ROWS {
         let found = by_both(reader, context, *address);
         assert_eq!(rt; found, [(*row, *once), (*row, *each)], "for {address}");
     }
-}
-
-#[test]
-fn a_section_that_counts_its_cies(rt: HostRuntime) -> Result<(), Fail> {
-    let mut context: UnwindContext<usize> = UnwindContext::new(rt.alloc())?;
-    check_counts(&rt, two_cies(), &mut context);
-    Ok(())
 }

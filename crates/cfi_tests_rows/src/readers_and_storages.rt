@@ -1,18 +1,32 @@
-//! Rows over both readers and over three storages, and copies of rows and contexts.
-use crate::reuse::{COPIED, copied, row_in};
-use crate::rows::{R6_16, R7_8, R7_16, RETURNS, SAVED, Shown};
+//! Each check of rows: over both readers and over six storages, and with copies of contexts.
+//!
+//! What makes a context or a reader takes longer to prove than what uses it, so both are made here,
+//! once for all checks.
+use crate::cuts::sections_cut_at_every_length;
+use crate::own_section::a_section_that_counts_its_cies;
+use crate::refused_growth::{StoreRefusing, each_growth_in_turn};
+use crate::register_order::{RULES_IN_ANOTHER_ORDER, registers_rise};
+use crate::reuse::{
+    CUT, RULES_EXCHANGED, RULES_IN_ORDER, StoreOfOne, a_cut_instruction, after_a_full_stack,
+    after_one_rule_too_many, are_equal, row_in, rows_by_their_rules,
+};
+use crate::rows::{
+    R6_16, R7_8, R7_16, RETURNS, SAVED, Shown, TWO_CIES, a_get_cie_that_changes_or_refuses,
+    row_of_section, rows_one_by_one, the_bytes_of_an_expression,
+};
 use arrayvec::ArrayVec;
 use cfi_tests_bytes::THREE_ROWS;
 use gimli_cfi::{
-    BaseAddresses, CfaRule, DebugFrame, Error, LittleEndian, NarrowSlice, Reader, ReaderOffset,
+    CfaRule, DebugFrame, EndianSlice, Error, LittleEndian, NarrowSlice, Reader, ReaderOffset,
     Register, RegisterRule, StoreGrowing, StoreOnHeap, UnwindContext, UnwindContextStorage,
-    UnwindTableRow, Vendor, row_by_scan,
+    UnwindTableRow, Vendor,
 };
+use std::alloc::Global;
 use std::process::Abort;
 use std::test::Fail;
 
 /// A storage whose rules are copied into memory of their own.
-struct StoreBoxed;
+pub(crate) struct StoreBoxed;
 
 impl<T: ReaderOffset> UnwindContextStorage<T> for StoreBoxed {
     type Rules = Box<ArrayVec<(Register, RegisterRule<T>), 8>>;
@@ -30,7 +44,7 @@ const ROWS: [(u64, Result<Shown, Error>); 4] = [
     (0x101f, Ok((0x1004, 0x1020, R6_16, SAVED, RETURNS))),
 ];
 
-/// Checks those rows with one context.
+/// Checks those rows.
 fn check_rows<S: UnwindContextStorage<usize>>(
     rt: &impl Abort,
     context: &mut UnwindContext<usize, S>,
@@ -42,66 +56,174 @@ fn check_rows<S: UnwindContextStorage<usize>>(
     }
 }
 
-/// Checks those rows, and the copies of a row and of a context.
-fn check_rows_and_copies<S: UnwindContextStorage<usize>>(
-    rt: &(impl Abort + AllocGlobal),
-    context: &mut UnwindContext<usize, S>,
+/// Readers of the sections that the checks share: of three rows, of two CIEs, of a cut instruction,
+/// and of rules in order, in another order, and exchanged.
+type Sections<R> = [R; 6];
+
+/// Whether a context's copy is equal to it, and whether that is equal to a fresh one.
+fn copied_context<S: UnwindContextStorage<usize>>(
+    alloc: Global,
+    context: &UnwindContext<usize, S>,
     fresh: &UnwindContext<usize, S>,
+) -> Result<(bool, bool), Error> {
+    let copy = context.try_clone(alloc)?;
+    Ok((are_equal(&copy, context), are_equal(&copy, fresh)))
+}
+
+const COPIED: Result<(bool, bool), Error> = Ok((true, false));
+
+/// Checks that a context is used again and copied.
+fn a_context_is_used_again_and_copied<R, S>(
+    rt: &(impl Abort + AllocGlobal),
+    of: &Sections<R>,
+    context: &mut UnwindContext<usize, S>,
+    fresh: &mut UnwindContext<usize, S>,
     storage: &str,
-) {
+)
+where
+    R: Reader<Offset = usize>,
+    S: UnwindContextStorage<usize>,
+{
     check_rows(rt, context, storage);
-    let copies = copied(rt.alloc(), context, fresh);
+    registers_rise(rt, of[4], of[0], context, storage);
+    let copies = copied_context(rt.alloc(), context, fresh);
     assert_eq!(rt; copies, COPIED, "{storage}");
+    rows_by_their_rules(rt, of[3], of[4], of[5], context, fresh);
 }
 
 /// The same with fresh contexts.
-fn check_storage<S: UnwindContextStorage<usize>>(
+fn check_storage<R: Reader<Offset = usize>, S: UnwindContextStorage<usize>>(
     rt: &(impl Abort + AllocGlobal),
+    of: &Sections<R>,
     storage: &str,
 ) -> Result<(), Fail> {
-    let fresh: UnwindContext<usize, S> = UnwindContext::new_in(rt.alloc())?;
+    let mut fresh: UnwindContext<usize, S> = UnwindContext::new_in(rt.alloc())?;
     let mut context: UnwindContext<usize, S> = UnwindContext::new_in(rt.alloc())?;
-    check_rows_and_copies(rt, &mut context, &fresh, storage);
+    a_context_is_used_again_and_copied(rt, of, &mut context, &mut fresh, storage);
     Ok(())
 }
 
-/// The same for three storages.
-fn check_storages<A, B, C>(rt: &(impl Abort + AllocGlobal)) -> Result<(), Fail>
+const NARROW: Result<(u64, CfaRule<u32>), Error> = Ok((
+    0x1001,
+    CfaRule::RegisterAndOffset {
+        register: Register(7),
+        offset: 16,
+    },
+));
+
+/// Checks where the row for 0x1002 starts, and its CFA, with offsets of four bytes.
+fn a_narrow_reader_answers_alike<R: Reader<Offset = u32>, S: UnwindContextStorage<u32>>(
+    rt: &impl Abort,
+    three_rows: R,
+    context: &mut UnwindContext<u32, S>,
+) {
+    let found = match row_of_section(&DebugFrame::from(three_rows), context, 0x1002) {
+        Ok(row) => Ok((row.0, row.2)),
+        Err(refusal) => Err(refusal),
+    };
+    assert_eq!(rt; found, NARROW);
+}
+
+/// The checks with two contexts of a fixed storage.
+fn check_contexts<R, Q, S, N>(
+    rt: &(impl Abort + AllocGlobal),
+    of: &Sections<R>,
+    three_rows: Q,
+    eight: &mut UnwindContext<usize, S>,
+    four: &mut UnwindContext<u32, N>,
+) -> Result<(), Fail>
 where
-    A: UnwindContextStorage<usize>,
-    B: UnwindContextStorage<usize>,
-    C: UnwindContextStorage<usize>,
+    R: Reader<Offset = usize>,
+    Q: Reader<Offset = u32>,
+    S: UnwindContextStorage<usize>,
+    N: UnwindContextStorage<u32>,
 {
-    check_storage::<A>(rt, "fixed")?;
-    check_storage::<B>(rt, "growing")?;
-    check_storage::<C>(rt, "boxed rules")
+    rows_one_by_one(rt, eight);
+    a_get_cie_that_changes_or_refuses(rt, of[1], eight);
+    a_section_that_counts_its_cies(rt, of[1], eight);
+    a_narrow_reader_answers_alike(rt, three_rows, four);
+    a_cut_instruction(rt, of[2], eight)?;
+    after_a_full_stack(rt, eight)?;
+    sections_cut_at_every_length(rt, eight, four)
+}
+
+/// The same with fresh contexts.
+fn check_fixed<R, Q, S, N>(
+    rt: &(impl Abort + AllocGlobal),
+    of: &Sections<R>,
+    three_rows: Q,
+) -> Result<(), Fail>
+where
+    R: Reader<Offset = usize>,
+    Q: Reader<Offset = u32>,
+    S: UnwindContextStorage<usize>,
+    N: UnwindContextStorage<u32>,
+{
+    let mut eight: UnwindContext<usize, S> = UnwindContext::new_in(rt.alloc())?;
+    let mut four: UnwindContext<u32, N> = UnwindContext::new_in(rt.alloc())?;
+    check_contexts(rt, of, three_rows, &mut eight, &mut four)
+}
+
+/// Checks a storage of one rule and one row with a fresh context.
+fn check_one<S: UnwindContextStorage<usize>>(rt: &(impl Abort + AllocGlobal)) -> Result<(), Fail> {
+    let mut context: UnwindContext<usize, S> = UnwindContext::new_in(rt.alloc())?;
+    after_one_rule_too_many(rt, &mut context)
+}
+
+/// Each check, over a fixed storage, one of offsets of four bytes, a growing one, one with boxed
+/// rules, one of one rule, and one that refuses growths.
+fn check_all<R, Q, F, N, G, B, O, P>(
+    rt: &(impl Abort + AllocGlobal),
+    of: &Sections<R>,
+    three_rows: Q,
+) -> Result<(), Fail>
+where
+    R: Reader<Offset = usize>,
+    Q: Reader<Offset = u32>,
+    F: UnwindContextStorage<usize>,
+    N: UnwindContextStorage<u32>,
+    G: UnwindContextStorage<usize>,
+    B: UnwindContextStorage<usize>,
+    O: UnwindContextStorage<usize>,
+    P: UnwindContextStorage<usize>,
+{
+    the_bytes_of_an_expression(rt);
+    check_storage::<R, F>(rt, of, "fixed")?;
+    check_storage::<R, G>(rt, of, "growing")?;
+    check_storage::<R, B>(rt, of, "boxed rules")?;
+    check_fixed::<R, Q, F, N>(rt, of, three_rows)?;
+    check_one::<O>(rt)?;
+    each_growth_in_turn::<P, G>(rt)
+}
+
+type Wide = EndianSlice<'static, LittleEndian>;
+
+type Narrow = NarrowSlice<'static, LittleEndian>;
+
+/// Over bytes in little-endian order.
+fn wide(bytes: &'static [u8]) -> Wide {
+    EndianSlice::new(bytes, LittleEndian)
 }
 
 #[test]
-fn a_context_is_used_again_and_copied(rt: HostRuntime) -> Result<(), Fail> {
-    check_storages::<StoreOnHeap, StoreGrowing, StoreBoxed>(&rt)
-}
-
-/// Where the row for 0x1002 starts, and its CFA.
-fn start_and_cfa<R: Reader, S: UnwindContextStorage<R::Offset>>(
-    reader: R,
-    context: &mut UnwindContext<R::Offset, S>,
-) -> Result<(u64, CfaRule<R::Offset>), Error> {
-    let section = DebugFrame::from(reader);
-    let row = row_by_scan(&section, &BaseAddresses::default(), context, 0x1002)?;
-    Ok((row.start_address(), *row.cfa()))
-}
-
-const NARROW_CFA: CfaRule<u32> = CfaRule::RegisterAndOffset {
-    register: Register(7),
-    offset: 16,
-};
-
-#[test]
-fn a_narrow_reader_answers_alike(rt: HostRuntime) -> Result<(), Fail> {
-    let reader = NarrowSlice::new(&THREE_ROWS, LittleEndian)?;
-    let mut context: UnwindContext<u32> = UnwindContext::new(rt.alloc())?;
-    let found = start_and_cfa(reader, &mut context);
-    assert_eq!(rt; found, Ok((0x1001, NARROW_CFA)));
-    Ok(())
+fn rows_over_each_storage(rt: HostRuntime) -> Result<(), Fail> {
+    let of = [
+        wide(&THREE_ROWS),
+        wide(&TWO_CIES),
+        wide(&CUT),
+        wide(&RULES_IN_ORDER),
+        wide(&RULES_IN_ANOTHER_ORDER),
+        wide(&RULES_EXCHANGED),
+    ];
+    let three_rows = NarrowSlice::new(&THREE_ROWS, LittleEndian)?;
+    check_all::<
+        Wide,
+        Narrow,
+        StoreOnHeap,
+        StoreOnHeap,
+        StoreGrowing,
+        StoreBoxed,
+        StoreOfOne,
+        StoreRefusing,
+    >(&rt, &of, three_rows)
 }

@@ -8,8 +8,8 @@ use crate::reuse::{check_three_rows, row_in};
 use crate::rows::Shown;
 use cfi_tests_bytes::bytes_of;
 use gimli_cfi::{
-    ArrayLike, CopyList, Error, ReaderOffset, Refused, Register, RegisterRule, StoreGrowing,
-    UnwindContext, UnwindContextStorage, UnwindTableRow, Vendor, Why,
+    ArrayLike, CopyList, Error, ReaderOffset, Refused, Register, RegisterRule, UnwindContext,
+    UnwindContextStorage, UnwindTableRow, Vendor, Why,
 };
 use std::alloc::{AllocFailed, Global};
 use std::cell::Cell;
@@ -17,7 +17,7 @@ use std::process::Abort;
 use std::test::Fail;
 
 /// An item that may tell the list that takes it which of its next growths fails; 0 is none of them.
-trait Tells {
+pub(crate) trait Tells {
     fn told(&self) -> Option<u32>;
 }
 
@@ -50,7 +50,7 @@ impl<T: ReaderOffset, A: ArrayLike<Item = (Register, RegisterRule<T>)>> Tells
 
 /// A list without a limit, one of whose growths fails. Each new item is a growth, and so is a copy.
 #[derive(Drop)]
-struct Refusing<I> {
+pub(crate) struct Refusing<I> {
     kept: Vec<I>,
     /// Which of the next growths fails.
     refused: Cell<u32>,
@@ -171,7 +171,7 @@ impl<I: Tells + Copy> CopyList for Refusing<I> {
 }
 
 /// The storage of such lists.
-struct StoreRefusing;
+pub(crate) struct StoreRefusing;
 
 impl<T: ReaderOffset> UnwindContextStorage<T> for StoreRefusing {
     type Rules = Refusing<(Register, RegisterRule<T>)>;
@@ -358,30 +358,25 @@ fn check_section<S: UnwindContextStorage<usize>, G: UnwindContextStorage<usize>>
     check_growths::<S>(rt, &of)
 }
 
-/// The same for each of the sections, whose rows are those of a growing storage.
+/// The same for each of the sections, whose rows are those of a growing storage; some of their
+/// growths are of rows.
 fn check_sections<S: UnwindContextStorage<usize>, G: UnwindContextStorage<usize>>(
     rt: &(impl Abort + AllocGlobal),
     growing: &mut UnwindContext<usize, G>,
-) -> Result<bool, Fail> {
+) -> Result<(), Fail> {
     let mut grew_rows = false;
     for (text, address) in &SECTIONS {
         // A row that the stack once allocated is used again, so not every section grows it.
         grew_rows |= check_section::<S, G>(rt, growing, text, *address)?;
     }
-    Ok(grew_rows)
+    assert!(rt; grew_rows);
+    Ok(())
 }
 
 /// The same with a fresh context.
-fn grows_rows<S: UnwindContextStorage<usize>, G: UnwindContextStorage<usize>>(
+pub(crate) fn each_growth_in_turn<S: UnwindContextStorage<usize>, G: UnwindContextStorage<usize>>(
     rt: &(impl Abort + AllocGlobal),
-) -> Result<bool, Fail> {
+) -> Result<(), Fail> {
     let mut growing: UnwindContext<usize, G> = UnwindContext::new_in(rt.alloc())?;
     check_sections::<S, G>(rt, &mut growing)
-}
-
-#[test]
-fn each_growth_in_turn(rt: HostRuntime) -> Result<(), Fail> {
-    let grew_rows = grows_rows::<StoreRefusing, StoreGrowing>(&rt)?;
-    assert!(rt; grew_rows);
-    Ok(())
 }

@@ -3,21 +3,19 @@ ghost use Rattle.std.proofs.Common.{lit≤};
 ghost use Rattle.std.specs.Prelude.{IfOk};
 ghost use Rattle.gimli_cfi.specs.Words.{IsCieOf};
 
-use crate::register_order::with_program;
-use crate::rows::{R7_8, RETURNS, Shown, hands_out, shown};
+use crate::rows::{R7_8, RETURNS, Shown, hands_out, row_of_section, shown};
 use arrayvec::ArrayVec;
 use cfi_tests_bytes::{THREE_ROWS, bytes_of};
 use gimli_cfi::{
-    BaseAddresses, CopyList, DebugFrame, DebugFrameOffset, EndianSlice, Error, LittleEndian,
-    Reader, ReaderOffset, ReaderOffsetId, Register, RegisterRule, StoreOnHeap, UnwindContext,
-    UnwindContextStorage, UnwindSection, UnwindTableRow, Vendor, row_by_scan,
+    BaseAddresses, DebugFrame, DebugFrameOffset, EndianSlice, Error, LittleEndian, Reader,
+    ReaderOffset, ReaderOffsetId, Register, RegisterRule, UnwindContext, UnwindContextStorage,
+    UnwindSection, UnwindTableRow, Vendor, row_by_scan,
 };
-use std::alloc::Global;
 use std::process::Abort;
 use std::test::Fail;
 
 /// A storage of one rule a row and one row.
-struct StoreOfOne;
+pub(crate) struct StoreOfOne;
 
 impl<T: ReaderOffset> UnwindContextStorage<T> for StoreOfOne {
     type Rules = ArrayVec<(Register, RegisterRule<T>), 1>;
@@ -44,8 +42,10 @@ const FULL_CIE: &str = "15000000 ffffffff 04000800 017810 0c0708 9001 8602 0a0a0
     14000000 00000000 0010000000000000 2000000000000000";
 
 /// An FDE whose second instruction is cut off.
-const CUT: &str = "10000000 ffffffff 04000800 017810 0c0708 9001 \
-    16000000 00000000 0010000000000000 2000000000000000 41 02";
+pub(crate) const CUT: [u8; 46] = [
+    0x10, 0, 0, 0, 0xff, 0xff, 0xff, 0xff, 4, 0, 8, 0, 1, 0x78, 0x10, 0x0c, 7, 8, 0x90, 1, 0x16, 0,
+    0, 0, 0, 0, 0, 0, 0, 0x10, 0, 0, 0, 0, 0, 0, 0x20, 0, 0, 0, 0, 0, 0, 0, 0x41, 2,
+];
 
 fn row_of<R: Reader<Offset = usize>, S: UnwindContextStorage<usize>>(
     reader: R,
@@ -55,8 +55,7 @@ fn row_of<R: Reader<Offset = usize>, S: UnwindContextStorage<usize>>(
 ) -> Result<Shown, Error> {
     let mut section = DebugFrame::from(reader);
     section.set_vendor(vendor);
-    let row = row_by_scan(&section, &BaseAddresses::default(), context, address)?;
-    Ok(shown(row))
+    row_of_section(&section, context, address)
 }
 
 /// The row of a section for an address.
@@ -166,26 +165,25 @@ fn check_full<S: UnwindContextStorage<usize>>(
     check_three_rows(rt, context, text)
 }
 
+const FULL_STACKS: [&str; 3] = [TWO_RULES, FOUR_STATES, FULL_CIE];
+
+const NO_TABLE: Result<(bool, Option<u64>), Error> = Err(Error::StackFull);
+
 /// The same for each of three sections. For the last of them the error is that of making the table
 /// too.
-fn check_full_stacks<S: UnwindContextStorage<usize>>(
+pub(crate) fn after_a_full_stack<S: UnwindContextStorage<usize>>(
     rt: &(impl Abort + AllocGlobal),
     context: &mut UnwindContext<usize, S>,
 ) -> Result<(), Fail> {
-    for text in [TWO_RULES, FOUR_STATES, FULL_CIE] {
+    for text in &FULL_STACKS {
         let bytes = bytes_of(rt.alloc(), text)?;
         check_full(rt, context, bytes.as_slice(), text)?;
     }
     let bytes = bytes_of(rt.alloc(), FULL_CIE)?;
     let table = hands_out(bytes.as_slice(), context, &[]);
-    assert_eq!(rt; table, Err(Error::StackFull));
+    drop(bytes);
+    assert_eq!(rt; table, NO_TABLE);
     Ok(())
-}
-
-#[test]
-fn after_a_full_stack(rt: HostRuntime) -> Result<(), Fail> {
-    let mut context: UnwindContext<usize> = UnwindContext::new(rt.alloc())?;
-    check_full_stacks(&rt, &mut context)
 }
 
 const KEPT: Option<RegisterRule<usize>> = Some(RegisterRule::Offset(-24));
@@ -199,11 +197,21 @@ const PAST_ONE_RULE: [Result<Option<Shown>, Error>; 3] = [
 /// The row for 0x1000 up to an advance.
 const FIRST: Result<Shown, Error> = Ok((0x1000, 0x1001, R7_8, None, RETURNS));
 
-const OF_BOTH: [Result<Shown, Error>; 3] = [
-    Err(Error::TooManyRegisterRules),
-    FIRST,
-    Err(Error::TooManyRegisterRules),
-];
+/// Whether the table's rows are those, and where the row ends that it leaves; then the rows by both
+/// sections.
+type OneRule = (
+    Result<(bool, Option<u64>), Error>,
+    [Result<Shown, Error>; 3],
+);
+
+const ONE_RULE: OneRule = (
+    Ok((true, None)),
+    [
+        Err(Error::TooManyRegisterRules),
+        FIRST,
+        Err(Error::TooManyRegisterRules),
+    ],
+);
 
 /// The row of a section for 0x1000, and those of the section of three rows for 0x1000 and 0x1001.
 fn of_both<S: UnwindContextStorage<usize>>(
@@ -218,30 +226,16 @@ fn of_both<S: UnwindContextStorage<usize>>(
 }
 
 /// Checks a storage of one rule and one row.
-fn check_one_rule<S: UnwindContextStorage<usize>>(
+pub(crate) fn after_one_rule_too_many<S: UnwindContextStorage<usize>>(
     rt: &(impl Abort + AllocGlobal),
     context: &mut UnwindContext<usize, S>,
-    bytes: &[u8],
 ) -> Result<(), Fail> {
-    let table = hands_out(bytes, context, &PAST_ONE_RULE);
-    let rows = of_both(bytes, context);
-    assert_eq!(rt; (table, rows), (Ok((true, None)), OF_BOTH));
-    check_three_rows(rt, context, THREE_RULES)
-}
-
-/// The same with a fresh context.
-fn check_one_rule_of<S: UnwindContextStorage<usize>>(
-    rt: &(impl Abort + AllocGlobal),
-    bytes: &[u8],
-) -> Result<(), Fail> {
-    let mut context: UnwindContext<usize, S> = UnwindContext::new_in(rt.alloc())?;
-    check_one_rule(rt, &mut context, bytes)
-}
-
-#[test]
-fn after_one_rule_too_many(rt: HostRuntime) -> Result<(), Fail> {
     let bytes = bytes_of(rt.alloc(), THREE_RULES)?;
-    check_one_rule_of::<StoreOfOne>(&rt, bytes.as_slice())
+    let table = hands_out(bytes.as_slice(), context, &PAST_ONE_RULE);
+    let rows = of_both(bytes.as_slice(), context);
+    drop(bytes);
+    assert_eq!(rt; (table, rows), ONE_RULE);
+    check_three_rows(rt, context, THREE_RULES)
 }
 
 /// The rows for 0x1000, 0x1001 and 0x5000 by the FDE's own call, and for 0x1001 by the section's.
@@ -259,31 +253,18 @@ fn by_both_calls<R: Reader<Offset = usize>, S: UnwindContextStorage<usize>>(
 
 const ENDED: Result<Shown, Error> = Err(Error::UnexpectedEof(ReaderOffsetId(46)));
 
-/// Checks the section whose second instruction is cut off.
-fn check_cut<S: UnwindContextStorage<usize>>(
+const BY_BOTH_CALLS: [Result<Shown, Error>; 4] = [FIRST, ENDED, ENDED, ENDED];
+
+/// Checks the section whose second instruction is cut off: the FDE's own call goes on to rows
+/// outside its range, up to the instruction that can't be read.
+pub(crate) fn a_cut_instruction<R: Reader<Offset = usize>, S: UnwindContextStorage<usize>>(
     rt: &(impl Abort + AllocGlobal),
+    reader: R,
     context: &mut UnwindContext<usize, S>,
-    bytes: &[u8],
 ) -> Result<(), Fail> {
-    let rows = by_both_calls(EndianSlice::new(bytes, LittleEndian), context);
-    assert_eq!(rt; rows, [FIRST, ENDED, ENDED, ENDED]);
-    check_three_rows(rt, context, CUT)
-}
-
-/// The same with a fresh context.
-fn check_cut_of<S: UnwindContextStorage<usize>>(
-    rt: &(impl Abort + AllocGlobal),
-    bytes: &[u8],
-) -> Result<(), Fail> {
-    let mut context: UnwindContext<usize, S> = UnwindContext::new_in(rt.alloc())?;
-    check_cut(rt, &mut context, bytes)
-}
-
-/// The FDE's own call goes on to rows outside its range, up to the instruction that can't be read.
-#[test]
-fn a_cut_instruction(rt: HostRuntime) -> Result<(), Fail> {
-    let bytes = bytes_of(rt.alloc(), CUT)?;
-    check_cut_of::<StoreOnHeap>(&rt, bytes.as_slice())
+    let rows = by_both_calls(reader, context);
+    assert_eq!(rt; rows, BY_BOTH_CALLS);
+    check_three_rows(rt, context, "a cut instruction")
 }
 
 /// Whether the rows of two sections for 0x1000 are equal, and whether they are not.
@@ -299,91 +280,32 @@ fn compared<R: Reader<Offset = usize>, S: UnwindContextStorage<usize>>(
     Ok((*row == *other_row, *row != *other_row))
 }
 
-/// How the row of instructions compares with that of rules for 6 and then 7.
-fn compared_with<S: UnwindContextStorage<usize>>(
-    program: [u8; 4],
-    one: &mut UnwindContext<usize, S>,
-    other: &mut UnwindContext<usize, S>,
-) -> Result<(bool, bool), Error> {
-    compared(
-        EndianSlice::new(&with_program([0x86, 2, 0x87, 1]), LittleEndian),
-        EndianSlice::new(&with_program(program), LittleEndian),
-        one,
-        other,
-    )
-}
-
-/// Instructions, and how their row compares with that of "8602 8701".
-const COMPARISONS: [([u8; 4], (bool, bool)); 2] = [
-    ([0x87, 1, 0x86, 2], (true, false)),
-    ([0x87, 2, 0x86, 1], (false, true)),
+/// A CIE with a rule for register 16, and an FDE with rules for 6 and then 7.
+pub(crate) const RULES_IN_ORDER: [u8; 48] = [
+    0x10, 0, 0, 0, 0xff, 0xff, 0xff, 0xff, 4, 0, 8, 0, 1, 0x78, 0x10, 0x0c, 7, 8, 0x90, 1, 0x18, 0,
+    0, 0, 0, 0, 0, 0, 0, 0x10, 0, 0, 0, 0, 0, 0, 0x20, 0, 0, 0, 0, 0, 0, 0, 0x86, 2, 0x87, 1,
 ];
 
-/// Checks those with two contexts.
-fn check_orders<S: UnwindContextStorage<usize>>(
+/// The same with the rules of 6 and 7 exchanged.
+pub(crate) const RULES_EXCHANGED: [u8; 48] = [
+    0x10, 0, 0, 0, 0xff, 0xff, 0xff, 0xff, 4, 0, 8, 0, 1, 0x78, 0x10, 0x0c, 7, 8, 0x90, 1, 0x18, 0,
+    0, 0, 0, 0, 0, 0, 0, 0x10, 0, 0, 0, 0, 0, 0, 0x20, 0, 0, 0, 0, 0, 0, 0, 0x87, 2, 0x86, 1,
+];
+
+const COMPARED: [Result<(bool, bool), Error>; 2] = [Ok((true, false)), Ok((false, true))];
+
+/// Two rows whose rules are in another order are equal, and no other two.
+pub(crate) fn rows_by_their_rules<R: Reader<Offset = usize>, S: UnwindContextStorage<usize>>(
     rt: &impl Abort,
+    in_order: R,
+    in_another_order: R,
+    exchanged: R,
     one: &mut UnwindContext<usize, S>,
     other: &mut UnwindContext<usize, S>,
 ) {
-    for (program, expected) in &COMPARISONS {
-        let found = compared_with(*program, one, other);
-        assert_eq!(rt; found, Ok(*expected), "{program:?}");
-    }
+    let found = [
+        compared(in_order, in_another_order, one, other),
+        compared(in_order, exchanged, one, other),
+    ];
+    assert_eq!(rt; found, COMPARED);
 }
-
-/// The same with two fresh contexts.
-fn check_orders_of<S: UnwindContextStorage<usize>>(
-    rt: &(impl Abort + AllocGlobal),
-) -> Result<(), Fail> {
-    let mut one: UnwindContext<usize, S> = UnwindContext::new_in(rt.alloc())?;
-    let mut other: UnwindContext<usize, S> = UnwindContext::new_in(rt.alloc())?;
-    check_orders(rt, &mut one, &mut other);
-    Ok(())
-}
-
-/// Two rows whose rules are in another order are equal, and no other two.
-#[test]
-fn rows_by_their_rules(rt: HostRuntime) -> Result<(), Fail> {
-    check_orders_of::<StoreOnHeap>(&rt)
-}
-
-/// Whether the copy of a row is equal to it, and how many rules it has.
-fn copied_row<A: CopyList<Item = (Register, RegisterRule<usize>)>>(
-    row: &UnwindTableRow<usize, A>,
-) -> Result<(bool, usize), Error> {
-    let copy = row.try_clone()?;
-    Ok((copy == *row, copy.registers().count()))
-}
-
-/// The copy of the row for 0x1002 that a context returns.
-fn copied_row_in<R: Reader<Offset = usize>, S: UnwindContextStorage<usize>>(
-    reader: R,
-    context: &mut UnwindContext<usize, S>,
-) -> Result<(bool, usize), Error> {
-    let section = DebugFrame::from(reader);
-    copied_row(row_by_scan(&section, &BaseAddresses::default(), context, 0x1002)?)
-}
-
-/// Whether a context's copy is equal to it, and whether that is equal to a fresh one.
-fn copied_context<S: UnwindContextStorage<usize>>(
-    alloc: Global,
-    context: &UnwindContext<usize, S>,
-    fresh: &UnwindContext<usize, S>,
-) -> Result<(bool, bool), Error> {
-    let copy = context.try_clone(alloc)?;
-    Ok((are_equal(&copy, context), are_equal(&copy, fresh)))
-}
-
-/// Both for a context, with a fresh one.
-type Copied = (Result<(bool, usize), Error>, Result<(bool, bool), Error>);
-
-pub(crate) fn copied<S: UnwindContextStorage<usize>>(
-    alloc: Global,
-    context: &mut UnwindContext<usize, S>,
-    fresh: &UnwindContext<usize, S>,
-) -> Copied {
-    let row = copied_row_in(EndianSlice::new(&THREE_ROWS, LittleEndian), context);
-    (row, copied_context(alloc, context, fresh))
-}
-
-pub(crate) const COPIED: Copied = (Ok((true, 2)), Ok((true, false)));

@@ -2,12 +2,11 @@
 use cfi_tests_bytes::THREE_ROWS;
 use gimli_cfi::{
     ArrayLike, BaseAddresses, CfaRule, DebugFrame, DebugFrameOffset, EndianSlice, Error,
-    Expression, LittleEndian, Reader, ReaderOffsetId, Register, RegisterRule, UnwindContext,
-    UnwindContextStorage, UnwindExpression, UnwindSection, UnwindTable, UnwindTableRow,
-    scan_for_fde,
+    Expression, LittleEndian, Reader, ReaderOffset, ReaderOffsetId, Register, RegisterRule,
+    UnwindContext, UnwindContextStorage, UnwindExpression, UnwindSection, UnwindTable,
+    UnwindTableRow, row_by_scan, scan_for_fde,
 };
 use std::process::Abort;
-use std::test::Fail;
 
 /// The CIE; an FDE that remembers a row, sets the CFA, advances and restores.
 const REMEMBERED: [u8; 49] = [
@@ -30,7 +29,7 @@ const EXPRESSION: [u8; 51] = [
 ];
 
 /// Two CIEs at 0 and 20, whose CFAs are r7+8 and r7+16; FDEs of the first for 0x1000 and 0x2000.
-const TWO_CIES: [u8; 88] = [
+pub(crate) const TWO_CIES: [u8; 88] = [
     0x10, 0, 0, 0, 0xff, 0xff, 0xff, 0xff, 4, 0, 8, 0, 1, 0x78, 0x10, 0x0c, 7, 8, 0x90, 1, 0x10, 0,
     0, 0, 0xff, 0xff, 0xff, 0xff, 4, 0, 8, 0, 1, 0x78, 0x10, 0x0c, 7, 0x10, 0x90, 1, 0x14, 0, 0, 0,
     0, 0, 0, 0, 0, 0x10, 0, 0, 0, 0, 0, 0, 0x20, 0, 0, 0, 0, 0, 0, 0, 0x14, 0, 0, 0, 0, 0, 0, 0, 0,
@@ -58,17 +57,20 @@ const NOTHING_REMEMBERED: [u8; 47] = [
 ];
 
 /// A row: its addresses, its CFA, and the rules of registers 6 and 16.
-pub(crate) type Shown = (
+pub(crate) type ShownIn<T> = (
     u64,
     u64,
-    CfaRule<usize>,
-    Option<RegisterRule<usize>>,
-    Option<RegisterRule<usize>>,
+    CfaRule<T>,
+    Option<RegisterRule<T>>,
+    Option<RegisterRule<T>>,
 );
 
-pub(crate) fn shown<A: ArrayLike<Item = (Register, RegisterRule<usize>)>>(
-    row: &UnwindTableRow<usize, A>,
-) -> Shown {
+/// The same with offsets of eight bytes.
+pub(crate) type Shown = ShownIn<usize>;
+
+pub(crate) fn shown<T: ReaderOffset, A: ArrayLike<Item = (Register, RegisterRule<T>)>>(
+    row: &UnwindTableRow<T, A>,
+) -> ShownIn<T> {
     (
         row.start_address(),
         row.end_address(),
@@ -76,6 +78,20 @@ pub(crate) fn shown<A: ArrayLike<Item = (Register, RegisterRule<usize>)>>(
         row.register(Register(6)),
         row.register(Register(16)),
     )
+}
+
+/// The row of a section at 0x2000 for an address by a scan, in one place for all tests, since the
+/// contract of `row_by_scan` makes each check longer.
+pub(crate) fn row_of_section<R: Reader, U: UnwindSection<R>, S: UnwindContextStorage<R::Offset>>(
+    section: &U,
+    context: &mut UnwindContext<R::Offset, S>,
+    address: u64,
+) -> Result<ShownIn<R::Offset>, Error> {
+    let bases = BaseAddresses::default().set_eh_frame(0x2000);
+    match row_by_scan(section, &bases, context, address) {
+        Ok(row) => Ok(shown(row)),
+        Err(refusal) => Err(refusal),
+    }
 }
 
 /// The next row of a table.
@@ -176,110 +192,115 @@ pub(crate) const RETURNS: Option<RegisterRule<usize>> = Some(RegisterRule::Offse
 type Answers<'a> = &'a [Result<Option<Shown>, Error>];
 
 /// An advance to the same address ends a row of no addresses.
-const AT_ONCE: Answers<'static> = &[
+const AT_ONCE: [Result<Option<Shown>, Error>; 3] = [
     Ok(Some((0x1000, 0x1000, R7_8, None, RETURNS))),
     Ok(Some((0x1000, 0x1020, R7_8, None, RETURNS))),
     Ok(None),
 ];
 
-/// Sections, their rows, and where the row ends that the table leaves: after the last row there is
-/// none.
-const TABLES: [(&[u8], Answers<'static>, Option<u64>); 8] = [
-    (&LARGE_FACTOR, AT_ONCE, None),
-    (&SET_LOC, AT_ONCE, None),
-    (
-        &THREE_ROWS,
-        &[
-            Ok(Some((0x1000, 0x1001, R7_8, None, RETURNS))),
-            Ok(Some((0x1001, 0x1004, R7_16, SAVED, RETURNS))),
-            Ok(Some((0x1004, 0x1020, R6_16, SAVED, RETURNS))),
-            Ok(None),
-            Ok(None),
-        ],
-        None,
-    ),
-    (
-        &THREE_ROWS,
-        &[Ok(Some((0x1000, 0x1001, R7_8, None, RETURNS)))],
-        Some(0x1001),
-    ),
-    (
-        &REMEMBERED,
-        &[
-            Ok(Some((0x1000, 0x1002, R7_32, None, RETURNS))),
-            Ok(Some((0x1002, 0x1020, R7_8, None, RETURNS))),
-            Ok(None),
-        ],
-        None,
-    ),
-    (
-        &CIE_MOVES,
-        &[Ok(Some((0x1000, 0x1020, R7_8, None, RETURNS))), Ok(None)],
-        None,
-    ),
-    (
-        &EXPRESSION,
-        &[
-            Err(Error::CfiInstructionInInvalidContext),
-            Ok(Some((0x1000, 0x1020, BY_EXPRESSION, SAVED, RETURNS))),
-            Ok(None),
-        ],
-        None,
-    ),
-    (
-        &NOTHING_REMEMBERED,
-        &[
-            Err(Error::PopWithEmptyStack),
-            Ok(Some((0x1000, 0x1020, R7_16, None, RETURNS))),
-            Ok(None),
-        ],
-        None,
-    ),
+/// Three rows, after which a table returns none, more than once.
+const OF_THREE_ROWS: [Result<Option<Shown>, Error>; 5] = [
+    Ok(Some((0x1000, 0x1001, R7_8, None, RETURNS))),
+    Ok(Some((0x1001, 0x1004, R7_16, SAVED, RETURNS))),
+    Ok(Some((0x1004, 0x1020, R6_16, SAVED, RETURNS))),
+    Ok(None),
+    Ok(None),
 ];
 
-/// Checks those rows with one context.
-fn check_tables<S: UnwindContextStorage<usize>>(
+const FIRST_OF_THREE: [Result<Option<Shown>, Error>; 1] = [Ok(Some((
+    0x1000, 0x1001, R7_8, None, RETURNS,
+)))];
+
+const OF_REMEMBERED: [Result<Option<Shown>, Error>; 3] = [
+    Ok(Some((0x1000, 0x1002, R7_32, None, RETURNS))),
+    Ok(Some((0x1002, 0x1020, R7_8, None, RETURNS))),
+    Ok(None),
+];
+
+const OF_CIE_MOVES: [Result<Option<Shown>, Error>; 2] = [
+    Ok(Some((0x1000, 0x1020, R7_8, None, RETURNS))),
+    Ok(None),
+];
+
+const OF_EXPRESSION: [Result<Option<Shown>, Error>; 3] = [
+    Err(Error::CfiInstructionInInvalidContext),
+    Ok(Some((0x1000, 0x1020, BY_EXPRESSION, SAVED, RETURNS))),
+    Ok(None),
+];
+
+const OF_NOTHING_REMEMBERED: [Result<Option<Shown>, Error>; 3] = [
+    Err(Error::PopWithEmptyStack),
+    Ok(Some((0x1000, 0x1020, R7_16, None, RETURNS))),
+    Ok(None),
+];
+
+/// Checks the rows of a section, and where the row ends that the table leaves.
+fn check_table<S: UnwindContextStorage<usize>>(
     rt: &impl Abort,
     context: &mut UnwindContext<usize, S>,
+    name: &str,
+    bytes: &[u8],
+    answers: Answers<'_>,
+    end: Option<u64>,
 ) {
-    for (bytes, answers, end) in &TABLES {
-        let found = hands_out(bytes, context, answers);
-        assert_eq!(rt; found, Ok((true, *end)));
-    }
+    let found = hands_out(bytes, context, answers);
+    assert_eq!(rt; found, Ok((true, end)), "{name}");
 }
 
-#[test]
-fn rows_one_by_one(rt: HostRuntime) -> Result<(), Fail> {
-    let mut context: UnwindContext<usize> = UnwindContext::new(rt.alloc())?;
-    check_tables(&rt, &mut context);
-    Ok(())
+/// Checks the rows of sections in order. After the last row the table leaves none.
+pub(crate) fn rows_one_by_one<S: UnwindContextStorage<usize>>(
+    rt: &impl Abort,
+    of: &mut UnwindContext<usize, S>,
+) {
+    check_table(rt, of, "a large factor", &LARGE_FACTOR, &AT_ONCE, None);
+    check_table(rt, of, "DW_CFA_set_loc", &SET_LOC, &AT_ONCE, None);
+    check_table(rt, of, "three rows", &THREE_ROWS, &OF_THREE_ROWS, None);
+    check_table(
+        rt,
+        of,
+        "the first row",
+        &THREE_ROWS,
+        &FIRST_OF_THREE,
+        Some(0x1001),
+    );
+    check_table(
+        rt,
+        of,
+        "a remembered row",
+        &REMEMBERED,
+        &OF_REMEMBERED,
+        None,
+    );
+    check_table(rt, of, "a CIE that moves", &CIE_MOVES, &OF_CIE_MOVES, None);
+    check_table(rt, of, "an expression", &EXPRESSION, &OF_EXPRESSION, None);
+    check_table(
+        rt,
+        of,
+        "none remembered",
+        &NOTHING_REMEMBERED,
+        &OF_NOTHING_REMEMBERED,
+        None,
+    );
 }
 
-/// The bytes of an expression in the section whose CFA is one.
-fn bytes_at(offset: usize, length: usize) -> Result<&'static [u8], Error> {
+/// How many bytes an expression in the section whose CFA is one has, and the first of them.
+fn bytes_at(offset: usize, length: usize) -> Result<(usize, Option<u8>), Error> {
     let section = DebugFrame::new(&EXPRESSION, LittleEndian);
     let Expression(read) = UnwindExpression { offset, length }.get(&section)?;
-    Ok(read.slice())
+    Ok((read.slice().len(), read.slice().first().copied()))
 }
 
-const EXPRESSIONS: [(usize, usize, Result<&[u8], Error>); 4] = [
-    (48, 1, Ok(&[0x30])),
+const EXPRESSIONS: [(usize, usize, Result<(usize, Option<u8>), Error>); 4] = [
+    (48, 1, Ok((1, Some(0x30)))),
     (52, 0, Err(Error::UnexpectedEof(ReaderOffsetId(0)))),
     (48, 4, Err(Error::UnexpectedEof(ReaderOffsetId(48)))),
     (51, 1, Err(Error::UnexpectedEof(ReaderOffsetId(51)))),
 ];
 
-#[test]
-fn the_bytes_of_an_expression(rt: HostRuntime) -> Result<(), Fail> {
+pub(crate) fn the_bytes_of_an_expression(rt: &impl Abort) {
     for (offset, length, bytes) in &EXPRESSIONS {
         assert_eq!(rt; bytes_at(*offset, *length), *bytes);
     }
-    Ok(())
-}
-
-/// A reader of the section of two CIEs.
-pub(crate) fn two_cies() -> EndianSlice<'static, LittleEndian> {
-    EndianSlice::new(&TWO_CIES, LittleEndian)
 }
 
 /// A row, and how often `get_cie` was called.
@@ -330,21 +351,13 @@ const WITH_CHANGING_CIES: [(u64, bool, Asked); 5] = [
     (0x2000, true, REFUSED),
 ];
 
-/// Checks those rows with one context.
-fn check_changing_cies<R: Reader<Offset = usize>, S: UnwindContextStorage<usize>>(
-    rt: &impl Abort,
-    reader: R,
-    context: &mut UnwindContext<usize, S>,
-) {
+/// Checks those rows.
+pub(crate) fn a_get_cie_that_changes_or_refuses<
+    R: Reader<Offset = usize>,
+    S: UnwindContextStorage<usize>,
+>(rt: &impl Abort, reader: R, context: &mut UnwindContext<usize, S>) {
     for (address, refuses, asked) in &WITH_CHANGING_CIES {
         let found = with_changing_cies(reader, context, *address, *refuses);
         assert_eq!(rt; found, *asked);
     }
-}
-
-#[test]
-fn a_get_cie_that_changes_or_refuses(rt: HostRuntime) -> Result<(), Fail> {
-    let mut context: UnwindContext<usize> = UnwindContext::new(rt.alloc())?;
-    check_changing_cies(&rt, two_cies(), &mut context);
-    Ok(())
 }
