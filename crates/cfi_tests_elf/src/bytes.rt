@@ -2,6 +2,20 @@
 //! order. Each has the sections `.text`, `.eh_frame`, `.bss`, `.symtab`, `.strtab` and `.shstrtab`,
 //! a segment of type `PT_LOAD` from `.text` on, one of type `PT_GNU_EH_FRAME`, and the symbols
 //! `start` (undefined), `starts`, `start` and `other`. readelf says so.
+use cfi_tests_bytes::bytes_of;
+use std::alloc::Global;
+use std::test::Fail;
+
+/// A file in which some bytes are changed, each at its offset.
+pub(crate) fn changed(alloc: Global, text: &str, changes: &[(usize, u8)]) -> Result<Vec<u8>, Fail> {
+    let mut bytes = bytes_of(alloc, text)?;
+    for (offset, byte) in changes {
+        if let Some(place) = bytes.get_mut(*offset) {
+            *place = *byte;
+        }
+    }
+    Ok(bytes)
+}
 
 /// `ELFCLASS64`, `ELFDATA2LSB`, `EM_X86_64`.
 pub(crate) const LITTLE_64: &str = "\

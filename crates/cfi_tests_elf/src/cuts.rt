@@ -1,69 +1,80 @@
 //! Files that are cut at every length: the error of the header, or those of a section and of a
 //! segment.
-use crate::bytes::{BIG_32, BIG_64, LITTLE_32, LITTLE_64};
-use cfi_elf::{ElfError, ElfFile};
-use cfi_tests_bytes::bytes_of;
+use crate::bytes::{BIG_32, BIG_64, LITTLE_32, LITTLE_64, changed};
+use cfi_elf::{ElfError, ElfFile, Section};
 use std::test::Fail;
-
-/// A file; where its header ends, the program headers, the header's segment, and the file.
-type File = (&'static str, [usize; 4]);
-
-const FILES: [File; 4] = [
-    (LITTLE_64, [64, 176, 192, 844]),
-    (BIG_64, [64, 176, 192, 844]),
-    (LITTLE_32, [52, 116, 132, 576]),
-    (BIG_32, [52, 116, 132, 576]),
-];
 
 /// Whether `.text` and the header's segment are found.
 type Answer = Result<(Result<bool, ElfError>, Result<bool, ElfError>), ElfError>;
 
+/// The first and the last of some lengths, and what is found in a file of these.
+type Cut = (usize, usize, Answer);
+
 /// The section headers are at the end of the file.
-fn expected(ends: &[usize; 4], count: usize) -> Answer {
-    let [header, program_headers, segment, whole] = *ends;
-    if count < 4 {
-        return Err(ElfError::NotElf);
+const CUT: Result<bool, ElfError> = Err(ElfError::SectionTableOutOfBounds);
+
+/// In the identification, the header, the program headers, the header's segment, and what comes
+/// after it; and the whole file.
+const OF_64_BITS: [Cut; 6] = [
+    (0, 3, Err(ElfError::NotElf)),
+    (4, 63, Err(ElfError::HeaderCut)),
+    (64, 175, Ok((CUT, Err(ElfError::ProgramTableOutOfBounds)))),
+    (176, 191, Ok((CUT, Err(ElfError::SegmentOutOfBounds)))),
+    (192, 843, Ok((CUT, Ok(true)))),
+    (844, 844, Ok((Ok(true), Ok(true)))),
+];
+
+/// The same of 32 bits.
+const OF_32_BITS: [Cut; 6] = [
+    (0, 3, Err(ElfError::NotElf)),
+    (4, 51, Err(ElfError::HeaderCut)),
+    (52, 115, Ok((CUT, Err(ElfError::ProgramTableOutOfBounds)))),
+    (116, 131, Ok((CUT, Err(ElfError::SegmentOutOfBounds)))),
+    (132, 575, Ok((CUT, Ok(true)))),
+    (576, 576, Ok((Ok(true), Ok(true)))),
+];
+
+const FILES: [(&str, [Cut; 6]); 4] = [
+    (LITTLE_64, OF_64_BITS),
+    (BIG_64, OF_64_BITS),
+    (LITTLE_32, OF_32_BITS),
+    (BIG_32, OF_32_BITS),
+];
+
+fn is_found(section: Result<Option<Section<'_>>, ElfError>) -> Result<bool, ElfError> {
+    match section {
+        Ok(found) => Ok(found.is_some()),
+        Err(error) => Err(error),
     }
-    if count < header {
-        return Err(ElfError::HeaderCut);
-    }
-    let section = if count < whole {
-        Err(ElfError::SectionTableOutOfBounds)
-    } else {
-        Ok(true)
-    };
-    if count < program_headers {
-        return Ok((section, Err(ElfError::ProgramTableOutOfBounds)));
-    }
-    if count < segment {
-        return Ok((section, Err(ElfError::SegmentOutOfBounds)));
-    }
-    Ok((section, Ok(true)))
 }
 
 fn found(bytes: &[u8]) -> Answer {
     let file = ElfFile::parse(bytes)?;
-    let section = match file.section(b".text") {
-        Ok(found) => Ok(found.is_some()),
-        Err(error) => Err(error),
-    };
-    let segment = match file.eh_frame_hdr_segment() {
-        Ok(found) => Ok(found.is_some()),
-        Err(error) => Err(error),
-    };
-    Ok((section, segment))
+    Ok((
+        is_found(file.section(b".text")),
+        is_found(file.eh_frame_hdr_segment()),
+    ))
+}
+
+/// What is found in the first bytes of a file; nothing is found where there are fewer.
+fn found_in_cut(bytes: &[u8], count: usize) -> Answer {
+    match bytes.get(..count) {
+        Some(cut) => found(cut),
+        None => Ok((Ok(false), Ok(false))),
+    }
 }
 
 #[test]
 fn files_cut_at_every_length(rt: HostRuntime) -> Result<(), Fail> {
-    for (text, ends) in &FILES {
-        let bytes = bytes_of(rt.alloc(), text)?;
-        let whole = bytes.as_slice();
-        for count in 0..=whole.len() {
-            let Some(cut) = whole.get(..count) else {
-                continue;
-            };
-            assert_eq!(rt; found(cut), expected(ends, count));
+    for (text, cuts) in &FILES {
+        let bytes = changed(rt.alloc(), text, &[])?;
+        for (first, last, answer) in cuts {
+            for count in *first..=*last {
+                assert_eq!(rt;
+                    (count, found_in_cut(bytes.as_slice(), count)),
+                    (count, *answer)
+                );
+            }
         }
     }
     Ok(())

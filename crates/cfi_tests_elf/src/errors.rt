@@ -1,7 +1,6 @@
 //! Each error, by bytes of a file that are changed.
-use crate::bytes::LITTLE_64;
+use crate::bytes::{LITTLE_64, changed};
 use cfi_elf::{ElfError, ElfFile};
-use cfi_tests_bytes::bytes_of;
 use std::process::Abort;
 use std::test::Fail;
 
@@ -25,49 +24,118 @@ const EXTENDED: [(usize, u8); 9] = [
     (440, 2),
 ];
 
-/// Bytes that are changed, each at its offset, and how many of seven are found, or the first error.
-type Changed = (&'static [(usize, u8)], Result<usize, ElfError>);
+/// A case, its bytes that are changed, each at its offset, and which of seven are found, or the
+/// first error.
+type Changed = (
+    &'static str,
+    &'static [(usize, u8)],
+    Result<[bool; 7], ElfError>,
+);
 
-const HEADER: [Changed; 9] = [
-    (&[], Ok(5)),
-    (&[(0, 0x7e)], Err(ElfError::NotElf)),
-    (&[(4, 3)], Err(ElfError::UnknownClass(3))),
-    (&[(5, 0)], Err(ElfError::UnknownDataEncoding(0))),
-    (&[(6, 2)], Err(ElfError::UnknownVersion(2))),
-    (&[(20, 2)], Err(ElfError::UnknownVersion(2))),
-    (&[(16, 1)], Err(ElfError::Relocatable)),
-    (&[(16, 4)], Err(ElfError::Core)),
-    // Neither table.
-    (&[(32, 0), (40, 0), (41, 0)], Ok(0)),
+/// Five of them: neither the section that isn't there nor `.debug_frame`.
+const FIVE: Result<[bool; 7], ElfError> = Ok([true, false, false, true, true, true, true]);
+
+/// The others but `.text`.
+const FOUR: Result<[bool; 7], ElfError> = Ok([false, false, false, true, true, true, true]);
+
+const OF_THE_HEADER: [Changed; 9] = [
+    ("the file as it is", &[], FIVE),
+    ("no ELF", &[(0, 0x7e)], Err(ElfError::NotElf)),
+    ("class 3", &[(4, 3)], Err(ElfError::UnknownClass(3))),
+    (
+        "no byte order",
+        &[(5, 0)],
+        Err(ElfError::UnknownDataEncoding(0)),
+    ),
+    (
+        "version 2 before the header",
+        &[(6, 2)],
+        Err(ElfError::UnknownVersion(2)),
+    ),
+    (
+        "version 2 in the header",
+        &[(20, 2)],
+        Err(ElfError::UnknownVersion(2)),
+    ),
+    ("an object file", &[(16, 1)], Err(ElfError::Relocatable)),
+    ("a core file", &[(16, 4)], Err(ElfError::Core)),
+    (
+        "neither table",
+        &[(32, 0), (40, 0), (41, 0)],
+        Ok([false; 7]),
+    ),
 ];
 
-const TABLES: [Changed; 14] = [
-    (&EXTENDED, Ok(5)),
-    (&[(58, 65)], Err(ElfError::SectionEntrySize(65))),
-    (&[(60, 8)], Err(ElfError::SectionTableOutOfBounds)),
-    (&[(47, 1)], Err(ElfError::SectionTableOutOfBounds)),
-    (&[(62, 7)], Err(ElfError::NoNameSection(7))),
-    // The names of symbols in place of those of sections.
-    (&[(62, 5)], Err(ElfError::NameOutOfBounds)),
-    // The names end before the zero of the last one.
-    (&[(NAMES + 32, 47)], Err(ElfError::NameNotTerminated)),
-    // `SHF_COMPRESSED`, and a size of more than 2^32.
-    (&[(TEXT + 9, 8)], Err(ElfError::Compressed)),
-    (&[(TEXT + 36, 1)], Err(ElfError::SectionOutOfBounds)),
-    // `.bss` is called `.zdebug_frame`.
-    (&[(BSS, 48)], Err(ElfError::Compressed)),
-    // `.text` is of type `SHT_NULL`.
-    (&[(TEXT + 4, 0)], Ok(4)),
-    (&[(54, 57)], Err(ElfError::ProgramEntrySize(57))),
-    (&[(39, 1)], Err(ElfError::ProgramTableOutOfBounds)),
-    (&[(156, 1)], Err(ElfError::SegmentOutOfBounds)),
+const OF_THE_TABLES: [Changed; 14] = [
+    ("counts in section 0", &EXTENDED, FIVE),
+    (
+        "section headers of 65 bytes",
+        &[(58, 65)],
+        Err(ElfError::SectionEntrySize(65)),
+    ),
+    (
+        "8 sections",
+        &[(60, 8)],
+        Err(ElfError::SectionTableOutOfBounds),
+    ),
+    (
+        "sections after the end",
+        &[(47, 1)],
+        Err(ElfError::SectionTableOutOfBounds),
+    ),
+    (
+        "names in section 7",
+        &[(62, 7)],
+        Err(ElfError::NoNameSection(7)),
+    ),
+    (
+        "the names of symbols in place of those of sections",
+        &[(62, 5)],
+        Err(ElfError::NameOutOfBounds),
+    ),
+    (
+        "names that end before the zero of the last one",
+        &[(NAMES + 32, 47)],
+        Err(ElfError::NameNotTerminated),
+    ),
+    (
+        "SHF_COMPRESSED",
+        &[(TEXT + 9, 8)],
+        Err(ElfError::Compressed),
+    ),
+    (
+        "a section of more than 2^32 bytes",
+        &[(TEXT + 36, 1)],
+        Err(ElfError::SectionOutOfBounds),
+    ),
+    (
+        ".bss is called .zdebug_frame",
+        &[(BSS, 48)],
+        Err(ElfError::Compressed),
+    ),
+    (".text is of type SHT_NULL", &[(TEXT + 4, 0)], FOUR),
+    (
+        "program headers of 57 bytes",
+        &[(54, 57)],
+        Err(ElfError::ProgramEntrySize(57)),
+    ),
+    (
+        "segments after the end",
+        &[(39, 1)],
+        Err(ElfError::ProgramTableOutOfBounds),
+    ),
+    (
+        "a segment of more than 2^32 bytes",
+        &[(156, 1)],
+        Err(ElfError::SegmentOutOfBounds),
+    ),
 ];
 
-/// How many are found of `.text`, a section that isn't there, `.debug_frame`, the header's segment,
-/// the bytes at the address of `.text`, the symbol `start` and its function.
-fn count_found(bytes: &[u8]) -> Result<usize, ElfError> {
+/// Whether there are `.text`, a section that isn't there, `.debug_frame`, the header's segment, the
+/// bytes at the address of `.text`, the symbol `start` and its function.
+fn found_in(bytes: &[u8]) -> Result<[bool; 7], ElfError> {
     let file = ElfFile::parse(bytes)?;
-    let found = [
+    Ok([
         file.section(b".text")?.is_some(),
         file.section(b".missing")?.is_some(),
         file.debug_frame()?.is_some(),
@@ -75,39 +143,34 @@ fn count_found(bytes: &[u8]) -> Result<usize, ElfError> {
         file.loaded_bytes(0x10b0)?.is_some(),
         file.symbol_address(b"start")?.is_some(),
         file.function_at(0x10b0)?.is_some(),
-    ];
-    Ok(found.iter().filter(|is_found| **is_found).count())
+    ])
 }
 
-fn check(rt: &(impl Abort + AllocGlobal), changed: &[Changed]) -> Result<(), Fail> {
-    for (places, expected) in changed {
-        let mut bytes = bytes_of(rt.alloc(), LITTLE_64)?;
-        for (offset, byte) in places.iter() {
-            if let Some(place) = bytes.get_mut(*offset) {
-                *place = *byte;
-            }
-        }
-        assert_eq!(rt; count_found(bytes.as_slice()), *expected);
+fn check(rt: &(impl Abort + AllocGlobal), cases: &[Changed]) -> Result<(), Fail> {
+    for (case, changes, expected) in cases {
+        let bytes = changed(rt.alloc(), LITTLE_64, changes)?;
+        let found = found_in(bytes.as_slice());
+        assert_eq!(rt; (case, found), (case, *expected));
     }
     Ok(())
 }
 
 #[test]
-fn errors_of_the_header(rt: HostRuntime) -> Result<(), Fail> {
-    check(&rt, &HEADER)
+fn each_error(rt: HostRuntime) -> Result<(), Fail> {
+    check(&rt, &OF_THE_HEADER)?;
+    check(&rt, &OF_THE_TABLES)
 }
 
-#[test]
-fn errors_of_the_tables(rt: HostRuntime) -> Result<(), Fail> {
-    check(&rt, &TABLES)
-}
+const SENTENCES: [(ElfError, &str); 2] = [
+    (ElfError::Compressed, "the section is compressed"),
+    (ElfError::SectionEntrySize(65), "section headers of size 65"),
+];
 
 #[test]
 fn sentences(rt: HostRuntime) -> Result<(), Fail> {
-    let alloc = rt.alloc();
-    let short = format!(in alloc; "{}", ElfError::Compressed)?;
-    assert_eq!(rt; short.as_str(), "the section is compressed");
-    let long = format!(in alloc; "{}", ElfError::SectionEntrySize(65))?;
-    assert_eq!(rt; long.as_str(), "section headers of size 65");
+    for (error, sentence) in &SENTENCES {
+        let text = error.to_string(rt.alloc())?;
+        assert_eq!(rt; text.as_str(), *sentence);
+    }
     Ok(())
 }

@@ -1,162 +1,167 @@
 //! What is found in the four files.
-use crate::bytes::{BIG_32, BIG_64, LITTLE_32, LITTLE_64};
+use crate::bytes::{BIG_32, BIG_64, LITTLE_32, LITTLE_64, changed};
 use cfi_elf::{Class, ElfError, ElfFile, Section};
 use cfi_read_core::{RunTimeEndian, Vendor};
-use cfi_tests_bytes::bytes_of;
+use std::process::Abort;
 use std::test::Fail;
 
-/// A file, what its header says, the address of `.text`, and that of `.bss`.
-type File = (&'static str, (Class, RunTimeEndian, u8, Vendor), u64, u64);
+/// What a header says.
+type Header = (Class, RunTimeEndian, u8, Vendor);
 
-const FILES: [File; 4] = [
+/// The addresses of `.text`, of its third and its fourth byte, of `.eh_frame`, of the header's
+/// segment, and of `.bss`.
+type Places = [u64; 6];
+
+const OF_64_BITS: Places = [0x10b0, 0x10b2, 0x10b3, 0x10b4, 0x10bc, 0x10c0];
+
+const OF_32_BITS: Places = [0x1074, 0x1076, 0x1077, 0x1078, 0x1080, 0x1084];
+
+/// A file, the bytes that are changed in it, what its header says, and its places.
+type File = (&'static str, &'static [(usize, u8)], Header, Places);
+
+const LITTLE: RunTimeEndian = RunTimeEndian::Little;
+
+const BIG: RunTimeEndian = RunTimeEndian::Big;
+
+/// The fifth is for AArch64.
+const FILES: [File; 5] = [
     (
         LITTLE_64,
-        (Class::Elf64, RunTimeEndian::Little, 8, Vendor::Default),
-        0x10b0,
-        0x10c0,
+        &[],
+        (Class::Elf64, LITTLE, 8, Vendor::Default),
+        OF_64_BITS,
     ),
     (
         BIG_64,
-        (Class::Elf64, RunTimeEndian::Big, 8, Vendor::Default),
-        0x10b0,
-        0x10c0,
+        &[],
+        (Class::Elf64, BIG, 8, Vendor::Default),
+        OF_64_BITS,
     ),
     (
         LITTLE_32,
-        (Class::Elf32, RunTimeEndian::Little, 4, Vendor::Default),
-        0x1074,
-        0x1084,
+        &[],
+        (Class::Elf32, LITTLE, 4, Vendor::Default),
+        OF_32_BITS,
     ),
     (
         BIG_32,
-        (Class::Elf32, RunTimeEndian::Big, 4, Vendor::Default),
-        0x1074,
-        0x1084,
+        &[],
+        (Class::Elf32, BIG, 4, Vendor::Default),
+        OF_32_BITS,
+    ),
+    (
+        LITTLE_64,
+        &[(18, 183)],
+        (Class::Elf64, LITTLE, 8, Vendor::AArch64),
+        OF_64_BITS,
     ),
 ];
 
-/// The length, and the first and the last byte.
-type Ends = (usize, Option<u8>, Option<u8>);
+/// The address of a section, and its bytes.
+type Part<'a> = Option<(u64, &'a [u8])>;
 
-fn ends_of(bytes: &[u8]) -> Ends {
-    (bytes.len(), bytes.first().copied(), bytes.last().copied())
-}
-
-fn section_of(section: Option<Section<'_>>) -> Option<(u64, Ends)> {
+fn part_of<'a>(section: Option<Section<'a>>) -> Part<'a> {
     match section {
-        Some(section) => Some((section.address, ends_of(section.bytes))),
+        Some(section) => Some((section.address, section.bytes)),
         None => None,
     }
 }
 
-type Sections = [Option<(u64, Ends)>; 5];
-
 /// `.text`, `.eh_frame`, `.bss`, a section whose name begins another one's, and `.debug_frame`.
-fn sections_of(file: &ElfFile<'_>) -> Result<Sections, ElfError> {
-    Ok([
-        section_of(file.section(b".text")?),
-        section_of(file.section(b".eh_frame")?),
-        section_of(file.section(b".bss")?),
-        section_of(file.section(b".eh_fram")?),
-        section_of(file.debug_frame()?),
-    ])
-}
+type Sections<'a> = (Part<'a>, Part<'a>, Part<'a>, Part<'a>, Part<'a>);
 
-/// The header's segment, and the bytes from the third of `.text` on, and behind the segment.
-fn segments_of(
-    file: &ElfFile<'_>,
-    text: u64,
-) -> Result<(Option<(u64, Ends)>, [Option<Ends>; 2]), ElfError> {
-    let header = section_of(file.eh_frame_hdr_segment()?);
-    let within = file.loaded_bytes(text.saturating_add(2))?;
-    let behind = file.loaded_bytes(text.saturating_add(16))?;
+fn sections_of<'a>(file: &ElfFile<'a>) -> Result<Sections<'a>, ElfError> {
     Ok((
-        header,
-        [
-            within.map(|bytes| ends_of(bytes)),
-            behind.map(|bytes| ends_of(bytes)),
-        ],
+        part_of(file.section(b".text")?),
+        part_of(file.section(b".eh_frame")?),
+        part_of(file.section(b".bss")?),
+        part_of(file.section(b".eh_fram")?),
+        part_of(file.debug_frame()?),
     ))
 }
 
+/// The header's segment, and the bytes from the third of `.text` on, and behind the segment.
+type Segments<'a> = (Part<'a>, [Option<&'a [u8]>; 2]);
+
+fn segments_of<'a>(file: &ElfFile<'a>, places: &Places) -> Result<Segments<'a>, ElfError> {
+    let header = part_of(file.eh_frame_hdr_segment()?);
+    let within = file.loaded_bytes(places[1])?;
+    let behind = file.loaded_bytes(places[5])?;
+    Ok((header, [within, behind]))
+}
+
+/// The name of a function, its address, and its size.
+type Function<'a> = Option<(&'a [u8], u64, u64)>;
+
+fn function_at<'a>(file: &ElfFile<'a>, address: u64) -> Result<Function<'a>, ElfError> {
+    match file.function_at(address)? {
+        Some(function) => Ok(Some((function.name, function.address, function.size))),
+        None => Ok(None),
+    }
+}
+
 /// The values of `start` and of a symbol that isn't there, and the functions at three addresses.
-fn symbols_of(
-    file: &ElfFile<'_>,
-    text: u64,
-) -> Result<([Option<u64>; 2], [Option<(Ends, u64, u64)>; 3]), ElfError> {
+type Symbols<'a> = ([Option<u64>; 2], [Function<'a>; 3]);
+
+fn symbols_of<'a>(file: &ElfFile<'a>, places: &Places) -> Result<Symbols<'a>, ElfError> {
     let values = [
         file.symbol_address(b"start")?,
         file.symbol_address(b"star")?,
     ];
     let functions = [
-        function_at(file, text.saturating_add(2))?,
-        function_at(file, text.saturating_add(3))?,
-        function_at(file, text.saturating_add(4))?,
+        function_at(file, places[1])?,
+        function_at(file, places[2])?,
+        function_at(file, places[3])?,
     ];
     Ok((values, functions))
 }
 
-fn function_at(file: &ElfFile<'_>, address: u64) -> Result<Option<(Ends, u64, u64)>, ElfError> {
-    match file.function_at(address)? {
-        Some(function) => Ok(Some((ends_of(function.name), function.address, function.size))),
-        None => Ok(None),
-    }
+/// The bytes of `.text`, `.eh_frame` and the header's segment, one after the other.
+const BYTES: [u8; 16] = [
+    0x90, 0x91, 0x92, 0xc3, 0xa0, 0xa1, 0xa2, 0xa3, 0, 0, 0, 0, 1, 0x1b, 3, 0x3b,
+];
+
+fn check_parts(rt: &impl Abort, file: &ElfFile<'_>, places: &Places) {
+    let [text, _, _, frame, header, data] = *places;
+    let sections: Sections<'_> = (
+        Some((text, &BYTES[..4])),
+        Some((frame, &BYTES[4..12])),
+        Some((data, &[])),
+        None,
+        None,
+    );
+    assert_eq!(rt; sections_of(file), Ok(sections));
+    let segments = (Some((header, &BYTES[12..])), [Some(&BYTES[2..]), None]);
+    assert_eq!(rt; segments_of(file, places), Ok(segments));
+}
+
+fn check_symbols(rt: &impl Abort, file: &ElfFile<'_>, places: &Places) {
+    let [text, _, fourth, ..] = *places;
+    let start: Function<'_> = Some((b"start", text, 3));
+    let functions = [start, Some((b"other", fourth, 1)), None];
+    assert_eq!(rt;
+        symbols_of(file, places),
+        Ok(([Some(text), None], functions))
+    );
+}
+
+fn header_of(file: &ElfFile<'_>) -> Header {
+    (
+        file.class(),
+        file.endian(),
+        file.address_size(),
+        file.vendor(),
+    )
 }
 
 #[test]
-fn headers_and_sections(rt: HostRuntime) -> Result<(), Fail> {
-    for (text, header, code, data) in &FILES {
-        let bytes = bytes_of(rt.alloc(), text)?;
+fn what_each_file_has(rt: HostRuntime) -> Result<(), Fail> {
+    for (text, changes, header, places) in &FILES {
+        let bytes = changed(rt.alloc(), text, changes)?;
         let file = ElfFile::parse(bytes.as_slice())?;
-        let said = (
-            file.class(),
-            file.endian(),
-            file.address_size(),
-            file.vendor(),
-        );
-        assert_eq!(rt; said, *header);
-        let frame = code.saturating_add(4);
-        let expected = [
-            Some((*code, (4, Some(0x90), Some(0xc3)))),
-            Some((frame, (8, Some(0xa0), Some(0)))),
-            Some((*data, (0, None, None))),
-            None,
-            None,
-        ];
-        assert_eq!(rt; sections_of(&file), Ok(expected));
+        assert_eq!(rt; header_of(&file), *header);
+        check_parts(&rt, &file, places);
+        check_symbols(&rt, &file, places);
     }
-    Ok(())
-}
-
-#[test]
-fn segments_and_symbols(rt: HostRuntime) -> Result<(), Fail> {
-    for (text, _, code, _) in &FILES {
-        let bytes = bytes_of(rt.alloc(), text)?;
-        let file = ElfFile::parse(bytes.as_slice())?;
-        let header = Some((code.saturating_add(12), (4, Some(1), Some(0x3b))));
-        let loaded = [Some((14, Some(0x92), Some(0x3b))), None];
-        assert_eq!(rt; segments_of(&file, *code), Ok((header, loaded)));
-        let third = code.saturating_add(3);
-        let functions = [
-            Some(((5, Some(b's'), Some(b't')), *code, 3)),
-            Some(((5, Some(b'o'), Some(b'r')), third, 1)),
-            None,
-        ];
-        assert_eq!(rt;
-            symbols_of(&file, *code),
-            Ok(([Some(*code), None], functions))
-        );
-    }
-    Ok(())
-}
-
-#[test]
-fn a_file_for_aarch64(rt: HostRuntime) -> Result<(), Fail> {
-    let mut bytes = bytes_of(rt.alloc(), LITTLE_64)?;
-    if let Some(low) = bytes.get_mut(18) {
-        *low = 183;
-    }
-    let file = ElfFile::parse(bytes.as_slice())?;
-    assert_eq!(rt; file.vendor(), Vendor::AArch64);
     Ok(())
 }
