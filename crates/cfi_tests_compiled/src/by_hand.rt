@@ -1,9 +1,22 @@
 //! Compiled tables whose rows were worked out by hand.
 use cfi_compiled::{CompiledRow, CompiledTable};
 use cfi_tests_bytes::{THREE_ROWS, joined};
-use gimli_cfi::{BaseAddresses, CfaRule, DebugFrame, Error, LittleEndian, Register, RegisterRule};
+use gimli_cfi::{
+    BaseAddresses, CfaRule, DebugFrame, EndianSlice, Error, LittleEndian, Reader, Register,
+    RegisterRule,
+};
 use std::alloc::Global;
+use std::process::Abort;
 use std::test::Fail;
+
+fn table_over<R: Reader<Offset = usize>>(alloc: Global, reader: R) -> Result<CompiledTable, Error> {
+    CompiledTable::new(alloc, &DebugFrame::from(reader), &BaseAddresses::default())
+}
+
+/// The table of a `.debug_frame`, the least significant byte of a number first.
+pub(crate) fn table_of(alloc: Global, bytes: &[u8]) -> Result<CompiledTable, Error> {
+    table_over(alloc, EndianSlice::new(bytes, LittleEndian))
+}
 
 /// The CFA, the rule of the frame pointer, and how many registers have a rule.
 type Shown = Result<(CfaRule<usize>, Option<RegisterRule<usize>>, usize), Error>;
@@ -32,29 +45,32 @@ fn three_rows(address: u64) -> Shown {
     }
 }
 
-#[test]
-fn rows_of_each_address(rt: HostRuntime) -> Result<(), Fail> {
-    let section = DebugFrame::new(&THREE_ROWS, LittleEndian);
-    let table = CompiledTable::new(rt.alloc(), &section, &BaseAddresses::default())?;
+fn check_rows(rt: &impl Abort, table: &CompiledTable) {
     for address in 0xf00..0x1100u64 {
         assert_eq!(rt; shown(table.row(address)), three_rows(address), "{address}");
     }
-    Ok(())
 }
 
+const STARTS: [u64; 5] = [0, 0x1000, 0x1001, 0x1004, 0x1020];
+
 /// The steps come in the order of their addresses, and each begins where the row changes.
-#[test]
-fn steps(rt: HostRuntime) -> Result<(), Fail> {
-    let section = DebugFrame::new(&THREE_ROWS, LittleEndian);
-    let table = CompiledTable::new(rt.alloc(), &section, &BaseAddresses::default())?;
-    assert_eq!(rt; table.len(), 5);
-    let mut starts = [0x1000, 0x1001, 0x1004, 0x1020, 0].iter();
-    let mut last = 0;
-    for step in table.iter() {
-        assert_eq!(rt; step.start, last);
-        assert_eq!(rt; shown(step.row), three_rows(step.start));
-        last = *starts.next().unwrap_or(&0);
+fn check_steps(rt: &impl Abort, table: &CompiledTable) {
+    let mut steps = table.iter();
+    for start in &STARTS {
+        let step = match steps.next() {
+            Some(step) => Some((step.start, shown(step.row))),
+            None => None,
+        };
+        assert_eq!(rt; step, Some((*start, three_rows(*start))));
     }
+    assert_eq!(rt; (table.len(), steps.next().is_none()), (5, true));
+}
+
+#[test]
+fn rows_and_steps(rt: HostRuntime) -> Result<(), Fail> {
+    let table = table_of(rt.alloc(), &THREE_ROWS)?;
+    check_rows(&rt, &table);
+    check_steps(&rt, &table);
     Ok(())
 }
 
@@ -85,17 +101,17 @@ const COUNTED: [(&str, usize, usize); 4] = [
     ),
 ];
 
+/// How many steps, and how many distinct rows and errors the table of a CIE and these FDEs has.
+fn counts_of(alloc: Global, text: &str) -> Result<(usize, usize), Fail> {
+    let bytes = joined(alloc, CIE, text)?;
+    let table = table_of(alloc, bytes.as_slice())?;
+    Ok((table.len(), table.results_len()))
+}
+
 #[test]
 fn equal_rows_are_stored_once(rt: HostRuntime) -> Result<(), Fail> {
     for (text, steps, results) in &COUNTED {
-        let bytes = joined(rt.alloc(), CIE, text)?;
-        let section = DebugFrame::new(bytes.as_slice(), LittleEndian);
-        let table = CompiledTable::new(rt.alloc(), &section, &BaseAddresses::default())?;
-        assert_eq!(rt;
-            (table.len(), table.results_len()),
-            (*steps, *results),
-            "{text}"
-        );
+        assert_eq!(rt; counts_of(rt.alloc(), text)?, (*steps, *results), "{text}");
     }
     Ok(())
 }

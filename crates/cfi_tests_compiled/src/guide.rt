@@ -7,6 +7,7 @@ use gimli_cfi::{
     BaseAddresses, EhFrame, EhFrameHdr, Error, LittleEndian, Reader, Register, UnwindContext,
 };
 use std::alloc::Global;
+use std::process::Abort;
 use std::test::Fail;
 
 /// A CIE, an FDE of 16 addresses from 0x1000 with two rows, and the end; the section is at 0x2000.
@@ -80,25 +81,6 @@ fn places<R: Reader<Offset = usize>>(
     )
 }
 
-#[test]
-fn one_row(rt: HostRuntime) -> Result<(), Fail> {
-    let cfas = (
-        cfa_of(rt.alloc(), &SECTION, 0x2000, 0x1008),
-        cfa_of(rt.alloc(), &EXPRESSION, 0x2000, 0x1008),
-    );
-    let frame = EhFrame::new(&SECTION, LittleEndian);
-    let header = EhFrameHdr::new(&HEADER, LittleEndian);
-    let mut ctx = UnwindContext::<usize>::new(rt.alloc())?;
-    assert_eq!(rt;
-        (cfas, places(rt.alloc(), &frame, &header, &mut ctx)),
-        (
-            (Ok(Some((Register(7), 16))), Ok(None)),
-            (Ok(0x1001), Ok(Some(0x1001)), Ok(0x1001), Ok(0x1010)),
-        )
-    );
-    Ok(())
-}
-
 /// The number of rows of the FDE of 0x1008 and of all FDEs, and where the last row ends.
 type Counts = (Result<u64, Error>, Result<u64, Error>, Result<u64, Error>);
 
@@ -111,17 +93,34 @@ fn counts<R: Reader<Offset = usize>>(frame: &EhFrame<R>, ctx: &mut UnwindContext
     )
 }
 
+fn check_frame<R: Reader<Offset = usize>>(
+    rt: &(impl Abort + AllocGlobal),
+    frame: &EhFrame<R>,
+    header: &EhFrameHdr<R>,
+    ctx: &mut UnwindContext<usize>,
+) {
+    let found = places(rt.alloc(), frame, header, ctx);
+    let expected = (Ok(0x1001), Ok(Some(0x1001)), Ok(0x1001), Ok(0x1010));
+    assert_eq!(rt; found, expected);
+    assert_eq!(rt; counts(frame, ctx), (Ok(2), Ok(2), Ok(0x1010)));
+}
+
+/// One row, and all rows.
 #[test]
-fn all_rows(rt: HostRuntime) -> Result<(), Fail> {
+fn rows(rt: HostRuntime) -> Result<(), Fail> {
     let frame = EhFrame::new(&SECTION, LittleEndian);
+    let header = EhFrameHdr::new(&HEADER, LittleEndian);
     let mut ctx = UnwindContext::<usize>::new(rt.alloc())?;
-    assert_eq!(rt; counts(&frame, &mut ctx), (Ok(2), Ok(2), Ok(0x1010)));
+    check_frame(&rt, &frame, &header, &mut ctx);
     Ok(())
 }
 
 #[test]
-fn expressions(rt: HostRuntime) -> Result<(), Fail> {
-    let frame = EhFrame::new(&EXPRESSION, LittleEndian);
-    assert_eq!(rt; expression_bytes(&frame, &bases(), 0x1008), Ok(1));
-    Ok(())
+fn cfas_and_expressions(rt: HostRuntime) {
+    let found = (
+        cfa_of(rt.alloc(), &SECTION, 0x2000, 0x1008),
+        cfa_of(rt.alloc(), &EXPRESSION, 0x2000, 0x1008),
+        expression_bytes(&EhFrame::new(&EXPRESSION, LittleEndian), &bases(), 0x1008),
+    );
+    assert_eq!(rt; found, (Ok(Some((Register(7), 16))), Ok(None), Ok(1)));
 }

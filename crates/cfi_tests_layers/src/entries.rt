@@ -1,13 +1,17 @@
 //! Entries one by one: the entries of a section, whole CIEs and FDEs, and the errors with their
 //! values.
+ghost use Rattle.std.specs.Prelude.{IfOk};
+ghost use Rattle.cfi_unwind.specs.FdeViews.{IsFdeOf};
+
+use crate::readers::{OfBytes, Slice};
 use cfi_parts::pointer::{BaseAddresses, Pointer};
 use cfi_read_core::{
-    DebugFrameOffset, DwEhPe, EhFrameOffset, EndianSlice, Error, Format, LittleEndian, Reader,
-    ReaderOffsetId, Register,
+    DebugFrameOffset, DwEhPe, EhFrameOffset, Error, Format, Reader, ReaderOffsetId, Register,
 };
 use cfi_tests_bytes::THREE_ROWS;
 use cfi_unwind::entry::{CommonInformationEntry, FrameDescriptionEntry};
 use cfi_unwind::unwind_section::{DebugFrame, EhFrame, UnwindSection, scan_for_fde};
+use std::process::Abort;
 
 /// Some fields of a CIE: its format, length, version, data alignment factor and return address
 /// register.
@@ -31,10 +35,12 @@ fn refusal_at<R: Reader<Offset = usize>>(reader: R, offset: usize) -> Option<Err
 }
 
 /// The FDE at an offset, by the CIE to which it points.
-fn fde_of_debug_frame<R: Reader<Offset = usize>>(
+pub(crate) fn fde_of_debug_frame<R: Reader<Offset = usize>>(
     section: &DebugFrame<R>,
     offset: usize,
-) -> Result<FrameDescriptionEntry<R>, Error> {
+) -> Result<FrameDescriptionEntry<R>, Error>
+    ensures { IfOk result (IsFdeOf R.position (R.position section.now.section)) }
+{
     let bases = BaseAddresses::default();
     section.fde_from_offset(
         &bases,
@@ -59,7 +65,7 @@ fn walk<R: Reader, S: UnwindSection<R>>(section: &S) -> Walked {
     let mut count = 0u32;
     for entry in section.entries(&bases) {
         match entry {
-            Ok(_) => count = count.saturating_add(1),
+            Ok(_) => count = count.wrapping_add(1),
             Err(refusal) => return (count, Some(refusal)),
         }
     }
@@ -74,11 +80,11 @@ fn walk_both<R: Reader>(reader: R) -> (Walked, Walked) {
     )
 }
 
-/// A section without bytes, two that begin with a gap, and an FDE whose CIE in `.eh_frame` would be
-/// before the section; the entries of each in `.debug_frame` and in `.eh_frame`.
-const COUNTED: [(&[u8], (Walked, Walked)); 4] = [
-    (&[], ((0, None), (0, None))),
+/// Sections, and the entries of each in `.debug_frame` and in `.eh_frame`.
+const COUNTED: [(&str, &[u8], (Walked, Walked)); 4] = [
+    ("no bytes", &[], ((0, None), (0, None))),
     (
+        "a gap first",
         &[
             0, 0, 0, 0, 0x10, 0, 0, 0, 0xff, 0xff, 0xff, 0xff, 4, 0, 8, 0, 1, 0x78, 0x10, 0x0c, 7,
             8, 0x90, 1, 0x14, 0, 0, 0, 4, 0, 0, 0, 0, 0x10, 0, 0, 0, 0, 0, 0, 0x20, 0, 0, 0, 0, 0,
@@ -87,6 +93,7 @@ const COUNTED: [(&[u8], (Walked, Walked)); 4] = [
         ((2, None), (0, None)),
     ),
     (
+        "a gap of 64 bits first",
         &[
             0xff, 0xff, 0xff, 0xff, 0, 0, 0, 0, 0, 0, 0, 0, 0x10, 0, 0, 0, 0xff, 0xff, 0xff, 0xff,
             4, 0, 8, 0, 1, 0x78, 0x10, 0x0c, 7, 8, 0x90, 1, 0x14, 0, 0, 0, 0x0c, 0, 0, 0, 0, 0x10,
@@ -95,6 +102,7 @@ const COUNTED: [(&[u8], (Walked, Walked)); 4] = [
         ((2, None), (0, None)),
     ),
     (
+        "a CIE before the section",
         &[4, 0, 0, 0, 5, 0, 0, 0],
         ((1, None), (0, Some(Error::OffsetOutOfBounds(5)))),
     ),
@@ -102,41 +110,58 @@ const COUNTED: [(&[u8], (Walked, Walked)); 4] = [
 
 #[test]
 fn how_many_entries_there_are(rt: HostRuntime) {
-    for (bytes, walked) in &COUNTED {
-        let found = walk_both(EndianSlice::new(bytes, LittleEndian));
-        assert_eq!(rt; found, *walked);
+    for (case, bytes, walked) in &COUNTED {
+        assert_eq!(rt; walk_both(Slice::of(bytes)), *walked, "{case}");
     }
 }
 
 /// Sections, offsets, and the errors of reading a CIE there.
-const REFUSALS: [(&[u8], usize, Error); 8] = [
-    (&[5, 0], 0, Error::UnexpectedEof(ReaderOffsetId(0))),
+const REFUSALS: [(&str, &[u8], usize, Error); 8] = [
     (
+        "a length that is cut",
+        &[5, 0],
+        0,
+        Error::UnexpectedEof(ReaderOffsetId(0)),
+    ),
+    (
+        "a reserved length",
         &[0xf5, 0xff, 0xff, 0xff],
         0,
         Error::UnknownReservedLength(0xffff_fff5),
     ),
     (
+        "a length of 64 bits that is cut",
         &[0xff, 0xff, 0xff, 0xff, 0x39, 0x30, 0, 0],
         0,
         Error::UnexpectedEof(ReaderOffsetId(4)),
     ),
     (
+        "a length past the section",
         &[0, 0, 0, 0xff, 0xff, 0xff, 0xff, 0xff],
         0,
         Error::UnexpectedEof(ReaderOffsetId(4)),
     ),
-    (&[0, 0, 0, 0], 0, Error::NoEntryAtGivenOffset(0)),
-    (&THREE_ROWS, 20, Error::NotCieId(20)),
-    (&THREE_ROWS, 52, Error::UnexpectedEof(ReaderOffsetId(52))),
-    (&THREE_ROWS, 53, Error::UnexpectedEof(ReaderOffsetId(0))),
+    ("a gap", &[0, 0, 0, 0], 0, Error::NoEntryAtGivenOffset(0)),
+    ("an FDE", &THREE_ROWS, 20, Error::NotCieId(20)),
+    (
+        "the end of the section",
+        &THREE_ROWS,
+        52,
+        Error::UnexpectedEof(ReaderOffsetId(52)),
+    ),
+    (
+        "after the section",
+        &THREE_ROWS,
+        53,
+        Error::UnexpectedEof(ReaderOffsetId(0)),
+    ),
 ];
 
 #[test]
 fn entries_that_are_no_cie(rt: HostRuntime) {
-    for (bytes, offset, refusal) in &REFUSALS {
-        let found = refusal_at(EndianSlice::new(bytes, LittleEndian), *offset);
-        assert_eq!(rt; found, Some(*refusal));
+    for (case, bytes, offset, refusal) in &REFUSALS {
+        let found = refusal_at(Slice::of(bytes), *offset);
+        assert_eq!(rt; found, Some(*refusal), "{case}");
     }
 }
 
@@ -162,12 +187,6 @@ const WRAPS: [u8; 36] = [
     0, 0, 0, 0, 0, 0, 0xf0, 0xff, 0xff, 0xff, 0x20, 0, 0, 0,
 ];
 
-#[test]
-fn an_end_that_wraps(rt: HostRuntime) {
-    let found = range_at_20(EndianSlice::new(&WRAPS, LittleEndian));
-    assert_eq!(rt; found, Ok((0xffff_fff0, 0x10, 0x20, false, false)));
-}
-
 /// The offset and the format of the FDE for 0x1000.
 fn format_of_0x1000<R: Reader<Offset = usize>>(reader: R) -> Result<(usize, Format), Error> {
     let fde = scan_for_fde(&DebugFrame::from(reader), &BaseAddresses::default(), 0x1000)?;
@@ -181,10 +200,16 @@ const WIDE: [u8; 68] = [
     0, 0, 0, 0, 0, 0, 0, 0, 0, 0, 0, 0, 0x10, 0, 0, 0, 0, 0, 0, 0x20, 0, 0, 0, 0, 0, 0, 0,
 ];
 
+/// An end that wraps, and 64 bits.
+fn check_ranges<'a, R: Reader<Offset = usize> + OfBytes<'a>>(rt: &impl Abort) {
+    let found = (range_at_20(R::of(&WRAPS)), format_of_0x1000(R::of(&WIDE)));
+    let wraps = (0xffff_fff0, 0x10, 0x20, false, false);
+    assert_eq!(rt; found, (Ok(wraps), Ok((32, Format::Dwarf64))));
+}
+
 #[test]
-fn sixty_four_bits(rt: HostRuntime) {
-    let found = format_of_0x1000(EndianSlice::new(&WIDE, LittleEndian));
-    assert_eq!(rt; found, Ok((32, Format::Dwarf64)));
+fn ranges(rt: HostRuntime) {
+    check_ranges::<Slice<'_>>(&rt);
 }
 
 /// The addresses of an FDE, its pointer to language-specific data, and the encoding of such
@@ -207,9 +232,15 @@ const ENCODING: Option<DwEhPe> = Some(DwEhPe(0x43));
 /// Sections and the fields of the FDE at an offset: one that is its own CIE; then after a CIE
 /// whose FDEs have a pointer to language-specific data and addresses relative to themselves, of
 /// which the second points to zero; and after one whose FDEs have addresses relative to a function.
-const WITH_DATA: [(&[u8], usize, Result<WithData, Error>); 4] = [
-    (&[4, 0, 0, 0, 4, 0, 0, 0], 0, Err(Error::NotCieId(0))),
+const WITH_DATA: [(&str, &[u8], usize, Result<WithData, Error>); 4] = [
     (
+        "its own CIE",
+        &[4, 0, 0, 0, 4, 0, 0, 0],
+        0,
+        Err(Error::NotCieId(0)),
+    ),
+    (
+        "a pointer",
         &[
             0x0f, 0, 0, 0, 0, 0, 0, 0, 1, 0x7a, 0x4c, 0x52, 0, 1, 0x78, 0x10, 2, 0x43, 0x1b, 0x11,
             0, 0, 0, 0x17, 0, 0, 0, 0xe5, 0xef, 0xff, 0xff, 0x20, 0, 0, 0, 4, 0x10, 0, 0, 0,
@@ -218,6 +249,7 @@ const WITH_DATA: [(&[u8], usize, Result<WithData, Error>); 4] = [
         Ok((0x1000, 0x1020, Some(Pointer::Direct(0x1010)), ENCODING)),
     ),
     (
+        "a pointer to zero",
         &[
             0x0f, 0, 0, 0, 0, 0, 0, 0, 1, 0x7a, 0x4c, 0x52, 0, 1, 0x78, 0x10, 2, 0x43, 0x1b, 0x11,
             0, 0, 0, 0x17, 0, 0, 0, 0xe5, 0xef, 0xff, 0xff, 0x20, 0, 0, 0, 4, 0, 0, 0, 0,
@@ -226,6 +258,7 @@ const WITH_DATA: [(&[u8], usize, Result<WithData, Error>); 4] = [
         Ok((0x1000, 0x1020, Some(Pointer::Direct(0x1000)), ENCODING)),
     ),
     (
+        "addresses relative to a function",
         &[
             0x0f, 0, 0, 0, 0, 0, 0, 0, 1, 0x7a, 0x4c, 0x52, 0, 1, 0x78, 0x10, 2, 0x43, 0x43, 0x11,
             0, 0, 0, 0x17, 0, 0, 0, 0xe5, 0xef, 0xff, 0xff, 0x20, 0, 0, 0, 4, 0x10, 0, 0, 0,
@@ -237,9 +270,8 @@ const WITH_DATA: [(&[u8], usize, Result<WithData, Error>); 4] = [
 
 #[test]
 fn language_specific_data(rt: HostRuntime) {
-    for (bytes, offset, data) in &WITH_DATA {
-        let found = with_data(EndianSlice::new(bytes, LittleEndian), *offset);
-        assert_eq!(rt; found, *data);
+    for (case, bytes, offset, data) in &WITH_DATA {
+        assert_eq!(rt; with_data(Slice::of(bytes), *offset), *data, "{case}");
     }
 }
 
@@ -259,10 +291,10 @@ fn marks_of_both<R: Reader<Offset = usize>>(in_debug_frame: R, in_eh_frame: R) -
     )
 }
 
-/// CIEs of `.debug_frame` and of `.eh_frame` with the same letters, and the marks of both. The
-/// augmentation string of the first three is bare.
-const MARKS: [(&[u8], &[u8], Marks); 10] = [
+/// Letters, a CIE of `.debug_frame` and one of `.eh_frame` with these, and the marks of both.
+const MARKS: [(&str, &[u8], &[u8], Marks); 10] = [
     (
+        "S, with a nop",
         &[
             0x0d, 0, 0, 0, 0xff, 0xff, 0xff, 0xff, 4, 0x53, 0, 8, 0, 1, 0x78, 0x10, 0,
         ],
@@ -270,6 +302,7 @@ const MARKS: [(&[u8], &[u8], Marks); 10] = [
         Ok((true, false)),
     ),
     (
+        "R",
         &[
             0x0d, 0, 0, 0, 0xff, 0xff, 0xff, 0xff, 4, 0x52, 0, 8, 0, 1, 0x78, 0x10, 0,
         ],
@@ -277,6 +310,7 @@ const MARKS: [(&[u8], &[u8], Marks); 10] = [
         Err(Error::UnknownAugmentation),
     ),
     (
+        "Sz",
         &[
             0x0e, 0, 0, 0, 0xff, 0xff, 0xff, 0xff, 4, 0x53, 0x7a, 0, 8, 0, 1, 0x78, 0x10, 0,
         ],
@@ -284,6 +318,7 @@ const MARKS: [(&[u8], &[u8], Marks); 10] = [
         Err(Error::UnknownAugmentation),
     ),
     (
+        "B",
         &[
             0x0c, 0, 0, 0, 0xff, 0xff, 0xff, 0xff, 4, 0x42, 0, 8, 0, 1, 0x78, 0x10,
         ],
@@ -291,6 +326,7 @@ const MARKS: [(&[u8], &[u8], Marks); 10] = [
         Ok((false, true)),
     ),
     (
+        "S",
         &[
             0x0c, 0, 0, 0, 0xff, 0xff, 0xff, 0xff, 4, 0x53, 0, 8, 0, 1, 0x78, 0x10,
         ],
@@ -298,6 +334,7 @@ const MARKS: [(&[u8], &[u8], Marks); 10] = [
         Ok((true, false)),
     ),
     (
+        "SB",
         &[
             0x0d, 0, 0, 0, 0xff, 0xff, 0xff, 0xff, 4, 0x53, 0x42, 0, 8, 0, 1, 0x78, 0x10,
         ],
@@ -305,6 +342,7 @@ const MARKS: [(&[u8], &[u8], Marks); 10] = [
         Ok((true, true)),
     ),
     (
+        "zB",
         &[
             0x0e, 0, 0, 0, 0xff, 0xff, 0xff, 0xff, 4, 0x7a, 0x42, 0, 8, 0, 1, 0x78, 0x10, 0,
         ],
@@ -314,6 +352,7 @@ const MARKS: [(&[u8], &[u8], Marks); 10] = [
         Ok((false, true)),
     ),
     (
+        "zBR",
         &[
             0x10, 0, 0, 0, 0xff, 0xff, 0xff, 0xff, 4, 0x7a, 0x42, 0x52, 0, 8, 0, 1, 0x78, 0x10, 1,
             0x1b,
@@ -324,6 +363,7 @@ const MARKS: [(&[u8], &[u8], Marks); 10] = [
         Ok((false, true)),
     ),
     (
+        "BR",
         &[
             0x0d, 0, 0, 0, 0xff, 0xff, 0xff, 0xff, 4, 0x42, 0x52, 0, 8, 0, 1, 0x78, 0x10,
         ],
@@ -331,6 +371,7 @@ const MARKS: [(&[u8], &[u8], Marks); 10] = [
         Err(Error::UnknownAugmentation),
     ),
     (
+        "Bz",
         &[
             0x0d, 0, 0, 0, 0xff, 0xff, 0xff, 0xff, 4, 0x42, 0x7a, 0, 8, 0, 1, 0x78, 0x10,
         ],
@@ -341,11 +382,8 @@ const MARKS: [(&[u8], &[u8], Marks); 10] = [
 
 #[test]
 fn letters_of_cies(rt: HostRuntime) {
-    for (in_debug_frame, in_eh_frame, marks) in &MARKS {
-        let found = marks_of_both(
-            EndianSlice::new(in_debug_frame, LittleEndian),
-            EndianSlice::new(in_eh_frame, LittleEndian),
-        );
-        assert_eq!(rt; found, (*marks, *marks), "{in_debug_frame:?}");
+    for (letters, in_debug_frame, in_eh_frame, marks) in &MARKS {
+        let found = marks_of_both(Slice::of(in_debug_frame), Slice::of(in_eh_frame));
+        assert_eq!(rt; found, (*marks, *marks), "{letters}");
     }
 }

@@ -124,21 +124,14 @@ const SENTENCES: [(Error, &str); 31] = [
 fn is_an_error<E: std::error::Error>(_error: &E) {}
 
 #[test]
-fn sentences(rt: HostRuntime) -> Result<(), Fail> {
+fn sentences_and_names(rt: HostRuntime) -> Result<(), Fail> {
     for (error, sentence) in &SENTENCES {
         is_an_error(error);
         let text = error.to_string(rt.alloc())?;
         assert_eq!(rt; text.as_str(), *sentence);
     }
-    Ok(())
-}
-
-#[test]
-fn names(rt: HostRuntime) -> Result<(), Fail> {
     let error = Error::UnexpectedEof(ReaderOffsetId(0x12));
-    assert_eq!(rt;
-        (error.name(), Error::OutOfMemory.name()),
-        ("UnexpectedEof", "OutOfMemory")
-    );
+    let names = (error.name(), Error::OutOfMemory.name());
+    assert_eq!(rt; names, ("UnexpectedEof", "OutOfMemory"));
     Ok(())
 }

@@ -1,12 +1,14 @@
 //! Public calls that no other test makes, each once on its happy path.
+use crate::entries::fde_of_debug_frame;
+use crate::instructions::{FirstTwo, first_two};
+use crate::readers::{OfBytes, Slice};
 use cfi_parts::instruction::CallFrameInstruction;
 use cfi_parts::pointer::{BaseAddresses, Pointer, SectionBaseAddresses};
 use cfi_read_core::constants::{DW_EH_PE_absptr, DW_EH_PE_pcrel, DW_EH_PE_sdata4};
-use cfi_read_core::{
-    DebugFrameOffset, DwEhPe, EhFrameOffset, EndianSlice, Error, LittleEndian, Reader, Vendor,
-};
+use cfi_read_core::{DebugFrameOffset, DwEhPe, EhFrameOffset, Error, Reader, Vendor};
 use cfi_unwind::entry::{CommonInformationEntry, FrameDescriptionEntry};
 use cfi_unwind::unwind_section::{DebugFrame, EhFrame, UnwindSection};
+use std::process::Abort;
 
 /// A CIE of version 1 and an FDE of addresses of two bytes, whose instructions toggle the sign
 /// state.
@@ -57,8 +59,6 @@ fn addresses_of<R: Reader>(fde: &FrameDescriptionEntry<R>) -> Addresses {
     )
 }
 
-type Instruction = Result<Option<CallFrameInstruction<usize>>, Error>;
-
 /// The offsets and the length of an FDE, before it is parsed whole.
 fn places_at<R: Reader<Offset = usize>>(
     section: &DebugFrame<R>,
@@ -69,45 +69,36 @@ fn places_at<R: Reader<Offset = usize>>(
     Ok((part.offset(), part.cie_offset(), part.entry_len()))
 }
 
-/// The addresses of an FDE, and its first two instructions.
-fn fde_at<R: Reader<Offset = usize>>(
+fn addresses_at<R: Reader<Offset = usize>>(
     section: &DebugFrame<R>,
     offset: usize,
-) -> Result<(Addresses, Instruction, Instruction), Error> {
-    let bases = BaseAddresses::default();
-    let offset = DebugFrameOffset(offset);
-    let fde = section.fde_from_offset(&bases, offset, DebugFrame::cie_from_offset)?;
-    let mut instructions = fde.instructions(section, &bases);
-    let first = instructions.next();
-    Ok((addresses_of(&fde), first, instructions.next()))
+) -> Result<Addresses, Error> {
+    Ok(addresses_of(&fde_of_debug_frame(section, offset)?))
 }
 
-/// The same from the bytes of such a section.
+/// What a section says of the FDE at 13, and its first two instructions.
 type OfNarrow = (
     Result<Places, Error>,
-    Result<(Addresses, Instruction, Instruction), Error>,
+    Result<Addresses, Error>,
+    Result<FirstTwo, Error>,
 );
 
 fn of_narrow<R: Reader<Offset = usize>>(reader: R) -> OfNarrow {
     let mut section = DebugFrame::from(reader);
     section.set_address_size(2);
     section.set_vendor(Vendor::AArch64);
-    (places_at(&section, 13), fde_at(&section, 13))
+    (
+        places_at(&section, 13),
+        addresses_at(&section, 13),
+        first_two(&section, 13),
+    )
 }
 
-const PLACES: Result<Places, Error> = Ok((13, DebugFrameOffset(0), 9));
-
-const OF_NARROW: Result<(Addresses, Instruction, Instruction), Error> = Ok((
-    (0x1000, 0x1020, 0x20, 2),
-    Ok(Some(CallFrameInstruction::NegateRaState)),
-    Ok(None),
-));
-
-#[test]
-fn the_settings_of_a_section(rt: HostRuntime) {
-    let found = of_narrow(EndianSlice::new(&NARROW, LittleEndian));
-    assert_eq!(rt; found, (PLACES, OF_NARROW));
-}
+const OF_NARROW: OfNarrow = (
+    Ok((13, DebugFrameOffset(0), 9)),
+    Ok((0x1000, 0x1020, 0x20, 2)),
+    Ok((Ok(Some(CallFrameInstruction::NegateRaState)), Ok(None))),
+);
 
 /// Whether a CIE has language-specific data, is of a signal trampoline, and has an augmentation.
 fn marks_of<R: Reader>(cie: &CommonInformationEntry<R>) -> [bool; 3] {
@@ -156,8 +147,13 @@ const OF_LETTERS: Result<([bool; 3], Pointers), Error> = Ok((
     ),
 ));
 
+/// The settings of a section, and the letters of a CIE.
+fn check_happy_paths<'a, R: Reader<Offset = usize> + OfBytes<'a>>(rt: &impl Abort) {
+    let found = (of_narrow(R::of(&NARROW)), letters_of(R::of(&LETTERS)));
+    assert_eq!(rt; found, (OF_NARROW, OF_LETTERS));
+}
+
 #[test]
-fn the_letters_of_a_cie(rt: HostRuntime) {
-    let found = letters_of(EndianSlice::new(&LETTERS, LittleEndian));
-    assert_eq!(rt; found, OF_LETTERS);
+fn settings_and_letters(rt: HostRuntime) {
+    check_happy_paths::<Slice<'_>>(&rt);
 }

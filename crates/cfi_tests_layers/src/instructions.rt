@@ -1,18 +1,19 @@
 //! Call frame instructions of an FDE, one by one, spelled as in the tests of gimli.
+use crate::entries::fde_of_debug_frame;
+use crate::readers::{OfBytes, Slice};
 use cfi_parts::instruction::{CallFrameInstruction, UnwindExpression};
 use cfi_parts::pointer::BaseAddresses;
 use cfi_read_core::constants::DwCfa;
-use cfi_read_core::{
-    DebugFrameOffset, EndianSlice, Error, LittleEndian, Reader, ReaderOffsetId, Register, Vendor,
-};
+use cfi_read_core::{DebugFrameOffset, Error, Reader, ReaderOffsetId, Register, Vendor};
 use cfi_unwind::unwind_section::{DebugFrame, UnwindSection};
 use std::alloc::{AllocError, Global};
+use std::process::Abort;
 use std::test::Fail;
 
 type Instruction = CallFrameInstruction<usize>;
 
 /// The first instruction of an FDE, and the next.
-type FirstTwo = (
+pub(crate) type FirstTwo = (
     Result<Option<Instruction>, Error>,
     Result<Option<Instruction>, Error>,
 );
@@ -23,24 +24,26 @@ const CIE: [u8; 20] = [
 ];
 
 /// The first instruction of the FDE at the offset, and the one after it.
-fn first_two<R: Reader<Offset = usize>>(
+pub(crate) fn first_two<R: Reader<Offset = usize>>(
+    section: &DebugFrame<R>,
+    offset: usize,
+) -> Result<FirstTwo, Error> {
+    let fde = fde_of_debug_frame(section, offset)?;
+    let bases = BaseAddresses::default();
+    let mut instructions = fde.instructions(section, &bases);
+    let first = instructions.next();
+    Ok((first, instructions.next()))
+}
+
+/// The same from a reader.
+fn first_two_in<R: Reader<Offset = usize>>(
     reader: R,
     vendor: Vendor,
     offset: usize,
 ) -> Result<FirstTwo, Error> {
     let mut section = DebugFrame::from(reader);
     section.set_vendor(vendor);
-    let bases = BaseAddresses::default();
-    let offset = DebugFrameOffset(offset);
-    let fde = section.fde_from_offset(&bases, offset, DebugFrame::cie_from_offset)?;
-    let mut instructions = fde.instructions(&section, &bases);
-    let first = instructions.next();
-    Ok((first, instructions.next()))
-}
-
-/// The same from bytes.
-fn first_two_in(bytes: &[u8], vendor: Vendor, offset: usize) -> Result<FirstTwo, Error> {
-    first_two(EndianSlice::new(bytes, LittleEndian), vendor, offset)
+    first_two(&section, offset)
 }
 
 /// Addresses from 0x1000 up to 0x1020, for the CIE at 0.
@@ -53,7 +56,7 @@ fn with_program(alloc: Global, program: &[u8]) -> Result<Vec<u8>, AllocError> {
     let mut bytes = Vec::new(alloc);
     bytes.extend_from_slice(&CIE)?;
     let size = u32::try_from(program.len()).unwrap_or(u32::MAX);
-    let length = 20u32.saturating_add(size);
+    let length = 20u32.wrapping_add(size);
     bytes.extend_from_slice(&length.to_le_bytes())?;
     bytes.extend_from_slice(&RANGE)?;
     bytes.extend_from_slice(program)?;
@@ -63,7 +66,19 @@ fn with_program(alloc: Global, program: &[u8]) -> Result<Vec<u8>, AllocError> {
 /// The first two instructions of that FDE.
 fn of_program(alloc: Global, program: &[u8], vendor: Vendor) -> Result<FirstTwo, Fail> {
     let bytes = with_program(alloc, program)?;
-    Ok(first_two_in(bytes.as_slice(), vendor, 20)?)
+    Ok(first_two_in(Slice::of(bytes.as_slice()), vendor, 20)?)
+}
+
+/// Checks the first two instructions of an FDE with this program.
+fn check(
+    rt: &(impl Abort + AllocGlobal),
+    program: &[u8],
+    vendor: Vendor,
+    read: &FirstTwo,
+) -> Result<(), Fail> {
+    let found = of_program(rt.alloc(), program, vendor)?;
+    assert_eq!(rt; (program, found), (program, *read));
+    Ok(())
 }
 
 /// Instructions, one for each FDE.
@@ -153,15 +168,6 @@ const VECTORS: [(&[u8], Instruction); 15] = [
     ),
 ];
 
-#[test]
-fn one_by_one(rt: HostRuntime) -> Result<(), Fail> {
-    for (bytes, instruction) in &VECTORS {
-        let read = of_program(rt.alloc(), bytes, Vendor::Default)?;
-        assert_eq!(rt; read, (Ok(Some(*instruction)), Ok(None)));
-    }
-    Ok(())
-}
-
 /// Instructions that are errors, but for one vendor.
 const PROGRAMS: [(&[u8], Vendor, FirstTwo); 6] = [
     (
@@ -218,14 +224,6 @@ const SET_LOC: FirstTwo = (
     Ok(None),
 );
 
-#[test]
-fn refusals_end_the_instructions(rt: HostRuntime) -> Result<(), Fail> {
-    for (program, vendor, read) in &PROGRAMS {
-        assert_eq!(rt; of_program(rt.alloc(), program, *vendor)?, *read);
-    }
-    Ok(())
-}
-
 /// The first three results of reading the instructions of the CIE at 0.
 fn first_three<R: Reader<Offset = usize>>(
     reader: R,
@@ -241,20 +239,38 @@ fn first_three<R: Reader<Offset = usize>>(
     ])
 }
 
-#[test]
-fn of_a_cie_and_of_encoded_addresses(rt: HostRuntime) {
-    let cfa = CallFrameInstruction::DefCfa {
+const OF_CIE: [Result<Option<Instruction>, Error>; 3] = [
+    Ok(Some(CallFrameInstruction::DefCfa {
         register: Register(7),
         offset: 8,
-    };
-    let saved = CallFrameInstruction::Offset {
+    })),
+    Ok(Some(CallFrameInstruction::Offset {
         register: Register(16),
         factored_offset: 1,
-    };
-    let of_cie = first_three(EndianSlice::new(&CIE, LittleEndian));
-    let of_encoded = first_two_in(&ENCODED, Vendor::Default, 17);
-    assert_eq!(rt;
-        (of_cie, of_encoded),
-        (Ok([Ok(Some(cfa)), Ok(Some(saved)), Ok(None)]), Ok(SET_LOC))
-    );
+    })),
+    Ok(None),
+];
+
+/// The instructions of a CIE, and an address of four bytes.
+fn check_others<'a, R: Reader<Offset = usize> + OfBytes<'a>>(rt: &impl Abort) {
+    let of_cie = first_three(R::of(&CIE));
+    let of_encoded = first_two_in(R::of(&ENCODED), Vendor::Default, 17);
+    assert_eq!(rt; (of_cie, of_encoded), (Ok(OF_CIE), Ok(SET_LOC)));
+}
+
+#[test]
+fn instructions_one_by_one(rt: HostRuntime) -> Result<(), Fail> {
+    check_others::<Slice<'_>>(&rt);
+    for (program, instruction) in &VECTORS {
+        check(
+            &rt,
+            program,
+            Vendor::Default,
+            &(Ok(Some(*instruction)), Ok(None)),
+        )?;
+    }
+    for (program, vendor, read) in &PROGRAMS {
+        check(&rt, program, *vendor, read)?;
+    }
+    Ok(())
 }

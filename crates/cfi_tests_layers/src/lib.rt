@@ -16,6 +16,8 @@ mod lists;
 #[cfg(test)]
 mod machine;
 #[cfg(test)]
+mod readers;
+#[cfg(test)]
 mod reads;
 #[cfg(test)]
 mod sections;

@@ -3,6 +3,7 @@ use arrayvec::ArrayVec;
 use cfi_read_core::Error;
 use cfi_state::storage::{ArrayLike, CapacityFull, CopyList, Why};
 use std::alloc::Global;
+use std::process::Abort;
 
 const FULL: Option<Why> = Some(Why::Full(CapacityFull));
 
@@ -138,21 +139,21 @@ const OF_LISTS: [Result<OfList, Error>; 3] = [
 ];
 
 /// It is generic over the lists, since the check takes longer for each call that names one.
-fn of_lists<A, B, C>(alloc: Global) -> [Result<OfList, Error>; 3]
+fn check_lists<A, B, C>(rt: &(impl Abort + AllocGlobal))
 where
     A: ArrayLike<Item = u32> + CopyList,
     B: ArrayLike<Item = u32> + CopyList,
     C: ArrayLike<Item = u32> + CopyList,
 {
-    [
-        of_list::<A>(alloc),
-        of_list::<B>(alloc),
-        of_list::<C>(alloc),
-    ]
+    let found = [
+        of_list::<A>(rt.alloc()),
+        of_list::<B>(rt.alloc()),
+        of_list::<C>(rt.alloc()),
+    ];
+    assert_eq!(rt; found, OF_LISTS);
 }
 
 #[test]
 fn each_call_of_each_list(rt: HostRuntime) {
-    let found = of_lists::<ArrayVec<u32, 3>, Box<ArrayVec<u32, 3>>, Vec<u32>>(rt.alloc());
-    assert_eq!(rt; found, OF_LISTS);
+    check_lists::<ArrayVec<u32, 3>, Box<ArrayVec<u32, 3>>, Vec<u32>>(&rt);
 }

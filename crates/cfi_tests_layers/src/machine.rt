@@ -13,6 +13,7 @@ use cfi_state::table::machine::{Parameters, current_row, end_cie, evaluate, rese
 use cfi_state::table::row::UnwindTableRow;
 use cfi_state::table::rules::RegisterRule;
 use std::alloc::Global;
+use std::process::Abort;
 
 /// A storage of one rule a row and one row.
 struct StoreOfOne;
@@ -199,30 +200,23 @@ const PAST_ONE: Result<[Result<Option<u64>>; 3]> = Ok([
 
 const PAST_TWO_HUNDRED: Result<(usize, Option<u64>)> = Ok((200, Some(0x1004)));
 
-/// What storages return: one with room for four rows, one of one rule and one row, and one without
-/// a limit.
-type OfStorages = (
-    Result<Counted>,
-    Result<[Result<Option<u64>>; 3]>,
-    Result<(usize, Option<u64>)>,
-);
-
-/// It is generic over the storages, since the check takes longer for each call that names one.
-fn of_storages<A, B, C>(alloc: Global) -> OfStorages
+/// Checks storages: one with room for four rows, one of one rule and one row, and one without a
+/// limit. It is generic over them, since the check takes longer for each call that names one.
+fn check_storages<A, B, C>(rt: &(impl Abort + AllocGlobal))
 where
     A: UnwindContextStorage<usize>,
     B: UnwindContextStorage<usize>,
     C: UnwindContextStorage<usize>,
 {
-    (
-        counted::<A>(alloc),
-        past_one::<B>(alloc),
-        past_two_hundred::<C>(alloc),
-    )
+    let found = (
+        counted::<A>(rt.alloc()),
+        past_one::<B>(rt.alloc()),
+        past_two_hundred::<C>(rt.alloc()),
+    );
+    assert_eq!(rt; found, (Ok(COUNTED), PAST_ONE, PAST_TWO_HUNDRED));
 }
 
 #[test]
 fn limits_are_those_of_the_storage(rt: HostRuntime) {
-    let found = of_storages::<StoreOnHeap, StoreOfOne, StoreGrowing>(rt.alloc());
-    assert_eq!(rt; found, (Ok(COUNTED), PAST_ONE, PAST_TWO_HUNDRED));
+    check_storages::<StoreOnHeap, StoreOfOne, StoreGrowing>(&rt);
 }

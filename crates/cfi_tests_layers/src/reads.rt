@@ -1,9 +1,11 @@
 //! Numbers and texts, by both readers.
+use crate::readers::{OfBytes, Slice};
 use cfi_read_core::common::Format;
 use cfi_read_core::{
-    BigEndian, EndianSlice, Error, LittleEndian, NarrowSlice, Reader, ReaderAddress,
-    ReaderOffsetId, Register, RunTimeEndian,
+    BigEndian, EndianSlice, Error, NarrowSlice, Reader, ReaderAddress, ReaderOffsetId, Register,
+    RunTimeEndian,
 };
+use std::process::Abort;
 use std::test::Fail;
 
 /// The value of an unsigned LEB128 number, and the place after it.
@@ -25,19 +27,25 @@ fn place<R: Reader>(reader: &R) -> u64 {
     reader.place().into_u64()
 }
 
-/// The unsigned number, and the signed one.
-type Leb128 = ((Result<u64, Error>, u64), (Result<i64, Error>, u64));
+type Narrow<'a> = NarrowSlice<'a, RunTimeEndian>;
 
-fn leb128<R: Reader>(reader: R) -> Leb128 {
-    (uleb128(reader), sleb128(reader))
+/// Checks the number that both readers read.
+fn check_unsigned<A: Reader, B: Reader>(
+    rt: &impl Abort,
+    wide: A,
+    narrow: B,
+    read: (Result<u64, Error>, u64),
+) {
+    assert_eq!(rt; (uleb128(wide), uleb128(narrow)), (read, read));
 }
 
-/// What a reader of each kind returns for both.
-fn leb128_of_both(bytes: &[u8]) -> Result<[Leb128; 2], Error> {
-    Ok([
-        leb128(EndianSlice::new(bytes, LittleEndian)),
-        leb128(NarrowSlice::new(bytes, RunTimeEndian::Big)?),
-    ])
+fn check_signed<A: Reader, B: Reader>(
+    rt: &impl Abort,
+    wide: A,
+    narrow: B,
+    read: (Result<i64, Error>, u64),
+) {
+    assert_eq!(rt; (sleb128(wide), sleb128(narrow)), (read, read));
 }
 
 /// The examples of DWARF 5 section 7.6, padding, and the greatest number; the value of each, and
@@ -63,15 +71,6 @@ const UNSIGNED: [(&[u8], (Result<u64, Error>, u64)); 9] = [
     (&[], (Err(Error::UnexpectedEof(ReaderOffsetId(0))), 0)),
 ];
 
-#[test]
-fn unsigned_leb128(rt: HostRuntime) -> Result<(), Fail> {
-    for (bytes, read) in &UNSIGNED {
-        let [(by_wide, _), (by_narrow, _)] = leb128_of_both(bytes)?;
-        assert_eq!(rt; (by_wide, by_narrow), (*read, *read));
-    }
-    Ok(())
-}
-
 /// The same for signed ones.
 const SIGNED: [(&[u8], (Result<i64, Error>, u64)); 10] = [
     (&[2], (Ok(2), 1)),
@@ -93,10 +92,14 @@ const SIGNED: [(&[u8], (Result<i64, Error>, u64)); 10] = [
 ];
 
 #[test]
-fn signed_leb128(rt: HostRuntime) -> Result<(), Fail> {
+fn leb128(rt: HostRuntime) -> Result<(), Fail> {
+    for (bytes, read) in &UNSIGNED {
+        let narrow = Narrow::new(bytes, RunTimeEndian::Big)?;
+        check_unsigned(&rt, Slice::of(bytes), narrow, *read);
+    }
     for (bytes, read) in &SIGNED {
-        let [(_, by_wide), (_, by_narrow)] = leb128_of_both(bytes)?;
-        assert_eq!(rt; (by_wide, by_narrow), (*read, *read));
+        let narrow = Narrow::new(bytes, RunTimeEndian::Big)?;
+        check_signed(&rt, Slice::of(bytes), narrow, *read);
     }
     Ok(())
 }
@@ -134,18 +137,6 @@ const NUMBERS: Numbers = (
     (Err(Error::UnknownReservedLength(0xffff_fff5)), 4),
     Ok(-2),
 );
-
-#[test]
-fn lengths_and_fixed_widths(rt: HostRuntime) -> Result<(), Fail> {
-    let mut big = EndianSlice::new(&WIDE[12..], BigEndian);
-    let found = numbers(
-        EndianSlice::new(&WIDE, LittleEndian),
-        EndianSlice::new(&[0xf5, 0xff, 0xff, 0xff], LittleEndian),
-        EndianSlice::new(&[0xfe, 0xff, 0xff, 0xff], LittleEndian),
-    );
-    assert_eq!(rt; (found, big.read_u16()), (NUMBERS, Ok(0x1234)));
-    Ok(())
-}
 
 /// The two bytes of a text, and whether it has no more; the place after it, the error of reading
 /// another text, the place after that, and the error of reading two bytes; and whether the reader
@@ -194,12 +185,24 @@ const TEXTS: Texts = (
     (Ok(()), true),
 );
 
-#[test]
-fn texts_parts_and_places(rt: HostRuntime) {
-    let texts = texts(EndianSlice::new(b"zR\x00x", LittleEndian));
-    let sizes = sizes(EndianSlice::new(&[8, 3], LittleEndian));
+fn check_numbers<'a, R: Reader<Offset = usize> + OfBytes<'a>>(rt: &impl Abort) {
+    let reserved = R::of(&[0xf5, 0xff, 0xff, 0xff]);
+    let negative = R::of(&[0xfe, 0xff, 0xff, 0xff]);
+    assert_eq!(rt; numbers(R::of(&WIDE), reserved, negative), NUMBERS);
+}
+
+fn check_texts<'a, R: Reader<Offset = usize> + OfBytes<'a>>(rt: &impl Abort) {
+    let found = (texts(R::of(b"zR\x00x")), sizes(R::of(&[8, 3])));
     let refusal = Error::UnsupportedAddressSize(3);
-    assert_eq!(rt; (texts, sizes), (Ok(TEXTS), (Ok(8), Err(refusal), 2)));
+    assert_eq!(rt; found, (Ok(TEXTS), (Ok(8), Err(refusal), 2)));
+}
+
+#[test]
+fn numbers_texts_and_places(rt: HostRuntime) {
+    check_numbers::<Slice<'_>>(&rt);
+    check_texts::<Slice<'_>>(&rt);
+    let mut big = EndianSlice::new(&WIDE[12..], BigEndian);
+    assert_eq!(rt; big.read_u16(), Ok(0x1234));
 }
 
 #[test]

@@ -1,13 +1,14 @@
 //! Sections: the entry at an offset, a CIE by its bases, and the names.
 use crate::entries::{Settings, settings_of};
+use crate::readers::{OfBytes, Slice};
 use cfi_parts::pointer::{BaseAddresses, Pointer};
 use cfi_read_core::{
-    DebugFrameOffset, EhFrameOffset, EndianSlice, Error, Format, LittleEndian, Reader, Register,
-    Section, SectionId,
+    DebugFrameOffset, EhFrameOffset, Error, Format, Reader, Register, Section, SectionId,
 };
 use cfi_tests_bytes::THREE_ROWS;
 use cfi_unwind::entry::CieOrFde;
 use cfi_unwind::unwind_section::{DebugFrame, EhFrame, UnwindSection};
+use std::process::Abort;
 
 /// A CIE of `.eh_frame` whose personality is indirect and relative to its own address.
 const PERSONALITY: [u8; 21] = [
@@ -21,13 +22,6 @@ fn cie_at_0<R: Reader<Offset = usize>>(reader: R) -> Result<(Settings, Option<Er
     let cie = section.cie_from_offset(&bases, DebugFrameOffset(0))?;
     let part = section.partial_fde_from_offset(&bases, DebugFrameOffset(0));
     Ok((settings_of(&cie), part.err()))
-}
-
-#[test]
-fn a_cie_is_no_fde(rt: HostRuntime) {
-    let settings = (Format::Dwarf32, 16, 4, -8, Register(16));
-    let found = cie_at_0(EndianSlice::new(&THREE_ROWS, LittleEndian));
-    assert_eq!(rt; found, Ok((settings, Some(Error::NotCiePointer(0)))));
 }
 
 /// The fields of the CIE at 0, and whether it is the first entry of the section, and the last.
@@ -44,13 +38,6 @@ fn cie_alone<R: Reader<Offset = usize>>(reader: R) -> Result<(Settings, bool, bo
 const WIDE_CIE: [u8; 21] = [
     0xff, 0xff, 0xff, 0xff, 9, 0, 0, 0, 0, 0, 0, 0, 0, 0, 0, 0, 1, 0, 1, 0x78, 0x10,
 ];
-
-#[test]
-fn a_cie_of_the_64_bit_format(rt: HostRuntime) {
-    let settings = (Format::Dwarf64, 9, 1, -8, Register(16));
-    let found = cie_alone(EndianSlice::new(&WIDE_CIE, LittleEndian));
-    assert_eq!(rt; found, Ok((settings, true, true)));
-}
 
 fn personality<R: Reader<Offset = usize>>(
     reader: R,
@@ -69,24 +56,26 @@ fn personalities<R: Reader<Offset = usize>>(reader: R) -> [Result<Option<Pointer
     ]
 }
 
-#[test]
-fn a_personality_by_its_base(rt: HostRuntime) {
+/// A CIE is no FDE; a CIE of the 64-bit format; a personality by its base.
+fn check_cies<'a, R: Reader<Offset = usize> + OfBytes<'a>>(rt: &impl Abort) {
+    let found = (cie_at_0(R::of(&THREE_ROWS)), cie_alone(R::of(&WIDE_CIE)));
+    let narrow = (Format::Dwarf32, 16, 4, -8, Register(16));
+    let wide = (Format::Dwarf64, 9, 1, -8, Register(16));
+    let refusal = Some(Error::NotCiePointer(0));
+    assert_eq!(rt; found, (Ok((narrow, refusal)), Ok((wide, true, true))));
     let expected = [
         Ok(Some(Pointer::Indirect(0x2021))),
         Err(Error::PcRelativePointerButSectionBaseIsUndefined),
     ];
-    let found = personalities(EndianSlice::new(&PERSONALITY, LittleEndian));
-    assert_eq!(rt; found, expected);
+    assert_eq!(rt; personalities(R::of(&PERSONALITY)), expected);
 }
 
 #[test]
-fn sections_name_themselves(rt: HostRuntime) {
-    type Slice<'a> = EndianSlice<'a, LittleEndian>;
-    assert_eq!(rt;
-        (
-            <DebugFrame<Slice> as Section<Slice>>::id(),
-            <EhFrame<Slice> as Section<Slice>>::id(),
-        ),
-        (SectionId::DebugFrame, SectionId::EhFrame)
+fn cies_and_names(rt: HostRuntime) {
+    check_cies::<Slice<'_>>(&rt);
+    let names = (
+        <DebugFrame<Slice<'_>> as Section<Slice<'_>>>::id(),
+        <EhFrame<Slice<'_>> as Section<Slice<'_>>>::id(),
     );
+    assert_eq!(rt; names, (SectionId::DebugFrame, SectionId::EhFrame));
 }
