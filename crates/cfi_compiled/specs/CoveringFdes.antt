@@ -3,7 +3,7 @@
 --     outside readings refusal      the error for an address that none of them contains
 --     first_of a fdes other      the first that contains the address, or the other result where there
 --         is none
-use Rattle.std.specs.Prelude.{ℕ, List, [], ◌∷◌, nat_lt, cond, Option, Result, Ok, Err, unwrap_or}
+use Rattle.std.specs.Prelude.{ℕ, List, [], ◌∷◌, nat_lt, if◌then◌else◌, Option, Result, Ok, Err, unwrap_or}
 use Rattle.cfi_read_core.specs.declared.error.Error.{Error}
 use Rattle.cfi_read_core.specs.declared.error.Error.TheVariants.{NoUnwindInfoForAddress}
 use Rattle.cfi_entry.specs.Fdes.{Fde, covers, end_of}
@@ -12,7 +12,7 @@ abbrev pub covering : List (Result Fde Error) → List Fde
 covering [] = []
 covering (Err e ∷ readings) = []
 covering (Ok fde ∷ readings) =
-    cond (nat_lt fde.initial (end_of fde)) (fde ∷ covering readings) (covering readings)
+    if nat_lt fde.initial (end_of fde) then fde ∷ covering readings else covering readings
 
 abbrev pub outside : List (Result Fde Error) → Option Error → Error
 outside [] refusal = unwrap_or refusal NoUnwindInfoForAddress
@@ -21,4 +21,4 @@ outside (Ok fde ∷ readings) refusal = outside readings refusal
 
 abbrev pub first_of : ℕ → List Fde → Result Fde Error → Result Fde Error
 first_of a [] other = other
-first_of a (fde ∷ fdes) other = cond (covers fde a) (Ok fde) (first_of a fdes other)
+first_of a (fde ∷ fdes) other = if covers fde a then Ok fde else first_of a fdes other

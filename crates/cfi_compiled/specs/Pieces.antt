@@ -4,7 +4,7 @@
 --         before it, the first at or above `low`
 --     end_from low pieces      where the last piece ends
 --     spans_from i fdes      the addresses of each FDE, numbered from `i` on
-use Rattle.std.specs.Prelude.{ℕ, ◌+◌, ◌≤◌, ◌<◌, List, [], ◌∷◌, nat_le, nat_lt, ◌&&◌, cond}
+use Rattle.std.specs.Prelude.{ℕ, ◌+◌, ◌≤◌, ◌<◌, List, [], ◌∷◌, nat_le, nat_lt, ◌&&◌, if◌then◌else◌}
 use Rattle.std.specs.Prelude.{Option, Some, None, ⊤}
 use Rattle.cfi_entry.specs.Fdes.{Fde, end_of}
 use Rattle.cfi_compiled.specs.declared.pieces.Piece.{Piece}
@@ -12,7 +12,7 @@ use Rattle.cfi_compiled.specs.declared.pieces.Piece.{Piece}
 abbrev pub owner : ℕ → List Piece → Option ℕ
 owner a [] = None
 owner a (piece ∷ pieces) =
-    cond (nat_le piece.from a && nat_lt a piece.to) (Some piece.of) (owner a pieces)
+    if nat_le piece.from a && nat_lt a piece.to then Some piece.of else owner a pieces
 
 abbrev pub Ascend : ℕ → List Piece → Type 0
 Ascend low [] = ⊤

@@ -6,7 +6,7 @@
 --     free_from low steps      the least address above all steps
 --     SameBelow, IsFrom, IsWithin      what is known of the results of addresses below one, from
 --         one on, and between two
-use Rattle.std.specs.Prelude.{◌≡◌, ℕ, ◌<◌, ◌≤◌, ◌+◌, List, [], ◌∷◌, nat_lt, cond}
+use Rattle.std.specs.Prelude.{◌≡◌, ℕ, ◌<◌, ◌≤◌, ◌+◌, List, [], ◌∷◌, nat_lt, if◌then◌else◌}
 use Rattle.std.specs.Prelude.{Result, Err, ⊤}
 use Rattle.gimli_cfi.specs.Words.{Error, NoUnwindInfoForAddress, Parts}
 
@@ -17,7 +17,7 @@ pub record Step : Type 0 where
 abbrev pub parts_after : Result (Parts ℕ) Error → List Step → ℕ → Result (Parts ℕ) Error
 parts_after before [] address = before
 parts_after before (step ∷ steps) address =
-    cond (nat_lt address step.start) before (parts_after step.parts steps address)
+    if nat_lt address step.start then before else parts_after step.parts steps address
 
 abbrev pub parts_by_steps : List Step → ℕ → Result (Parts ℕ) Error
 parts_by_steps steps address = parts_after (Err NoUnwindInfoForAddress) steps address
