@@ -1,11 +1,11 @@
 -- The parts of entries: reads of them never go back, and letters are read one by one.
-use Rattle.std.proofs.Common.{◌≡◌, ◌≤◌, ◌<◌, ◌+◌, ◌-◌, ℕ, Bool, true, false, not, List, [], ◌∷◌, Option, Some, None, Result, Ok, Err, refl, sym, ap, ◌∙◌, arith, take, drop, ⊎_elim}
+use Rattle.std.proofs.Common.{◌≡◌, ◌≤◌, ◌<◌, ◌+◌, ◌-◌, ℕ, Bool, true, false, not, List, [], ◌∷◌, Option, Some, None, Result, Ok, Err, refl, sym, ap, ◌∙◌, arith, take, drop, ⊎_elim, ne_eqb}
 use Rattle.std.proofs.lemmas.Bool.{cases_lt}
 use Rattle.std.specs.Prelude.{◌==◌, ◌||◌, if◌then◌else◌, length, nat_lt}
 use Rattle.std.specs.List.{prefix_len}
 use Rattle.std.specs.Int.{Width, w8, w16, w32, w64}
 use Rattle.cfi_read_core.specs.declared.error.Error.{Error}
-use Rattle.cfi_read_core.specs.declared.error.Error.TheVariants.{CannotParseOmitPointerEncoding, UnsupportedSegmentSize}
+use Rattle.cfi_read_core.specs.declared.error.Error.TheVariants.{CannotParseOmitPointerEncoding, UnknownAugmentation, UnsupportedSegmentSize}
 use Rattle.cfi_read_core.specs.ReadFunctions.{Read, Source, Position, Extent, Outcome, ◌>>=◌, ◌>>◌, carry_on, give, refuse, refuse_if, split, within, rest}
 use Rattle.cfi_read_core.specs.Numbers.{unsigned, offset_leb128, register_leb128, text}
 use Rattle.cfi_read_core.specs.Addresses.{IsAddressSize, address, address_size, address_width, is_address_size, sized_by, wrap}
@@ -95,6 +95,38 @@ pub letters_refused : (context : PointerContext) (l : ℕ) (ls : List ℕ) (know
     letters context (l ∷ ls) known old.source old.place ≡ record { value = Err e; place = place }
 unfolding letters
 letters_refused context l ls known old e place gives = ap (λ (o : Outcome Augmentation). carry_on (letters context ls) old.source o.value o.place) gives
+
+-- a letter that needs data, where none is announced
+pub letter_unannounced : (context : PointerContext) (l : ℕ) (known : Augmentation) (source : Source) (place : ℕ) → (l ≡ 0x53 → ⊥) → (l ≡ 0x42 → ⊥) → known.has_augmentation_data ≡ false →
+    letter context l known source place ≡ record { value = Err UnknownAugmentation; place = place }
+unfolding letter
+letter_unannounced context l known source place no_trampoline no_key none = rw (ne_eqb l 0x53 no_trampoline, ne_eqb l 0x42 no_key, none) refl
+
+-- R gives the encoding of the addresses
+pub letter_of_addresses : (context : PointerContext) (l : ℕ) (known : Augmentation) (source : Source) (place : ℕ) {behind encoding : ℕ} → l ≡ 0x52 → known.has_augmentation_data ≡ true →
+    encoding_byte source place ≡ record { value = Ok encoding; place = behind } →
+    letter context l known source place ≡ record { value = Ok (record known { address_encoding = Some encoding }); place = behind }
+unfolding letter
+letter_of_addresses context l known source place is has reads =
+    rw (is, has) (ap (λ (o : Outcome ℕ). carry_on (λ e. give (record known { has_augmentation_data = true; address_encoding = Some e })) source o.value o.place) reads)
+
+-- P gives the encoding and the pointer, whose number is kept
+pub letter_of_personality : (context : PointerContext) (l : ℕ) (known : Augmentation) (start middle after : Position) {encoding number : ℕ} {parameters : PointerContext} {p : Pointer} → l ≡ 0x50 → known.has_augmentation_data ≡ true →
+    (encoding_byte start.source start.place ≡ record { value = Ok encoding; place = middle.place }) × (middle.source ≡ start.source) → parameters ≡ context →
+    (pointer encoding parameters middle.source middle.place ≡ record { value = Ok p; place = after.place }) × (after.source ≡ middle.source) → number ≡ pointer_value p →
+    (letter context l known start.source start.place ≡ record { value = Ok (record known { personality = Some (encoding, pointer_to encoding number) }); place = after.place }) × (after.source ≡ start.source)
+unfolding letter
+letter_of_personality context l known start middle after {encoding = encoding} {number = number} {parameters = parameters} {p = p} is has first same second kept =
+    let gives_pointer : ℕ → Pointer → Read Augmentation = λ e found. give (record known { has_augmentation_data = true; personality = Some (e, found) }) in
+    let after_encoding : ℕ → Read Augmentation = λ e. pointer e context >>= gives_pointer e in
+    let told : pointer_to encoding number ≡ p = ap (pointer_to encoding) kept ∙ (pointer_gives encoding parameters).given _ _ _ (ap (λ (o : Outcome Pointer). o.value) second.0) in (
+      rw (is, has, told) (
+          ap (λ (o : Outcome ℕ). carry_on after_encoding start.source o.value o.place) first.0
+          ∙ (ap (λ (s : Source). after_encoding encoding s middle.place) (sym first.1)
+          ∙ (ap (λ (c : PointerContext). (pointer encoding c >>= gives_pointer encoding) middle.source middle.place) (sym same)
+          ∙ ap (λ (o : Outcome Pointer). carry_on (gives_pointer encoding) middle.source o.value o.place) second.0))),
+      second.1 ∙ first.1,
+    )
 
 -- ---- letters never go back
 
@@ -220,3 +252,19 @@ size_of_width size (Some w) e = gives_give IsAddressSize size (sized_by size (on
 pub address_size_gives : Gives IsAddressSize address_size
 unfolding address_size
 address_size_gives = gives_bind IsAddressSize (unsigned w8) (λ size. is_address_size (address_width size) size) (λ size. size_of_width size (address_width size) refl)
+
+-- the sizes that the entry gives, where segment selectors have none
+pub sizes_read : (section : Section) (version : ℕ) {size segment : ℕ} (old sized new : Position) → has_sizes section.kind version ≡ true →
+    (address_size old.source old.place ≡ record { value = Ok size; place = sized.place }) × (sized.source ≡ old.source) →
+    (unsigned w8 sized.source sized.place ≡ record { value = Ok segment; place = new.place }) × (new.source ≡ sized.source) → segment ≡ 0 →
+    (sizes section version old.source old.place ≡ record { value = Ok size; place = new.place }) × (new.source ≡ old.source)
+sizes_read section version {size = size} {segment = segment} old sized new gives first second none =
+    let after_segment : ℕ → ℕ → Read ℕ = λ given selector. refuse_if (not (selector == 0)) (UnsupportedSegmentSize selector) >> give given in
+    let after_size : ℕ → Read ℕ = λ given. unsigned w8 >>= after_segment given in (
+      rw gives (
+          ap (λ (o : Outcome ℕ). carry_on after_size old.source o.value o.place) first.0
+          ∙ (ap (λ (s : Source). after_size size s sized.place) (sym first.1)
+          ∙ (ap (λ (o : Outcome ℕ). carry_on (after_segment size) sized.source o.value o.place) second.0
+          ∙ ap (λ (n : ℕ). after_segment size n sized.source new.place) none))),
+      second.1 ∙ first.1,
+    )

@@ -1,15 +1,15 @@
 -- Reads of numbers that the calls of a reader are made of, over plain variables.
-use Rattle.std.proofs.Common.{rules, ◌≡◌, ◌≤◌, ◌<◌, ◌+◌, ◌-◌, ℕ, Bool, true, false, Option, Some, None, Ok, Err, Result, refl, sym, ap, ◌∙◌, arith}
+use Rattle.std.proofs.Common.{rules, ◌≡◌, ◌≤◌, ◌<◌, ◌+◌, ◌-◌, ℕ, Bool, true, false, Option, Some, None, Ok, Err, Result, refl, sym, ap, ◌∙◌, arith, inl, inr}
 use Rattle.std.proofs.lemmas.Bool.Decides.{nat_tests}
 use Rattle.std.specs.Prelude.{nat_le, nat_lt, ◌==◌, if◌then◌else◌}
 use Rattle.std.specs.Option.{SomeIff, option_map}
-use Rattle.std.specs.Int.{Width, w32, w64}
+use Rattle.std.specs.Int.{Width, w8, w32, w64}
 use Rattle.cfi_read_core.specs.declared.common.Format.{Format}
 use Rattle.cfi_read_core.specs.declared.common.Format.TheVariants.{Dwarf32, Dwarf64}
 use Rattle.cfi_read_core.specs.declared.common.Register.{Register}
 use Rattle.cfi_read_core.specs.declared.error.Error.{Error}
 use Rattle.cfi_read_core.specs.declared.error.Error.TheVariants.{UnknownReservedLength, UnsupportedOffset}
-use Rattle.cfi_read_core.specs.Addresses.{address, address_width, of_width}
+use Rattle.cfi_read_core.specs.Addresses.{IsAddressSize, address, address_size, address_width, is_address_size, of_width}
 use Rattle.cfi_read_core.specs.Numbers.{InitialLength, initial_length, length_in, register_leb128, register_of, unsigned, unsigned_leb128}
 use Rattle.cfi_read_core.specs.Offsets.{difference, offset_up_to}
 use Rattle.cfi_read_core.specs.ReadFunctions.{Source, Position, Outcome, Read, carry_on, ◌>>=◌, give, refuse, of_result, skip}
@@ -58,6 +58,19 @@ reads_in_32_bits old new word n greatest answer most read low same given =
 pub address_read : (size : ℕ) (width : Width) (old new : Position) (answer : Result ℕ Error) → address_width size ≡ Some width → Reads (λ (x : ℕ). x) (unsigned width) old answer new → Reads (λ (x : ℕ). x) (address size) old answer new
 unfolding address
 address_read size width old new answer is read = (ap (λ (w : Option Width). of_width w size old.source old.place) is ∙ read.0, read.1)
+
+sized_gives : (size : ℕ) → IsAddressSize size → (source : Source) (place : ℕ) → is_address_size (address_width size) size source place ≡ record { value = Ok size; place = place }
+sized_gives size (inl one) source place = rw one refl
+sized_gives size (inr (inl two)) source place = rw two refl
+sized_gives size (inr (inr (inl four))) source place = rw four refl
+sized_gives size (inr (inr (inr eight))) source place = rw eight refl
+
+pub address_size_read : (old new : Position) (size : ℕ) → IsAddressSize size → Reads (λ (x : ℕ). x) (unsigned w8) old (Ok size) new → Reads (λ (x : ℕ). x) address_size old (Ok size) new
+unfolding address_size
+address_size_read old new size sized read = (
+  ap (λ (o : Outcome ℕ). carry_on (λ (n : ℕ). is_address_size (address_width n) n) old.source o.value o.place) read.0 ∙ sized_gives size sized old.source new.place,
+  read.1,
+)
 
 pub register_read : (old new : Position) (n : ℕ) (answer : Result Register Error) → Reads (λ (x : ℕ). x) unsigned_leb128 old (Ok n) new → answer ≡ register_of n → Reads (λ (x : Register). x) register_leb128 old answer new
 unfolding register_leb128

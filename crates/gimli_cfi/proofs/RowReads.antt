@@ -1,13 +1,13 @@
 -- A row's start and target, as reads from the place of the first row.
-use Rattle.std.proofs.Common.{◌≡◌, ◌<◌, ◌+◌, ◌*◌, ℕ, Option, Some, Result, Ok, Err, refl, sym, ap, subst, ◌∙◌, arith}
+use Rattle.std.proofs.Common.{◌≡◌, ◌<◌, ◌+◌, ◌*◌, ℕ, Option, Some, None, Result, Ok, Err, refl, sym, ap, subst, ◌∙◌, arith}
 use borrow.Author.Tests.{lt-leb}
 use Rattle.cfi_read_core.specs.declared.error.Error.{Error}
-use Rattle.cfi_read_core.specs.declared.error.Error.TheVariants.{UnsupportedOffset}
+use Rattle.cfi_read_core.specs.declared.error.Error.TheVariants.{UnsupportedOffset, UnsupportedPointerEncoding}
 use Rattle.cfi_read_core.specs.ReadFunctions.{Source, Position, Outcome, Read, carry_on, of_result}
 use Rattle.cfi_read_core.specs.ReaderCalls.{map_ok}
 use Rattle.cfi_parts.specs.declared.pointer.Pointer.{Pointer}
 use Rattle.cfi_parts.specs.Pointers.{direct}
-use Rattle.gimli_cfi.specs.EhFrameHdr.{HeaderSection, Table, value_size, start_field, target_field, field_by, rows_passed, start_of, target_of}
+use Rattle.gimli_cfi.specs.EhFrameHdr.{HeaderSection, Table, searched_size, value_size, start_field, target_field, field_by, rows_passed, start_of, target_of}
 
 -- the rows' own source
 abbrev rows_source : HeaderSection → Table → Source
@@ -44,3 +44,7 @@ module _ (section : HeaderSection) (table : Table) (size k : ℕ) (searchable : 
 pub with_itself : {A E : Type 0} (r : Result A E) → map_ok (λ x. x) r ≡ r
 with_itself (Ok x) = refl
 with_itself (Err e) = refl
+
+-- a format that can't be searched
+pub not_searched : (encoding : ℕ) → value_size encoding ≡ None → Err (UnsupportedPointerEncoding (record { 0 = encoding })) ≡ searched_size encoding
+not_searched encoding none = rw none refl

@@ -35,3 +35,9 @@ returns-clause-row g c =
     ∙ (λ i. header_section (g.R.Reader.position (c.in_ok-header.ensures.section i)) (c.in_ok-header.ensures.size i) c.args.bases.now.eh_frame_hdr))
     (ap (λ p. p.eh_frame_ptr) c.in-Some.ensures.header)
     c.row_by_table.ensures.found
+
+pub returns-clause-contains : goal.returns-clause-contains
+returns-clause-contains g c = c.row_by_table.ensures.contains
+
+pub returns-clause-expressions : goal.returns-clause-expressions
+returns-clause-expressions g c = c.row_by_table.ensures.expressions

@@ -22,3 +22,6 @@ returns-clause-faithful g c = λ eh_frame at faithful same.
     (header_section_view g.R.Reader.position c.args.table.now.hdr.now c.args.bases.now) (table_view g.R.Reader.position c.args.table.now) c.args.table.now.hdr.now.eh_frame_ptr eh_frame
     (g.St.StartSource.answer c.args.starts.now) _ at faithful reaches same c.in_ok-fde.ensures.found
     c.unwind_info_for_address.ensures.row
+
+pub returns-clause-found : goal.returns-clause-found
+returns-clause-found g c = (_, c.in_ok-fde.ensures.found, c.unwind_info_for_address.ensures.row)
