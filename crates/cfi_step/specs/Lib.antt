@@ -1,4 +1,5 @@
 pub mod Callers
 pub mod Steps
 pub mod Modules
+pub mod ModuleLists
 pub mod Walks

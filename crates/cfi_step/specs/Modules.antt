@@ -3,7 +3,11 @@
 --     IsFoundIn position size loaded a found      the FDE, or the error in its place, where an address has this size
 --     IsStepIn .. loaded a result caller      a step by it
 --     has_code loaded a, first_module modules a      the module whose code the address is in
-use Rattle.std.specs.Prelude.{◌≡◌, ℕ, ◌&&◌, Bool, List, nat_le, nat_lt, Option, Some, None, Result, IfOk, position}
+--     are_sorted low modules      whether modules are in the order of their addresses, with no overlap
+--     IsOutOfOrder modules k      the first module that isn't, by its index
+--     IsInOneAtMost modules a      no two modules have the address in their code
+--     AreEndedBy modules a k      the first k modules end at or before the address, and no others
+use Rattle.std.specs.Prelude.{◌≡◌, ℕ, ◌+◌, ◌<◌, ◌≤◌, ◌&&◌, Bool, true, false, List, [], ◌∷◌, length, get_or, take, nat_le, nat_lt, Option, Some, None, Result, IfOk, position}
 use Rattle.std.specs.Option.{option_and_then}
 use Rattle.std.specs.List.{slice_get}
 use Rattle.cfi_read_core.specs.declared.error.Error.{Error}
@@ -52,3 +56,30 @@ has_code loaded a = nat_le loaded.start a && nat_lt a loaded.end
 
 abbrev pub first_module : {R : Type 0} → List (LoadedModule R) → ℕ → Option (LoadedModule R)
 first_module modules a = option_and_then (slice_get modules) (position (λ loaded. has_code loaded a) modules)
+
+-- ---- their order
+
+-- its code begins at or after an address, and doesn't end before it begins
+abbrev pub begins_from : {R : Type 0} → ℕ → LoadedModule R → Bool
+begins_from low loaded = nat_le low loaded.start && nat_le loaded.start loaded.end
+
+-- each module's code begins at or after the end of that before it, the first at or after `low`
+abbrev pub are_sorted : {R : Type 0} → ℕ → List (LoadedModule R) → Bool
+are_sorted low [] = true
+are_sorted low (loaded ∷ modules) = begins_from low loaded && are_sorted loaded.end modules
+
+-- the modules before the one with this index are sorted, and not with it
+abbrev pub IsOutOfOrder : {R : Type 0} → List (LoadedModule R) → ℕ → Type 0
+IsOutOfOrder modules k = (are_sorted 0 (take k modules) ≡ true) × (are_sorted 0 (take (k + 1) modules) ≡ false)
+
+-- no two modules have the address in their code
+abbrev pub IsInOneAtMost : {R : Type 0} → List (LoadedModule R) → ℕ → Type 0
+IsInOneAtMost {R} modules a =
+    (i j : ℕ) (d : LoadedModule R) → i < length modules → j < length modules →
+    has_code (get_or modules i d) a ≡ true → has_code (get_or modules j d) a ≡ true → i ≡ j
+
+-- the modules before this index end at or before the address, and the others after it
+pub record AreEndedBy {R : Type 0} (modules : List (LoadedModule R)) (a k : ℕ) : Type 0 where
+  pub inside : k ≤ length modules
+  pub ended : (j : ℕ) (d : LoadedModule R) → j < k → (get_or modules j d).end ≤ a
+  pub not_ended : (j : ℕ) (d : LoadedModule R) → k ≤ j → j < length modules → a < (get_or modules j d).end

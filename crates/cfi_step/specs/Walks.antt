@@ -1,8 +1,9 @@
 -- The frames of a stack, from the innermost one out (DWARF 5 section 6.4.4).
---     State      a frame, with its registers
---     IsStepFrom process s result caller      what the step from a frame gives, by the first module whose code its address is in
---     IsWalk process s frames end      the frames from s on, and why there are no more
-use Rattle.std.specs.Prelude.{◌≡◌, ◌⊎◌, ℕ, ◌||◌, Bool, true, List, [], ◌∷◌, nat_lt, Option, Some, None, Result, Ok, Err, if◌then◌else◌}
+--     State      a frame, with its registers and the room for its caller's
+--     IsStepFrom process s result caller      what the step from a frame returns and writes, by the first module whose code its address is in
+--     IsWalk process s frames end registers caller      the frames from s on, why there are no more, and what is left in the two lists of registers
+--     IsStepOf, IsWalkBy      the same over modules and frames of any form
+use Rattle.std.specs.Prelude.{◌≡◌, ◌⊎◌, ℕ, ◌||◌, Bool, true, List, [], ◌∷◌, length, is_none, nat_lt, Option, Some, None, Result, Ok, Err, OnErr, if◌then◌else◌}
 use Rattle.cfi_read_core.specs.ReadFunctions.{Position}
 use Rattle.cfi_expression.specs.declared.error.FrameError.{FrameError}
 use Rattle.cfi_expression.specs.Frames.{Frame}
@@ -16,20 +17,23 @@ use Rattle.cfi_step.specs.declared.walk.End.{End}
 use Rattle.cfi_step.specs.declared.walk.End.TheVariants.{Outermost, NoModule, Failed, NotRising, NoRoom}
 use Rattle.cfi_step.specs.Steps.{row_address}
 use Rattle.cfi_step.specs.Modules.{IsStepIn, first_module}
+use Rattle.cfi_step.specs.ModuleLists.{module_list}
 
--- where a frame is, and its registers
+-- where a frame is, its registers, and what is in the room for those of its caller
 pub record State : Type 0 where
   pub at : Start
   pub registers : List (Option ℕ)
+  pub caller : List (Option ℕ)
 
--- the frame of the caller has a higher CFA, except across a signal, whose handler may have a stack of its own
+-- the frame of the caller has a higher CFA, except across a signal, whose handler may have a stack of its own, and except the outermost
+-- one, which may have no bytes on the stack
 abbrev pub rises_above : Option ℕ → Bool → ℕ → Bool
 rises_above None is_interrupted the_cfa = true
 rises_above (Some callee) is_interrupted the_cfa = is_interrupted || nat_lt callee the_cfa
 
 -- the step that was made, or the end of the walk
 abbrev pub checked : Start → Result Caller FrameError → Result Caller End
-checked at (Ok c) = if rises_above at.callee_cfa at.is_interrupted c.cfa then Ok c else Err NotRising
+checked at (Ok c) = if is_none c.pc || rises_above at.callee_cfa at.is_interrupted c.cfa then Ok c else Err NotRising
 checked at (Err e) = Err (Failed e)
 
 -- the frame as it is written
@@ -49,29 +53,39 @@ abbrev pub resumed : Result Caller End → Result Start End
 resumed (Ok c) = resumed_at c c.pc
 resumed (Err end) = Err end
 
+-- ---- over modules and frames of any form
+
+-- as many registers are written as there is room for; where no caller is found, nothing is written
+module _ {A : Type 0} (IsStepIn : A → State → Result Caller FrameError → List (Option ℕ) → Type 0) where
+  abbrev pub IsStepOf : Option A → State → Result Caller End → List (Option ℕ) → Type 0
+  IsStepOf None s result caller = (result ≡ Err NoModule) × (caller ≡ s.caller)
+  IsStepOf (Some loaded) s result caller =
+      (step : Result Caller FrameError) × IsStepIn loaded s step caller × (length caller ≡ length s.caller) × OnErr step (caller ≡ s.caller) × (result ≡ checked s.at step)
+
+-- Each frame is written by its step. The last one is where the walk ends, and its registers are left beside what its step wrote; after
+-- another one come the frames from its caller's on.
+module _ {F : Type 0} (written : Start → Result Caller End → F) (IsStep : State → Result Caller End → List (Option ℕ) → Type 0) where
+  abbrev pub IsWalkBy : State → List F → End → List (Option ℕ) → List (Option ℕ) → Type 0
+  IsWalkBy s [] end registers caller = (end ≡ NoRoom) × (registers ≡ s.registers) × (caller ≡ s.caller)
+  IsWalkBy s (f ∷ fs) end registers caller =
+      (step : Result Caller End) × (found : List (Option ℕ)) × IsStep s step found × (f ≡ written s.at step)
+      × (((fs ≡ []) × (resumed step ≡ Err end) × (registers ≡ s.registers) × (caller ≡ found))
+      ⊎ ((next : Start) × (resumed step ≡ Ok next) × IsWalkBy (record { at = next; registers = found; caller = found }) fs end registers caller))
+
+-- ---- in a process
+
+abbrev pub address_of : State → ℕ
+address_of s = row_address s.at.pc s.at.is_interrupted
+
 module _ {R M T : Type 0} (position : R → Position) (number : T → ℕ) (number_at : M → ℕ → ℕ → Option ℕ) (rule_limit stack_limit : Option ℕ) (copies_free : Bool) (process : Process R M) where
   abbrev pub frame_in : State → Frame
   frame_in s = record { registers = s.registers; memory = number_at process.memory.now; size = size_in_bytes process.address_size }
 
-  abbrev pub address_of : State → ℕ
-  address_of s = row_address s.at.pc s.at.is_interrupted
-
-  abbrev pub IsStepOf : Option (LoadedModule R) → State → Result Caller End → List (Option ℕ) → Type 0
-  IsStepOf None s result caller = result ≡ Err NoModule
-  IsStepOf (Some loaded) s result caller =
-      (step : Result Caller FrameError)
-      × IsStepIn position number (frame_in s) process.abi rule_limit stack_limit copies_free loaded (address_of s) step caller
-      × (result ≡ checked s.at step)
+  abbrev pub IsStepInModule : LoadedModule R → State → Result Caller FrameError → List (Option ℕ) → Type 0
+  IsStepInModule loaded s step caller = IsStepIn position number (frame_in s) process.abi rule_limit stack_limit copies_free loaded (address_of s) step caller
 
   abbrev pub IsStepFrom : State → Result Caller End → List (Option ℕ) → Type 0
-  IsStepFrom s result caller = IsStepOf (first_module process.modules.now (address_of s)) s result caller
+  IsStepFrom s result caller = IsStepOf IsStepInModule (first_module (module_list process.modules) (address_of s)) s result caller
 
-  -- ---- walks
-
-  -- Each frame is written by its step. The last one is where the walk ends; after another one come the frames from its caller's on.
-  abbrev pub IsWalk : State → List StackFrame → End → Type 0
-  IsWalk s [] end = end ≡ NoRoom
-  IsWalk s (f ∷ fs) end =
-      (step : Result Caller End) × (caller : List (Option ℕ)) × IsStepFrom s step caller × (f ≡ written s.at step)
-      × (((fs ≡ []) × (resumed step ≡ Err end))
-      ⊎ ((next : Start) × (resumed step ≡ Ok next) × IsWalk (record { at = next; registers = caller }) fs end))
+  abbrev pub IsWalk : State → List StackFrame → End → List (Option ℕ) → List (Option ℕ) → Type 0
+  IsWalk = IsWalkBy written IsStepFrom

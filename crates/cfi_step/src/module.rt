@@ -1,6 +1,5 @@
 //! A loaded module, and the caller of a frame of its code.
-ghost use Rattle.std.specs.Prelude.{◌≡◌, ◌≤◌, ◌<◌, length, position, IfOk, IfSome, OnErr};
-ghost use Rattle.std.specs.Option.{option_map};
+ghost use Rattle.std.specs.Prelude.{◌≡◌, ◌≤◌, length, IfOk, OnErr};
 ghost use Rattle.cfi_read_core.specs.Addresses.{IsAddressSize};
 ghost use Rattle.cfi_read_core.specs.ReaderCalls.{map_ok};
 ghost use Rattle.cfi_entry.specs.Fdes.{Covers};
@@ -11,7 +10,7 @@ ghost use Rattle.gimli_cfi.specs.HeaderViews.{listing_view, section_view, unpars
 ghost use Rattle.gimli_cfi.specs.RowsByHeader.{FoundByHeader};
 ghost use Rattle.gimli_cfi.specs.RowsByTable.{IsFdeFound};
 ghost use Rattle.cfi_expression.specs.Frames.{frame_view};
-ghost use Rattle.cfi_step.specs.Modules.{IsFoundIn, IsStepIn, first_module, has_code};
+ghost use Rattle.cfi_step.specs.Modules.{IsFoundIn, IsStepIn, begins_from, has_code};
 
 use crate::abi::Abi;
 use crate::step::{Caller, step_by_fde};
@@ -43,24 +42,13 @@ impl<R> LoadedModule<R> {
     {
         self.start <= address && address < self.end
     }
-}
 
-/// The first module whose code the address is in.
-pub fn module_of<R>(modules: &[LoadedModule<R>], address: u64) -> Option<&LoadedModule<R>>
-    ensures { option_map (λ loaded. loaded.now) result ≡ first_module modules.now address }
-{
-    match module_index(modules, address) {
-        Some(index) => Some(&modules[index]),
-        None => None,
+    /// Whether its code begins at or after an address, and does not end before it begins.
+    pub(crate) fn begins_from(&self, low: u64) -> bool
+        ensures { result ≡ begins_from low self.now }
+    {
+        low <= self.start && self.start <= self.end
     }
-}
-
-/// How many modules are before it.
-fn module_index<R>(modules: &[LoadedModule<R>], address: u64) -> Option<usize>
-    ensures index { result ≡ position (λ loaded. has_code loaded address) modules.now }
-    ensures bound { IfSome result (λ index. index < length modules.now) }
-{
-    modules.iter().position(|loaded| loaded.has_code(address))
 }
 
 /// The FDE of a module for an address, by the table of its header; by a scan of its section if it

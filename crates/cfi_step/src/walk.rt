@@ -4,7 +4,8 @@ ghost use Rattle.cfi_step.specs.Walks.{IsStepFrom, IsWalk, checked, resumed};
 ghost use Rattle.cfi_step.specs.Walks.{rises_above, written};
 
 use crate::abi::Abi;
-use crate::module::{LoadedModule, module_of, step_in_module};
+use crate::module::step_in_module;
+use crate::modules::Modules;
 use crate::step::{Caller, row_address};
 use cfi_expression::{AddressSize, Frame, FrameError, Memory};
 use gimli_cfi::{Reader, UnwindContext, UnwindContextStorage};
@@ -12,8 +13,8 @@ use std::alloc::AllocError;
 
 /// A process whose stack is walked.
 pub struct Process<'a, R, M> {
-    /// Its modules. Of several whose code an address is in, the first counts.
-    pub modules: &'a [LoadedModule<R>],
+    /// Its modules.
+    pub modules: Modules<'a, R>,
     /// Its memory.
     pub memory: &'a M,
     /// The size of an address.
@@ -65,8 +66,8 @@ pub enum End {
     NoModule,
     /// The step from the last frame failed.
     Failed(FrameError),
-    /// The canonical frame address of the last frame is not above that of the frame before it. So a
-    /// corrupt stack gives no loop.
+    /// The canonical frame address of the last frame is not above that of the frame before it, and
+    /// it is not the outermost one. So a corrupt stack gives no loop.
     NotRising,
     /// There is no room for another frame.
     NoRoom,
@@ -84,8 +85,10 @@ pub struct Walk {
 /// Writes the frames of a stack, from the innermost one out, as far as there is room.
 ///
 /// `pc` and `registers` are those of the innermost frame; a register that is not known is `None`.
-/// `registers`, and `caller`, which has as much room, are overwritten. Over a fixed storage it does
-/// not allocate.
+/// `caller` has as much room. Afterwards `registers` are those of the last frame that was written,
+/// and `caller` those of its caller, if it was found. If the walk ends for want of room, both are
+/// those of the last frame's caller; if there is no room at all, neither is written. Over a fixed
+/// storage it does not allocate.
 pub fn unwind<R: Reader, S: UnwindContextStorage<R::Offset>, M: Memory>(
     process: &Process<'_, R, M>,
     ctx: &mut UnwindContext<R::Offset, S>,
@@ -101,8 +104,9 @@ pub fn unwind<R: Reader, S: UnwindContextStorage<R::Offset>, M: Memory>(
         (record {
           at = record { pc = pc; is_interrupted = true; callee_cfa = None };
           registers = registers.old;
+          caller = caller.old;
         })
-        (take result.count frames.new) result.end }
+        (take result.count frames.new) result.end registers.new caller.new }
     ensures rest { drop result.count frames.new ≡ drop result.count frames.old }
     ensures count { result.count ≤ length frames.new }
     ensures full { result.end ≡ End.NoRoom → result.count ≡ length frames.new }
@@ -135,7 +139,7 @@ pub fn unwind<R: Reader, S: UnwindContextStorage<R::Offset>, M: Memory>(
 }
 
 /// The frame as it is written, by its step.
-fn written(at: &Start, step: Result<Caller, End>) -> StackFrame
+pub fn written(at: &Start, step: Result<Caller, End>) -> StackFrame
     ensures { result ≡ written at.now step }
 {
     StackFrame {
@@ -149,7 +153,7 @@ fn written(at: &Start, step: Result<Caller, End>) -> StackFrame
 }
 
 /// Where the caller's frame is, or why there is none.
-fn resumed(step: Result<Caller, End>) -> Result<Start, End>
+pub fn resumed(step: Result<Caller, End>) -> Result<Start, End>
     ensures { result ≡ resumed step }
 {
     let caller = step?;
@@ -163,7 +167,7 @@ fn resumed(step: Result<Caller, End>) -> Result<Start, End>
     }
 }
 
-/// The step from a frame, in the first module whose code its address is in.
+/// The step from a frame, in the module whose code its address is in.
 fn step_from<R: Reader, S: UnwindContextStorage<R::Offset>, M: Memory>(
     process: &Process<'_, R, M>,
     ctx: &mut UnwindContext<R::Offset, S>,
@@ -174,10 +178,11 @@ fn step_from<R: Reader, S: UnwindContextStorage<R::Offset>, M: Memory>(
     requires { length caller.old ≤ 0x10000 }
     ensures { IsStepFrom R.position R.Offset.number M.number_at
         S.Rules.limit S.Stack.limit S.Rules.copies_free process.now
-        (record { at = at.now; registers = registers.now }) result caller.new }
+        (record { at = at.now; registers = registers.now; caller = caller.old })
+        result caller.new }
 {
     let address = row_address(at.pc, at.is_interrupted);
-    match module_of(process.modules, address) {
+    match process.modules.module_of(address) {
         None => Err(End::NoModule),
         Some(loaded) => {
             let frame = Frame {
@@ -192,12 +197,12 @@ fn step_from<R: Reader, S: UnwindContextStorage<R::Offset>, M: Memory>(
 }
 
 /// The step, or why the walk ends there.
-fn checked(at: &Start, step: Result<Caller, FrameError>) -> Result<Caller, End>
+pub fn checked(at: &Start, step: Result<Caller, FrameError>) -> Result<Caller, End>
     ensures { result ≡ checked at.now step }
 {
     match step {
         Ok(caller) => {
-            if rises(at, caller.cfa) {
+            if caller.pc.is_none() || rises(at, caller.cfa) {
                 Ok(caller)
             } else {
                 Err(End::NotRising)

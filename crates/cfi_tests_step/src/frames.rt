@@ -1,6 +1,6 @@
 //! Stacks that are walked, with registers and memory made by hand.
 use cfi_expression::{AddressSize, FrameError, Window};
-use cfi_step::{Abi, End, LoadedModule, Process, StackFrame, Walk, unwind};
+use cfi_step::{Abi, End, LoadedModule, Modules, Process, StackFrame, Walk, unwind};
 use cfi_tests_bytes::bytes_of;
 use gimli_cfi::{
     BaseAddresses, EhFrame, EndianSlice, Error, LittleEndian, Register, UnwindContext, Vendor,
@@ -10,14 +10,15 @@ use std::test::Fail;
 
 /// Two CIEs (CFA r7+8, r16 saved at CFA-8), of which the second is of signal trampolines; and FDEs:
 /// 0x1000 pushes r6; 0x2000 is the outermost frame; 0x3000 is its own caller; 0x4000 signs its
-/// return address; 0x5000 is a signal trampoline.
+/// return address; 0x5000 is a signal trampoline; 0x2100 is an outermost frame whose CFA is r7.
 const SECTION: &str = "10000000 00000000 01 00 01 78 10 0c0708 9001 0000 \
      1c000000 18000000 0010000000000000 2000000000000000 410e108602 000000 \
      18000000 38000000 0020000000000000 1000000000000000 0710 0000 \
      1c000000 54000000 0030000000000000 1000000000000000 0c0600 0810 000000 \
      18000000 74000000 0040000000000000 1000000000000000 2d 000000 \
      14000000 00000000 01 7a5300 01 78 10 00 0c0708 9001 000000 \
-     18000000 1c000000 0050000000000000 1000000000000000 00 000000";
+     18000000 1c000000 0050000000000000 1000000000000000 00 000000 \
+     1c000000 c4000000 0021000000000000 1000000000000000 0c0700 0710 000000";
 
 const NOTHING: StackFrame = StackFrame {
     pc: 0,
@@ -32,10 +33,38 @@ fn shown(frame: &StackFrame) -> Shown {
     (frame.pc, frame.is_interrupted, frame.cfa)
 }
 
-/// The innermost frame's pc, the room for frames, the memory from 0x7000 on, and what is written.
-type Case = (u64, usize, &'static str, [Shown; 2], usize, End);
+/// The registers of a frame: r6, the stack pointer r7, and r16 for the return address.
+type Registers = (Option<u64>, Option<u64>, Option<u64>);
 
-const CASES: [Case; 8] = [
+fn three(registers: &[Option<u64>; 17]) -> Registers {
+    (registers[6], registers[7], registers[16])
+}
+
+/// The innermost frame's pc, the room for frames, the memory from 0x7000 on; and what is written,
+/// with the registers that are left: those of the last frame, and those of its caller.
+type Case = (
+    u64,
+    usize,
+    &'static str,
+    [Shown; 2],
+    usize,
+    End,
+    [Registers; 2],
+);
+
+const CASES: [Case; 9] = [
+    (
+        0x1001,
+        2,
+        "6600000000000000 0821000000000000",
+        [(0x1001, true, Some(0x7010)), (0x2108, false, Some(0x7010))],
+        2,
+        End::Outermost,
+        [
+            (Some(0x66), Some(0x7010), Some(0x2108)),
+            (Some(0x66), Some(0x7010), None),
+        ],
+    ),
     (
         0x1001,
         2,
@@ -43,6 +72,10 @@ const CASES: [Case; 8] = [
         [(0x1001, true, Some(0x7010)), (0x2008, false, Some(0x7018))],
         2,
         End::Outermost,
+        [
+            (Some(0x66), Some(0x7010), Some(0x2008)),
+            (Some(0x66), Some(0x7018), None),
+        ],
     ),
     (
         0x1001,
@@ -51,6 +84,7 @@ const CASES: [Case; 8] = [
         [(0x1001, true, Some(0x7010)), (0, false, None)],
         1,
         End::NoRoom,
+        [(Some(0x66), Some(0x7010), Some(0x2008)); 2],
     ),
     (
         0x1001,
@@ -59,6 +93,7 @@ const CASES: [Case; 8] = [
         [(0x1001, true, Some(0x7010)), (0x9008, false, None)],
         2,
         End::NoModule,
+        [(Some(0x66), Some(0x7010), Some(0x9008)); 2],
     ),
     (
         0x1001,
@@ -67,6 +102,10 @@ const CASES: [Case; 8] = [
         [(0x1001, true, None), (0, false, None)],
         1,
         End::Failed(FrameError::UnreadableMemory(0x7008)),
+        [
+            (Some(0x7100), Some(0x7000), Some(0x1001)),
+            (None, None, None),
+        ],
     ),
     (
         0x1500,
@@ -75,6 +114,10 @@ const CASES: [Case; 8] = [
         [(0x1500, true, None), (0, false, None)],
         1,
         End::Failed(FrameError::NoRow(Error::NoUnwindInfoForAddress)),
+        [
+            (Some(0x7100), Some(0x7000), Some(0x1500)),
+            (None, None, None),
+        ],
     ),
     (
         0x3004,
@@ -83,6 +126,7 @@ const CASES: [Case; 8] = [
         [(0x3004, true, Some(0x7100)), (0x3004, false, None)],
         2,
         End::NotRising,
+        [(Some(0x7100), Some(0x7100), Some(0x3004)); 2],
     ),
     (
         0x4001,
@@ -91,6 +135,10 @@ const CASES: [Case; 8] = [
         [(0x4001, true, Some(0x7008)), (0x2008, false, Some(0x7010))],
         2,
         End::Outermost,
+        [
+            (Some(0x7100), Some(0x7008), Some(0xaa_0000_0000_2008)),
+            (Some(0x7100), Some(0x7010), None),
+        ],
     ),
     (
         0x5001,
@@ -99,11 +147,20 @@ const CASES: [Case; 8] = [
         [(0x5001, true, Some(0x7008)), (0x2000, true, Some(0x7010))],
         2,
         End::Outermost,
+        [
+            (Some(0x7100), Some(0x7008), Some(0x2000)),
+            (Some(0x7100), Some(0x7010), None),
+        ],
     ),
 ];
 
 /// Walks from a pc: r6 is 0x7100, r7 the stack pointer 0x7000, and r16 the pc.
-fn walked(alloc: Global, pc: u64, memory: &[u8], frames: &mut [StackFrame]) -> Result<Walk, Fail> {
+fn walked(
+    alloc: Global,
+    pc: u64,
+    memory: &[u8],
+    frames: &mut [StackFrame],
+) -> Result<(Walk, [Registers; 2]), Fail> {
     let bytes = bytes_of(alloc, SECTION)?;
     let mut section = EhFrame::new(bytes.as_slice(), LittleEndian);
     section.set_vendor(Vendor::AArch64);
@@ -119,7 +176,7 @@ fn walked(alloc: Global, pc: u64, memory: &[u8], frames: &mut [StackFrame]) -> R
         bytes: EndianSlice::new(memory, LittleEndian),
     };
     let process = Process {
-        modules: &modules,
+        modules: Modules::new(&modules)?,
         memory: &memory,
         address_size: AddressSize::new(8),
         abi: Abi {
@@ -134,21 +191,27 @@ fn walked(alloc: Global, pc: u64, memory: &[u8], frames: &mut [StackFrame]) -> R
     registers[16] = Some(pc);
     let mut caller = [None; 17];
     let mut ctx = UnwindContext::<usize>::new(alloc)?;
-    Ok(unwind(&process, &mut ctx, pc, &mut registers, &mut caller, frames))
+    let walk = unwind(&process, &mut ctx, pc, &mut registers, &mut caller, frames);
+    Ok((walk, [three(&registers), three(&caller)]))
 }
 
 #[test]
 fn walks(rt: HostRuntime) -> Result<(), Fail> {
-    for (pc, room, text, written, count, end) in &CASES {
+    for (pc, room, text, written, count, end, left) in &CASES {
         let memory = bytes_of(rt.alloc(), text)?;
         let mut frames = [NOTHING, NOTHING];
-        let walk = walked(rt.alloc(), *pc, memory.as_slice(), &mut frames[..*room])?;
+        let walk = walked(
+            rt.alloc(),
+            *pc,
+            memory.as_slice(),
+            &mut frames[..(*room).min(2)],
+        )?;
         let expected = Walk {
             count: *count,
             end: *end,
         };
         let all = [shown(&frames[0]), shown(&frames[1])];
-        assert_eq!(rt; (walk, all), (expected, *written), "{pc}");
+        assert_eq!(rt; (walk, all), ((expected, *left), *written), "{pc}");
     }
     Ok(())
 }
@@ -161,7 +224,7 @@ fn memory_cut_at_every_length(rt: HostRuntime) -> Result<(), Fail> {
         let mut frames = [NOTHING, NOTHING];
         let whole = memory.as_slice();
         let cut = &whole[..length.min(whole.len())];
-        let walk = walked(rt.alloc(), 0x1001, cut, &mut frames)?;
+        let (walk, _left) = walked(rt.alloc(), 0x1001, cut, &mut frames)?;
         let refused = End::Failed(FrameError::UnreadableMemory(0x7008));
         assert_eq!(rt; (walk.count, walk.end), (1, refused), "{length}");
     }

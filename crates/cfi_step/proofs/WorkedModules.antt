@@ -1,0 +1,39 @@
+-- Modules in order and out of order, worked out from the definitions alone.
+use Rattle.std.proofs.Common.{◌≡◌, ℕ, true, List, [], ◌∷◌, Some, None, refl}
+use Rattle.cfi_parts.specs.declared.pointer.BaseAddresses.{BaseAddresses}
+use Rattle.cfi_entry.specs.declared.eh_frame.EhFrame.{EhFrame}
+use Rattle.cfi_step.specs.declared.module.LoadedModule.{LoadedModule}
+use Rattle.cfi_step.specs.Modules.{IsOutOfOrder, are_sorted, first_module}
+
+module _ {R : Type 0} (frame : EhFrame R) (bases : BaseAddresses) where
+  abbrev code : ℕ → ℕ → LoadedModule R
+  code start end = record { start = start; end = end; frame = frame; header = None; bases = bases }
+
+  abbrev in_order : List (LoadedModule R)
+  in_order = code 1 5 ∷ code 5 5 ∷ code 5 9 ∷ code 12 13 ∷ []
+
+  -- a module may begin where the one before it ends, and may have no code
+  sorted : are_sorted 0 in_order ≡ true
+  sorted = refl
+
+  -- the end of a module is not in it
+  at_end : first_module in_order 5 ≡ Some (code 5 9)
+  at_end = refl
+
+  last_one : first_module in_order 12 ≡ Some (code 12 13)
+  last_one = refl
+
+  between : first_module in_order 9 ≡ None
+  between = refl
+
+  overlapping : IsOutOfOrder (code 1 5 ∷ code 4 9 ∷ []) 1
+  overlapping = (refl, refl)
+
+  one_in_another : IsOutOfOrder (code 1 9 ∷ code 2 3 ∷ []) 1
+  one_in_another = (refl, refl)
+
+  backwards : IsOutOfOrder (code 1 5 ∷ code 9 8 ∷ code 9 12 ∷ []) 1
+  backwards = (refl, refl)
+
+  swapped : IsOutOfOrder (code 5 9 ∷ code 1 5 ∷ []) 1
+  swapped = (refl, refl)

@@ -1,0 +1,23 @@
+use Rattle.std.proofs.Common.{◌≡◌, ◌∙◌, ℕ, Some, None, Result, sym, ap, subst, rules}
+use Rattle.cfi_step.specs.ModuleLists.{module_list}
+use Rattle.cfi_step.specs.Modules.{IsStepIn, first_module}
+use Rattle.cfi_step.specs.Walks.{State, IsStepInModule, address_of, frame_in}
+use Rattle.cfi_step.proofs.Walking.{in_module, in_no_module}
+use Rattle.cfi_step.proofs.walk.step_from.Goals as goal
+
+pub returns-in-None : goal.returns-in-None
+returns-in-None g c =
+    let s : State = record { at = c.args.at.now; registers = c.args.registers.now; caller = c.args.caller.now } in
+    in_no_module (IsStepInModule g.R.Reader.position g.R.Offset.ReaderOffset.number g.M.Memory.number_at g.S.Rules.ArrayLike.limit g.S-Stack-ArrayLike.limit g.S.Rules.CopyList.copies_free c.args.process.now) s (first_module (module_list c.args.process.now.modules) (address_of s))
+    (c.in-None.ensures.module ∙ ap (first_module (module_list c.args.process.now.modules)) c.row_address-address.ensures)
+
+pub returns-in-Some : goal.returns-in-Some
+returns-in-Some g c =
+    let s : State = record { at = c.args.at.now; registers = c.args.registers.now; caller = c.args.caller.now } in
+    let p = c.args.process.now in
+    in_module (IsStepInModule g.R.Reader.position g.R.Offset.ReaderOffset.number g.M.Memory.number_at g.S.Rules.ArrayLike.limit g.S-Stack-ArrayLike.limit g.S.Rules.CopyList.copies_free p) s (first_module (module_list p.modules) (address_of s))
+    c.in-Some.loaded.now c.step_in_module-step.result c.checked.result c.step_in_module-step.new.caller
+    (c.in-Some.ensures.module ∙ ap (first_module (module_list p.modules)) c.row_address-address.ensures)
+    (subst (λ (n : ℕ). IsStepIn g.R.Reader.position g.R.Offset.ReaderOffset.number (frame_in g.R.Reader.position g.R.Offset.ReaderOffset.number g.M.Memory.number_at g.S.Rules.ArrayLike.limit g.S-Stack-ArrayLike.limit g.S.Rules.CopyList.copies_free p s) p.abi g.S.Rules.ArrayLike.limit g.S-Stack-ArrayLike.limit g.S.Rules.CopyList.copies_free c.in-Some.loaded.now n c.step_in_module-step.result c.step_in_module-step.new.caller)
+    c.row_address-address.ensures c.step_in_module-step.ensures.step)
+    (search rules) c.step_in_module-step.ensures.unwritten c.checked.ensures

@@ -1,0 +1,88 @@
+//! Loaded modules in the order of their addresses.
+ghost use Rattle.std.specs.Prelude.{◌≡◌, ⊤, true};
+ghost use Rattle.cfi_step.specs.Modules.{are_sorted};
+
+use crate::module::LoadedModule;
+use std::alloc::AllocError;
+
+/// Modules in the order of their addresses, no two of which overlap. Only `new` makes them: check
+/// the modules of a process once, and keep the result.
+#[derive(Debug)]
+pub struct Modules<'a, R> {
+    list: &'a [LoadedModule<R>],
+    ghost sorted: { are_sorted 0 list.now ≡ true },
+}
+
+impl<R> Clone for Modules<'_, R> {
+    ghost is_clone = { λ x y. y ≡ x };
+
+    ghost is_infallible = { λ _. ⊤ };
+
+    fn clone(&self) -> Result<Self, AllocError> {
+        Ok(*self)
+    }
+}
+
+impl<R> Copy for Modules<'_, R> {}
+
+/// The module with this index begins before the one before it ends, or ends before it begins.
+#[derive(Clone, Copy, Debug, PartialEq, Eq)]
+pub struct OutOfOrder {
+    /// How many modules are before it.
+    pub index: usize,
+}
+
+impl<'a, R> Modules<'a, R> {
+    ghost use Rattle.std.specs.Prelude.{◌≡◌, true, IfErr, OkIff};
+    ghost use Rattle.std.specs.Option.{option_map};
+    ghost use Rattle.cfi_read_core.specs.ReaderCalls.{map_ok};
+    ghost use Rattle.cfi_step.specs.Modules.{AreEndedBy, IsInOneAtMost, IsOutOfOrder};
+    ghost use Rattle.cfi_step.specs.Modules.{are_sorted, first_module};
+    ghost use Rattle.cfi_step.specs.ModuleLists.{module_list};
+
+    /// The modules, if the code of each begins at or after the end of the one before it.
+    ///
+    /// Fails with the first that doesn't, or that ends before it begins. A module may have no code.
+    /// Goes through all of them once; does not allocate.
+    pub fn new(list: &'a [LoadedModule<R>]) -> Result<Self, OutOfOrder>
+        ensures sorted { OkIff (map_ok module_list result)
+            (are_sorted 0 list.now ≡ true) list.now }
+        ensures out_of_order { IfErr result (λ first. IsOutOfOrder list.now first.index) }
+    {
+        let mut end = 0;
+        for index in 0..list.len() {
+            let loaded = &list[index];
+            if !loaded.begins_from(end) {
+                return Err(OutOfOrder { index });
+            }
+            end = loaded.end;
+        }
+        Ok(Modules { list })
+    }
+
+    /// The module whose code the address is in: there is at most one. Found by halving; does not
+    /// allocate.
+    pub fn module_of(&self, address: u64) -> Option<&'a LoadedModule<R>>
+        ensures module { option_map (λ loaded. loaded.now) result
+            ≡ first_module (module_list self.now) address }
+        ensures only { IsInOneAtMost (module_list self.now) address }
+    {
+        let index = self.ended_by(address);
+        if index == self.list.len() {
+            return None;
+        }
+        let loaded = &self.list[index];
+        if loaded.start <= address {
+            Some(loaded)
+        } else {
+            None
+        }
+    }
+
+    /// How many modules end at or before the address.
+    fn ended_by(&self, address: u64) -> usize
+        ensures { AreEndedBy (module_list self.now) address result }
+    {
+        self.list.partition_point(|loaded| loaded.end <= address)
+    }
+}
