@@ -1,4 +1,5 @@
-/* The unwind row of an address, from the bytes of .eh_frame or .debug_frame: the library gimli_cfi for C.
+/* The unwind row of an address, from the bytes of .eh_frame or .debug_frame, and the frames of a stack: the library gimli_cfi
+ * for C.
  *
  * The library is built for x86-64 Linux by rt, for AArch64 Linux by examples/aarch64, which has only been tried under qemu.
  * The sections may be those of any machine.
@@ -10,8 +11,8 @@
  * the first takes memory. Whoever asks one section for many addresses makes a table of it.
  *
  * All other memory is the caller's, and is read or written only during a call; nothing of it is kept. Pointers are not
- * null, also where a length is 0, and what is written overlaps nothing else that is handed in. What they point to is
- * aligned as C aligns its type. A bool is 0 or 1.
+ * null, also where a length is 0 and in structs, and what is written overlaps nothing else that is handed in. What they
+ * point to is aligned as C aligns its type. A bool is 0 or 1.
  *
  * Calls with different contexts and tables may run at the same time. A context stays on the thread that made it. A table
  * may be handed to another thread, by a lock, a thread's start or join, or a SeqCst atomic; one call at a time has it. No
@@ -129,6 +130,72 @@ typedef struct {
     uint64_t place, length;
 } CfiRule;
 
+/* A module as it is loaded: its code, from start up to, and without, end; its .eh_frame; and its .eh_frame_hdr, none where
+ * header_len is 0. Of the bases debug_frame and address_size aren't read: the section is .eh_frame, and all addresses of a
+ * stack have one size. */
+typedef struct {
+    uint64_t start, end;
+    const uint8_t *eh_frame;
+    size_t eh_frame_len;
+    const uint8_t *header;
+    size_t header_len;
+    CfiBases bases;
+} CfiModule;
+
+/* The bytes of a stack from the address base on, or a copy of them, as far as they are there; and what the ABI says. */
+typedef struct {
+    uint64_t base;
+    const uint8_t *bytes;
+    size_t len;
+    uint64_t signature_mask; /* the bits of a return address that hold its signature (AArch64); 0: none is signed */
+    uint32_t max_iterations; /* how many operations an expression may do */
+    uint16_t stack_pointer;  /* the number of the stack pointer: 7 on x86-64, 31 on AArch64 */
+    bool big_endian;         /* the order of the bytes of the stack */
+    uint8_t address_size;    /* 1, 2, 4 or 8 */
+} CfiStack;
+
+/* The value of a register, if it is known. */
+typedef struct {
+    uint64_t value;
+    bool known;
+} CfiValue;
+
+/* A frame of a stack. */
+typedef struct {
+    uint64_t pc;         /* where it goes on, or was interrupted */
+    uint64_t cfa;        /* 0 where the walk ends here without it */
+    bool has_cfa;
+    bool is_interrupted; /* as the innermost frame is, and one that a signal interrupted */
+} CfiFrame;
+
+/* Why there are no more frames. Behind each kind is what CfiEnd.refused holds, else it is 0. From 4 on the last frame has no
+ * caller that can be found. */
+typedef enum {
+    CFI_END_OUTERMOST = 0,   /* the last frame is the outermost one: its return address is undefined */
+    CFI_END_NO_MODULE = 1,   /* its pc is in the code of no module */
+    CFI_END_NOT_RISING = 2,  /* its CFA isn't above that of the frame it called: a corrupt stack */
+    CFI_END_NO_ROOM = 3,     /* there is no room for another frame */
+    CFI_END_NO_ROW = 4,      /* its pc has no row: status, and what the refusal carries */
+    CFI_END_UNREADABLE = 5,  /* the bytes of an expression can't be read: status, and what the refusal carries */
+    CFI_END_UNSUPPORTED_OPERATION = 6, /* of an expression: its opcode */
+    CFI_END_UNSUPPORTED_SIZE = 7,      /* of what an expression reads: the size in bytes */
+    CFI_END_UNKNOWN_REGISTER = 8,      /* the register's number */
+    CFI_END_UNREADABLE_MEMORY = 9,     /* the address, which is outside of the stack's bytes */
+    CFI_END_NOT_ENOUGH_ITEMS = 10,     /* on the stack of an expression */
+    CFI_END_ITEMS_FULL = 11,           /* an expression has more than 32 of them */
+    CFI_END_DIVISION_BY_ZERO = 12,
+    CFI_END_BAD_BRANCH_TARGET = 13,    /* the distance modulo 65536 */
+    CFI_END_TOO_MANY_ITERATIONS = 14,
+    CFI_END_ARCHITECTURAL_RULE = 15,
+    CFI_END_NOT_WALKED = 16 /* no frame is written: status is CFI_NoContext, or CFI_UnsupportedAddressSize: the size */
+} CfiEndKind;
+
+typedef struct {
+    uint64_t refused;
+    uint32_t kind;  /* CfiEndKind */
+    int32_t status; /* by CFI_END_NO_ROW, CFI_END_UNREADABLE and CFI_END_NOT_WALKED, else 0 */
+} CfiEnd;
+
 /* Makes a context, and frees one that was there. CFI_OutOfMemory where malloc fails: then the one that was there stays. */
 int32_t cfi_context_new(CfiContext *context);
 
@@ -168,6 +235,15 @@ void cfi_table_free(CfiTable *table);
  * 0 .. rules_len - 1, as cfi_row_by_scan does; row->start and row->end are 0. Returns row->status: CFI_NoTable without a
  * table. The places of expressions are those in the section. The table stays as it is. */
 int32_t cfi_table_row(CfiTable *table, uint64_t address, CfiRow *row, CfiRule *rules, size_t rules_len);
+
+/* Writes the frames of a stack, from the innermost one out, as far as there is room, and in *end why there are no more.
+ * Returns how many. Nothing behind them is written. pc and registers are those of the innermost frame: registers[k] has
+ * DWARF's number k; those from 256 on aren't read, and those that aren't passed aren't known. A frame's module is the first
+ * of the array whose code has its pc, or the address before it where it is a return address; the row is that of
+ * cfi_row_by_table, or of cfi_row_by_scan where the module has no header. Only the bytes of the stack and of the modules'
+ * sections are read. */
+size_t cfi_unwind(CfiContext *context, const CfiModule *modules, size_t modules_len, const CfiStack *stack, uint64_t pc,
+                  const CfiValue *registers, size_t registers_len, CfiFrame *frames, size_t frames_len, CfiEnd *end);
 
 /* Writes the name of a status, as in "UnexpectedEof", as far as there is room for it, without a zero at its end. Returns
  * how long it is. "Unknown" for a number that is no status. */

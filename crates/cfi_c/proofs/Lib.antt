@@ -5,3 +5,5 @@ mod Names
 mod PointerPairs
 mod RuleWrites
 mod Sections
+mod StepsInModules
+mod TableAnswers

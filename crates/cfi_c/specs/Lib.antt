@@ -7,3 +7,5 @@ pub mod WrittenRows
 pub mod AddressRows
 pub mod ManyAddresses
 pub mod TableRows
+pub mod PassedStacks
+pub mod StackFrames

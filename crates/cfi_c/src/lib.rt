@@ -1,4 +1,4 @@
-//! Unwind rows of addresses for C programs. `cfi_c.h` says the same in C.
+//! Rows of addresses, and the frames of stacks, for C programs. `cfi_c.h` says the same in C.
 #![tactic(auto)]
 
 ghost use Rattle.std.specs.Prelude.{◌≡◌, ◌+◌, ◌<◌, ◌≤◌, ◌⊎◌, ℕ, length, pos, true, false, None};
@@ -16,9 +16,12 @@ mod context;
 mod find;
 mod held;
 mod held_table;
+mod module;
 mod refusal;
+mod stack;
 mod table;
 mod unboxed;
+mod unwind;
 mod written;
 
 use context::{CfiContext, Context};

@@ -1,4 +1,4 @@
-//! Unwind rows in Rust, by the C library of gimli_cfi: a small safe wrapper.
+//! Unwind rows and frames in Rust, by the C library of gimli_cfi: a small safe wrapper.
 //!
 //! Safe code keeps what `cfi_c.h` requires: slices are never null, what is written is borrowed for
 //! that alone, and a context is neither `Clone` nor `Send` and is freed once. A table is freed once
@@ -7,6 +7,7 @@
 mod raw;
 
 use std::fmt;
+use std::ops::Range;
 
 /// An error: its status, with the value that it carries.
 #[derive(Clone, Copy, Debug, PartialEq, Eq)]
@@ -141,6 +142,83 @@ impl<'a> Section<'a> {
     }
 }
 
+/// A loaded module of this machine: the addresses of its code; `.eh_frame`, and `.eh_frame_hdr` or no bytes, each with its
+/// address.
+#[derive(Clone)]
+pub struct Module<'a> {
+    pub code: Range<u64>,
+    pub eh_frame: (&'a [u8], u64),
+    pub header: (&'a [u8], u64),
+}
+
+impl Module<'_> {
+    fn raw(&self) -> raw::Module {
+        let (bytes, header, bases) = Section::EhFrameByTable { eh_frame: self.eh_frame, header: self.header }.parts();
+        raw::Module {
+            start: self.code.start,
+            end: self.code.end,
+            eh_frame: bytes.as_ptr(),
+            eh_frame_len: bytes.len(),
+            header: header.as_ptr(),
+            header_len: header.len(),
+            bases,
+        }
+    }
+}
+
+/// The innermost frame of a stack of this machine, and the bytes that are there of the stack, or a copy of them, from an
+/// address on.
+#[derive(Clone)]
+pub struct Stack<'a> {
+    pub pc: u64,
+    /// The registers by their numbers, where they are known; those from 256 on are not read.
+    pub registers: &'a [Option<u64>],
+    pub bytes: &'a [u8],
+    pub base: u64,
+    /// The bits of a return address that hold its signature (AArch64); 0 if none is signed.
+    pub signature_mask: u64,
+}
+
+impl Stack<'_> {
+    fn raw(&self) -> raw::Stack {
+        raw::Stack {
+            base: self.base,
+            bytes: self.bytes.as_ptr(),
+            len: self.bytes.len(),
+            signature_mask: self.signature_mask,
+            max_iterations: 1000,
+            stack_pointer: if cfg!(target_arch = "aarch64") { 31 } else { 7 },
+            big_endian: false,
+            address_size: 8,
+        }
+    }
+}
+
+/// A frame of a stack: where it goes on, or was interrupted, and its CFA, unless the walk ends there without it.
+#[derive(Clone, Copy, Debug, PartialEq, Eq)]
+pub struct Frame {
+    pub pc: u64,
+    pub is_interrupted: bool,
+    pub cfa: Option<u64>,
+}
+
+/// Why there are no more frames.
+#[derive(Clone, Copy, Debug, PartialEq, Eq)]
+pub enum End {
+    /// The last frame is the outermost one.
+    Outermost,
+    /// The last frame's pc is in the code of no module.
+    NoModule,
+    /// The CFA of the last frame is not above that of the frame it called.
+    NotRising,
+    /// There is no room for another frame.
+    NoRoom,
+    /// The last frame's pc has no row.
+    NoRow(Refusal),
+    /// The last frame has no caller that can be found: one of `CfiEndKind` of `cfi_c.h`, with what it carries.
+    Failed { kind: u32, carries: u64 },
+}
+
 /// The context of an unwind, besides the bytes; make it once, and use it for any number of
 /// addresses.
 pub struct Context(raw::Context);
@@ -201,6 +279,30 @@ impl Context {
         assert_eq!(answered, addresses.len());
         rows.into_iter().zip(rules).map(|(row, rules)| answer_of(row, rules)).collect()
     }
+
+    /// The frames of a stack, from the innermost one out, as many as there is room for, and why
+    /// there are no more. A frame's module is the first whose code its address is in.
+    pub fn unwind(&mut self, modules: &[Module<'_>], stack: &Stack<'_>, room: usize) -> (Vec<Frame>, End) {
+        let modules: Vec<raw::Module> = modules.iter().map(Module::raw).collect();
+        let registers: Vec<raw::Value> = stack.registers.iter().map(|register| value_of(*register)).collect();
+        let mut frames = vec![raw::Frame::default(); room];
+        let mut end = raw::End::default();
+        let count = unsafe {
+            raw::cfi_unwind(
+                &mut self.0,
+                modules.as_ptr(),
+                modules.len(),
+                &stack.raw(),
+                stack.pc,
+                registers.as_ptr(),
+                registers.len(),
+                frames.as_mut_ptr(),
+                frames.len(),
+                &mut end,
+            )
+        };
+        (frames[..count].iter().map(frame_of).collect(), end_of(&end))
+    }
 }
 
 impl Drop for Context {
@@ -258,6 +360,25 @@ fn answer_of<const REGISTERS: usize>(
         cfa: cfa_of(&row),
         rules: rules.map(rule_of),
     })
+}
+
+fn value_of(register: Option<u64>) -> raw::Value {
+    raw::Value { value: register.unwrap_or(0), known: register.is_some() }
+}
+
+fn frame_of(frame: &raw::Frame) -> Frame {
+    Frame { pc: frame.pc, is_interrupted: frame.is_interrupted, cfa: frame.has_cfa.then_some(frame.cfa) }
+}
+
+fn end_of(end: &raw::End) -> End {
+    match end.kind {
+        0 => End::Outermost,
+        1 => End::NoModule,
+        2 => End::NotRising,
+        3 => End::NoRoom,
+        4 => End::NoRow(Refusal { status: end.status, carries: end.refused }),
+        kind => End::Failed { kind, carries: end.refused },
+    }
 }
 
 fn cfa_of(row: &raw::Row) -> Cfa {

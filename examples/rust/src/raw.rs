@@ -48,6 +48,53 @@ pub struct Rule {
     pub length: u64,
 }
 
+#[repr(C)]
+pub struct Module {
+    pub start: u64,
+    pub end: u64,
+    pub eh_frame: *const u8,
+    pub eh_frame_len: usize,
+    pub header: *const u8,
+    pub header_len: usize,
+    pub bases: Bases,
+}
+
+#[repr(C)]
+pub struct Stack {
+    pub base: u64,
+    pub bytes: *const u8,
+    pub len: usize,
+    pub signature_mask: u64,
+    pub max_iterations: u32,
+    pub stack_pointer: u16,
+    pub big_endian: bool,
+    pub address_size: u8,
+}
+
+#[repr(C)]
+#[derive(Clone, Copy, Default)]
+pub struct Value {
+    pub value: u64,
+    pub known: bool,
+}
+
+#[repr(C)]
+#[derive(Clone, Copy, Default)]
+pub struct Frame {
+    pub pc: u64,
+    pub cfa: u64,
+    pub has_cfa: bool,
+    pub is_interrupted: bool,
+}
+
+#[repr(C)]
+#[derive(Clone, Copy, Default)]
+pub struct End {
+    pub refused: u64,
+    pub kind: u32,
+    pub status: i32,
+}
+
 extern "C" {
     pub fn cfi_context_new(context: *mut Context) -> i32;
     pub fn cfi_context_free(context: *mut Context);
@@ -91,5 +138,17 @@ extern "C" {
     pub fn cfi_table_new(table: *mut Table, section: *const u8, section_len: usize, bases: *const Bases) -> i32;
     pub fn cfi_table_free(table: *mut Table);
     pub fn cfi_table_row(table: *mut Table, address: u64, row: *mut Row, rules: *mut Rule, rules_len: usize) -> i32;
+    pub fn cfi_unwind(
+        context: *mut Context,
+        modules: *const Module,
+        modules_len: usize,
+        stack: *const Stack,
+        pc: u64,
+        registers: *const Value,
+        registers_len: usize,
+        frames: *mut Frame,
+        frames_len: usize,
+        end: *mut End,
+    ) -> usize;
     pub fn cfi_status_name(status: i32, name: *mut u8, name_len: usize) -> usize;
 }

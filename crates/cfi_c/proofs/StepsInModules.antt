@@ -1,0 +1,62 @@
+-- A step in a module that C passes is one in the module that is made of it.
+use Rattle.std.proofs.Common.{◌≡◌, ◌∙◌, ℕ, true, List, Option, Some, None, Result, subst, ap}
+use Rattle.std.specs.Option.{option_map}
+use Rattle.cfi_read_core.specs.declared.error.Error.{Error}
+use Rattle.cfi_read_core.specs.ReadFunctions.{Position}
+use Rattle.cfi_read_core.specs.Windows.{slice_over}
+use Rattle.cfi_entry.specs.Fdes.{Fde}
+use Rattle.cfi_entry.specs.SectionViews.{eh_frame_view}
+use Rattle.cfi_entry.specs.Sections.{Section}
+use Rattle.cfi_unwind.specs.Scan.{chosen_fde}
+use Rattle.gimli_cfi.specs.declared.hdr.header.EhFrameHdr.{EhFrameHdr}
+use Rattle.gimli_cfi.specs.EhFrameHdr.{HeaderSection, header_of as parsed}
+use Rattle.gimli_cfi.specs.HeaderViews.{section_view, unparsed_view}
+use Rattle.gimli_cfi.specs.RowsByHeader.{FoundByHeader}
+use Rattle.cfi_expression.specs.declared.error.FrameError.{FrameError}
+use Rattle.cfi_expression.specs.Frames.{Frame}
+use Rattle.cfi_step.specs.declared.abi.Abi.{Abi}
+use Rattle.cfi_step.specs.declared.module.LoadedModule.{LoadedModule}
+use Rattle.cfi_step.specs.declared.step.Caller.{Caller}
+use Rattle.cfi_step.specs.Modules.{IsFoundBy, IsStepIn}
+use Rattle.cfi_step.specs.Steps.{IsStepBy}
+use Rattle.cfi_step.specs.Walks.{State, address_of}
+use Rattle.cfi_c.specs.declared.CfiBases.{CfiBases}
+use Rattle.cfi_c.specs.declared.stack.CfiModule.{CfiModule}
+use Rattle.cfi_c.specs.declared.stack.CfiStack.{CfiStack}
+use Rattle.cfi_c.specs.PassedSections.{eh_frame_of, header_in, header_of}
+use Rattle.cfi_c.specs.PassedStacks.{abi_of, sized}
+use Rattle.cfi_c.specs.StackFrames.{IsFdeBy, IsStepInModule, frame_of}
+
+module _ {R : Type 0} (position : R → Position) (size : ℕ) (loaded : LoadedModule R) (bases : CfiBases) (bytes : List ℕ) (same : section_view position loaded.frame loaded.bases ≡ eh_frame_of bases bytes) where
+  found_by : (made : Option (EhFrameHdr R)) (passed : Option (List ℕ))
+      → option_map (λ header. unparsed_view position header size loaded.bases) made ≡ option_map (header_of bases) passed
+      → (a : ℕ) (found : Result Fde Error) → IsFoundBy position size loaded made a found → IsFdeBy bases bytes passed a found
+  found_by None None headers a found is = is ∙ ap (λ s. chosen_fde s a) same
+  found_by None (Some bytes') headers a found is = absurd (cc)
+  found_by (Some header) None headers a found is = absurd (cc)
+  found_by (Some header) (Some bytes') headers a found is =
+      let same_header : unparsed_view position header size loaded.bases ≡ header_of bases bytes' = cc in
+      subst (λ (h : HeaderSection). FoundByHeader (eh_frame_of bases bytes) a h (parsed h) found) same_header
+      (subst (λ (s : Section). FoundByHeader s a (unparsed_view position header size loaded.bases) (parsed (unparsed_view position header size loaded.bases)) found) same is)
+
+module _ {R : Type 0} (position : R → Position) (stack : CfiStack) (passed : CfiModule) (loaded : LoadedModule R) where
+  pub as_passed : (s : State) (frame : Frame) (abi : Abi) (a : ℕ) (result : Result Caller FrameError) (caller : List (Option ℕ))
+      → frame ≡ frame_of stack s → abi ≡ abi_of stack → a ≡ address_of s
+      → (eh_frame_view position loaded.frame).position ≡ slice_over passed.section.now passed.bases.big_endian
+      → section_view position loaded.frame loaded.bases ≡ eh_frame_of (sized stack.address_size passed.bases) passed.section.now
+      → option_map (λ header. unparsed_view position header stack.address_size loaded.bases) loaded.header ≡ option_map (header_of (sized stack.address_size passed.bases)) (header_in passed.header.now)
+      → IsStepIn position (λ (n : ℕ). n) frame abi (Some 192) (Some 4) true loaded a result caller
+      → IsStepInModule stack passed s result caller
+  as_passed s frame abi a result caller frames abis addresses bytes sections headers is =
+      let framed : IsStepIn position (λ (n : ℕ). n) (frame_of stack s) abi (Some 192) (Some 4) true loaded a result caller =
+      subst (λ (f : Frame). IsStepIn position (λ (n : ℕ). n) f abi (Some 192) (Some 4) true loaded a result caller) frames is in
+      let ruled : IsStepIn position (λ (n : ℕ). n) (frame_of stack s) (abi_of stack) (Some 192) (Some 4) true loaded a result caller =
+      subst (λ (b : Abi). IsStepIn position (λ (n : ℕ). n) (frame_of stack s) b (Some 192) (Some 4) true loaded a result caller) abis framed in
+      let so : IsStepIn position (λ (n : ℕ). n) (frame_of stack s) (abi_of stack) (Some 192) (Some 4) true loaded (address_of s) result caller =
+      subst (λ (n : ℕ). IsStepIn position (λ (n : ℕ). n) (frame_of stack s) (abi_of stack) (Some 192) (Some 4) true loaded n result caller) addresses ruled in (
+        so.0,
+        found_by position stack.address_size loaded (sized stack.address_size passed.bases) passed.section.now sections loaded.header (header_in passed.header.now) headers (address_of s) so.0 so.1,
+        so.2,
+        subst (λ (n : Section). IsStepBy (frame_of stack s) (slice_over passed.section.now passed.bases.big_endian) (abi_of stack) (λ (n : ℕ). n) (Some 192) (Some 4) true n (address_of s) so.0 result caller) sections
+            (subst (λ (p : Position). IsStepBy (frame_of stack s) p (abi_of stack) (λ (n : ℕ). n) (Some 192) (Some 4) true (section_view position loaded.frame loaded.bases) (address_of s) so.0 result caller) bytes so.3),
+      )

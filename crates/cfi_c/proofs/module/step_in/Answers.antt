@@ -1,0 +1,19 @@
+use Rattle.cfi_read_core.specs.AddressSizes.{size_in_bytes}
+use Rattle.cfi_read_core.specs.ByteOrder.{is_big}
+use Rattle.cfi_read_core.specs.Windows.{slice_position}
+use Rattle.cfi_expression.specs.Windows.{number_in}
+use Rattle.cfi_c.proofs.StepsInModules.{as_passed}
+use Rattle.cfi_c.proofs.module.step_in.Goals as goal
+
+pub returns-clause-step : goal.returns-clause-step
+returns-clause-step c =
+    as_passed (slice_position is_big) c.args.stack.now c.args.module.now c.loaded_of-loaded.result
+    (record { at = c.args.at.now; registers = c.args.registers.now; caller = c.args.caller.now })
+    (record {
+      registers = c.args.registers.now;
+      memory = number_in (slice_position is_big c.memory_of-memory.result.bytes) c.memory_of-memory.result.base;
+      size = size_in_bytes c.new.result;
+    })
+    c.abi_of.result c.row_address-address.result c.step_in_module.result c.step_in_module.new.caller
+    (λ i. record { registers = c.args.registers.now; memory = number_in (c.memory_of-memory.ensures.bytes i) (c.memory_of-memory.ensures.base i); size = c.new.ensures i })
+    c.abi_of.ensures c.row_address-address.ensures c.loaded_of-loaded.ensures.bytes c.loaded_of-loaded.ensures.section c.loaded_of-loaded.ensures.header c.step_in_module.ensures.step

@@ -1,0 +1,47 @@
+-- The modules and the stack that C passes.
+--     module_at modules a      the first module whose code the address is in
+--     sized size bases      the bases, with the size of an address that the stack has
+--     known_values registers      the values of the registers by their numbers, where they are known
+--     memory_of, abi_of stack      its bytes as memory, and what the ABI says
+use Rattle.std.specs.Prelude.{ℕ, ◌&&◌, Bool, true, false, List, map, take, nat_le, nat_lt, Option, Some, None, position, if◌then◌else◌}
+use Rattle.std.specs.Option.{option_and_then}
+use Rattle.std.specs.List.{slice_get}
+use Rattle.cfi_read_core.specs.Windows.{slice_over}
+use Rattle.cfi_expression.specs.Windows.{number_in}
+use Rattle.cfi_step.specs.declared.abi.Abi.{Abi}
+use Rattle.cfi_c.specs.declared.CfiBases.{CfiBases}
+use Rattle.cfi_c.specs.declared.stack.CfiModule.{CfiModule}
+use Rattle.cfi_c.specs.declared.stack.CfiStack.{CfiStack}
+use Rattle.cfi_c.specs.declared.stack.CfiValue.{CfiValue}
+
+-- ---- modules
+
+abbrev pub has_code : CfiModule → ℕ → Bool
+has_code loaded a = nat_le loaded.start a && nat_lt a loaded.end
+
+abbrev pub module_at : List CfiModule → ℕ → Option CfiModule
+module_at modules a = option_and_then (slice_get modules) (position (λ loaded. has_code loaded a) modules)
+
+abbrev pub sized : ℕ → CfiBases → CfiBases
+sized size bases = record bases { address_size = size }
+
+-- ---- the innermost frame
+
+abbrev pub known_value : CfiValue → Option ℕ
+known_value register = if register.known then Some register.value else None
+
+-- there is room for 256 registers
+abbrev pub known_values : List CfiValue → List (Option ℕ)
+known_values registers = map known_value (take 256 registers)
+
+-- ---- the stack
+
+abbrev pub memory_of : CfiStack → ℕ → ℕ → Option ℕ
+memory_of stack = number_in (slice_over stack.bytes.now stack.big_endian) stack.base
+
+abbrev pub abi_of : CfiStack → Abi
+abi_of stack = record {
+  stack_pointer = record { 0 = stack.stack_pointer };
+  signature_mask = stack.signature_mask;
+  max_iterations = stack.max_iterations;
+}

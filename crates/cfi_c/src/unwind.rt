@@ -1,0 +1,177 @@
+//! The frames of a stack.
+ghost use Rattle.std.specs.Prelude.{◌≡◌, ◌≤◌, None, drop, length, map, take, true};
+ghost use Rattle.cfi_read_core.specs.Addresses.{IsAddressSize};
+ghost use Rattle.cfi_c.specs.AddressRows.{is_live};
+ghost use Rattle.cfi_c.specs.StackFrames.{IsUnwound, IsWalkForC, IsWalkTo};
+ghost use Rattle.cfi_c.specs.PassedStacks.{known_value};
+
+use crate::context::{CfiContext, Context};
+use crate::find::is_sized;
+use crate::module::step_from;
+use crate::refusal::NO_CONTEXT;
+use crate::stack::{
+    CfiEnd, CfiFrame, CfiModule, CfiStack, CfiValue, end_of, first_registers, frame_of,
+    refused_end, write_values,
+};
+use cfi_step::walk::{Start, resumed, written};
+use cfi_step::{End, Walk};
+use gimli_cfi::Error;
+use std::alloc::Global;
+use std::mem;
+
+/// The kind of an end where nothing is walked.
+const NOT_WALKED: u32 = 16;
+
+/// Writes the frames of a stack, from the innermost one out, as far as there is room. The pc and
+/// the registers are those of the innermost frame; registers from 256 on are not read.
+///
+/// Returns how many frames it has written, and writes in `end` why there are no more. Writes
+/// nothing behind them. Without a context, or if the address size is not 1, 2, 4 or 8, no frame is
+/// written. Does not allocate.
+#[unsafe(no_mangle)]
+pub extern "C" fn cfi_unwind(
+    alloc: Global,
+    context: &mut CfiContext,
+    modules: &[CfiModule<'_>],
+    stack: &CfiStack<'_>,
+    pc: u64,
+    registers: &[CfiValue],
+    frames: &mut [CfiFrame],
+    end: &mut CfiEnd,
+) -> usize
+    ensures unwound { IsUnwound context.old.live modules.now stack.now pc registers.now
+        frames.old frames.new result end.new }
+    ensures kept { context.new.live ≡ context.old.live }
+{
+    let mut held = mem::replace(context, CfiContext::of(alloc, None)).into_box();
+    let count = unwind(&mut held, modules, stack, pc, registers, frames, end);
+    *context = CfiContext::of(alloc, held);
+    count
+}
+
+/// Writes the frames, with the context that is held.
+fn unwind(
+    held: &mut Option<Box<Context>>,
+    modules: &[CfiModule<'_>],
+    stack: &CfiStack<'_>,
+    pc: u64,
+    registers: &[CfiValue],
+    frames: &mut [CfiFrame],
+    end: &mut CfiEnd,
+) -> usize
+    ensures unwound { IsUnwound (is_live held.old) modules.now stack.now pc registers.now
+        frames.old frames.new result end.new }
+    ensures kept { is_live held.new ≡ is_live held.old }
+{
+    match held {
+        Some(context) => unwind_sized(context.as_mut(), modules, stack, pc, registers, frames, end),
+        None => {
+            *end = CfiEnd {
+                refused: 0,
+                kind: NOT_WALKED,
+                status: NO_CONTEXT,
+            };
+            0
+        }
+    }
+}
+
+/// Writes the frames, if the size of an address is one.
+fn unwind_sized(
+    context: &mut Context,
+    modules: &[CfiModule<'_>],
+    stack: &CfiStack<'_>,
+    pc: u64,
+    registers: &[CfiValue],
+    frames: &mut [CfiFrame],
+    end: &mut CfiEnd,
+) -> usize
+    ensures { IsUnwound true modules.now stack.now pc registers.now
+        frames.old frames.new result end.new }
+{
+    if !is_sized(stack.address_size) {
+        *end = refused_end(
+            NOT_WALKED,
+            Error::UnsupportedAddressSize(stack.address_size),
+        );
+        return 0;
+    }
+    let registers = first_registers(registers);
+    let walk = walk_from(context, modules, stack, pc, registers, frames);
+    *end = end_of(walk.end);
+    walk.count
+}
+
+/// Writes the frames, by the registers of the innermost one, and says why there are no more.
+fn walk_from(
+    context: &mut Context,
+    modules: &[CfiModule<'_>],
+    stack: &CfiStack<'_>,
+    pc: u64,
+    registers: &[CfiValue],
+    frames: &mut [CfiFrame],
+) -> Walk
+    requires size { IsAddressSize stack.now.address_size }
+    requires room { length registers.now ≤ 256 }
+    ensures { IsWalkTo result.end modules.now stack.now pc (map known_value registers.now)
+        frames.old frames.new result.count }
+{
+    let mut known = [None; 256];
+    let mut found = [None; 256];
+    let known = &mut known[..registers.len()];
+    let found = &mut found[..registers.len()];
+    write_values(registers, known);
+    write_values(registers, found);
+    walk(context, modules, stack, pc, known, found, frames)
+}
+
+/// Writes the frames, and says why there are no more.
+fn walk(
+    context: &mut Context,
+    modules: &[CfiModule<'_>],
+    stack: &CfiStack<'_>,
+    pc: u64,
+    registers: &mut [Option<u64>],
+    caller: &mut [Option<u64>],
+    frames: &mut [CfiFrame],
+) -> Walk
+    requires size { IsAddressSize stack.now.address_size }
+    requires room { length registers.old ≤ 0x10000 }
+    requires same_room { length caller.old ≡ length registers.old }
+    ensures walk { IsWalkForC modules.now stack.now
+        (record {
+          at = record { pc = pc; is_interrupted = true; callee_cfa = None };
+          registers = registers.old;
+          caller = caller.old;
+        })
+        (take result.count frames.new) result.end registers.new caller.new }
+    ensures rest { drop result.count frames.new ≡ drop result.count frames.old }
+    ensures count { result.count ≤ length frames.new }
+    ensures full { result.end ≡ End.NoRoom → result.count ≡ length frames.new }
+{
+    let mut at = Start {
+        pc,
+        is_interrupted: true,
+        callee_cfa: None,
+    };
+    for index in 0..frames.len() {
+        let step = step_from(context, modules, stack, &at, registers, caller);
+        frames[index] = frame_of(written(&at, step));
+        match resumed(step) {
+            Ok(next) => {
+                at = next;
+                registers.copy_from_slice(caller);
+            }
+            Err(end) => {
+                return Walk {
+                    count: index + 1,
+                    end,
+                };
+            }
+        }
+    }
+    Walk {
+        count: frames.len(),
+        end: End::NoRoom,
+    }
+}
