@@ -1,3 +1,4 @@
+pub mod ErrorNames
 pub mod Results
 pub mod FileHeaders
 pub mod SectionHeaders

@@ -1,4 +1,7 @@
 //! Why a file can't be read.
+ghost use Rattle.std.specs.Prelude.{◌≡◌};
+ghost use Rattle.cfi_elf.specs.ErrorNames.{name_of_elf};
+
 use std::fmt;
 
 /// Why an ELF file, or a part of it, can't be read. `Display` writes one sentence, with the value
@@ -54,6 +57,31 @@ impl fmt::Display for ElfError {
 impl std::error::Error for ElfError {}
 
 impl ElfError {
+    /// The name of the variant.
+    pub fn name(&self) -> &'static str
+        ensures { result.now ≡ name_of_elf self.now }
+    {
+        match self {
+            ElfError::NotElf => "NotElf",
+            ElfError::HeaderCut => "HeaderCut",
+            ElfError::UnknownClass(_) => "UnknownClass",
+            ElfError::UnknownDataEncoding(_) => "UnknownDataEncoding",
+            ElfError::UnknownVersion(_) => "UnknownVersion",
+            ElfError::Relocatable => "Relocatable",
+            ElfError::Core => "Core",
+            ElfError::SectionEntrySize(_) => "SectionEntrySize",
+            ElfError::SectionTableOutOfBounds => "SectionTableOutOfBounds",
+            ElfError::NoNameSection(_) => "NoNameSection",
+            ElfError::SectionOutOfBounds => "SectionOutOfBounds",
+            ElfError::Compressed => "Compressed",
+            ElfError::NameOutOfBounds => "NameOutOfBounds",
+            ElfError::NameNotTerminated => "NameNotTerminated",
+            ElfError::ProgramEntrySize(_) => "ProgramEntrySize",
+            ElfError::ProgramTableOutOfBounds => "ProgramTableOutOfBounds",
+            ElfError::SegmentOutOfBounds => "SegmentOutOfBounds",
+        }
+    }
+
     /// The value that the error carries, if any.
     fn number(&self) -> Option<u32> {
         match *self {

@@ -1,50 +1,10 @@
--- Words and printed lines, by computation.
-use Rattle.std.proofs.Common.{◌≡◌, [], ◌∷◌, ◌++◌, Some, None, refl, codes}
-use Rattle.cfi_read_core.specs.declared.common.Vendor.TheVariants as vendors
-use Rattle.cfi_read_core.specs.declared.endianity.RunTimeEndian.TheVariants.{Big}
+-- Printed lines, by computation.
+use Rattle.std.proofs.Common.{◌≡◌, [], ◌∷◌, ◌++◌, refl, codes}
 use Rattle.cfi_read_core.specs.declared.error.Error.TheVariants.{UnknownAugmentation}
 use Rattle.gimli_cfi.specs.declared.hdr.unfaithful.Unfaithful.TheVariants as reasons
-use Rattle.cfi_programs.specs.declared.words.Kind.TheVariants.{EhFrame}
 use Rattle.cfi_programs.specs.declared.check.table_check.Verdict.TheVariants as verdicts
-use Rattle.cfi_programs.specs.CheckCommandLine.{request_of}
 use Rattle.cfi_programs.specs.CheckLines.{verdict_line}
 use Rattle.cfi_programs.proofs.Computing.{computing}
-
--- ---- words
-
-all_words : request_of (codes "eh_frame" ∷ codes "be" ∷ codes "4" ∷ codes "header=0x1F00" ∷ codes "data=3" ∷ codes "text=2" ∷ codes "section=1" ∷ codes "vendor=aarch64" ∷ []) ≡ Some (record {
-  words = record {
-    kind = EhFrame;
-    endian = Big;
-    address_size = 4;
-    section = Some 1;
-    text = Some 2;
-    data_base = Some 3;
-    vendor = vendors.AArch64;
-    header = Some 0x1f00;
-  };
-  header = 0x1f00;
-})
-unfolding computing
-all_words = refl
-
-without_header : request_of (codes "eh_frame" ∷ codes "le" ∷ codes "8" ∷ codes "section=1" ∷ []) ≡ None
-unfolding computing
-without_header = refl
-
-of_debug_frame : request_of (codes "debug_frame" ∷ codes "le" ∷ codes "8" ∷ codes "header=1" ∷ []) ≡ None
-unfolding computing
-of_debug_frame = refl
-
-with_an_address : request_of (codes "eh_frame" ∷ codes "le" ∷ codes "8" ∷ codes "0x1000" ∷ codes "header=1" ∷ []) ≡ None
-unfolding computing
-with_an_address = refl
-
-with_a_storage : request_of (codes "eh_frame" ∷ codes "le" ∷ codes "8" ∷ codes "header=1" ∷ codes "store=vec" ∷ []) ≡ None
-unfolding computing
-with_a_storage = refl
-
--- ---- lines
 
 faithful : verdict_line (verdicts.Faithful 3713) ≡ record { text = codes "faithful 3713" ++ 10 ∷ []; status = 0 }
 unfolding computing

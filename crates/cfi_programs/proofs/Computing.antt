@@ -3,9 +3,9 @@ use Rattle.std.proofs.Common.{ℕ}
 use Rattle.std.specs.Fmt.{digits}
 use Rattle.hex.specs.Hex.{decode_pairs}
 use Rattle.cfi_programs.specs.RowLines.{rules_text}
-use Rattle.cfi_programs.specs.Words.{after_first_words, each_word}
+use Rattle.cfi_programs.specs.Words.{each_word}
 
 -- to name it on an `unfolding` line is to open all these
 unfoldable pub computing : ℕ
-unfolding after_first_words decode_pairs digits each_word rules_text
+unfolding decode_pairs digits each_word rules_text
 computing = 0

@@ -1,5 +1,5 @@
 -- The text of a table's steps, one after the other.
-use Rattle.std.proofs.Common.{◌≡◌, List, ℕ, [], ◌∷◌, ◌++◌, ap}
+use Rattle.std.proofs.Common.{◌≡◌, List, [], ◌∷◌, ◌++◌, ap}
 use Rattle.cfi_compiled.specs.Steps.{Step}
 use Rattle.cfi_programs.specs.DumpCompiledTexts.{step_text, steps_text}
 

@@ -18,7 +18,8 @@ use Rattle.cfi_entry.specs.Sections.{Section, section_of}
 use Rattle.cfi_programs.specs.Lines.{refusal_line}
 use Rattle.cfi_programs.specs.WriterOutput.{IsBeginning, Writes}
 use Rattle.cfi_programs.proofs.WrittenLemmas.{IsGiven, beginning_then, given_all, given_first, given_then, writes_last, writes_refused}
-use Rattle.cfi_programs.specs.DumpSectionTexts.{entry_text, entries_text, fde_text, item_text, refusal_text}
+use Rattle.cfi_programs.specs.DumpSectionTexts.{entries_text, fde_text, item_text, refusal_text}
+use Rattle.cfi_programs.specs.DumpRowTexts.{fde_rows_text}
 
 -- ---- a text of two parts
 
@@ -34,27 +35,31 @@ pub as_read : {T E : Type 0} (old new : Option (List ℕ)) (r : Result T E) (sec
     → Writes old new r (fde_text section found reading) → Writes old new r (fde_text section found (read_fde section found))
 as_read old new r section found reading is written = subst (λ x. Writes old new r (fde_text section found x)) is written
 
--- ---- a section's entries
+pub rows_as_read : {T E : Type 0} (old new : Option (List ℕ)) (r : Result T E) (address : Option ℕ) (section : Section) (found : PartialFde) (reading : Result Fde Error) → reading ≡ read_fde section found
+    → Writes old new r (fde_rows_text address section reading) → Writes old new r (fde_rows_text address section (read_fde section found))
+rows_as_read old new r address section found reading is written = subst (λ x. Writes old new r (fde_rows_text address section x)) is written
 
-module _ (section : Section) where
+-- ---- a section's entries, by the text of one
+
+module _ (by : Entry → List ℕ) where
   item_by_item : (values : List Entry) (refusal : Option Error) →
-      flat_map (entry_text section) values ++ refusal_text refusal ≡ flat_map (item_text section) (map Ok values ++ refusal_item refusal)
+      flat_map by values ++ refusal_text refusal ≡ flat_map (item_text by) (map Ok values ++ refusal_item refusal)
   item_by_item [] None = refl
   item_by_item [] (Some e) = sym (append-nil (refusal_line e).text)
   item_by_item (entry ∷ values) refusal =
-      append_assoc (entry_text section entry) (flat_map (entry_text section) values) (refusal_text refusal)
-      ∙ ap (λ xs. entry_text section entry ++ xs) (item_by_item values refusal)
+      append_assoc (by entry) (flat_map by values) (refusal_text refusal)
+      ∙ ap (λ xs. by entry ++ xs) (item_by_item values refusal)
 
-  by_items : (readings : Readings Entry) → entries_text section readings ≡ flat_map (item_text section) (items readings)
+  by_items : (readings : Readings Entry) → entries_text by readings ≡ flat_map (item_text by) (items readings)
   unfolding entries_text
   by_items readings = item_by_item readings.values readings.refusal
 
-  none_left : (before : Readings Entry) → items before ≡ [] → entries_text section before ≡ []
-  none_left before is = by_items before ∙ ap (flat_map (item_text section)) is
+  none_left : (before : Readings Entry) → items before ≡ [] → entries_text by before ≡ []
+  none_left before is = by_items before ∙ ap (flat_map (item_text by)) is
 
-  one_more : (before after : Readings Entry) (item : Result Entry Error) → items before ≡ item ∷ items after → entries_text section before ≡ item_text section item ++ entries_text section after
+  one_more : (before after : Readings Entry) (item : Result Entry Error) → items before ≡ item ∷ items after → entries_text by before ≡ item_text by item ++ entries_text by after
   one_more before after item is =
-      by_items before ∙ ap (flat_map (item_text section)) is ∙ ap (λ xs. item_text section item ++ xs) (sym (by_items after))
+      by_items before ∙ ap (flat_map (item_text by)) is ∙ ap (λ xs. item_text by item ++ xs) (sym (by_items after))
 
 -- an entry's FDE is of the section, whatever holds of a CIE
 pub of_section : {C F S : Type 0} (P : C → Type 0) (section_of_fde : F → S) (bases_of_fde : F → BaseAddresses) (s t : S) (a b : BaseAddresses) (item : Result (EntryFields C F) Error) → s ≡ t → a ≡ b
@@ -64,17 +69,17 @@ of_section P section_of_fde bases_of_fde s t a b (Ok (code.Fde partial)) same ba
 of_section P section_of_fde bases_of_fde s t a b (Err e) same based h = tt
 
 -- an iterator over the section, at s and then at t
-module _ {S : Type 0} (view : S → SectionView) (section : S) (bases : BaseAddresses) (old now : Option (List ℕ)) (text : List ℕ) where
+module _ {S : Type 0} (view : S → SectionView) (section : S) (bases : BaseAddresses) (by : Entry → List ℕ) (old now : Option (List ℕ)) (text : List ℕ) where
   abbrev from : Section
   from = section_of (view section) bases
 
   pub all_written : (s : S) (at : BaseAddresses) (place : ℕ) → s ≡ section → at ≡ bases → items (entries_left (section_of (view s) at) place) ≡ []
-      → IsGiven old now (entries_text from (entries_left from place)) text → Appends old now text
-  all_written s at place same based is given = given_all old now (entries_text from (entries_left from place)) text given (none_left from (entries_left from place) (rw (same, based) at is))
+      → IsGiven old now (entries_text by (entries_left from place)) text → Appends old now text
+  all_written s at place same based is given = given_all old now (entries_text by (entries_left from place)) text given (none_left by (entries_left from place) (rw (same, based) at is))
 
   pub to_write : (s t : S) (s_bases t_bases : BaseAddresses) (place next : ℕ) (item : Result Entry Error) → s ≡ section → s_bases ≡ bases → t ≡ s → t_bases ≡ s_bases
       → items (entries_left (section_of (view s) s_bases) place) ≡ item ∷ items (entries_left (section_of (view t) t_bases) next)
-      → IsGiven old now (entries_text from (entries_left from place)) text → IsGiven old now (item_text from item ++ entries_text from (entries_left from next)) text
+      → IsGiven old now (entries_text by (entries_left from place)) text → IsGiven old now (item_text by item ++ entries_text by (entries_left from next)) text
   to_write s t s_bases t_bases place next item same based kept kept_bases is given =
       let here : items (entries_left from place) ≡ item ∷ items (entries_left from next) = rw (kept, kept_bases, same, based) at is in
-      subst (λ xs. IsGiven old now xs text) (one_more from (entries_left from place) (entries_left from next) item here) given
+      subst (λ xs. IsGiven old now xs text) (one_more by (entries_left from place) (entries_left from next) item here) given

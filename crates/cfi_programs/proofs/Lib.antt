@@ -14,10 +14,8 @@ pub mod RowsCommandLineLemmas
 pub mod RowsAnswerLemmas
 mod RowsOnHeap
 mod CheckPrinted
-pub mod CheckRequestLemmas
 pub mod CheckVerdictLemmas
 pub mod DumpRowsWritten
 pub mod DumpSectionWritten
 pub mod DumpCompiledWritten
-pub mod DumpRequestLemmas
-pub mod DumpRunLemmas
+mod DumpPrinted

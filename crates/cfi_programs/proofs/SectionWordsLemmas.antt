@@ -8,7 +8,7 @@ use Rattle.cfi_read_core.specs.declared.common.Vendor.TheVariants as vendors
 use Rattle.cfi_programs.specs.declared.words.Kind.{Kind}
 use Rattle.cfi_programs.specs.declared.words.Kind.TheVariants.{DebugFrame, EhFrame}
 use Rattle.cfi_programs.specs.declared.words.SectionWords.{SectionWords}
-use Rattle.cfi_programs.specs.Words.{AreRead, after_first_words, after_prefix, each_word, either, first_words, kind_of, number, once_given, order_of, section_word, set_data_base, set_header, set_section, set_text, set_vendor, size_of}
+use Rattle.cfi_programs.specs.Words.{AreRead, after_prefix, each_word, either, first_words, kind_of, number, once_given, order_of, section_word, set_data_base, set_header, set_section, set_text, set_vendor, size_of}
 
 -- ---- steps that may give nothing
 
@@ -73,13 +73,3 @@ pub each_read : {A : Type 0} (P : A → Type 0) (read : List ℕ → A → Optio
 unfolding each_word
 each_read P read one [] a h = h
 each_read P read one (w ∷ ws) a h = and_then P P (read w a) (each_word read ws) (one w a h) (each_read P read one ws)
-
--- ---- the first three words and those after them
-
-pub after_first_read : {A : Type 0} (P : A → Type 0) (asked_by : SectionWords → List (List ℕ) → Option A) → ((options : List (List ℕ)) (s : SectionWords) → AreRead s → IfSome (asked_by s options) P)
-    → (words : List (List ℕ)) → IfSome (after_first_words asked_by words) P
-unfolding after_first_words
-after_first_read P asked_by known (kind ∷ order ∷ size ∷ options) = and_then AreRead P (first_words kind order size) (λ first. asked_by first options) (first_read kind order size) (known options)
-after_first_read P asked_by known [] = tt
-after_first_read P asked_by known (a ∷ []) = tt
-after_first_read P asked_by known (a ∷ b ∷ []) = tt

@@ -1,7 +1,7 @@
 -- What the words mean.
-use Rattle.std.proofs.Common.{◌≡◌, ◌≢◌, ℕ, ◌+◌, ◌-◌, ◌^◌, ◌<◌, ◌≤◌, Bool, true, false, ◌&&◌, List, [], ◌∷◌, ◌++◌, length, take, drop, get_or, Option, Some, None, Result, Ok, Err, option_map, refl, sym, ◌∙◌, ap, arith, add-one, if◌then◌else◌, nat_le, MatchOption, Bor}
+use Rattle.std.proofs.Common.{◌≡◌, ◌≢◌, ℕ, ◌+◌, ◌^◌, ◌<◌, ◌≤◌, Bool, true, false, ◌&&◌, List, [], ◌∷◌, ◌++◌, length, take, drop, get_or, Option, Some, None, Result, Ok, Err, option_map, refl, sym, ◌∙◌, ap, arith, add-one, if◌then◌else◌, nat_le, MatchOption, Bor}
 use Rattle.std.proofs.Math.Nat.{pow-le-pow_right}
-use Rattle.std.proofs.Math.Seq.{take-append_seam, take-length, drop-cons}
+use Rattle.std.proofs.Math.Seq.{take-append_seam, drop-cons}
 use Rattle.std.proofs.lemmas.Bool.{false_from_ne_true}
 use Rattle.std.proofs.lemmas.List.{take-append-drop, drop_all}
 use Rattle.std.proofs.lemmas.Bool.Decides.{nat_tests}
@@ -15,8 +15,7 @@ use Rattle.std.specs.Result.{result_ok, OkIff}
 use Rattle.std.specs.Str.{bytes_eq}
 use Rattle.std.specs.Str.Parse.{AllDigits, IsNumeral, digits_value, ParsesUnsigned, without_leading_plus}
 use Rattle.std.specs.Str.Pattern.{FindsTextPrefix, StripsPrefix}
-use Rattle.cfi_programs.specs.declared.words.SectionWords.{SectionWords}
-use Rattle.cfi_programs.specs.Words.{after_first_words, after_prefix, below_2_64, decimal_number, each_word, first_words, hexadecimal_number, texts}
+use Rattle.cfi_programs.specs.Words.{after_prefix, below_2_64, decimal_number, each_word, hexadecimal_number, texts}
 
 -- ---- digits
 
@@ -90,30 +89,6 @@ begins_not start word h =
 pub behind_is : (start word : List ℕ) (r : Option (Bor (List ℕ))) → MatchOption r (FindsTextPrefix start word None) (λ x. StripsPrefix (FindsTextPrefix start) word x.now) → option_map (λ rest. rest.now) r ≡ after_prefix start word
 behind_is start word None h = sym (begins_not start word (λ rest e. h rest e))
 behind_is start word (Some x) (n, found, rest, fits) = ap (λ k. Some k) rest ∙ ap (λ k. Some (drop k word)) found.0 ∙ sym (begins start word (drop n word) found.1)
-
--- ---- the first three words
-
-pub too_few : {A : Type 0} (asked_by : SectionWords → List (List ℕ) → Option A) (words : List (Bor (List ℕ))) → length words < 3 → None ≡ after_first_words asked_by (texts words)
-unfolding after_first_words
-too_few asked_by [] h = refl
-too_few asked_by (a ∷ []) h = refl
-too_few asked_by (a ∷ b ∷ []) h = refl
-too_few asked_by (a ∷ b ∷ c ∷ words) h = absurd (omega arith)
-
-pub all_taken : {A : Type 0} (n : ℕ) (xs : List A) → n ≡ length xs → take n xs ≡ xs
-all_taken n xs e = rw e (take-length xs)
-
-abbrev pub of_three : Bor (List ℕ) → List (Bor (List ℕ)) → Option SectionWords
-of_three d words = first_words (get_or words 0 d).now (get_or words 1 d).now (get_or words 2 d).now
-
-pub three : {A : Type 0} (asked_by : SectionWords → List (List ℕ) → Option A) (d : Bor (List ℕ)) (words : List (Bor (List ℕ))) → 3 ≤ length words →
-    option_and_then (λ first. asked_by first (texts (take (length words - 3) (drop 3 words)))) (of_three d words) ≡ after_first_words asked_by (texts words)
-unfolding after_first_words
-three asked_by d [] h = absurd (omega arith)
-three asked_by d (a ∷ []) h = absurd (omega arith)
-three asked_by d (a ∷ b ∷ []) h = absurd (omega arith)
-three asked_by d (a ∷ b ∷ c ∷ words) h =
-    ap (λ xs. option_and_then (λ first. asked_by first (texts xs)) (first_words a.now b.now c.now)) (all_taken (length (a ∷ b ∷ c ∷ words) - 3) words (omega arith))
 
 -- ---- the words in turn
 

@@ -2,8 +2,9 @@
 --     fde_rows section fde      the rows of an FDE, and the refusals among them, in order
 --     lines answers      a line for each
 --     entry_text section entry      an entry, and after an FDE its rows
---     item_text section item      an entry or a refusal
---     section_text section      all entries in order
+--     item_text text item      an entry, by the text of one, or a refusal
+--     entries_text text readings      all entries in order, by the text of one
+--     section_text section      those of a section
 use Rattle.std.specs.Prelude.{ℕ, Option, Some, None, List, [], ◌∷◌, ◌++◌, Result, Ok, Err, flat_map}
 use Rattle.cfi_read_core.specs.declared.error.Error.{Error}
 use Rattle.cfi_read_core.specs.ReadFunctions.{Readings}
@@ -49,20 +50,20 @@ abbrev pub entry_text : Section → Entry → List ℕ
 entry_text section (CieEntry cie) = cie_line cie
 entry_text section (FdeEntry partial) = fde_text section partial (read_fde section partial)
 
--- an entry, or the error of one that can't be read
-abbrev pub item_text : Section → Result Entry Error → List ℕ
-item_text section (Ok entry) = entry_text section entry
-item_text section (Err error) = (refusal_line error).text
-
 -- ---- the section
+
+-- an entry, or the error of one that can't be read
+abbrev pub item_text : (Entry → List ℕ) → Result Entry Error → List ℕ
+item_text text (Ok entry) = text entry
+item_text text (Err error) = (refusal_line error).text
 
 abbrev pub refusal_text : Option Error → List ℕ
 refusal_text None = []
 refusal_text (Some error) = (refusal_line error).text
 
 -- each entry, and after the last one the error with which they end
-unfoldable pub entries_text : Section → Readings Entry → List ℕ
-entries_text section readings = flat_map (entry_text section) readings.values ++ refusal_text readings.refusal
+unfoldable pub entries_text : (Entry → List ℕ) → Readings Entry → List ℕ
+entries_text text readings = flat_map text readings.values ++ refusal_text readings.refusal
 
 abbrev pub section_text : Section → List ℕ
-section_text section = entries_text section (entries section)
+section_text section = entries_text (entry_text section) (entries section)

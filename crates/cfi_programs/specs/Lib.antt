@@ -8,14 +8,10 @@ pub mod Runs
 pub mod RowsCommandLine
 pub mod RowsProgramOutput
 pub mod RowsPlainLines
-pub mod CheckCommandLine
 pub mod CheckVerdicts
 pub mod CheckLines
-pub mod CheckProgramOutput
-pub mod CheckPlainLines
 pub mod DumpEntryLines
 pub mod DumpSectionTexts
+pub mod DumpRowTexts
 pub mod DumpCompiledTexts
-pub mod DumpCommandLine
 pub mod DumpProgramOutput
-pub mod DumpPlainLines

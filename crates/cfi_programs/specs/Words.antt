@@ -95,9 +95,6 @@ unfoldable pub each_word : {A : Type 0} → (List ℕ → A → Option A) → Li
 each_word read [] value = Some value
 each_word read (word ∷ words) value = option_and_then (each_word read words) (read word value)
 
-abbrev pub section_words : List (List ℕ) → SectionWords → Option SectionWords
-section_words options words = each_word section_word options words
-
 -- ---- the first words
 
 abbrev pub kind_of : List ℕ → Option Kind
@@ -133,11 +130,6 @@ first_words kind order size = do
     vendor = vendors.Default;
     header = None;
   })
-
--- what the first three words and those after them ask for, or none where there are fewer
-unfoldable pub after_first_words : {A : Type 0} → (SectionWords → List (List ℕ) → Option A) → List (List ℕ) → Option A
-after_first_words asked_by (kind ∷ order ∷ size ∷ options) = option_and_then (λ first. asked_by first options) (first_words kind order size)
-after_first_words asked_by words = None
 
 -- What holds of the words of each section: the size of an address is known, and only .eh_frame has a header.
 abbrev pub AreRead : SectionWords → Type 0

@@ -1,8 +1,4 @@
-//! The program `cfi_check`, over any reader and writer: its words, its answer and what it prints.
+//! Whether the table of a header is faithful to its section, and the line that says so.
 
-mod command_line;
-mod output_line;
-pub mod run;
-mod table_check;
-
-pub use command_line::Request;
+pub mod output_line;
+pub mod table_check;

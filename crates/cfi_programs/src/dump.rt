@@ -1,9 +1,11 @@
-//! The program `cfi_dump`, over any reader and writer: its words, its answer and what it prints.
+//! What is printed of a whole section: its entries and their rows, the rows of its FDEs, or those
+//! of its compiled table.
 
-mod command_line;
+mod addressed_rows;
 mod compiled;
 mod entry_line;
-pub mod run;
+pub mod print;
+mod printed;
 mod section;
 
-pub use command_line::Request;
+pub use printed::Printed;

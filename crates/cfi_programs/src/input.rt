@@ -61,17 +61,6 @@ pub fn read_sections<R: Read>(
     decode_sections(alloc, header, text)
 }
 
-/// Reads the input to its end: its bytes are those of the section.
-pub fn read_bytes<R: Read>(alloc: Global, input: &mut R) -> Result<Sections, InputError>
-    ensures { ReadsSections (λ bytes. Some (record { section = bytes; header = [] }))
-        (R.remaining input.old) result }
-{
-    Ok(Sections {
-        section: read_all(alloc, input)?,
-        header: Vec::new(alloc),
-    })
-}
-
 /// What the input holds.
 #[derive(Drop)]
 pub struct Sections {

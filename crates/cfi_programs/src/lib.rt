@@ -1,6 +1,7 @@
-//! The programs `cfi_rows`, `cfi_check` and `cfi_dump`, over any reader and writer, and what they
-//! share: the words that name a section and its addresses, the input in hexadecimal, the lines of
-//! rows, the lines that say why there is no answer, and the run of a program.
+//! What is printed of call frames: a section's entries and rows, the row of an address, and the
+//! verdict on a header's table; with the lines of each and those that say why there is no answer.
+//! And the program `cfi_rows`, over any reader and writer: the words that name a section and its
+//! addresses, the input in hexadecimal, and the run of the program.
 #![tactic(auto)]
 
 pub mod check;

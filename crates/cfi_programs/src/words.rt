@@ -5,7 +5,7 @@ ghost use Rattle.std.specs.List.{list_all};
 ghost use Rattle.cfi_programs.specs.Words.{after_prefix, texts};
 ghost use Rattle.cfi_programs.specs.Words.{decimal_number, hexadecimal_number, number};
 ghost use Rattle.cfi_programs.specs.Words.{first_words, kind_of, order_of, size_of};
-ghost use Rattle.cfi_programs.specs.Words.{once_given, section_word, section_words};
+ghost use Rattle.cfi_programs.specs.Words.{once_given, section_word};
 ghost use Rattle.cfi_programs.specs.Words.{set_data_base, set_header, set_section};
 ghost use Rattle.cfi_programs.specs.Words.{set_text, set_vendor};
 
@@ -142,18 +142,6 @@ fn size_named(word: &str) -> Option<u8>
     } else {
         None
     }
-}
-
-/// Returns what the words say with each of the options in turn; `None` where one is wrong, or asks
-/// for what an earlier one asked for.
-pub fn with_options(words: SectionWords, options: &[&str]) -> Option<SectionWords>
-    ensures { result ≡ section_words (texts options.now) words }
-{
-    let mut words = words;
-    for word in options {
-        words = with_option(words, word)?;
-    }
-    Some(words)
 }
 
 /// Returns what the words say with one more: `vendor=aarch64`, or `section=`, `text=`, `data=` or

@@ -1,5 +1,5 @@
 //! Tests of ELF files: what is found in four small files, each error, and files that are cut at
-//! every length. The expected values are readelf's.
+//! every length; what is printed of a fifth. The expected values are readelf's.
 #![tactic(auto)]
 
 #[cfg(test)]
@@ -10,3 +10,5 @@ mod cuts;
 mod errors;
 #[cfg(test)]
 mod found;
+#[cfg(test)]
+mod printed;

@@ -1,8 +1,14 @@
-//! Whole runs over memory: faithful tables, each fault of others, wrong words and input, failing
-//! output.
+//! Verdicts over memory: faithful tables, each fault of others, other bases and byte orders, a
+//! failing output.
+ghost use Rattle.std.specs.Prelude.{◌≡◌};
+ghost use Rattle.gimli_cfi.specs.Words.{IsAddressSize};
 
-use cfi_programs::check::run::run;
-use std::alloc::{AllocError, Global};
+use cfi_programs::check::output_line::write_verdict;
+use cfi_programs::check::table_check::{Verdict, check};
+use cfi_programs::words::{Kind, SectionWords};
+use cfi_tests_bytes::bytes_of;
+use gimli_cfi::{RunTimeEndian, Vendor};
+use std::alloc::Global;
 use std::io;
 use std::io::{ErrorKind, Write};
 use std::process::Abort;
@@ -57,29 +63,19 @@ no rows | CIE FDE1 | HEADER 00000000 | header: has no table
 omitted rows | CIE FDE1 | 01 1b 03 ff fc000000 | header: has no table
 version 2 | CIE FDE1 | 02 1b 03 3b fc000000 01000000 ROW1 | header: refused UnknownVersion
 empty header | CIE FDE1 | | header: refused UnexpectedEof
-no hexadecimal | CIE FDE1 | 0g | wrong hexadecimal
-odd number of digits | CIE FDE1 0 | HEADER 01000000 ROW1 | wrong hexadecimal
 ";
 
-/// The words of the cases above.
-const WORDS: &str = "eh_frame le 8 section=0x2000 header=0x1f00";
-
-/// A line a case: the words, and the line that is printed for three FDEs and their rows.
-const WORDED: &str = "
-eh_frame le 8 header=7936 vendor=aarch64 section=8192 | faithful 3
-eh_frame le 4 section=0x2000 header=0x1f00 text=1 data=2 | faithful 3
-eh_frame le 8 section=0x2008 header=0x1f00 | FDE 0x18: no row starts at 0x1008 and leads to it
-eh_frame le 8 header=0x1f00 | FDE 0x18: refused PcRelativePointerButSectionBaseIsUndefined
-eh_frame be 8 section=0x2000 header=0x1f00 | row 3: refused UnexpectedEof
-eh_frame le 8 section=0x2000 | wrong words
-eh_frame le 8 0x1000 section=0x2000 header=0x1f00 | wrong words
-eh_frame le 8 section=0x2000 header=0x1f00 store=vec | wrong words
-eh_frame le 8 section=0x2000 header=0x1f00 header=0x1f00 | wrong words
-eh_frame le 3 section=0x2000 header=0x1f00 | wrong words
-eh_frame le | wrong words
-debug_frame le 8 section=0x2000 | wrong words
-debug_frame le 8 section=0x2000 header=0x1f00 | wrong words
-";
+/// A section of addresses of 8 bytes, in little-endian byte order.
+const SECTION: SectionWords = SectionWords {
+    kind: Kind::EhFrame,
+    endian: RunTimeEndian::Little,
+    address_size: 8,
+    section: Some(0x2000),
+    text: None,
+    data_base: None,
+    vendor: Vendor::Default,
+    header: None,
+};
 
 /// The section of three FDEs.
 const THREE_FDES: &str = "CIE FDE1 FDE2 FDE3";
@@ -88,7 +84,7 @@ const THREE_FDES: &str = "CIE FDE1 FDE2 FDE3";
 const THREE_ROWS: &str = "HEADER 03000000 ROW1 ROW2 ROW3";
 
 /// What a word of a table stands for.
-fn bytes_of(word: &str) -> &str {
+fn digits_of(word: &str) -> &str {
     for (name, bytes) in &NAMES {
         if *name == word {
             return bytes;
@@ -97,62 +93,58 @@ fn bytes_of(word: &str) -> &str {
     word
 }
 
-/// Adds what the words of a part of the input stand for.
-fn write_out(text: &mut String, part: &str) -> Result<(), AllocError> {
+/// The bytes of a section or header, which the words of a table stand for.
+fn written_out(alloc: Global, part: &str) -> Result<Vec<u8>, Fail> {
+    let mut digits = String::new(alloc);
     for word in part.split(' ') {
-        text.push_str(bytes_of(word))?;
-        text.push_str(" ")?;
+        digits.push_str(digits_of(word))?;
     }
-    Ok(())
+    Ok(bytes_of(alloc, digits.as_str())?)
 }
 
 /// The status that a line comes with.
 fn status_of(line: &str) -> u8 {
-    if line.starts_with("faithful ") {
-        0
-    } else if line.starts_with("wrong ") {
-        2
-    } else {
-        1
-    }
+    if line.starts_with("faithful ") { 0 } else { 1 }
 }
 
-/// Adds the section in the first line, and the header after it.
-fn write_input(text: &mut String, section: &str, header: &str) -> Result<(), AllocError> {
-    write_out(text, section)?;
-    text.push_str("\n")?;
-    write_out(text, header)
+/// The verdict on a header at 0x1f00.
+fn verdict_on(
+    alloc: Global,
+    words: &SectionWords,
+    section: &str,
+    header: &str,
+) -> Result<Verdict, Fail>
+    requires sized { IsAddressSize words.now.address_size }
+    requires of_eh_frame { words.now.kind ≡ Kind.EhFrame }
+{
+    let section = written_out(alloc, section)?;
+    let header = written_out(alloc, header)?;
+    Ok(check(words, 0x1f00, section.as_slice(), header.as_slice()))
 }
 
-fn input_of(alloc: Global, section: &str, header: &str) -> Result<String, AllocError> {
-    let mut text = String::new(alloc);
-    write_input(&mut text, section, header)?;
-    Ok(text)
-}
-
-/// Runs the program, and answers what it prints, and its status.
-fn printed(alloc: Global, words: &str, text: &str) -> Result<(Vec<u8>, u8), AllocError> {
-    let words: Vec<&str> = words.split(' ').collect(alloc)?;
-    let mut input = text.as_bytes();
-    let mut output = Vec::new(alloc);
-    let status = run(alloc, Some(words.as_slice()), &mut input, &mut output);
-    Ok((output, status))
-}
-
-/// Runs the program, and compares its line and its status.
-fn expect(
-    rt: &(impl Abort + AllocGlobal),
-    words: &str,
-    text: &str,
-    line: &str,
-) -> Result<(), Fail> {
-    let (output, status) = printed(rt.alloc(), words, text)?;
+/// Compares the line of a verdict, and its status.
+fn expect_line(rt: &(impl Abort + AllocGlobal), verdict: Verdict, line: &str) -> Result<(), Fail> {
+    let mut output = Vec::new(rt.alloc());
+    let status = write_verdict(&mut output, verdict)?;
     let whole = format!(in rt.alloc(); "{line}\n")?;
     assert_eq!(rt;
         (str::from_utf8(output.as_slice()), status),
         (Ok(whole.as_str()), status_of(line))
     );
     Ok(())
+}
+
+/// Compares the line of the verdict on three FDEs and their rows.
+fn expect_of_three(
+    rt: &(impl Abort + AllocGlobal),
+    words: &SectionWords,
+    line: &str,
+) -> Result<(), Fail>
+    requires sized { IsAddressSize words.now.address_size }
+    requires of_eh_frame { words.now.kind ≡ Kind.EhFrame }
+{
+    let verdict = verdict_on(rt.alloc(), words, THREE_FDES, THREE_ROWS)?;
+    expect_line(rt, verdict, line)
 }
 
 /// The section, the header and the line of a case; none of an empty line.
@@ -163,27 +155,15 @@ fn case_of(case: &str) -> Option<(&str, &str, &str)> {
     Some((section.trim(), header.trim(), line.trim()))
 }
 
-/// Runs each case of a table.
+/// Checks each case of a table.
 fn expect_each(rt: &(impl Abort + AllocGlobal), cases: &str) -> Result<(), Fail> {
     for case in cases.lines() {
         let Some((section, header, line)) = case_of(case) else {
             assert_eq!(rt; case, "");
             continue;
         };
-        let text = input_of(rt.alloc(), section, header)?;
-        expect(rt, WORDS, text.as_str(), line)?;
-    }
-    Ok(())
-}
-
-/// Runs each case of a table of words over one input.
-fn expect_worded(rt: &(impl Abort + AllocGlobal), cases: &str, text: &str) -> Result<(), Fail> {
-    for case in cases.lines() {
-        let Some((words, line)) = case.split_once('|') else {
-            assert_eq!(rt; case, "");
-            continue;
-        };
-        expect(rt, words.trim(), text, line.trim())?;
+        let verdict = verdict_on(rt.alloc(), &SECTION, section, header)?;
+        expect_line(rt, verdict, line)?;
     }
     Ok(())
 }
@@ -199,36 +179,62 @@ fn each_fault(rt: HostRuntime) -> Result<(), Fail> {
 }
 
 #[test]
-fn words_of_a_check(rt: HostRuntime) -> Result<(), Fail> {
-    let text = input_of(rt.alloc(), THREE_FDES, THREE_ROWS)?;
-    expect_worded(&rt, WORDED, text.as_str())
+fn other_bases(rt: HostRuntime) -> Result<(), Fail> {
+    let later = SectionWords {
+        section: Some(0x2008),
+        ..SECTION
+    };
+    let missed = "FDE 0x18: no row starts at 0x1008 and leads to it";
+    expect_of_three(&rt, &later, missed)?;
+    let nowhere = SectionWords {
+        section: None,
+        ..SECTION
+    };
+    let refused = "FDE 0x18: refused PcRelativePointerButSectionBaseIsUndefined";
+    expect_of_three(&rt, &nowhere, refused)
 }
+
+/// Neither changes what these entries and rows mean.
+#[test]
+fn other_vendor_and_size(rt: HostRuntime) -> Result<(), Fail> {
+    let of_aarch64 = SectionWords {
+        vendor: Vendor::AArch64,
+        ..SECTION
+    };
+    expect_of_three(&rt, &of_aarch64, "faithful 3")?;
+    let narrow = SectionWords {
+        address_size: 4,
+        text: Some(1),
+        data_base: Some(2),
+        ..SECTION
+    };
+    expect_of_three(&rt, &narrow, "faithful 3")
+}
+
+/// The section of the first two FDEs and the header with their rows, big-endian.
+const BIG_ENDIAN: (&str, &str) = (
+    "00000014 00000000 01 7a5200 01 78 10 01 1b 0c0708 9001 0000 \
+    00000010 0000001c ffffefe0 00000010 00 000000 \
+    00000010 00000030 ffffefdc 00000010 00 410e10 00000000",
+    "01 1b 03 3b 000000fc 00000002 fffff100 00000118 fffff110 0000012c",
+);
 
 #[test]
-fn big_endian(rt: HostRuntime) -> Result<(), Fail> {
-    let text =
-        "00000014 00000000 01 7a5200 01 78 10 01 1b 0c0708 9001 0000 00000010 0000001c ffffefe0 00000010 00 000000 00000010 00000030 ffffefdc 00000010 00 410e10 00000000
-01 1b 03 3b 000000fc 00000002 fffff100 00000118 fffff110 0000012c";
-    let words = "eh_frame be 8 section=0x2000 header=0x1f00";
-    expect(&rt, words, text, "faithful 2")
+fn byte_orders(rt: HostRuntime) -> Result<(), Fail> {
+    let big_endian = SectionWords {
+        endian: RunTimeEndian::Big,
+        ..SECTION
+    };
+    let (section, header) = BIG_ENDIAN;
+    let verdict = verdict_on(rt.alloc(), &big_endian, section, header)?;
+    expect_line(&rt, verdict, "faithful 2")?;
+    expect_of_three(&rt, &big_endian, "row 3: refused UnexpectedEof")
 }
 
-#[test]
-fn missing_words(rt: HostRuntime) {
-    let mut input: &[u8] = b"";
-    let mut output = Vec::new(rt.alloc());
-    let status = run(rt.alloc(), None, &mut input, &mut output);
-    assert_eq!(rt;
-        (output.as_slice(), status),
-        (b"wrong words\n".as_slice(), 2)
-    );
-}
-
-/// Takes so many bytes, one a call, and then fails; where it fails to flush, it fails then alone.
+/// Takes so many bytes, one a call, and then fails.
 #[derive(Drop)]
 struct Failing {
     room: usize,
-    fails_to_flush: bool,
 }
 
 impl Write for Failing {
@@ -241,67 +247,39 @@ impl Write for Failing {
     }
 
     fn flush(&mut self) -> io::Result<()> {
-        if self.fails_to_flush {
-            return Err(ErrorKind::Other.into());
-        }
         Ok(())
     }
 }
 
-/// The status of a run over a failing output.
-fn ended(alloc: Global, words: &[&str], text: &str, output: Failing) -> u8 {
-    let mut input = text.as_bytes();
-    let mut output = output;
-    run(alloc, Some(words), &mut input, &mut output)
+/// The status of a verdict written to an output that takes so many bytes; `None` where it fails.
+fn written(verdict: Verdict, room: usize) -> Option<u8> {
+    write_verdict(&mut Failing { room }, verdict).ok()
 }
 
-/// Runs the program over outputs that take each number of bytes; `status` is that of a whole line.
-fn check_outputs(
-    rt: &(impl Abort + AllocGlobal),
-    words: &[&str],
-    text: &str,
-    line: &str,
-    status: u8,
-) {
+/// Writes the verdict to outputs that take each number of bytes.
+fn check_outputs(rt: &(impl Abort + AllocGlobal), verdict: Verdict, line: &str) {
     for room in 0..line.len() + 2 {
-        let flushed = Failing {
-            room,
-            fails_to_flush: false,
-        };
-        let not_flushed = Failing {
-            room,
-            fails_to_flush: true,
-        };
-        let statuses = (
-            ended(rt.alloc(), words, text, flushed),
-            ended(rt.alloc(), words, text, not_flushed),
-        );
         let whole = room == line.len() + 1;
-        assert_eq!(rt;
-            statuses,
-            (if whole { status } else { 2 }, 2),
-            "{room} bytes"
-        );
+        let expected = if whole { Some(status_of(line)) } else { None };
+        assert_eq!(rt; written(verdict, room), expected, "{room} bytes");
     }
 }
 
-/// Headers of the three FDEs, their lines and the statuses of those.
-const CHECKED: [(&str, &str, u8); 2] = [
-    (THREE_ROWS, "faithful 3", 0),
+/// Headers of the three FDEs, and their lines.
+const CHECKED: [(&str, &str); 2] = [
+    (THREE_ROWS, "faithful 3"),
     (
         "HEADER 02000000 ROW1 ROW2",
         "FDE 0x40: no row starts at 0x1020 and leads to it",
-        1,
     ),
 ];
 
-/// Status 2, at each byte of a line and at the flush, of a faithful table and of a fault.
+/// At each byte of a line, of a faithful table and of a fault.
 #[test]
 fn a_failed_write(rt: HostRuntime) -> Result<(), Fail> {
-    let words: Vec<&str> = WORDS.split(' ').collect(rt.alloc())?;
-    for (header, line, status) in &CHECKED {
-        let text = input_of(rt.alloc(), THREE_FDES, header)?;
-        check_outputs(&rt, words.as_slice(), text.as_str(), line, *status);
+    for (header, line) in &CHECKED {
+        let verdict = verdict_on(rt.alloc(), &SECTION, THREE_FDES, header)?;
+        check_outputs(&rt, verdict, line);
     }
     Ok(())
 }

@@ -1,8 +1,32 @@
-//! Whole runs over memory: sections whose rows were worked out by hand, wrong words and input.
-use cfi_programs::dump::run::run;
-use std::alloc::{AllocError, Global};
+//! Sections printed over memory, whose rows were worked out by hand.
+ghost use Rattle.cfi_programs.specs.Words.{AreRead};
+
+use cfi_programs::dump::Printed;
+use cfi_programs::dump::print::{print_bytes, print_rows};
+use cfi_programs::words::{Kind, SectionWords};
+use cfi_tests_bytes::bytes_of;
+use gimli_cfi::{RunTimeEndian, Vendor};
+use std::alloc::AllocError;
 use std::process::Abort;
 use std::test::Fail;
+
+/// `.debug_frame` of addresses of 8 bytes, in little-endian byte order.
+const DEBUG_FRAME: SectionWords = SectionWords {
+    kind: Kind::DebugFrame,
+    endian: RunTimeEndian::Little,
+    address_size: 8,
+    section: None,
+    text: None,
+    data_base: None,
+    vendor: Vendor::Default,
+    header: None,
+};
+
+/// `.eh_frame` of the same.
+const EH_FRAME: SectionWords = SectionWords {
+    kind: Kind::EhFrame,
+    ..DEBUG_FRAME
+};
 
 /// Three rows of `.debug_frame` (DWARF 5 section 6.4.2): a function that pushes register 6, then
 /// makes it the frame pointer.
@@ -23,6 +47,13 @@ const THREE_ROWS_COMPILED: &str = "0x0 refused NoUnwindInfoForAddress
 0x1001 cfa=r7+16 args=0 r6=offset(-16) r16=offset(-8)
 0x1004 cfa=r6+16 args=0 r6=offset(-16) r16=offset(-8)
 0x1020 refused NoUnwindInfoForAddress
+";
+
+/// The addresses of its FDE, and its rows.
+const THREE_ROWS_ALONE: &str = "fde 0x1000 0x1020
+0x1000 0x1001 cfa=r7+8 args=0 r16=offset(-8)
+0x1001 0x1004 cfa=r7+16 args=0 r6=offset(-16) r16=offset(-8)
+0x1004 0x1020 cfa=r6+16 args=0 r6=offset(-16) r16=offset(-8)
 ";
 
 /// A state is restored that was never remembered: the rows go on after it.
@@ -48,83 +79,91 @@ fde 0x21 length=21 cie=0x0 0x1000 0x1010 lsda=0x5050
 0x1000 0x1010 cfa=r7+8 args=0
 ";
 
-fn run_bytes(alloc: Global, words: &str, input: &[u8]) -> Result<(u8, Vec<u8>), AllocError> {
-    let words: Vec<&str> = words.split(' ').collect(alloc)?;
-    let mut input = input;
-    let mut output = Vec::new(alloc);
-    let status = run(alloc, Some(words.as_slice()), &mut input, &mut output);
-    Ok((status, output))
+/// Compares what was printed, and the status. Fails for lack of memory where a refusal of it is all
+/// that was printed: an allocation that fails changes no text.
+fn expect(
+    rt: &(impl Abort + AllocGlobal),
+    output: &[u8],
+    status: u8,
+    text: &str,
+) -> Result<(), Fail> {
+    let printed = str::from_utf8(output);
+    if (printed, status) == (Ok("refused OutOfMemory\n"), 1) {
+        return Err(AllocError.into());
+    }
+    assert_eq!(rt; (printed, status), (Ok(text), 0));
+    Ok(())
 }
 
+/// Compares what is printed of a section, and the status.
 fn prints(
     rt: &(impl Abort + AllocGlobal),
-    words: &str,
-    input: &[u8],
+    printed: Printed,
+    words: &SectionWords,
+    digits: &str,
     text: &str,
-    status: u8,
-) -> Result<(), Fail> {
-    let (answered, output) = run_bytes(rt.alloc(), words, input)?;
-    assert_eq!(rt;
-        (str::from_utf8(output.as_slice()), answered),
-        (Ok(text), status),
-        "{words}"
-    );
-    Ok(())
+) -> Result<(), Fail>
+    requires { AreRead words.now }
+{
+    let bytes = bytes_of(rt.alloc(), digits)?;
+    let mut output = Vec::new(rt.alloc());
+    let status = print_bytes(rt.alloc(), printed, words, bytes.as_slice(), &mut output)?;
+    expect(rt, output.as_slice(), status, text)
 }
 
-/// Words, sections and what is printed of them.
-const WORKED: [(&str, &str, &str); 5] = [
-    ("debug_frame le 8", THREE_ROWS, THREE_ROWS_PRINTED),
-    ("debug_frame le 8 compiled", THREE_ROWS, THREE_ROWS_COMPILED),
-    ("debug_frame le 8 input=hex", REFUSED, REFUSED_PRINTED),
-    ("eh_frame le 8 section=0x2000", LETTERS, LETTERS_PRINTED),
-    ("eh_frame be 4", "", ""),
-];
+#[test]
+fn entries_and_rows(rt: HostRuntime) -> Result<(), Fail> {
+    let entries = Printed::Entries;
+    prints(&rt, entries, &DEBUG_FRAME, THREE_ROWS, THREE_ROWS_PRINTED)?;
+    prints(&rt, entries, &DEBUG_FRAME, REFUSED, REFUSED_PRINTED)?;
+    let of_letters = SectionWords {
+        section: Some(0x2000),
+        ..EH_FRAME
+    };
+    prints(&rt, entries, &of_letters, LETTERS, LETTERS_PRINTED)
+}
 
 #[test]
-fn worked_sections(rt: HostRuntime) -> Result<(), Fail> {
-    for (words, input, text) in &WORKED {
-        prints(&rt, words, input.as_bytes(), text, 0)?;
-    }
-    Ok(())
+fn a_compiled_table(rt: HostRuntime) -> Result<(), Fail> {
+    let compiled = Printed::Compiled;
+    prints(&rt, compiled, &DEBUG_FRAME, THREE_ROWS, THREE_ROWS_COMPILED)
+}
+
+#[test]
+fn an_empty_section(rt: HostRuntime) -> Result<(), Fail> {
+    let big_endian = SectionWords {
+        endian: RunTimeEndian::Big,
+        address_size: 4,
+        ..EH_FRAME
+    };
+    prints(&rt, Printed::Entries, &big_endian, "", "")
 }
 
 #[test]
 fn entries_that_are_refused(rt: HostRuntime) -> Result<(), Fail> {
-    prints(
-        &rt,
-        "debug_frame le 8",
-        b"0500",
-        "refused UnexpectedEof\n",
-        0,
-    )?;
-    prints(
-        &rt,
-        "eh_frame le 8",
-        b"04000000 04000000",
-        "fde 0x0 length=4\nrefused NotCieId\n",
-        0,
-    )
+    let entries = Printed::Entries;
+    let cut = "refused UnexpectedEof\n";
+    prints(&rt, entries, &DEBUG_FRAME, "0500", cut)?;
+    let no_cie = "fde 0x0 length=4\nrefused NotCieId\n";
+    prints(&rt, entries, &EH_FRAME, "04000000 04000000", no_cie)
 }
 
-const WRONG_WORDS: [&str; 4] = [
-    "debug_frame le",
-    "debug_frame le 3",
-    "eh_frame le 8 header=1",
-    "eh_frame le 8 input=octal",
+/// Addresses, and the rows of the FDEs that contain them; of all FDEs, where there is no address.
+const ADDRESSES: [(Option<u64>, &str); 4] = [
+    (None, THREE_ROWS_ALONE),
+    (Some(0x1000), THREE_ROWS_ALONE),
+    (Some(0x101f), THREE_ROWS_ALONE),
+    (Some(0x1020), ""),
 ];
 
 #[test]
-fn wrong_words_and_input(rt: HostRuntime) -> Result<(), Fail> {
-    for words in &WRONG_WORDS {
-        prints(&rt, words, b"", "wrong words\n", 2)?;
+fn rows_of_fdes(rt: HostRuntime) -> Result<(), Fail> {
+    let bytes = bytes_of(rt.alloc(), THREE_ROWS)?;
+    for (address, text) in &ADDRESSES {
+        let mut output = Vec::new(rt.alloc());
+        let section = bytes.as_slice();
+        let status = print_rows(rt.alloc(), *address, &DEBUG_FRAME, section, &mut output)?;
+        expect(&rt, output.as_slice(), status, text)?;
     }
-    prints(&rt, "eh_frame le 8", b"0", "wrong hexadecimal\n", 2)
-}
-
-/// The bytes of an input are the section as it stands.
-#[test]
-fn bytes(rt: HostRuntime) -> Result<(), Fail> {
-    let words = "debug_frame le 8 input=bytes";
-    prints(&rt, words, &[5, 0], "refused UnexpectedEof\n", 0)
+    Ok(())
 }

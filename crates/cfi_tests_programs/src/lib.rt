@@ -1,6 +1,6 @@
-//! Tests of whole runs of the programs, over memory: the test vectors of `cfi_rows`, faithful
-//! tables and each fault of others, printed sections, wrong words and input, cut sections, failing
-//! input and output.
+//! Tests of what the programs print, over memory: whole runs of `cfi_rows` with its test vectors,
+//! wrong words and input, cut sections, failing input and output; verdicts on faithful tables and
+//! on each fault of others; printed sections.
 #![tactic(auto)]
 
 #[cfg(test)]

@@ -3,13 +3,10 @@ ghost use Rattle.std.specs.Prelude.{◌≡◌};
 ghost use Rattle.cfi_read_core.specs.Addresses.{IsAddressSize};
 ghost use Rattle.gimli_cfi.specs.EhFrameHdr.{header_section};
 ghost use Rattle.gimli_cfi.specs.HeaderViews.{section_view};
-ghost use Rattle.cfi_programs.specs.Input.{bytes_of};
-ghost use Rattle.cfi_programs.specs.CheckCommandLine.{CanBeChecked};
-ghost use Rattle.cfi_programs.specs.CheckProgramOutput.{IsVerdictOf};
+ghost use Rattle.cfi_programs.specs.SectionOfWords.{header_section_of, section_of};
 ghost use Rattle.cfi_programs.specs.CheckVerdicts.{IsVerdict};
 
-use crate::check::command_line::Request;
-use crate::input::Sections;
+use crate::words::{Kind, SectionWords};
 use gimli_cfi::hdr::{FaithfulTable, Unfaithful};
 use gimli_cfi::{BaseAddresses, EhFrame, EhFrameHdr, Error, Reader};
 
@@ -26,17 +23,25 @@ pub enum Verdict {
     Refused(Error),
 }
 
-/// Checks the table of the header against the section, at the addresses that the request gives.
-pub fn check(request: &Request, sections: &Sections) -> Verdict
-    requires { CanBeChecked request.now }
-    ensures { IsVerdictOf request.now (bytes_of sections.now) result }
+/// Checks the table of the header, which lies at this address, against the section of `.eh_frame`.
+///
+/// `section` and `header` are their bytes. What the words say of an address of a header doesn't
+/// count. Does not allocate.
+pub fn check(words: &SectionWords, header_address: u64, section: &[u8], header: &[u8]) -> Verdict
+    requires sized { IsAddressSize words.now.address_size }
+    requires of_eh_frame { words.now.kind ≡ Kind.EhFrame }
+    ensures { IsVerdict (section_of words.now section.now)
+        (header_section_of words.now header_address header.now) result }
 {
-    let words = &request.words;
+    let words = SectionWords {
+        header: Some(header_address),
+        ..*words
+    };
     let bases = words.bases();
-    let mut frame = EhFrame::new(sections.section.as_slice(), words.endian);
+    let mut frame = EhFrame::new(section, words.endian);
     frame.set_address_size(words.address_size);
     frame.set_vendor(words.vendor);
-    let header = EhFrameHdr::new(sections.header.as_slice(), words.endian);
+    let header = EhFrameHdr::new(header, words.endian);
     check_by_header(&header, words.address_size, &frame, &bases)
 }
 

@@ -16,9 +16,11 @@ ghost use Rattle.cfi_unwind.specs.UnwindTableViews.{table_state};
 ghost use Rattle.cfi_programs.specs.Lines.{refusal_line};
 ghost use Rattle.cfi_programs.specs.WriterOutput.{Writes};
 ghost use Rattle.cfi_programs.specs.DumpEntryLines.{fde_line, partial_fde_line};
-ghost use Rattle.cfi_programs.specs.DumpSectionTexts.{fde_rows, fde_text, item_text, lines};
-ghost use Rattle.cfi_programs.specs.DumpSectionTexts.{section_text};
+ghost use Rattle.cfi_programs.specs.DumpSectionTexts.{entry_text, fde_rows, fde_text, item_text};
+ghost use Rattle.cfi_programs.specs.DumpSectionTexts.{lines};
+ghost use Rattle.cfi_programs.specs.DumpRowTexts.{listed_entry_text, listed_text};
 
+use crate::dump::addressed_rows::write_entry_rows;
 use crate::dump::entry_line::{write_cie, write_fde, write_partial_fde};
 use crate::lines::write_refusal;
 use crate::row_line::write_answer;
@@ -29,24 +31,60 @@ use gimli_cfi::{
 use std::io;
 use std::io::Write;
 
-/// Writes the line of each entry, and after that of an FDE the lines of its rows.
+/// What is written of the entries of a section.
+#[derive(Clone, Copy)]
+pub enum Listed {
+    /// The line of each entry, and after that of an FDE the lines of its rows.
+    Entries,
+    /// For each FDE a line with its addresses, and the lines of its rows; where an address is
+    /// given, only for the FDEs that contain it.
+    Rows(Option<u64>),
+}
+
+/// Writes what is listed of each entry, in their order.
 ///
 /// An error has a line of its own: in place of an entry that can't be read, after which there are
-/// no more; after the line of an FDE that can't be read whole, or whose CIE's instructions fail;
-/// and among the rows, which then continue as `next_row` does.
+/// no more; after the line of an FDE that can't be read whole, or in its place where only rows are
+/// listed; where the instructions of an FDE's CIE fail; and among the rows, which then continue as
+/// `next_row` does.
 pub fn write_section<R: Reader<Offset = usize>, S: UnwindSection<R>, W: Write>(
     output: &mut W,
+    listed: Listed,
     section: &S,
     bases: &BaseAddresses,
     context: &mut UnwindContext<usize>,
 ) -> io::Result<()>
     ensures { Writes (W.contents output.old) (W.contents output.new) result
-        (section_text (section_of (S.view section.now) bases.now)) }
+        (listed_text listed (section_of (S.view section.now) bases.now)) }
 {
     for entry in section.entries(bases) {
-        write_entry(output, section, bases, context, entry)?;
+        write_listed(output, listed, section, bases, context, entry)?;
     }
     Ok(())
+}
+
+/// Writes what is listed of an entry, or of the error in its place.
+fn write_listed<R: Reader<Offset = usize>, S: UnwindSection<R>, W: Write>(
+    output: &mut W,
+    listed: Listed,
+    section: &S,
+    bases: &BaseAddresses,
+    context: &mut UnwindContext<usize>,
+    entry: Result<CieOrFde<'_, S, R>>,
+) -> io::Result<()>
+    requires { IfOk entry (OfEither (λ _. ⊤)
+        (λ p. (p.section ≡ section.now) × (p.bases.now ≡ bases.now))) }
+    ensures { let found = map_ok (entry_view (cie_view R.position (λ n. n))
+        (λ p. partial_of R.position (λ n. n) p.prefix p.cie_offset)) entry.entry in
+        Writes (W.contents output.old) (W.contents output.new) result (item_text
+        (λ e. listed_entry_text listed (section_of (S.view section.now) bases.now) e) found) }
+{
+    match listed {
+        Listed::Entries => write_entry(output, section, bases, context, entry),
+        Listed::Rows(address) => {
+            write_entry_rows(output, address, section, bases, context, entry)
+        }
+    }
 }
 
 /// Writes the lines of an entry, or of the error in its place.
@@ -62,7 +100,7 @@ fn write_entry<R: Reader<Offset = usize>, S: UnwindSection<R>, W: Write>(
     ensures { let found = map_ok (entry_view (cie_view R.position (λ n. n))
         (λ p. partial_of R.position (λ n. n) p.prefix p.cie_offset)) entry.entry in
         Writes (W.contents output.old) (W.contents output.new) result
-        (item_text (section_of (S.view section.now) bases.now) found) }
+        (item_text (λ e. entry_text (section_of (S.view section.now) bases.now) e) found) }
 {
     match entry {
         Ok(CieOrFde::Cie(cie)) => write_cie(output, &cie),
@@ -72,7 +110,7 @@ fn write_entry<R: Reader<Offset = usize>, S: UnwindSection<R>, W: Write>(
 }
 
 /// Writes the line of an error.
-fn write_refused<W: Write>(output: &mut W, error: Error) -> io::Result<()>
+pub fn write_refused<W: Write>(output: &mut W, error: Error) -> io::Result<()>
     ensures { Writes (W.contents output.old) (W.contents output.new) result
         (refusal_line error).text }
 {
@@ -136,7 +174,7 @@ fn write_refused_fde<W: Write>(
 }
 
 /// Returns the whole FDE, with its CIE in the section.
-fn whole<R: Reader, S: UnwindSection<R>>(
+pub fn whole<R: Reader, S: UnwindSection<R>>(
     partial: &PartialFrameDescriptionEntry<'_, S, R>,
 ) -> Result<FrameDescriptionEntry<R>>
     ensures read { map_ok (fde_view R.position R.Offset.number) result
@@ -155,7 +193,7 @@ fn whole<R: Reader, S: UnwindSection<R>>(
 }
 
 /// Writes a line for each row of the FDE, and for each error among them.
-fn write_rows<R: Reader<Offset = usize>, S: UnwindSection<R>, W: Write>(
+pub fn write_rows<R: Reader<Offset = usize>, S: UnwindSection<R>, W: Write>(
     output: &mut W,
     section: &S,
     bases: &BaseAddresses,

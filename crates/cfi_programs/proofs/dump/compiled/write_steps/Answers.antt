@@ -1,4 +1,4 @@
-use Rattle.std.proofs.Common.{subst, List, ℕ}
+use Rattle.std.proofs.Common.{subst}
 use Rattle.cfi_compiled.specs.CompiledTables.{steps_of}
 use Rattle.cfi_compiled.specs.TableSteps.{step_view, steps_left}
 use Rattle.cfi_programs.specs.DumpCompiledTexts.{step_text, steps_text}

@@ -2,7 +2,8 @@ use Rattle.std.proofs.Common.{◌≡◌, ℕ, ap, sym, subst, ◌∙◌}
 use Rattle.cfi_entry.specs.Entries.{entries_left}
 use Rattle.cfi_entry.specs.Sections.{section_of}
 use Rattle.cfi_programs.proofs.WrittenLemmas.{IsGiven, beginning_then, given_first, given_then, writes_refused}
-use Rattle.cfi_programs.specs.DumpSectionTexts.{entries_text, section_text}
+use Rattle.cfi_programs.specs.DumpSectionTexts.{entries_text}
+use Rattle.cfi_programs.specs.DumpRowTexts.{listed_entry_text, listed_text}
 use Rattle.cfi_programs.proofs.DumpSectionWritten.{all_written, of_section, to_write}
 use Rattle.cfi_programs.proofs.dump.section.write_section.Goals as goal
 
@@ -10,6 +11,7 @@ pub loop-entry-init : goal.loop-entry-init
 loop-entry-init g c =
     let section = section_of (g.S._UnwindSectionPrivate.view c.args.section.now) c.args.bases.now in
     let old = g.W.Write.contents c.args.output.now in
+    let listed = c.args.listed in
     let is = c.into_iter-entry-iterator.ensures.into_iter_gives in
     let at : (g.R.Reader.position c.into_iter-entry-iterator.result.input).place ≡ section.first =
     ap (λ it. (g.R.Reader.position it.input).place) is ∙ ap (λ p. p.place) c.entries-entry-items.ensures.all
@@ -19,31 +21,31 @@ loop-entry-init g c =
       is_finite = tt;
       same_section = ap (λ it. it.section) is ∙ c.entries-entry-items.ensures.section;
       same_bases = ap (λ it. it.bases.now) is ∙ c.entries-entry-items.ensures.bases;
-      given = subst (λ (place : ℕ). IsGiven old old (entries_text section (entries_left section place)) (section_text section)) (sym at) (given_first old (section_text section));
+      given = subst (λ (place : ℕ). IsGiven old old (entries_text (λ entry. listed_entry_text listed section entry) (entries_left section place)) (listed_text listed section)) (sym at) (given_first old (listed_text listed section));
     }
 
-pub write_entry-requires : goal.write_entry-requires
-write_entry-requires g c =
+pub write_listed-requires : goal.write_listed-requires
+write_listed-requires g c =
     of_section _ (λ p. p.section) (λ p. p.bases.now) _ _ _ _ c.in-Some.entry c.loop-entry.invariant.same_section c.loop-entry.invariant.same_bases c.in-Some.ensures.steps.2
 
-pub returns-in_err-write_entry : goal.returns-in_err-write_entry
-returns-in_err-write_entry g c =
+pub returns-in_err-write_listed : goal.returns-in_err-write_listed
+returns-in_err-write_listed g c =
     let steps = c.in-Some.ensures.steps in
-    let left = to_write g.S._UnwindSectionPrivate.view _ _ _ _ _ _ _ _ _ _ _ _ c.loop-entry.invariant.same_section c.loop-entry.invariant.same_bases steps.1.0 steps.1.1 steps.0 c.loop-entry.invariant.given in
-    writes_refused _ _ _ _ c.from_residual.ensures.0 (beginning_then _ _ _ _ _ _ left c.in_err-write_entry.ensures)
+    let left = to_write g.S._UnwindSectionPrivate.view _ _ _ _ _ _ _ _ _ _ _ _ _ c.loop-entry.invariant.same_section c.loop-entry.invariant.same_bases steps.1.0 steps.1.1 steps.0 c.loop-entry.invariant.given in
+    writes_refused _ _ _ _ c.from_residual.ensures.0 (beginning_then _ _ _ _ _ _ left c.in_err-write_listed.ensures)
 
 pub loop-entry-preserved : goal.loop-entry-preserved
 loop-entry-preserved g c =
     let steps = c.in-Some.ensures.steps in
-    let left = to_write g.S._UnwindSectionPrivate.view _ _ _ _ _ _ _ _ _ _ _ _ c.loop-entry.invariant.same_section c.loop-entry.invariant.same_bases steps.1.0 steps.1.1 steps.0 c.loop-entry.invariant.given in
+    let left = to_write g.S._UnwindSectionPrivate.view _ _ _ _ _ _ _ _ _ _ _ _ _ c.loop-entry.invariant.same_section c.loop-entry.invariant.same_bases steps.1.0 steps.1.1 steps.0 c.loop-entry.invariant.given in
     record {
       can_next = tt;
       is_finite = tt;
       same_section = steps.1.0 ∙ c.loop-entry.invariant.same_section;
       same_bases = steps.1.1 ∙ c.loop-entry.invariant.same_bases;
-      given = given_then _ _ _ _ _ _ left c.in_ok-write_entry.ensures;
+      given = given_then _ _ _ _ _ _ left c.in_ok-write_listed.ensures;
     }
 
 pub returns : goal.returns
 returns g c =
-    all_written g.S._UnwindSectionPrivate.view _ _ _ _ _ _ _ _ c.loop-entry.invariant.same_section c.loop-entry.invariant.same_bases c.in-None.ensures.steps.0.0 c.loop-entry.invariant.given
+    all_written g.S._UnwindSectionPrivate.view _ _ _ _ _ _ _ _ _ c.loop-entry.invariant.same_section c.loop-entry.invariant.same_bases c.in-None.ensures.steps.0.0 c.loop-entry.invariant.given

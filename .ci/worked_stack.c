@@ -1,0 +1,192 @@
+/* Unwinds stacks whose frames were worked out by hand, through the C library, and prints which differ. The bytes behind the
+ * frames are checked. Linked with --wrap=malloc, --wrap=realloc, --wrap=free. */
+#include <inttypes.h>
+#include <stdio.h>
+#include <stdlib.h>
+#include <string.h>
+
+#include "cfi_c.h"
+
+enum { FRAMES = 3, REGISTERS = 17, GUARD = 0x5a };
+
+/* .eh_frame at 0x8000. By the first CIE the CFA is r7+8 and the return address, r16, is saved at CFA-8. Its FDEs:
+ * - 0x1000 to 0x1020: from 0x1001 on the CFA is r7+16, and r6 is saved at CFA-16;
+ * - 0x2000 to 0x2010: r16 is undefined, so a frame here is the outermost one;
+ * - 0x3000 to 0x3010: the CFA is r6, and r16 keeps its value, so that a frame here calls itself;
+ * - 0x4000 to 0x4010: the return address is signed (AArch64);
+ * - 0x2100 to 0x2110: the CFA is r7, and r16 is undefined, as in _start on AArch64.
+ * The second CIE is the same for signal trampolines, and has the FDE 0x5000 to 0x5010. */
+static const char *const EH_FRAME = "1000000000000000 0100017810 0c0708 9001 0000"
+                                    "1c00000018000000 0010000000000000 2000000000000000 410e108602 000000"
+                                    "1800000038000000 0020000000000000 1000000000000000 0710 0000"
+                                    "1c00000054000000 0030000000000000 1000000000000000 0c0600 0810 000000"
+                                    "1800000074000000 0040000000000000 1000000000000000 2d 000000"
+                                    "1400000000000000 017a530001781000 0c0708 9001 000000"
+                                    "180000001c000000 0050000000000000 1000000000000000 00 000000"
+                                    "1c000000c4000000 0021000000000000 1000000000000000 0c0700 0710 000000";
+
+/* .eh_frame_hdr at 0x9000: .eh_frame is 0x1004 before its pointer, and the table has one row, of 0x1000 and the FDE at 0x8014,
+ * both from 0x9000 on. */
+static const char *const HEADER = "011b033b fcefffff 01000000 0080ffff 14f0ffff";
+
+typedef struct {
+    const char *name, *stack; /* the stack's bytes from 0x7000 on */
+    uint64_t pc;
+    size_t room, count;
+    CfiFrame frames[FRAMES];
+    CfiEnd end;
+} Stack;
+
+/* r6 is 0x7100, r7 is 0x7000, and r16 is the pc. A frame is its pc, its CFA, whether it has one, and whether it was
+ * interrupted. */
+static const Stack STACKS[] = {
+    {"a caller in another module: CFA r7+16, then from r7=0x7010 on r7+8",
+     "6600000000000000 0820000000000000", 0x1001, 3, 2,
+     {{0x1001, 0x7010, true, true}, {0x2008, 0x7018, true, false}}, {0, CFI_END_OUTERMOST, 0}},
+    {"a return address behind its function's last instruction: 0x1020 is looked up as 0x101f",
+     "6600000000000000 2010000000000000 6700000000000000 0820000000000000", 0x1001, 3, 3,
+     {{0x1001, 0x7010, true, true}, {0x1020, 0x7020, true, false}, {0x2008, 0x7028, true, false}}, {0, CFI_END_OUTERMOST, 0}},
+    {"an outermost frame without bytes on the stack: its CFA is that of the frame it called",
+     "6600000000000000 0821000000000000", 0x1001, 3, 2,
+     {{0x1001, 0x7010, true, true}, {0x2108, 0x7010, true, false}}, {0, CFI_END_OUTERMOST, 0}},
+    {"as many frames as there is room for", "6600000000000000 0820000000000000", 0x1001, 1, 1,
+     {{0x1001, 0x7010, true, true}}, {0, CFI_END_NO_ROOM, 0}},
+    {"no room", "", 0x1001, 0, 0, {{0, 0, false, false}}, {0, CFI_END_NO_ROOM, 0}},
+    {"a caller in no module", "6600000000000000 0890000000000000", 0x1001, 3, 2,
+     {{0x1001, 0x7010, true, true}, {0x9008, 0, false, false}}, {0, CFI_END_NO_MODULE, 0}},
+    {"a return address outside of the bytes, at CFA-8", "6600000000000000 08200000000000", 0x1001, 3, 1,
+     {{0x1001, 0, false, true}}, {0x7008, CFI_END_UNREADABLE_MEMORY, 0}},
+    {"code without an FDE", "", 0x1500, 3, 1, {{0x1500, 0, false, true}}, {0, CFI_END_NO_ROW, CFI_NoUnwindInfoForAddress}},
+    {"a frame that calls itself: the second CFA is r6 again", "", 0x3004, 3, 2,
+     {{0x3004, 0x7100, true, true}, {0x3004, 0, false, false}}, {0, CFI_END_NOT_RISING, 0}},
+    {"a signed return address, with its signature in the upper 16 bits", "082000000000aa00", 0x4001, 3, 2,
+     {{0x4001, 0x7008, true, true}, {0x2008, 0x7010, true, false}}, {0, CFI_END_OUTERMOST, 0}},
+    {"a signal trampoline: its caller's pc is looked up as it is", "0020000000000000", 0x5001, 3, 2,
+     {{0x5001, 0x7008, true, true}, {0x2000, 0x7010, true, true}}, {0, CFI_END_OUTERMOST, 0}},
+};
+
+static int failures, stacks, calls_for_memory;
+
+void *__real_malloc(size_t size);
+void *__real_realloc(void *at, size_t size);
+void __real_free(void *at);
+
+void *__wrap_malloc(size_t size) {
+    calls_for_memory++;
+    return __real_malloc(size);
+}
+
+void *__wrap_realloc(void *at, size_t size) {
+    calls_for_memory++;
+    return __real_realloc(at, size);
+}
+
+void __wrap_free(void *at) {
+    calls_for_memory++;
+    __real_free(at);
+}
+
+static size_t unhex(const char *text, uint8_t *bytes) {
+    size_t length = 0;
+    for (; *text; text++) {
+        if (*text != ' ') {
+            sscanf(text, "%2hhx", &bytes[length++]);
+            text++;
+        }
+    }
+    return length;
+}
+
+static int is_frame(const CfiFrame *frame, const CfiFrame *due) {
+    return frame->pc == due->pc && frame->cfa == due->cfa && frame->has_cfa == due->has_cfa &&
+           frame->is_interrupted == due->is_interrupted;
+}
+
+static int is_guarded(const CfiFrame *frames, size_t count) {
+    const uint8_t *bytes = (const uint8_t *)frames;
+    for (size_t i = 0; i < count * sizeof frames[0]; i++)
+        if (bytes[i] != GUARD)
+            return 0;
+    return 1;
+}
+
+typedef struct {
+    CfiModule modules[2];
+    CfiStack stack;
+    CfiValue registers[REGISTERS];
+    size_t registers_len;
+    uint8_t section[512], header[64], bytes[64];
+} Process;
+
+/* Two modules of the one section, the lower of which comes last. */
+static void begin(Process *p, const Stack *s) {
+    memset(p, 0, sizeof *p);
+    CfiModule module = {.eh_frame = p->section, .eh_frame_len = unhex(EH_FRAME, p->section), .header = p->header};
+    module.bases = (CfiBases){.section = 0x8000, .header = 0x9000, .aarch64 = true};
+    p->modules[0] = p->modules[1] = module;
+    p->modules[0].start = 0x2000, p->modules[0].end = 0x6000;
+    p->modules[1].start = 0x1000, p->modules[1].end = 0x2000;
+    p->stack = (CfiStack){.base = 0x7000, .bytes = p->bytes, .len = unhex(s->stack, p->bytes), .max_iterations = 100,
+                          .stack_pointer = 7, .signature_mask = 0xffff000000000000, .address_size = 8};
+    p->registers[6] = (CfiValue){0x7100, true};
+    p->registers[7] = (CfiValue){0x7000, true};
+    p->registers[16] = (CfiValue){s->pc, true};
+    p->registers_len = REGISTERS;
+}
+
+static void check(CfiContext *context, const Process *p, const Stack *s) {
+    CfiFrame frames[FRAMES + 1];
+    CfiEnd end;
+    int before = calls_for_memory, same = 1;
+    memset(frames, GUARD, sizeof frames);
+    memset(&end, GUARD, sizeof end);
+    size_t count = cfi_unwind(context, p->modules, 2, &p->stack, s->pc, p->registers, p->registers_len, frames, s->room, &end);
+    for (size_t i = 0; i < count && i < s->count; i++)
+        same = same && is_frame(&frames[i], &s->frames[i]);
+    stacks++;
+    same = same && count == s->count && is_guarded(&frames[s->count], FRAMES + 1 - s->count);
+    same = same && end.kind == s->end.kind && end.refused == s->end.refused && end.status == s->end.status;
+    if (!same || calls_for_memory != before) {
+        failures++;
+        printf("c library: %s: %zu frames, end %u, status %d, refused %#" PRIx64 "\n", s->name, count, end.kind, end.status,
+               end.refused);
+    }
+}
+
+int main(void) {
+    static Process p;
+    CfiContext none = {0}, context = {0};
+    const Stack *first = &STACKS[0];
+    if (cfi_context_new(&context) != CFI_Ok)
+        return 1;
+    for (size_t i = 0; i < sizeof STACKS / sizeof STACKS[0]; i++) {
+        begin(&p, &STACKS[i]);
+        check(&context, &p, &STACKS[i]);
+    }
+
+    begin(&p, first);
+    p.modules[0].header_len = unhex(HEADER, p.header);
+    check(&context, &p, &(Stack){"a header's table without the caller's FDE", NULL, first->pc, 3, 2,
+                                 {{0x1001, 0x7010, true, true}, {0x2008, 0, false, false}},
+                                 {0, CFI_END_NO_ROW, CFI_NoUnwindInfoForAddress}});
+    begin(&p, first);
+    p.modules[1].header_len = unhex(HEADER, p.header);
+    check(&context, &p, first);
+    begin(&p, first);
+    p.registers_len = 7;
+    check(&context, &p, &(Stack){"a stack pointer that isn't passed", NULL, first->pc, 3, 1,
+                                 {{0x1001, 0, false, true}}, {7, CFI_END_UNKNOWN_REGISTER, 0}});
+    begin(&p, first);
+    p.registers[7].known = false;
+    check(&context, &p, &(Stack){"a stack pointer that isn't known", NULL, first->pc, 3, 1,
+                                 {{0x1001, 0, false, true}}, {7, CFI_END_UNKNOWN_REGISTER, 0}});
+    begin(&p, first);
+    p.stack.address_size = 3;
+    check(&context, &p, &(Stack){"a size that is none", NULL, first->pc, 3, 0, {{0, 0, false, false}},
+                                 {3, CFI_END_NOT_WALKED, CFI_UnsupportedAddressSize}});
+    check(&none, &p, &(Stack){"no context", NULL, first->pc, 3, 0, {{0, 0, false, false}},
+                              {0, CFI_END_NOT_WALKED, CFI_NoContext}});
+    cfi_context_free(&context);
+    printf("c library: %d worked stacks, %d failures\n", stacks, failures);
+    return failures != 0;
+}

@@ -1,0 +1,49 @@
+-- What the commands of clap are, and what its getters read.
+use Rattle.std.proofs.Common.{◌≡◌, ◌∙◌, ◌||◌, ap, ap₂, refl, sym, List, [], Option, Some, None, Result, Ok, Err, IfErr, IsErrAnd, inl, map, option_map, true}
+use Rattle.std.specs.Option.{unwrap_or}
+use Rattle.std.specs.Borrow.{Bor}
+use Rattle.clap.specs.Built.{AddsSubcommand}
+use Rattle.clap.specs.Words.{App, FailsBy, Kinds, Text, is_simple, is_simple_and_free, kind_of, with_subcommand}
+use Rattle.clap.specs.declared.error.Error.{Error}
+use Rattle.clap.specs.declared.error.kind.ErrorKind.TheVariants.{OutOfMemory}
+use Rattle.clap.proofs.OnLiterals.{clap_on_literals}
+use Rattle.clap.specs.declared.builder.command.Command.{Command}
+use Rattle.cfi.specs.CommandLine.{IsApp, cfi_app}
+
+pub adds_app : (old sub new : Command) (a b : App) → IsApp a old → IsApp b sub → AddsSubcommand old sub new → IsApp (with_subcommand a b.top) new
+adds_app old sub new a b above below h =
+    (h.shape below.1 ∙ ap₂ with_subcommand above.0 (ap (λ (x : App). x.top) below.0), h.globals ∙ ap₂ (λ x y. x || y) above.1 below.1)
+
+-- the text of a getter, or the empty one
+pub text_or_empty : (o : Option (Bor Text)) (none text : Bor Text) (first : Option Text) → none.now ≡ [] → text ≡ unwrap_or o none
+    → option_map (λ s. s.now) o ≡ first → text.now ≡ unwrap_or first []
+text_or_empty o none text first empty is e = ap (λ (s : Bor Text). s.now) is ∙ go o ∙ ap (λ x. unwrap_or x []) e
+  where
+    go : (x : Option (Bor Text)) → (unwrap_or x none).now ≡ unwrap_or (option_map (λ s. s.now) x) []
+    go None = empty
+    go (Some s) = refl
+
+-- the values of a getter that has some
+pub values_of : (o : Option (Bor (List (Bor Text)))) (v : Bor (List (Bor Text))) (all : Option (List Text)) → o ≡ Some v
+    → option_map (λ s. map (λ t. t.now) s.now) o ≡ all → map (λ t. t.now) v.now ≡ unwrap_or all []
+values_of o v all is e = ap (λ x. unwrap_or x []) (sym (ap (option_map (λ (s : Bor (List (Bor Text))). map (λ t. t.now) s.now)) is) ∙ e)
+
+pub no_values : (o : Option (Bor (List (Bor Text)))) (all : Option (List Text)) → o ≡ None
+    → option_map (λ s. map (λ t. t.now) s.now) o ≡ all → [] ≡ unwrap_or all []
+no_values o all is e = ap (λ x. unwrap_or x []) (sym (ap (option_map (λ (s : Bor (List (Bor Text))). map (λ t. t.now) s.now)) is) ∙ e)
+
+pub cfi_is_simple : is_simple_and_free cfi_app ≡ true
+unfolding clap_on_literals
+cfi_is_simple = refl
+
+pub fails_by_memory : {T : Type 0} (r : Result T Error) (kinds : Kinds) → kinds ≡ [] → IfErr r (λ e. kind_of e ≡ OutOfMemory) → FailsBy kinds r
+fails_by_memory (Ok x) kinds none h = none
+fails_by_memory (Err e) kinds none h = inl h
+
+pub cfi_is_matched : is_simple cfi_app ≡ true
+unfolding clap_on_literals
+cfi_is_matched = refl
+
+pub as_error : {T : Type 0} (r : Result T Error) (error : Error) → IsErrAnd r (λ e. e ≡ error) → kind_of error ≡ OutOfMemory → IfErr r (λ e. kind_of e ≡ OutOfMemory)
+as_error (Ok x) error is memory = absurd is
+as_error (Err e) error is memory = ap kind_of is ∙ memory

@@ -1,0 +1,6 @@
+mod ClapLemmas
+mod FlagLemmas
+mod LevelLemmas
+mod ReadingLemmas
+mod TopLemmas
+mod Worked

@@ -1,0 +1,13 @@
+use Rattle.std.proofs.Common.{◌≡◌, ◌∙◌, ap₂, sym, true, false, codes, rules}
+use Rattle.std.specs.Str.{bytes_eq}
+use Rattle.clap.specs.Words.{found_of}
+use Rattle.clap.proofs.WalkLemmas.{first_value-rows}
+use Rattle.cfi.specs.CommandLine.{rows}
+use Rattle.cfi.proofs.command.named.Goals as goal
+
+pub returns-then-eq-2 : goal.returns-then-eq-2
+returns-then-eq-2 c =
+    let not_row : bytes_eq c.args.name.now (codes "row") ≡ false = search rules in
+    let is_rows : bytes_eq c.args.name.now (codes "rows") ≡ true = search rules in
+    let word = c.get_str.ensures ∙ first_value-rows (found_of c.args.arguments.now) (codes "ADDRESS") in
+    rw (not_row, is_rows) (ap₂ rows (sym c.file_in-then-eq-2.ensures) (sym word))

@@ -1,0 +1,4 @@
+pub mod CommandLine
+pub mod Findings
+pub mod Words
+pub mod Tasks

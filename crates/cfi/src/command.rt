@@ -1,0 +1,227 @@
+//! What the words of a command line ask for, read by clap.
+ghost use Rattle.std.specs.Prelude.{◌≡◌, IfErr, IfOk, IsSome, Some, false, map, option_map, true};
+ghost use Rattle.clap.specs.Words.{FailsBy, fault_of, found_of, rows_of, rule_of};
+ghost use Rattle.clap.specs.Words.{has_subcommand, kind_of, subcommand_rows_of};
+ghost use Rattle.cfi.specs.CommandLine.{IsApp, address_rule, addresses_rule, asked_of, cfi_app};
+ghost use Rattle.cfi.specs.CommandLine.{check_app, command_view, dump_app, file_in, file_rule};
+ghost use Rattle.cfi.specs.CommandLine.{files_rule, row_app, rows_app, table_app, top_app};
+ghost use Rattle.cfi.specs.CommandLine.{values_in};
+ghost use Rattle.cfi.specs.Words.{asked};
+
+use clap::error::ErrorKind;
+use clap::{Arg, ArgMatches, Error};
+use std::alloc::{AllocError, Global};
+use std::convert::AsStr;
+
+/// What the words of a command line ask for. The texts are those of the words.
+#[derive(Drop)]
+pub enum Command<'w> {
+    /// `row FILE ADDRESS..`: the rows for addresses, of which there is one at least.
+    Row {
+        file: &'w str,
+        addresses: Vec<&'w str>,
+    },
+    /// `rows FILE [ADDRESS]`: all rows, or those of the entries that contain the address.
+    Rows {
+        file: &'w str,
+        address: Option<&'w str>,
+    },
+    /// `dump FILE`: every entry.
+    Dump {
+        file: &'w str,
+    },
+    /// `check FILE..`: whether the table of each file is faithful; there is one file at least.
+    Check {
+        files: Vec<&'w str>,
+    },
+    /// `table FILE`: the compiled table.
+    Table {
+        file: &'w str,
+    },
+}
+
+/// Returns what the words ask for, of which the first is the program's name.
+///
+/// An error where they ask for help or for nothing that the program does, or where memory is
+/// refused. `kinds` says which of these it is, by the kinds that clap defines for the words. The
+/// text of an error, help among them, is clap's, and no contract speaks of it.
+pub fn command_of<'w, S: AsStr>(alloc: Global, words: &'w [S]) -> Result<Command<'w>, Error>
+    ensures asked { IfOk result (λ command.
+        asked (map S.text words.entry.now) ≡ Some (command_view command)) }
+    ensures taken { IsSome (asked (map S.text words.entry.now))
+        → IfErr result (λ e. kind_of e ≡ ErrorKind.OutOfMemory) }
+    ensures kinds { FailsBy (fault_of cfi_app (map S.text words.entry.now)) result }
+{
+    let matches = cfi(alloc)?.try_get_matches_from(words)?;
+    command_in(alloc, &matches)
+}
+
+/// Returns the command of clap's matches.
+fn command_in<'w>(alloc: Global, matches: &ArgMatches<'w>) -> Result<Command<'w>, Error>
+    ensures asked { IfOk result (λ command.
+        option_map asked_of (subcommand_rows_of matches.now) ≡ Some (command_view command)) }
+    ensures refused { has_subcommand matches.now ≡ true
+        → IfErr result (λ e. kind_of e ≡ ErrorKind.OutOfMemory) }
+{
+    match matches.subcommand() {
+        Some((name, arguments)) => Ok(named(alloc, name, arguments)?),
+        None => Err(cfi(alloc)?.error(ErrorKind::MissingSubcommand, "no subcommand")?),
+    }
+}
+
+/// Returns the command of this name, with the arguments that were matched.
+fn named<'w>(
+    alloc: Global,
+    name: &str,
+    arguments: &ArgMatches<'w>,
+) -> Result<Command<'w>, AllocError>
+    ensures { IfOk result (λ command.
+        asked_of (name.now, rows_of (found_of arguments.now)) ≡ command_view command) }
+{
+    if name == "row" {
+        Ok(Command::Row {
+            file: file_in(arguments),
+            addresses: values_in(alloc, arguments, "ADDRESS")?,
+        })
+    } else if name == "rows" {
+        Ok(Command::Rows {
+            file: file_in(arguments),
+            address: arguments.get_str("ADDRESS"),
+        })
+    } else if name == "dump" {
+        Ok(Command::Dump {
+            file: file_in(arguments),
+        })
+    } else if name == "check" {
+        Ok(Command::Check {
+            files: values_in(alloc, arguments, "FILE")?,
+        })
+    } else {
+        Ok(Command::Table {
+            file: file_in(arguments),
+        })
+    }
+}
+
+/// Returns the file that was named, of which clap has checked that there is one.
+fn file_in<'w>(arguments: &ArgMatches<'w>) -> &'w str
+    ensures { result.now ≡ file_in (rows_of (found_of arguments.now)) }
+{
+    arguments.get_str("FILE").unwrap_or("")
+}
+
+/// Returns the values that were given for an argument.
+fn values_in<'w>(
+    alloc: Global,
+    arguments: &ArgMatches<'w>,
+    id: &str,
+) -> Result<Vec<&'w str>, AllocError>
+    ensures { IfOk result (λ values. map (λ value. value.now) values.items
+        ≡ values_in id.now (rows_of (found_of arguments.now))) }
+{
+    match arguments.get_strs(id) {
+        Some(values) => values.to_vec(alloc),
+        None => Ok(Vec::new(alloc)),
+    }
+}
+
+/// Returns the command line of the program.
+fn cfi<'w>(alloc: Global) -> Result<clap::Command<'w>, AllocError>
+    ensures { IfOk result (IsApp cfi_app) }
+{
+    top(alloc)?
+        .subcommand(row(alloc)?)?
+        .subcommand(rows(alloc)?)?
+        .subcommand(dump(alloc)?)?
+        .subcommand(check(alloc)?)?
+        .subcommand(table(alloc)?)
+}
+
+fn top<'w>(alloc: Global) -> Result<clap::Command<'w>, AllocError>
+    ensures { IfOk result (IsApp top_app) }
+{
+    let command = clap::Command::new(alloc, "cfi")
+        .about("Prints and checks the call frames of programs and libraries: ELF files")
+        .arg_required_else_help(true)
+        .subcommand_required(true)
+        .disable_help_subcommand(true);
+    command.bin_name("cfi")
+}
+
+fn row<'w>(alloc: Global) -> Result<clap::Command<'w>, AllocError>
+    ensures { IfOk result (IsApp row_app) }
+{
+    clap::Command::new(alloc, "row")
+        .about("Prints the row of each address: its range, the CFA and the rule of each register")
+        .arg(file(alloc))?
+        .arg(addresses(alloc))
+}
+
+fn rows<'w>(alloc: Global) -> Result<clap::Command<'w>, AllocError>
+    ensures { IfOk result (IsApp rows_app) }
+{
+    clap::Command::new(alloc, "rows")
+        .about("Prints the rows of every function, or of the one at an address")
+        .arg(file(alloc))?
+        .arg(address(alloc))
+}
+
+fn dump<'w>(alloc: Global) -> Result<clap::Command<'w>, AllocError>
+    ensures { IfOk result (IsApp dump_app) }
+{
+    clap::Command::new(alloc, "dump")
+        .about("Prints every entry, with its instructions' rows")
+        .arg(file(alloc))
+}
+
+fn check<'w>(alloc: Global) -> Result<clap::Command<'w>, AllocError>
+    ensures { IfOk result (IsApp check_app) }
+{
+    clap::Command::new(alloc, "check")
+        .about("Checks that the table of .eh_frame_hdr lists the entries of .eh_frame faithfully")
+        .arg(files(alloc))
+}
+
+fn table<'w>(alloc: Global) -> Result<clap::Command<'w>, AllocError>
+    ensures { IfOk result (IsApp table_app) }
+{
+    clap::Command::new(alloc, "table")
+        .about("Prints the compiled table: the rows of all addresses, in their order")
+        .arg(file(alloc))
+}
+
+fn file<'w>(alloc: Global) -> Arg<'w>
+    ensures rule { rule_of result ≡ file_rule }
+    ensures local { result.global ≡ false }
+{
+    Arg::new(alloc, "FILE")
+        .help("A program or library: an ELF file")
+        .required(true)
+}
+
+fn files<'w>(alloc: Global) -> Arg<'w>
+    ensures rule { rule_of result ≡ files_rule }
+    ensures local { result.global ≡ false }
+{
+    Arg::new(alloc, "FILE")
+        .help("Programs or libraries: ELF files")
+        .required(true)
+        .num_args(1..)
+}
+
+fn address<'w>(alloc: Global) -> Arg<'w>
+    ensures rule { rule_of result ≡ address_rule }
+    ensures local { result.global ≡ false }
+{
+    Arg::new(alloc, "ADDRESS").help("Decimal, hexadecimal with 0x, a symbol, or SYMBOL+NUMBER")
+}
+
+fn addresses<'w>(alloc: Global) -> Arg<'w>
+    ensures rule { rule_of result ≡ addresses_rule }
+    ensures local { result.global ≡ false }
+{
+    Arg::new(alloc, "ADDRESS")
+        .help("Decimal, hexadecimal with 0x, a symbol, or SYMBOL+NUMBER")
+        .required(true)
+        .num_args(1..)
+}

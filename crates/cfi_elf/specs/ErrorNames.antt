@@ -1,0 +1,23 @@
+-- The names of the errors, without what they carry.
+use Rattle.std.specs.Prelude.{ℕ, List, codes}
+use Rattle.cfi_elf.specs.declared.error.ElfError.{ElfError}
+use Rattle.cfi_elf.specs.declared.error.ElfError.TheVariants.{NotElf, HeaderCut, UnknownClass, UnknownDataEncoding, UnknownVersion, Relocatable, Core, SectionEntrySize, SectionTableOutOfBounds, NoNameSection, SectionOutOfBounds, Compressed, NameOutOfBounds, NameNotTerminated, ProgramEntrySize, ProgramTableOutOfBounds, SegmentOutOfBounds}
+
+abbrev pub name_of_elf : ElfError → List ℕ
+name_of_elf NotElf = codes "NotElf"
+name_of_elf HeaderCut = codes "HeaderCut"
+name_of_elf (UnknownClass byte) = codes "UnknownClass"
+name_of_elf (UnknownDataEncoding byte) = codes "UnknownDataEncoding"
+name_of_elf (UnknownVersion version) = codes "UnknownVersion"
+name_of_elf Relocatable = codes "Relocatable"
+name_of_elf Core = codes "Core"
+name_of_elf (SectionEntrySize size) = codes "SectionEntrySize"
+name_of_elf SectionTableOutOfBounds = codes "SectionTableOutOfBounds"
+name_of_elf (NoNameSection index) = codes "NoNameSection"
+name_of_elf SectionOutOfBounds = codes "SectionOutOfBounds"
+name_of_elf Compressed = codes "Compressed"
+name_of_elf NameOutOfBounds = codes "NameOutOfBounds"
+name_of_elf NameNotTerminated = codes "NameNotTerminated"
+name_of_elf (ProgramEntrySize size) = codes "ProgramEntrySize"
+name_of_elf ProgramTableOutOfBounds = codes "ProgramTableOutOfBounds"
+name_of_elf SegmentOutOfBounds = codes "SegmentOutOfBounds"

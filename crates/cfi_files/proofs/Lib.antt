@@ -1,0 +1,4 @@
+pub mod ReadWords
+pub mod Joined
+pub mod FoundParts
+pub mod WordLines

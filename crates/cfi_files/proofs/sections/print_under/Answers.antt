@@ -1,0 +1,15 @@
+use Rattle.cfi_read_core.specs.ReaderCalls.{map_ok}
+use Rattle.cfi_files.specs.CallFrames.{frames_view}
+use Rattle.cfi_files.specs.FileOutputs.{IsPart}
+use Rattle.cfi_files.proofs.FoundParts.{some_part}
+use Rattle.cfi_files.proofs.Joined.{under_refused, under_written}
+use Rattle.cfi_files.proofs.sections.print_under.Goals as goal
+
+pub returns-in_err-write_text : goal.returns-in_err-write_text
+returns-in_err-write_text g c =
+    let part = map_ok frames_view c.args.part in
+    under_refused (IsPart c.args.printed part) c.args.name_line.now _ _ c.from_residual.result (some_part c.args.printed part) c.from_residual.ensures.0 c.in_err-write_text.ensures
+
+pub returns : goal.returns
+returns g c =
+    under_written (IsPart c.args.printed (map_ok frames_view c.args.part)) c.args.name_line.now _ _ _ c.print_part.result c.in_ok-write_text.ensures c.print_part.ensures

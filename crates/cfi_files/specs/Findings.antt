@@ -1,0 +1,38 @@
+-- What the check of a file found.
+use Rattle.std.specs.Prelude.{◌≡◌, ℕ, Bool, true, false, List, Option, Result, IfOk}
+use Rattle.cfi_programs.specs.Lines.{Line}
+use Rattle.cfi_programs.specs.WriterOutput.{Writes}
+use Rattle.cfi_programs.specs.declared.check.table_check.Verdict.{Verdict}
+use Rattle.cfi_programs.specs.declared.check.table_check.Verdict.TheVariants as verdicts
+use Rattle.cfi_files.specs.declared.finding.Finding.{Finding}
+use Rattle.cfi_files.specs.declared.finding.Finding.TheVariants.{Faithful, Unfaithful, NoTable, Unreadable}
+
+abbrev pub has_table : Finding → Bool
+has_table Faithful = true
+has_table Unfaithful = true
+has_table NoTable = false
+has_table Unreadable = false
+
+abbrev pub is_faithful : Finding → Bool
+is_faithful Faithful = true
+is_faithful Unfaithful = false
+is_faithful NoTable = false
+is_faithful Unreadable = false
+
+-- the status of a run that found this
+abbrev pub status_of : Finding → ℕ
+status_of Faithful = 0
+status_of Unfaithful = 1
+status_of NoTable = 1
+status_of Unreadable = 2
+
+abbrev pub finding_of : Verdict → Finding
+finding_of (verdicts.Faithful rows) = Faithful
+finding_of (verdicts.Unfaithful reason) = Unfaithful
+finding_of verdicts.NoTable = NoTable
+finding_of (verdicts.Refused error) = Unfaithful
+
+-- an output and what was found, of which something holds: all of it was written or a beginning, and that is answered
+abbrev pub ChecksSome : {E : Type 0} → (Finding → Line → Type 0) → Option (List ℕ) → Option (List ℕ) → Result Finding E → Type 0
+ChecksSome Is old new result =
+    (finding : Finding) × (printed : Line) × Writes old new result printed.text × IfOk result (λ found. found ≡ finding) × Is finding printed

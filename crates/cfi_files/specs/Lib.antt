@@ -1,0 +1,7 @@
+pub mod CallFrames
+pub mod Targets
+pub mod FileLines
+pub mod Found
+pub mod RowOutputs
+pub mod Findings
+pub mod FileOutputs

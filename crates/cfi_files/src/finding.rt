@@ -1,0 +1,71 @@
+//! What the check of a file found.
+ghost use Rattle.std.specs.Prelude.{◌≡◌};
+ghost use Rattle.cfi_read_core.specs.ReaderCalls.{map_ok};
+ghost use Rattle.cfi_files.specs.Findings.{finding_of, has_table, is_faithful, status_of};
+
+use cfi_programs::check::table_check::Verdict;
+use std::io;
+
+/// What the check of a file found.
+#[derive(Clone, Copy, Debug, PartialEq, Eq)]
+pub enum Finding {
+    /// The table of its header lists its FDEs faithfully.
+    Faithful,
+    /// It doesn't, or the header can't be read.
+    Unfaithful,
+    /// The file has no table, or no part of it can be had.
+    NoTable,
+    /// The file can't be read.
+    Unreadable,
+}
+
+impl Finding {
+    /// Returns whether the file has a table.
+    pub fn has_table(&self) -> bool
+        ensures { result ≡ has_table self.now }
+    {
+        matches!(self, Finding::Faithful | Finding::Unfaithful)
+    }
+
+    /// Returns whether the file has a table, and it is faithful.
+    pub fn is_faithful(&self) -> bool
+        ensures { result ≡ is_faithful self.now }
+    {
+        matches!(self, Finding::Faithful)
+    }
+
+    /// Returns the status of a run that found this: 0 where the table is faithful, 2 where the file
+    /// can't be read, and else 1.
+    pub fn status(&self) -> u8
+        ensures { result ≡ status_of self.now }
+    {
+        match self {
+            Finding::Faithful => 0,
+            Finding::Unfaithful => 1,
+            Finding::NoTable => 1,
+            Finding::Unreadable => 2,
+        }
+    }
+}
+
+/// Returns what a verdict comes to.
+pub(crate) fn finding_of(verdict: Verdict) -> Finding
+    ensures { result ≡ finding_of verdict }
+{
+    match verdict {
+        Verdict::Faithful(_) => Finding::Faithful,
+        Verdict::NoTable => Finding::NoTable,
+        Verdict::Unfaithful(_) => Finding::Unfaithful,
+        Verdict::Refused(_) => Finding::Unfaithful,
+    }
+}
+
+/// Returns what was found, once its line is printed.
+pub(crate) fn found(finding: Finding, printed: io::Result<u8>) -> io::Result<Finding>
+    ensures { result ≡ map_ok (λ status. finding) printed }
+{
+    match printed {
+        Ok(_) => Ok(finding),
+        Err(error) => Err(error),
+    }
+}

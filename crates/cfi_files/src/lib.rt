@@ -1,0 +1,20 @@
+#![tactic(auto)]
+//! What is printed of the call frames of an ELF file: its sections of call frames with their
+//! addresses (`call_frames`), the addresses that words name in it (`target`), and the output for
+//! the bytes of a file (`run`).
+
+pub mod call_frames;
+pub mod finding;
+mod lines;
+pub mod request;
+mod row;
+pub mod run;
+mod sections;
+mod table_check;
+pub mod target;
+
+pub use call_frames::{CallFrames, debug_frame, eh_frame};
+pub use finding::Finding;
+pub use request::Printed;
+pub use run::{check_file, run_on_file};
+pub use target::target_address;

@@ -1,0 +1,13 @@
+use Rattle.std.proofs.Common.{inl, inr, refl}
+use Rattle.cfi_compiled.specs.CompiledTables.{steps_of}
+use Rattle.cfi_programs.specs.Runs.{out_of_memory}
+use Rattle.cfi_programs.specs.DumpCompiledTexts.{steps_text}
+use Rattle.cfi_programs.specs.DumpProgramOutput.{text_output}
+use Rattle.cfi_programs.proofs.dump.print.print_compiled.Goals as goal
+
+pub returns-in-Ok : goal.returns-in-Ok
+returns-in-Ok g c =
+    (text_output (steps_text (steps_of c.in-Ok.table)), c.print_steps.ensures, inl (c.in-Ok.table, c.in-Ok.ensures.rows, refl))
+
+pub returns-in-Err : goal.returns-in-Err
+returns-in-Err g c = (out_of_memory, rw c.in-Err.ensures.err at c.write_refusal.ensures, inr refl)

@@ -1,0 +1,17 @@
+use Rattle.std.proofs.Common.{ap, refl, ◌∙◌, Some}
+use Rattle.cfi_read_core.specs.Windows.{slice_position}
+use Rattle.cfi_read_core.specs.ByteOrder.{is_big}
+use Rattle.cfi_programs.specs.SectionOfWords.{kind_of_section}
+use Rattle.cfi_programs.proofs.SectionLemmas.{same_header_section, same_section}
+use Rattle.cfi_programs.proofs.RowsAnswerLemmas.{looked_up, same_rows}
+use Rattle.cfi_programs.proofs.rows.row_lookup.find_by_header.Goals as goal
+
+pub returns : goal.returns
+returns g c =
+    let stands = ap (slice_position is_big) (c.set_vendor.ensures.section ∙ c.set_address_size.ensures.section) ∙ c.new-frame.ensures.section in
+    let sizes = ap (λ size. size.bytes) c.set_vendor.ensures.size ∙ c.set_address_size.ensures.size in
+    let words = c.args.words.now in
+    looked_up _ _ _ _ _ _ _ _ _
+    (same_section words c.args.section.now _ _ _ _ _ (ap kind_of_section c.requires.of_eh_frame) stands sizes c.set_vendor.ensures.vendor c.bases-bases.ensures.section)
+    (same_header_section (record words { header = Some c.args.header_address }) c.args.header_address c.args.header.now _ _ c.new-header.ensures c.bases-bases.ensures.header refl)
+    (rw (← same_rows (λ row. row.now) c.row_by_header.result) c.row_by_header.ensures.row)

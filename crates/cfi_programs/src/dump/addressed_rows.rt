@@ -1,0 +1,140 @@
+//! The rows of each FDE, or of those that contain an address, after a line with its addresses.
+ghost use Rattle.std.specs.Prelude.{◌≡◌, ◌++◌, [], ⊤, IfOk, if◌then◌else◌};
+ghost use Rattle.cfi_read_core.specs.ReaderCalls.{map_ok};
+ghost use Rattle.cfi_read_core.specs.CallFrameSections.{IsOf};
+ghost use Rattle.cfi_entry.specs.EntryViews.{cie_view};
+ghost use Rattle.cfi_entry.specs.Sections.{section_of};
+ghost use Rattle.cfi_unwind.specs.FdeViews.{fde_view};
+ghost use Rattle.cfi_unwind.specs.WalkViews.{OfEither, entry_view, partial_of};
+ghost use Rattle.cfi_unwind.specs.Scan.{read_fde};
+ghost use Rattle.cfi_programs.specs.WriterOutput.{Writes};
+ghost use Rattle.cfi_programs.specs.DumpSectionTexts.{fde_rows, item_text, lines};
+ghost use Rattle.cfi_programs.specs.DumpRowTexts.{addresses_line, entry_rows_text, fde_rows_text};
+ghost use Rattle.cfi_programs.specs.DumpRowTexts.{is_asked_for};
+
+use crate::dump::section::{whole, write_refused, write_rows};
+use crate::lines::{Address, write_part};
+use gimli_cfi::{
+    _UnwindSectionPrivate, BaseAddresses, CieOrFde, FrameDescriptionEntry,
+    PartialFrameDescriptionEntry, Reader, Result, UnwindContext, UnwindSection,
+};
+use std::io;
+use std::io::Write;
+
+/// Writes the addresses and the rows of an entry that is an FDE, and contains the address where
+/// there is one; or the error in place of an entry. A CIE has no text.
+pub fn write_entry_rows<R: Reader<Offset = usize>, S: UnwindSection<R>, W: Write>(
+    output: &mut W,
+    address: Option<u64>,
+    section: &S,
+    bases: &BaseAddresses,
+    context: &mut UnwindContext<usize>,
+    entry: Result<CieOrFde<'_, S, R>>,
+) -> io::Result<()>
+    requires { IfOk entry (OfEither (λ _. ⊤)
+        (λ p. (p.section ≡ section.now) × (p.bases.now ≡ bases.now))) }
+    ensures { let found = map_ok (entry_view (cie_view R.position (λ n. n))
+        (λ p. partial_of R.position (λ n. n) p.prefix p.cie_offset)) entry.entry in
+        Writes (W.contents output.old) (W.contents output.new) result (item_text
+        (λ e. entry_rows_text address (section_of (S.view section.now) bases.now) e) found) }
+{
+    match entry {
+        Ok(CieOrFde::Cie(_)) => Ok(()),
+        Ok(CieOrFde::Fde(partial)) => {
+            write_partial_rows(output, address, section, bases, context, &partial)
+        }
+        Err(error) => write_refused(output, error),
+    }
+}
+
+/// Writes the addresses and the rows of the FDE, if it is asked for; or why it can't be read whole.
+fn write_partial_rows<R: Reader<Offset = usize>, S: UnwindSection<R>, W: Write>(
+    output: &mut W,
+    address: Option<u64>,
+    section: &S,
+    bases: &BaseAddresses,
+    context: &mut UnwindContext<usize>,
+    partial: &PartialFrameDescriptionEntry<'_, S, R>,
+) -> io::Result<()>
+    requires section { partial.now.section ≡ section.now }
+    requires bases { partial.now.bases.now ≡ bases.now }
+    ensures { let from = section_of (S.view section.now) bases.now in
+        let found = partial_of R.position (λ n. n) partial.now.prefix partial.now.cie_offset in
+        Writes (W.contents output.old) (W.contents output.new) result
+        (fde_rows_text address from (read_fde from found)) }
+{
+    match whole(partial) {
+        Ok(fde) => write_if_asked_for(output, address, section, bases, context, &fde),
+        Err(error) => write_refused(output, error),
+    }
+}
+
+/// Writes the addresses and the rows of the FDE, if it is asked for.
+fn write_if_asked_for<R: Reader<Offset = usize>, S: UnwindSection<R>, W: Write>(
+    output: &mut W,
+    address: Option<u64>,
+    section: &S,
+    bases: &BaseAddresses,
+    context: &mut UnwindContext<usize>,
+    fde: &FrameDescriptionEntry<R>,
+) -> io::Result<()>
+    requires own { IsOf (R.position fde.now.instructions) (S.view section.now).position }
+    requires cie { IsOf (R.position fde.now.cie.initial_instructions)
+        (S.view section.now).position }
+    ensures { let read = fde_view R.position (λ n. n) fde.now in
+        let rows = lines (fde_rows (section_of (S.view section.now) bases.now) read) in
+        Writes (W.contents output.old) (W.contents output.new) result
+        (if is_asked_for address read then addresses_line read ++ rows else []) }
+{
+    if is_asked_for(address, fde) {
+        write_addressed_rows(output, section, bases, context, fde)
+    } else {
+        Ok(())
+    }
+}
+
+/// Returns whether the FDE contains the address; true where there is none.
+fn is_asked_for<R: Reader<Offset = usize>>(
+    address: Option<u64>,
+    fde: &FrameDescriptionEntry<R>,
+) -> bool
+    ensures { result ≡ is_asked_for address (fde_view R.position (λ n. n) fde.now) }
+{
+    match address {
+        None => true,
+        Some(address) => fde.contains(address),
+    }
+}
+
+/// Writes the line of the FDE's addresses, and the lines of its rows.
+fn write_addressed_rows<R: Reader<Offset = usize>, S: UnwindSection<R>, W: Write>(
+    output: &mut W,
+    section: &S,
+    bases: &BaseAddresses,
+    context: &mut UnwindContext<usize>,
+    fde: &FrameDescriptionEntry<R>,
+) -> io::Result<()>
+    requires own { IsOf (R.position fde.now.instructions) (S.view section.now).position }
+    requires cie { IsOf (R.position fde.now.cie.initial_instructions)
+        (S.view section.now).position }
+    ensures { let read = fde_view R.position (λ n. n) fde.now in
+        let rows = lines (fde_rows (section_of (S.view section.now) bases.now) read) in
+        Writes (W.contents output.old) (W.contents output.new) result
+        (addresses_line read ++ rows) }
+{
+    write_addresses(output, fde)?;
+    write_rows(output, section, bases, context, fde)
+}
+
+/// Writes the line of the FDE's addresses, from the first up to the end.
+fn write_addresses<R: Reader<Offset = usize>, W: Write>(
+    output: &mut W,
+    fde: &FrameDescriptionEntry<R>,
+) -> io::Result<()>
+    ensures { Writes (W.contents output.old) (W.contents output.new) result
+        (addresses_line (fde_view R.position (λ n. n) fde.now)) }
+{
+    let start = Address(fde.initial_address());
+    let end = Address(fde.end_address());
+    write_part(output, format_args!("fde {start} {end}\n"))
+}

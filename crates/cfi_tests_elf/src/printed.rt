@@ -1,0 +1,272 @@
+//! What is printed of a file with a function in each of `.eh_frame` and `.debug_frame`. The
+//! expected rows are readelf's.
+use crate::bytes::{LITTLE_64, changed};
+use cfi_files::{Finding, Printed, check_file, run_on_file};
+use cfi_tests_bytes::bytes_of;
+use std::io;
+use std::io::{ErrorKind, Read, Write};
+use std::process::Abort;
+use std::test::Fail;
+
+/// For x86-64, linked. `pushes`, from 0x4000b0 on, has its call frames in `.eh_frame`, and `waits`,
+/// from 0x4000b6 on, in `.debug_frame`.
+const FILE: &str = "\
+    7f454c4602010100000000000000000002003e0001000000b00040000000000040000000000000006002000000000000\
+    000000004000380002004000080007000100000007000000b000000000000000b000400000000000b000400000000000\
+    58000000000000005800000000000000080000000000000050e5746404000000b800000000000000b800400000000000\
+    b800400000000000140000000000000014000000000000000400000000000000554889e55dc390c3011b033b14000000\
+    01000000f8ffffff30000000000000001400000000000000017a5200017810011b0c0708900100001c0000001c000000\
+    c0ffffff0600000000410e108602430d06410c070800000014000000ffffffff01000178100c07089001000000000000\
+    1400000000000000b6004000000000000200000000000000000000000000000000000000000000000000000000000000\
+    0100000000000200b80040000000000000000000000000001400000012000100b6004000000000000200000000000000\
+    1a00000012000100b0004000000000000600000000000000210000001000030008014000000000000000000000000000\
+    2d0000001000030008014000000000000000000000000000340000001000030008014000000000000000000000000000\
+    005f5f474e555f45485f4652414d455f48445200776169747300707573686573005f5f6273735f7374617274005f6564\
+    617461005f656e6400002e73796d746162002e737472746162002e7368737472746162002e74657874002e65685f6672\
+    616d655f686472002e65685f6672616d65002e64656275675f6672616d65000000000000000000000000000000000000\
+    000000000000000000000000000000000000000000000000000000000000000000000000000000000000000000000000\
+    1b000000010000000700000000000000b000400000000000b00000000000000008000000000000000000000000000000\
+    0100000000000000000000000000000021000000010000000200000000000000b800400000000000b800000000000000\
+    14000000000000000000000000000000040000000000000000000000000000002f000000010000000200000000000000\
+    d000400000000000d0000000000000003800000000000000000000000000000008000000000000000000000000000000\
+    390000000100000000000000000000000000000000000000080100000000000030000000000000000000000000000000\
+    080000000000000000000000000000000100000002000000000000000000000000000000000000003801000000000000\
+    a80000000000000006000000020000000800000000000000180000000000000009000000030000000000000000000000\
+    0000000000000000e0010000000000003900000000000000000000000000000001000000000000000000000000000000\
+    110000000300000000000000000000000000000000000000190200000000000046000000000000000000000000000000\
+    01000000000000000000000000000000";
+
+const ALL_ROWS: &str = ".eh_frame
+fde 0x4000b0 0x4000b6
+0x4000b0 0x4000b1 cfa=r7+8 args=0 r16=offset(-8)
+0x4000b1 0x4000b4 cfa=r7+16 args=0 r6=offset(-16) r16=offset(-8)
+0x4000b4 0x4000b5 cfa=r6+16 args=0 r6=offset(-16) r16=offset(-8)
+0x4000b5 0x4000b6 cfa=r7+8 args=0 r6=offset(-16) r16=offset(-8)
+.debug_frame
+fde 0x4000b6 0x4000b8
+0x4000b6 0x4000b8 cfa=r7+8 args=0 r16=offset(-8)
+";
+
+const ROWS_OF_WAITS: &str = ".eh_frame
+.debug_frame
+fde 0x4000b6 0x4000b8
+0x4000b6 0x4000b8 cfa=r7+8 args=0 r16=offset(-8)
+";
+
+const DUMP: &str = ".eh_frame
+cie 0x0 length=20 version=1 size=8 code=1 data=-8 return=r16 addresses=0x1b
+fde 0x18 length=28 cie=0x0 0x4000b0 0x4000b6
+0x4000b0 0x4000b1 cfa=r7+8 args=0 r16=offset(-8)
+0x4000b1 0x4000b4 cfa=r7+16 args=0 r6=offset(-16) r16=offset(-8)
+0x4000b4 0x4000b5 cfa=r6+16 args=0 r6=offset(-16) r16=offset(-8)
+0x4000b5 0x4000b6 cfa=r7+8 args=0 r6=offset(-16) r16=offset(-8)
+.debug_frame
+cie 0x0 length=20 version=1 size=8 code=1 data=-8 return=r16
+fde 0x18 length=20 cie=0x0 0x4000b6 0x4000b8
+0x4000b6 0x4000b8 cfa=r7+8 args=0 r16=offset(-8)
+";
+
+/// The first and the last row of `pushes` by its name, the one of `waits`, and what has none.
+const WORDS: [&str; 7] = [
+    "pushes", "pushes+5", "0x4000b7", "4194486", "0x4000b8", "waits+2", "sleeps",
+];
+
+const FOUND_ROWS: &str = "0x4000b0 0x4000b1 cfa=r7+8 args=0 r16=offset(-8)
+0x4000b5 0x4000b6 cfa=r7+8 args=0 r6=offset(-16) r16=offset(-8)
+0x4000b6 0x4000b8 cfa=r7+8 args=0 r16=offset(-8)
+0x4000b6 0x4000b8 cfa=r7+8 args=0 r16=offset(-8)
+";
+
+const ROWS_OF_WORDS: &str = "0x4000b0 0x4000b1 cfa=r7+8 args=0 r16=offset(-8)
+0x4000b5 0x4000b6 cfa=r7+8 args=0 r6=offset(-16) r16=offset(-8)
+0x4000b6 0x4000b8 cfa=r7+8 args=0 r16=offset(-8)
+0x4000b6 0x4000b8 cfa=r7+8 args=0 r16=offset(-8)
+refused NoUnwindInfoForAddress
+refused NoUnwindInfoForAddress
+no address
+";
+
+const TABLE: &str = ".eh_frame
+0x0 refused NoUnwindInfoForAddress
+0x4000b0 cfa=r7+8 args=0 r16=offset(-8)
+0x4000b1 cfa=r7+16 args=0 r6=offset(-16) r16=offset(-8)
+0x4000b4 cfa=r6+16 args=0 r6=offset(-16) r16=offset(-8)
+0x4000b5 cfa=r7+8 args=0 r6=offset(-16) r16=offset(-8)
+0x4000b6 refused NoUnwindInfoForAddress
+.debug_frame
+0x0 refused NoUnwindInfoForAddress
+0x4000b6 cfa=r7+8 args=0 r16=offset(-8)
+0x4000b8 refused NoUnwindInfoForAddress
+";
+
+/// Gives the bytes one at a time, and then fails.
+#[derive(Drop)]
+struct FailsAfter<'a>(&'a [u8]);
+
+impl Read for FailsAfter<'_> {
+    fn read(&mut self, buf: &mut [u8]) -> io::Result<usize> {
+        if self.0.is_empty() || buf.is_empty() {
+            return Err(ErrorKind::TimedOut.into());
+        }
+        buf[0] = self.0[0];
+        self.0 = &self.0[1..];
+        Ok(1)
+    }
+}
+
+/// Takes so many writes of one byte, and then fails.
+#[derive(Drop)]
+struct Takes {
+    left: usize,
+}
+
+impl Write for Takes {
+    fn write(&mut self, buf: &[u8]) -> io::Result<usize> {
+        if self.left == 0 {
+            return Err(ErrorKind::BrokenPipe.into());
+        }
+        self.left -= 1;
+        Ok(buf.len().min(1))
+    }
+
+    fn flush(&mut self) -> io::Result<()> {
+        Ok(())
+    }
+}
+
+/// Compares what is printed of the input, and the status.
+fn prints<R: Read>(
+    rt: &(impl Abort + AllocGlobal),
+    what: Printed<'_>,
+    input: &mut R,
+    text: &str,
+    status: u8,
+) -> Result<(), Fail> {
+    let mut output = Vec::new(rt.alloc());
+    let printed = run_on_file(rt.alloc(), what, input, &mut output)?;
+    assert_eq!(rt;
+        (str::from_utf8(output.as_slice()), printed),
+        (Ok(text), status)
+    );
+    Ok(())
+}
+
+/// Compares what is printed of the check of the input, and what was found.
+fn finds<R: Read>(
+    rt: &(impl Abort + AllocGlobal),
+    input: &mut R,
+    text: &str,
+    finding: Finding,
+) -> Result<(), Fail> {
+    let mut output = Vec::new(rt.alloc());
+    let found = check_file(rt.alloc(), "a file", input, &mut output)?;
+    assert_eq!(rt;
+        (str::from_utf8(output.as_slice()), found),
+        (Ok(text), finding)
+    );
+    Ok(())
+}
+
+#[test]
+fn rows(rt: HostRuntime) -> Result<(), Fail> {
+    let bytes = bytes_of(rt.alloc(), FILE)?;
+    let bytes = bytes.as_slice();
+    prints(&rt, Printed::Row(&WORDS), &mut &*bytes, ROWS_OF_WORDS, 1)?;
+    prints(&rt, Printed::Row(&WORDS[..4]), &mut &*bytes, FOUND_ROWS, 0)?;
+    prints(&rt, Printed::Rows(None), &mut &*bytes, ALL_ROWS, 0)?;
+    prints(
+        &rt,
+        Printed::Rows(Some("waits+1")),
+        &mut &*bytes,
+        ROWS_OF_WAITS,
+        0,
+    )?;
+    prints(
+        &rt,
+        Printed::Rows(Some("sleeps")),
+        &mut &*bytes,
+        "no address\n",
+        1,
+    )?;
+    prints(&rt, Printed::Table, &mut &*bytes, TABLE, 0)?;
+    prints(&rt, Printed::Dump, &mut &*bytes, DUMP, 0)
+}
+
+#[test]
+fn checks(rt: HostRuntime) -> Result<(), Fail> {
+    let bytes = bytes_of(rt.alloc(), FILE)?;
+    let faithful = Finding::Faithful;
+    finds(&rt, &mut bytes.as_slice(), "a file: faithful 1\n", faithful)?;
+    // The first address of the table's row is one above that of `pushes`.
+    let changed = changed(rt.alloc(), FILE, &[(0xc4, 0xf9)])?;
+    let no_row = "a file: FDE 0x18: no row starts at 0x4000b0 and leads to it\n";
+    finds(&rt, &mut changed.as_slice(), no_row, Finding::Unfaithful)?;
+    let cut = bytes.get(..63).unwrap_or_default();
+    finds(
+        &rt,
+        &mut &*cut,
+        "a file: refused HeaderCut\n",
+        Finding::NoTable,
+    )?;
+    let failing = &mut FailsAfter(bytes.as_slice());
+    finds(&rt, failing, "a file: wrong input\n", Finding::Unreadable)
+}
+
+#[test]
+fn files_that_cannot_be_read(rt: HostRuntime) -> Result<(), Fail> {
+    let bytes = bytes_of(rt.alloc(), FILE)?;
+    let failing = &mut FailsAfter(bytes.as_slice());
+    prints(&rt, Printed::Dump, failing, "wrong input\n", 2)?;
+    let empty: &[u8] = &[];
+    prints(&rt, Printed::Dump, &mut &*empty, "refused NotElf\n", 1)?;
+    let without = changed(rt.alloc(), LITTLE_64, &[])?;
+    prints(
+        &rt,
+        Printed::Row(&["sleeps"]),
+        &mut without.as_slice(),
+        "no address\n",
+        1,
+    )
+}
+
+#[test]
+fn outputs_that_fail(rt: HostRuntime) -> Result<(), Fail> {
+    let bytes = bytes_of(rt.alloc(), FILE)?;
+    for left in 0..ALL_ROWS.len() {
+        let mut output = Takes { left };
+        let printed = run_on_file(
+            rt.alloc(),
+            Printed::Rows(None),
+            &mut bytes.as_slice(),
+            &mut output,
+        );
+        assert!(rt; printed.is_err() && output.left == 0);
+    }
+    Ok(())
+}
+
+/// What is printed of a file that ends in its identification, in its header, and before the end of
+/// its section headers, which come last.
+const CUT: [(usize, usize, &str); 3] = [
+    (0, 3, "refused NotElf\n"),
+    (4, 63, "refused HeaderCut\n"),
+    (64, 1119, CUT_SECTIONS),
+];
+
+const CUT_SECTIONS: &str = ".eh_frame
+refused SectionTableOutOfBounds
+.debug_frame
+refused SectionTableOutOfBounds
+";
+
+#[test]
+fn files_cut_at_every_length(rt: HostRuntime) -> Result<(), Fail> {
+    let bytes = bytes_of(rt.alloc(), FILE)?;
+    for (first, last, text) in &CUT {
+        for count in *first..=*last {
+            let cut = bytes.get(..count).unwrap_or_default();
+            prints(&rt, Printed::Rows(None), &mut &*cut, text, 1)?;
+        }
+    }
+    Ok(())
+}
