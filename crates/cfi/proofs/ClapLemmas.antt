@@ -1,6 +1,6 @@
 -- What the commands of clap are, and what its getters read.
-use Rattle.std.proofs.Common.{◌≡◌, ◌∙◌, ◌||◌, ap, ap₂, refl, sym, List, [], Option, Some, None, Result, Ok, Err, IfErr, IsErrAnd, inl, map, option_map, true}
-use Rattle.std.specs.Option.{unwrap_or}
+use Rattle.std.proofs.Common.{◌≡◌, ◌∙◌, ◌||◌, ap, ap₂, refl, sym, List, [], Option, Some, None, Result, Ok, Err, IfErr, IsErrAnd, inl, bytes_eq, false, map, option_map, true}
+use Rattle.std.specs.Option.{option_map_or, unwrap_or}
 use Rattle.std.specs.Borrow.{Bor}
 use Rattle.clap.specs.Built.{AddsSubcommand}
 use Rattle.clap.specs.Words.{App, FailsBy, Kinds, Text, is_simple, is_simple_and_free, kind_of, with_subcommand}
@@ -23,6 +23,16 @@ text_or_empty o none text first empty is e = ap (λ (s : Bor Text). s.now) is �
     go None = empty
     go (Some s) = refl
 
+-- whether a getter's text is a value
+pub value_tests : (o : Option (Bor Text)) (text : Bor Text) (value : Text) (first : Option Text) → o ≡ Some text → option_map (λ s. s.now) o ≡ first
+    → bytes_eq text.now value ≡ option_map_or (λ t. bytes_eq t value) first false
+value_tests o text value first is e =
+    ap (λ (x : Option Text). option_map_or (λ t. bytes_eq t value) x false) (sym (ap (option_map (λ (s : Bor Text). s.now)) is) ∙ e)
+
+pub no_value : (o : Option (Bor Text)) (value : Text) (first : Option Text) → o ≡ None → option_map (λ s. s.now) o ≡ first
+    → false ≡ option_map_or (λ t. bytes_eq t value) first false
+no_value o value first is e = ap (λ (x : Option Text). option_map_or (λ t. bytes_eq t value) x false) (sym (ap (option_map (λ (s : Bor Text). s.now)) is) ∙ e)
+
 -- the values of a getter that has some
 pub values_of : (o : Option (Bor (List (Bor Text)))) (v : Bor (List (Bor Text))) (all : Option (List Text)) → o ≡ Some v
     → option_map (λ s. map (λ t. t.now) s.now) o ≡ all → map (λ t. t.now) v.now ≡ unwrap_or all []
@@ -32,17 +42,17 @@ pub no_values : (o : Option (Bor (List (Bor Text)))) (all : Option (List Text)) 
     → option_map (λ s. map (λ t. t.now) s.now) o ≡ all → [] ≡ unwrap_or all []
 no_values o all is e = ap (λ x. unwrap_or x []) (sym (ap (option_map (λ (s : Bor (List (Bor Text))). map (λ t. t.now) s.now)) is) ∙ e)
 
-pub cfi_is_simple : is_simple_and_free cfi_app ≡ true
+pub cfi_is_simple : (formats : Bor (List (Bor Text))) → is_simple_and_free (cfi_app formats) ≡ true
 unfolding clap_on_literals
-cfi_is_simple = refl
+cfi_is_simple formats = refl
 
 pub fails_by_memory : {T : Type 0} (r : Result T Error) (kinds : Kinds) → kinds ≡ [] → IfErr r (λ e. kind_of e ≡ OutOfMemory) → FailsBy kinds r
 fails_by_memory (Ok x) kinds none h = none
 fails_by_memory (Err e) kinds none h = inl h
 
-pub cfi_is_matched : is_simple cfi_app ≡ true
+pub cfi_is_matched : (formats : Bor (List (Bor Text))) → is_simple (cfi_app formats) ≡ true
 unfolding clap_on_literals
-cfi_is_matched = refl
+cfi_is_matched formats = refl
 
 pub as_error : {T : Type 0} (r : Result T Error) (error : Error) → IsErrAnd r (λ e. e ≡ error) → kind_of error ≡ OutOfMemory → IfErr r (λ e. kind_of e ≡ OutOfMemory)
 as_error (Ok x) error is memory = absurd is

@@ -1,15 +1,16 @@
--- Where a word is a flag, clap refuses it or answers with help; where it is none, it is a value.
-use Rattle.std.proofs.Common.{◌≡◌, ◌∙◌, ◌⊎◌, ◌||◌, ℕ, Bool, true, false, refl, sym, ap, inl, inr, cond, List, [], ◌∷◌, length, Option, Some, None, is_some, true≢false}
+-- Where a word is a flag, clap looks it up; where it is none, it is a value.
+use Rattle.std.proofs.Common.{◌≡◌, ◌∙◌, ◌⊎◌, ◌||◌, ℕ, Bool, true, false, refl, sym, ap, ap₂, inl, inr, bytes_eq, codes, cond, List, [], ◌∷◌, length, Option, Some, None, is_some, true≢false}
 use Rattle.std.specs.Prelude.{drop, encode_utf8, slice_get}
 use Rattle.std.specs.Option.{option_map_or}
-use Rattle.std.specs.Str.{bytes_eq, chars}
+use Rattle.std.specs.Str.{chars}
 use Rattle.clap.specs.Lexer.{long_of, short_of}
-use Rattle.clap.specs.Walk.{Held, Names, Outcome, Row, Rule, Text, Waiting, after_flag, arg_by_long, arg_by_short, bundle, bundle_met, bundle_step, idle, long_or_other, plain, plain_word, positional, reacted, short_or_plain, subcommand_met, value, word_met}
+use Rattle.clap.specs.Walk.{Held, Names, Outcome, Row, Rule, Text, Waiting, after_flag, arg_by_long, arg_by_short, attached_value, bundle, bundle_met, bundle_step, idle, long_or_other, plain, plain_word, positional, reacted, settled, short_or_plain, subcommand_met, takes_values, value, word_met}
 use Rattle.clap.specs.Simple.{Shape, filled, help_rule}
 use Rattle.clap.specs.Kinds.{Kinds, or_else}
-use Rattle.clap.specs.Faults.{bundle_fault, bundle_step_fault, flag_word_fault, flags_fault, long_fault, settle_fault, short_fault, word_fault}
-use Rattle.clap.specs.declared.error.kind.ErrorKind.TheVariants.{DisplayHelp}
-use Rattle.cfi.specs.Words.{has_character, is_flag}
+use Rattle.clap.specs.Faults.{bundle_fault, bundle_step_fault, flag_word_fault, flags_fault, long_fault, option_fault, react_fault, settle_fault, short_fault, use_fault, word_fault}
+use Rattle.clap.specs.declared.error.kind.ErrorKind.TheVariants.{DisplayHelp, TooManyValues}
+use Rattle.cfi.specs.Words.{Word, argument, format_flag, has_character, long_flag, other_flag, raw_flag, short_or_argument, word_of}
+use Rattle.cfi.proofs.RowLemmas.{same_id}
 
 -- ---- lists of kinds of which one comes
 
@@ -37,7 +38,7 @@ pub or_else-nil : (a : Kinds) → or_else a [] ≡ a
 or_else-nil [] = refl
 or_else-nil (k ∷ ks) = refl
 
--- ---- what stands between two words: the values so far, and nothing else to come
+-- ---- what stands between two words: the rows so far, and what is pending
 
 abbrev pub held : List Row → Option (Text × List Text) → Held
 held rows pending = record { rows = rows; pending = pending; skip = 0 }
@@ -45,61 +46,125 @@ held rows pending = record { rows = rows; pending = pending; skip = 0 }
 abbrev pub waiting : Bool → Waiting
 waiting several = cond several positional idle
 
--- the help flag is the one that the rules have
-pub record HelpAlone (rules : List Rule) : Type 0 where
-  pub long : (name : Text) → (arg_by_long rules name ≡ None) ⊎ (arg_by_long rules name ≡ Some (filled help_rule))
-  pub short : (x : ℕ) → (arg_by_short rules x ≡ None) ⊎ (arg_by_short rules x ≡ Some (filled help_rule))
-
-abbrev help : Rule
+abbrev pub help : Rule
 help = filled help_rule
 
-long_refused : (s : Shape) (h : Held) (given : Option Text) (found : Option Rule) → (found ≡ None) ⊎ (found ≡ Some help)
-    → IsFault (long_fault s.rules s.args_override_self found given h)
-long_refused s h given found (inl e) = rw e (tt {0})
-long_refused s h None found (inr e) = rw e (fault_next (settle_fault s.rules s.args_override_self h) (DisplayHelp ∷ []) (tt {0}))
-long_refused s h (Some v) found (inr e) = rw e (tt {0})
+-- ---- words
 
-short_refused : (s : Shape) (h : Held) (next : Held → Kinds) (rest : Text) (found : Option Rule) → (found ≡ None) ⊎ (found ≡ Some help)
-    → IsFault (short_fault s.rules s.args_override_self found rest h next)
-short_refused s h next rest found (inl e) = rw e (tt {0})
-short_refused s h next rest found (inr e) =
-    rw e (fault_first (or_else (settle_fault s.rules s.args_override_self h) (DisplayHelp ∷ [])) (next (reacted s.rules help [] h))
-    (fault_next (settle_fault s.rules s.args_override_self h) (DisplayHelp ∷ []) (tt {0})))
+abbrev pub is_flag : Text → Bool
+is_flag word = is_some (long_of word) || option_map_or has_character (short_of word) false
 
--- a word that names no subcommand and is a flag
-pub flag_fails : (s : Shape) (names : Names) (several : Bool) (word : Text) (rows : List Row) (pending : Option (Text × List Text)) → HelpAlone s.rules
-    → subcommand_met names (waiting several) word ≡ None → bytes_eq word (45 ∷ 45 ∷ []) ≡ false → is_flag word ≡ true
-    → IsFault (word_fault s names false (waiting several) word (held rows pending))
+-- a long flag of no command, but for help
+abbrev pub OtherLong : Text × Option Text → Type 0
+OtherLong flag = ((bytes_eq (codes "raw") flag.0 ≡ true) × (is_some flag.1 ≡ true)) ⊎ ((bytes_eq (codes "raw") flag.0 ≡ false) × (bytes_eq (codes "format") flag.0 ≡ false))
+
+pub by_word : (word : Text) (Goal : Word → Type 0) → (long_of word ≡ Some (codes "raw", None) → Goal raw_flag)
+    → ((v : Option Text) → long_of word ≡ Some (codes "format", v) → Goal (format_flag v))
+    → ((flag : Text × Option Text) → long_of word ≡ Some flag → OtherLong flag → Goal other_flag)
+    → (long_of word ≡ None → is_flag word ≡ true → Goal other_flag)
+    → (is_flag word ≡ false → Goal argument)
+    → Goal (word_of word)
+by_word word Goal raw format other short none_of = by_long (long_of word) refl
+  where
+    by_value : (flag : Text × Option Text) → long_of word ≡ Some flag → bytes_eq (codes "raw") flag.0 ≡ true → (v : Option Text) → flag.1 ≡ v
+        → Goal (cond (is_some v) other_flag raw_flag)
+    by_value flag is name None v = raw (is ∙ ap₂ (λ (x : Text) (y : Option Text). Some (x, y)) (sym (same_id (codes "raw") flag.0 name)) v)
+    by_value flag is name (Some t) v = other flag is (inl (name, ap is_some v))
+
+    by_format : (flag : Text × Option Text) → long_of word ≡ Some flag → bytes_eq (codes "raw") flag.0 ≡ false → (b : Bool) → bytes_eq (codes "format") flag.0 ≡ b
+        → Goal (cond b (format_flag flag.1) other_flag)
+    by_format flag is e true f = format flag.1 (is ∙ ap (λ (x : Text). Some (x, flag.1)) (sym (same_id (codes "format") flag.0 f)))
+    by_format flag is e false f = other flag is (inr (e, f))
+
+    by_raw : (flag : Text × Option Text) → long_of word ≡ Some flag → (b : Bool) → bytes_eq (codes "raw") flag.0 ≡ b
+        → Goal (cond b (cond (is_some flag.1) other_flag raw_flag) (cond (bytes_eq (codes "format") flag.0) (format_flag flag.1) other_flag))
+    by_raw flag is true e = by_value flag is e flag.1 refl
+    by_raw flag is false e = by_format flag is e (bytes_eq (codes "format") flag.0) refl
+
+    by_short : (b : Bool) → long_of word ≡ None → option_map_or has_character (short_of word) false ≡ b → Goal (cond b other_flag argument)
+    by_short true none e = short none (ap₂ (λ (o : Option (Text × Option Text)) (s : Bool). is_some o || s) none e)
+    by_short false none e = none_of (ap₂ (λ (o : Option (Text × Option Text)) (s : Bool). is_some o || s) none e)
+
+    by_long : (o : Option (Text × Option Text)) → long_of word ≡ o → Goal (option_map_or long_flag o (short_or_argument (short_of word)))
+    by_long None none = by_short (option_map_or has_character (short_of word) false) none refl
+    by_long (Some flag) is = by_raw flag is (bytes_eq (codes "raw") flag.0) refl
+
+-- ---- flags
+
+-- a flag that is none of the command's, or help
+pub long_refused : (c : List Rule) (again : Bool) (h : Held) (given : Option Text) (found : Option Rule) → (found ≡ None) ⊎ (found ≡ Some help)
+    → IsFault (long_fault c again found given h)
+long_refused c again h given found (inl e) = rw e (tt {0})
+long_refused c again h None found (inr e) = rw e (fault_next (settle_fault c again h) (DisplayHelp ∷ []) (tt {0}))
+long_refused c again h (Some v) found (inr e) = rw e (tt {0})
+
+pub short_refused : (c : List Rule) (again : Bool) (h : Held) (next : Held → Kinds) (rest : Text) (found : Option Rule) → (found ≡ None) ⊎ (found ≡ Some help)
+    → IsFault (short_fault c again found rest h next)
+short_refused c again h next rest found (inl e) = rw e (tt {0})
+short_refused c again h next rest found (inr e) =
+    rw e (fault_first (or_else (settle_fault c again h) (DisplayHelp ∷ [])) (next (reacted c help [] h))
+    (fault_next (settle_fault c again h) (DisplayHelp ∷ []) (tt {0})))
+
+-- any flag, where what is pending is refused
+pub long_doomed : (c : List Rule) (again : Bool) (h : Held) (given : Option Text) (found : Option Rule) → IsFault (settle_fault c again h)
+    → IsFault (long_fault c again found given h)
+long_doomed c again h given None bad = tt {0}
+long_doomed c again h given (Some a) bad = by_takes (takes_values a) given
+  where
+    by_takes : (b : Bool) (v : Option Text) → IsFault (cond b (option_fault c again a v h) (cond (is_some v) (TooManyValues ∷ []) (react_fault c again a [] h)))
+    by_takes true None = bad
+    by_takes true (Some v) = fault_first (settle_fault c again h) (use_fault again a (v ∷ []) (settled c h).rows) bad
+    by_takes false None = fault_first (settle_fault c again h) (use_fault again a [] (settled c h).rows) bad
+    by_takes false (Some v) = tt {0}
+
+pub short_doomed : (c : List Rule) (again : Bool) (h : Held) (next : Held → Kinds) (rest : Text) (found : Option Rule) → IsFault (settle_fault c again h)
+    → IsFault (short_fault c again found rest h next)
+short_doomed c again h next rest None bad = tt {0}
+short_doomed c again h next rest (Some a) bad = by_takes (takes_values a) (attached_value rest)
+  where
+    by_takes : (b : Bool) (v : Option Text) → IsFault (cond b (option_fault c again a v h) (or_else (react_fault c again a [] h) (next (reacted c a [] h))))
+    by_takes true None = bad
+    by_takes true (Some v) = fault_first (settle_fault c again h) (use_fault again a (v ∷ []) (settled c h).rows) bad
+    by_takes false v =
+        fault_first (react_fault c again a [] h) (next (reacted c a [] h)) (fault_first (settle_fault c again h) (use_fault again a [] (settled c h).rows) bad)
+
+-- a flag that names no subcommand fails as it is found to
+pub flag_fails : (s : Shape) (names : Names) (w : Waiting) (word : Text) (rows : List Row) (pending : Option (Text × List Text))
+    → subcommand_met names w word ≡ None → bytes_eq word (45 ∷ 45 ∷ []) ≡ false
+    → ((flag : Text × Option Text) → long_of word ≡ Some flag → IsFault (long_fault s.rules s.args_override_self (arg_by_long s.rules flag.0) flag.1 (held rows pending)))
+    → ((x : ℕ) (rest : Text) (next : Held → Kinds) → IsFault (short_fault s.rules s.args_override_self (arg_by_short s.rules x) rest (held rows pending) next))
+    → is_flag word ≡ true → IsFault (word_fault s names false w word (held rows pending))
 unfolding flags_fault chars
-flag_fails s names several word rows pending alone none dashes flag = rw (none, dashes) (by_long (long_of word) flag)
+flag_fails s names w word rows pending none dashes long short flag = rw (none, dashes) (by_long (long_of word) refl flag)
   where
     by_first : (flags : Text) (k : ℕ) (first : Option ℕ) → is_some first ≡ true
         → IsFault (bundle_step_fault s.rules s.args_override_self first flags 0 (held rows pending) (flags_fault s.rules s.args_override_self k))
     by_first flags k None e = absurd (true≢false (sym e))
     by_first flags k (Some x) e =
         let rest = drop (length (encode_utf8 x)) flags in
-        short_refused s (held rows pending) (flags_fault s.rules s.args_override_self k rest 0) rest (arg_by_short s.rules x) (alone.short x)
+        short x rest (flags_fault s.rules s.args_override_self k rest 0)
 
     bundled : (flags : Text) → has_character flags ≡ true → IsFault (bundle_fault s.rules s.args_override_self flags (held rows pending))
     bundled [] e = absurd (true≢false (sym e))
     bundled (y ∷ ys) e = by_first (y ∷ ys) (length ys) (slice_get (chars (y ∷ ys)) 0) e
 
-    by_short : (short : Option Text) → option_map_or has_character short false ≡ true
-        → IsFault (option_map_or (λ flags. bundle_fault s.rules s.args_override_self flags (held rows pending)) short [])
+    by_short : (flags : Option Text) → option_map_or has_character flags false ≡ true
+        → IsFault (option_map_or (λ flags. bundle_fault s.rules s.args_override_self flags (held rows pending)) flags [])
     by_short None e = absurd (true≢false (sym e))
     by_short (Some flags) e = bundled flags e
 
-    by_long : (long : Option (Text × Option Text)) → (is_some long || option_map_or has_character (short_of word) false) ≡ true
-        → IsFault (flag_word_fault s.rules s.args_override_self long word (held rows pending))
-    by_long (Some p) e = long_refused s (held rows pending) p.1 (arg_by_long s.rules p.0) (alone.long p.0)
-    by_long None e = by_short (short_of word) e
+    by_long : (o : Option (Text × Option Text)) → long_of word ≡ o → (is_some o || option_map_or has_character (short_of word) false) ≡ true
+        → IsFault (flag_word_fault s.rules s.args_override_self o word (held rows pending))
+    by_long (Some p) is e = long p is
+    by_long None is e = by_short (short_of word) e
 
--- a word that is none passes
-pub value_passes : (s : Shape) (names : Names) (several : Bool) (word : Text) (rows : List Row) (pending : Option (Text × List Text))
-    → subcommand_met names (waiting several) word ≡ None → bytes_eq word (45 ∷ 45 ∷ []) ≡ false → is_flag word ≡ false
-    → word_fault s names false (waiting several) word (held rows pending) ≡ []
+-- ---- a word that is none passes
+
+pub value_passes : (s : Shape) (names : Names) (w : Waiting) (word : Text) (rows : List Row) (pending : Option (Text × List Text))
+    → subcommand_met names w word ≡ None → bytes_eq word (45 ∷ 45 ∷ []) ≡ false → is_flag word ≡ false
+    → word_fault s names false w word (held rows pending) ≡ []
 unfolding flags_fault
-value_passes s names several word rows pending none dashes flag = rw (none, dashes) (by_long (long_of word) flag)
+value_passes s names w word rows pending none dashes flag = rw (none, dashes) (by_long (long_of word) flag)
   where
     by_first : (flags : Text) (k : ℕ) (first : Option ℕ) → is_some first ≡ false
         → bundle_step_fault s.rules s.args_override_self first flags 0 (held rows pending) (flags_fault s.rules s.args_override_self k) ≡ []
@@ -120,17 +185,12 @@ value_passes s names several word rows pending none dashes flag = rw (none, dash
     by_long (Some p) e = absurd (true≢false e)
     by_long None e = by_short (short_of word) e
 
--- and goes to a positional
-pub value_met : (c : List Rule) (names : Names) (several : Bool) (position : ℕ) (word : Text) (rows : List Row) (pending : Option (Text × List Text))
-    → subcommand_met names (waiting several) word ≡ None → bytes_eq word (45 ∷ 45 ∷ []) ≡ false → is_flag word ≡ false
-    → word_met c names false (waiting several) position word (held rows pending) ≡ (held rows pending, value)
+pub value_met : (c : List Rule) (names : Names) (w : Waiting) (position : ℕ) (word : Text) (rows : List Row) (pending : Option (Text × List Text))
+    → subcommand_met names w word ≡ None → bytes_eq word (45 ∷ 45 ∷ []) ≡ false → is_flag word ≡ false
+    → word_met c names false w position word (held rows pending) ≡ plain_word c w word (held rows pending)
 unfolding bundle_met
-value_met c names several position word rows pending none dashes flag = rw (none, dashes) (by_long (long_of word) flag)
+value_met c names w position word rows pending none dashes flag = rw (none, dashes) (by_long (long_of word) flag)
   where
-    taken : (b : Bool) → plain_word c (waiting b) word (held rows pending) ≡ (held rows pending, value)
-    taken true = refl
-    taken false = refl
-
     by_first : (flags : Text) (k : ℕ) (first : Option ℕ) → is_some first ≡ false
         → bundle_step c first flags 0 plain (held rows pending) (bundle_met c k) ≡ (held rows pending, plain)
     by_first flags k None e = refl
@@ -141,12 +201,16 @@ value_met c names several position word rows pending none dashes flag = rw (none
     bundled (y ∷ ys) e = by_first (y ∷ ys) (length ys) (slice_get (chars (y ∷ ys)) 0) e
 
     by_short : (short : Option Text) → option_map_or has_character short false ≡ false
-        → short_or_plain c (waiting several) word short (held rows pending) ≡ (held rows pending, value)
-    by_short None e = taken several
-    by_short (Some flags) e =
-        ap (λ (m : Held × Outcome). after_flag c (waiting several) word m.0 m.1) (bundled flags e) ∙ taken several
+        → short_or_plain c w word short (held rows pending) ≡ plain_word c w word (held rows pending)
+    by_short None e = refl
+    by_short (Some flags) e = ap (λ (m : Held × Outcome). after_flag c w word m.0 m.1) (bundled flags e)
 
     by_long : (long : Option (Text × Option Text)) → (is_some long || option_map_or has_character (short_of word) false) ≡ false
-        → long_or_other c (waiting several) word long (held rows pending) ≡ (held rows pending, value)
+        → long_or_other c w word long (held rows pending) ≡ plain_word c w word (held rows pending)
     by_long (Some p) e = absurd (true≢false e)
     by_long None e = by_short (short_of word) e
+
+pub plain_is_value : (c : List Rule) (several : Bool) (word : Text) (rows : List Row) (pending : Option (Text × List Text))
+    → plain_word c (waiting several) word (held rows pending) ≡ (held rows pending, value)
+plain_is_value c true word rows pending = refl
+plain_is_value c false word rows pending = refl

@@ -1,201 +1,464 @@
--- What clap makes of the words after the name of a command.
-use Rattle.std.proofs.Common.{◌≡◌, ◌∙◌, ◌⊎◌, ◌||◌, ◌≤◌, ℕ, Bool, true, false, refl, sym, ap, ap₂, subst, inl, inr, cond, arith, suc, codes, nat_eq, nat_lt, le-ltb, ne_eqb, List, [], ◌∷◌, ◌++◌, append-nil, append_assoc, length, Option, Some, None}
-use Rattle.std.specs.Option.{option_and_then, option_map, option_map_or}
-use Rattle.std.specs.Str.{bytes_eq}
+-- The commands below `cfi`: what clap makes of their words is what the words ask for.
+use Rattle.std.proofs.Common.{◌≡◌, ◌∙◌, ◌⊎◌, ◌||◌, ◌≤◌, ℕ, Bool, true, false, refl, sym, ap, ap₂, subst, inl, inr, cond, arith, codes, bytes_eq, nat_eq, is_some, map, List, [], ◌∷◌, ◌++◌, length, Option, Some, None}
+use Rattle.std.specs.List.{fold}
+use Rattle.std.specs.Option.{option_and_then, option_map, option_map_or, unwrap_or}
+use Rattle.std.specs.Prelude.{slice_get}
+use Rattle.std.specs.Borrow.{Bor}
 use Rattle.clap.specs.Lexer.{usize_max}
-use Rattle.clap.specs.Walk.{Held, Rule, Text, Walk, arg_by_index, finished, nothing_held, rows_after, settled, walked}
-use Rattle.clap.specs.Simple.{App, Shape, built_leaf, filled, help_rule, inherited, marked_built, with_index, with_leaf_noted}
-use Rattle.clap.specs.Kinds.{Kinds, or_else, range_kinds, values_kinds}
-use Rattle.clap.specs.Faults.{check_fault, defaults_fault, level_fault, settle_fault, walk_fault}
-use Rattle.clap.specs.declared.builder.value_parser.ValueParser.TheVariants as vp
-use Rattle.clap.specs.declared.builder.value_parser.Reading.TheVariants.{AsWritten}
-use Rattle.clap.specs.declared.parser.matches.ValueSource.TheVariants.{CommandLine}
-use Rattle.cfi.specs.CommandLine.{Asked, address_rule, addresses_rule, asked_of, cfi_app, check_app, dump_app, file_rule, files_rule, row_app, rows_app, table_app}
-use Rattle.cfi.specs.Words.{arguments, check_of, dump_of, is_flag, row_of, rows_of, table_of}
-use Rattle.cfi.proofs.FlagLemmas.{IsFault, fault_first}
-use Rattle.cfi.proofs.ReadingLemmas.{Reads, TakesValues, at, reads, walk_on}
+use Rattle.clap.specs.Walk.{Row, Rule, Text, first_of, arg_by_index, arg_by_long, next_position, nothing_held, rows_after, with_default}
+use Rattle.clap.specs.Simple.{App, Shape, built_leaf, inherited, marked_built, with_leaf_noted}
+use Rattle.clap.specs.Kinds.{or_else}
+use Rattle.clap.specs.Faults.{check_fault, defaults_fault, level_fault}
+use Rattle.cfi.specs.declared.command.Format.{Format}
+use Rattle.cfi.specs.CommandLine.{Asked, asked_of, cfi_app, check, check_app, dump, dump_app, file_in, format_in, format_names, raw_in, row, row_app, rows, rows_app, table, table_app, values_in}
+use Rattle.cfi.specs.Words.{Given, check_by, check_of, dump_by, dump_of, format_given, given, nothing, row_by, row_of, rows_by, rows_of, table_by, table_of}
+use Rattle.cfi.proofs.EndLemmas.{NoDefaults, format_is, found_at, lacks, missing, no_defaults, raw_defaults, raw_is, skips}
+use Rattle.cfi.proofs.FlagLemmas.{IsFault, fault_next, help, waiting}
+use Rattle.cfi.proofs.PlaceLemmas.{many, single}
+use Rattle.cfi.proofs.ReadingLemmas.{Comes, at}
+use Rattle.cfi.proofs.RowLemmas.{Has, at_id, line}
+use Rattle.cfi.proofs.StepLemmas.{comes}
+use Rattle.cfi.proofs.WordLemmas.{Ends, Leaf, Places, Takes, format_here, format_values, raw_here, raw_values}
 
 -- the command of clap as it is built below `cfi`
-abbrev pub leaf : App → Shape
-leaf a = built_leaf (inherited (with_leaf_noted (marked_built cfi_app.top)) a.top)
+abbrev pub leaf : Bor (List (Bor Text)) → App → Shape
+leaf names a = built_leaf (inherited (with_leaf_noted (marked_built (cfi_app names).top)) a.top)
 
--- ---- its flag is help alone
+-- ---- its own flags, and help
 
-pub help_by_name : (b : Bool) → (cond (b || false) (Some (filled help_rule)) None ≡ None) ⊎ (cond (b || false) (Some (filled help_rule)) None ≡ Some (filled help_rule))
+pub help_by_name : (b : Bool) → (cond (b || false) (Some help) None ≡ None) ⊎ (cond (b || false) (Some help) None ≡ Some help)
 help_by_name true = inr refl
 help_by_name false = inl refl
 
-trails : (o : Option Rule) (a : Rule) → o ≡ Some a → option_map_or (λ r. r.trailing_var_arg) o false ≡ false → a.trailing_var_arg ≡ false
-trails o a e none = sym (ap (λ x. option_map_or (λ (r : Rule). r.trailing_var_arg) x false) e) ∙ none
+abbrev is_format : Rule → Bool
+is_format a = bytes_eq (codes "format") a.id
 
-one_of : (x : Rule) → x.trailing_var_arg ≡ false → (b : Bool) → option_map_or (λ r. r.trailing_var_arg) (cond b (Some x) None) false ≡ false
-one_of x e true = e
-one_of x e false = refl
+apart_of : (o : Option Rule) (a : Rule) → o ≡ Some a → option_map_or is_format o false ≡ false → is_format a ≡ false
+apart_of o a e none = sym (ap (λ x. option_map_or is_format x false) e) ∙ none
 
-two_of : (x y : Rule) → x.trailing_var_arg ≡ false → y.trailing_var_arg ≡ false → (b c : Bool)
-    → option_map_or (λ r. r.trailing_var_arg) (cond b (Some x) (cond c (Some y) None)) false ≡ false
-two_of x y e f true c = e
-two_of x y e f false c = one_of y f c
+one_apart : (x : Rule) → is_format x ≡ false → (b : Bool) → option_map_or is_format (cond b (Some x) None) false ≡ false
+one_apart x e true = e
+one_apart x e false = refl
 
-abbrev rule_at : Shape → ℕ → Option Rule
-rule_at s position = arg_by_index s.rules position
+two_apart : (x y : Rule) → is_format x ≡ false → is_format y ≡ false → (b c : Bool) → option_map_or is_format (cond b (Some x) (cond c (Some y) None)) false ≡ false
+two_apart x y e f true c = e
+two_apart x y e f false c = one_apart y f c
 
-pub takes_row : TakesValues (leaf row_app).rules
-takes_row = record {
-  help = record { long = λ name. help_by_name (bytes_eq (codes "help") name); short = λ x. help_by_name (nat_eq 104 x) };
-  plain = λ position a e.
-      trails (rule_at (leaf row_app) position) a e (two_of (with_index 1 (filled file_rule)) (with_index 2 (filled addresses_rule)) refl refl (nat_eq 1 position) (nat_eq 2 position));
-}
+-- ---- where the arguments stand
 
-pub takes_rows : TakesValues (leaf rows_app).rules
-takes_rows = record {
-  help = record { long = λ name. help_by_name (bytes_eq (codes "help") name); short = λ x. help_by_name (nat_eq 104 x) };
-  plain = λ position a e.
-      trails (rule_at (leaf rows_app) position) a e (two_of (with_index 1 (filled file_rule)) (with_index 2 (filled address_rule)) refl refl (nat_eq 1 position) (nat_eq 2 position));
-}
+-- a file, and addresses
+abbrev pub file_and_more : Places
+file_and_more [] position file address = (position ≡ 1) × (file ≡ []) × (address ≡ [])
+file_and_more (f ∷ more) position file address = (position ≡ 2) × (file ≡ f ∷ []) × (address ≡ more)
 
-pub takes_dump : TakesValues (leaf dump_app).rules
-takes_dump = record {
-  help = record { long = λ name. help_by_name (bytes_eq (codes "help") name); short = λ x. help_by_name (nat_eq 104 x) };
-  plain = λ position a e. trails (rule_at (leaf dump_app) position) a e (one_of (with_index 1 (filled file_rule)) refl (nat_eq 1 position));
-}
+-- a file, and an address or none
+abbrev pub file_and_one : Places
+file_and_one [] position file address = (position ≡ 1) × (file ≡ []) × (address ≡ [])
+file_and_one (f ∷ []) position file address = (position ≡ 2) × (file ≡ f ∷ []) × (address ≡ [])
+file_and_one (f ∷ x ∷ []) position file address = (position ≡ 3) × (file ≡ f ∷ []) × (address ≡ x ∷ [])
+file_and_one (f ∷ x ∷ y ∷ more) position file address = ⊥
 
-pub takes_check : TakesValues (leaf check_app).rules
-takes_check = record {
-  help = record { long = λ name. help_by_name (bytes_eq (codes "help") name); short = λ x. help_by_name (nat_eq 104 x) };
-  plain = λ position a e. trails (rule_at (leaf check_app) position) a e (one_of (with_index 1 (filled files_rule)) refl (nat_eq 1 position));
-}
+abbrev pub one_file : Places
+one_file [] position file address = (position ≡ 1) × (file ≡ [])
+one_file (f ∷ []) position file address = (position ≡ 2) × (file ≡ f ∷ [])
+one_file (f ∷ x ∷ more) position file address = ⊥
 
-pub takes_table : TakesValues (leaf table_app).rules
-takes_table = record {
-  help = record { long = λ name. help_by_name (bytes_eq (codes "help") name); short = λ x. help_by_name (nat_eq 104 x) };
-  plain = λ position a e. trails (rule_at (leaf table_app) position) a e (one_of (with_index 1 (filled file_rule)) refl (nat_eq 1 position));
-}
+abbrev pub files : Places
+files arguments position file address = (position ≡ 1) × (file ≡ arguments)
 
--- ---- the end of a level
+-- ---- what the commands refuse
 
-abbrev pub ended : Shape → Kinds → Held → Kinds
-ended s met end =
-    or_else met (or_else [] (or_else (settle_fault s.rules s.args_override_self end) (or_else (defaults_fault (settled s.rules end).rows s.rules) (check_fault s (finished s.rules end) false))))
+rows_refuse : (raw : Bool) (format : Format) (arguments : List Text) → 3 ≤ length arguments → rows_by raw format arguments ≡ None
+rows_refuse raw format [] le = refl
+rows_refuse raw format (f ∷ []) le = absurd (omega arith)
+rows_refuse raw format (f ∷ x ∷ []) le = absurd (omega arith)
+rows_refuse raw format (f ∷ x ∷ y ∷ more) le = refl
 
-abbrev pub start : Walk
-start = at [] None false 1 true
+dump_refuses : (b raw : Bool) (arguments : List Text) → 2 ≤ length arguments → cond b None (dump_by raw arguments) ≡ None
+dump_refuses true raw arguments le = refl
+dump_refuses false raw [] le = refl
+dump_refuses false raw (f ∷ []) le = absurd (omega arith)
+dump_refuses false raw (f ∷ x ∷ more) le = refl
 
-abbrev pub end_of : Shape → List Text → Kinds
-end_of s values = ended s (walk_fault s [] start values) (walk_on s start values).held
+table_refuses : (b raw : Bool) (arguments : List Text) → 2 ≤ length arguments → cond b None (table_by raw arguments) ≡ None
+table_refuses true raw arguments le = refl
+table_refuses false raw [] le = refl
+table_refuses false raw (f ∷ []) le = absurd (omega arith)
+table_refuses false raw (f ∷ x ∷ more) le = refl
 
--- what the values of a command come to, where they ask for the last
-abbrev pub Answers : Shape → Text → List Text → Option Asked → Type 0
-Answers s name values None = IsFault (end_of s values)
-Answers s name values (Some asked) = (end_of s values ≡ []) × (asked_of (name, finished s.rules (walk_on s start values).held) ≡ asked)
+module _ (names : Bor (List (Bor Text))) where
+  -- ---- row
 
--- what its words come to
-abbrev pub Level : Shape → Text → List Text → Option Asked → Type 0
-Level s name words None = IsFault (level_fault s [] nothing_held words false [])
-Level s name words (Some asked) = (level_fault s [] nothing_held words false [] ≡ []) × (asked_of (name, rows_after s.rules [] words) ≡ asked)
+  row_place : (arguments : List Text) (position : ℕ) (now : Text → List Text) → file_and_more arguments position (now (codes "FILE")) (now (codes "ADDRESS"))
+      → Takes (leaf names (row_app names)) file_and_more row_of arguments position now
+  row_place [] position now h = inr (
+    single (codes "FILE") 1 true,
+    ap (arg_by_index (leaf names (row_app names)).rules) h.0,
+    record { id = codes "FILE"; index = 1; required = true; found = refl; kind = inl (refl, h.1) },
+    refl,
+    refl,
+    λ word. (ap (next_position (single (codes "FILE") 1 true)) h.0, ap (λ (x : List Text). x ++ word ∷ []) h.1, h.2),
+  )
+  row_place (f ∷ more) position now h = inr (
+    many (codes "ADDRESS") 2 true,
+    ap (arg_by_index (leaf names (row_app names)).rules) h.0,
+    record { id = codes "ADDRESS"; index = 2; required = true; found = refl; kind = inr refl },
+    refl,
+    refl,
+    λ word. (ap (next_position (many (codes "ADDRESS") 2 true)) h.0, h.1, ap (λ (x : List Text). x ++ word ∷ []) h.2),
+  )
 
-shorter : (words : List Text) → option_map_or length (arguments words) 0 ≤ length words
-shorter [] = omega arith
-shorter (word ∷ rest) = go (bytes_eq word (45 ∷ 45 ∷ [])) (is_flag word) (arguments rest) (shorter rest)
-  where
-    go : (b c : Bool) (o : Option (List Text)) → option_map_or length o 0 ≤ length rest
-        → option_map_or length (cond b (Some rest) (cond c None (option_map (λ more. word ∷ more) o))) 0 ≤ suc (length rest)
-    go true c o h = omega arith
-    go false true o h = omega arith
-    go false false None h = omega arith
-    go false false (Some more) h = omega arith
+  abbrev row_rules : List Rule
+  row_rules = format_here names ∷ single (codes "FILE") 1 true ∷ many (codes "ADDRESS") 2 true ∷ help ∷ []
 
-length_of : (words values : List Text) → arguments words ≡ Some values → length values ≤ length words
-length_of words values e =
-    let least = shorter words in
-    let same : option_map_or length (arguments words) 0 ≡ length values = ap (λ o. option_map_or length o 0) e in
-    omega arith
+  row_plain : NoDefaults row_rules
+  row_plain = (refl, (refl, (refl, (refl, tt {0}))))
 
-pub level : (s : Shape) (name : Text) (words : List Text) (of : List Text → Option Asked) → TakesValues s.rules
-    → ((values : List Text) → length values ≤ usize_max → Answers s name values (of values)) → length words ≤ usize_max
-    → Level s name words (option_and_then of (arguments words))
-level s name words of takes answers fits = go (arguments words) refl (reads s words [] None false 1 takes)
-  where
-    some : (values : List Text) (o : Option Asked) → Answers s name values o
-        → Reads s (at [] None false 1 false) (at [] None false 1 true) words (Some values) → Level s name words o
-    some values None a r = subst IsFault (sym (ap₂ (ended s) r.0 r.1)) a
-    some values (Some asked) a r = (ap₂ (ended s) r.0 r.1 ∙ a.0, ap (λ (h : Held). asked_of (name, finished s.rules h)) r.1 ∙ a.1)
+  row_ends : (g : Given) (position : ℕ) (rs : List Row) (now : Text → List Text) → file_and_more g.arguments position (now (codes "FILE")) (now (codes "ADDRESS"))
+      → now (codes "raw") ≡ raw_values g.raw → now (codes "format") ≡ format_values g.format
+      → (arg_by_long (leaf names (row_app names)).rules (codes "raw") ≡ None → g.raw ≡ false) → (arg_by_long (leaf names (row_app names)).rules (codes "format") ≡ None → g.format ≡ None)
+      → Has rs now → Ends (leaf names (row_app names)) (codes "row") rs (row_of g)
+  row_ends g position rs now placed raw format no_raw no_format has = go g.arguments placed
+    where
+      at_end : (id : Text) (values : List Text) → bytes_eq (codes "raw") id ≡ false → now id ≡ values → at_id id (fold with_default rs (raw_here ∷ row_rules)) ≡ line id values
+      at_end id values apart is = found_at id row_rules rs now values row_plain apart has is
 
-    go : (o : Option (List Text)) → arguments words ≡ o → Reads s (at [] None false 1 false) (at [] None false 1 true) words o
-        → Level s name words (option_and_then of o)
-    go None e r = fault_first (walk_fault s [] (at [] None false 1 false) words) (ended s [] (walk_on s (at [] None false 1 false) words).held) r
-    go (Some values) e r = some values (of values) (answers values (let fewer = length_of words values e in omega arith)) r
+      lacking : (file address : List Text) → now (codes "FILE") ≡ file → now (codes "ADDRESS") ≡ address
+          → check_fault (leaf names (row_app names)) (fold with_default rs (raw_here ∷ row_rules)) false
+          ≡ missing (lacks (line (codes "FILE") file) || (lacks (line (codes "ADDRESS") address) || false))
+      lacking file address e d =
+          ap₂ (λ (x y : Option Row). missing (lacks x || (lacks y || false))) (at_end (codes "FILE") file refl e) (at_end (codes "ADDRESS") address refl d)
 
--- ---- the commands
+      asks : (f : Text) (a : Text) (more : List Text) → now (codes "FILE") ≡ f ∷ [] → now (codes "ADDRESS") ≡ a ∷ more
+          → asked_of (codes "row", fold with_default rs (raw_here ∷ row_rules)) ≡ row g.raw (format_given g) f (a ∷ more)
+      asks f a more e d =
+          let end = fold with_default rs (raw_here ∷ row_rules) in
+          let is_raw : raw_in end ≡ g.raw = raw_is row_rules rs now g.raw row_plain has raw in
+          let is_format : format_in end ≡ format_given g = format_is end g.format (at_end (codes "format") (format_values g.format) refl format) in
+          let is_file : file_in end ≡ f = ap (λ (o : Option Row). unwrap_or (option_and_then (λ r. slice_get r.values 0) o) []) (at_end (codes "FILE") (f ∷ []) refl e) in
+          let are : values_in (codes "ADDRESS") end ≡ a ∷ more = ap (λ (o : Option Row). unwrap_or (option_map (λ (r : Row). r.values) o) []) (at_end (codes "ADDRESS") (a ∷ more) refl d) in
+          λ i. row (is_raw i) (is_format i) (is_file i) (are i)
 
-texts_pass : (values : List Text) → values_kinds false vp.String values ≡ []
-texts_pass [] = refl
-texts_pass (v ∷ vs) = texts_pass vs
+      quiet : defaults_fault rs (raw_here ∷ row_rules) ≡ []
+      quiet = raw_defaults row_rules rs row_plain
 
-several_fit : (n : ℕ) → suc n ≤ usize_max → range_kinds 1 usize_max (suc n) ≡ []
-several_fit n le =
-    let more : nat_lt (suc n) 1 ≡ false = le-ltb (suc n) 1 (omega arith) in
-    let fewer : nat_lt usize_max (suc n) ≡ false = le-ltb usize_max (suc n) (omega arith) in
-    let none : nat_eq (suc n) 0 ≡ false = ne_eqb (suc n) 0 (λ e. omega arith) in
-    rw (none, more, fewer) refl
+      fails : (file address : List Text) → now (codes "FILE") ≡ file → now (codes "ADDRESS") ≡ address
+          → IsFault (missing (lacks (line (codes "FILE") file) || (lacks (line (codes "ADDRESS") address) || false))) → Ends (leaf names (row_app names)) (codes "row") rs None
+      fails file address e d h =
+          fault_next (defaults_fault rs (raw_here ∷ row_rules)) (check_fault (leaf names (row_app names)) (fold with_default rs (raw_here ∷ row_rules)) false)
+          (subst IsFault (sym (lacking file address e d)) h)
 
-pub dump_answers : (values : List Text) → Answers (leaf dump_app) (codes "dump") values (dump_of values)
-unfolding walk_fault walked defaults_fault
-dump_answers [] = tt {0}
-dump_answers (file ∷ []) = (refl, refl)
-dump_answers (file ∷ x ∷ more) = tt {0}
+      go : (arguments : List Text) → file_and_more arguments position (now (codes "FILE")) (now (codes "ADDRESS"))
+          → Ends (leaf names (row_app names)) (codes "row") rs (row_by g.raw (format_given g) arguments)
+      go [] h = fails [] [] h.1 h.2 (tt {0})
+      go (f ∷ []) h = fails (f ∷ []) [] h.1 h.2 (tt {0})
+      go (f ∷ a ∷ more) h = (ap₂ or_else quiet (lacking (f ∷ []) (a ∷ more) h.1 h.2), asks f a more h.1 h.2)
 
-pub table_answers : (values : List Text) → Answers (leaf table_app) (codes "table") values (table_of values)
-unfolding walk_fault walked defaults_fault
-table_answers [] = tt {0}
-table_answers (file ∷ []) = (refl, refl)
-table_answers (file ∷ x ∷ more) = tt {0}
+  pub row_leaf : Leaf (leaf names (row_app names)) (codes "row") names file_and_more row_of
+  row_leaf = record {
+    again = refl;
+    raw = inr refl;
+    format = inr (refl, refl);
+    others = λ flag e d. rw (e, d) (help_by_name (bytes_eq (codes "help") flag));
+    short = λ x. help_by_name (nat_eq 104 x);
+    apart = λ position a e.
+        apart_of (arg_by_index (leaf names (row_app names)).rules position) a e
+        (two_apart (single (codes "FILE") 1 true) (many (codes "ADDRESS") 2 true) refl refl (nat_eq 1 position) (nat_eq 2 position));
+    place = row_place;
+    ends = row_ends;
+  }
 
-pub rows_answers : (values : List Text) → Answers (leaf rows_app) (codes "rows") values (rows_of values)
-unfolding walk_fault walked defaults_fault
-rows_answers [] = tt {0}
-rows_answers (file ∷ []) = (refl, refl)
-rows_answers (file ∷ address ∷ []) = (refl, refl)
-rows_answers (file ∷ address ∷ x ∷ more) = tt {0}
+  -- ---- rows
 
-abbrev row_walk : Text → List Text → Walk
-row_walk file addresses = at (record { id = codes "FILE"; values = file ∷ []; count = None; source = Some CommandLine; reading = AsWritten } ∷ [])
-    (Some (codes "ADDRESS", addresses)) true 2 true
+  rows_place : (arguments : List Text) (position : ℕ) (now : Text → List Text) → file_and_one arguments position (now (codes "FILE")) (now (codes "ADDRESS"))
+      → Takes (leaf names (rows_app names)) file_and_one rows_of arguments position now
+  rows_place [] position now h = inr (
+    single (codes "FILE") 1 true,
+    ap (arg_by_index (leaf names (rows_app names)).rules) h.0,
+    record { id = codes "FILE"; index = 1; required = true; found = refl; kind = inl (refl, h.1) },
+    refl,
+    refl,
+    λ word. (ap (next_position (single (codes "FILE") 1 true)) h.0, ap (λ (x : List Text). x ++ word ∷ []) h.1, h.2),
+  )
+  rows_place (f ∷ []) position now h = inr (
+    single (codes "ADDRESS") 2 false,
+    ap (arg_by_index (leaf names (rows_app names)).rules) h.0,
+    record { id = codes "ADDRESS"; index = 2; required = false; found = refl; kind = inl (refl, h.2) },
+    refl,
+    refl,
+    λ word. (ap (next_position (single (codes "ADDRESS") 2 false)) h.0, h.1, ap (λ (x : List Text). x ++ word ∷ []) h.2),
+  )
+  rows_place (f ∷ x ∷ []) position now h =
+      inl (ap (arg_by_index (leaf names (rows_app names)).rules) h.0, λ g le. rows_refuse g.raw (format_given g) g.arguments le)
+  rows_place (f ∷ x ∷ y ∷ more) position now h = absurd h
 
-row_loop : (file : Text) (more addresses : List Text) → (walk_fault (leaf row_app) [] (row_walk file addresses) more ≡ [])
-    × (walk_on (leaf row_app) (row_walk file addresses) more ≡ row_walk file (addresses ++ more))
-unfolding walk_fault walked
-row_loop file [] addresses = (refl, ap (row_walk file) (sym (append-nil addresses)))
-row_loop file (x ∷ more) addresses =
-    let r = row_loop file more (addresses ++ x ∷ []) in
-    (r.0, r.1 ∙ ap (row_walk file) (append_assoc addresses (x ∷ []) more))
+  abbrev rows_rules : List Rule
+  rows_rules = format_here names ∷ single (codes "FILE") 1 true ∷ single (codes "ADDRESS") 2 false ∷ help ∷ []
 
-pub row_answers : (values : List Text) → length values ≤ usize_max → Answers (leaf row_app) (codes "row") values (row_of values)
-unfolding walk_fault walked defaults_fault
-row_answers [] fits = tt {0}
-row_answers (file ∷ []) fits = tt {0}
-row_answers (file ∷ address ∷ more) fits =
-    let r = row_loop file more (address ∷ []) in (
-      ap₂ (λ (k : Kinds) (w : Walk). ended (leaf row_app) k w.held) r.0 r.1 ∙ rw (several_fit (length more) (omega arith), texts_pass more) refl,
-      ap (λ (w : Walk). asked_of (codes "row", finished (leaf row_app).rules w.held)) r.1,
-    )
+  rows_plain : NoDefaults rows_rules
+  rows_plain = (refl, (refl, (refl, (refl, tt {0}))))
 
-abbrev check_walk : List Text → Walk
-check_walk files = at [] (Some (codes "FILE", files)) true 1 true
+  rows_ends : (g : Given) (position : ℕ) (rs : List Row) (now : Text → List Text) → file_and_one g.arguments position (now (codes "FILE")) (now (codes "ADDRESS"))
+      → now (codes "raw") ≡ raw_values g.raw → now (codes "format") ≡ format_values g.format
+      → (arg_by_long (leaf names (rows_app names)).rules (codes "raw") ≡ None → g.raw ≡ false) → (arg_by_long (leaf names (rows_app names)).rules (codes "format") ≡ None → g.format ≡ None)
+      → Has rs now → Ends (leaf names (rows_app names)) (codes "rows") rs (rows_of g)
+  rows_ends g position rs now placed raw format no_raw no_format has = go g.arguments placed
+    where
+      at_end : (id : Text) (values : List Text) → bytes_eq (codes "raw") id ≡ false → now id ≡ values → at_id id (fold with_default rs (raw_here ∷ rows_rules)) ≡ line id values
+      at_end id values apart is = found_at id rows_rules rs now values rows_plain apart has is
 
-check_loop : (more files : List Text) → (walk_fault (leaf check_app) [] (check_walk files) more ≡ [])
-    × (walk_on (leaf check_app) (check_walk files) more ≡ check_walk (files ++ more))
-unfolding walk_fault walked
-check_loop [] files = (refl, ap check_walk (sym (append-nil files)))
-check_loop (x ∷ more) files =
-    let r = check_loop more (files ++ x ∷ []) in
-    (r.0, r.1 ∙ ap check_walk (append_assoc files (x ∷ []) more))
+      lacking : (file : List Text) → now (codes "FILE") ≡ file
+          → check_fault (leaf names (rows_app names)) (fold with_default rs (raw_here ∷ rows_rules)) false ≡ missing (lacks (line (codes "FILE") file) || false)
+      lacking file e = ap (λ (x : Option Row). missing (lacks x || false)) (at_end (codes "FILE") file refl e)
 
-pub check_answers : (values : List Text) → length values ≤ usize_max → Answers (leaf check_app) (codes "check") values (check_of values)
-unfolding walk_fault walked defaults_fault
-check_answers [] fits = tt {0}
-check_answers (file ∷ more) fits =
-    let r = check_loop more (file ∷ []) in (
-      ap₂ (λ (k : Kinds) (w : Walk). ended (leaf check_app) k w.held) r.0 r.1 ∙ rw (several_fit (length more) (omega arith), texts_pass more) refl,
-      ap (λ (w : Walk). asked_of (codes "check", finished (leaf check_app).rules w.held)) r.1,
-    )
+      asks : (f : Text) (address : List Text) → now (codes "FILE") ≡ f ∷ [] → now (codes "ADDRESS") ≡ address
+          → asked_of (codes "rows", fold with_default rs (raw_here ∷ rows_rules)) ≡ rows g.raw (format_given g) f (option_and_then (λ r. slice_get r.values 0) (line (codes "ADDRESS") address))
+      asks f address e d =
+          let end = fold with_default rs (raw_here ∷ rows_rules) in
+          let is_raw : raw_in end ≡ g.raw = raw_is rows_rules rs now g.raw rows_plain has raw in
+          let is_format : format_in end ≡ format_given g = format_is end g.format (at_end (codes "format") (format_values g.format) refl format) in
+          let is_file : file_in end ≡ f = ap (λ (o : Option Row). unwrap_or (option_and_then (λ r. slice_get r.values 0) o) []) (at_end (codes "FILE") (f ∷ []) refl e) in
+          let is_address : first_of (codes "ADDRESS") end ≡ option_and_then (λ r. slice_get r.values 0) (line (codes "ADDRESS") address) =
+          ap (λ (o : Option Row). option_and_then (λ r. slice_get r.values 0) o) (at_end (codes "ADDRESS") address refl d) in
+          λ i. rows (is_raw i) (is_format i) (is_file i) (is_address i)
+
+      quiet : defaults_fault rs (raw_here ∷ rows_rules) ≡ []
+      quiet = raw_defaults rows_rules rs rows_plain
+
+      go : (arguments : List Text) → file_and_one arguments position (now (codes "FILE")) (now (codes "ADDRESS"))
+          → Ends (leaf names (rows_app names)) (codes "rows") rs (rows_by g.raw (format_given g) arguments)
+      go [] h =
+          fault_next (defaults_fault rs (raw_here ∷ rows_rules)) (check_fault (leaf names (rows_app names)) (fold with_default rs (raw_here ∷ rows_rules)) false)
+          (subst IsFault (sym (lacking [] h.1)) (tt {0}))
+      go (f ∷ []) h = (ap₂ or_else quiet (lacking (f ∷ []) h.1), asks f [] h.1 h.2)
+      go (f ∷ a ∷ []) h = (ap₂ or_else quiet (lacking (f ∷ []) h.1), asks f (a ∷ []) h.1 h.2)
+      go (f ∷ a ∷ b ∷ more) h = absurd h
+
+  pub rows_leaf : Leaf (leaf names (rows_app names)) (codes "rows") names file_and_one rows_of
+  rows_leaf = record {
+    again = refl;
+    raw = inr refl;
+    format = inr (refl, refl);
+    others = λ flag e d. rw (e, d) (help_by_name (bytes_eq (codes "help") flag));
+    short = λ x. help_by_name (nat_eq 104 x);
+    apart = λ position a e.
+        apart_of (arg_by_index (leaf names (rows_app names)).rules position) a e
+        (two_apart (single (codes "FILE") 1 true) (single (codes "ADDRESS") 2 false) refl refl (nat_eq 1 position) (nat_eq 2 position));
+    place = rows_place;
+    ends = rows_ends;
+  }
+
+  -- ---- dump
+
+  dump_place : (arguments : List Text) (position : ℕ) (now : Text → List Text) → one_file arguments position (now (codes "FILE")) (now (codes "ADDRESS"))
+      → Takes (leaf names dump_app) one_file dump_of arguments position now
+  dump_place [] position now h = inr (
+    single (codes "FILE") 1 true,
+    ap (arg_by_index (leaf names dump_app).rules) h.0,
+    record { id = codes "FILE"; index = 1; required = true; found = refl; kind = inl (refl, h.1) },
+    refl,
+    refl,
+    λ word. (ap (next_position (single (codes "FILE") 1 true)) h.0, ap (λ (x : List Text). x ++ word ∷ []) h.1),
+  )
+  dump_place (f ∷ []) position now h = inl (ap (arg_by_index (leaf names dump_app).rules) h.0, λ g le. dump_refuses (is_some g.format) g.raw g.arguments le)
+  dump_place (f ∷ x ∷ more) position now h = absurd h
+
+  abbrev dump_rules : List Rule
+  dump_rules = single (codes "FILE") 1 true ∷ help ∷ []
+
+  dump_plain : NoDefaults dump_rules
+  dump_plain = (refl, (refl, tt {0}))
+
+  dump_ends : (g : Given) (position : ℕ) (rs : List Row) (now : Text → List Text) → one_file g.arguments position (now (codes "FILE")) (now (codes "ADDRESS"))
+      → now (codes "raw") ≡ raw_values g.raw → now (codes "format") ≡ format_values g.format
+      → (arg_by_long (leaf names dump_app).rules (codes "raw") ≡ None → g.raw ≡ false) → (arg_by_long (leaf names dump_app).rules (codes "format") ≡ None → g.format ≡ None)
+      → Has rs now → Ends (leaf names dump_app) (codes "dump") rs (dump_of g)
+  dump_ends g position rs now placed raw format no_raw no_format has =
+      subst (λ (o : Option Format). Ends (leaf names dump_app) (codes "dump") rs (cond (is_some o) None (dump_by g.raw g.arguments))) (sym (no_format refl)) (go g.arguments placed)
+    where
+      at_end : (id : Text) (values : List Text) → bytes_eq (codes "raw") id ≡ false → now id ≡ values → at_id id (fold with_default rs (raw_here ∷ dump_rules)) ≡ line id values
+      at_end id values apart is = found_at id dump_rules rs now values dump_plain apart has is
+
+      lacking : (file : List Text) → now (codes "FILE") ≡ file
+          → check_fault (leaf names dump_app) (fold with_default rs (raw_here ∷ dump_rules)) false ≡ missing (lacks (line (codes "FILE") file) || false)
+      lacking file e = ap (λ (x : Option Row). missing (lacks x || false)) (at_end (codes "FILE") file refl e)
+
+      asks : (f : Text) → now (codes "FILE") ≡ f ∷ [] → asked_of (codes "dump", fold with_default rs (raw_here ∷ dump_rules)) ≡ dump g.raw f
+      asks f e =
+          let end = fold with_default rs (raw_here ∷ dump_rules) in
+          let is_raw : raw_in end ≡ g.raw = raw_is dump_rules rs now g.raw dump_plain has raw in
+          let is_file : file_in end ≡ f = ap (λ (o : Option Row). unwrap_or (option_and_then (λ r. slice_get r.values 0) o) []) (at_end (codes "FILE") (f ∷ []) refl e) in
+          λ i. dump (is_raw i) (is_file i)
+
+      go : (arguments : List Text) → one_file arguments position (now (codes "FILE")) (now (codes "ADDRESS")) → Ends (leaf names dump_app) (codes "dump") rs (dump_by g.raw arguments)
+      go [] h =
+          fault_next (defaults_fault rs (raw_here ∷ dump_rules)) (check_fault (leaf names dump_app) (fold with_default rs (raw_here ∷ dump_rules)) false)
+          (subst IsFault (sym (lacking [] h.1)) (tt {0}))
+      go (f ∷ []) h = (ap₂ or_else (raw_defaults dump_rules rs dump_plain) (lacking (f ∷ []) h.1), asks f h.1)
+      go (f ∷ x ∷ more) h = absurd h
+
+  pub dump_leaf : Leaf (leaf names dump_app) (codes "dump") names one_file dump_of
+  dump_leaf = record {
+    again = refl;
+    raw = inr refl;
+    format = inl (refl, without_format);
+    others = λ flag e d. rw e (help_by_name (bytes_eq (codes "help") flag));
+    short = λ x. help_by_name (nat_eq 104 x);
+    apart = λ position a e. apart_of (arg_by_index (leaf names dump_app).rules position) a e (one_apart (single (codes "FILE") 1 true) refl (nat_eq 1 position));
+    place = dump_place;
+    ends = dump_ends;
+  }
+    where
+      without_format : (g : Given) → is_some g.format ≡ true → dump_of g ≡ None
+      without_format g h = ap (λ (b : Bool). cond b None (dump_by g.raw g.arguments)) h
+
+  -- ---- check
+
+  check_place : (arguments : List Text) (position : ℕ) (now : Text → List Text) → files arguments position (now (codes "FILE")) (now (codes "ADDRESS"))
+      → Takes (leaf names (check_app names)) files check_of arguments position now
+  check_place arguments position now h = inr (
+    many (codes "FILE") 1 true,
+    ap (arg_by_index (leaf names (check_app names)).rules) h.0,
+    record { id = codes "FILE"; index = 1; required = true; found = refl; kind = inr refl },
+    refl,
+    refl,
+    λ word. (ap (next_position (many (codes "FILE") 1 true)) h.0, ap (λ (x : List Text). x ++ word ∷ []) h.1),
+  )
+
+  abbrev check_rules : List Rule
+  check_rules = format_here names ∷ many (codes "FILE") 1 true ∷ help ∷ []
+
+  check_plain : NoDefaults check_rules
+  check_plain = (refl, (refl, (refl, tt {0})))
+
+  check_ends : (g : Given) (position : ℕ) (rs : List Row) (now : Text → List Text) → files g.arguments position (now (codes "FILE")) (now (codes "ADDRESS"))
+      → now (codes "raw") ≡ raw_values g.raw → now (codes "format") ≡ format_values g.format
+      → (arg_by_long (leaf names (check_app names)).rules (codes "raw") ≡ None → g.raw ≡ false)
+      → (arg_by_long (leaf names (check_app names)).rules (codes "format") ≡ None → g.format ≡ None)
+      → Has rs now → Ends (leaf names (check_app names)) (codes "check") rs (check_of g)
+  check_ends g position rs now placed raw format no_raw no_format has =
+      subst (λ (b : Bool). Ends (leaf names (check_app names)) (codes "check") rs (cond b None (check_by (format_given g) g.arguments))) (sym (no_raw refl)) (go g.arguments placed)
+    where
+      at_end : (id : Text) (values : List Text) → now id ≡ values → at_id id (fold with_default rs check_rules) ≡ line id values
+      at_end id values is = ap (at_id id) (skips check_rules rs check_plain) ∙ has id ∙ ap (line id) is
+
+      lacking : (given : List Text) → now (codes "FILE") ≡ given
+          → check_fault (leaf names (check_app names)) (fold with_default rs check_rules) false ≡ missing (lacks (line (codes "FILE") given) || false)
+      lacking given e = ap (λ (x : Option Row). missing (lacks x || false)) (at_end (codes "FILE") given e)
+
+      asks : (f : Text) (more : List Text) → now (codes "FILE") ≡ f ∷ more → asked_of (codes "check", fold with_default rs check_rules) ≡ check (format_given g) (f ∷ more)
+      asks f more e =
+          let end = fold with_default rs check_rules in
+          let is_format : format_in end ≡ format_given g = format_is end g.format (at_end (codes "format") (format_values g.format) format) in
+          let are : values_in (codes "FILE") end ≡ f ∷ more = ap (λ (o : Option Row). unwrap_or (option_map (λ (r : Row). r.values) o) []) (at_end (codes "FILE") (f ∷ more) e) in
+          λ i. check (is_format i) (are i)
+
+      go : (arguments : List Text) → files arguments position (now (codes "FILE")) (now (codes "ADDRESS"))
+          → Ends (leaf names (check_app names)) (codes "check") rs (check_by (format_given g) arguments)
+      go [] h =
+          fault_next (defaults_fault rs check_rules) (check_fault (leaf names (check_app names)) (fold with_default rs check_rules) false) (subst IsFault (sym (lacking [] h.1)) (tt {0}))
+      go (f ∷ more) h = (ap₂ or_else (no_defaults check_rules rs check_plain) (lacking (f ∷ more) h.1), asks f more h.1)
+
+  pub check_leaf : Leaf (leaf names (check_app names)) (codes "check") names files check_of
+  check_leaf = record {
+    again = refl;
+    raw = inl (refl, without_raw);
+    format = inr (refl, refl);
+    others = λ flag e d. rw d (help_by_name (bytes_eq (codes "help") flag));
+    short = λ x. help_by_name (nat_eq 104 x);
+    apart = λ position a e. apart_of (arg_by_index (leaf names (check_app names)).rules position) a e (one_apart (many (codes "FILE") 1 true) refl (nat_eq 1 position));
+    place = check_place;
+    ends = check_ends;
+  }
+    where
+      without_raw : (g : Given) → g.raw ≡ true → check_of g ≡ None
+      without_raw g h = ap (λ (b : Bool). cond b None (check_by (format_given g) g.arguments)) h
+
+  -- ---- table
+
+  table_place : (arguments : List Text) (position : ℕ) (now : Text → List Text) → one_file arguments position (now (codes "FILE")) (now (codes "ADDRESS"))
+      → Takes (leaf names table_app) one_file table_of arguments position now
+  table_place [] position now h = inr (
+    single (codes "FILE") 1 true,
+    ap (arg_by_index (leaf names table_app).rules) h.0,
+    record { id = codes "FILE"; index = 1; required = true; found = refl; kind = inl (refl, h.1) },
+    refl,
+    refl,
+    λ word. (ap (next_position (single (codes "FILE") 1 true)) h.0, ap (λ (x : List Text). x ++ word ∷ []) h.1),
+  )
+  table_place (f ∷ []) position now h = inl (ap (arg_by_index (leaf names table_app).rules) h.0, λ g le. table_refuses (is_some g.format) g.raw g.arguments le)
+  table_place (f ∷ x ∷ more) position now h = absurd h
+
+  abbrev table_rules : List Rule
+  table_rules = single (codes "FILE") 1 true ∷ help ∷ []
+
+  table_plain : NoDefaults table_rules
+  table_plain = (refl, (refl, tt {0}))
+
+  table_ends : (g : Given) (position : ℕ) (rs : List Row) (now : Text → List Text) → one_file g.arguments position (now (codes "FILE")) (now (codes "ADDRESS"))
+      → now (codes "raw") ≡ raw_values g.raw → now (codes "format") ≡ format_values g.format
+      → (arg_by_long (leaf names table_app).rules (codes "raw") ≡ None → g.raw ≡ false) → (arg_by_long (leaf names table_app).rules (codes "format") ≡ None → g.format ≡ None)
+      → Has rs now → Ends (leaf names table_app) (codes "table") rs (table_of g)
+  table_ends g position rs now placed raw format no_raw no_format has =
+      subst (λ (o : Option Format). Ends (leaf names table_app) (codes "table") rs (cond (is_some o) None (table_by g.raw g.arguments))) (sym (no_format refl)) (go g.arguments placed)
+    where
+      at_end : (id : Text) (values : List Text) → bytes_eq (codes "raw") id ≡ false → now id ≡ values → at_id id (fold with_default rs (raw_here ∷ table_rules)) ≡ line id values
+      at_end id values apart is = found_at id table_rules rs now values table_plain apart has is
+
+      lacking : (file : List Text) → now (codes "FILE") ≡ file
+          → check_fault (leaf names table_app) (fold with_default rs (raw_here ∷ table_rules)) false ≡ missing (lacks (line (codes "FILE") file) || false)
+      lacking file e = ap (λ (x : Option Row). missing (lacks x || false)) (at_end (codes "FILE") file refl e)
+
+      asks : (f : Text) → now (codes "FILE") ≡ f ∷ [] → asked_of (codes "table", fold with_default rs (raw_here ∷ table_rules)) ≡ table g.raw f
+      asks f e =
+          let end = fold with_default rs (raw_here ∷ table_rules) in
+          let is_raw : raw_in end ≡ g.raw = raw_is table_rules rs now g.raw table_plain has raw in
+          let is_file : file_in end ≡ f = ap (λ (o : Option Row). unwrap_or (option_and_then (λ r. slice_get r.values 0) o) []) (at_end (codes "FILE") (f ∷ []) refl e) in
+          λ i. table (is_raw i) (is_file i)
+
+      go : (arguments : List Text) → one_file arguments position (now (codes "FILE")) (now (codes "ADDRESS")) → Ends (leaf names table_app) (codes "table") rs (table_by g.raw arguments)
+      go [] h =
+          fault_next (defaults_fault rs (raw_here ∷ table_rules)) (check_fault (leaf names table_app) (fold with_default rs (raw_here ∷ table_rules)) false)
+          (subst IsFault (sym (lacking [] h.1)) (tt {0}))
+      go (f ∷ []) h = (ap₂ or_else (raw_defaults table_rules rs table_plain) (lacking (f ∷ []) h.1), asks f h.1)
+      go (f ∷ x ∷ more) h = absurd h
+
+  pub table_leaf : Leaf (leaf names table_app) (codes "table") names one_file table_of
+  table_leaf = record {
+    again = refl;
+    raw = inr refl;
+    format = inl (refl, without_format);
+    others = λ flag e d. rw e (help_by_name (bytes_eq (codes "help") flag));
+    short = λ x. help_by_name (nat_eq 104 x);
+    apart = λ position a e. apart_of (arg_by_index (leaf names table_app).rules position) a e (one_apart (single (codes "FILE") 1 true) refl (nat_eq 1 position));
+    place = table_place;
+    ends = table_ends;
+  }
+    where
+      without_format : (g : Given) → is_some g.format ≡ true → table_of g ≡ None
+      without_format g h = ap (λ (b : Bool). cond b None (table_by g.raw g.arguments)) h
+
+  -- ---- all words of a command
+
+  -- what its words come to
+  abbrev pub Level : Shape → Text → List Text → Option Asked → Type 0
+  Level s name words None = IsFault (level_fault s [] nothing_held words false [])
+  Level s name words (Some asked) = (level_fault s [] nothing_held words false [] ≡ []) × (asked_of (name, rows_after s.rules [] words) ≡ asked)
+
+  as_level : (s : Shape) (name : Text) (words : List Text) (o : Option Asked) → Comes s name (at [] None (waiting false) 1 false) words o → Level s name words o
+  as_level s name words None h = h
+  as_level s name words (Some asked) h = h
+
+  pub level : (are : map (λ name. name.now) names.now ≡ format_names) (s : Shape) (name : Text) (words : List Text) (Placed : Places) (of : Given → Option Asked) → Leaf s name names Placed of
+      → Placed [] 1 [] [] → length words ≤ usize_max → Level s name words (option_and_then of (given false nothing words))
+  level are s name words Placed of its begins fits =
+      as_level s name words (option_and_then of (given false nothing words))
+      ((comes s name names are Placed of its words).0 nothing 0 [] None false 1 (record {
+        now = λ id. [];
+        stands = record { quiet = refl; has = λ id. refl; few = omega arith };
+        placed = begins;
+        raw = refl;
+        format = refl;
+        no_raw = λ h. refl;
+        no_format = λ h. refl;
+      }) (omega arith))

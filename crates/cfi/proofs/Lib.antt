@@ -1,6 +1,13 @@
 mod ClapLemmas
+mod EndLemmas
 mod FlagLemmas
+mod GivenLemmas
 mod LevelLemmas
+mod PlaceLemmas
+mod ProcessLemmas
 mod ReadingLemmas
+mod RowLemmas
+mod StepLemmas
 mod TopLemmas
+mod WordLemmas
 mod Worked

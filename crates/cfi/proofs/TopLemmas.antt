@@ -1,238 +1,239 @@
 -- What clap makes of all words, beside what they ask for.
-use Rattle.std.proofs.Common.{◌≡◌, ◌∙◌, ◌≤◌, Bool, true, false, refl, sym, ap, ap₂, subst, inl, inr, cond, arith, codes, nat_eq, is_some, List, [], ◌∷◌, ◌++◌, append-nil, append_assoc, length, Option, Some, None, IsSome, true≢false}
+use Rattle.std.proofs.Common.{◌≡◌, ◌∙◌, ◌≤◌, Bool, true, false, refl, sym, ap, ap₂, subst, inl, inr, cond, arith, codes, map, nat_eq, is_some, List, [], ◌∷◌, ◌++◌, append-nil, append_assoc, length, Option, Some, None, IsSome, true≢false}
 use Rattle.std.specs.List.{fold}
 use Rattle.std.specs.Option.{option_and_then, option_map}
+use Rattle.std.specs.Borrow.{Bor}
 use Rattle.std.specs.Str.{bytes_eq}
 use Rattle.clap.specs.Lexer.{usize_max}
-use Rattle.clap.specs.Walk.{Held, Names, Step, Text, Walk, finished, idle, nothing_held, rows_after, settled, subcommand_met, walk, walk_from, walked, word_met}
+use Rattle.clap.specs.Walk.{Held, Names, Step, Text, Walk, arg_by_long, arg_by_short, finished, idle, nothing_held, rows_after, settled, subcommand_met, walk, walk_from, walked, word_met}
 use Rattle.clap.specs.Simple.{App, Shape, built, entered, names_of}
 use Rattle.clap.specs.Kinds.{HasKind, Kinds, or_else}
 use Rattle.clap.specs.Values.{kind_of}
 use Rattle.clap.specs.declared.error.Error.{Error}
 use Rattle.clap.specs.Faults.{check_fault, defaults_fault, entered_fault, fault_of, level_fault, settle_fault, step_fault, turn_fault, walk_fault, word_fault}
 use Rattle.clap.specs.declared.error.kind.ErrorKind.TheVariants.{InvalidSubcommand, OutOfMemory, UnknownArgument}
-use Rattle.cfi.specs.CommandLine.{Asked, asked_by, asked_of, cfi_app, check_app, dump_app, row_app, rows_app, table_app}
-use Rattle.cfi.specs.Words.{arguments, asked, check_of, dump_of, is_flag, row_of, rows_of, table_of}
-use Rattle.cfi.proofs.FlagLemmas.{HelpAlone, IsFault, fault_first, fault_next, flag_fails, no_fault, or_else-nil, value_met, value_passes}
-use Rattle.cfi.proofs.LevelLemmas.{Level, check_answers, dump_answers, help_by_name, leaf, level, row_answers, rows_answers, table_answers, takes_check, takes_dump, takes_row, takes_rows, takes_table}
+use Rattle.cfi.specs.CommandLine.{Asked, asked_by, asked_of, cfi_app, check_app, dump_app, format_names, row_app, rows_app, table_app}
+use Rattle.cfi.specs.Words.{Given, asked, check_of, dump_of, given, nothing, row_of, rows_of, table_of}
+use Rattle.cfi.proofs.FlagLemmas.{IsFault, fault_first, fault_next, flag_fails, held, is_flag, long_refused, no_fault, or_else-nil, plain_is_value, short_refused, value_met, value_passes, waiting}
+use Rattle.cfi.proofs.LevelLemmas.{Level, check_leaf, dump_leaf, file_and_more, file_and_one, files, help_by_name, leaf, level, one_file, row_leaf, rows_leaf, table_leaf}
 
-abbrev cfi_built : App
-cfi_built = built cfi_app
+module _ (formats : Bor (List (Bor Text))) (are : map (λ name. name.now) formats.now ≡ format_names) where
+  abbrev cfi_built : App
+  cfi_built = built (cfi_app formats)
 
-abbrev top : Shape
-top = cfi_built.top
+  abbrev top : Shape
+  top = cfi_built.top
 
-abbrev names : Names
-names = names_of cfi_built
+  abbrev names : Names
+  names = names_of cfi_built
 
--- what the words come to, where they ask for the last
-abbrev pub Judged : List Text → Option Asked → Type 0
-Judged words None = IsFault (fault_of cfi_app words)
-Judged words (Some asked) = (fault_of cfi_app words ≡ []) × (asked_by words ≡ Some asked)
+  -- what the words come to, where they ask for the last
+  abbrev pub Judged : List Text → Option Asked → Type 0
+  Judged words None = IsFault (fault_of (cfi_app formats) words)
+  Judged words (Some asked) = (fault_of (cfi_app formats) words ≡ []) × (asked_by formats words ≡ Some asked)
 
--- ---- a command is named
+  -- ---- a command is named
 
-abbrev stopped : Text → List Text → Walk
-stopped name rest = record { held = nothing_held; waiting = idle; position = 1; is_trailing = false; stopped = Some (name, rest) }
+  abbrev stopped : Text → List Text → Walk
+  stopped name rest = record { held = nothing_held; waiting = idle; position = 1; is_trailing = false; stopped = Some (name, rest) }
 
-rest_kept : (name : Text) (rest before : List Text) → (walk_fault top names (stopped name before) rest ≡ [])
-    × (fold (walked top.rules names) (stopped name before) rest ≡ stopped name (before ++ rest))
-unfolding walk_fault walked
-rest_kept name [] before = (refl, ap (stopped name) (sym (append-nil before)))
-rest_kept name (x ∷ rest) before =
-    let r = rest_kept name rest (before ++ x ∷ []) in
-    (r.0, r.1 ∙ ap (stopped name) (append_assoc before (x ∷ []) rest))
+  rest_kept : (name : Text) (rest before : List Text) → (walk_fault top names (stopped name before) rest ≡ [])
+      × (fold (walked top.rules names) (stopped name before) rest ≡ stopped name (before ++ rest))
+  unfolding walk_fault walked
+  rest_kept name [] before = (refl, ap (stopped name) (sym (append-nil before)))
+  rest_kept name (x ∷ rest) before =
+      let r = rest_kept name rest (before ++ x ∷ []) in
+      (r.0, r.1 ∙ ap (stopped name) (append_assoc before (x ∷ []) rest))
 
-first_turn : (name word : Text) → subcommand_met names idle word ≡ Some name → bytes_eq name (codes "help") ≡ false
-    → (turn_fault top names (walk_from nothing_held) word ≡ []) × (walked top.rules names (walk_from nothing_held) word ≡ stopped name [])
-unfolding walked
-first_turn name word met other = rw (met, other) (refl, refl)
+  first_turn : (name word : Text) → subcommand_met names idle word ≡ Some name → bytes_eq name (codes "help") ≡ false
+      → (turn_fault top names (walk_from nothing_held) word ≡ []) × (walked top.rules names (walk_from nothing_held) word ≡ stopped name [])
+  unfolding walked
+  first_turn name word met other = rw (met, other) (refl, refl)
 
-enters : (name word : Text) (rest : List Text) → subcommand_met names idle word ≡ Some name → bytes_eq name (codes "help") ≡ false
-    → (walk_fault top names (walk_from nothing_held) (word ∷ rest) ≡ []) × (walk top.rules names nothing_held (word ∷ rest) ≡ stopped name rest)
-unfolding walk_fault
-enters name word rest met other =
-    let t = first_turn name word met other in
-    let r = rest_kept name rest [] in (
-      ap₂ or_else t.0 (ap (λ w. walk_fault top names w rest) t.1) ∙ r.0,
-      ap (λ w. fold (walked top.rules names) w rest) t.1 ∙ r.1,
-    )
+  enters : (name word : Text) (rest : List Text) → subcommand_met names idle word ≡ Some name → bytes_eq name (codes "help") ≡ false
+      → (walk_fault top names (walk_from nothing_held) (word ∷ rest) ≡ []) × (walk top.rules names nothing_held (word ∷ rest) ≡ stopped name rest)
+  unfolding walk_fault
+  enters name word rest met other =
+      let t = first_turn name word met other in
+      let r = rest_kept name rest [] in (
+        ap₂ or_else t.0 (ap (λ w. walk_fault top names w rest) t.1) ∙ r.0,
+        ap (λ w. fold (walked top.rules names) w rest) t.1 ∙ r.1,
+      )
 
--- the kinds after the walk over the words
-abbrev after_walk : Walk → Kinds
-after_walk w =
-    or_else (entered_fault cfi_built w.stopped) (or_else (settle_fault top.rules top.args_override_self w.held)
-    (or_else (defaults_fault (settled top.rules w.held).rows top.rules)
-    (check_fault top (finished top.rules w.held) (is_some (entered cfi_built w.stopped)))))
+  -- the kinds after the walk over the words
+  abbrev after_walk : Walk → Kinds
+  after_walk w =
+      or_else (entered_fault cfi_built w.stopped) (or_else (settle_fault top.rules top.args_override_self w.held)
+      (or_else (defaults_fault (settled top.rules w.held).rows top.rules)
+      (check_fault top (finished top.rules w.held) (is_some (entered cfi_built w.stopped)))))
 
-abbrev fault_by : Kinds → Walk → Kinds
-fault_by met w = or_else met (after_walk w)
+  abbrev fault_by : Kinds → Walk → Kinds
+  fault_by met w = or_else met (after_walk w)
 
--- what is made of a command is what its level makes of the rest
-abbrev IsOf : Shape → Text → List Text → List Text → Type 0
-IsOf s name words rest = (fault_of cfi_app words ≡ level_fault s [] nothing_held rest false []) × (asked_by words ≡ Some (asked_of (name, rows_after s.rules [] rest)))
+  -- what is made of a command is what its level makes of the rest
+  abbrev IsOf : Shape → Text → List Text → List Text → Type 0
+  IsOf s name words rest = (fault_of (cfi_app formats) words ≡ level_fault s [] nothing_held rest false []) × (asked_by formats words ≡ Some (asked_of (name, rows_after s.rules [] rest)))
 
-judged : (s : Shape) (name : Text) (words rest : List Text) (o : Option Asked) → IsOf s name words rest → Level s name rest o → Judged words o
-judged s name words rest None is l = subst IsFault (sym is.0) l
-judged s name words rest (Some asked) is l = (is.0 ∙ l.0, is.1 ∙ ap Some l.1)
+  judged : (s : Shape) (name : Text) (words rest : List Text) (o : Option Asked) → IsOf s name words rest → Level formats s name rest o → Judged words o
+  judged s name words rest None is l = subst IsFault (sym is.0) l
+  judged s name words rest (Some asked) is l = (is.0 ∙ l.0, is.1 ∙ ap Some l.1)
 
-row_is : (program word : Text) (rest : List Text) → subcommand_met names idle word ≡ Some (codes "row") → IsOf (leaf row_app) (codes "row") (program ∷ word ∷ rest) rest
-unfolding defaults_fault
-row_is program word rest met =
-    let e = enters (codes "row") word rest met refl in (
-      ap₂ fault_by e.0 e.1 ∙ or_else-nil (level_fault (leaf row_app) [] nothing_held rest false []),
-      ap (λ (w : Walk). option_map asked_of (entered cfi_built w.stopped)) e.1,
-    )
+  row_is : (program word : Text) (rest : List Text) → subcommand_met names idle word ≡ Some (codes "row") → IsOf (leaf formats (row_app formats)) (codes "row") (program ∷ word ∷ rest) rest
+  unfolding defaults_fault
+  row_is program word rest met =
+      let e = enters (codes "row") word rest met refl in (
+        ap₂ fault_by e.0 e.1 ∙ or_else-nil (level_fault (leaf formats (row_app formats)) [] nothing_held rest false []),
+        ap (λ (w : Walk). option_map asked_of (entered cfi_built w.stopped)) e.1,
+      )
 
-rows_is : (program word : Text) (rest : List Text) → subcommand_met names idle word ≡ Some (codes "rows") → IsOf (leaf rows_app) (codes "rows") (program ∷ word ∷ rest) rest
-unfolding defaults_fault
-rows_is program word rest met =
-    let e = enters (codes "rows") word rest met refl in (
-      ap₂ fault_by e.0 e.1 ∙ or_else-nil (level_fault (leaf rows_app) [] nothing_held rest false []),
-      ap (λ (w : Walk). option_map asked_of (entered cfi_built w.stopped)) e.1,
-    )
+  rows_is : (program word : Text) (rest : List Text) → subcommand_met names idle word ≡ Some (codes "rows") → IsOf (leaf formats (rows_app formats)) (codes "rows") (program ∷ word ∷ rest) rest
+  unfolding defaults_fault
+  rows_is program word rest met =
+      let e = enters (codes "rows") word rest met refl in (
+        ap₂ fault_by e.0 e.1 ∙ or_else-nil (level_fault (leaf formats (rows_app formats)) [] nothing_held rest false []),
+        ap (λ (w : Walk). option_map asked_of (entered cfi_built w.stopped)) e.1,
+      )
 
-dump_is : (program word : Text) (rest : List Text) → subcommand_met names idle word ≡ Some (codes "dump") → IsOf (leaf dump_app) (codes "dump") (program ∷ word ∷ rest) rest
-unfolding defaults_fault
-dump_is program word rest met =
-    let e = enters (codes "dump") word rest met refl in (
-      ap₂ fault_by e.0 e.1 ∙ or_else-nil (level_fault (leaf dump_app) [] nothing_held rest false []),
-      ap (λ (w : Walk). option_map asked_of (entered cfi_built w.stopped)) e.1,
-    )
+  dump_is : (program word : Text) (rest : List Text) → subcommand_met names idle word ≡ Some (codes "dump") → IsOf (leaf formats dump_app) (codes "dump") (program ∷ word ∷ rest) rest
+  unfolding defaults_fault
+  dump_is program word rest met =
+      let e = enters (codes "dump") word rest met refl in (
+        ap₂ fault_by e.0 e.1 ∙ or_else-nil (level_fault (leaf formats dump_app) [] nothing_held rest false []),
+        ap (λ (w : Walk). option_map asked_of (entered cfi_built w.stopped)) e.1,
+      )
 
-check_is : (program word : Text) (rest : List Text) → subcommand_met names idle word ≡ Some (codes "check") → IsOf (leaf check_app) (codes "check") (program ∷ word ∷ rest) rest
-unfolding defaults_fault
-check_is program word rest met =
-    let e = enters (codes "check") word rest met refl in (
-      ap₂ fault_by e.0 e.1 ∙ or_else-nil (level_fault (leaf check_app) [] nothing_held rest false []),
-      ap (λ (w : Walk). option_map asked_of (entered cfi_built w.stopped)) e.1,
-    )
+  check_is : (program word : Text) (rest : List Text) → subcommand_met names idle word ≡ Some (codes "check") → IsOf (leaf formats (check_app formats)) (codes "check") (program ∷ word ∷ rest) rest
+  unfolding defaults_fault
+  check_is program word rest met =
+      let e = enters (codes "check") word rest met refl in (
+        ap₂ fault_by e.0 e.1 ∙ or_else-nil (level_fault (leaf formats (check_app formats)) [] nothing_held rest false []),
+        ap (λ (w : Walk). option_map asked_of (entered cfi_built w.stopped)) e.1,
+      )
 
-table_is : (program word : Text) (rest : List Text) → subcommand_met names idle word ≡ Some (codes "table") → IsOf (leaf table_app) (codes "table") (program ∷ word ∷ rest) rest
-unfolding defaults_fault
-table_is program word rest met =
-    let e = enters (codes "table") word rest met refl in (
-      ap₂ fault_by e.0 e.1 ∙ or_else-nil (level_fault (leaf table_app) [] nothing_held rest false []),
-      ap (λ (w : Walk). option_map asked_of (entered cfi_built w.stopped)) e.1,
-    )
+  table_is : (program word : Text) (rest : List Text) → subcommand_met names idle word ≡ Some (codes "table") → IsOf (leaf formats table_app) (codes "table") (program ∷ word ∷ rest) rest
+  unfolding defaults_fault
+  table_is program word rest met =
+      let e = enters (codes "table") word rest met refl in (
+        ap₂ fault_by e.0 e.1 ∙ or_else-nil (level_fault (leaf formats table_app) [] nothing_held rest false []),
+        ap (λ (w : Walk). option_map asked_of (entered cfi_built w.stopped)) e.1,
+      )
 
--- ---- none is named
+  -- ---- none is named
 
-top_help : HelpAlone top.rules
-top_help = record { long = λ name. help_by_name (bytes_eq (codes "help") name); short = λ x. help_by_name (nat_eq 104 x) }
+  fails_by_walk : (program : Text) (words : List Text) → IsFault (walk_fault top names (walk_from nothing_held) words) → IsFault (fault_of (cfi_app formats) (program ∷ words))
+  fails_by_walk program words h = fault_first (walk_fault top names (walk_from nothing_held) words) (after_walk (walk top.rules names nothing_held words)) h
 
-fails_by_walk : (program : Text) (words : List Text) → IsFault (walk_fault top names (walk_from nothing_held) words) → IsFault (fault_of cfi_app (program ∷ words))
-fails_by_walk program words h = fault_first (walk_fault top names (walk_from nothing_held) words) (after_walk (walk top.rules names nothing_held words)) h
+  fails_by_turn : (program word : Text) (rest : List Text) → IsFault (turn_fault top names (walk_from nothing_held) word) → IsFault (fault_of (cfi_app formats) (program ∷ word ∷ rest))
+  unfolding walk_fault
+  fails_by_turn program word rest h =
+      fails_by_walk program (word ∷ rest) (fault_first (turn_fault top names (walk_from nothing_held) word) (walk_fault top names (walked top.rules names (walk_from nothing_held) word) rest) h)
 
-fails_by_turn : (program word : Text) (rest : List Text) → IsFault (turn_fault top names (walk_from nothing_held) word) → IsFault (fault_of cfi_app (program ∷ word ∷ rest))
-unfolding walk_fault
-fails_by_turn program word rest h =
-    fails_by_walk program (word ∷ rest) (fault_first (turn_fault top names (walk_from nothing_held) word) (walk_fault top names (walked top.rules names (walk_from nothing_held) word) rest) h)
+  abbrev trailing : Walk
+  trailing = record { held = nothing_held; waiting = idle; position = 1; is_trailing = true; stopped = None }
 
-abbrev trailing : Walk
-trailing = record { held = nothing_held; waiting = idle; position = 1; is_trailing = true; stopped = None }
+  dashes_turn : (word : Text) → subcommand_met names idle word ≡ None → bytes_eq word (45 ∷ 45 ∷ []) ≡ true
+      → (turn_fault top names (walk_from nothing_held) word ≡ []) × (walked top.rules names (walk_from nothing_held) word ≡ trailing)
+  unfolding walked
+  dashes_turn word none e = rw (none, e) (refl, refl)
 
-dashes_turn : (word : Text) → subcommand_met names idle word ≡ None → bytes_eq word (45 ∷ 45 ∷ []) ≡ true
-    → (turn_fault top names (walk_from nothing_held) word ≡ []) × (walked top.rules names (walk_from nothing_held) word ≡ trailing)
-unfolding walked
-dashes_turn word none e = rw (none, e) (refl, refl)
+  dashes_fail : (program word : Text) (rest : List Text) → subcommand_met names idle word ≡ None → bytes_eq word (45 ∷ 45 ∷ []) ≡ true
+      → IsFault (fault_of (cfi_app formats) (program ∷ word ∷ rest))
+  unfolding walk_fault defaults_fault walked
+  dashes_fail program word [] none e =
+      let t = dashes_turn word none e in
+      subst IsFault (sym (ap₂ (λ (k : Kinds) (w : Walk). fault_by (or_else k []) w) t.0 t.1)) (tt {0})
+  dashes_fail program word (x ∷ more) none e =
+      let t = dashes_turn word none e in
+      fails_by_walk program (word ∷ x ∷ more) (fault_next (turn_fault top names (walk_from nothing_held) word)
+      (walk_fault top names (walked top.rules names (walk_from nothing_held) word) (x ∷ more))
+      (subst (λ w. IsFault (walk_fault top names w (x ∷ more))) (sym t.1) (tt {0})))
 
-dashes_fail : (program word : Text) (rest : List Text) → subcommand_met names idle word ≡ None → bytes_eq word (45 ∷ 45 ∷ []) ≡ true
-    → IsFault (fault_of cfi_app (program ∷ word ∷ rest))
-unfolding walk_fault defaults_fault walked
-dashes_fail program word [] none e =
-    let t = dashes_turn word none e in
-    subst IsFault (sym (ap₂ (λ (k : Kinds) (w : Walk). fault_by (or_else k []) w) t.0 t.1)) (tt {0})
-dashes_fail program word (x ∷ more) none e =
-    let t = dashes_turn word none e in
-    fails_by_walk program (word ∷ x ∷ more) (fault_next (turn_fault top names (walk_from nothing_held) word)
-    (walk_fault top names (walked top.rules names (walk_from nothing_held) word) (x ∷ more))
-    (subst (λ w. IsFault (walk_fault top names w (x ∷ more))) (sym t.1) (tt {0})))
+  unknown : (program word : Text) (rest : List Text) → subcommand_met names idle word ≡ None → IsFault (fault_of (cfi_app formats) (program ∷ word ∷ rest))
+  unknown program word rest none = by_dashes (bytes_eq word (45 ∷ 45 ∷ [])) refl
+    where
+      by_flag : (b : Bool) → bytes_eq word (45 ∷ 45 ∷ []) ≡ false → is_flag word ≡ b → IsFault (fault_of (cfi_app formats) (program ∷ word ∷ rest))
+      by_flag true d f =
+          let met = word_met top.rules names false idle 1 word nothing_held in
+          fails_by_turn program word rest
+          (fault_first (word_fault top names false idle word nothing_held) (step_fault top 1 met.0 met.1) (flag_fails top names idle word [] None none d
+          (λ flag is. long_refused top.rules top.args_override_self (held [] None) flag.1 (arg_by_long top.rules flag.0) (help_by_name (bytes_eq (codes "help") flag.0)))
+          (λ x more next. short_refused top.rules top.args_override_self (held [] None) next more (arg_by_short top.rules x) (help_by_name (nat_eq 104 x))) f))
+      by_flag false d f =
+          let passes = value_passes top names idle word [] None none d f in
+          let met = value_met top.rules names idle 1 word [] None none d f ∙ plain_is_value top.rules false word [] None in
+          let stray : turn_fault top names (walk_from nothing_held) word ≡ UnknownArgument ∷ InvalidSubcommand ∷ [] =
+          ap₂ (λ (k : Kinds) (m : Held × Step). or_else k (step_fault top 1 m.0 m.1)) passes met in
+          fails_by_turn program word rest (subst IsFault (sym stray) (tt {0}))
 
-unknown : (program word : Text) (rest : List Text) → subcommand_met names idle word ≡ None → IsFault (fault_of cfi_app (program ∷ word ∷ rest))
-unknown program word rest none = by_dashes (bytes_eq word (45 ∷ 45 ∷ [])) refl
-  where
-    by_flag : (b : Bool) → bytes_eq word (45 ∷ 45 ∷ []) ≡ false → is_flag word ≡ b → IsFault (fault_of cfi_app (program ∷ word ∷ rest))
-    by_flag true d f =
-        let met = word_met top.rules names false idle 1 word nothing_held in
-        fails_by_turn program word rest
-        (fault_first (word_fault top names false idle word nothing_held) (step_fault top 1 met.0 met.1) (flag_fails top names false word [] None top_help none d f))
-    by_flag false d f =
-        let passes = value_passes top names false word [] None none d f in
-        let met = value_met top.rules names false 1 word [] None none d f in
-        let stray : turn_fault top names (walk_from nothing_held) word ≡ UnknownArgument ∷ InvalidSubcommand ∷ [] =
-        ap₂ (λ (k : Kinds) (m : Held × Step). or_else k (step_fault top 1 m.0 m.1)) passes met in
-        fails_by_turn program word rest (subst IsFault (sym stray) (tt {0}))
+      by_dashes : (b : Bool) → bytes_eq word (45 ∷ 45 ∷ []) ≡ b → IsFault (fault_of (cfi_app formats) (program ∷ word ∷ rest))
+      by_dashes true d = dashes_fail program word rest none d
+      by_dashes false d = by_flag (is_flag word) d refl
 
-    by_dashes : (b : Bool) → bytes_eq word (45 ∷ 45 ∷ []) ≡ b → IsFault (fault_of cfi_app (program ∷ word ∷ rest))
-    by_dashes true d = dashes_fail program word rest none d
-    by_dashes false d = by_flag (is_flag word) d refl
+  -- ---- all words
 
--- ---- all words
+  pub judge : (words : List Text) → length words ≤ usize_max → Judged words (asked words)
+  unfolding defaults_fault walk_fault
+  judge [] fits = tt {0}
+  judge (program ∷ []) fits = tt {0}
+  judge (program ∷ word ∷ rest) fits = by_row (bytes_eq (codes "row") word) refl
+    where
+      few : length rest ≤ usize_max
+      few = omega arith
 
-pub judge : (words : List Text) → length words ≤ usize_max → Judged words (asked words)
-unfolding defaults_fault walk_fault
-judge [] fits = tt {0}
-judge (program ∷ []) fits = tt {0}
-judge (program ∷ word ∷ rest) fits = by_row (bytes_eq (codes "row") word) refl
-  where
-    few : length rest ≤ usize_max
-    few = omega arith
+      none_named : (o : Option Given) → IsFault (fault_of (cfi_app formats) (program ∷ word ∷ rest)) → Judged (program ∷ word ∷ rest) (option_and_then (λ values. None) o)
+      none_named None h = h
+      none_named (Some values) h = h
 
-    none_named : (o : Option (List Text)) → IsFault (fault_of cfi_app (program ∷ word ∷ rest)) → Judged (program ∷ word ∷ rest) (option_and_then (λ values. None) o)
-    none_named None h = h
-    none_named (Some values) h = h
+      by_table : (b : Bool) → bytes_eq (codes "row") word ≡ false → bytes_eq (codes "rows") word ≡ false → bytes_eq (codes "dump") word ≡ false → bytes_eq (codes "check") word ≡ false → bytes_eq (codes "table") word ≡ b
+          → Judged (program ∷ word ∷ rest) (option_and_then (λ values. cond b (table_of values) None) (given false nothing rest))
+      by_table true e0 e1 e2 e3 e =
+          judged (leaf formats table_app) (codes "table") (program ∷ word ∷ rest) rest (option_and_then table_of (given false nothing rest)) (table_is program word rest (rw (e0, e1, e2, e3, e) refl))
+          (level formats are (leaf formats table_app) (codes "table") rest one_file table_of (table_leaf formats) (refl, refl) few)
+      by_table false e0 e1 e2 e3 e = none_named (given false nothing rest) (unknown program word rest (rw (e0, e1, e2, e3, e) refl))
 
-    by_table : (b : Bool) → bytes_eq (codes "row") word ≡ false → bytes_eq (codes "rows") word ≡ false → bytes_eq (codes "dump") word ≡ false → bytes_eq (codes "check") word ≡ false → bytes_eq (codes "table") word ≡ b
-        → Judged (program ∷ word ∷ rest) (option_and_then (λ values. cond b (table_of values) None) (arguments rest))
-    by_table true e0 e1 e2 e3 e =
-        judged (leaf table_app) (codes "table") (program ∷ word ∷ rest) rest (option_and_then table_of (arguments rest)) (table_is program word rest (rw (e0, e1, e2, e3, e) refl))
-        (level (leaf table_app) (codes "table") rest table_of takes_table (λ values few. table_answers values) few)
-    by_table false e0 e1 e2 e3 e = none_named (arguments rest) (unknown program word rest (rw (e0, e1, e2, e3, e) refl))
+      by_check : (b : Bool) → bytes_eq (codes "row") word ≡ false → bytes_eq (codes "rows") word ≡ false → bytes_eq (codes "dump") word ≡ false → bytes_eq (codes "check") word ≡ b
+          → Judged (program ∷ word ∷ rest) (option_and_then (λ values. cond b (check_of values) (cond (bytes_eq (codes "table") word) (table_of values) None)) (given false nothing rest))
+      by_check true e0 e1 e2 e =
+          judged (leaf formats (check_app formats)) (codes "check") (program ∷ word ∷ rest) rest (option_and_then check_of (given false nothing rest)) (check_is program word rest (rw (e0, e1, e2, e) refl))
+          (level formats are (leaf formats (check_app formats)) (codes "check") rest files check_of (check_leaf formats) (refl, refl) few)
+      by_check false e0 e1 e2 e = by_table (bytes_eq (codes "table") word) e0 e1 e2 e refl
 
-    by_check : (b : Bool) → bytes_eq (codes "row") word ≡ false → bytes_eq (codes "rows") word ≡ false → bytes_eq (codes "dump") word ≡ false → bytes_eq (codes "check") word ≡ b
-        → Judged (program ∷ word ∷ rest) (option_and_then (λ values. cond b (check_of values) (cond (bytes_eq (codes "table") word) (table_of values) None)) (arguments rest))
-    by_check true e0 e1 e2 e =
-        judged (leaf check_app) (codes "check") (program ∷ word ∷ rest) rest (option_and_then check_of (arguments rest)) (check_is program word rest (rw (e0, e1, e2, e) refl))
-        (level (leaf check_app) (codes "check") rest check_of takes_check check_answers few)
-    by_check false e0 e1 e2 e = by_table (bytes_eq (codes "table") word) e0 e1 e2 e refl
+      by_dump : (b : Bool) → bytes_eq (codes "row") word ≡ false → bytes_eq (codes "rows") word ≡ false → bytes_eq (codes "dump") word ≡ b
+          → Judged (program ∷ word ∷ rest) (option_and_then (λ values. cond b (dump_of values) (cond (bytes_eq (codes "check") word) (check_of values) (cond (bytes_eq (codes "table") word) (table_of values) None))) (given false nothing rest))
+      by_dump true e0 e1 e =
+          judged (leaf formats dump_app) (codes "dump") (program ∷ word ∷ rest) rest (option_and_then dump_of (given false nothing rest)) (dump_is program word rest (rw (e0, e1, e) refl))
+          (level formats are (leaf formats dump_app) (codes "dump") rest one_file dump_of (dump_leaf formats) (refl, refl) few)
+      by_dump false e0 e1 e = by_check (bytes_eq (codes "check") word) e0 e1 e refl
 
-    by_dump : (b : Bool) → bytes_eq (codes "row") word ≡ false → bytes_eq (codes "rows") word ≡ false → bytes_eq (codes "dump") word ≡ b
-        → Judged (program ∷ word ∷ rest) (option_and_then (λ values. cond b (dump_of values) (cond (bytes_eq (codes "check") word) (check_of values) (cond (bytes_eq (codes "table") word) (table_of values) None))) (arguments rest))
-    by_dump true e0 e1 e =
-        judged (leaf dump_app) (codes "dump") (program ∷ word ∷ rest) rest (option_and_then dump_of (arguments rest)) (dump_is program word rest (rw (e0, e1, e) refl))
-        (level (leaf dump_app) (codes "dump") rest dump_of takes_dump (λ values few. dump_answers values) few)
-    by_dump false e0 e1 e = by_check (bytes_eq (codes "check") word) e0 e1 e refl
+      by_rows : (b : Bool) → bytes_eq (codes "row") word ≡ false → bytes_eq (codes "rows") word ≡ b
+          → Judged (program ∷ word ∷ rest) (option_and_then (λ values. cond b (rows_of values) (cond (bytes_eq (codes "dump") word) (dump_of values) (cond (bytes_eq (codes "check") word) (check_of values) (cond (bytes_eq (codes "table") word) (table_of values) None)))) (given false nothing rest))
+      by_rows true e0 e =
+          judged (leaf formats (rows_app formats)) (codes "rows") (program ∷ word ∷ rest) rest (option_and_then rows_of (given false nothing rest)) (rows_is program word rest (rw (e0, e) refl))
+          (level formats are (leaf formats (rows_app formats)) (codes "rows") rest file_and_one rows_of (rows_leaf formats) (refl, refl, refl) few)
+      by_rows false e0 e = by_dump (bytes_eq (codes "dump") word) e0 e refl
 
-    by_rows : (b : Bool) → bytes_eq (codes "row") word ≡ false → bytes_eq (codes "rows") word ≡ b
-        → Judged (program ∷ word ∷ rest) (option_and_then (λ values. cond b (rows_of values) (cond (bytes_eq (codes "dump") word) (dump_of values) (cond (bytes_eq (codes "check") word) (check_of values) (cond (bytes_eq (codes "table") word) (table_of values) None)))) (arguments rest))
-    by_rows true e0 e =
-        judged (leaf rows_app) (codes "rows") (program ∷ word ∷ rest) rest (option_and_then rows_of (arguments rest)) (rows_is program word rest (rw (e0, e) refl))
-        (level (leaf rows_app) (codes "rows") rest rows_of takes_rows (λ values few. rows_answers values) few)
-    by_rows false e0 e = by_dump (bytes_eq (codes "dump") word) e0 e refl
+      by_row : (b : Bool) → bytes_eq (codes "row") word ≡ b
+          → Judged (program ∷ word ∷ rest) (option_and_then (λ values. cond b (row_of values) (cond (bytes_eq (codes "rows") word) (rows_of values) (cond (bytes_eq (codes "dump") word) (dump_of values) (cond (bytes_eq (codes "check") word) (check_of values) (cond (bytes_eq (codes "table") word) (table_of values) None))))) (given false nothing rest))
+      by_row true e =
+          judged (leaf formats (row_app formats)) (codes "row") (program ∷ word ∷ rest) rest (option_and_then row_of (given false nothing rest)) (row_is program word rest (rw e refl))
+          (level formats are (leaf formats (row_app formats)) (codes "row") rest file_and_more row_of (row_leaf formats) (refl, refl, refl) few)
+      by_row false e = by_rows (bytes_eq (codes "rows") word) e refl
 
-    by_row : (b : Bool) → bytes_eq (codes "row") word ≡ b
-        → Judged (program ∷ word ∷ rest) (option_and_then (λ values. cond b (row_of values) (cond (bytes_eq (codes "rows") word) (rows_of values) (cond (bytes_eq (codes "dump") word) (dump_of values) (cond (bytes_eq (codes "check") word) (check_of values) (cond (bytes_eq (codes "table") word) (table_of values) None))))) (arguments rest))
-    by_row true e =
-        judged (leaf row_app) (codes "row") (program ∷ word ∷ rest) rest (option_and_then row_of (arguments rest)) (row_is program word rest (rw e refl))
-        (level (leaf row_app) (codes "row") rest row_of takes_row row_answers few)
-    by_row false e = by_rows (bytes_eq (codes "rows") word) e refl
+  -- where clap finds no fault, its matches ask for what the words ask for
+  pub asked_is : (words : List Text) → length words ≤ usize_max → fault_of (cfi_app formats) words ≡ [] → asked words ≡ asked_by formats words
+  asked_is words fits none = go (asked words) (judge words fits)
+    where
+      go : (o : Option Asked) → Judged words o → o ≡ asked_by formats words
+      go None h = absurd (no_fault (fault_of (cfi_app formats) words) none h)
+      go (Some x) h = sym h.1
 
--- where clap finds no fault, its matches ask for what the words ask for
-pub asked_is : (words : List Text) → length words ≤ usize_max → fault_of cfi_app words ≡ [] → asked words ≡ asked_by words
-asked_is words fits none = go (asked words) (judge words fits)
-  where
-    go : (o : Option Asked) → Judged words o → o ≡ asked_by words
-    go None h = absurd (no_fault (fault_of cfi_app words) none h)
-    go (Some x) h = sym h.1
-
--- clap finds no fault in words that ask for something
-pub faultless : (words : List Text) → length words ≤ usize_max → IsSome (asked words) → fault_of cfi_app words ≡ []
-faultless words fits some = go (asked words) (judge words fits) some
-  where
-    go : (o : Option Asked) → Judged words o → IsSome o → fault_of cfi_app words ≡ []
-    go None h none = absurd (true≢false (sym none))
-    go (Some x) h some = h.0
+  -- clap finds no fault in words that ask for something
+  pub faultless : (words : List Text) → length words ≤ usize_max → IsSome (asked words) → fault_of (cfi_app formats) words ≡ []
+  faultless words fits some = go (asked words) (judge words fits) some
+    where
+      go : (o : Option Asked) → Judged words o → IsSome o → fault_of (cfi_app formats) words ≡ []
+      go None h none = absurd (true≢false (sym none))
+      go (Some x) h some = h.0
 
 pub only_memory : (kinds : Kinds) (e : Error) → kinds ≡ [] → HasKind kinds e → kind_of e ≡ OutOfMemory
 only_memory [] e none (inl h) = h

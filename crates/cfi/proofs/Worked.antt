@@ -1,19 +1,20 @@
 -- What some command lines ask for, computed from the definitions alone.
-use Rattle.std.proofs.Common.{◌≡◌, codes, refl, [], ◌∷◌, Some, None}
+use Rattle.std.proofs.Common.{◌≡◌, codes, refl, true, false, [], ◌∷◌, Some, None}
 use Rattle.std.specs.Str.{chars}
+use Rattle.cfi.specs.declared.command.Format.TheVariants as form
 use Rattle.cfi.specs.CommandLine.{check, dump, row, rows}
 use Rattle.cfi.specs.Words.{asked}
 
-two_addresses : asked (codes "cfi" ∷ codes "row" ∷ codes "a" ∷ codes "0x10" ∷ codes "main+4" ∷ []) ≡ Some (row (codes "a") (codes "0x10" ∷ codes "main+4" ∷ []))
+two_addresses : asked (codes "cfi" ∷ codes "row" ∷ codes "a" ∷ codes "0x10" ∷ codes "main+4" ∷ []) ≡ Some (row false form.Text (codes "a") (codes "0x10" ∷ codes "main+4" ∷ []))
 two_addresses = refl
 
 no_address : asked (codes "cfi" ∷ codes "row" ∷ codes "a" ∷ []) ≡ None
 no_address = refl
 
-an_address_is_optional : asked (codes "cfi" ∷ codes "rows" ∷ codes "a" ∷ []) ≡ Some (rows (codes "a") None)
+an_address_is_optional : asked (codes "cfi" ∷ codes "rows" ∷ codes "a" ∷ []) ≡ Some (rows false form.Text (codes "a") None)
 an_address_is_optional = refl
 
-several_files : asked (codes "cfi" ∷ codes "check" ∷ codes "a" ∷ codes "b" ∷ []) ≡ Some (check (codes "a" ∷ codes "b" ∷ []))
+several_files : asked (codes "cfi" ∷ codes "check" ∷ codes "a" ∷ codes "b" ∷ []) ≡ Some (check form.Text (codes "a" ∷ codes "b" ∷ []))
 several_files = refl
 
 one_file_alone : asked (codes "cfi" ∷ codes "dump" ∷ codes "a" ∷ codes "b" ∷ []) ≡ None
@@ -24,11 +25,32 @@ a_flag : asked (codes "cfi" ∷ codes "dump" ∷ codes "-x" ∷ []) ≡ None
 unfolding chars
 a_flag = refl
 
-after_dashes : asked (codes "cfi" ∷ codes "dump" ∷ codes "--" ∷ codes "-x" ∷ []) ≡ Some (dump (codes "-x"))
+after_dashes : asked (codes "cfi" ∷ codes "dump" ∷ codes "--" ∷ codes "-x" ∷ []) ≡ Some (dump false (codes "-x"))
 after_dashes = refl
 
-a_hyphen : asked (codes "cfi" ∷ codes "dump" ∷ codes "-" ∷ []) ≡ Some (dump (codes "-"))
+a_hyphen : asked (codes "cfi" ∷ codes "dump" ∷ codes "-" ∷ []) ≡ Some (dump false (codes "-"))
 a_hyphen = refl
 
 help_is_no_command : asked (codes "cfi" ∷ codes "dump" ∷ codes "--help" ∷ []) ≡ None
 help_is_no_command = refl
+
+-- flags stand among the arguments, and a format follows `=` or is the next word
+flags : asked (codes "cfi" ∷ codes "row" ∷ codes "a" ∷ codes "--format" ∷ codes "json" ∷ codes "0x10" ∷ codes "--raw" ∷ codes "main" ∷ []) ≡ Some (row true form.Json (codes "a") (codes "0x10" ∷ codes "main" ∷ []))
+flags = refl
+
+a_format : asked (codes "cfi" ∷ codes "check" ∷ codes "--format=text" ∷ codes "a" ∷ []) ≡ Some (check form.Text (codes "a" ∷ []))
+a_format = refl
+
+-- a flag is given once, a format is one of the two, and it has to be named
+raw_twice : asked (codes "cfi" ∷ codes "table" ∷ codes "--raw" ∷ codes "a" ∷ codes "--raw" ∷ []) ≡ None
+raw_twice = refl
+
+no_format : asked (codes "cfi" ∷ codes "rows" ∷ codes "--format=xml" ∷ codes "a" ∷ []) ≡ None
+no_format = refl
+
+no_name : asked (codes "cfi" ∷ codes "rows" ∷ codes "--format" ∷ codes "--raw" ∷ codes "a" ∷ []) ≡ None
+no_name = refl
+
+-- and a command has some of the flags
+not_of_dump : asked (codes "cfi" ∷ codes "dump" ∷ codes "--format=text" ∷ codes "a" ∷ []) ≡ None
+not_of_dump = refl

@@ -2,3 +2,4 @@ pub mod CommandLine
 pub mod Findings
 pub mod Words
 pub mod Tasks
+pub mod Process

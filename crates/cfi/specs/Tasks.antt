@@ -1,8 +1,11 @@
 -- What a command is to do.
-use Rattle.std.specs.Prelude.{List, Option, map, option_map}
+use Rattle.std.specs.Prelude.{Bool, List, Option, map, option_map}
 use Rattle.clap.specs.Words.{Text}
 use Rattle.cfi_files.specs.declared.request.Printed.{Printed}
 use Rattle.cfi_files.specs.declared.request.Printed.TheVariants as printing
+use Rattle.cfi_files.specs.declared.request.Request.{Request}
+use Rattle.cfi.specs.declared.command.Format.{Format}
+use Rattle.cfi.specs.declared.command.Format.TheVariants.{Text as AsText}
 use Rattle.cfi.specs.declared.task.Task.{Task as TaskOfCode}
 use Rattle.cfi.specs.declared.task.Task.TheVariants.{Print, Check}
 use Rattle.cfi.specs.CommandLine.{Asked}
@@ -21,19 +24,30 @@ of_file (printing.Rows word) = rows_of (option_map (λ word. word.now) word)
 of_file printing.Dump = dump_of
 of_file printing.Table = table_of
 
--- to print something of a file, or to check files
+-- and whether registers have numbers there
+pub record OfRequest : Type 0 where
+  pub what : OfFile
+  pub raw : Bool
+
+abbrev pub asking : Bool → OfFile → OfRequest
+asking raw what = record { what = what; raw = raw }
+
+abbrev pub of_request : Request → OfRequest
+of_request request = asking request.raw (of_file request.printed)
+
+-- to print something of a file in a format; or to check files, in a format
 pub data Task : Type 0 where
-  print : Text → OfFile → Task
-  check : List Text → Task
+  print : Text → OfRequest → Format → Task
+  check : List Text → Format → Task
 
 abbrev pub task_view : TaskOfCode → Task
-task_view (Print file printed) = print file.now (of_file printed)
-task_view (Check files) = check (map (λ file. file.now) files.now)
+task_view (Print file request format) = print file.now (of_request request) format
+task_view (Check files format) = check (map (λ file. file.now) files.now) format
 
 -- for what the words ask for
 abbrev pub task_for : Asked → Task
-task_for (asked.row file addresses) = print file (row_of addresses)
-task_for (asked.rows file address) = print file (rows_of address)
-task_for (asked.dump file) = print file dump_of
-task_for (asked.check files) = check files
-task_for (asked.table file) = print file table_of
+task_for (asked.row raw format file addresses) = print file (asking raw (row_of addresses)) format
+task_for (asked.rows raw format file address) = print file (asking raw (rows_of address)) format
+task_for (asked.dump raw file) = print file (asking raw dump_of) AsText
+task_for (asked.check format files) = check files format
+task_for (asked.table raw file) = print file (asking raw table_of) AsText

@@ -1,41 +1,61 @@
 //! What the words of a command line ask for, read by clap.
 ghost use Rattle.std.specs.Prelude.{◌≡◌, IfErr, IfOk, IsSome, Some, false, map, option_map, true};
-ghost use Rattle.clap.specs.Words.{FailsBy, fault_of, found_of, rows_of, rule_of};
+ghost use Rattle.clap.specs.Words.{found_of, rows_of, rule_of};
 ghost use Rattle.clap.specs.Words.{has_subcommand, kind_of, subcommand_rows_of};
-ghost use Rattle.cfi.specs.CommandLine.{IsApp, address_rule, addresses_rule, asked_of, cfi_app};
-ghost use Rattle.cfi.specs.CommandLine.{check_app, command_view, dump_app, file_in, file_rule};
-ghost use Rattle.cfi.specs.CommandLine.{files_rule, row_app, rows_app, table_app, top_app};
-ghost use Rattle.cfi.specs.CommandLine.{values_in};
+ghost use Rattle.cfi.specs.CommandLine.{FailsAsCfi, IsApp, address_rule, addresses_rule, asked_of};
+ghost use Rattle.cfi.specs.CommandLine.{cfi_app, check_app, command_view, dump_app, file_in};
+ghost use Rattle.cfi.specs.CommandLine.{file_rule, files_rule, format_in, format_names};
+ghost use Rattle.cfi.specs.CommandLine.{format_rule};
+ghost use Rattle.cfi.specs.CommandLine.{has_value, raw_in, raw_rule, row_app, rows_app, table_app};
+ghost use Rattle.cfi.specs.CommandLine.{top_app, values_in};
 ghost use Rattle.cfi.specs.Words.{asked};
 
+use clap::builder::ValueParser;
 use clap::error::ErrorKind;
-use clap::{Arg, ArgMatches, Error};
+use clap::{Arg, ArgAction, ArgMatches, Error};
 use std::alloc::{AllocError, Global};
 use std::convert::AsStr;
 
-/// What the words of a command line ask for. The texts are those of the words.
+/// The form of what is printed.
+#[derive(Clone, Copy, Debug, PartialEq, Eq)]
+pub enum Format {
+    /// Lines of text.
+    Text,
+    /// Objects of JSON.
+    Json,
+}
+
+/// What the words of a command line ask for. The texts are those of the words, and `raw` says that
+/// registers are printed by their numbers.
 #[derive(Drop)]
 pub enum Command<'w> {
     /// `row FILE ADDRESS..`: the rows for addresses, of which there is one at least.
     Row {
+        raw: bool,
+        format: Format,
         file: &'w str,
         addresses: Vec<&'w str>,
     },
     /// `rows FILE [ADDRESS]`: all rows, or those of the entries that contain the address.
     Rows {
+        raw: bool,
+        format: Format,
         file: &'w str,
         address: Option<&'w str>,
     },
     /// `dump FILE`: every entry.
     Dump {
+        raw: bool,
         file: &'w str,
     },
     /// `check FILE..`: whether the table of each file is faithful; there is one file at least.
     Check {
+        format: Format,
         files: Vec<&'w str>,
     },
     /// `table FILE`: the compiled table.
     Table {
+        raw: bool,
         file: &'w str,
     },
 }
@@ -50,9 +70,9 @@ pub fn command_of<'w, S: AsStr>(alloc: Global, words: &'w [S]) -> Result<Command
         asked (map S.text words.entry.now) ≡ Some (command_view command)) }
     ensures taken { IsSome (asked (map S.text words.entry.now))
         → IfErr result (λ e. kind_of e ≡ ErrorKind.OutOfMemory) }
-    ensures kinds { FailsBy (fault_of cfi_app (map S.text words.entry.now)) result }
+    ensures kinds { FailsAsCfi (map S.text words.entry.now) result }
 {
-    let matches = cfi(alloc)?.try_get_matches_from(words)?;
+    let matches = cfi(alloc, format_names())?.try_get_matches_from(words)?;
     command_in(alloc, &matches)
 }
 
@@ -65,7 +85,10 @@ fn command_in<'w>(alloc: Global, matches: &ArgMatches<'w>) -> Result<Command<'w>
 {
     match matches.subcommand() {
         Some((name, arguments)) => Ok(named(alloc, name, arguments)?),
-        None => Err(cfi(alloc)?.error(ErrorKind::MissingSubcommand, "no subcommand")?),
+        None => Err(cfi(alloc, format_names())?.error(
+            ErrorKind::MissingSubcommand,
+            "no subcommand",
+        )?),
     }
 }
 
@@ -80,26 +103,61 @@ fn named<'w>(
 {
     if name == "row" {
         Ok(Command::Row {
+            raw: raw_in(arguments),
+            format: format_in(arguments),
             file: file_in(arguments),
             addresses: values_in(alloc, arguments, "ADDRESS")?,
         })
     } else if name == "rows" {
         Ok(Command::Rows {
+            raw: raw_in(arguments),
+            format: format_in(arguments),
             file: file_in(arguments),
             address: arguments.get_str("ADDRESS"),
         })
     } else if name == "dump" {
         Ok(Command::Dump {
+            raw: raw_in(arguments),
             file: file_in(arguments),
         })
     } else if name == "check" {
         Ok(Command::Check {
+            format: format_in(arguments),
             files: values_in(alloc, arguments, "FILE")?,
         })
     } else {
         Ok(Command::Table {
+            raw: raw_in(arguments),
             file: file_in(arguments),
         })
+    }
+}
+
+/// Returns whether registers are printed by their numbers.
+fn raw_in(arguments: &ArgMatches) -> bool
+    ensures { result ≡ raw_in (rows_of (found_of arguments.now)) }
+{
+    has_value(arguments, "raw", "true")
+}
+
+/// Returns the format that was named, or text.
+fn format_in(arguments: &ArgMatches) -> Format
+    ensures { result ≡ format_in (rows_of (found_of arguments.now)) }
+{
+    if has_value(arguments, "format", "json") {
+        Format::Json
+    } else {
+        Format::Text
+    }
+}
+
+/// Returns whether this is the first value that was given for an argument.
+fn has_value(arguments: &ArgMatches, id: &str, value: &str) -> bool
+    ensures { result ≡ has_value id.now value.now (rows_of (found_of arguments.now)) }
+{
+    match arguments.get_str(id) {
+        Some(text) => text == value,
+        None => false,
     }
 }
 
@@ -125,15 +183,22 @@ fn values_in<'w>(
     }
 }
 
-/// Returns the command line of the program.
-fn cfi<'w>(alloc: Global) -> Result<clap::Command<'w>, AllocError>
-    ensures { IfOk result (IsApp cfi_app) }
+/// Returns the names of the formats.
+fn format_names<'w>() -> &'w [&'w str]
+    ensures { map (λ name. name.now) result.now ≡ format_names }
+{
+    &["text", "json"]
+}
+
+/// Returns the command line of the program, with the names of the formats.
+fn cfi<'w>(alloc: Global, formats: &'w [&'w str]) -> Result<clap::Command<'w>, AllocError>
+    ensures { IfOk result (IsApp (cfi_app formats.entry)) }
 {
     top(alloc)?
-        .subcommand(row(alloc)?)?
-        .subcommand(rows(alloc)?)?
+        .subcommand(row(alloc, formats)?)?
+        .subcommand(rows(alloc, formats)?)?
         .subcommand(dump(alloc)?)?
-        .subcommand(check(alloc)?)?
+        .subcommand(check(alloc, formats)?)?
         .subcommand(table(alloc)?)
 }
 
@@ -148,20 +213,24 @@ fn top<'w>(alloc: Global) -> Result<clap::Command<'w>, AllocError>
     command.bin_name("cfi")
 }
 
-fn row<'w>(alloc: Global) -> Result<clap::Command<'w>, AllocError>
-    ensures { IfOk result (IsApp row_app) }
+fn row<'w>(alloc: Global, formats: &'w [&'w str]) -> Result<clap::Command<'w>, AllocError>
+    ensures { IfOk result (IsApp (row_app formats.entry)) }
 {
     clap::Command::new(alloc, "row")
         .about("Prints the row of each address: its range, the CFA and the rule of each register")
+        .arg(raw_flag(alloc))?
+        .arg(format_flag(alloc, formats))?
         .arg(file(alloc))?
         .arg(addresses(alloc))
 }
 
-fn rows<'w>(alloc: Global) -> Result<clap::Command<'w>, AllocError>
-    ensures { IfOk result (IsApp rows_app) }
+fn rows<'w>(alloc: Global, formats: &'w [&'w str]) -> Result<clap::Command<'w>, AllocError>
+    ensures { IfOk result (IsApp (rows_app formats.entry)) }
 {
     clap::Command::new(alloc, "rows")
         .about("Prints the rows of every function, or of the one at an address")
+        .arg(raw_flag(alloc))?
+        .arg(format_flag(alloc, formats))?
         .arg(file(alloc))?
         .arg(address(alloc))
 }
@@ -171,14 +240,16 @@ fn dump<'w>(alloc: Global) -> Result<clap::Command<'w>, AllocError>
 {
     clap::Command::new(alloc, "dump")
         .about("Prints every entry, with its instructions' rows")
+        .arg(raw_flag(alloc))?
         .arg(file(alloc))
 }
 
-fn check<'w>(alloc: Global) -> Result<clap::Command<'w>, AllocError>
-    ensures { IfOk result (IsApp check_app) }
+fn check<'w>(alloc: Global, formats: &'w [&'w str]) -> Result<clap::Command<'w>, AllocError>
+    ensures { IfOk result (IsApp (check_app formats.entry)) }
 {
     clap::Command::new(alloc, "check")
         .about("Checks that the table of .eh_frame_hdr lists the entries of .eh_frame faithfully")
+        .arg(format_flag(alloc, formats))?
         .arg(files(alloc))
 }
 
@@ -187,7 +258,29 @@ fn table<'w>(alloc: Global) -> Result<clap::Command<'w>, AllocError>
 {
     clap::Command::new(alloc, "table")
         .about("Prints the compiled table: the rows of all addresses, in their order")
+        .arg(raw_flag(alloc))?
         .arg(file(alloc))
+}
+
+fn raw_flag<'w>(alloc: Global) -> Arg<'w>
+    ensures rule { rule_of result ≡ raw_rule }
+    ensures local { result.global ≡ false }
+{
+    Arg::new(alloc, "raw")
+        .help("Prints registers by their numbers, and not by the machine's names")
+        .long("raw")
+        .action(ArgAction::SetTrue)
+}
+
+fn format_flag<'w>(alloc: Global, names: &'w [&'w str]) -> Arg<'w>
+    ensures rule { rule_of result ≡ format_rule names.entry }
+    ensures local { result.global ≡ false }
+{
+    Arg::new(alloc, "format")
+        .help("The form of what is printed: text, the default; json is not there yet")
+        .long("format")
+        .value_name("FORMAT")
+        .value_parser(ValueParser::Names(names))
 }
 
 fn file<'w>(alloc: Global) -> Arg<'w>

@@ -1,59 +1,60 @@
 //! The files of a command, and what a check of several of them found.
-ghost use Rattle.std.specs.Prelude.{◌≡◌, IfOk, Some, length};
+ghost use Rattle.std.specs.Prelude.{◌≡◌, ◌++◌, [], ◌∷◌, Some, length, map};
 ghost use Rattle.std.specs.List.{count_by};
-ghost use Rattle.cfi_files.specs.Findings.{has_table, is_faithful};
+ghost use Rattle.cfi_programs.specs.WriterOutput.{Writes};
+ghost use Rattle.cfi_files.specs.Findings.{ChecksSome, has_table, is_faithful};
 ghost use Rattle.cfi.specs.Findings.{greatest_status, tally_text};
+ghost use Rattle.cfi.specs.Process.{IsCheck, WritesChecks, disk_of};
 
+use crate::system::System;
 use cfi_files::{Finding, check_file};
-use std::alloc::AllocGlobal;
-use std::fs::File;
+use cfi_programs::lines::write_part;
 use std::io::Write;
-use std::rt::Files;
 use std::{fmt, io};
 
 /// The status of a run whose words are wrong, or whose files can't be read.
 pub const WRONG: u8 = 2;
 
-/// Opens the file at a path. Where it can't be opened, the reason is printed on standard error, as
-/// `cfi: FILE: SENTENCE`, and there is none.
-pub fn open<P: Files + Eprint>(rt: &P, path: &str) -> Option<P::File> {
-    match File::open(rt, path) {
-        Ok(file) => Some(file),
-        Err(error) => {
-            // There is no other place to say that standard error can't be written.
-            let _ = eprintln!(rt; "cfi: {path}: {error}");
-            None
-        }
-    }
-}
+/// The number of files above which the progress of a check is shown.
+const MANY: usize = 20;
 
 /// Checks the files in their order, prints a line for each, and returns what was found. A file that
-/// can't be opened has its line on standard error.
+/// can't be opened has its line on standard error, where progress is shown if there are many.
 ///
 /// Fails where the output can't be written, or memory for what was found is refused.
-pub fn check_files<P: Files + Eprint + AllocGlobal, W: Write>(
-    rt: &P,
+pub fn check_files<S: System, W: Write>(
+    system: &S,
     files: &[&str],
     output: &mut W,
 ) -> io::Result<Vec<Finding>>
-    ensures { IfOk result (λ findings. length findings.items ≡ length files.now) }
+    ensures { WritesChecks (disk_of (S.may_open system.now) S.File.remaining)
+        (map (λ file. file.now) files.now) (W.contents output.old) (W.contents output.new)
+        result }
 {
-    let mut findings = Vec::new(rt.alloc());
+    let shows_progress = files.len() > MANY;
+    let mut findings = Vec::new(system.alloc());
     for file in files {
-        let finding = check_one(rt, file, output)?;
+        if shows_progress {
+            system.show_progress(findings.len() + 1, files.len(), file);
+        }
+        let finding = check_one(system, file, output)?;
         findings.push(finding)?;
+    }
+    if shows_progress {
+        system.clear_progress();
     }
     Ok(findings)
 }
 
-/// Checks one file.
-fn check_one<P: Files + Eprint + AllocGlobal, W: Write>(
-    rt: &P,
-    file: &str,
-    output: &mut W,
-) -> io::Result<Finding> {
-    match open(rt, file) {
-        Some(mut input) => check_file(rt.alloc(), file, &mut input, output),
+/// Checks one file, and returns what was found.
+fn check_one<S: System, W: Write>(system: &S, file: &str, output: &mut W) -> io::Result<Finding>
+    ensures { ChecksSome
+        (λ finding line. IsCheck (disk_of (S.may_open system.now) S.File.remaining)
+        file.now finding line)
+        (W.contents output.old) (W.contents output.new) result }
+{
+    match system.open(file) {
+        Some(mut input) => check_file(system.alloc(), file, &mut input, output),
         None => Ok(Finding::Unreadable),
     }
 }
@@ -105,4 +106,12 @@ impl fmt::Display for Tally {
         let faithful = self.faithful;
         write!(f, "{files} files, {tables} tables, {faithful} faithful")
     }
+}
+
+/// Writes what was counted, as a line.
+pub fn write_tally<W: Write>(tally: Tally, output: &mut W) -> io::Result<()>
+    ensures { Writes (W.contents output.old) (W.contents output.new) result
+        (tally_text tally.files tally.tables tally.faithful ++ 10 ∷ []) }
+{
+    write_part(output, format_args!("{tally}\n"))
 }

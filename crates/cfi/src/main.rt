@@ -1,63 +1,83 @@
 //! Prints and checks the call frames of ELF files.
 #![tactic(auto)]
 
-ghost use Rattle.std.specs.Prelude.{◌≡◌, ◌≢◌};
+ghost use Rattle.std.specs.Prelude.{◌≡◌, ℕ, List, Option, Some, map};
+ghost use Rattle.std.specs.Io.KnownBytes.{Keeps};
 ghost use Rattle.clap.specs.Words.{kind_of};
-ghost use Rattle.clap.specs.declared.error.kind.ErrorKind.TheVariants.{DisplayHelp, DisplayVersion};
+ghost use Rattle.cfi_files.specs.FileLines.{PrintsSome};
+ghost use Rattle.cfi.specs.CommandLine.{command_view};
+ghost use Rattle.cfi.specs.Process.{AreTallied, IsAnswer, IsPrint, IsStatusAfter, IsStatusOf};
+ghost use Rattle.cfi.specs.Process.{PrintsRun, disk_of};
+ghost use Rattle.cfi.specs.Tasks.{of_request, task_for};
 
 mod command;
 mod files;
+mod system;
 mod task;
 
-use cfi_files::{Printed, run_on_file};
+use cfi_files::{Request, run_on_file};
 use clap::Error;
-use command::{Command, command_of};
-use files::{WRONG, check_files, count_findings, greatest_status, open};
+use command::{Command, Format, command_of};
+use files::{WRONG, check_files, count_findings, greatest_status, write_tally};
 use std::alloc::AllocGlobal;
-use std::io::{BufWriter, Write};
+use std::convert::AsStr;
+use std::io;
+use std::io::{BufWriter, IsTerminal, Write};
 use std::process::ExitCode;
-use std::rt::{Env, Files};
-use std::{env, io};
+use system::{Host, System};
 use task::{Task, task_of};
 
+/// How many bytes of the output are held back before they are written.
+const OUTPUT: usize = 65_536;
+
 fn main(rt: HostRuntime) -> ExitCode {
-    let Ok(mut output) = BufWriter::new(rt.alloc(), rt.stdout()) else {
+    let Ok(mut output) = BufWriter::with_capacity(rt.alloc(), OUTPUT, rt.stdout()) else {
         return ExitCode::from(WRONG);
     };
-    ExitCode::from(run(&rt, &mut output))
+    let has_reader = rt.stderr().is_terminal() && !rt.stdout().is_terminal();
+    ExitCode::from(run(&Host::new(&rt, has_reader), &mut output))
 }
 
 /// Runs the program by the words of the process, and returns the status with which it ends.
-fn run<P: Env + Files + Print + Eprint + AllocGlobal, W: Write>(rt: &P, output: &mut W) -> u8 {
-    let Ok(words) = words_of(rt) else {
-        return WRONG;
-    };
-    match command_of(rt.alloc(), words.as_slice()) {
-        Ok(command) => finish(run_command(rt, &command, output), output),
-        Err(error) => explain(rt, &error),
+fn run<S: System, W: Write>(system: &S, output: &mut W) -> u8
+    ensures { (words : Option (List (List ℕ))) × S.has_words system.now words
+        × PrintsRun (disk_of (S.may_open system.now) S.File.remaining) words
+        (W.contents output.old) (W.contents output.new) result }
+{
+    match system.words() {
+        Some(words) => run_words(system, words.as_slice(), output),
+        None => WRONG,
     }
 }
 
-/// Returns the words of the process, of which the first is its name.
-fn words_of(rt: &(impl Env + AllocGlobal)) -> io::Result<Vec<String>> {
-    let words = env::args(rt)?.collect(rt.alloc())?;
-    Ok(words)
+/// Runs the program by these words, of which the first is its name, and returns the status.
+fn run_words<S: System, T: AsStr, W: Write>(system: &S, words: &[T], output: &mut W) -> u8
+    ensures { PrintsRun (disk_of (S.may_open system.now) S.File.remaining)
+        (Some (map T.text words.entry.now)) (W.contents output.old) (W.contents output.new)
+        result }
+{
+    match command_of(system.alloc(), words) {
+        Ok(command) => finish(run_command(system, &command, output), output),
+        Err(error) => explain(system, &error),
+    }
 }
 
 /// Prints clap's text, help on standard output and a mistake on standard error, and returns the
 /// status.
-fn explain(rt: &(impl Print + Eprint), error: &Error) -> u8
-    ensures { (kind_of error.now ≢ DisplayHelp)
-        → (kind_of error.now ≢ DisplayVersion) → result ≡ 2 }
+fn explain<S: System>(system: &S, error: &Error) -> u8
+    ensures { IsStatusAfter (kind_of error.now) result }
 {
-    match error.print(rt) {
+    match system.print_error(error) {
         Ok(()) if !error.use_stderr() => 0,
         _ => WRONG,
     }
 }
 
 /// Writes what the output holds back, and returns the status; 2 where the output can't be written.
-fn finish<W: Write>(printed: io::Result<u8>, output: &mut W) -> u8 {
+fn finish<W: Write>(printed: io::Result<u8>, output: &mut W) -> u8
+    ensures status { IsStatusOf printed result }
+    ensures written { Keeps (W.contents output.old) (W.contents output.new) }
+{
     match (printed, output.flush()) {
         (Ok(status), Ok(())) => status,
         _ => WRONG,
@@ -65,38 +85,51 @@ fn finish<W: Write>(printed: io::Result<u8>, output: &mut W) -> u8 {
 }
 
 /// Does what the command says, and returns the status.
-fn run_command<P: Files + Eprint + AllocGlobal, W: Write>(
-    rt: &P,
-    command: &Command,
-    output: &mut W,
-) -> io::Result<u8> {
+fn run_command<S: System, W: Write>(system: &S, command: &Command, output: &mut W) -> io::Result<u8>
+    ensures { PrintsSome (λ line. IsAnswer (disk_of (S.may_open system.now) S.File.remaining)
+        (task_for (command_view command.now)) line)
+        (W.contents output.old) (W.contents output.new) result }
+{
     match task_of(command) {
-        Task::Print(file, printed) => print_file(rt, file, printed, output),
-        Task::Check(files) => print_checks(rt, files, output),
+        Task::Print(file, request, Format::Text) => print_file(system, file, request, output),
+        Task::Check(files, Format::Text) => print_checks(system, files, output),
+        Task::Print(_, _, Format::Json) => Ok(refuse_json(system)),
+        Task::Check(_, Format::Json) => Ok(refuse_json(system)),
     }
 }
 
+/// Says that JSON isn't printed yet, and returns the status.
+fn refuse_json<S: System>(system: &S) -> u8
+    ensures { result ≡ 2 }
+{
+    system.complain("--format=json isn't there yet");
+    WRONG
+}
+
 /// Opens the file, and prints what is asked for of it.
-fn print_file<P: Files + Eprint + AllocGlobal, W: Write>(
-    rt: &P,
+fn print_file<S: System, W: Write>(
+    system: &S,
     file: &str,
-    printed: Printed,
+    request: Request,
     output: &mut W,
-) -> io::Result<u8> {
-    match open(rt, file) {
-        Some(mut input) => run_on_file(rt.alloc(), printed, &mut input, output),
+) -> io::Result<u8>
+    ensures { PrintsSome (λ line. IsPrint (disk_of (S.may_open system.now) S.File.remaining)
+        file.now (of_request request.entry) line)
+        (W.contents output.old) (W.contents output.new) result }
+{
+    match system.open(file) {
+        Some(mut input) => run_on_file(system.alloc(), request, &mut input, output),
         None => Ok(WRONG),
     }
 }
 
 /// Checks the files, prints how many there are, and returns the greatest status.
-fn print_checks<P: Files + Eprint + AllocGlobal, W: Write>(
-    rt: &P,
-    files: &[&str],
-    output: &mut W,
-) -> io::Result<u8> {
-    let findings = check_files(rt, files, output)?;
-    let counted = count_findings(findings.as_slice());
-    writeln!(output, "{counted}")?;
+fn print_checks<S: System, W: Write>(system: &S, files: &[&str], output: &mut W) -> io::Result<u8>
+    ensures { PrintsSome (λ line. AreTallied (disk_of (S.may_open system.now) S.File.remaining)
+        (map (λ file. file.now) files.now) line)
+        (W.contents output.old) (W.contents output.new) result }
+{
+    let findings = check_files(system, files, output)?;
+    write_tally(count_findings(findings.as_slice()), output)?;
     Ok(greatest_status(findings.as_slice()))
 }

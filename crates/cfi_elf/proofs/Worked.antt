@@ -14,6 +14,8 @@ use Rattle.cfi_elf.specs.ElfFiles.{File, elf_file}
 use Rattle.cfi_elf.specs.Sections.{first_section_header, section_count, section_table, contents, name_at, name_section, names_at, section_names, is_named, header_named, section_named, debug_frame}
 use Rattle.cfi_elf.specs.Segments.{segment_count, program_table, wanted_segment, loaded_bytes, eh_frame_hdr_segment}
 use Rattle.cfi_elf.specs.Symbols.{symbol_64}
+use Rattle.cfi_elf.specs.SymbolTables.{Function}
+use Rattle.cfi_elf.specs.FunctionNames.{first_name, named_function}
 
 -- to name it on an `unfolding` line is to open all these
 unfoldable computing : ℕ
@@ -149,3 +151,36 @@ symbol_of_64_bits : read_from false (bytes_behind None (codes "01000000120007000
     ≡ Ok (record { st_name = 1; st_value = 0x401200; st_size = 0x30; st_info = 0x12; st_shndx = 7 })
 unfolding computing
 symbol_of_64_bits = refl
+
+-- ---- names of functions
+
+f_at_5 : named_function (0 ∷ 0x66 ∷ 0 ∷ []) (record { st_name = 1; st_value = 5; st_size = 2; st_info = 0x12; st_shndx = 7 }) ≡ Some (record { name = 0x66 ∷ []; address = 5; size = 2 })
+unfolding computing
+f_at_5 = refl
+
+-- of type STT_OBJECT
+no_function : named_function (0 ∷ 0x66 ∷ 0 ∷ []) (record { st_name = 1; st_value = 5; st_size = 2; st_info = 0x11; st_shndx = 7 }) ≡ None
+unfolding computing
+no_function = refl
+
+undefined : named_function (0 ∷ 0x66 ∷ 0 ∷ []) (record { st_name = 1; st_value = 5; st_size = 2; st_info = 0x12; st_shndx = 0 }) ≡ None
+unfolding computing
+undefined = refl
+
+nameless : named_function (0 ∷ 0x66 ∷ 0 ∷ []) (record { st_name = 0; st_value = 5; st_size = 2; st_info = 0x12; st_shndx = 7 }) ≡ None
+unfolding computing
+nameless = refl
+
+unreadable : named_function (0 ∷ 0x66 ∷ []) (record { st_name = 1; st_value = 5; st_size = 2; st_info = 0x12; st_shndx = 7 }) ≡ None
+unfolding computing
+unreadable = refl
+
+abbrev three_functions : List Function
+three_functions =
+    record { name = 0x66 ∷ []; address = 9; size = 1 } ∷ record { name = 0x67 ∷ []; address = 5; size = 1 } ∷ record { name = 0x68 ∷ []; address = 5; size = 2 } ∷ []
+
+first_of_two : first_name three_functions 5 ≡ Some (0x67 ∷ [])
+first_of_two = refl
+
+inside_a_function : first_name three_functions 6 ≡ None
+inside_a_function = refl

@@ -8,3 +8,4 @@ pub mod Sections
 pub mod Segments
 pub mod Symbols
 pub mod SymbolTables
+pub mod FunctionNames

@@ -40,7 +40,10 @@ symbol Elf64 = symbol_64
 abbrev pub is_defined : Symbol → Bool
 is_defined s = not (s.st_shndx == 0)
 
--- whether it is a defined function (STT_FUNC is 2, in the low four bits of st_info) that has the address
+-- whether it is a defined function (STT_FUNC is 2, in the low four bits of st_info)
+abbrev pub is_function : Symbol → Bool
+is_function s = (s.st_info % 16 == 2) && is_defined s
+
+-- that has the address
 abbrev pub is_function_at : ℕ → Symbol → Bool
-is_function_at address s =
-    (s.st_info % 16 == 2) && (is_defined s && (nat_le s.st_value address && nat_lt address (s.st_value + s.st_size)))
+is_function_at address s = is_function s && (nat_le s.st_value address && nat_lt address (s.st_value + s.st_size))

@@ -3,12 +3,15 @@
 //! (System V ABI, chapter 4 "Object Files" and chapter 5 "Program Loading and Dynamic Linking").
 //!
 //! `elf_file` reads the file header, `sections` finds sections by name, `segments` what is loaded
-//! at an address. Nothing is copied and nothing is allocated.
+//! at an address, `symbols` addresses by name and functions by address. Nothing is copied, and only
+//! the lists of functions are allocated.
 
 mod bytes;
 pub mod elf_file;
 pub mod error;
 pub mod file_header;
+mod function_names;
+mod functions;
 mod program_header;
 mod section_header;
 mod sections;
@@ -20,4 +23,5 @@ mod table;
 pub use elf_file::{ElfFile, Section};
 pub use error::ElfError;
 pub use file_header::{Class, FileHeader};
+pub use function_names::FunctionNames;
 pub use symbols::Function;

@@ -4,7 +4,7 @@ ghost use Rattle.cfi_read_core.specs.ReaderCalls.{map_ok};
 ghost use Rattle.cfi_elf.specs.Results.{entries, first_by, table_view};
 ghost use Rattle.cfi_elf.specs.ElfFiles.{file_view};
 ghost use Rattle.cfi_elf.specs.SectionHeaders.{section_header};
-ghost use Rattle.cfi_elf.specs.Symbols.{is_function_at, symbol};
+ghost use Rattle.cfi_elf.specs.Symbols.{is_function, is_function_at, symbol};
 ghost use Rattle.cfi_elf.specs.SymbolTables.{function_at, function_view, is_of_type};
 ghost use Rattle.cfi_elf.specs.SymbolTables.{is_symbol_named, symbol_address, symbol_section};
 ghost use Rattle.cfi_elf.specs.SymbolTables.{symbol_table, symbol_table_view, symbols_in};
@@ -88,7 +88,7 @@ impl<'input> ElfFile<'input> {
     }
 
     #[tactic(auto, unfolding(crate::specs::SymbolTables::symbol_table))]
-    fn symbol_table(&self) -> Result<SymbolTable<'input>, ElfError>
+    pub(crate) fn symbol_table(&self) -> Result<SymbolTable<'input>, ElfError>
         ensures { map_ok symbol_table_view result ≡ symbol_table (file_view self.now) }
     {
         let table = self.section_table()?;
@@ -212,8 +212,12 @@ fn function_among<R: Reader>(class: Class, count: u64, symbols: R, address: u64)
 fn is_function_at(symbol: &Symbol, address: u64) -> bool
     ensures { result ≡ is_function_at address symbol.now }
 {
-    symbol.st_info % 16 == STT_FUNC
-        && symbol.st_shndx != SHN_UNDEF
-        && symbol.st_value <= address
-        && address - symbol.st_value < symbol.st_size
+    is_function(symbol) && symbol.st_value <= address && address - symbol.st_value < symbol.st_size
+}
+
+/// Whether the symbol is a defined function.
+pub(crate) fn is_function(symbol: &Symbol) -> bool
+    ensures { result ≡ is_function symbol.now }
+{
+    symbol.st_info % 16 == STT_FUNC && symbol.st_shndx != SHN_UNDEF
 }

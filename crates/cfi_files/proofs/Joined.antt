@@ -1,5 +1,5 @@
 -- Outputs that are written one after the other.
-use Rattle.std.proofs.Common.{◌≡◌, ℕ, List, Option, Some, None, Result, Ok, Err, IfOk, IfSome, refl, sym, subst, max}
+use Rattle.std.proofs.Common.{◌≡◌, ℕ, List, Option, Some, None, Result, Ok, Err, IfOk, [], refl, sym, subst, max, unwrap_or}
 use Rattle.std.specs.Result.{IsErr}
 use Rattle.std.specs.Io.KnownBytes.{Appends}
 use Rattle.cfi_programs.specs.Lines.{Line}
@@ -8,6 +8,7 @@ use Rattle.cfi_read_core.specs.ReaderCalls.{map_ok}
 use Rattle.cfi_programs.proofs.WrittenLemmas.{appends_then}
 use Rattle.cfi_programs.proofs.DumpSectionWritten.{first_refused, last_written}
 use Rattle.cfi_files.specs.FileLines.{InTurn, IsUnder, PrintsSome, in_turn, under}
+use Rattle.cfi_files.specs.FileOutputs.{AreLeft}
 use Rattle.cfi_files.specs.Findings.{ChecksSome}
 use Rattle.cfi_files.specs.declared.finding.Finding.{Finding}
 
@@ -83,8 +84,11 @@ first_failed P Q old new e r err (first, (begun, status), is) (second, is') = (
   (first, second, is, is', refl),
 )
 
--- ---- what holds of all bytes holds of those that are known
+-- ---- what holds of all bytes holds of those that a reader has left, known or not
 
-pub if_known : (known : Option (List ℕ)) (P : List ℕ → Type 0) → ((bytes : List ℕ) → P bytes) → IfSome known P
-if_known None P each = tt
-if_known (Some bytes) P each = each bytes
+left_is : (known : Option (List ℕ)) → AreLeft known (unwrap_or known [])
+left_is None = tt
+left_is (Some bytes) = refl
+
+pub for_input : (known : Option (List ℕ)) (P : List ℕ → Type 0) → ((bytes : List ℕ) → P bytes) → (bytes : List ℕ) × AreLeft known bytes × P bytes
+for_input known P each = (unwrap_or known [], left_is known, each (unwrap_or known []))

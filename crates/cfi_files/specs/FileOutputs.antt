@@ -1,11 +1,15 @@
 -- Which output is right for the bytes of a file.
---     IsOutput printed bytes line      what is printed of these bytes
---     IsOwed printed bytes line      the same, or that there was no memory or no input
+--     IsOutput request bytes line      what is printed of these bytes
+--     IsOwed request bytes line      the same, or that there was no memory or no input
 --     IsNamedCheck name bytes finding line      what the check of a file finds, and its line behind the name of the file
-use Rattle.std.specs.Prelude.{◌≡◌, ◌⊎◌, ℕ, List, [], ◌∷◌, ◌++◌, Option, Some, None, Result, Ok, Err, codes}
+--     PrintsOwed request input old new result      what is owed for the bytes of an input was written, with its status
+--     ChecksNamed name input old new result      the check of an input, and its line, was written
+use Rattle.std.specs.Prelude.{◌≡◌, ◌⊎◌, ℕ, List, [], ◌∷◌, ◌++◌, Option, Some, None, Result, Ok, Err, IfSome, codes}
 use Rattle.std.specs.Borrow.{Bor}
 use Rattle.cfi_elf.specs.declared.error.ElfError.{ElfError}
+use Rattle.cfi_elf.specs.declared.function_names.FunctionNames.{FunctionNames}
 use Rattle.cfi_elf.specs.ElfFiles.{File, elf_file}
+use Rattle.cfi_elf.specs.FunctionNames.{function_name, name_in}
 use Rattle.cfi_programs.specs.Lines.{Line, wrong_input}
 use Rattle.cfi_programs.specs.Runs.{out_of_memory}
 use Rattle.cfi_programs.specs.Words.{texts}
@@ -16,34 +20,37 @@ use Rattle.cfi_programs.specs.CheckLines.{verdict_line}
 use Rattle.cfi_programs.specs.declared.dump.printed.Printed.{Printed as SectionPrinted}
 use Rattle.cfi_programs.specs.declared.dump.printed.Printed.TheVariants as sections
 use Rattle.cfi_programs.specs.DumpProgramOutput.{IsPrinted}
+use Rattle.cfi_programs.specs.declared.register_names.RegisterNames.{RegisterNames}
+use Rattle.cfi_files.specs.declared.request.Request.{Request}
 use Rattle.cfi_files.specs.declared.request.Printed.{Printed}
 use Rattle.cfi_files.specs.declared.request.Printed.TheVariants.{Row, Rows, Dump, Table}
 use Rattle.cfi_files.specs.declared.finding.Finding.{Finding}
 use Rattle.cfi_files.specs.declared.finding.Finding.TheVariants.{NoTable, Unreadable}
-use Rattle.cfi_files.specs.Findings.{finding_of}
+use Rattle.cfi_files.specs.Findings.{ChecksSome, finding_of}
 use Rattle.cfi_files.specs.CallFrames.{Frames}
-use Rattle.cfi_files.specs.FileLines.{IsUnder, InTurn, elf_refusal, no_address, no_call_frames, no_header}
+use Rattle.cfi_files.specs.FileLines.{IsUnder, InTurn, PrintsSome, elf_refusal, no_address, no_call_frames, no_header}
 use Rattle.cfi_files.specs.Found.{debug_frame_in, eh_frame_in}
 use Rattle.cfi_files.specs.RowOutputs.{AreWordLines}
+use Rattle.cfi_files.specs.MachineNames.{names_in}
 use Rattle.cfi_files.specs.Targets.{target_address}
 
 -- ---- sections
 
 -- what is printed of a section
-abbrev pub IsPart : SectionPrinted → Result Frames ElfError → Line → Type 0
-IsPart what (Ok frames) printed = IsPrinted what (section_of frames.words frames.section) printed
-IsPart what (Err e) printed = printed ≡ elf_refusal e
+abbrev pub IsPart : RegisterNames → SectionPrinted → Result Frames ElfError → Line → Type 0
+IsPart names what (Ok frames) printed = IsPrinted names what (section_of frames.words frames.section) printed
+IsPart names what (Err e) printed = printed ≡ elf_refusal e
 
 -- that of .eh_frame and of .debug_frame, where there are both each under a line with its name
-abbrev pub AreParts : SectionPrinted → Option (Result Frames ElfError) → Option (Result Frames ElfError) → Line → Type 0
-AreParts what None None printed = printed ≡ no_call_frames
-AreParts what (Some eh_frame) None printed = IsPart what eh_frame printed
-AreParts what None (Some debug_frame) printed = IsPart what debug_frame printed
-AreParts what (Some eh_frame) (Some debug_frame) printed =
-    InTurn (IsUnder (codes ".eh_frame" ++ 10 ∷ []) (IsPart what eh_frame)) (IsUnder (codes ".debug_frame" ++ 10 ∷ []) (IsPart what debug_frame)) printed
+abbrev pub AreParts : RegisterNames → SectionPrinted → Option (Result Frames ElfError) → Option (Result Frames ElfError) → Line → Type 0
+AreParts names what None None printed = printed ≡ no_call_frames
+AreParts names what (Some eh_frame) None printed = IsPart names what eh_frame printed
+AreParts names what None (Some debug_frame) printed = IsPart names what debug_frame printed
+AreParts names what (Some eh_frame) (Some debug_frame) printed =
+    InTurn (IsUnder (codes ".eh_frame" ++ 10 ∷ []) (IsPart names what eh_frame)) (IsUnder (codes ".debug_frame" ++ 10 ∷ []) (IsPart names what debug_frame)) printed
 
-abbrev pub AreSections : SectionPrinted → File → Line → Type 0
-AreSections what file printed = AreParts what (eh_frame_in file) (debug_frame_in file) printed
+abbrev pub AreSections : RegisterNames → SectionPrinted → File → Line → Type 0
+AreSections names what file printed = AreParts names what (eh_frame_in file) (debug_frame_in file) printed
 
 -- ---- whether the header's table is faithful
 
@@ -83,34 +90,67 @@ IsNamedCheck name bytes finding printed = IsUnder (name ++ codes ": ") (IsCheckO
 
 -- ---- the rows of FDEs
 
+-- by the names of the functions of the file
+abbrev pub AreNamesOf : File → FunctionNames → Type 0
+AreNamesOf file functions = (address : ℕ) → name_in functions address ≡ function_name file address
+
+abbrev pub AreNamedRows : RegisterNames → File → Option ℕ → Line → Type 0
+AreNamedRows names file address printed =
+    (functions : Bor FunctionNames) × AreNamesOf file functions.now × AreSections names (sections.Rows (record { address = address; functions = functions })) file printed
+
+-- or that memory was refused for these
+abbrev pub AreFdeRows : RegisterNames → File → Option ℕ → Line → Type 0
+AreFdeRows names file address printed = AreNamedRows names file address printed ⊎ (printed ≡ out_of_memory)
+
 -- at the address that a word names
-abbrev pub AreRowsAt : File → Result (Option ℕ) ElfError → Line → Type 0
-AreRowsAt file (Ok (Some address)) printed = AreSections (sections.Rows (Some address)) file printed
-AreRowsAt file (Ok None) printed = printed ≡ no_address
-AreRowsAt file (Err e) printed = printed ≡ elf_refusal e
+abbrev pub AreRowsAt : RegisterNames → File → Result (Option ℕ) ElfError → Line → Type 0
+AreRowsAt names file (Ok (Some address)) printed = AreFdeRows names file (Some address) printed
+AreRowsAt names file (Ok None) printed = printed ≡ no_address
+AreRowsAt names file (Err e) printed = printed ≡ elf_refusal e
 
 -- of all, where there is no word
-abbrev pub AreRows : File → Option (Bor (List ℕ)) → Line → Type 0
-AreRows file None printed = AreSections (sections.Rows None) file printed
-AreRows file (Some word) printed = AreRowsAt file (target_address file word.now) printed
+abbrev pub AreRows : RegisterNames → File → Option (Bor (List ℕ)) → Line → Type 0
+AreRows names file None printed = AreFdeRows names file None printed
+AreRows names file (Some word) printed = AreRowsAt names file (target_address file word.now) printed
 
 -- ---- a file
 
-abbrev pub IsOfFile : Printed → File → Line → Type 0
-IsOfFile (Row words) file printed = AreWordLines file (texts words.now) printed
-IsOfFile (Rows word) file printed = AreRows file word printed
-IsOfFile Dump file printed = AreSections sections.Entries file printed
-IsOfFile Table file printed = AreSections sections.Compiled file printed
+-- with these names of registers
+abbrev pub IsNamed : RegisterNames → Printed → File → Line → Type 0
+IsNamed names (Row words) file printed = AreWordLines names file (texts words.now) printed
+IsNamed names (Rows word) file printed = AreRows names file word printed
+IsNamed names Dump file printed = AreSections names sections.Entries file printed
+IsNamed names Table file printed = AreSections names sections.Compiled file printed
 
-abbrev pub IsOfParsed : Printed → Result File ElfError → Line → Type 0
-IsOfParsed what (Ok file) printed = IsOfFile what file printed
-IsOfParsed what (Err e) printed = printed ≡ elf_refusal e
+abbrev pub IsOfFile : Request → File → Line → Type 0
+IsOfFile request file printed = IsNamed (names_in file request.raw) request.printed file printed
 
-abbrev pub IsOutput : Printed → List ℕ → Line → Type 0
-IsOutput what bytes printed = IsOfParsed what (elf_file bytes) printed
+abbrev pub IsOfParsed : Request → Result File ElfError → Line → Type 0
+IsOfParsed request (Ok file) printed = IsOfFile request file printed
+IsOfParsed request (Err e) printed = printed ≡ elf_refusal e
+
+abbrev pub IsOutput : Request → List ℕ → Line → Type 0
+IsOutput request bytes printed = IsOfParsed request (elf_file bytes) printed
 
 -- ---- an input
 
 -- or that there was no memory, or the input can't be read
-abbrev pub IsOwed : Printed → List ℕ → Line → Type 0
-IsOwed what bytes printed = IsOutput what bytes printed ⊎ ((printed ≡ out_of_memory) ⊎ (printed ≡ wrong_input))
+abbrev pub IsOwed : Request → List ℕ → Line → Type 0
+IsOwed request bytes printed = IsOutput request bytes printed ⊎ ((printed ≡ out_of_memory) ⊎ (printed ≡ wrong_input))
+
+-- ---- what was written for an input
+
+-- the bytes are all that a reader has left, where it is known what that is
+abbrev pub AreLeft : Option (List ℕ) → List ℕ → Type 0
+AreLeft known bytes = IfSome known (λ left. bytes ≡ left)
+
+-- for some bytes, which are those of the input where these are known
+abbrev pub PrintsOwed : {E : Type 0} → Request → Option (List ℕ) → Option (List ℕ) → Option (List ℕ) → Result ℕ E → Type 0
+PrintsOwed request input old new result = (bytes : List ℕ) × AreLeft input bytes × PrintsSome (λ line. IsOwed request bytes line) old new result
+
+abbrev pub ChecksInput : {E : Type 0} → Option (List ℕ) → Option (List ℕ) → Option (List ℕ) → Result Finding E → Type 0
+ChecksInput input old new result = (bytes : List ℕ) × AreLeft input bytes × ChecksSome (λ finding line. IsCheckOfInput bytes finding line) old new result
+
+abbrev pub ChecksNamed : {E : Type 0} → List ℕ → Option (List ℕ) → Option (List ℕ) → Option (List ℕ) → Result Finding E → Type 0
+ChecksNamed name input old new result =
+    (bytes : List ℕ) × AreLeft input bytes × ChecksSome (λ finding line. IsNamedCheck name bytes finding line) old new result

@@ -1,5 +1,6 @@
 pub mod CallFrames
 pub mod Targets
+pub mod MachineNames
 pub mod FileLines
 pub mod Found
 pub mod RowOutputs

@@ -1,6 +1,6 @@
 -- Which lines are right for the rows of addresses in a file.
---     IsRowOfFile file address line      the row for an address
---     AreWordLines file words line      a line for each word that names an address
+--     IsRowOfFile names file address line      the row for an address
+--     AreWordLines names file words line      a line for each word that names an address
 use Rattle.std.specs.Prelude.{◌≡◌, ◌≢◌, ◌⊎◌, ℕ, true, List, [], ◌∷◌, Option, Some, None, Result, Ok, Err}
 use Rattle.cfi_read_core.specs.declared.error.Error.{Error}
 use Rattle.cfi_read_core.specs.declared.error.Error.TheVariants.{NoUnwindInfoForAddress}
@@ -12,6 +12,7 @@ use Rattle.cfi_elf.specs.ElfFiles.{File}
 use Rattle.cfi_programs.specs.Lines.{Line, refusal_line}
 use Rattle.cfi_programs.specs.RowLines.{answer_line}
 use Rattle.cfi_programs.specs.Runs.{out_of_memory}
+use Rattle.cfi_programs.specs.declared.register_names.RegisterNames.{RegisterNames}
 use Rattle.cfi_programs.specs.SectionOfWords.{header_section_of, section_of}
 use Rattle.cfi_files.specs.CallFrames.{Frames}
 use Rattle.cfi_files.specs.FileLines.{InTurn, elf_refusal, no_address, no_call_frames}
@@ -32,61 +33,61 @@ IsByTable frames base address answer =
 -- ---- in a file
 
 -- in .debug_frame
-abbrev pub IsPartRow : Result Frames ElfError → ℕ → Line → Type 0
-IsPartRow (Ok frames) address printed = (answer : Result (Row ℕ) Error) × IsScanned frames address answer × (printed ≡ answer_line answer)
-IsPartRow (Err e) address printed = printed ≡ elf_refusal e
+abbrev pub IsPartRow : RegisterNames → Result Frames ElfError → ℕ → Line → Type 0
+IsPartRow names (Ok frames) address printed = (answer : Result (Row ℕ) Error) × IsScanned frames address answer × (printed ≡ answer_line names answer)
+IsPartRow names (Err e) address printed = printed ≡ elf_refusal e
 
 -- the line where there is no .debug_frame
-abbrev pub IsPartRowOr : Line → Option (Result Frames ElfError) → ℕ → Line → Type 0
-IsPartRowOr otherwise None address printed = printed ≡ otherwise
-IsPartRowOr otherwise (Some debug_frame) address printed = IsPartRow debug_frame address printed
+abbrev pub IsPartRowOr : RegisterNames → Line → Option (Result Frames ElfError) → ℕ → Line → Type 0
+IsPartRowOr names otherwise None address printed = printed ≡ otherwise
+IsPartRowOr names otherwise (Some debug_frame) address printed = IsPartRow names debug_frame address printed
 
 -- where .eh_frame has this error in place of a row: .debug_frame is read if no FDE has the address
-abbrev pub OtherwiseIn : Option (Result Frames ElfError) → Error → ℕ → Line → Type 0
-OtherwiseIn debug_frame error address printed =
-    ((error ≡ NoUnwindInfoForAddress) × IsPartRowOr (refusal_line error) debug_frame address printed)
+abbrev pub OtherwiseIn : RegisterNames → Option (Result Frames ElfError) → Error → ℕ → Line → Type 0
+OtherwiseIn names debug_frame error address printed =
+    ((error ≡ NoUnwindInfoForAddress) × IsPartRowOr names (refusal_line error) debug_frame address printed)
     ⊎ ((error ≢ NoUnwindInfoForAddress) × (printed ≡ refusal_line error))
 
-abbrev pub IsAnswered : Option (Result Frames ElfError) → ℕ → Result (Row ℕ) Error → Line → Type 0
-IsAnswered debug_frame address (Ok row) printed = printed ≡ answer_line (Ok row)
-IsAnswered debug_frame address (Err error) printed = OtherwiseIn debug_frame error address printed
+abbrev pub IsAnswered : RegisterNames → Option (Result Frames ElfError) → ℕ → Result (Row ℕ) Error → Line → Type 0
+IsAnswered names debug_frame address (Ok row) printed = printed ≡ answer_line names (Ok row)
+IsAnswered names debug_frame address (Err error) printed = OtherwiseIn names debug_frame error address printed
 
 -- by a scan of .eh_frame
-abbrev pub IsRowOr : Frames → Option (Result Frames ElfError) → ℕ → Line → Type 0
-IsRowOr frames debug_frame address printed = (answer : Result (Row ℕ) Error) × IsScanned frames address answer × IsAnswered debug_frame address answer printed
+abbrev pub IsRowOr : RegisterNames → Frames → Option (Result Frames ElfError) → ℕ → Line → Type 0
+IsRowOr names frames debug_frame address printed = (answer : Result (Row ℕ) Error) × IsScanned frames address answer × IsAnswered names debug_frame address answer printed
 
 -- the row to which the table leads, or by a scan where it leads to none
-abbrev pub IsTableRowOr : Frames → Option (Result Frames ElfError) → ℕ → Result (Row ℕ) Error → Line → Type 0
-IsTableRowOr frames debug_frame address (Ok row) printed = printed ≡ answer_line (Ok row)
-IsTableRowOr frames debug_frame address (Err e) printed = IsRowOr frames debug_frame address printed
+abbrev pub IsTableRowOr : RegisterNames → Frames → Option (Result Frames ElfError) → ℕ → Result (Row ℕ) Error → Line → Type 0
+IsTableRowOr names frames debug_frame address (Ok row) printed = printed ≡ answer_line names (Ok row)
+IsTableRowOr names frames debug_frame address (Err e) printed = IsRowOr names frames debug_frame address printed
 
 -- by the table if .eh_frame has a header, and else by a scan
-abbrev pub IsRowByTableOrScan : Frames → Option ℕ → Option (Result Frames ElfError) → ℕ → Line → Type 0
-IsRowByTableOrScan frames None debug_frame address printed = IsRowOr frames debug_frame address printed
-IsRowByTableOrScan frames (Some base) debug_frame address printed =
-    (answer : Result (Row ℕ) Error) × IsByTable frames base address answer × IsTableRowOr frames debug_frame address answer printed
+abbrev pub IsRowByTableOrScan : RegisterNames → Frames → Option ℕ → Option (Result Frames ElfError) → ℕ → Line → Type 0
+IsRowByTableOrScan names frames None debug_frame address printed = IsRowOr names frames debug_frame address printed
+IsRowByTableOrScan names frames (Some base) debug_frame address printed =
+    (answer : Result (Row ℕ) Error) × IsByTable frames base address answer × IsTableRowOr names frames debug_frame address answer printed
 
-abbrev pub IsRowLine : Option (Result Frames ElfError) → Option (Result Frames ElfError) → ℕ → Line → Type 0
-IsRowLine None debug_frame address printed = IsPartRowOr no_call_frames debug_frame address printed
-IsRowLine (Some (Ok frames)) debug_frame address printed = IsRowByTableOrScan frames frames.words.header debug_frame address printed
-IsRowLine (Some (Err e)) debug_frame address printed = printed ≡ elf_refusal e
+abbrev pub IsRowLine : RegisterNames → Option (Result Frames ElfError) → Option (Result Frames ElfError) → ℕ → Line → Type 0
+IsRowLine names None debug_frame address printed = IsPartRowOr names no_call_frames debug_frame address printed
+IsRowLine names (Some (Ok frames)) debug_frame address printed = IsRowByTableOrScan names frames frames.words.header debug_frame address printed
+IsRowLine names (Some (Err e)) debug_frame address printed = printed ≡ elf_refusal e
 
 -- or that memory was refused
-abbrev pub IsRowOfFile : File → ℕ → Line → Type 0
-IsRowOfFile file address printed = IsRowLine (eh_frame_in file) (debug_frame_in file) address printed ⊎ (printed ≡ out_of_memory)
+abbrev pub IsRowOfFile : RegisterNames → File → ℕ → Line → Type 0
+IsRowOfFile names file address printed = IsRowLine names (eh_frame_in file) (debug_frame_in file) address printed ⊎ (printed ≡ out_of_memory)
 
 -- ---- words
 
 -- by the address that a word names
-abbrev pub IsWordLine : File → Result (Option ℕ) ElfError → Line → Type 0
-IsWordLine file (Ok (Some address)) printed = IsRowOfFile file address printed
-IsWordLine file (Ok None) printed = printed ≡ no_address
-IsWordLine file (Err e) printed = printed ≡ elf_refusal e
+abbrev pub IsWordLine : RegisterNames → File → Result (Option ℕ) ElfError → Line → Type 0
+IsWordLine names file (Ok (Some address)) printed = IsRowOfFile names file address printed
+IsWordLine names file (Ok None) printed = printed ≡ no_address
+IsWordLine names file (Err e) printed = printed ≡ elf_refusal e
 
 abbrev pub no_lines : Line
 no_lines = record { text = []; status = 0 }
 
 -- a line for each word, with the greatest status
-abbrev pub AreWordLines : File → List (List ℕ) → Line → Type 0
-AreWordLines file [] printed = printed ≡ no_lines
-AreWordLines file (word ∷ words) printed = InTurn (IsWordLine file (target_address file word)) (AreWordLines file words) printed
+abbrev pub AreWordLines : RegisterNames → File → List (List ℕ) → Line → Type 0
+AreWordLines names file [] printed = printed ≡ no_lines
+AreWordLines names file (word ∷ words) printed = InTurn (IsWordLine names file (target_address file word)) (AreWordLines names file words) printed

@@ -6,6 +6,7 @@
 pub mod call_frames;
 pub mod finding;
 mod lines;
+pub mod machine_names;
 pub mod request;
 mod row;
 pub mod run;
@@ -15,6 +16,6 @@ pub mod target;
 
 pub use call_frames::{CallFrames, debug_frame, eh_frame};
 pub use finding::Finding;
-pub use request::Printed;
+pub use request::{Printed, Request};
 pub use run::{check_file, run_on_file};
 pub use target::target_address;

@@ -1,15 +1,16 @@
 //! What is printed of a file that a reader gives.
-ghost use Rattle.std.specs.Prelude.{◌++◌, IfSome, codes};
+ghost use Rattle.std.specs.Prelude.{◌++◌, codes};
 ghost use Rattle.cfi_elf.specs.ElfFiles.{elf_file, file_view};
 ghost use Rattle.cfi_programs.specs.WriterOutput.{Writes};
 ghost use Rattle.cfi_files.specs.FileLines.{PrintsSome};
-ghost use Rattle.cfi_files.specs.FileOutputs.{IsCheckOfInput, IsCheckOfParsed, IsNamedCheck};
-ghost use Rattle.cfi_files.specs.FileOutputs.{IsOfFile, IsOutput, IsOwed};
+ghost use Rattle.cfi_files.specs.FileOutputs.{ChecksInput, ChecksNamed, IsCheckOfParsed};
+ghost use Rattle.cfi_files.specs.FileOutputs.{IsOfFile, IsOutput, PrintsOwed};
 ghost use Rattle.cfi_files.specs.Findings.{ChecksSome};
 
 use crate::finding::{Finding, found};
 use crate::lines::write_elf_refusal;
-use crate::request::Printed;
+use crate::machine_names::names_in;
+use crate::request::{Printed, Request};
 use crate::row::print_words;
 use crate::sections::{print_rows, print_sections};
 use crate::table_check::check_table;
@@ -31,19 +32,19 @@ use std::io::{Read, Write};
 /// Status 2: the input can't be read, which prints `wrong input`. Fails where the output can't be
 /// written: then a beginning has been written.
 ///
-/// Allocates for the input, for contexts and for compiled tables. Printing does not allocate.
+/// Allocates for the input, for contexts, for the names of functions and for compiled tables.
+/// Printing does not allocate.
 pub fn run_on_file<R: Read, W: Write>(
     alloc: Global,
-    printed: Printed<'_>,
+    request: Request<'_>,
     input: &mut R,
     output: &mut W,
 ) -> io::Result<u8>
-    ensures { IfSome (R.remaining input.old) (λ bytes.
-        PrintsSome (λ line. IsOwed printed.entry bytes line)
-        (W.contents output.old) (W.contents output.new) result) }
+    ensures { PrintsOwed request.entry (R.remaining input.old) (W.contents output.old)
+        (W.contents output.new) result }
 {
     match read_all(alloc, input) {
-        Ok(bytes) => print_bytes(alloc, printed, bytes.as_slice(), output),
+        Ok(bytes) => print_bytes(alloc, request, bytes.as_slice(), output),
         Err(InputError::OutOfMemory) => write_refusal(output, Error::OutOfMemory),
         Err(_) => write_wrong_input(output),
     }
@@ -52,15 +53,15 @@ pub fn run_on_file<R: Read, W: Write>(
 /// Prints what is asked for of the file that these bytes are.
 fn print_bytes<W: Write>(
     alloc: Global,
-    printed: Printed<'_>,
+    request: Request<'_>,
     bytes: &[u8],
     output: &mut W,
 ) -> io::Result<u8>
-    ensures { PrintsSome (λ line. IsOutput printed.entry bytes.now line)
+    ensures { PrintsSome (λ line. IsOutput request.entry bytes.now line)
         (W.contents output.old) (W.contents output.new) result }
 {
     match ElfFile::parse(bytes) {
-        Ok(file) => print_file(alloc, printed, &file, output),
+        Ok(file) => print_file(alloc, request, &file, output),
         Err(error) => write_elf_refusal(output, error),
     }
 }
@@ -68,18 +69,19 @@ fn print_bytes<W: Write>(
 /// Prints what is asked for of the file.
 fn print_file<W: Write>(
     alloc: Global,
-    printed: Printed<'_>,
+    request: Request<'_>,
     file: &ElfFile<'_>,
     output: &mut W,
 ) -> io::Result<u8>
-    ensures { PrintsSome (λ line. IsOfFile printed.entry (file_view file.now) line)
+    ensures { PrintsSome (λ line. IsOfFile request.entry (file_view file.now) line)
         (W.contents output.old) (W.contents output.new) result }
 {
-    match printed {
-        Printed::Row(words) => print_words(alloc, words, file, output),
-        Printed::Rows(word) => print_rows(alloc, word, file, output),
-        Printed::Dump => print_sections(alloc, SectionPrinted::Entries, file, output),
-        Printed::Table => print_sections(alloc, SectionPrinted::Compiled, file, output),
+    let names = names_in(file, request.raw);
+    match request.printed {
+        Printed::Row(words) => print_words(alloc, names, words, file, output),
+        Printed::Rows(word) => print_rows(alloc, names, word, file, output),
+        Printed::Dump => print_sections(alloc, names, SectionPrinted::Entries, file, output),
+        Printed::Table => print_sections(alloc, names, SectionPrinted::Compiled, file, output),
     }
 }
 
@@ -97,9 +99,8 @@ pub fn check_file<R: Read, W: Write>(
     input: &mut R,
     output: &mut W,
 ) -> io::Result<Finding>
-    ensures { IfSome (R.remaining input.old) (λ bytes.
-        ChecksSome (λ finding line. IsNamedCheck name.now bytes finding line)
-        (W.contents output.old) (W.contents output.new) result) }
+    ensures { ChecksNamed name.now (R.remaining input.old) (W.contents output.old)
+        (W.contents output.new) result }
 {
     write_name(name, output)?;
     check_input(alloc, input, output)
@@ -120,9 +121,8 @@ fn check_input<R: Read, W: Write>(
     input: &mut R,
     output: &mut W,
 ) -> io::Result<Finding>
-    ensures { IfSome (R.remaining input.old) (λ bytes.
-        ChecksSome (λ finding line. IsCheckOfInput bytes finding line)
-        (W.contents output.old) (W.contents output.new) result) }
+    ensures { ChecksInput (R.remaining input.old) (W.contents output.old)
+        (W.contents output.new) result }
 {
     match read_all(alloc, input) {
         Ok(bytes) => check_bytes(bytes.as_slice(), output),

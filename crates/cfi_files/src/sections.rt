@@ -5,17 +5,20 @@ ghost use Rattle.cfi_elf.specs.ElfFiles.{file_view};
 ghost use Rattle.cfi_programs.specs.Words.{AreRead};
 ghost use Rattle.cfi_files.specs.CallFrames.{frames_view};
 ghost use Rattle.cfi_files.specs.FileLines.{InTurn, IsUnder, PrintsSome};
-ghost use Rattle.cfi_files.specs.FileOutputs.{AreParts, AreRows, AreRowsAt, AreSections, IsPart};
+ghost use Rattle.cfi_files.specs.FileOutputs.{AreFdeRows, AreNamedRows, AreNamesOf, AreParts};
+ghost use Rattle.cfi_files.specs.FileOutputs.{AreRows, AreRowsAt, AreSections, IsPart};
 ghost use Rattle.cfi_files.specs.Found.{debug_frame_in, eh_frame_in};
 ghost use Rattle.cfi_files.specs.Targets.{target_address};
 
 use crate::call_frames::{CallFrames, debug_frame, eh_frame};
 use crate::lines::{write_elf_refusal, write_no_address, write_no_call_frames};
 use crate::target::target_address;
-use cfi_elf::{ElfError, ElfFile};
-use cfi_programs::dump::Printed;
+use cfi_elf::{ElfError, ElfFile, FunctionNames};
 use cfi_programs::dump::print::print_bytes;
-use cfi_programs::lines::write_text;
+use cfi_programs::dump::{AskedRows, Printed};
+use cfi_programs::lines::{write_refusal, write_text};
+use cfi_programs::register_names::RegisterNames;
+use gimli_cfi::Error;
 use std::alloc::Global;
 use std::io;
 use std::io::Write;
@@ -45,106 +48,158 @@ pub fn debug_frame_part<'file>(file: &ElfFile<'file>) -> Option<Result<CallFrame
 /// section that can't be had.
 pub fn print_sections<W: Write>(
     alloc: Global,
-    printed: Printed,
+    names: RegisterNames,
+    printed: Printed<'_>,
     file: &ElfFile<'_>,
     output: &mut W,
 ) -> io::Result<u8>
-    ensures { PrintsSome (λ line. AreSections printed (file_view file.now) line)
+    ensures { PrintsSome (λ line. AreSections names printed.entry (file_view file.now) line)
         (W.contents output.old) (W.contents output.new) result }
 {
     match (eh_frame_part(file), debug_frame_part(file)) {
         (None, None) => write_no_call_frames(output),
-        (Some(part), None) => print_part(alloc, printed, part, output),
-        (None, Some(part)) => print_part(alloc, printed, part, output),
-        (Some(first), Some(second)) => print_both(alloc, printed, first, second, output),
+        (Some(part), None) => print_part(alloc, names, printed, part, output),
+        (None, Some(part)) => print_part(alloc, names, printed, part, output),
+        (Some(first), Some(second)) => print_both(alloc, names, printed, first, second, output),
     }
 }
 
-/// Prints the rows of each FDE, as `print_sections` does; where there is a word, of those that
-/// contain the address that it names. Prints `no address` with the status 1 where the word names
-/// none, and `refused` and the name of the error where that can't be read.
+/// Prints the rows of each FDE, as `print_sections` does, each after the name of the function that
+/// begins there; where there is a word, of those that contain the address that it names. Prints
+/// `no address` with the status 1 where the word names none, and `refused` and the name of the
+/// error where that can't be read.
 pub fn print_rows<W: Write>(
     alloc: Global,
+    names: RegisterNames,
     word: Option<&str>,
     file: &ElfFile<'_>,
     output: &mut W,
 ) -> io::Result<u8>
-    ensures { PrintsSome (λ line. AreRows (file_view file.now) word.entry line)
+    ensures { PrintsSome (λ line. AreRows names (file_view file.now) word.entry line)
         (W.contents output.old) (W.contents output.new) result }
 {
     match word {
-        Some(word) => print_rows_at(alloc, word, file, output),
-        None => print_sections(alloc, Printed::Rows(None), file, output),
+        Some(word) => print_rows_at(alloc, names, word, file, output),
+        None => print_fde_rows(alloc, names, None, file, output),
     }
 }
 
 /// Prints the rows of the FDEs that contain the address that the word names.
 fn print_rows_at<W: Write>(
     alloc: Global,
+    names: RegisterNames,
     word: &str,
     file: &ElfFile<'_>,
     output: &mut W,
 ) -> io::Result<u8>
-    ensures { PrintsSome (λ line. AreRowsAt (file_view file.now)
+    ensures { PrintsSome (λ line. AreRowsAt names (file_view file.now)
         (target_address (file_view file.now) word.now) line)
         (W.contents output.old) (W.contents output.new) result }
 {
     match target_address(file, word) {
-        Ok(Some(address)) => print_sections(alloc, Printed::Rows(Some(address)), file, output),
+        Ok(Some(address)) => print_fde_rows(alloc, names, Some(address), file, output),
         Ok(None) => write_no_address(output),
         Err(error) => write_elf_refusal(output, error),
     }
 }
 
+/// Prints the rows of each FDE, or of those that contain the address, each after the name of the
+/// function that begins there. Prints `refused OutOfMemory` with the status 1 where there is no
+/// memory for the names of functions.
+fn print_fde_rows<W: Write>(
+    alloc: Global,
+    names: RegisterNames,
+    address: Option<u64>,
+    file: &ElfFile<'_>,
+    output: &mut W,
+) -> io::Result<u8>
+    ensures { PrintsSome (λ line. AreFdeRows names (file_view file.now) address line)
+        (W.contents output.old) (W.contents output.new) result }
+{
+    match FunctionNames::new(alloc, file) {
+        Ok(functions) => print_named_rows(alloc, names, address, &functions, file, output),
+        Err(_) => write_refusal(output, Error::OutOfMemory),
+    }
+}
+
+/// Prints the rows of each FDE, or of those that contain the address, each after the name of the
+/// function that begins there.
+fn print_named_rows<W: Write>(
+    alloc: Global,
+    names: RegisterNames,
+    address: Option<u64>,
+    functions: &FunctionNames<'_>,
+    file: &ElfFile<'_>,
+    output: &mut W,
+) -> io::Result<u8>
+    requires { AreNamesOf (file_view file.now) functions.now }
+    ensures { PrintsSome (λ line. AreNamedRows names (file_view file.now) address line)
+        (W.contents output.old) (W.contents output.new) result }
+{
+    let asked = AskedRows { address, functions };
+    print_sections(alloc, names, Printed::Rows(asked), file, output)
+}
+
 /// Prints both sections, each after a line with its name, and returns the greater status.
 fn print_both<W: Write>(
     alloc: Global,
-    printed: Printed,
+    names: RegisterNames,
+    printed: Printed<'_>,
     eh_frame: Result<CallFrames<'_>, ElfError>,
     debug_frame: Result<CallFrames<'_>, ElfError>,
     output: &mut W,
 ) -> io::Result<u8>
     requires eh_frame { IfOk eh_frame (λ frames. AreRead frames.words) }
     requires debug_frame { IfOk debug_frame (λ frames. AreRead frames.words) }
-    ensures { PrintsSome (λ line. AreParts printed (Some (map_ok frames_view eh_frame.entry))
+    ensures { PrintsSome (λ line. AreParts names printed.entry
+        (Some (map_ok frames_view eh_frame.entry))
         (Some (map_ok frames_view debug_frame.entry)) line)
         (W.contents output.old) (W.contents output.new) result }
 {
-    let first = print_under(alloc, b".eh_frame\n", printed, eh_frame, output)?;
-    let second = print_under(alloc, b".debug_frame\n", printed, debug_frame, output)?;
+    let first = print_under(alloc, names, b".eh_frame\n", printed, eh_frame, output)?;
+    let second = print_under(
+        alloc,
+        names,
+        b".debug_frame\n",
+        printed,
+        debug_frame,
+        output,
+    )?;
     Ok(first.max(second))
 }
 
 /// Prints the section after a line with its name.
 fn print_under<W: Write>(
     alloc: Global,
+    names: RegisterNames,
     name_line: &[u8],
-    printed: Printed,
+    printed: Printed<'_>,
     part: Result<CallFrames<'_>, ElfError>,
     output: &mut W,
 ) -> io::Result<u8>
     requires { IfOk part (λ frames. AreRead frames.words) }
     ensures { PrintsSome (λ line. IsUnder name_line.now
-        (λ body. IsPart printed (map_ok frames_view part.entry) body) line)
+        (λ body. IsPart names printed.entry (map_ok frames_view part.entry) body) line)
         (W.contents output.old) (W.contents output.new) result }
 {
     write_text(output, name_line)?;
-    print_part(alloc, printed, part, output)
+    print_part(alloc, names, printed, part, output)
 }
 
 /// Prints what is asked for of a section, or the error in its place.
 fn print_part<W: Write>(
     alloc: Global,
-    printed: Printed,
+    names: RegisterNames,
+    printed: Printed<'_>,
     part: Result<CallFrames<'_>, ElfError>,
     output: &mut W,
 ) -> io::Result<u8>
     requires { IfOk part (λ frames. AreRead frames.words) }
-    ensures { PrintsSome (λ line. IsPart printed (map_ok frames_view part.entry) line)
+    ensures { PrintsSome (λ line. IsPart names printed.entry (map_ok frames_view part.entry) line)
         (W.contents output.old) (W.contents output.new) result }
 {
     match part {
-        Ok(frames) => print_bytes(alloc, printed, &frames.words, frames.section, output),
+        Ok(frames) => print_bytes(alloc, names, printed, &frames.words, frames.section, output),
         Err(error) => write_elf_refusal(output, error),
     }
 }

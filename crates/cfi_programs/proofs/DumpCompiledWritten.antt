@@ -2,11 +2,12 @@
 use Rattle.std.proofs.Common.{◌≡◌, List, [], ◌∷◌, ◌++◌, ap}
 use Rattle.cfi_compiled.specs.Steps.{Step}
 use Rattle.cfi_programs.specs.DumpCompiledTexts.{step_text, steps_text}
+use Rattle.cfi_programs.specs.declared.register_names.RegisterNames.{RegisterNames}
 
-pub one_more : (before after : List Step) (step : Step) → before ≡ step ∷ after → steps_text before ≡ step_text step.start step.parts ++ steps_text after
+pub one_more : (names : RegisterNames) (before after : List Step) (step : Step) → before ≡ step ∷ after → steps_text names before ≡ step_text names step.start step.parts ++ steps_text names after
 unfolding steps_text
-one_more before after step is = ap steps_text is
+one_more names before after step is = ap (steps_text names) is
 
-pub none_left : (steps : List Step) → steps ≡ [] → steps_text steps ≡ []
+pub none_left : (names : RegisterNames) (steps : List Step) → steps ≡ [] → steps_text names steps ≡ []
 unfolding steps_text
-none_left steps is = ap steps_text is
+none_left names steps is = ap (steps_text names) is

@@ -1,9 +1,13 @@
 -- Printed lines, by computation.
-use Rattle.std.proofs.Common.{◌≡◌, ℕ, true, [], ◌∷◌, ◌++◌, Some, None, Ok, Err, refl, codes}
+use Rattle.std.proofs.Common.{◌≡◌, ℕ, negsuc, true, List, [], ◌∷◌, Option, ◌++◌, Some, None, Ok, Err, refl, codes}
 use Rattle.cfi_read_core.specs.declared.error.Error.TheVariants.{UnknownAugmentation}
+use Rattle.cfi_read_core.specs.declared.instruction.CallFrameInstruction.TheVariants as variant
 use Rattle.cfi_entry.specs.Fdes.{Fde}
 use Rattle.cfi_entry.specs.Sections.{Section}
+use Rattle.cfi_programs.specs.DumpInstructionLines.{instruction_line}
 use Rattle.cfi_programs.specs.DumpRowTexts.{addresses_line, fde_rows_text, is_asked_for}
+use Rattle.cfi_programs.specs.FunctionLines.{function_text}
+use Rattle.cfi_programs.specs.declared.register_names.RegisterNames.TheVariants.{Numbers, X86_64}
 use Rattle.cfi_programs.proofs.Computing.{computing}
 
 -- ---- the rows of an FDE of addresses of four bytes, whatever its other fields are
@@ -12,11 +16,18 @@ module _ (fde : Fde) (section : Section) where
   abbrev of_addresses : ℕ → ℕ → Fde
   of_addresses initial range = record fde { cie = record fde.cie { address_size = 4 }; initial = initial; range = range }
 
-  addresses : addresses_line (of_addresses 0x1000 0x10) ≡ codes "fde 0x1000 0x1010" ++ 10 ∷ []
+  abbrev nameless : ℕ → Option (List ℕ)
+  nameless address = None
+
+  addresses : addresses_line nameless (of_addresses 0x1000 0x10) ≡ codes "fde 0x1000 0x1010" ++ 10 ∷ []
   unfolding computing
   addresses = refl
 
-  wrapped_end : addresses_line (of_addresses 0xfffffff0 0x20) ≡ codes "fde 0xfffffff0 0x10" ++ 10 ∷ []
+  named : addresses_line (λ address. Some (codes "main")) (of_addresses 0x1000 0x10) ≡ codes "fde 0x1000 0x1010 main" ++ 10 ∷ []
+  unfolding computing
+  named = refl
+
+  wrapped_end : addresses_line nameless (of_addresses 0xfffffff0 0x20) ≡ codes "fde 0xfffffff0 0x10" ++ 10 ∷ []
   unfolding computing
   wrapped_end = refl
 
@@ -26,8 +37,30 @@ module _ (fde : Fde) (section : Section) where
   the_last : is_asked_for (Some 0x100f) (of_addresses 0x1000 0x10) ≡ true
   the_last = refl
 
-  the_one_after : fde_rows_text (Some 0x1010) section (Ok (of_addresses 0x1000 0x10)) ≡ []
+  the_one_after : fde_rows_text X86_64 nameless (Some 0x1010) section (Ok (of_addresses 0x1000 0x10)) ≡ []
   the_one_after = refl
 
-  unread : fde_rows_text (Some 0x1010) section (Err UnknownAugmentation) ≡ codes "refused UnknownAugmentation" ++ 10 ∷ []
+  unread : fde_rows_text X86_64 nameless (Some 0x1010) section (Err UnknownAugmentation) ≡ codes "refused UnknownAugmentation" ++ 10 ∷ []
   unread = refl
+
+-- ---- instructions
+
+factored : instruction_line Numbers (variant.Offset (record { 0 = 16 }) 1) ≡ codes "  DW_CFA_offset register=r16 factored_offset=1" ++ 10 ∷ []
+unfolding computing
+factored = refl
+
+below : instruction_line Numbers (variant.OffsetExtendedSf (record { 0 = 5 }) (negsuc 2)) ≡ codes "  DW_CFA_offset_extended_sf register=r5 factored_offset=-3" ++ 10 ∷ []
+unfolding computing
+below = refl
+
+two_registers : instruction_line X86_64 (variant.Register (record { 0 = 5 }) (record { 0 = 6 })) ≡ codes "  DW_CFA_register dest_register=rdi src_register=rbp" ++ 10 ∷ []
+unfolding computing
+two_registers = refl
+
+by_expression : instruction_line Numbers (variant.Expression (record { 0 = 5 }) (record { offset = 77; length = 2 })) ≡ codes "  DW_CFA_expression register=r5 expression=expr@77:2" ++ 10 ∷ []
+unfolding computing
+by_expression = refl
+
+-- escape, delete and two bytes above ASCII
+not_printable : function_text (Some (0x1b ∷ 0x61 ∷ 0x7f ∷ 0xc3 ∷ 0xa9 ∷ 0x7e ∷ [])) ≡ codes " ?a???~"
+not_printable = refl

@@ -1,12 +1,10 @@
 -- The text of a section's entries, one after the other.
-use Rattle.std.proofs.Common.{◌≡◌, ℕ, List, [], ◌∷◌, ◌++◌, map, Option, Some, None, Result, Ok, Err, IfOk, refl, sym, ap, ◌∙◌, subst, append_assoc, append-nil}
-use Rattle.std.specs.Prelude.{flat_map}
+use Rattle.std.proofs.Common.{◌≡◌, ℕ, List, [], ◌∷◌, ◌++◌, Option, Result, Ok, Err, IfOk, ◌∙◌, subst}
 use Rattle.std.specs.Result.{IsErr}
 use Rattle.std.specs.Io.KnownBytes.{Appends}
-use Rattle.cfi_read_core.specs.ReadFunctions.{Readings}
 use Rattle.cfi_read_core.specs.declared.error.Error.{Error}
 use Rattle.cfi_read_core.specs.CallFrameSections.{SectionView}
-use Rattle.cfi_parts.specs.InstructionReaders.{items, refusal_item}
+use Rattle.cfi_parts.specs.InstructionReaders.{items}
 use Rattle.cfi_parts.specs.declared.pointer.BaseAddresses.{BaseAddresses}
 use Rattle.cfi_entry.specs.Entries.{Entry, entries_left}
 use Rattle.cfi_entry.specs.Fdes.{Fde, PartialFde}
@@ -15,11 +13,13 @@ use Rattle.cfi_unwind.specs.Scan.{read_fde}
 use Rattle.cfi_unwind.specs.declared.entry.entries.EntryFields.{EntryFields}
 use Rattle.cfi_unwind.specs.declared.entry.entries.EntryFields.TheVariants as code
 use Rattle.cfi_entry.specs.Sections.{Section, section_of}
-use Rattle.cfi_programs.specs.Lines.{refusal_line}
 use Rattle.cfi_programs.specs.WriterOutput.{IsBeginning, Writes}
 use Rattle.cfi_programs.proofs.WrittenLemmas.{IsGiven, beginning_then, given_all, given_first, given_then, writes_last, writes_refused}
-use Rattle.cfi_programs.specs.DumpSectionTexts.{entries_text, fde_text, item_text, refusal_text}
+use Rattle.cfi_programs.specs.DumpSectionTexts.{fde_text}
+use Rattle.cfi_programs.specs.ReadingTexts.{item_text, readings_text}
+use Rattle.cfi_programs.proofs.ReadingsWritten.{none_left, one_more}
 use Rattle.cfi_programs.specs.DumpRowTexts.{fde_rows_text}
+use Rattle.cfi_programs.specs.declared.register_names.RegisterNames.{RegisterNames}
 
 -- ---- a text of two parts
 
@@ -31,42 +31,28 @@ pub last_written : {T E : Type 0} (old mid new : Option (List ℕ)) (r : Result 
 last_written old mid new r first last written more = writes_last old mid new r last (first ++ last) (given_then old old mid first last (first ++ last) (given_first old (first ++ last)) written) more
 
 -- an FDE, by what reading it gave
-pub as_read : {T E : Type 0} (old new : Option (List ℕ)) (r : Result T E) (section : Section) (found : PartialFde) (reading : Result Fde Error) → reading ≡ read_fde section found
-    → Writes old new r (fde_text section found reading) → Writes old new r (fde_text section found (read_fde section found))
-as_read old new r section found reading is written = subst (λ x. Writes old new r (fde_text section found x)) is written
+pub as_read : {T E : Type 0} (old new : Option (List ℕ)) (r : Result T E) (names : RegisterNames) (section : Section) (found : PartialFde) (reading : Result Fde Error) → reading ≡ read_fde section found
+    → Writes old new r (fde_text names section found reading) → Writes old new r (fde_text names section found (read_fde section found))
+as_read old new r names section found reading is written = subst (λ x. Writes old new r (fde_text names section found x)) is written
 
-pub rows_as_read : {T E : Type 0} (old new : Option (List ℕ)) (r : Result T E) (address : Option ℕ) (section : Section) (found : PartialFde) (reading : Result Fde Error) → reading ≡ read_fde section found
-    → Writes old new r (fde_rows_text address section reading) → Writes old new r (fde_rows_text address section (read_fde section found))
-rows_as_read old new r address section found reading is written = subst (λ x. Writes old new r (fde_rows_text address section x)) is written
+pub rows_as_read : {T E : Type 0} (old new : Option (List ℕ)) (r : Result T E) (names : RegisterNames) (function : ℕ → Option (List ℕ)) (address : Option ℕ) (section : Section) (found : PartialFde) (reading : Result Fde Error) → reading ≡ read_fde section found
+    → Writes old new r (fde_rows_text names function address section reading) → Writes old new r (fde_rows_text names function address section (read_fde section found))
+rows_as_read old new r names function address section found reading is written = subst (λ x. Writes old new r (fde_rows_text names function address section x)) is written
 
 -- ---- a section's entries, by the text of one
 
-module _ (by : Entry → List ℕ) where
-  item_by_item : (values : List Entry) (refusal : Option Error) →
-      flat_map by values ++ refusal_text refusal ≡ flat_map (item_text by) (map Ok values ++ refusal_item refusal)
-  item_by_item [] None = refl
-  item_by_item [] (Some e) = sym (append-nil (refusal_line e).text)
-  item_by_item (entry ∷ values) refusal =
-      append_assoc (by entry) (flat_map by values) (refusal_text refusal)
-      ∙ ap (λ xs. by entry ++ xs) (item_by_item values refusal)
-
-  by_items : (readings : Readings Entry) → entries_text by readings ≡ flat_map (item_text by) (items readings)
-  unfolding entries_text
-  by_items readings = item_by_item readings.values readings.refusal
-
-  none_left : (before : Readings Entry) → items before ≡ [] → entries_text by before ≡ []
-  none_left before is = by_items before ∙ ap (flat_map (item_text by)) is
-
-  one_more : (before after : Readings Entry) (item : Result Entry Error) → items before ≡ item ∷ items after → entries_text by before ≡ item_text by item ++ entries_text by after
-  one_more before after item is =
-      by_items before ∙ ap (flat_map (item_text by)) is ∙ ap (λ xs. item_text by item ++ xs) (sym (by_items after))
-
--- an entry's FDE is of the section, whatever holds of a CIE
-pub of_section : {C F S : Type 0} (P : C → Type 0) (section_of_fde : F → S) (bases_of_fde : F → BaseAddresses) (s t : S) (a b : BaseAddresses) (item : Result (EntryFields C F) Error) → s ≡ t → a ≡ b
-    → IfOk item (OfEither P (λ f. (section_of_fde f ≡ s) × (bases_of_fde f ≡ a))) → IfOk item (OfEither (λ _. Unit {0}) (λ f. (section_of_fde f ≡ t) × (bases_of_fde f ≡ b)))
-of_section P section_of_fde bases_of_fde s t a b (Ok (code.Cie cie)) same based h = tt
+-- an entry is of the same section by another name for it
+pub of_section : {C F S : Type 0} (P : S → C → Type 0) (section_of_fde : F → S) (bases_of_fde : F → BaseAddresses) (s t : S) (a b : BaseAddresses) (item : Result (EntryFields C F) Error) → s ≡ t → a ≡ b
+    → IfOk item (OfEither (P s) (λ f. (section_of_fde f ≡ s) × (bases_of_fde f ≡ a))) → IfOk item (OfEither (P t) (λ f. (section_of_fde f ≡ t) × (bases_of_fde f ≡ b)))
+of_section P section_of_fde bases_of_fde s t a b (Ok (code.Cie cie)) same based h = subst (λ x. P x cie) same h
 of_section P section_of_fde bases_of_fde s t a b (Ok (code.Fde partial)) same based h = (h.0 ∙ same, h.1 ∙ based)
 of_section P section_of_fde bases_of_fde s t a b (Err e) same based h = tt
+
+-- an entry's FDE is of the section, whatever holds of a CIE
+pub of_fdes : {C F : Type 0} (P : C → Type 0) (Q : F → Type 0) (item : Result (EntryFields C F) Error) → IfOk item (OfEither P Q) → IfOk item (OfEither (λ _. Unit {0}) Q)
+of_fdes P Q (Ok (code.Cie cie)) h = tt
+of_fdes P Q (Ok (code.Fde partial)) h = h
+of_fdes P Q (Err e) h = tt
 
 -- an iterator over the section, at s and then at t
 module _ {S : Type 0} (view : S → SectionView) (section : S) (bases : BaseAddresses) (by : Entry → List ℕ) (old now : Option (List ℕ)) (text : List ℕ) where
@@ -74,12 +60,12 @@ module _ {S : Type 0} (view : S → SectionView) (section : S) (bases : BaseAddr
   from = section_of (view section) bases
 
   pub all_written : (s : S) (at : BaseAddresses) (place : ℕ) → s ≡ section → at ≡ bases → items (entries_left (section_of (view s) at) place) ≡ []
-      → IsGiven old now (entries_text by (entries_left from place)) text → Appends old now text
-  all_written s at place same based is given = given_all old now (entries_text by (entries_left from place)) text given (none_left by (entries_left from place) (rw (same, based) at is))
+      → IsGiven old now (readings_text by (entries_left from place)) text → Appends old now text
+  all_written s at place same based is given = given_all old now (readings_text by (entries_left from place)) text given (none_left by (entries_left from place) (rw (same, based) at is))
 
   pub to_write : (s t : S) (s_bases t_bases : BaseAddresses) (place next : ℕ) (item : Result Entry Error) → s ≡ section → s_bases ≡ bases → t ≡ s → t_bases ≡ s_bases
       → items (entries_left (section_of (view s) s_bases) place) ≡ item ∷ items (entries_left (section_of (view t) t_bases) next)
-      → IsGiven old now (entries_text by (entries_left from place)) text → IsGiven old now (item_text by item ++ entries_text by (entries_left from next)) text
+      → IsGiven old now (readings_text by (entries_left from place)) text → IsGiven old now (item_text by item ++ readings_text by (entries_left from next)) text
   to_write s t s_bases t_bases place next item same based kept kept_bases is given =
       let here : items (entries_left from place) ≡ item ∷ items (entries_left from next) = rw (kept, kept_bases, same, based) at is in
       subst (λ xs. IsGiven old now xs text) (one_more by (entries_left from place) (entries_left from next) item here) given

@@ -1,4 +1,5 @@
 mod Computing
+pub mod DigitLemmas
 pub mod InputLemmas
 pub mod DecodingLemmas
 pub mod RunLemmas
@@ -9,6 +10,7 @@ pub mod SectionWordsLemmas
 pub mod WordLemmas
 pub mod WrittenLemmas
 mod RowsPrinted
+mod RegistersNamed
 pub mod RowsRequestLemmas
 pub mod RowsCommandLineLemmas
 pub mod RowsAnswerLemmas
@@ -16,6 +18,9 @@ mod RowsOnHeap
 mod CheckPrinted
 pub mod CheckVerdictLemmas
 pub mod DumpRowsWritten
+pub mod ReadingsWritten
+pub mod DumpInstructionsWritten
 pub mod DumpSectionWritten
 pub mod DumpCompiledWritten
 mod DumpPrinted
+mod FunctionLineLemmas

@@ -4,7 +4,7 @@ use Rattle.std.proofs.Math.Seq.{take-length}
 use Rattle.std.proofs.lemmas.List.{take-append-drop}
 use Rattle.std.specs.Io.KnownBytes.{Appends, Keeps}
 use Rattle.std.specs.Result.{IsErr}
-use Rattle.cfi_programs.specs.WriterOutput.{IsBeginning, Writes}
+use Rattle.cfi_programs.specs.WriterOutput.{IsBeginning, Writes, WritesBehind}
 
 pub appends_then : (a b c : Option (List ℕ)) (x y : List ℕ) → Appends a b x → Appends b c y → Appends a c (x ++ y)
 appends_then None b c x y p q = tt
@@ -103,3 +103,53 @@ pub regrouped_six : {T E : Type 0} (old new : Option (List ℕ)) (r : Result T E
 regrouped_six old new r a b c d e f n h =
     rw (append_assoc ((((a ++ b) ++ c) ++ d) ++ e) f n)
     (regrouped_five old new r a b c d e (f ++ n) h)
+
+-- ---- a text that waits
+
+pub behind_refused : {T E : Type 0} (waiting waits : List ℕ) (old new : Option (List ℕ)) (r : Result T E) (text : List ℕ) → IsErr r →
+    ((front : List ℕ) × Appends old new front × IsBeginning front (waiting ++ text)) → WritesBehind waiting waits old new r text
+behind_refused waiting waits old new (Ok x) text h more = cc
+behind_refused waiting waits old new (Err e) text h more = more
+
+-- where a part of it was written, and the rest waits
+pub behind_less : (old new newer : Option (List ℕ)) (waiting waits left text : List ℕ) → IsGiven old new (waiting ++ left) text →
+    ((front : List ℕ) × Appends new newer front × (front ++ waits ≡ waiting ++ [])) → IsGiven old newer (waits ++ left) text
+behind_less old new newer waiting waits left text is (front, more, same) = record {
+  front = is.front ++ front;
+  given = appends_then old new newer is.front front is.given more;
+  whole = append_assoc is.front front (waits ++ left) ∙ ap (λ xs. is.front ++ xs) (sym (append_assoc front waits left) ∙ ap (λ xs. xs ++ left) (same ∙ append-nil waiting)) ∙ is.whole;
+}
+
+-- where the writer failed at it
+pub behind_begun : (old new newer : Option (List ℕ)) (waiting left text : List ℕ) → IsGiven old new (waiting ++ left) text →
+    ((front : List ℕ) × Appends new newer front × IsBeginning front (waiting ++ [])) → (front : List ℕ) × Appends old newer front × IsBeginning front text
+behind_begun old new newer waiting left text is (front, more, (rest, cut)) =
+    beginning_then old new newer waiting left text is (front, more, (rest, cut ∙ append-nil waiting))
+
+-- where the next part waits too
+pub behind_more : (old new : Option (List ℕ)) (waiting waits part left more text : List ℕ) → IsGiven old new (waiting ++ more) text →
+    waits ≡ waiting ++ part → more ≡ part ++ left → IsGiven old new (waits ++ left) text
+behind_more old new waiting waits part left more text is e f = record {
+  front = is.front;
+  given = is.given;
+  whole = ap (λ xs. is.front ++ xs) (ap (λ xs. xs ++ left) e ∙ append_assoc waiting part left ∙ ap (λ xs. waiting ++ xs) (sym f)) ∙ is.whole;
+}
+
+-- where nothing more is left
+pub behind_all : (old new : Option (List ℕ)) (waits left text : List ℕ) → IsGiven old new (waits ++ left) text → left ≡ [] →
+    (front : List ℕ) × Appends old new front × (front ++ waits ≡ text)
+behind_all old new waits left text is none =
+    (is.front, is.given, ap (λ xs. is.front ++ xs) (sym (append-nil waits) ∙ ap (λ xs. waits ++ xs) (sym none)) ∙ is.whole)
+
+-- a line of which the front waits, and its end
+pub line_given : (old new : Option (List ℕ)) (waits text end : List ℕ) → ((front : List ℕ) × Appends old new front × (front ++ waits ≡ text)) →
+    IsGiven old new (waits ++ end) (text ++ end)
+line_given old new waits text end (front, given, same) = record {
+  front = front;
+  given = given;
+  whole = sym (append_assoc front waits end) ∙ ap (λ xs. xs ++ end) same;
+}
+
+pub line_begun : (old new : Option (List ℕ)) (text end : List ℕ) → ((front : List ℕ) × Appends old new front × IsBeginning front text) →
+    (front : List ℕ) × Appends old new front × IsBeginning front (text ++ end)
+line_begun old new text end (front, given, (rest, cut)) = (front, given, (rest ++ end, sym (append_assoc front rest end) ∙ ap (λ xs. xs ++ end) cut))

@@ -7,6 +7,8 @@ use Rattle.cfi_entry.specs.Augmentations.{address_encoding_of, lsda_encoding_of,
 use Rattle.cfi_entry.specs.Cies.{Cie}
 use Rattle.cfi_entry.specs.Fdes.{Fde, end_of}
 use Rattle.cfi_programs.specs.Lines.{address_text}
+use Rattle.cfi_programs.specs.RegisterNames.{register_text}
+use Rattle.cfi_programs.specs.declared.register_names.RegisterNames.{RegisterNames}
 
 -- ---- what only some entries have
 
@@ -45,9 +47,9 @@ abbrev pub cie_head : Cie → List ℕ
 cie_head cie =
     codes "cie " ++ address_text cie.offset ++ codes " length=" ++ decimal cie.length ++ codes " version=" ++ decimal cie.version ++ codes " size=" ++ decimal cie.address_size
 
-abbrev pub cie_factors : Cie → List ℕ
-cie_factors cie =
-    codes " code=" ++ decimal cie.code_alignment_factor ++ codes " data=" ++ signed_decimal cie.data_alignment_factor ++ codes " return=r" ++ decimal cie.return_address_register.0
+abbrev pub cie_factors : RegisterNames → Cie → List ℕ
+cie_factors names cie =
+    codes " code=" ++ decimal cie.code_alignment_factor ++ codes " data=" ++ signed_decimal cie.data_alignment_factor ++ codes " return=" ++ register_text names cie.return_address_register.0
 
 -- what its augmentation means
 abbrev pub cie_augmentation : Cie → List ℕ
@@ -55,8 +57,8 @@ cie_augmentation cie =
     addresses_text (address_encoding_of cie.augmentation) ++ lsda_encoding_text (lsda_encoding_of cie.augmentation) ++ personality_text (personality_of cie.augmentation)
     ++ signal_text (is_trampoline cie.augmentation) ++ b_key_text (has_b_key cie.augmentation) ++ 10 ∷ []
 
-abbrev pub cie_line : Cie → List ℕ
-cie_line cie = cie_head cie ++ (cie_factors cie ++ cie_augmentation cie)
+abbrev pub cie_line : RegisterNames → Cie → List ℕ
+cie_line names cie = cie_head cie ++ (cie_factors names cie ++ cie_augmentation cie)
 
 -- ---- an FDE
 

@@ -1,24 +1,32 @@
--- What is printed of the rows of a section: for each FDE, or each that contains an address, a line with its addresses,
--- and then its rows.
---     fde_rows_text address section reading      of an FDE that was read, or the refusal in its place
---     rows_text address section      of all FDEs in order
---     listed_text listed section      that, or each entry and its rows
+-- What is printed of the rows of a section: for each FDE, or each that contains an address, a line with its addresses
+-- and the name of the function that begins there, and then its rows.
+--     fde_rows_text names function address section reading      of an FDE that was read, or the refusal in its place
+--     rows_text names function address section      of all FDEs in order
+--     listed_text names listed section      that, or each entry with its instructions and rows
 use Rattle.std.specs.Prelude.{ℕ, Bool, true, Option, Some, None, List, [], ◌∷◌, ◌++◌, Result, Ok, Err, codes, if◌then◌else◌}
 use Rattle.cfi_read_core.specs.declared.error.Error.{Error}
 use Rattle.cfi_entry.specs.Entries.{Entry, CieEntry, FdeEntry, entries}
 use Rattle.cfi_entry.specs.Fdes.{Fde, covers, end_of}
 use Rattle.cfi_entry.specs.Sections.{Section}
 use Rattle.cfi_unwind.specs.Scan.{read_fde}
+use Rattle.cfi_elf.specs.FunctionNames.{name_in}
 use Rattle.cfi_programs.specs.Lines.{address_text, refusal_line}
-use Rattle.cfi_programs.specs.DumpSectionTexts.{entries_text, entry_text, fde_rows, lines}
+use Rattle.cfi_programs.specs.FunctionLines.{function_text}
+use Rattle.cfi_programs.specs.DumpSectionTexts.{entry_text, fde_rows, lines}
+use Rattle.cfi_programs.specs.ReadingTexts.{readings_text}
+use Rattle.cfi_programs.specs.declared.register_names.RegisterNames.{RegisterNames}
 use Rattle.cfi_programs.specs.declared.dump.section.Listed.{Listed}
 use Rattle.cfi_programs.specs.declared.dump.section.Listed.TheVariants as listings
 
 -- ---- the rows of FDEs
 
 -- the first address, and the first one after the last
-abbrev pub addresses_line : Fde → List ℕ
-addresses_line fde = codes "fde " ++ address_text fde.initial ++ codes " " ++ address_text (end_of fde) ++ 10 ∷ []
+abbrev pub addresses_text : ℕ → ℕ → List ℕ
+addresses_text start end = codes "fde " ++ address_text start ++ codes " " ++ address_text end
+
+-- and the name of the function that begins at the first, by the function's address
+abbrev pub addresses_line : (ℕ → Option (List ℕ)) → Fde → List ℕ
+addresses_line function fde = addresses_text fde.initial (end_of fde) ++ (function_text (function fde.initial) ++ 10 ∷ [])
 
 -- an FDE that contains the address; any, where there is none
 abbrev pub is_asked_for : Option ℕ → Fde → Bool
@@ -26,22 +34,23 @@ is_asked_for None fde = true
 is_asked_for (Some address) fde = covers fde address
 
 -- an FDE that can't be read may be the one of the address
-abbrev pub fde_rows_text : Option ℕ → Section → Result Fde Error → List ℕ
-fde_rows_text address section (Ok fde) = if is_asked_for address fde then addresses_line fde ++ lines (fde_rows section fde) else []
-fde_rows_text address section (Err error) = (refusal_line error).text
+abbrev pub fde_rows_text : RegisterNames → (ℕ → Option (List ℕ)) → Option ℕ → Section → Result Fde Error → List ℕ
+fde_rows_text names function address section (Ok fde) =
+    if is_asked_for address fde then addresses_line function fde ++ lines names (fde_rows section fde) else []
+fde_rows_text names function address section (Err error) = (refusal_line error).text
 
-abbrev pub entry_rows_text : Option ℕ → Section → Entry → List ℕ
-entry_rows_text address section (CieEntry cie) = []
-entry_rows_text address section (FdeEntry partial) = fde_rows_text address section (read_fde section partial)
+abbrev pub entry_rows_text : RegisterNames → (ℕ → Option (List ℕ)) → Option ℕ → Section → Entry → List ℕ
+entry_rows_text names function address section (CieEntry cie) = []
+entry_rows_text names function address section (FdeEntry partial) = fde_rows_text names function address section (read_fde section partial)
 
-abbrev pub rows_text : Option ℕ → Section → List ℕ
-rows_text address section = entries_text (entry_rows_text address section) (entries section)
+abbrev pub rows_text : RegisterNames → (ℕ → Option (List ℕ)) → Option ℕ → Section → List ℕ
+rows_text names function address section = readings_text (entry_rows_text names function address section) (entries section)
 
 -- ---- by what is asked for
 
-abbrev pub listed_entry_text : Listed → Section → Entry → List ℕ
-listed_entry_text listings.Entries section entry = entry_text section entry
-listed_entry_text (listings.Rows address) section entry = entry_rows_text address section entry
+abbrev pub listed_entry_text : RegisterNames → Listed → Section → Entry → List ℕ
+listed_entry_text names listings.Entries section entry = entry_text names section entry
+listed_entry_text names (listings.Rows asked) section entry = entry_rows_text names (name_in asked.functions.now) asked.address section entry
 
-abbrev pub listed_text : Listed → Section → List ℕ
-listed_text listed section = entries_text (λ entry. listed_entry_text listed section entry) (entries section)
+abbrev pub listed_text : RegisterNames → Listed → Section → List ℕ
+listed_text names listed section = readings_text (λ entry. listed_entry_text names listed section entry) (entries section)

@@ -2,6 +2,7 @@ pub mod Words
 pub mod SectionOfWords
 pub mod Input
 pub mod Lines
+pub mod RegisterNames
 pub mod RowLines
 pub mod WriterOutput
 pub mod Runs
@@ -10,8 +11,11 @@ pub mod RowsProgramOutput
 pub mod RowsPlainLines
 pub mod CheckVerdicts
 pub mod CheckLines
+pub mod ReadingTexts
 pub mod DumpEntryLines
+pub mod DumpInstructionLines
 pub mod DumpSectionTexts
+pub mod FunctionLines
 pub mod DumpRowTexts
 pub mod DumpCompiledTexts
 pub mod DumpProgramOutput

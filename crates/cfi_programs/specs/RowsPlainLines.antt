@@ -8,9 +8,10 @@ use Rattle.cfi_programs.specs.Lines.{Line}
 use Rattle.cfi_programs.specs.RowLines.{answer_line}
 use Rattle.cfi_programs.specs.Runs.{IsPlain}
 use Rattle.cfi_programs.specs.declared.rows.command_line.Request.{Request}
+use Rattle.cfi_programs.specs.declared.register_names.RegisterNames.TheVariants.{Numbers}
 use Rattle.cfi_programs.specs.RowsProgramOutput.{rows_tool}
 
-plain_answer : (answer : Result (Row ℕ) Error) → IsPlain (answer_line answer)
+plain_answer : (answer : Result (Row ℕ) Error) → IsPlain (answer_line Numbers answer)
 plain_answer (Ok row) = record { beginning = refl; low = lit≤ tt }
 plain_answer (Err e) = record { beginning = refl; low = lit≤ tt }
 

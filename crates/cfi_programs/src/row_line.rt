@@ -1,103 +1,159 @@
 //! The line of a row.
-ghost use Rattle.std.specs.Prelude.{◌≡◌, ◌≤◌, ◌+◌, ◌++◌, ℕ, [], ◌∷◌, Some, None, Err, IfSome};
+ghost use Rattle.std.specs.Prelude.{◌≡◌, ◌≤◌, ◌+◌, ◌++◌, ℕ, [], ◌∷◌, None, OnOk, Some, codes};
+ghost use Rattle.std.specs.Prelude.{true};
 ghost use Rattle.std.specs.FinMap as map;
+ghost use Rattle.std.specs.Fmt.{decimal, signed_decimal};
 ghost use Rattle.cfi_read_core.specs.ReaderCalls.{map_ok};
+ghost use Rattle.cfi_state.specs.RegisterRuleIters.{rules_left};
+ghost use Rattle.cfi_state.specs.RulePairs.{IsRising, rules_of};
 ghost use Rattle.gimli_cfi.specs.Words.{Parts};
-ghost use Rattle.cfi_programs.specs.WriterOutput.{Writes, Prints};
+ghost use Rattle.cfi_programs.specs.WriterOutput.{Prints, Writes, WritesBehind};
 ghost use Rattle.cfi_programs.specs.RowLines.{answer_line, cfa_text, expression_text};
-ghost use Rattle.cfi_programs.specs.RowLines.{offset_text, parts_rules, row_head, row_text};
-ghost use Rattle.cfi_programs.specs.RowLines.{rule_text};
+ghost use Rattle.cfi_programs.specs.RegisterNames.{register_text};
+ghost use Rattle.cfi_programs.specs.RowLines.{offset_text, parts_rules, row_head};
+ghost use Rattle.cfi_programs.specs.RowLines.{row_text, rule_text, ruled, rules_text};
 
-use crate::lines::{Address, write_part, write_refusal, write_text};
+use crate::lines::{write_refusal, write_text};
+use crate::register_names::RegisterNames;
+use crate::text::{Text, push, push_address, push_decimal, push_signed};
 use gimli_cfi::{
-    ArrayLike, CfaRule, Error, Register, RegisterRule, UnwindExpression, UnwindTableRow,
+    ArrayLike, CfaRule, Error, Register, RegisterRule, RegisterRuleIter, UnwindExpression,
+    UnwindTableRow,
 };
-use std::fmt::{Display, Formatter};
 use std::io::Write;
 use std::{fmt, io};
 
-/// An offset from a register, with its sign.
-#[derive(Clone, Copy)]
-struct SignedOffset(i64);
+/// How much text may wait for another rule, which has at most 66 bytes.
+const FULL: usize = 190;
 
-impl Display for SignedOffset {
-    ghost output = { λ offset. Some (offset_text offset.0) };
+/// Appends the name of the register.
+fn push_register(text: &mut Text, names: RegisterNames, register: Register) -> fmt::Result
+    ensures { OnOk result (text.new.items ≡ text.old.items ++ register_text names register.0) }
+{
+    let name = names.name(register.0);
+    push(text, name.text.as_bytes())?;
+    match name.number {
+        Some(number) => push_decimal(text, number as u64),
+        None => Ok(()),
+    }
+}
 
-    fn fmt<W: fmt::Write>(&self, f: &mut Formatter<W>) -> fmt::Result {
-        if self.0 < 0 {
-            write!(f, "{}", self.0)
-        } else {
-            write!(f, "+{}", self.0)
+/// Appends an offset from a register, with its sign.
+fn push_offset(text: &mut Text, offset: i64) -> fmt::Result
+    ensures { OnOk result (text.new.items ≡ text.old.items ++ offset_text offset) }
+{
+    if offset >= 0 {
+        push(text, b"+")?;
+    }
+    push_signed(text, offset)
+}
+
+/// Appends where an expression is, and its length.
+fn push_expression(text: &mut Text, expression: UnwindExpression<usize>) -> fmt::Result
+    ensures { OnOk result (text.new.items ≡ text.old.items ++ expression_text expression) }
+{
+    push(text, b"expr@")?;
+    push_decimal(text, expression.offset as u64)?;
+    push(text, b":")?;
+    push_decimal(text, expression.length as u64)
+}
+
+/// Appends the rule of the canonical frame address.
+fn push_cfa(text: &mut Text, names: RegisterNames, cfa: CfaRule<usize>) -> fmt::Result
+    ensures { OnOk result (text.new.items ≡ text.old.items ++ cfa_text names cfa) }
+{
+    match cfa {
+        CfaRule::RegisterAndOffset { register, offset } => {
+            push_register(text, names, register)?;
+            push_offset(text, offset)
+        }
+        CfaRule::Expression(expression) => push_expression(text, expression),
+    }
+}
+
+/// Appends the rule of the canonical frame address and the argument size, each after its name.
+/// Fails where there is no room for them.
+pub fn push_frame(
+    text: &mut Text,
+    names: RegisterNames,
+    cfa: CfaRule<usize>,
+    args_size: u64,
+) -> fmt::Result
+    ensures { OnOk result (text.new.items ≡ text.old.items
+        ++ codes " cfa=" ++ cfa_text names cfa ++ codes " args=" ++ decimal args_size) }
+{
+    push(text, b" cfa=")?;
+    push_cfa(text, names, cfa)?;
+    push(text, b" args=")?;
+    push_decimal(text, args_size)
+}
+
+/// Appends the rule of a register.
+fn push_rule(text: &mut Text, names: RegisterNames, rule: RegisterRule<usize>) -> fmt::Result
+    ensures { OnOk result (text.new.items ≡ text.old.items ++ rule_text names rule) }
+{
+    match rule {
+        RegisterRule::Undefined => push(text, b"undefined"),
+        RegisterRule::SameValue => push(text, b"same"),
+        RegisterRule::Offset(offset) => push_cfa_offset(text, offset),
+        RegisterRule::ValOffset(offset) => {
+            push(text, b"val_")?;
+            push_cfa_offset(text, offset)
+        }
+        RegisterRule::Register(register) => push_register(text, names, register),
+        RegisterRule::Expression(expression) => push_expression(text, expression),
+        RegisterRule::ValExpression(expression) => {
+            push(text, b"val_")?;
+            push_expression(text, expression)
+        }
+        RegisterRule::Architectural => push(text, b"architectural"),
+        RegisterRule::Constant(value) => {
+            push(text, b"constant(")?;
+            push_decimal(text, value)?;
+            push(text, b")")
         }
     }
 }
 
-/// Where an expression is, and its length.
-#[derive(Clone, Copy)]
-struct Place(UnwindExpression<usize>);
-
-impl Display for Place {
-    ghost output = { λ place. Some (expression_text place.0) };
-
-    fn fmt<W: fmt::Write>(&self, f: &mut Formatter<W>) -> fmt::Result {
-        write!(f, "expr@{}:{}", self.0.offset, self.0.length)
-    }
+/// Appends an offset from the CFA.
+fn push_cfa_offset(text: &mut Text, offset: i64) -> fmt::Result
+    ensures { OnOk result (text.new.items ≡ text.old.items
+        ++ (codes "offset(" ++ signed_decimal offset ++ codes ")")) }
+{
+    push(text, b"offset(")?;
+    push_signed(text, offset)?;
+    push(text, b")")
 }
 
-/// The rule of the canonical frame address.
-#[derive(Clone, Copy)]
-pub struct Cfa(pub CfaRule<usize>);
-
-impl Display for Cfa {
-    ghost output = { λ cfa. Some (cfa_text cfa.0) };
-
-    fn fmt<W: fmt::Write>(&self, f: &mut Formatter<W>) -> fmt::Result {
-        match self.0 {
-            CfaRule::RegisterAndOffset { register, offset } => {
-                let offset = SignedOffset(offset);
-                write!(f, "r{}{offset}", register.0)
-            }
-            CfaRule::Expression(expression) => Place(expression).fmt(f),
-        }
-    }
-}
-
-/// The rule of a register.
-#[derive(Clone, Copy)]
-pub struct Rule(pub RegisterRule<usize>);
-
-impl Display for Rule {
-    ghost output = { λ rule. Some (rule_text rule.0) };
-
-    fn fmt<W: fmt::Write>(&self, f: &mut Formatter<W>) -> fmt::Result {
-        match self.0 {
-            RegisterRule::Undefined => f.write_str("undefined"),
-            RegisterRule::SameValue => f.write_str("same"),
-            RegisterRule::Offset(offset) => write!(f, "offset({offset})"),
-            RegisterRule::ValOffset(offset) => write!(f, "val_offset({offset})"),
-            RegisterRule::Register(register) => write!(f, "r{}", register.0),
-            RegisterRule::Expression(expression) => Place(expression).fmt(f),
-            RegisterRule::ValExpression(expression) => {
-                let place = Place(expression);
-                write!(f, "val_{place}")
-            }
-            RegisterRule::Architectural => f.write_str("architectural"),
-            RegisterRule::Constant(value) => write!(f, "constant({value})"),
-        }
-    }
+/// Appends a register and its rule, after a space. Fails where there is no room for them.
+pub fn push_ruled(
+    text: &mut Text,
+    names: RegisterNames,
+    register: Register,
+    rule: RegisterRule<usize>,
+) -> fmt::Result
+    ensures text { OnOk result (text.new.items
+        ≡ text.old.items ++ ruled names register.0 (Some rule)) }
+    ensures within { register.0 ≤ 65535 }
+{
+    push(text, b" ")?;
+    push_register(text, names, register)?;
+    push(text, b"=")?;
+    push_rule(text, names, rule)
 }
 
 /// Prints the line of an answer, and returns the status: 0 for a row, 1 for an error.
 pub fn write_answer<W: Write, A: ArrayLike<Item = (Register, RegisterRule<usize>)>>(
     output: &mut W,
+    names: RegisterNames,
     answer: Result<&UnwindTableRow<usize, A>, Error>,
 ) -> io::Result<u8>
-    ensures { Prints (answer_line (map_ok (λ row. row.now) answer.entry))
+    ensures { Prints (answer_line names (map_ok (λ row. row.now) answer.entry))
         (W.contents output.old) (W.contents output.new) result }
 {
     match answer {
         Ok(row) => {
-            write_row(output, row)?;
+            write_row(output, names, row)?;
             Ok(0)
         }
         Err(error) => write_refusal(output, error),
@@ -107,31 +163,82 @@ pub fn write_answer<W: Write, A: ArrayLike<Item = (Register, RegisterRule<usize>
 /// Writes the line of a row, its registers in ascending order.
 pub fn write_row<W: Write, A: ArrayLike<Item = (Register, RegisterRule<usize>)>>(
     output: &mut W,
+    names: RegisterNames,
     row: &UnwindTableRow<usize, A>,
 ) -> io::Result<()>
     ensures { Writes (W.contents output.old) (W.contents output.new) result
-        (row_text row.now ++ 10 ∷ []) }
+        (row_text names row.now ++ 10 ∷ []) }
 {
-    write_head(output, row)?;
-    write_rules(output, row)?;
-    write_text(output, b"\n")
+    let mut text = Text::new();
+    push_head(&mut text, names, row)?;
+    write_rules(output, &mut text, names, row)?;
+    push(&mut text, b"\n")?;
+    write_text(output, text.as_slice())
 }
 
-/// Writes what comes before the rules: the addresses, the CFA and the argument size.
-fn write_head<W: Write, A: ArrayLike<Item = (Register, RegisterRule<usize>)>>(
+/// Appends what comes before the rules: the addresses, the CFA and the argument size.
+fn push_head<A: ArrayLike<Item = (Register, RegisterRule<usize>)>>(
+    text: &mut Text,
+    names: RegisterNames,
+    row: &UnwindTableRow<usize, A>,
+) -> fmt::Result
+    ensures { OnOk result (text.new.items ≡ text.old.items ++ row_head names row.now) }
+{
+    push_address(text, row.start_address())?;
+    push(text, b" ")?;
+    push_address(text, row.end_address())?;
+    push_frame(text, names, *row.cfa(), row.saved_args_size())
+}
+
+/// Appends the rules, in ascending order of the registers. Writes the text where it is long.
+fn write_rules<W: Write, A: ArrayLike<Item = (Register, RegisterRule<usize>)>>(
     output: &mut W,
+    text: &mut Text,
+    names: RegisterNames,
     row: &UnwindTableRow<usize, A>,
 ) -> io::Result<()>
-    ensures { Writes (W.contents output.old) (W.contents output.new) result (row_head row.now) }
+    ensures { WritesBehind text.old.items text.new.items
+        (W.contents output.old) (W.contents output.new) result (parts_rules names row.now.parts) }
 {
-    let start = Address(row.start_address());
-    let end = Address(row.end_address());
-    let cfa = Cfa(*row.cfa());
-    let args_size = row.saved_args_size();
-    write_part(
-        output,
-        format_args!("{start} {end} cfa={cfa} args={args_size}"),
-    )
+    let rules = row.registers();
+    if is_rising(rules) {
+        write_rising(output, text, names, rules)
+    } else {
+        write_by_number(output, text, names, row)
+    }
+}
+
+/// Returns whether the registers are in ascending order, each once; so they mostly are.
+fn is_rising(rules: RegisterRuleIter<'_, usize>) -> bool
+    ensures { result ≡ true → IsRising (rules_left rules.entry) }
+{
+    let mut from = 0u32;
+    for (register, _) in rules {
+        if u32::from(register.0) < from {
+            return false;
+        }
+        from = number_behind(*register);
+    }
+    true
+}
+
+/// Appends the rules in the order in which they are.
+fn write_rising<W: Write>(
+    output: &mut W,
+    text: &mut Text,
+    names: RegisterNames,
+    rules: RegisterRuleIter<'_, usize>,
+) -> io::Result<()>
+    requires { IsRising (rules_left rules) }
+    ensures { let rule_of = map.get (rules_of (rules_left rules.entry)) in
+        WritesBehind text.old.items text.new.items
+        (W.contents output.old) (W.contents output.new) result (rules_text names 65536 0 rule_of) }
+{
+    for (register, rule) in rules {
+        make_room(output, text)?;
+        push_ruled(text, names, *register, *rule)?;
+    }
+    Ok(())
 }
 
 /// What has rules of registers.
@@ -166,16 +273,23 @@ impl<A: ArrayLike<Item = (Register, RegisterRule<usize>)>> HasRules for UnwindTa
     }
 }
 
-/// Writes the rules, in ascending order of the registers.
-pub(crate) fn write_rules<W: Write, H: HasRules>(output: &mut W, row: &H) -> io::Result<()>
-    ensures { Writes (W.contents output.old) (W.contents output.new) result
-        (parts_rules (H.parts row.now)) }
+/// Appends the rules, each looked up by its number. Writes the text where it is long.
+pub(crate) fn write_by_number<W: Write, H: HasRules>(
+    output: &mut W,
+    text: &mut Text,
+    names: RegisterNames,
+    row: &H,
+) -> io::Result<()>
+    ensures { let rules = parts_rules names (H.parts row.now) in
+        WritesBehind text.old.items text.new.items
+        (W.contents output.old) (W.contents output.new) result rules }
 {
     let end = row.end();
     for number in 0..end {
-        if let Some(rule) = row.rule(Register(number as u16)) {
-            let rule = Rule(rule);
-            write_part(output, format_args!(" r{number}={rule}"))?;
+        let register = Register(number as u16);
+        if let Some(rule) = row.rule(register) {
+            make_room(output, text)?;
+            push_ruled(text, names, register, rule)?;
         }
     }
     Ok(())
@@ -187,4 +301,16 @@ pub(crate) fn number_behind(register: Register) -> u32
     ensures within { result ≤ 65536 }
 {
     u32::from(register.0) + 1
+}
+
+/// Writes the text where it is too long for another rule.
+fn make_room<W: Write>(output: &mut W, text: &mut Text) -> io::Result<()>
+    ensures { WritesBehind text.old.items text.new.items
+        (W.contents output.old) (W.contents output.new) result [] }
+{
+    if text.len() > FULL {
+        write_text(output, text.as_slice())?;
+        text.clear();
+    }
+    Ok(())
 }

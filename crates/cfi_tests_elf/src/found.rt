@@ -1,6 +1,6 @@
 //! What is found in the four files.
 use crate::bytes::{BIG_32, BIG_64, LITTLE_32, LITTLE_64, changed};
-use cfi_elf::{Class, ElfError, ElfFile, Section};
+use cfi_elf::{Class, ElfError, ElfFile, FunctionNames, Section};
 use cfi_read_core::{RunTimeEndian, Vendor};
 use std::process::Abort;
 use std::test::Fail;
@@ -145,6 +145,24 @@ fn check_symbols(rt: &impl Abort, file: &ElfFile<'_>, places: &Places) {
     );
 }
 
+/// Compares the names at three addresses, at the second of which no function begins.
+fn check_names(
+    rt: &(impl Abort + AllocGlobal),
+    file: &ElfFile<'_>,
+    places: &Places,
+) -> Result<(), Fail> {
+    let [text, third, fourth, ..] = *places;
+    let names = FunctionNames::new(rt.alloc(), file)?;
+    let found: [Option<&[u8]>; 3] = [
+        names.name_at(text),
+        names.name_at(third),
+        names.name_at(fourth),
+    ];
+    let expected: [Option<&[u8]>; 3] = [Some(b"start"), None, Some(b"other")];
+    assert_eq!(rt; found, expected);
+    Ok(())
+}
+
 fn header_of(file: &ElfFile<'_>) -> Header {
     (
         file.class(),
@@ -162,6 +180,7 @@ fn what_each_file_has(rt: HostRuntime) -> Result<(), Fail> {
         assert_eq!(rt; header_of(&file), *header);
         check_parts(&rt, &file, places);
         check_symbols(&rt, &file, places);
+        check_names(&rt, &file, places)?;
     }
     Ok(())
 }

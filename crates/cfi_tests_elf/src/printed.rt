@@ -1,7 +1,7 @@
 //! What is printed of a file with a function in each of `.eh_frame` and `.debug_frame`. The
-//! expected rows are readelf's.
+//! expected rows and instructions are readelf's.
 use crate::bytes::{LITTLE_64, changed};
-use cfi_files::{Finding, Printed, check_file, run_on_file};
+use cfi_files::{Finding, Printed, Request, check_file, run_on_file};
 use cfi_tests_bytes::bytes_of;
 use std::io;
 use std::io::{ErrorKind, Read, Write};
@@ -37,33 +37,55 @@ const FILE: &str = "\
     01000000000000000000000000000000";
 
 const ALL_ROWS: &str = ".eh_frame
-fde 0x4000b0 0x4000b6
-0x4000b0 0x4000b1 cfa=r7+8 args=0 r16=offset(-8)
-0x4000b1 0x4000b4 cfa=r7+16 args=0 r6=offset(-16) r16=offset(-8)
-0x4000b4 0x4000b5 cfa=r6+16 args=0 r6=offset(-16) r16=offset(-8)
-0x4000b5 0x4000b6 cfa=r7+8 args=0 r6=offset(-16) r16=offset(-8)
+fde 0x4000b0 0x4000b6 pushes
+0x4000b0 0x4000b1 cfa=rsp+8 args=0 ra=offset(-8)
+0x4000b1 0x4000b4 cfa=rsp+16 args=0 rbp=offset(-16) ra=offset(-8)
+0x4000b4 0x4000b5 cfa=rbp+16 args=0 rbp=offset(-16) ra=offset(-8)
+0x4000b5 0x4000b6 cfa=rsp+8 args=0 rbp=offset(-16) ra=offset(-8)
 .debug_frame
-fde 0x4000b6 0x4000b8
-0x4000b6 0x4000b8 cfa=r7+8 args=0 r16=offset(-8)
+fde 0x4000b6 0x4000b8 waits
+0x4000b6 0x4000b8 cfa=rsp+8 args=0 ra=offset(-8)
 ";
 
 const ROWS_OF_WAITS: &str = ".eh_frame
 .debug_frame
-fde 0x4000b6 0x4000b8
-0x4000b6 0x4000b8 cfa=r7+8 args=0 r16=offset(-8)
+fde 0x4000b6 0x4000b8 waits
+0x4000b6 0x4000b8 cfa=rsp+8 args=0 ra=offset(-8)
 ";
 
 const DUMP: &str = ".eh_frame
-cie 0x0 length=20 version=1 size=8 code=1 data=-8 return=r16 addresses=0x1b
+cie 0x0 length=20 version=1 size=8 code=1 data=-8 return=ra addresses=0x1b
+  DW_CFA_def_cfa register=rsp offset=8
+  DW_CFA_offset register=ra factored_offset=1
+  DW_CFA_nop
+  DW_CFA_nop
 fde 0x18 length=28 cie=0x0 0x4000b0 0x4000b6
-0x4000b0 0x4000b1 cfa=r7+8 args=0 r16=offset(-8)
-0x4000b1 0x4000b4 cfa=r7+16 args=0 r6=offset(-16) r16=offset(-8)
-0x4000b4 0x4000b5 cfa=r6+16 args=0 r6=offset(-16) r16=offset(-8)
-0x4000b5 0x4000b6 cfa=r7+8 args=0 r6=offset(-16) r16=offset(-8)
+  DW_CFA_advance_loc delta=1
+  DW_CFA_def_cfa_offset offset=16
+  DW_CFA_offset register=rbp factored_offset=2
+  DW_CFA_advance_loc delta=3
+  DW_CFA_def_cfa_register register=rbp
+  DW_CFA_advance_loc delta=1
+  DW_CFA_def_cfa register=rsp offset=8
+  DW_CFA_nop
+  DW_CFA_nop
+  DW_CFA_nop
+0x4000b0 0x4000b1 cfa=rsp+8 args=0 ra=offset(-8)
+0x4000b1 0x4000b4 cfa=rsp+16 args=0 rbp=offset(-16) ra=offset(-8)
+0x4000b4 0x4000b5 cfa=rbp+16 args=0 rbp=offset(-16) ra=offset(-8)
+0x4000b5 0x4000b6 cfa=rsp+8 args=0 rbp=offset(-16) ra=offset(-8)
 .debug_frame
-cie 0x0 length=20 version=1 size=8 code=1 data=-8 return=r16
+cie 0x0 length=20 version=1 size=8 code=1 data=-8 return=ra
+  DW_CFA_def_cfa register=rsp offset=8
+  DW_CFA_offset register=ra factored_offset=1
+  DW_CFA_nop
+  DW_CFA_nop
+  DW_CFA_nop
+  DW_CFA_nop
+  DW_CFA_nop
+  DW_CFA_nop
 fde 0x18 length=20 cie=0x0 0x4000b6 0x4000b8
-0x4000b6 0x4000b8 cfa=r7+8 args=0 r16=offset(-8)
+0x4000b6 0x4000b8 cfa=rsp+8 args=0 ra=offset(-8)
 ";
 
 /// The first and the last row of `pushes` by its name, the one of `waits`, and what has none.
@@ -71,16 +93,16 @@ const WORDS: [&str; 7] = [
     "pushes", "pushes+5", "0x4000b7", "4194486", "0x4000b8", "waits+2", "sleeps",
 ];
 
-const FOUND_ROWS: &str = "0x4000b0 0x4000b1 cfa=r7+8 args=0 r16=offset(-8)
-0x4000b5 0x4000b6 cfa=r7+8 args=0 r6=offset(-16) r16=offset(-8)
-0x4000b6 0x4000b8 cfa=r7+8 args=0 r16=offset(-8)
-0x4000b6 0x4000b8 cfa=r7+8 args=0 r16=offset(-8)
+const FOUND_ROWS: &str = "0x4000b0 0x4000b1 cfa=rsp+8 args=0 ra=offset(-8)
+0x4000b5 0x4000b6 cfa=rsp+8 args=0 rbp=offset(-16) ra=offset(-8)
+0x4000b6 0x4000b8 cfa=rsp+8 args=0 ra=offset(-8)
+0x4000b6 0x4000b8 cfa=rsp+8 args=0 ra=offset(-8)
 ";
 
-const ROWS_OF_WORDS: &str = "0x4000b0 0x4000b1 cfa=r7+8 args=0 r16=offset(-8)
-0x4000b5 0x4000b6 cfa=r7+8 args=0 r6=offset(-16) r16=offset(-8)
-0x4000b6 0x4000b8 cfa=r7+8 args=0 r16=offset(-8)
-0x4000b6 0x4000b8 cfa=r7+8 args=0 r16=offset(-8)
+const ROWS_OF_WORDS: &str = "0x4000b0 0x4000b1 cfa=rsp+8 args=0 ra=offset(-8)
+0x4000b5 0x4000b6 cfa=rsp+8 args=0 rbp=offset(-16) ra=offset(-8)
+0x4000b6 0x4000b8 cfa=rsp+8 args=0 ra=offset(-8)
+0x4000b6 0x4000b8 cfa=rsp+8 args=0 ra=offset(-8)
 refused NoUnwindInfoForAddress
 refused NoUnwindInfoForAddress
 no address
@@ -88,14 +110,14 @@ no address
 
 const TABLE: &str = ".eh_frame
 0x0 refused NoUnwindInfoForAddress
-0x4000b0 cfa=r7+8 args=0 r16=offset(-8)
-0x4000b1 cfa=r7+16 args=0 r6=offset(-16) r16=offset(-8)
-0x4000b4 cfa=r6+16 args=0 r6=offset(-16) r16=offset(-8)
-0x4000b5 cfa=r7+8 args=0 r6=offset(-16) r16=offset(-8)
+0x4000b0 cfa=rsp+8 args=0 ra=offset(-8)
+0x4000b1 cfa=rsp+16 args=0 rbp=offset(-16) ra=offset(-8)
+0x4000b4 cfa=rbp+16 args=0 rbp=offset(-16) ra=offset(-8)
+0x4000b5 cfa=rsp+8 args=0 rbp=offset(-16) ra=offset(-8)
 0x4000b6 refused NoUnwindInfoForAddress
 .debug_frame
 0x0 refused NoUnwindInfoForAddress
-0x4000b6 cfa=r7+8 args=0 r16=offset(-8)
+0x4000b6 cfa=rsp+8 args=0 ra=offset(-8)
 0x4000b8 refused NoUnwindInfoForAddress
 ";
 
@@ -134,16 +156,28 @@ impl Write for Takes {
     }
 }
 
-/// Compares what is printed of the input, and the status.
+/// Compares what is printed of the input with the names of registers, and the status.
 fn prints<R: Read>(
     rt: &(impl Abort + AllocGlobal),
-    what: Printed<'_>,
+    printed: Printed<'_>,
+    input: &mut R,
+    text: &str,
+    status: u8,
+) -> Result<(), Fail> {
+    let raw = false;
+    answers(rt, Request { printed, raw }, input, text, status)
+}
+
+/// Compares what is printed for a request, and the status.
+fn answers<R: Read>(
+    rt: &(impl Abort + AllocGlobal),
+    request: Request<'_>,
     input: &mut R,
     text: &str,
     status: u8,
 ) -> Result<(), Fail> {
     let mut output = Vec::new(rt.alloc());
-    let printed = run_on_file(rt.alloc(), what, input, &mut output)?;
+    let printed = run_on_file(rt.alloc(), request, input, &mut output)?;
     assert_eq!(rt;
         (str::from_utf8(output.as_slice()), printed),
         (Ok(text), status)
@@ -192,6 +226,32 @@ fn rows(rt: HostRuntime) -> Result<(), Fail> {
     prints(&rt, Printed::Dump, &mut &*bytes, DUMP, 0)
 }
 
+/// The row of `waits` by the low byte of `e_machine`. The names are those of the machine's psABI.
+const MACHINES: [(u8, &str); 8] = [
+    (0, "0x4000b6 0x4000b8 cfa=r7+8 args=0 r16=offset(-8)\n"),
+    (3, "0x4000b6 0x4000b8 cfa=edi+8 args=0 r16=offset(-8)\n"),
+    (21, "0x4000b6 0x4000b8 cfa=r7+8 args=0 r16=offset(-8)\n"),
+    (22, "0x4000b6 0x4000b8 cfa=r7+8 args=0 f0=offset(-8)\n"),
+    (40, "0x4000b6 0x4000b8 cfa=r7+8 args=0 r16=offset(-8)\n"),
+    (62, "0x4000b6 0x4000b8 cfa=rsp+8 args=0 ra=offset(-8)\n"),
+    (183, "0x4000b6 0x4000b8 cfa=x7+8 args=0 x16=offset(-8)\n"),
+    (243, "0x4000b6 0x4000b8 cfa=x7+8 args=0 x16=offset(-8)\n"),
+];
+
+#[test]
+fn names_of_registers(rt: HostRuntime) -> Result<(), Fail> {
+    let numbers = MACHINES[0].1;
+    for (machine, text) in &MACHINES {
+        let bytes = changed(rt.alloc(), FILE, &[(18, *machine)])?;
+        let bytes = bytes.as_slice();
+        let printed = Printed::Row(&["waits"]);
+        prints(&rt, printed, &mut &*bytes, text, 0)?;
+        let raw = true;
+        answers(&rt, Request { printed, raw }, &mut &*bytes, numbers, 0)?;
+    }
+    Ok(())
+}
+
 #[test]
 fn checks(rt: HostRuntime) -> Result<(), Fail> {
     let bytes = bytes_of(rt.alloc(), FILE)?;
@@ -236,7 +296,10 @@ fn outputs_that_fail(rt: HostRuntime) -> Result<(), Fail> {
         let mut output = Takes { left };
         let printed = run_on_file(
             rt.alloc(),
-            Printed::Rows(None),
+            Request {
+                printed: Printed::Rows(None),
+                raw: false,
+            },
             &mut bytes.as_slice(),
             &mut output,
         );

@@ -1,10 +1,13 @@
 //! Tables of `.eh_frame_hdr` that list the FDEs of their section faithfully, and the faults of
 //! others.
-use crate::searches::{HEADER, SECTION, Shown, bases, read_header, shown, table_of};
+use crate::searches::{Shown, bases, read_header, shown, table_of};
+use cfi_tests_bytes::joined;
 use gimli_cfi::{
     DwEhPe, EhFrame, EndianSlice, Error, FaithfulTable, LittleEndian, ParsedEhFrameHdr, Reader,
     ReaderOffsetId, Unfaithful, UnwindContext, UnwindContextStorage,
 };
+use std::process::Abort;
+use std::test::Fail;
 
 /// What is wrong with a header's table; `None` if it is faithful.
 type Reason = Result<Option<Unfaithful>, Error>;
@@ -17,81 +20,31 @@ fn reason_of<R: Reader>(header: R, section: R) -> Reason {
     }
 }
 
-/// The same from the bytes of a header and of a section.
-fn reason(header: &[u8], section: &[u8]) -> Reason {
+/// The same from bytes, of which the first ones are the header.
+fn reason(bytes: &[u8], length: usize) -> Reason {
     reason_of(
-        EndianSlice::new(header, LittleEndian),
-        EndianSlice::new(section, LittleEndian),
+        EndianSlice::new(bytes.get(..length).unwrap_or_default(), LittleEndian),
+        EndianSlice::new(bytes.get(length..).unwrap_or_default(), LittleEndian),
     )
 }
 
-/// The bytes, with some of them replaced from an index on.
-fn with<const N: usize>(bytes: [u8; N], at: usize, new: &[u8]) -> [u8; N] {
-    let mut changed = bytes;
-    for (to, from) in changed.iter_mut().skip(at).zip(new.iter()) {
-        *to = *from;
-    }
-    changed
-}
+/// The header of `searches`: version and encodings, the pointer and the count, and three rows.
+const LISTED: &str =
+    "011b033b fc000000 03000000 00f1ffff 18010000 10f1ffff 2c010000 20f1ffff 40010000";
 
-/// What is wrong if the header has these bytes from an index on.
-fn with_header(at: usize, new: &[u8]) -> Reason {
-    reason(&with(HEADER, at, new), &SECTION)
-}
-
-/// What is wrong if the section has these bytes from an index on.
-fn with_section(at: usize, new: &[u8]) -> Reason {
-    reason(&HEADER, &with(SECTION, at, new))
-}
-
-/// The header with another row, which leads to no FDE.
-fn four_rows() -> [u8; 44] {
-    let mut header = [0u8; 44];
-    for (to, from) in header.iter_mut().zip(HEADER) {
-        *to = from;
-    }
-    with(
-        with(header, 8, &[4]),
-        36,
-        &[0x40, 0xf1, 0xff, 0xff, 0x40, 1, 0, 0],
-    )
-}
+/// The section of `searches`: a CIE and three FDEs.
+const SECTION: &str = "14000000 00000000 01 7a5200 017810 01 1b 0c0708 9001 0000 \
+    10000000 1c000000 e0efffff 10000000 00 000000 10000000 30000000 dcefffff 10000000 00 410e10 \
+    10000000 44000000 d8efffff 20000000 00 000000 00000000";
 
 /// The section, in which the instructions of the last FDE have at 84 what looks like an FDE of the
 /// same addresses.
-fn fde_within_an_fde() -> [u8; 108] {
-    let mut section = [0u8; 108];
-    for (to, from) in section.iter_mut().zip(SECTION) {
-        *to = from;
-    }
-    let inner = [
-        0x10, 0, 0, 0, 0x58, 0, 0, 0, 0xc4, 0xef, 0xff, 0xff, 0x20, 0, 0, 0, 0, 0, 0, 0,
-    ];
-    with(with(section, 64, &[0x24]), 84, &inner)
-}
+const FDE_WITHIN_AN_FDE: &str = "14000000 00000000 01 7a5200 017810 01 1b 0c0708 9001 0000 \
+    10000000 1c000000 e0efffff 10000000 00 000000 10000000 30000000 dcefffff 10000000 00 410e10 \
+    24000000 44000000 d8efffff 20000000 00 000000 \
+    10000000 58000000 c4efffff 20000000 00 000000 00000000";
 
-const FAITHFUL: [Reason; 5] = [Ok(None); 5];
-
-#[test]
-fn faithful_tables(rt: HostRuntime) {
-    let found = [
-        reason(&HEADER, &SECTION),
-        // One row and one FDE.
-        reason(&with(HEADER, 8, &[1]), &SECTION[..44]),
-        // The first FDE has no addresses; then its end wraps around, so that it contains none.
-        with_section(36, &[0]),
-        with_section(36, &[0xff, 0xff, 0xff, 0xff]),
-        reason(&HEADER, &fde_within_an_fde()),
-    ];
-    assert_eq!(rt; found, FAITHFUL);
-}
-
-/// The header without its second row.
-fn without_second_row() -> [u8; 36] {
-    let first_and_third = [0x20, 0xf1, 0xff, 0xff, 0x40, 1, 0, 0];
-    with(with(HEADER, 8, &[2]), 20, &first_and_third)
-}
-
+/// A row is missing for the second FDE, and for the third.
 const SECOND: Reason = Ok(Some(Unfaithful::NoRow {
     offset: 44,
     address: 0x1010,
@@ -102,119 +55,222 @@ const THIRD: Reason = Ok(Some(Unfaithful::NoRow {
     address: 0x1020,
 }));
 
-const NO_ROWS: [Reason; 6] = [SECOND, THIRD, SECOND, SECOND, SECOND, THIRD];
+/// A name; the length of a header, the header and a section; and what is wrong with the table.
+type Case = (&'static str, usize, &'static str, &'static str, Reason);
 
-#[test]
-fn rows_that_list_no_fde(rt: HostRuntime) {
-    let found = [
-        // The second row is missing, and the third.
-        reason(&without_second_row(), &SECTION),
-        with_header(8, &[2]),
-        // A start is off by one, and a target; a target is that of another FDE.
-        with_header(20, &[0x11]),
-        with_header(24, &[0x2d]),
-        with_header(24, &[0x18]),
-        // A target is inside an entry, at what looks like the FDE.
-        reason(&with(HEADER, 32, &[0x54]), &fde_within_an_fde()),
-    ];
-    assert_eq!(rt; found, NO_ROWS);
+const CASES: [Case; 23] = [
+    ("three rows", 36, LISTED, SECTION, Ok(None)),
+    (
+        "one row and one FDE",
+        36,
+        "011b033b fc000000 01000000 00f1ffff 18010000 10f1ffff 2c010000 20f1ffff 40010000",
+        "14000000 00000000 01 7a5200 017810 01 1b 0c0708 9001 0000 \
+        10000000 1c000000 e0efffff 10000000 00 000000",
+        Ok(None),
+    ),
+    (
+        "the first FDE has no addresses",
+        36,
+        LISTED,
+        "14000000 00000000 01 7a5200 017810 01 1b 0c0708 9001 0000 \
+        10000000 1c000000 e0efffff 00000000 00 000000 10000000 30000000 dcefffff 10000000 00 \
+        410e10 10000000 44000000 d8efffff 20000000 00 000000 00000000",
+        Ok(None),
+    ),
+    (
+        "the end of the first FDE wraps, so that it contains no address",
+        36,
+        LISTED,
+        "14000000 00000000 01 7a5200 017810 01 1b 0c0708 9001 0000 \
+        10000000 1c000000 e0efffff ffffffff 00 000000 10000000 30000000 dcefffff 10000000 00 \
+        410e10 10000000 44000000 d8efffff 20000000 00 000000 00000000",
+        Ok(None),
+    ),
+    (
+        "what looks like an FDE within one",
+        36,
+        LISTED,
+        FDE_WITHIN_AN_FDE,
+        Ok(None),
+    ),
+    (
+        "the second row is missing",
+        36,
+        "011b033b fc000000 02000000 00f1ffff 18010000 20f1ffff 40010000 20f1ffff 40010000",
+        SECTION,
+        SECOND,
+    ),
+    (
+        "the third row is missing",
+        36,
+        "011b033b fc000000 02000000 00f1ffff 18010000 10f1ffff 2c010000 20f1ffff 40010000",
+        SECTION,
+        THIRD,
+    ),
+    (
+        "a start is off by one",
+        36,
+        "011b033b fc000000 03000000 00f1ffff 18010000 11f1ffff 2c010000 20f1ffff 40010000",
+        SECTION,
+        SECOND,
+    ),
+    (
+        "a target is off by one",
+        36,
+        "011b033b fc000000 03000000 00f1ffff 18010000 10f1ffff 2d010000 20f1ffff 40010000",
+        SECTION,
+        SECOND,
+    ),
+    (
+        "a target is that of another FDE",
+        36,
+        "011b033b fc000000 03000000 00f1ffff 18010000 10f1ffff 18010000 20f1ffff 40010000",
+        SECTION,
+        SECOND,
+    ),
+    (
+        "a target is within an entry, at what looks like the FDE",
+        36,
+        "011b033b fc000000 03000000 00f1ffff 18010000 10f1ffff 2c010000 20f1ffff 54010000",
+        FDE_WITHIN_AN_FDE,
+        THIRD,
+    ),
+    (
+        "the first two rows are swapped",
+        36,
+        "011b033b fc000000 03000000 10f1ffff 2c010000 00f1ffff 18010000 20f1ffff 40010000",
+        SECTION,
+        Ok(Some(Unfaithful::Order {
+            row: 1,
+            before: 0x1010,
+            start: 0x1000,
+        })),
+    ),
+    (
+        "the first row is listed twice",
+        36,
+        "011b033b fc000000 03000000 00f1ffff 18010000 00f1ffff 18010000 20f1ffff 40010000",
+        SECTION,
+        Ok(Some(Unfaithful::Order {
+            row: 1,
+            before: 0x1000,
+            start: 0x1000,
+        })),
+    ),
+    (
+        "the last row starts below the one before it",
+        36,
+        "011b033b fc000000 03000000 00f1ffff 18010000 10f1ffff 2c010000 08f1ffff 40010000",
+        SECTION,
+        Ok(Some(Unfaithful::Order {
+            row: 2,
+            before: 0x1010,
+            start: 0x1008,
+        })),
+    ),
+    (
+        "the first FDE ends after the second begins",
+        36,
+        LISTED,
+        "14000000 00000000 01 7a5200 017810 01 1b 0c0708 9001 0000 \
+        10000000 1c000000 e0efffff 11000000 00 000000 10000000 30000000 dcefffff 10000000 00 \
+        410e10 10000000 44000000 d8efffff 20000000 00 000000 00000000",
+        Ok(Some(Unfaithful::Overlap {
+            offset: 24,
+            end: 0x1011,
+            next: 0x1010,
+        })),
+    ),
+    (
+        "a fourth row leads to no FDE",
+        44,
+        "011b033b fc000000 04000000 00f1ffff 18010000 10f1ffff 2c010000 20f1ffff 40010000 \
+        40f1ffff 40010000",
+        SECTION,
+        Ok(Some(Unfaithful::Count { rows: 4, fdes: 3 })),
+    ),
+    (
+        "the section has no FDE",
+        36,
+        LISTED,
+        "14000000 00000000 01 7a5200 017810 01 1b 0c0708 9001 0000",
+        Ok(Some(Unfaithful::Count { rows: 3, fdes: 0 })),
+    ),
+    (
+        "the bytes of a fourth row are missing",
+        36,
+        "011b033b fc000000 04000000 00f1ffff 18010000 10f1ffff 2c010000 20f1ffff 40010000",
+        SECTION,
+        Ok(Some(Unfaithful::Row {
+            row: 3,
+            refusal: Error::UnexpectedEof(ReaderOffsetId(36)),
+        })),
+    ),
+    (
+        "the starts are indirect",
+        36,
+        "011b03bb fc000000 03000000 00f1ffff 18010000 10f1ffff 2c010000 20f1ffff 40010000",
+        SECTION,
+        Ok(Some(Unfaithful::Row {
+            row: 0,
+            refusal: Error::UnsupportedIndirectPointer,
+        })),
+    ),
+    (
+        "the pointer to the section is indirect",
+        36,
+        "019b033b fc000000 03000000 00f1ffff 18010000 10f1ffff 2c010000 20f1ffff 40010000",
+        SECTION,
+        Ok(Some(Unfaithful::Header(Error::UnsupportedIndirectPointer))),
+    ),
+    (
+        "the rows are in a format that can't be searched",
+        36,
+        "011b0331 fc000000 03000000 00f1ffff 18010000 10f1ffff 2c010000 20f1ffff 40010000",
+        SECTION,
+        Ok(Some(Unfaithful::Header(Error::UnsupportedPointerEncoding(DwEhPe(0x31))))),
+    ),
+    (
+        "the CIE of the second FDE is an FDE",
+        36,
+        LISTED,
+        "14000000 00000000 01 7a5200 017810 01 1b 0c0708 9001 0000 \
+        10000000 1c000000 e0efffff 10000000 00 000000 10000000 18000000 dcefffff 10000000 00 \
+        410e10 10000000 44000000 d8efffff 20000000 00 000000 00000000",
+        Ok(Some(Unfaithful::Fde {
+            offset: 44,
+            refusal: Error::NotCieId(24),
+        })),
+    ),
+    (
+        "the last FDE is cut off",
+        36,
+        LISTED,
+        "14000000 00000000 01 7a5200 017810 01 1b 0c0708 9001 0000 \
+        10000000 1c000000 e0efffff 10000000 00 000000 10000000 30000000 dcefffff 10000000 00 \
+        410e10 10000000 44000000 d8efffff 20000000",
+        Ok(Some(Unfaithful::Entry {
+            offset: 64,
+            refusal: Error::UnexpectedEof(ReaderOffsetId(68)),
+        })),
+    ),
+];
+
+/// Checks what is wrong with one table.
+fn check_case(rt: &(impl Abort + AllocGlobal), of: &Case) -> Result<(), Fail> {
+    let bytes = joined(rt.alloc(), of.2, of.3)?;
+    let found = reason(bytes.as_slice(), of.1);
+    drop(bytes);
+    assert_eq!(rt; found, of.4, "{}", of.0);
+    Ok(())
 }
 
-/// What is wrong if a row starts at or below the one before it.
-const OUT_OF_ORDER: [Reason; 3] = [
-    Ok(Some(Unfaithful::Order {
-        row: 1,
-        before: 0x1010,
-        start: 0x1000,
-    })),
-    Ok(Some(Unfaithful::Order {
-        row: 1,
-        before: 0x1000,
-        start: 0x1000,
-    })),
-    Ok(Some(Unfaithful::Order {
-        row: 2,
-        before: 0x1010,
-        start: 0x1008,
-    })),
-];
-
-/// The first two rows are swapped.
-const SWAPPED: [u8; 16] = [
-    0x10, 0xf1, 0xff, 0xff, 0x2c, 1, 0, 0, 0, 0xf1, 0xff, 0xff, 0x18, 1, 0, 0,
-];
-
-/// The first row is listed twice.
-const TWICE: [u8; 8] = [0, 0xf1, 0xff, 0xff, 0x18, 1, 0, 0];
-
 #[test]
-fn rows_out_of_order(rt: HostRuntime) {
-    let found = [
-        with_header(12, &SWAPPED),
-        with_header(20, &TWICE),
-        // The last row starts below the one before it.
-        with_header(28, &[8]),
-    ];
-    assert_eq!(rt; found, OUT_OF_ORDER);
-}
-
-/// The first FDE ends after the second begins; then counts that differ.
-const OVERLAP_AND_COUNTS: [Reason; 4] = [
-    Ok(Some(Unfaithful::Overlap {
-        offset: 24,
-        end: 0x1011,
-        next: 0x1010,
-    })),
-    Ok(Some(Unfaithful::Count { rows: 4, fdes: 3 })),
-    Ok(Some(Unfaithful::Count { rows: 3, fdes: 0 })),
-    Ok(Some(Unfaithful::Row {
-        row: 3,
-        refusal: Error::UnexpectedEof(ReaderOffsetId(36)),
-    })),
-];
-
-#[test]
-fn overlapping_fdes_and_counts_that_differ(rt: HostRuntime) {
-    let found = [
-        with_section(36, &[0x11]),
-        reason(&four_rows(), &SECTION),
-        reason(&HEADER, &SECTION[..24]),
-        // The fourth row is missing.
-        with_header(8, &[4]),
-    ];
-    assert_eq!(rt; found, OVERLAP_AND_COUNTS);
-}
-
-const REFUSED: [Reason; 5] = [
-    Ok(Some(Unfaithful::Row {
-        row: 0,
-        refusal: Error::UnsupportedIndirectPointer,
-    })),
-    Ok(Some(Unfaithful::Header(Error::UnsupportedIndirectPointer))),
-    Ok(Some(Unfaithful::Header(Error::UnsupportedPointerEncoding(DwEhPe(0x31))))),
-    Ok(Some(Unfaithful::Fde {
-        offset: 44,
-        refusal: Error::NotCieId(24),
-    })),
-    Ok(Some(Unfaithful::Entry {
-        offset: 64,
-        refusal: Error::UnexpectedEof(ReaderOffsetId(68)),
-    })),
-];
-
-#[test]
-fn refused_parts(rt: HostRuntime) {
-    let found = [
-        // The starts are indirect, and the pointer to the section; the rows are in a format that
-        // can't be searched.
-        with_header(3, &[0xbb]),
-        with_header(1, &[0x9b]),
-        with_header(3, &[0x31]),
-        // The CIE of the second FDE is an FDE; the last FDE is cut off.
-        with_section(48, &[0x18]),
-        reason(&HEADER, &SECTION[..80]),
-    ];
-    assert_eq!(rt; found, REFUSED);
+fn faithful_tables_and_faults(rt: HostRuntime) -> Result<(), Fail> {
+    for case in &CASES {
+        check_case(&rt, case)?;
+    }
+    Ok(())
 }
 
 /// The row for an address by a checked table.

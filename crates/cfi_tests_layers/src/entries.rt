@@ -13,15 +13,16 @@ use cfi_unwind::entry::{CommonInformationEntry, FrameDescriptionEntry};
 use cfi_unwind::unwind_section::{DebugFrame, EhFrame, UnwindSection, scan_for_fde};
 use std::process::Abort;
 
-/// Some fields of a CIE: its format, length, version, data alignment factor and return address
-/// register.
-pub(crate) type Settings = (Format, usize, u8, i64, Register);
+/// Some fields of a CIE: its format, length, version, size of addresses, data alignment factor and
+/// return address register.
+pub(crate) type Settings = (Format, usize, u8, u8, i64, Register);
 
 pub(crate) fn settings_of<R: Reader<Offset = usize>>(cie: &CommonInformationEntry<R>) -> Settings {
     (
         cie.encoding().format,
         cie.entry_len(),
         cie.version(),
+        cie.address_size(),
         cie.data_alignment_factor(),
         cie.return_address_register(),
     )
@@ -165,13 +166,16 @@ fn entries_that_are_no_cie(rt: HostRuntime) {
     }
 }
 
-/// The first address of an FDE and its end, how many addresses it has, and whether it contains two
-/// of them.
-type Range = (u64, u64, u64, bool, bool);
+/// The first address of an FDE and its end, how many addresses it has, and whether it contains
+/// 0xfffffff8 and 8.
+pub(crate) type Range = (u64, u64, u64, bool, bool);
 
-/// The range of the FDE after a CIE of 20 bytes, looked up for the addresses 0xfffffff8 and 8.
-fn range_at_20<R: Reader<Offset = usize>>(reader: R) -> Result<Range, Error> {
-    let fde = fde_of_debug_frame(&DebugFrame::from(reader), 20)?;
+/// The range of the FDE at an offset.
+pub(crate) fn range_of<R: Reader<Offset = usize>>(
+    section: &DebugFrame<R>,
+    offset: usize,
+) -> Result<Range, Error> {
+    let fde = fde_of_debug_frame(section, offset)?;
     Ok((
         fde.initial_address(),
         fde.end_address(),
@@ -179,6 +183,11 @@ fn range_at_20<R: Reader<Offset = usize>>(reader: R) -> Result<Range, Error> {
         fde.contains(0xffff_fff8),
         fde.contains(0x8),
     ))
+}
+
+/// The range of the FDE after a CIE of 20 bytes.
+fn range_at_20<R: Reader<Offset = usize>>(reader: R) -> Result<Range, Error> {
+    range_of(&DebugFrame::from(reader), 20)
 }
 
 /// A CIE of addresses of four bytes, and an FDE.
@@ -292,7 +301,7 @@ fn marks_of_both<R: Reader<Offset = usize>>(in_debug_frame: R, in_eh_frame: R) -
 }
 
 /// Letters, a CIE of `.debug_frame` and one of `.eh_frame` with these, and the marks of both.
-const MARKS: [(&str, &[u8], &[u8], Marks); 10] = [
+const MARKS: [(&str, &[u8], &[u8], Marks); 11] = [
     (
         "S, with a nop",
         &[
@@ -361,6 +370,18 @@ const MARKS: [(&str, &[u8], &[u8], Marks); 10] = [
             0x0e, 0, 0, 0, 0, 0, 0, 0, 1, 0x7a, 0x42, 0x52, 0, 1, 0x78, 0x10, 1, 0x1b,
         ],
         Ok((false, true)),
+    ),
+    (
+        "zPLRS",
+        &[
+            0x1c, 0, 0, 0, 0xff, 0xff, 0xff, 0xff, 4, 0x7a, 0x50, 0x4c, 0x52, 0x53, 0, 8, 0, 1,
+            0x78, 0x10, 0x0b, 0, 0x11, 0x22, 0x33, 0x44, 0x55, 0x66, 0x77, 0x88, 0x1b, 0x1b,
+        ],
+        &[
+            0x1a, 0, 0, 0, 0, 0, 0, 0, 1, 0x7a, 0x50, 0x4c, 0x52, 0x53, 0, 1, 0x78, 0x10, 0x0b, 0,
+            0x11, 0x22, 0x33, 0x44, 0x55, 0x66, 0x77, 0x88, 0x1b, 0x1b,
+        ],
+        Ok((true, false)),
     ),
     (
         "BR",

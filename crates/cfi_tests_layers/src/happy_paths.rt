@@ -1,17 +1,14 @@
 //! Public calls that no other test makes, each once on its happy path.
-use crate::entries::fde_of_debug_frame;
-use crate::instructions::{FirstTwo, first_two};
+use crate::entries::{Range, range_of};
 use crate::readers::{OfBytes, Slice};
-use cfi_parts::instruction::CallFrameInstruction;
 use cfi_parts::pointer::{BaseAddresses, Pointer, SectionBaseAddresses};
 use cfi_read_core::constants::{DW_EH_PE_absptr, DW_EH_PE_pcrel, DW_EH_PE_sdata4};
-use cfi_read_core::{DebugFrameOffset, DwEhPe, EhFrameOffset, Error, Reader, Vendor};
-use cfi_unwind::entry::{CommonInformationEntry, FrameDescriptionEntry};
+use cfi_read_core::{DebugFrameOffset, DwEhPe, EhFrameOffset, Error, Reader};
+use cfi_unwind::entry::CommonInformationEntry;
 use cfi_unwind::unwind_section::{DebugFrame, EhFrame, UnwindSection};
 use std::process::Abort;
 
-/// A CIE of version 1 and an FDE of addresses of two bytes, whose instructions toggle the sign
-/// state.
+/// A CIE of version 1, and an FDE of addresses of two bytes.
 const NARROW: [u8; 26] = [
     9, 0, 0, 0, 0xff, 0xff, 0xff, 0xff, 1, 0, 1, 0x78, 0x10, 9, 0, 0, 0, 0, 0, 0, 0, 0, 0x10, 0x20,
     0, 0x2d,
@@ -47,18 +44,6 @@ fn bases(rt: HostRuntime) {
 /// The offset of an FDE, that of its CIE, and its length.
 type Places = (usize, DebugFrameOffset<usize>, usize);
 
-type Addresses = (u64, u64, u64, u8);
-
-/// The addresses of an FDE, how many there are, and how many bytes each has.
-fn addresses_of<R: Reader>(fde: &FrameDescriptionEntry<R>) -> Addresses {
-    (
-        fde.initial_address(),
-        fde.end_address(),
-        fde.len(),
-        fde.cie().address_size(),
-    )
-}
-
 /// The offsets and the length of an FDE, before it is parsed whole.
 fn places_at<R: Reader<Offset = usize>>(
     section: &DebugFrame<R>,
@@ -69,82 +54,43 @@ fn places_at<R: Reader<Offset = usize>>(
     Ok((part.offset(), part.cie_offset(), part.entry_len()))
 }
 
-fn addresses_at<R: Reader<Offset = usize>>(
-    section: &DebugFrame<R>,
-    offset: usize,
-) -> Result<Addresses, Error> {
-    Ok(addresses_of(&fde_of_debug_frame(section, offset)?))
-}
-
-/// What a section says of the FDE at 13, and its first two instructions.
-type OfNarrow = (
-    Result<Places, Error>,
-    Result<Addresses, Error>,
-    Result<FirstTwo, Error>,
-);
+/// What a section says of the FDE at 13.
+type OfNarrow = (Result<Places, Error>, Result<Range, Error>);
 
 fn of_narrow<R: Reader<Offset = usize>>(reader: R) -> OfNarrow {
     let mut section = DebugFrame::from(reader);
     section.set_address_size(2);
-    section.set_vendor(Vendor::AArch64);
-    (
-        places_at(&section, 13),
-        addresses_at(&section, 13),
-        first_two(&section, 13),
-    )
+    (places_at(&section, 13), range_of(&section, 13))
 }
 
 const OF_NARROW: OfNarrow = (
     Ok((13, DebugFrameOffset(0), 9)),
-    Ok((0x1000, 0x1020, 0x20, 2)),
-    Ok((Ok(Some(CallFrameInstruction::NegateRaState)), Ok(None))),
+    Ok((0x1000, 0x1020, 0x20, false, false)),
 );
 
-/// Whether a CIE has language-specific data, is of a signal trampoline, and has an augmentation.
-fn marks_of<R: Reader>(cie: &CommonInformationEntry<R>) -> [bool; 3] {
-    [
-        cie.has_lsda(),
-        cie.is_signal_trampoline(),
-        cie.augmentation().is_some(),
-    ]
+/// Whether a CIE has language-specific data, and whether it has an augmentation.
+fn marks_of<R: Reader>(cie: &CommonInformationEntry<R>) -> (bool, bool) {
+    (cie.has_lsda(), cie.augmentation().is_some())
 }
 
-/// The encodings of a CIE's pointers, and its personality.
-type Pointers = (
-    Option<DwEhPe>,
-    Option<DwEhPe>,
-    Option<(DwEhPe, Pointer)>,
-    Option<Pointer>,
-);
+/// The marks of a CIE, the encoding of addresses, and the personality with its encoding.
+type Letters = ((bool, bool), Option<DwEhPe>, Option<(DwEhPe, Pointer)>);
 
-fn pointers_of<R: Reader>(cie: &CommonInformationEntry<R>) -> Pointers {
-    (
-        cie.lsda_encoding(),
-        cie.fde_address_encoding(),
-        cie.personality_with_encoding(),
-        cie.personality(),
-    )
-}
-
-/// The marks and the pointers of the CIE at 0.
-fn letters_of<R: Reader<Offset = usize>>(reader: R) -> Result<([bool; 3], Pointers), Error> {
+/// The same for the CIE at 0.
+fn letters_of<R: Reader<Offset = usize>>(reader: R) -> Result<Letters, Error> {
     let section = EhFrame::from(reader);
     let cie = section.cie_from_offset(&BaseAddresses::default(), EhFrameOffset(0))?;
-    Ok((marks_of(&cie), pointers_of(&cie)))
+    Ok((
+        marks_of(&cie),
+        cie.fde_address_encoding(),
+        cie.personality_with_encoding(),
+    ))
 }
 
-const RELATIVE: Option<DwEhPe> = Some(DwEhPe(DW_EH_PE_pcrel.0 | DW_EH_PE_sdata4.0));
-
-const PERSONALITY: Pointer = Pointer::Direct(0x8877665544332211);
-
-const OF_LETTERS: Result<([bool; 3], Pointers), Error> = Ok((
-    [true; 3],
-    (
-        RELATIVE,
-        RELATIVE,
-        Some((DW_EH_PE_absptr, PERSONALITY)),
-        Some(PERSONALITY),
-    ),
+const OF_LETTERS: Result<Letters, Error> = Ok((
+    (true, true),
+    Some(DwEhPe(DW_EH_PE_pcrel.0 | DW_EH_PE_sdata4.0)),
+    Some((DW_EH_PE_absptr, Pointer::Direct(0x8877665544332211))),
 ));
 
 /// The settings of a section, and the letters of a CIE.

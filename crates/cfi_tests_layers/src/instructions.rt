@@ -13,7 +13,7 @@ use std::test::Fail;
 type Instruction = CallFrameInstruction<usize>;
 
 /// The first instruction of an FDE, and the next.
-pub(crate) type FirstTwo = (
+type FirstTwo = (
     Result<Option<Instruction>, Error>,
     Result<Option<Instruction>, Error>,
 );
@@ -24,7 +24,7 @@ const CIE: [u8; 20] = [
 ];
 
 /// The first instruction of the FDE at the offset, and the one after it.
-pub(crate) fn first_two<R: Reader<Offset = usize>>(
+fn first_two<R: Reader<Offset = usize>>(
     section: &DebugFrame<R>,
     offset: usize,
 ) -> Result<FirstTwo, Error> {

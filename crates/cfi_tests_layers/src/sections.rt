@@ -59,8 +59,8 @@ fn personalities<R: Reader<Offset = usize>>(reader: R) -> [Result<Option<Pointer
 /// A CIE is no FDE; a CIE of the 64-bit format; a personality by its base.
 fn check_cies<'a, R: Reader<Offset = usize> + OfBytes<'a>>(rt: &impl Abort) {
     let found = (cie_at_0(R::of(&THREE_ROWS)), cie_alone(R::of(&WIDE_CIE)));
-    let narrow = (Format::Dwarf32, 16, 4, -8, Register(16));
-    let wide = (Format::Dwarf64, 9, 1, -8, Register(16));
+    let narrow = (Format::Dwarf32, 16, 4, 8, -8, Register(16));
+    let wide = (Format::Dwarf64, 9, 1, 8, -8, Register(16));
     let refusal = Some(Error::NotCiePointer(0));
     assert_eq!(rt; found, (Ok((narrow, refusal)), Ok((wide, true, true))));
     let expected = [

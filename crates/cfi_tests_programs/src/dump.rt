@@ -1,8 +1,10 @@
 //! Sections printed over memory, whose rows were worked out by hand.
 ghost use Rattle.cfi_programs.specs.Words.{AreRead};
 
-use cfi_programs::dump::Printed;
+use cfi_elf::FunctionNames;
 use cfi_programs::dump::print::{print_bytes, print_rows};
+use cfi_programs::dump::{AskedRows, Printed};
+use cfi_programs::register_names::RegisterNames;
 use cfi_programs::words::{Kind, SectionWords};
 use cfi_tests_bytes::bytes_of;
 use gimli_cfi::{RunTimeEndian, Vendor};
@@ -35,7 +37,14 @@ const THREE_ROWS: &str = "10000000 ffffffff 04000800 017810 0c0708 9001 \
 
 /// What is printed of it.
 const THREE_ROWS_PRINTED: &str = "cie 0x0 length=16 version=4 size=8 code=1 data=-8 return=r16
+  DW_CFA_def_cfa register=r7 offset=8
+  DW_CFA_offset register=r16 factored_offset=1
 fde 0x14 length=28 cie=0x0 0x1000 0x1020
+  DW_CFA_advance_loc delta=1
+  DW_CFA_def_cfa_offset offset=16
+  DW_CFA_offset register=r6 factored_offset=2
+  DW_CFA_advance_loc delta=3
+  DW_CFA_def_cfa_register register=r6
 0x1000 0x1001 cfa=r7+8 args=0 r16=offset(-8)
 0x1001 0x1004 cfa=r7+16 args=0 r6=offset(-16) r16=offset(-8)
 0x1004 0x1020 cfa=r6+16 args=0 r6=offset(-16) r16=offset(-8)
@@ -61,7 +70,12 @@ const REFUSED: &str = "10000000 ffffffff 04000800 017810 0c0708 9001 \
     17000000 00000000 0010000000000000 2000000000000000 41 0b 42";
 
 const REFUSED_PRINTED: &str = "cie 0x0 length=16 version=4 size=8 code=1 data=-8 return=r16
+  DW_CFA_def_cfa register=r7 offset=8
+  DW_CFA_offset register=r16 factored_offset=1
 fde 0x14 length=23 cie=0x0 0x1000 0x1020
+  DW_CFA_advance_loc delta=1
+  DW_CFA_restore_state
+  DW_CFA_advance_loc delta=2
 0x1000 0x1001 cfa=r7+8 args=0 r16=offset(-8)
 refused PopWithEmptyStack
 0x1001 0x1003 cfa=r7+8 args=0 r16=offset(-8)
@@ -75,8 +89,50 @@ const LETTERS: &str =
 
 const LETTERS_PRINTED: &str =
     "cie 0x0 length=29 version=1 size=8 code=1 data=-8 return=r16 addresses=0x1b lsda=0x0 personality=0x0:0x4030 signal
+  DW_CFA_def_cfa register=r7 offset=8
 fde 0x21 length=21 cie=0x0 0x1000 0x1010 lsda=0x5050
 0x1000 0x1010 cfa=r7+8 args=0
+";
+
+/// A CIE with an instruction of each opcode (DWARF 5 section 7.24; of GNU and AArch64), then a byte
+/// that is no opcode, so that the one after it isn't read.
+const INSTRUCTIONS: &str = "5a000000 ffffffff 04000800 017810 \
+    010010000000000000 41 0202 030300 0404000000 0c0708 12077f 0d06 0e10 137e 0f019c \
+    0703 0804 8602 052103 11057d 2f0504 140505 15057a 090506 1005027700 16050196 c6 \
+    0621 0a 0b 2e10 2d 00 1700";
+
+/// What is printed of it.
+const INSTRUCTIONS_PRINTED: &str = "cie 0x0 length=90 version=4 size=8 code=1 data=-8 return=r16
+  DW_CFA_set_loc address=0x1000
+  DW_CFA_advance_loc delta=1
+  DW_CFA_advance_loc delta=2
+  DW_CFA_advance_loc delta=3
+  DW_CFA_advance_loc delta=4
+  DW_CFA_def_cfa register=r7 offset=8
+  DW_CFA_def_cfa_sf register=r7 factored_offset=-1
+  DW_CFA_def_cfa_register register=r6
+  DW_CFA_def_cfa_offset offset=16
+  DW_CFA_def_cfa_offset_sf factored_offset=-2
+  DW_CFA_def_cfa_expression expression=expr@49:1
+  DW_CFA_undefined register=r3
+  DW_CFA_same_value register=r4
+  DW_CFA_offset register=r6 factored_offset=2
+  DW_CFA_offset register=r33 factored_offset=3
+  DW_CFA_offset_extended_sf register=r5 factored_offset=-3
+  DW_CFA_GNU_negative_offset_extended register=r5 factored_offset=4
+  DW_CFA_val_offset register=r5 factored_offset=5
+  DW_CFA_val_offset_sf register=r5 factored_offset=-6
+  DW_CFA_register dest_register=r5 src_register=r6
+  DW_CFA_expression register=r5 expression=expr@77:2
+  DW_CFA_val_expression register=r5 expression=expr@82:1
+  DW_CFA_restore register=r6
+  DW_CFA_restore register=r33
+  DW_CFA_remember_state
+  DW_CFA_restore_state
+  DW_CFA_GNU_args_size size=16
+  DW_CFA_AARCH64_negate_ra_state
+  DW_CFA_nop
+refused UnknownCallFrameInstruction
 ";
 
 /// Compares what was printed, and the status. Fails for lack of memory where a refusal of it is all
@@ -98,7 +154,7 @@ fn expect(
 /// Compares what is printed of a section, and the status.
 fn prints(
     rt: &(impl Abort + AllocGlobal),
-    printed: Printed,
+    printed: Printed<'_>,
     words: &SectionWords,
     digits: &str,
     text: &str,
@@ -106,8 +162,16 @@ fn prints(
     requires { AreRead words.now }
 {
     let bytes = bytes_of(rt.alloc(), digits)?;
+    let names = RegisterNames::Numbers;
     let mut output = Vec::new(rt.alloc());
-    let status = print_bytes(rt.alloc(), printed, words, bytes.as_slice(), &mut output)?;
+    let status = print_bytes(
+        rt.alloc(),
+        names,
+        printed,
+        words,
+        bytes.as_slice(),
+        &mut output,
+    )?;
     expect(rt, output.as_slice(), status, text)
 }
 
@@ -121,6 +185,21 @@ fn entries_and_rows(rt: HostRuntime) -> Result<(), Fail> {
         ..EH_FRAME
     };
     prints(&rt, entries, &of_letters, LETTERS, LETTERS_PRINTED)
+}
+
+#[test]
+fn each_instruction(rt: HostRuntime) -> Result<(), Fail> {
+    let of_aarch64 = SectionWords {
+        vendor: Vendor::AArch64,
+        ..DEBUG_FRAME
+    };
+    prints(
+        &rt,
+        Printed::Entries,
+        &of_aarch64,
+        INSTRUCTIONS,
+        INSTRUCTIONS_PRINTED,
+    )
 }
 
 #[test]
@@ -156,14 +235,40 @@ const ADDRESSES: [(Option<u64>, &str); 4] = [
     (Some(0x1020), ""),
 ];
 
+/// Compares the rows of `THREE_ROWS` that are printed at an address, and the status.
+fn prints_rows(
+    rt: &(impl Abort + AllocGlobal),
+    names: RegisterNames,
+    address: Option<u64>,
+    functions: &FunctionNames<'_>,
+    text: &str,
+) -> Result<(), Fail> {
+    let bytes = bytes_of(rt.alloc(), THREE_ROWS)?;
+    let section = bytes.as_slice();
+    let asked = AskedRows { address, functions };
+    let mut output = Vec::new(rt.alloc());
+    let status = print_rows(rt.alloc(), names, asked, &DEBUG_FRAME, section, &mut output)?;
+    expect(rt, output.as_slice(), status, text)
+}
+
 #[test]
 fn rows_of_fdes(rt: HostRuntime) -> Result<(), Fail> {
-    let bytes = bytes_of(rt.alloc(), THREE_ROWS)?;
+    let functions = FunctionNames::none(rt.alloc());
     for (address, text) in &ADDRESSES {
-        let mut output = Vec::new(rt.alloc());
-        let section = bytes.as_slice();
-        let status = print_rows(rt.alloc(), *address, &DEBUG_FRAME, section, &mut output)?;
-        expect(&rt, output.as_slice(), status, text)?;
+        prints_rows(&rt, RegisterNames::Numbers, *address, &functions, text)?;
     }
     Ok(())
+}
+
+/// The rows of the FDE with the names of registers on x86-64.
+const THREE_ROWS_NAMED: &str = "fde 0x1000 0x1020
+0x1000 0x1001 cfa=rsp+8 args=0 ra=offset(-8)
+0x1001 0x1004 cfa=rsp+16 args=0 rbp=offset(-16) ra=offset(-8)
+0x1004 0x1020 cfa=rbp+16 args=0 rbp=offset(-16) ra=offset(-8)
+";
+
+#[test]
+fn rows_with_names(rt: HostRuntime) -> Result<(), Fail> {
+    let functions = FunctionNames::none(rt.alloc());
+    prints_rows(&rt, RegisterNames::X86_64, None, &functions, THREE_ROWS_NAMED)
 }

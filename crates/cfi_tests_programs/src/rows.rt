@@ -6,13 +6,14 @@ mod failing;
 mod header;
 
 use cfi_parts::instruction::UnwindExpression;
-use cfi_programs::lines::{Address, write_part};
-use cfi_programs::row_line::{Cfa, Rule};
+use cfi_programs::register_names::RegisterNames;
+use cfi_programs::row_line::{push_frame, push_ruled};
 use cfi_programs::rows::run::run;
+use cfi_programs::text::{Text, push, push_address};
 use cfi_state::table::rules::{CfaRule, RegisterRule};
+use gimli_cfi::Register;
 use std::alloc::{AllocError, Global};
-use std::io;
-use std::io::Write;
+use std::fmt;
 use std::process::Abort;
 use std::test::Fail;
 
@@ -333,28 +334,30 @@ fn one_rule_more_than_there_is_room_for(rt: HostRuntime) -> Result<(), Fail> {
     check_many_rules(&rt, text.as_str(), line.as_str())
 }
 
-/// Writes the longest parts of a line, one after the other.
-fn write_longest_parts<W: Write>(output: &mut W) -> io::Result<()> {
-    let address = Address(u64::MAX);
+/// Appends the longest parts of a line, one after the other.
+fn push_longest_parts(text: &mut Text) -> fmt::Result {
     let expression = UnwindExpression {
         offset: usize::MAX,
         length: usize::MAX,
     };
-    let cfa = Cfa(CfaRule::Expression(expression));
-    let rule = Rule(RegisterRule::ValExpression(expression));
-    write_part(
-        output,
-        format_args!("{address} {address} cfa={cfa} args={}", u64::MAX),
-    )?;
-    write_part(output, format_args!(" r{}={rule}", u16::MAX))
+    let (cfa, rule) = (
+        CfaRule::Expression(expression),
+        RegisterRule::ValExpression(expression),
+    );
+    push_address(text, u64::MAX)?;
+    push(text, b" ")?;
+    push_address(text, u64::MAX)?;
+    push_frame(text, RegisterNames::Numbers, cfa, u64::MAX)?;
+    push_ruled(text, RegisterNames::Numbers, Register(u16::MAX), rule)
 }
 
 #[test]
 fn has_room_for_the_longest_part(rt: HostRuntime) -> Result<(), Fail> {
-    let mut output = Vec::new(rt.alloc());
-    write_longest_parts(&mut output)?;
+    let mut text = Text::new();
+    let pushed = push_longest_parts(&mut text).is_ok();
     let line =
         "0xffffffffffffffff 0xffffffffffffffff cfa=expr@18446744073709551615:18446744073709551615 args=18446744073709551615 r65535=val_expr@18446744073709551615:18446744073709551615";
-    assert_eq!(rt; output.as_slice(), line.as_bytes());
+    assert_eq!(rt; pushed, true);
+    assert_eq!(rt; text.as_slice(), line.as_bytes());
     Ok(())
 }

@@ -1,4 +1,5 @@
-//! The rows of each FDE, or of those that contain an address, after a line with its addresses.
+//! The rows of each FDE, or of those that contain an address, after a line with its addresses and
+//! the name of the function that begins there.
 ghost use Rattle.std.specs.Prelude.{◌≡◌, ◌++◌, [], ⊤, IfOk, if◌then◌else◌};
 ghost use Rattle.cfi_read_core.specs.ReaderCalls.{map_ok};
 ghost use Rattle.cfi_read_core.specs.CallFrameSections.{IsOf};
@@ -7,13 +8,20 @@ ghost use Rattle.cfi_entry.specs.Sections.{section_of};
 ghost use Rattle.cfi_unwind.specs.FdeViews.{fde_view};
 ghost use Rattle.cfi_unwind.specs.WalkViews.{OfEither, entry_view, partial_of};
 ghost use Rattle.cfi_unwind.specs.Scan.{read_fde};
+ghost use Rattle.cfi_elf.specs.FunctionNames.{name_in};
 ghost use Rattle.cfi_programs.specs.WriterOutput.{Writes};
-ghost use Rattle.cfi_programs.specs.DumpSectionTexts.{fde_rows, item_text, lines};
-ghost use Rattle.cfi_programs.specs.DumpRowTexts.{addresses_line, entry_rows_text, fde_rows_text};
-ghost use Rattle.cfi_programs.specs.DumpRowTexts.{is_asked_for};
+ghost use Rattle.cfi_programs.specs.DumpSectionTexts.{fde_rows, lines};
+ghost use Rattle.cfi_programs.specs.DumpRowTexts.{addresses_line, addresses_text};
+ghost use Rattle.cfi_programs.specs.DumpRowTexts.{entry_rows_text, fde_rows_text, is_asked_for};
+ghost use Rattle.cfi_programs.specs.ReadingTexts.{item_text};
 
+use crate::dump::function_line::end_line;
+use crate::dump::printed::AskedRows;
 use crate::dump::section::{whole, write_refused, write_rows};
-use crate::lines::{Address, write_part};
+use crate::lines::write_text;
+use crate::register_names::RegisterNames;
+use crate::text::{Text, push, push_address};
+use cfi_elf::FunctionNames;
 use gimli_cfi::{
     _UnwindSectionPrivate, BaseAddresses, CieOrFde, FrameDescriptionEntry,
     PartialFrameDescriptionEntry, Reader, Result, UnwindContext, UnwindSection,
@@ -25,7 +33,8 @@ use std::io::Write;
 /// there is one; or the error in place of an entry. A CIE has no text.
 pub fn write_entry_rows<R: Reader<Offset = usize>, S: UnwindSection<R>, W: Write>(
     output: &mut W,
-    address: Option<u64>,
+    names: RegisterNames,
+    asked: AskedRows<'_>,
     section: &S,
     bases: &BaseAddresses,
     context: &mut UnwindContext<usize>,
@@ -35,13 +44,15 @@ pub fn write_entry_rows<R: Reader<Offset = usize>, S: UnwindSection<R>, W: Write
         (λ p. (p.section ≡ section.now) × (p.bases.now ≡ bases.now))) }
     ensures { let found = map_ok (entry_view (cie_view R.position (λ n. n))
         (λ p. partial_of R.position (λ n. n) p.prefix p.cie_offset)) entry.entry in
-        Writes (W.contents output.old) (W.contents output.new) result (item_text
-        (λ e. entry_rows_text address (section_of (S.view section.now) bases.now) e) found) }
+        let function = name_in asked.entry.functions.now in
+        Writes (W.contents output.old) (W.contents output.new) result
+        (item_text (λ e. entry_rows_text names function asked.entry.address
+        (section_of (S.view section.now) bases.now) e) found) }
 {
     match entry {
         Ok(CieOrFde::Cie(_)) => Ok(()),
         Ok(CieOrFde::Fde(partial)) => {
-            write_partial_rows(output, address, section, bases, context, &partial)
+            write_partial_rows(output, names, asked, section, bases, context, &partial)
         }
         Err(error) => write_refused(output, error),
     }
@@ -50,7 +61,8 @@ pub fn write_entry_rows<R: Reader<Offset = usize>, S: UnwindSection<R>, W: Write
 /// Writes the addresses and the rows of the FDE, if it is asked for; or why it can't be read whole.
 fn write_partial_rows<R: Reader<Offset = usize>, S: UnwindSection<R>, W: Write>(
     output: &mut W,
-    address: Option<u64>,
+    names: RegisterNames,
+    asked: AskedRows<'_>,
     section: &S,
     bases: &BaseAddresses,
     context: &mut UnwindContext<usize>,
@@ -61,10 +73,11 @@ fn write_partial_rows<R: Reader<Offset = usize>, S: UnwindSection<R>, W: Write>(
     ensures { let from = section_of (S.view section.now) bases.now in
         let found = partial_of R.position (λ n. n) partial.now.prefix partial.now.cie_offset in
         Writes (W.contents output.old) (W.contents output.new) result
-        (fde_rows_text address from (read_fde from found)) }
+        (fde_rows_text names (name_in asked.entry.functions.now) asked.entry.address from
+        (read_fde from found)) }
 {
     match whole(partial) {
-        Ok(fde) => write_if_asked_for(output, address, section, bases, context, &fde),
+        Ok(fde) => write_if_asked_for(output, names, asked, section, bases, context, &fde),
         Err(error) => write_refused(output, error),
     }
 }
@@ -72,7 +85,8 @@ fn write_partial_rows<R: Reader<Offset = usize>, S: UnwindSection<R>, W: Write>(
 /// Writes the addresses and the rows of the FDE, if it is asked for.
 fn write_if_asked_for<R: Reader<Offset = usize>, S: UnwindSection<R>, W: Write>(
     output: &mut W,
-    address: Option<u64>,
+    names: RegisterNames,
+    asked: AskedRows<'_>,
     section: &S,
     bases: &BaseAddresses,
     context: &mut UnwindContext<usize>,
@@ -82,12 +96,13 @@ fn write_if_asked_for<R: Reader<Offset = usize>, S: UnwindSection<R>, W: Write>(
     requires cie { IsOf (R.position fde.now.cie.initial_instructions)
         (S.view section.now).position }
     ensures { let read = fde_view R.position (λ n. n) fde.now in
-        let rows = lines (fde_rows (section_of (S.view section.now) bases.now) read) in
+        let rows = lines names (fde_rows (section_of (S.view section.now) bases.now) read) in
         Writes (W.contents output.old) (W.contents output.new) result
-        (if is_asked_for address read then addresses_line read ++ rows else []) }
+        (if is_asked_for asked.entry.address read
+        then addresses_line (name_in asked.entry.functions.now) read ++ rows else []) }
 {
-    if is_asked_for(address, fde) {
-        write_addressed_rows(output, section, bases, context, fde)
+    if is_asked_for(asked.address, fde) {
+        write_addressed_rows(output, names, asked.functions, section, bases, context, fde)
     } else {
         Ok(())
     }
@@ -109,6 +124,8 @@ fn is_asked_for<R: Reader<Offset = usize>>(
 /// Writes the line of the FDE's addresses, and the lines of its rows.
 fn write_addressed_rows<R: Reader<Offset = usize>, S: UnwindSection<R>, W: Write>(
     output: &mut W,
+    names: RegisterNames,
+    functions: &FunctionNames<'_>,
     section: &S,
     bases: &BaseAddresses,
     context: &mut UnwindContext<usize>,
@@ -118,23 +135,38 @@ fn write_addressed_rows<R: Reader<Offset = usize>, S: UnwindSection<R>, W: Write
     requires cie { IsOf (R.position fde.now.cie.initial_instructions)
         (S.view section.now).position }
     ensures { let read = fde_view R.position (λ n. n) fde.now in
-        let rows = lines (fde_rows (section_of (S.view section.now) bases.now) read) in
+        let rows = lines names (fde_rows (section_of (S.view section.now) bases.now) read) in
         Writes (W.contents output.old) (W.contents output.new) result
-        (addresses_line read ++ rows) }
+        (addresses_line (name_in functions.now) read ++ rows) }
 {
-    write_addresses(output, fde)?;
-    write_rows(output, section, bases, context, fde)
+    write_addresses(output, functions, fde)?;
+    write_rows(output, names, section, bases, context, fde)
 }
 
-/// Writes the line of the FDE's addresses, from the first up to the end.
+/// Writes the line of the FDE's addresses, from the first up to the end, and of the name of the
+/// function that begins at the first.
 fn write_addresses<R: Reader<Offset = usize>, W: Write>(
     output: &mut W,
+    functions: &FunctionNames<'_>,
     fde: &FrameDescriptionEntry<R>,
 ) -> io::Result<()>
     ensures { Writes (W.contents output.old) (W.contents output.new) result
-        (addresses_line (fde_view R.position (λ n. n) fde.now)) }
+        (addresses_line (name_in functions.now) (fde_view R.position (λ n. n) fde.now)) }
 {
-    let start = Address(fde.initial_address());
-    let end = Address(fde.end_address());
-    write_part(output, format_args!("fde {start} {end}\n"))
+    let start = fde.initial_address();
+    write_range(output, start, fde.end_address())?;
+    end_line(output, functions.name_at(start))
+}
+
+/// Writes the addresses, from the first up to the end.
+fn write_range<W: Write>(output: &mut W, start: u64, end: u64) -> io::Result<()>
+    ensures { Writes (W.contents output.old) (W.contents output.new) result
+        (addresses_text start end) }
+{
+    let mut text = Text::new();
+    push(&mut text, b"fde ")?;
+    push_address(&mut text, start)?;
+    push(&mut text, b" ")?;
+    push_address(&mut text, end)?;
+    write_text(output, text.as_slice())
 }

@@ -1,14 +1,16 @@
 //! The steps of a compiled table, a line each.
-ghost use Rattle.std.specs.Prelude.{◌≡◌, ◌++◌, ◌≤◌, ℕ, [], ◌∷◌, Err, None, Ok};
+ghost use Rattle.std.specs.Prelude.{◌≡◌, ◌≤◌, ℕ, None, Ok};
 ghost use Rattle.std.specs.FinMap as map;
 ghost use Rattle.cfi_compiled.specs.CompiledRows.{parts_kept};
 ghost use Rattle.cfi_compiled.specs.CompiledTables.{steps_of};
 ghost use Rattle.cfi_compiled.specs.TableSteps.{step_view};
 ghost use Rattle.cfi_programs.specs.WriterOutput.{Writes};
-ghost use Rattle.cfi_programs.specs.DumpCompiledTexts.{step_head, step_text, steps_text};
+ghost use Rattle.cfi_programs.specs.DumpCompiledTexts.{error_text, step_text, steps_text};
 
 use crate::lines::{Address, write_part, write_text};
-use crate::row_line::{Cfa, HasRules, number_behind, write_rules};
+use crate::register_names::RegisterNames;
+use crate::row_line::{HasRules, number_behind, push_frame, write_by_number};
+use crate::text::{Text, push, push_address};
 use cfi_compiled::{CompiledRow, CompiledStep, CompiledTable};
 use gimli_cfi::{Error, Register, RegisterRule};
 use std::io;
@@ -17,53 +19,58 @@ use std::io::Write;
 /// Writes a line for each step of the table, in the order of their addresses: the first address,
 /// and the CFA, the argument size and the rules from there up to the next step; or `refused` and
 /// the name of the error.
-pub fn write_steps<W: Write>(output: &mut W, table: &CompiledTable) -> io::Result<()>
+pub fn write_steps<W: Write>(
+    output: &mut W,
+    names: RegisterNames,
+    table: &CompiledTable,
+) -> io::Result<()>
     ensures { Writes (W.contents output.old) (W.contents output.new) result
-        (steps_text (steps_of table.now)) }
+        (steps_text names (steps_of table.now)) }
 {
     for step in table.iter() {
-        write_step(output, &step)?;
+        write_step(output, names, &step)?;
     }
     Ok(())
 }
 
 /// Writes the line of a step.
-fn write_step<W: Write>(output: &mut W, step: &CompiledStep<'_>) -> io::Result<()>
+fn write_step<W: Write>(
+    output: &mut W,
+    names: RegisterNames,
+    step: &CompiledStep<'_>,
+) -> io::Result<()>
     ensures { let viewed = step_view step.now in
         Writes (W.contents output.old) (W.contents output.new) result
-        (step_text viewed.start viewed.parts) }
+        (step_text names viewed.start viewed.parts) }
 {
     match step.row {
-        Ok(row) => write_row(output, step.start, &row),
+        Ok(row) => write_row(output, names, step.start, &row),
         Err(error) => write_error(output, step.start, error),
     }
 }
 
 /// Writes the line of a step that has a row, its registers in ascending order.
-fn write_row<W: Write>(output: &mut W, start: u64, row: &CompiledRow<'_>) -> io::Result<()>
+fn write_row<W: Write>(
+    output: &mut W,
+    names: RegisterNames,
+    start: u64,
+    row: &CompiledRow<'_>,
+) -> io::Result<()>
     ensures { Writes (W.contents output.old) (W.contents output.new) result
-        (step_text start (Ok (parts_kept row.now))) }
+        (step_text names start (Ok (parts_kept row.now))) }
 {
-    write_head(output, start, row)?;
-    write_rules(output, row)?;
-    write_text(output, b"\n")
-}
-
-/// Writes what comes before the rules: the first address, the CFA and the argument size.
-fn write_head<W: Write>(output: &mut W, start: u64, row: &CompiledRow<'_>) -> io::Result<()>
-    ensures { Writes (W.contents output.old) (W.contents output.new) result
-        (step_head start (parts_kept row.now)) }
-{
-    let start = Address(start);
-    let cfa = Cfa(*row.cfa());
-    let args_size = row.saved_args_size();
-    write_part(output, format_args!("{start} cfa={cfa} args={args_size}"))
+    let mut text = Text::new();
+    push_address(&mut text, start)?;
+    push_frame(&mut text, names, *row.cfa(), row.saved_args_size())?;
+    write_by_number(output, &mut text, names, row)?;
+    push(&mut text, b"\n")?;
+    write_text(output, text.as_slice())
 }
 
 /// Writes the line of a step that has an error.
 fn write_error<W: Write>(output: &mut W, start: u64, error: Error) -> io::Result<()>
     ensures { Writes (W.contents output.old) (W.contents output.new) result
-        (step_text start (Err error)) }
+        (error_text start error) }
 {
     let start = Address(start);
     let name = error.name();

@@ -13,6 +13,7 @@ ghost use Rattle.cfi_programs.specs.DumpEntryLines.{partial_fde_line};
 ghost use Rattle.cfi_programs.specs.DumpEntryLines.{personality_text, signal_text, target_text};
 
 use crate::lines::{Address, write_part};
+use crate::register_names::RegisterNames;
 use gimli_cfi::{CommonInformationEntry, DwEhPe, FrameDescriptionEntry, Pointer, Reader};
 use std::fmt::{Display, Formatter};
 use std::io::Write;
@@ -132,13 +133,14 @@ impl Display for Lsda {
 /// Writes the line of a CIE: its fields, and what its augmentation means.
 pub fn write_cie<R: Reader<Offset = usize>, W: Write>(
     output: &mut W,
+    names: RegisterNames,
     cie: &CommonInformationEntry<R>,
 ) -> io::Result<()>
     ensures { Writes (W.contents output.old) (W.contents output.new) result
-        (cie_line (cie_view R.position (λ n. n) cie.now)) }
+        (cie_line names (cie_view R.position (λ n. n) cie.now)) }
 {
     write_cie_head(output, cie)?;
-    write_cie_factors(output, cie)?;
+    write_cie_factors(output, names, cie)?;
     write_cie_augmentation(output, cie)
 }
 
@@ -161,17 +163,18 @@ fn write_cie_head<R: Reader<Offset = usize>, W: Write>(
 
 fn write_cie_factors<R: Reader<Offset = usize>, W: Write>(
     output: &mut W,
+    names: RegisterNames,
     cie: &CommonInformationEntry<R>,
 ) -> io::Result<()>
     ensures { Writes (W.contents output.old) (W.contents output.new) result
-        (cie_factors (cie_view R.position (λ n. n) cie.now)) }
+        (cie_factors names (cie_view R.position (λ n. n) cie.now)) }
 {
     let code = cie.code_alignment_factor();
     let data = cie.data_alignment_factor();
-    let register = cie.return_address_register().0;
+    let register = names.name(cie.return_address_register().0);
     write_part(
         output,
-        format_args!(" code={code} data={data} return=r{register}"),
+        format_args!(" code={code} data={data} return={register}"),
     )
 }
 

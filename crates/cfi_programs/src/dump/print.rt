@@ -14,9 +14,10 @@ ghost use Rattle.cfi_programs.specs.DumpRowTexts.{listed_text};
 ghost use Rattle.cfi_programs.specs.declared.dump.printed.Printed.TheVariants.{Compiled, Rows};
 
 use crate::dump::compiled::write_steps;
-use crate::dump::printed::Printed;
+use crate::dump::printed::{AskedRows, Printed};
 use crate::dump::section::{Listed, write_section};
 use crate::lines::write_refusal;
+use crate::register_names::RegisterNames;
 use crate::words::{Kind, SectionWords};
 use cfi_compiled::CompiledTable;
 use gimli_cfi::{
@@ -36,26 +37,28 @@ use std::io::Write;
 /// Allocates one context and a compiled table. Printing does not allocate.
 pub fn print_bytes<W: Write>(
     alloc: Global,
-    printed: Printed,
+    names: RegisterNames,
+    printed: Printed<'_>,
     words: &SectionWords,
     bytes: &[u8],
     output: &mut W,
 ) -> io::Result<u8>
     requires { AreRead words.now }
     ensures { (line : Line) × Prints line (W.contents output.old) (W.contents output.new) result
-        × IsPrinted printed (section_of_words words.now bytes.now) line }
+        × IsPrinted names printed.entry (section_of_words words.now bytes.now) line }
 {
     match UnwindContext::<usize>::new(alloc) {
         Ok(mut context) => {
             let reader = EndianSlice::new(bytes, words.endian);
-            print_read(alloc, output, printed, words, reader, &mut context)
+            print_read(alloc, output, names, printed, words, reader, &mut context)
         }
         Err(error) => write_refusal(output, error),
     }
 }
 
-/// Prints the rows of the section's FDEs, after a line `fde` with the addresses of each, and
-/// returns the status; where an address is given, only for the FDEs that contain it.
+/// Prints the rows of the section's FDEs, after a line `fde` with the addresses of each and the
+/// name of the function that begins there, and returns the status; where an address is given, only
+/// for the FDEs that contain it.
 ///
 /// The second address of that line is one past the last, and wraps at the size of an address. A
 /// line `refused` stands in place of an FDE that can't be read whole, which may be the one of the
@@ -63,23 +66,25 @@ pub fn print_bytes<W: Write>(
 /// The status, the errors and what is allocated are those of `print_bytes`.
 pub fn print_rows<W: Write>(
     alloc: Global,
-    address: Option<u64>,
+    names: RegisterNames,
+    asked: AskedRows<'_>,
     words: &SectionWords,
     bytes: &[u8],
     output: &mut W,
 ) -> io::Result<u8>
     requires { AreRead words.now }
     ensures { (line : Line) × Prints line (W.contents output.old) (W.contents output.new) result
-        × IsPrinted (Rows address) (section_of_words words.now bytes.now) line }
+        × IsPrinted names (Rows asked.entry) (section_of_words words.now bytes.now) line }
 {
-    print_bytes(alloc, Printed::Rows(address), words, bytes, output)
+    print_bytes(alloc, names, Printed::Rows(asked), words, bytes, output)
 }
 
 /// Prints the section that a reader has.
 fn print_read<R: Reader<Offset = usize>, W: Write>(
     alloc: Global,
     output: &mut W,
-    printed: Printed,
+    names: RegisterNames,
+    printed: Printed<'_>,
     words: &SectionWords,
     reader: R,
     context: &mut UnwindContext<usize>,
@@ -88,7 +93,7 @@ fn print_read<R: Reader<Offset = usize>, W: Write>(
     ensures { (bytes : List ℕ)
         → R.position reader ≡ all_of bytes (is_big words.now.endian) 18446744073709551615
         → (line : Line) × Prints line (W.contents output.old) (W.contents output.new) result
-        × IsPrinted printed (section_of_words words.now bytes) line }
+        × IsPrinted names printed.entry (section_of_words words.now bytes) line }
 {
     let bases = words.bases();
     match words.kind {
@@ -96,13 +101,13 @@ fn print_read<R: Reader<Offset = usize>, W: Write>(
             let mut frame = DebugFrame::from(reader);
             frame.set_address_size(words.address_size);
             frame.set_vendor(words.vendor);
-            print_section(alloc, output, printed, &frame, &bases, context)
+            print_section(alloc, output, names, printed, &frame, &bases, context)
         }
         Kind::EhFrame => {
             let mut frame = EhFrame::from(reader);
             frame.set_address_size(words.address_size);
             frame.set_vendor(words.vendor);
-            print_section(alloc, output, printed, &frame, &bases, context)
+            print_section(alloc, output, names, printed, &frame, &bases, context)
         }
     }
 }
@@ -111,35 +116,38 @@ fn print_read<R: Reader<Offset = usize>, W: Write>(
 fn print_section<R: Reader<Offset = usize>, S: UnwindSection<R>, W: Write>(
     alloc: Global,
     output: &mut W,
-    printed: Printed,
+    names: RegisterNames,
+    printed: Printed<'_>,
     section: &S,
     bases: &BaseAddresses,
     context: &mut UnwindContext<usize>,
 ) -> io::Result<u8>
     ensures { (line : Line) × Prints line (W.contents output.old) (W.contents output.new) result
-        × IsPrinted printed (section_of (S.view section.now) bases.now) line }
+        × IsPrinted names printed.entry (section_of (S.view section.now) bases.now) line }
 {
     match printed {
-        Printed::Entries => print_listed(output, Listed::Entries, section, bases, context),
-        Printed::Rows(address) => {
-            print_listed(output, Listed::Rows(address), section, bases, context)
+        Printed::Entries => print_listed(output, names, Listed::Entries, section, bases, context),
+        Printed::Rows(asked) => {
+            print_listed(output, names, Listed::Rows(asked), section, bases, context)
         }
-        Printed::Compiled => print_compiled(alloc, output, section, bases, context),
+        Printed::Compiled => print_compiled(alloc, output, names, section, bases, context),
     }
 }
 
 /// Prints the entries of the section, and returns the status 0.
 fn print_listed<R: Reader<Offset = usize>, S: UnwindSection<R>, W: Write>(
     output: &mut W,
-    listed: Listed,
+    names: RegisterNames,
+    listed: Listed<'_>,
     section: &S,
     bases: &BaseAddresses,
     context: &mut UnwindContext<usize>,
 ) -> io::Result<u8>
-    ensures { Prints (text_output (listed_text listed (section_of (S.view section.now) bases.now)))
+    ensures { let from = section_of (S.view section.now) bases.now in
+        Prints (text_output (listed_text names listed.entry from))
         (W.contents output.old) (W.contents output.new) result }
 {
-    write_section(output, listed, section, bases, context)?;
+    write_section(output, names, listed, section, bases, context)?;
     Ok(0)
 }
 
@@ -147,24 +155,29 @@ fn print_listed<R: Reader<Offset = usize>, S: UnwindSection<R>, W: Write>(
 fn print_compiled<R: Reader<Offset = usize>, S: UnwindSection<R>, W: Write>(
     alloc: Global,
     output: &mut W,
+    names: RegisterNames,
     section: &S,
     bases: &BaseAddresses,
     context: &mut UnwindContext<usize>,
 ) -> io::Result<u8>
     ensures { (line : Line) × Prints line (W.contents output.old) (W.contents output.new) result
-        × IsPrinted Compiled (section_of (S.view section.now) bases.now) line }
+        × IsPrinted names Compiled (section_of (S.view section.now) bases.now) line }
 {
     match CompiledTable::with_context(alloc, section, bases, context) {
-        Ok(table) => print_steps(output, &table),
+        Ok(table) => print_steps(output, names, &table),
         Err(error) => write_refusal(output, error),
     }
 }
 
 /// Prints the steps of the table, and returns the status 0.
-fn print_steps<W: Write>(output: &mut W, table: &CompiledTable) -> io::Result<u8>
-    ensures { Prints (text_output (steps_text (steps_of table.now)))
+fn print_steps<W: Write>(
+    output: &mut W,
+    names: RegisterNames,
+    table: &CompiledTable,
+) -> io::Result<u8>
+    ensures { Prints (text_output (steps_text names (steps_of table.now)))
         (W.contents output.old) (W.contents output.new) result }
 {
-    write_steps(output, table)?;
+    write_steps(output, names, table)?;
     Ok(0)
 }

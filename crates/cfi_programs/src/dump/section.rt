@@ -1,5 +1,5 @@
-//! The entries of a section in order, and the rows of each FDE.
-ghost use Rattle.std.specs.Prelude.{◌≡◌, ◌++◌, ℕ, ⊤, Some, IfOk};
+//! The entries of a section in order, their instructions, and the rows of each FDE.
+ghost use Rattle.std.specs.Prelude.{◌≡◌, ◌++◌, ℕ, Some, IfOk};
 ghost use Rattle.cfi_read_core.specs.ReaderCalls.{map_ok};
 ghost use Rattle.cfi_read_core.specs.CallFrameSections.{IsOf};
 ghost use Rattle.cfi_state.specs.ContextEffects.{setting_of};
@@ -7,6 +7,7 @@ ghost use Rattle.cfi_state.specs.FdeAnswers.{IsStateAfter};
 ghost use Rattle.cfi_state.specs.AcceptedInstructions.{at_program};
 ghost use Rattle.cfi_state.specs.Program.{Program};
 ghost use Rattle.cfi_state.specs.UnwindTableStates.{answers_to_come};
+ghost use Rattle.cfi_entry.specs.EntryInstructions.{fde_instructions};
 ghost use Rattle.cfi_entry.specs.EntryViews.{cie_view};
 ghost use Rattle.cfi_entry.specs.Sections.{section_of};
 ghost use Rattle.cfi_unwind.specs.FdeViews.{fde_view};
@@ -16,49 +17,57 @@ ghost use Rattle.cfi_unwind.specs.UnwindTableViews.{table_state};
 ghost use Rattle.cfi_programs.specs.Lines.{refusal_line};
 ghost use Rattle.cfi_programs.specs.WriterOutput.{Writes};
 ghost use Rattle.cfi_programs.specs.DumpEntryLines.{fde_line, partial_fde_line};
-ghost use Rattle.cfi_programs.specs.DumpSectionTexts.{entry_text, fde_rows, fde_text, item_text};
+ghost use Rattle.cfi_programs.specs.DumpInstructionLines.{instructions_text};
+ghost use Rattle.cfi_programs.specs.DumpSectionTexts.{cie_text, entry_text, fde_rows, fde_text};
 ghost use Rattle.cfi_programs.specs.DumpSectionTexts.{lines};
+ghost use Rattle.cfi_programs.specs.ReadingTexts.{item_text};
 ghost use Rattle.cfi_programs.specs.DumpRowTexts.{listed_entry_text, listed_text};
 
 use crate::dump::addressed_rows::write_entry_rows;
 use crate::dump::entry_line::{write_cie, write_fde, write_partial_fde};
+use crate::dump::instruction_line::write_instructions;
+use crate::dump::printed::AskedRows;
 use crate::lines::write_refusal;
+use crate::register_names::RegisterNames;
 use crate::row_line::write_answer;
 use gimli_cfi::{
-    _UnwindSectionPrivate, BaseAddresses, CieOrFde, Error, FrameDescriptionEntry,
-    PartialFrameDescriptionEntry, Reader, Result, UnwindContext, UnwindSection, UnwindTable,
+    _UnwindSectionPrivate, BaseAddresses, CieOrFde, CommonInformationEntry, Error,
+    FrameDescriptionEntry, PartialFrameDescriptionEntry, Reader, Result, UnwindContext,
+    UnwindSection, UnwindTable,
 };
 use std::io;
 use std::io::Write;
 
 /// What is written of the entries of a section.
 #[derive(Clone, Copy)]
-pub enum Listed {
-    /// The line of each entry, and after that of an FDE the lines of its rows.
+pub enum Listed<'names> {
+    /// The line of each entry and those of its instructions, and after those of an FDE the lines of
+    /// its rows.
     Entries,
-    /// For each FDE a line with its addresses, and the lines of its rows; where an address is
-    /// given, only for the FDEs that contain it.
-    Rows(Option<u64>),
+    /// For each FDE a line with its addresses and the name of the function that begins there, and
+    /// the lines of its rows.
+    Rows(AskedRows<'names>),
 }
 
 /// Writes what is listed of each entry, in their order.
 ///
-/// An error has a line of its own: in place of an entry that can't be read, after which there are
-/// no more; after the line of an FDE that can't be read whole, or in its place where only rows are
-/// listed; where the instructions of an FDE's CIE fail; and among the rows, which then continue as
-/// `next_row` does.
+/// An error has a line of its own: in place of an entry or an instruction that can't be read, after
+/// which there are no more; after the line of an FDE that can't be read whole, or in its place if
+/// only rows are listed; where the instructions of an FDE's CIE fail; and among the rows, which
+/// then continue as `next_row` does.
 pub fn write_section<R: Reader<Offset = usize>, S: UnwindSection<R>, W: Write>(
     output: &mut W,
-    listed: Listed,
+    names: RegisterNames,
+    listed: Listed<'_>,
     section: &S,
     bases: &BaseAddresses,
     context: &mut UnwindContext<usize>,
 ) -> io::Result<()>
     ensures { Writes (W.contents output.old) (W.contents output.new) result
-        (listed_text listed (section_of (S.view section.now) bases.now)) }
+        (listed_text names listed.entry (section_of (S.view section.now) bases.now)) }
 {
     for entry in section.entries(bases) {
-        write_listed(output, listed, section, bases, context, entry)?;
+        write_listed(output, names, listed, section, bases, context, entry)?;
     }
     Ok(())
 }
@@ -66,23 +75,26 @@ pub fn write_section<R: Reader<Offset = usize>, S: UnwindSection<R>, W: Write>(
 /// Writes what is listed of an entry, or of the error in its place.
 fn write_listed<R: Reader<Offset = usize>, S: UnwindSection<R>, W: Write>(
     output: &mut W,
-    listed: Listed,
+    names: RegisterNames,
+    listed: Listed<'_>,
     section: &S,
     bases: &BaseAddresses,
     context: &mut UnwindContext<usize>,
     entry: Result<CieOrFde<'_, S, R>>,
 ) -> io::Result<()>
-    requires { IfOk entry (OfEither (λ _. ⊤)
+    requires { IfOk entry (OfEither
+        (λ cie. IsOf (R.position cie.initial_instructions) (S.view section.now).position)
         (λ p. (p.section ≡ section.now) × (p.bases.now ≡ bases.now))) }
     ensures { let found = map_ok (entry_view (cie_view R.position (λ n. n))
         (λ p. partial_of R.position (λ n. n) p.prefix p.cie_offset)) entry.entry in
-        Writes (W.contents output.old) (W.contents output.new) result (item_text
-        (λ e. listed_entry_text listed (section_of (S.view section.now) bases.now) e) found) }
+        Writes (W.contents output.old) (W.contents output.new) result
+        (item_text (λ e. listed_entry_text names listed.entry
+        (section_of (S.view section.now) bases.now) e) found) }
 {
     match listed {
-        Listed::Entries => write_entry(output, section, bases, context, entry),
-        Listed::Rows(address) => {
-            write_entry_rows(output, address, section, bases, context, entry)
+        Listed::Entries => write_entry(output, names, section, bases, context, entry),
+        Listed::Rows(asked) => {
+            write_entry_rows(output, names, asked, section, bases, context, entry)
         }
     }
 }
@@ -90,21 +102,25 @@ fn write_listed<R: Reader<Offset = usize>, S: UnwindSection<R>, W: Write>(
 /// Writes the lines of an entry, or of the error in its place.
 fn write_entry<R: Reader<Offset = usize>, S: UnwindSection<R>, W: Write>(
     output: &mut W,
+    names: RegisterNames,
     section: &S,
     bases: &BaseAddresses,
     context: &mut UnwindContext<usize>,
     entry: Result<CieOrFde<'_, S, R>>,
 ) -> io::Result<()>
-    requires { IfOk entry (OfEither (λ _. ⊤)
+    requires { IfOk entry (OfEither
+        (λ cie. IsOf (R.position cie.initial_instructions) (S.view section.now).position)
         (λ p. (p.section ≡ section.now) × (p.bases.now ≡ bases.now))) }
     ensures { let found = map_ok (entry_view (cie_view R.position (λ n. n))
         (λ p. partial_of R.position (λ n. n) p.prefix p.cie_offset)) entry.entry in
         Writes (W.contents output.old) (W.contents output.new) result
-        (item_text (λ e. entry_text (section_of (S.view section.now) bases.now) e) found) }
+        (item_text (λ e. entry_text names (section_of (S.view section.now) bases.now) e) found) }
 {
     match entry {
-        Ok(CieOrFde::Cie(cie)) => write_cie(output, &cie),
-        Ok(CieOrFde::Fde(partial)) => write_fde_and_rows(output, section, bases, context, &partial),
+        Ok(CieOrFde::Cie(cie)) => write_whole_cie(output, names, section, bases, &cie),
+        Ok(CieOrFde::Fde(partial)) => write_fde_and_rows(
+            output, names, section, bases, context, &partial,
+        ),
         Err(error) => write_refused(output, error),
     }
 }
@@ -118,10 +134,28 @@ pub fn write_refused<W: Write>(output: &mut W, error: Error) -> io::Result<()>
     Ok(())
 }
 
-/// Writes the line of the FDE and the lines of its rows; or, where it can't be read whole, what is
-/// known of it and why.
+/// Writes the line of a CIE and those of its initial instructions.
+fn write_whole_cie<R: Reader<Offset = usize>, S: UnwindSection<R>, W: Write>(
+    output: &mut W,
+    names: RegisterNames,
+    section: &S,
+    bases: &BaseAddresses,
+    cie: &CommonInformationEntry<R>,
+) -> io::Result<()>
+    requires { IsOf (R.position cie.now.initial_instructions) (S.view section.now).position }
+    ensures { let read = cie_view R.position (λ n. n) cie.now in
+        Writes (W.contents output.old) (W.contents output.new) result
+        (cie_text names (section_of (S.view section.now) bases.now) read) }
+{
+    write_cie(output, names, cie)?;
+    write_instructions(output, names, cie.instructions(section, bases))
+}
+
+/// Writes the lines of the FDE, of its instructions and of its rows; or, where it can't be read
+/// whole, what is known of it and why.
 fn write_fde_and_rows<R: Reader<Offset = usize>, S: UnwindSection<R>, W: Write>(
     output: &mut W,
+    names: RegisterNames,
     section: &S,
     bases: &BaseAddresses,
     context: &mut UnwindContext<usize>,
@@ -132,17 +166,18 @@ fn write_fde_and_rows<R: Reader<Offset = usize>, S: UnwindSection<R>, W: Write>(
     ensures { let from = section_of (S.view section.now) bases.now in
         let found = partial_of R.position (λ n. n) partial.now.prefix partial.now.cie_offset in
         Writes (W.contents output.old) (W.contents output.new) result
-        (fde_text from found (read_fde from found)) }
+        (fde_text names from found (read_fde from found)) }
 {
     match whole(partial) {
-        Ok(fde) => write_whole_fde(output, section, bases, context, &fde),
+        Ok(fde) => write_whole_fde(output, names, section, bases, context, &fde),
         Err(error) => write_refused_fde(output, partial.offset(), partial.entry_len(), error),
     }
 }
 
-/// Writes the line of an FDE and the lines of its rows.
+/// Writes the line of an FDE, those of its instructions and those of its rows.
 fn write_whole_fde<R: Reader<Offset = usize>, S: UnwindSection<R>, W: Write>(
     output: &mut W,
+    names: RegisterNames,
     section: &S,
     bases: &BaseAddresses,
     context: &mut UnwindContext<usize>,
@@ -151,12 +186,15 @@ fn write_whole_fde<R: Reader<Offset = usize>, S: UnwindSection<R>, W: Write>(
     requires own { IsOf (R.position fde.now.instructions) (S.view section.now).position }
     requires cie { IsOf (R.position fde.now.cie.initial_instructions)
         (S.view section.now).position }
-    ensures { let read = fde_view R.position (λ n. n) fde.now in
+    ensures { let from = section_of (S.view section.now) bases.now in
+        let read = fde_view R.position (λ n. n) fde.now in
+        let instructions = instructions_text names (fde_instructions from read) in
         Writes (W.contents output.old) (W.contents output.new) result
-        (fde_line read ++ lines (fde_rows (section_of (S.view section.now) bases.now) read)) }
+        (fde_line read ++ (instructions ++ lines names (fde_rows from read))) }
 {
     write_fde(output, fde)?;
-    write_rows(output, section, bases, context, fde)
+    write_instructions(output, names, fde.instructions(section, bases))?;
+    write_rows(output, names, section, bases, context, fde)
 }
 
 /// Writes what is known of an FDE that can't be read whole, and why it can't.
@@ -195,6 +233,7 @@ pub fn whole<R: Reader, S: UnwindSection<R>>(
 /// Writes a line for each row of the FDE, and for each error among them.
 pub fn write_rows<R: Reader<Offset = usize>, S: UnwindSection<R>, W: Write>(
     output: &mut W,
+    names: RegisterNames,
     section: &S,
     bases: &BaseAddresses,
     context: &mut UnwindContext<usize>,
@@ -204,11 +243,11 @@ pub fn write_rows<R: Reader<Offset = usize>, S: UnwindSection<R>, W: Write>(
     requires cie { IsOf (R.position fde.now.cie.initial_instructions)
         (S.view section.now).position }
     ensures { Writes (W.contents output.old) (W.contents output.new) result
-        (lines (fde_rows (section_of (S.view section.now) bases.now)
+        (lines names (fde_rows (section_of (S.view section.now) bases.now)
         (fde_view R.position (λ n. n) fde.now))) }
 {
     match fde.rows(section, bases, context) {
-        Ok(mut table) => write_table(output, &mut table),
+        Ok(mut table) => write_table(output, names, &mut table),
         Err(error) => write_refused(output, error),
     }
 }
@@ -216,16 +255,17 @@ pub fn write_rows<R: Reader<Offset = usize>, S: UnwindSection<R>, W: Write>(
 /// Writes a line for each row that is left in the table, and for each error among them.
 fn write_table<R: Reader<Offset = usize>, W: Write>(
     output: &mut W,
+    names: RegisterNames,
     table: &mut UnwindTable<'_, '_, R>,
 ) -> io::Result<()>
     ensures { let setting = setting_of table.old.parameters (Some 192) (Some 4) in
         let state = table_state R.position (λ n. n) table.old in
         (program : Program ℕ) → IsStateAfter setting state.so_far program
         → Writes (W.contents output.old) (W.contents output.new) result
-        (lines (answers_to_come setting (at_program state program))) }
+        (lines names (answers_to_come setting (at_program state program))) }
 {
     while let Some(answer) = table.next_row().transpose() {
-        write_answer(output, answer)?;
+        write_answer(output, names, answer)?;
     }
     Ok(())
 }

@@ -12,6 +12,7 @@ ghost use Rattle.cfi_programs.specs.SectionOfWords.{header_section_of, section_o
 
 use crate::input::Sections;
 use crate::lines::write_refusal;
+use crate::register_names::RegisterNames;
 use crate::row_line::write_answer;
 use crate::rows::command_line::{Request, Storage};
 use crate::words::{Kind, SectionWords};
@@ -56,7 +57,8 @@ fn print_row<S: UnwindContextStorage<usize>, W: Write>(
         Ok(context) => context,
         Err(error) => return write_refusal(output, error),
     };
-    write_answer(output, find_row(request, sections, &mut context))
+    let answer = find_row(request, sections, &mut context);
+    write_answer(output, RegisterNames::Numbers, answer)
 }
 
 /// Returns the row for the request's address.

@@ -5,8 +5,9 @@ use Rattle.cfi.proofs.command.cfi.Goals as goal
 
 pub returns : goal.returns
 returns c =
-    let with_row = adds_app _ _ c.in_ok-subcommand.field-0 top_app row_app c.in_ok-top.ensures c.in_ok-row.ensures c.in_ok-subcommand.ensures in
-    let with_rows = adds_app _ _ c.in_ok-subcommand-2.field-0 _ rows_app with_row c.in_ok-rows.ensures c.in_ok-subcommand-2.ensures in
+    let formats = c.args.formats in
+    let with_row = adds_app _ _ c.in_ok-subcommand.field-0 top_app (row_app formats) c.in_ok-top.ensures c.in_ok-row.ensures c.in_ok-subcommand.ensures in
+    let with_rows = adds_app _ _ c.in_ok-subcommand-2.field-0 _ (rows_app formats) with_row c.in_ok-rows.ensures c.in_ok-subcommand-2.ensures in
     let with_dump = adds_app _ _ c.in_ok-subcommand-3.field-0 _ dump_app with_rows c.in_ok-dump.ensures c.in_ok-subcommand-3.ensures in
-    let with_check = adds_app _ _ c.in_ok-subcommand-4.field-0 _ check_app with_dump c.in_ok-check.ensures c.in_ok-subcommand-4.ensures in
+    let with_check = adds_app _ _ c.in_ok-subcommand-4.field-0 _ (check_app formats) with_dump c.in_ok-check.ensures c.in_ok-subcommand-4.ensures in
     IfOk-weaker c.subcommand-5.result _ _ (λ command h. adds_app _ _ command _ table_app with_check c.in_ok-table.ensures h) c.subcommand-5.ensures

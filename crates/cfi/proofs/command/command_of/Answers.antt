@@ -1,11 +1,12 @@
-use Rattle.std.proofs.Common.{◌≡◌, ◌∙◌, ◌≤◌, ap, arith, map, length, option_map, sym, true, [], rules}
+use Rattle.std.proofs.Common.{◌≡◌, ◌∙◌, ◌≤◌, ap, arith, map, length, option_map, subst, sym, true, [], rules}
 use Rattle.std.proofs.lemmas.List.{length-map}
 use Rattle.std.proofs.lemmas.Result.{IfOk-weaker}
 use Rattle.clap.specs.Lexer.{usize_max}
-use Rattle.clap.specs.Words.{app_of, fault_of, has_subcommand, is_simple, is_simple_and_free, kind_of, subcommand_of, subcommand_rows_of}
+use Rattle.clap.specs.Words.{HasKind, app_of, fault_of, has_subcommand, is_simple, is_simple_and_free, kind_of, subcommand_of, subcommand_rows_of}
 use Rattle.clap.specs.declared.error.kind.ErrorKind.TheVariants.{OutOfMemory}
 use Rattle.clap.specs.Simple.{App}
 use Rattle.clap.proofs.CallerLemmas.{subcommand_required}
+use Rattle.clap.proofs.FaultLemmas.{failed_up}
 use Rattle.cfi.specs.CommandLine.{asked_of, cfi_app}
 use Rattle.cfi.specs.Words.{asked}
 use Rattle.cfi.proofs.ClapLemmas.{as_error, cfi_is_matched, cfi_is_simple, fails_by_memory}
@@ -15,36 +16,49 @@ use Rattle.cfi.proofs.command.command_of.Goals as goal
 pub returns-clause-kinds : goal.returns-clause-kinds
 returns-clause-kinds g c =
     let words = map g.S.AsStr.text c.args.words.now in
+    let formats = c.format_names.result in
     let app = c.in_ok-cfi.ensures in
-    let no_fault : fault_of cfi_app words ≡ [] =
-    ap (λ a. fault_of a words) (sym app.0) ∙ c.in_ok-matches.ensures.kinds (ap is_simple_and_free app.0 ∙ cfi_is_simple) in
+    let no_fault : fault_of (cfi_app formats) words ≡ [] =
+    ap (λ a. fault_of a words) (sym app.0) ∙ c.in_ok-matches.ensures.kinds (ap is_simple_and_free app.0 ∙ cfi_is_simple formats) in
     let met : has_subcommand c.in_ok-matches.matches ≡ true =
     subcommand_required c.in_ok-cfi.field-0 c.in_ok-matches.matches c.in_ok-matches.ensures.parsed app.1 (ap (λ (a : App). a.top.subcommand_required) app.0) in
-    fails_by_memory c.command_in.result (fault_of cfi_app words) no_fault (c.command_in.ensures.refused met)
+    (formats, c.format_names.ensures, fails_by_memory c.command_in.result (fault_of (cfi_app formats) words) no_fault (c.command_in.ensures.refused met))
 
 pub returns-clause-asked : goal.returns-clause-asked
 returns-clause-asked g c =
     let words = map g.S.AsStr.text c.args.words.now in
+    let formats = c.format_names.result in
     let app = c.in_ok-cfi.ensures in
-    let no_fault : fault_of cfi_app words ≡ [] =
-    ap (λ a. fault_of a words) (sym app.0) ∙ c.in_ok-matches.ensures.kinds (ap is_simple_and_free app.0 ∙ cfi_is_simple) in
+    let no_fault : fault_of (cfi_app formats) words ≡ [] =
+    ap (λ a. fault_of a words) (sym app.0) ∙ c.in_ok-matches.ensures.kinds (ap is_simple_and_free app.0 ∙ cfi_is_simple formats) in
     let few : length c.args.words.now ≤ usize_max = search rules in
     let same : length words ≡ length c.args.words.now = length-map c.args.words.now g.S.AsStr.text in
-    let below : subcommand_rows_of c.in_ok-matches.matches ≡ subcommand_of cfi_app words =
-    (c.in_ok-matches.ensures.matches (ap is_simple app.0 ∙ cfi_is_matched)).1 ∙ ap (λ a. subcommand_of a words) app.0 in
+    let below : subcommand_rows_of c.in_ok-matches.matches ≡ subcommand_of (cfi_app formats) words =
+    (c.in_ok-matches.ensures.matches (ap is_simple app.0 ∙ cfi_is_matched formats)).1 ∙ ap (λ a. subcommand_of a words) app.0 in
     let is : asked words ≡ option_map asked_of (subcommand_rows_of c.in_ok-matches.matches) =
-    asked_is words (omega arith) no_fault ∙ ap (option_map asked_of) (sym below) in
+    asked_is formats c.format_names.ensures words (omega arith) no_fault ∙ ap (option_map asked_of) (sym below) in
     IfOk-weaker c.command_in.result _ _ (λ command h. is ∙ h) c.command_in.ensures.asked
 
 pub returns-in_err-matches-clause-taken : goal.returns-in_err-matches-clause-taken
 returns-in_err-matches-clause-taken g c = λ some.
     let words = map g.S.AsStr.text c.args.words.now in
+    let formats = c.format_names.result in
     let app = c.in_ok-cfi.ensures in
     let few : length c.args.words.now ≤ usize_max = search rules in
     let same : length words ≡ length c.args.words.now = length-map c.args.words.now g.S.AsStr.text in
-    let no_fault : fault_of cfi_app words ≡ [] = faultless words (omega arith) some in
+    let no_fault : fault_of (cfi_app formats) words ≡ [] = faultless formats c.format_names.ensures words (omega arith) some in
     let none : fault_of (app_of c.in_ok-cfi.field-0) words ≡ [] = ap (λ a. fault_of a words) app.0 ∙ no_fault in
     let error = c.in_err-matches.field-0.0 in
     let memory : kind_of error ≡ OutOfMemory =
-    only_memory (fault_of (app_of c.in_ok-cfi.field-0) words) error none (c.in_err-matches.ensures.kinds (ap is_simple_and_free app.0 ∙ cfi_is_simple)) in
+    only_memory (fault_of (app_of c.in_ok-cfi.field-0) words) error none (c.in_err-matches.ensures.kinds (ap is_simple_and_free app.0 ∙ cfi_is_simple formats)) in
     as_error c.from_residual-in_err-matches.result error (search rules) memory
+
+pub returns-in_err-matches-clause-kinds : goal.returns-in_err-matches-clause-kinds
+returns-in_err-matches-clause-kinds g c =
+    let words = map g.S.AsStr.text c.args.words.now in
+    let formats = c.format_names.result in
+    let app = c.in_ok-cfi.ensures in
+    let error = c.in_err-matches.field-0.0 in
+    let kinds : HasKind (fault_of (cfi_app formats) words) error =
+    subst (λ (a : App). HasKind (fault_of a words) error) app.0 (c.in_err-matches.ensures.kinds (ap is_simple_and_free app.0 ∙ cfi_is_simple formats)) in
+    (formats, c.format_names.ensures, failed_up c.from_residual-in_err-matches.result error (λ command. fault_of (cfi_app formats) words ≡ []) (fault_of (cfi_app formats) words) (search rules) kinds)

@@ -3,15 +3,15 @@ use Rattle.cfi_programs.specs.Lines.{wrong_input}
 use Rattle.cfi_programs.specs.Runs.{out_of_memory}
 use Rattle.cfi_files.specs.declared.finding.Finding.TheVariants.{NoTable, Unreadable}
 use Rattle.cfi_files.specs.FileOutputs.{IsCheckOfInput}
-use Rattle.cfi_files.proofs.Joined.{checks_line, if_known}
+use Rattle.cfi_files.proofs.Joined.{checks_line, for_input}
 use Rattle.cfi_files.proofs.run.check_input.Goals as goal
 
 pub returns-in-Err-OutOfMemory : goal.returns-in-Err-OutOfMemory
 returns-in-Err-OutOfMemory g c =
-    if_known (g.R.Read.remaining c.args.input.now) _ (λ bytes.
+    for_input (g.R.Read.remaining c.args.input.now) _ (λ bytes.
     checks_line (IsCheckOfInput bytes) NoTable out_of_memory _ _ c.write_refusal.result c.found.result c.found.ensures (inr (inl (refl, refl))) c.write_refusal.ensures)
 
 pub returns-in-Err : goal.returns-in-Err
 returns-in-Err g c =
-    if_known (g.R.Read.remaining c.args.input.now) _ (λ bytes.
+    for_input (g.R.Read.remaining c.args.input.now) _ (λ bytes.
     checks_line (IsCheckOfInput bytes) Unreadable wrong_input _ _ c.write_wrong_input.result c.found-in-Err.result c.found-in-Err.ensures (inr (inr (refl, refl))) c.write_wrong_input.ensures)

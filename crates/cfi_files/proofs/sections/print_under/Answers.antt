@@ -8,8 +8,8 @@ use Rattle.cfi_files.proofs.sections.print_under.Goals as goal
 pub returns-in_err-write_text : goal.returns-in_err-write_text
 returns-in_err-write_text g c =
     let part = map_ok frames_view c.args.part in
-    under_refused (IsPart c.args.printed part) c.args.name_line.now _ _ c.from_residual.result (some_part c.args.printed part) c.from_residual.ensures.0 c.in_err-write_text.ensures
+    under_refused (IsPart c.args.names c.args.printed part) c.args.name_line.now _ _ c.from_residual.result (some_part c.args.names c.args.printed part) c.from_residual.ensures.0 c.in_err-write_text.ensures
 
 pub returns : goal.returns
 returns g c =
-    under_written (IsPart c.args.printed (map_ok frames_view c.args.part)) c.args.name_line.now _ _ _ c.print_part.result c.in_ok-write_text.ensures c.print_part.ensures
+    under_written (IsPart c.args.names c.args.printed (map_ok frames_view c.args.part)) c.args.name_line.now _ _ _ c.print_part.result c.in_ok-write_text.ensures c.print_part.ensures

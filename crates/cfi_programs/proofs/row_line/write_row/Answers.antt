@@ -1,30 +1,20 @@
-use Rattle.std.proofs.Common.{[], ◌∷◌, ◌++◌}
-use Rattle.cfi_programs.specs.RowLines.{parts_rules, row_head}
-use Rattle.cfi_programs.proofs.WrittenLemmas.{given_first, given_then, beginning_then, writes_last, writes_refused, regrouped}
+use Rattle.std.proofs.Common.{◌≡◌, ◌∙◌, ap, [], ◌∷◌, ◌++◌}
+use Rattle.cfi_programs.specs.RowLines.{row_head}
+use Rattle.cfi_programs.proofs.WrittenLemmas.{given_part, line_begun, line_given, writes_last, writes_refused}
 use Rattle.cfi_programs.proofs.row_line.write_row.Goals as goal
-
-pub returns-in_err-write_head : goal.returns-in_err-write_head
-returns-in_err-write_head g c =
-    let head = row_head c.args.row.now in
-    let rules = parts_rules c.args.row.now.parts in
-    let old = g.W.Write.contents c.args.output.now in
-    regrouped _ _ _ head rules (10 ∷ []) (writes_refused _ _ _ _ c.from_residual.ensures.0
-    (beginning_then _ _ _ head (rules ++ 10 ∷ []) _ (given_first old (head ++ (rules ++ 10 ∷ []))) c.in_err-write_head.ensures))
 
 pub returns-in_err-write_rules : goal.returns-in_err-write_rules
 returns-in_err-write_rules g c =
-    let head = row_head c.args.row.now in
-    let rules = parts_rules c.args.row.now.parts in
-    let old = g.W.Write.contents c.args.output.now in
-    let behind_head = given_then _ _ _ head (rules ++ 10 ∷ []) _ (given_first old (head ++ (rules ++ 10 ∷ []))) c.in_ok-write_head.ensures in
-    regrouped _ _ _ head rules (10 ∷ []) (writes_refused _ _ _ _ c.from_residual-in_err-write_rules.ensures.0
-    (beginning_then _ _ _ rules (10 ∷ []) _ behind_head c.in_err-write_rules.ensures))
+    let head : c.push_head.new.text.items ≡ row_head c.args.names c.args.row.now = c.in_ok-push_head.ensures ∙ ap (λ xs. xs ++ row_head c.args.names c.args.row.now) c.new-text.ensures in
+    writes_refused _ _ _ _ c.from_residual-in_err-write_rules.ensures.0 (line_begun _ _ _ (10 ∷ []) (rw head at c.in_err-write_rules.ensures))
+
+pub returns-in_err-push : goal.returns-in_err-push
+returns-in_err-push g c =
+    let head : c.push_head.new.text.items ≡ row_head c.args.names c.args.row.now = c.in_ok-push_head.ensures ∙ ap (λ xs. xs ++ row_head c.args.names c.args.row.now) c.new-text.ensures in
+    writes_refused _ _ _ _ c.from_residual-in_err-push.ensures.0 (given_part _ _ _ _ (line_given _ _ _ _ (10 ∷ []) (rw head at c.in_ok-write_rules.ensures)))
 
 pub returns : goal.returns
 returns g c =
-    let head = row_head c.args.row.now in
-    let rules = parts_rules c.args.row.now.parts in
-    let old = g.W.Write.contents c.args.output.now in
-    let behind_head = given_then _ _ _ head (rules ++ 10 ∷ []) _ (given_first old (head ++ (rules ++ 10 ∷ []))) c.in_ok-write_head.ensures in
-    let behind_rules = given_then _ _ _ rules (10 ∷ []) _ behind_head c.in_ok-write_rules.ensures in
-    regrouped _ _ _ head rules (10 ∷ []) (writes_last _ _ _ _ _ _ behind_rules c.write_text.ensures)
+    let head : c.push_head.new.text.items ≡ row_head c.args.names c.args.row.now = c.in_ok-push_head.ensures ∙ ap (λ xs. xs ++ row_head c.args.names c.args.row.now) c.new-text.ensures in
+    let line : c.as_slice.result.now ≡ c.write_rules.new.text.items ++ 10 ∷ [] = c.as_slice.ensures.value ∙ c.in_ok-push.ensures in
+    writes_last _ _ _ _ _ _ (line_given _ _ _ _ (10 ∷ []) (rw head at c.in_ok-write_rules.ensures)) (rw line at c.write_text.ensures)

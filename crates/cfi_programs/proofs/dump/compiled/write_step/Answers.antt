@@ -8,5 +8,5 @@ use Rattle.cfi_programs.proofs.dump.compiled.write_step.Goals as goal
 
 pub returns-in-Err : goal.returns-in-Err
 returns-in-Err g c =
-    subst (λ (row : Result CompiledRow Error). Writes (g.W.Write.contents c.args.output.now) (g.W.Write.contents c.write_error.new.output) c.write_error.result (step_text c.args.step.now.start (parts_lent row)))
+    subst (λ (row : Result CompiledRow Error). Writes (g.W.Write.contents c.args.output.now) (g.W.Write.contents c.write_error.new.output) c.write_error.result (step_text c.args.names c.args.step.now.start (parts_lent row)))
     (sym c.in-Err.is) c.write_error.ensures

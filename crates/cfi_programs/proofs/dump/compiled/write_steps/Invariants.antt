@@ -9,4 +9,4 @@ abbrev pub invariant-loop-step : goal.invariant-loop-step
 invariant-loop-step g l =
     (goal.iterator-loop-step g).can_next l.step-iterator ×
     (goal.iterator-loop-step g).is_finite l.step-iterator ×
-    IsGiven (g.W.Write.contents l.initial.output) (g.W.Write.contents l.output) (steps_text (steps_left l.step-iterator)) (steps_text (steps_of l.table))
+    IsGiven (g.W.Write.contents l.initial.output) (g.W.Write.contents l.output) (steps_text l.names (steps_left l.step-iterator)) (steps_text l.names (steps_of l.table))

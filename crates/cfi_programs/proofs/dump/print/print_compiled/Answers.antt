@@ -7,7 +7,7 @@ use Rattle.cfi_programs.proofs.dump.print.print_compiled.Goals as goal
 
 pub returns-in-Ok : goal.returns-in-Ok
 returns-in-Ok g c =
-    (text_output (steps_text (steps_of c.in-Ok.table)), c.print_steps.ensures, inl (c.in-Ok.table, c.in-Ok.ensures.rows, refl))
+    (text_output (steps_text c.args.names (steps_of c.in-Ok.table)), c.print_steps.ensures, inl (c.in-Ok.table, c.in-Ok.ensures.rows, refl))
 
 pub returns-in-Err : goal.returns-in-Err
 returns-in-Err g c = (out_of_memory, rw c.in-Err.ensures.err at c.write_refusal.ensures, inr refl)

@@ -11,11 +11,11 @@ returns-in-Ok g c =
     let section = section_of (g.S._UnwindSectionPrivate.view c.args.section.now) c.args.bases.now in
     let found = partial_of g.R.Reader.position (λ n. n) c.args.partial.now.prefix c.args.partial.now.cie_offset in
     let read : Ok (fde_view g.R.Reader.position (λ n. n) c.in-Ok.fde) ≡ read_fde section found = rw (c.requires.section, c.requires.bases) at c.in-Ok.ensures.read in
-    as_read _ _ _ section found _ read c.write_whole_fde.ensures
+    as_read _ _ _ c.args.names section found _ read c.write_whole_fde.ensures
 
 pub returns-in-Err : goal.returns-in-Err
 returns-in-Err g c =
     let section = section_of (g.S._UnwindSectionPrivate.view c.args.section.now) c.args.bases.now in
     let found = partial_of g.R.Reader.position (λ n. n) c.args.partial.now.prefix c.args.partial.now.cie_offset in
     let read : Err c.in-Err.error ≡ read_fde section found = rw (c.requires.section, c.requires.bases) at c.in-Err.ensures.read in
-    as_read _ _ _ section found _ read (rw (c.offset.ensures, c.entry_len.ensures) at c.write_refused_fde.ensures)
+    as_read _ _ _ c.args.names section found _ read (rw (c.offset.ensures, c.entry_len.ensures) at c.write_refused_fde.ensures)

@@ -1,9 +1,10 @@
 use Rattle.std.proofs.Common.{◌≡◌, ℕ, ap, sym, subst, ◌∙◌}
 use Rattle.cfi_entry.specs.Entries.{entries_left}
+use Rattle.cfi_entry.specs.EntryViews.{IsCieOf}
 use Rattle.cfi_entry.specs.Sections.{section_of}
 use Rattle.cfi_programs.proofs.WrittenLemmas.{IsGiven, beginning_then, given_first, given_then, writes_refused}
-use Rattle.cfi_programs.specs.DumpSectionTexts.{entries_text}
 use Rattle.cfi_programs.specs.DumpRowTexts.{listed_entry_text, listed_text}
+use Rattle.cfi_programs.specs.ReadingTexts.{readings_text}
 use Rattle.cfi_programs.proofs.DumpSectionWritten.{all_written, of_section, to_write}
 use Rattle.cfi_programs.proofs.dump.section.write_section.Goals as goal
 
@@ -12,6 +13,7 @@ loop-entry-init g c =
     let section = section_of (g.S._UnwindSectionPrivate.view c.args.section.now) c.args.bases.now in
     let old = g.W.Write.contents c.args.output.now in
     let listed = c.args.listed in
+    let names = c.args.names in
     let is = c.into_iter-entry-iterator.ensures.into_iter_gives in
     let at : (g.R.Reader.position c.into_iter-entry-iterator.result.input).place ≡ section.first =
     ap (λ it. (g.R.Reader.position it.input).place) is ∙ ap (λ p. p.place) c.entries-entry-items.ensures.all
@@ -21,12 +23,12 @@ loop-entry-init g c =
       is_finite = tt;
       same_section = ap (λ it. it.section) is ∙ c.entries-entry-items.ensures.section;
       same_bases = ap (λ it. it.bases.now) is ∙ c.entries-entry-items.ensures.bases;
-      given = subst (λ (place : ℕ). IsGiven old old (entries_text (λ entry. listed_entry_text listed section entry) (entries_left section place)) (listed_text listed section)) (sym at) (given_first old (listed_text listed section));
+      given = subst (λ (place : ℕ). IsGiven old old (readings_text (λ entry. listed_entry_text names listed section entry) (entries_left section place)) (listed_text names listed section)) (sym at) (given_first old (listed_text names listed section));
     }
 
 pub write_listed-requires : goal.write_listed-requires
 write_listed-requires g c =
-    of_section _ (λ p. p.section) (λ p. p.bases.now) _ _ _ _ c.in-Some.entry c.loop-entry.invariant.same_section c.loop-entry.invariant.same_bases c.in-Some.ensures.steps.2
+    of_section (λ section cie. IsCieOf g.R.Reader.position (g.S._UnwindSectionPrivate.view section).position cie) (λ p. p.section) (λ p. p.bases.now) _ _ _ _ c.in-Some.entry c.loop-entry.invariant.same_section c.loop-entry.invariant.same_bases c.in-Some.ensures.steps.2
 
 pub returns-in_err-write_listed : goal.returns-in_err-write_listed
 returns-in_err-write_listed g c =

@@ -13,16 +13,16 @@ loop-answer-smaller g c = fewer_after _ _ _ c.next_row.result _ _ c.next_row.fol
 pub loop-answer-preserved : goal.loop-answer-preserved
 loop-answer-preserved g c = (
   ap (λ p. setting_of p (Some 192) (Some 4)) c.next_row.follows.holds-at-none.1 ∙ c.loop-answer.invariant.0,
-  λ program stands. line_written _ refl refl _ c.loop-answer.invariant.0 _ _ c.next_row.result _ _ c.next_row.follows.holds-at-none.0 _ _ _ (c.loop-answer.invariant.1 program stands) c.in-Some.answer
+  λ program stands. line_written _ refl refl _ c.loop-answer.invariant.0 _ _ c.next_row.result _ _ c.next_row.follows.holds-at-none.0 _ _ _ _ (c.loop-answer.invariant.1 program stands) c.in-Some.answer
       (sym c.transpose.ensures ∙ c.in-Some.is) _ c.in_ok-write_answer.ensures.0,
 )
 
 pub returns-in_err-write_answer : goal.returns-in_err-write_answer
 returns-in_err-write_answer g c program stands =
     writes_refused _ _ _ _ c.from_residual.ensures.0
-    (line_begun _ refl refl _ c.loop-answer.invariant.0 _ _ c.next_row.result _ _ c.next_row.follows.holds-at-none.0 _ _ _ (c.loop-answer.invariant.1 program stands) c.in-Some.answer (sym c.transpose.ensures ∙ c.in-Some.is) _
+    (line_begun _ refl refl _ c.loop-answer.invariant.0 _ _ c.next_row.result _ _ c.next_row.follows.holds-at-none.0 _ _ _ _ (c.loop-answer.invariant.1 program stands) c.in-Some.answer (sym c.transpose.ensures ∙ c.in-Some.is) _
     c.in_err-write_answer.ensures.0)
 
 pub returns : goal.returns
 returns g c program stands =
-    all_written _ refl refl _ c.loop-answer.invariant.0 _ _ c.next_row.result _ _ c.next_row.follows.holds-at-none.0 _ _ _ (c.loop-answer.invariant.1 program stands) (sym c.transpose.ensures ∙ c.in_default.is)
+    all_written _ refl refl _ c.loop-answer.invariant.0 _ _ c.next_row.result _ _ c.next_row.follows.holds-at-none.0 _ _ _ _ (c.loop-answer.invariant.1 program stands) (sym c.transpose.ensures ∙ c.in_default.is)

@@ -1,0 +1,248 @@
+-- What was written by checks one after the other, and the end of a run.
+use Rattle.std.proofs.Common.{◌≡◌, ℕ, ◌+◌, ◌<◌, List, [], ◌∷◌, ◌++◌, Option, Some, None, Result, Ok, Err, Vec, IfOk, IsSome, suc, length, take, drop, get_or, add-one, drop-cons, refl, sym, ◌∙◌, ap, append_assoc, append-nil, subst, map, codes, inl, inr, unwrap_or}
+use Rattle.std.proofs.Math.Seq.{take-suc}
+use Rattle.std.proofs.lemmas.List.{map-append, take-append-drop}
+use Rattle.std.specs.Borrow.{Bor}
+use Rattle.std.specs.List.{count_by}
+use Rattle.std.specs.Io.KnownBytes.{Appends, Keeps}
+use Rattle.std.specs.Result.{IsErr}
+use Rattle.clap.specs.Words.{HasKind, Text, fault_of, kind_of}
+use Rattle.clap.specs.declared.error.Error.{Error}
+use Rattle.clap.specs.declared.error.kind.ErrorKind.TheVariants.{OutOfMemory}
+use Rattle.cfi_programs.specs.Lines.{Line}
+use Rattle.cfi_programs.specs.Runs.{out_of_memory}
+use Rattle.cfi_programs.specs.WriterOutput.{Prints, Writes}
+use Rattle.cfi_programs.proofs.WrittenLemmas.{appends_then, beginning_then, given_part, keeps_is, none_yet, writes_refused}
+use Rattle.cfi_programs.proofs.DumpSectionWritten.{first_refused, last_written}
+use Rattle.cfi_files.specs.FileLines.{PrintsSome, under}
+use Rattle.cfi_files.specs.FileOutputs.{AreLeft, ChecksNamed, PrintsOwed}
+use Rattle.cfi_files.specs.Findings.{ChecksSome, has_table, is_faithful}
+use Rattle.cfi_files.specs.declared.finding.Finding.{Finding}
+use Rattle.cfi_files.specs.declared.finding.Finding.TheVariants.{NoTable, Unreadable}
+use Rattle.cfi_files.specs.declared.request.Request.{Request}
+use Rattle.cfi.specs.CommandLine.{Asked, cfi_app, format_names}
+use Rattle.cfi.specs.Findings.{greatest_status, tally_text}
+use Rattle.cfi.specs.Words.{asked}
+use Rattle.cfi.specs.declared.command.Format.{Format}
+use Rattle.cfi.specs.declared.command.Format.TheVariants.{Json}
+use Rattle.cfi.specs.Tasks.{OfRequest, check, of_request, print, task_for}
+use Rattle.cfi.specs.Process.{AreChecks, AreTallied, Checks, Disk, Ends, IsAnswer, IsAnswerTo, IsCheck, IsCheckOf, IsPrint, IsStatusAfter, IsStatusOf, PrintsRun, WritesChecks, no_checks, nothing, tallied, tally_line, with_check}
+
+-- ---- checks one after the other
+
+-- more checks behind these
+abbrev pub and_then : Checks → Checks → Checks
+and_then first second = record { found = first.found ++ second.found; lines = first.lines ++ second.lines }
+
+and_then_more : (finding : Finding) (line : List ℕ) (more second : Checks) → with_check finding line (and_then more second) ≡ and_then (with_check finding line more) second
+and_then_more finding line more second =
+    ap (λ (lines : List ℕ). record { found = finding ∷ (more.found ++ second.found); lines = lines }) (sym (append_assoc line more.lines second.lines))
+
+checks_then : (disk : Disk) (names others : List Text) (first second : Checks) → AreChecks disk names first → AreChecks disk others second → AreChecks disk (names ++ others) (and_then first second)
+checks_then disk [] others first second is is' = subst (λ checks. AreChecks disk others (and_then checks second)) (sym is) is'
+checks_then disk (name ∷ names) others first second (finding, printed, more, one, rest, e) is' = (
+  finding,
+  printed,
+  and_then more second,
+  one,
+  checks_then disk names others more second rest is',
+  ap (λ checks. and_then checks second) e ∙ sym (and_then_more finding printed.text more second),
+)
+
+-- ---- whatever the path, there is something to which it is opened
+
+abbrev pub Opens : Disk → Type 0
+Opens disk = (name : Text) → (opened : Option disk.Handle) × disk.MayOpen name opened
+
+left_is : (known : Option (List ℕ)) → AreLeft known (unwrap_or known [])
+left_is None = tt
+left_is (Some bytes) = refl
+
+some_check_of : (disk : Disk) (name : Text) (opened : Option disk.Handle) → (finding : Finding) × (printed : Line) × IsCheckOf disk name opened finding printed
+some_check_of disk name None = (Unreadable, nothing, (refl, refl))
+some_check_of disk name (Some file) = (
+  NoTable,
+  under (name ++ codes ": ") out_of_memory,
+  (unwrap_or (disk.bytes_of file) [], left_is (disk.bytes_of file), (out_of_memory, inr (inl (refl, refl)), refl)),
+)
+
+some_check : (disk : Disk) → Opens disk → (name : Text) → (finding : Finding) × (printed : Line) × IsCheck disk name finding printed
+some_check disk opens name =
+    let (opened, may) = opens name in
+    let (finding, printed, is) = some_check_of disk name opened in
+    (finding, printed, (opened, may, is))
+
+some_checks : (disk : Disk) → Opens disk → (names : List Text) → (checks : Checks) × AreChecks disk names checks
+some_checks disk opens [] = (no_checks, refl)
+some_checks disk opens (name ∷ names) =
+    let (finding, printed, is) = some_check disk opens name in
+    let (more, are) = some_checks disk opens names in
+    (with_check finding printed.text more, (finding, printed, more, is, are, refl))
+
+-- ---- the checks of the first files
+
+-- their lines were written, and this was found
+abbrev pub SoFar : Disk → List Text → Option (List ℕ) → Option (List ℕ) → List Finding → Type 0
+SoFar disk names old now found = (checks : Checks) × AreChecks disk names checks × Appends old now checks.lines × (found ≡ checks.found)
+
+pub none_so_far : (disk : Disk) (old : Option (List ℕ)) → SoFar disk [] old old []
+none_so_far disk old = (no_checks, refl, none_yet old, refl)
+
+pub one_more : (E : Type 0) (disk : Disk) (names : List Text) (name : Text) (old mid new : Option (List ℕ)) (found : List Finding) (finding : Finding) →
+    SoFar disk names old mid found → ChecksSome {E = E} (λ found line. IsCheck disk name found line) mid new (Ok finding) → SoFar disk (names ++ name ∷ []) old new (found ++ finding ∷ [])
+one_more E disk names name old mid new found finding (checks, are, given, e) (last, printed, more, is, one) =
+    let P : List ℕ → Type 0 = λ xs. Appends mid new xs in (
+      and_then checks (with_check last printed.text no_checks),
+      checks_then disk names (name ∷ []) checks (with_check last printed.text no_checks) are (last, printed, no_checks, one, refl, refl),
+      appends_then old mid new checks.lines (printed.text ++ []) given (subst P (sym (append-nil printed.text)) more),
+      ap (λ xs. xs ++ finding ∷ []) e ∙ ap (λ x. checks.found ++ x ∷ []) is,
+    )
+
+-- the same by other words for the names and for what was found
+pub same_so_far : (disk : Disk) (names others : List Text) (old now : Option (List ℕ)) (found items : List Finding) → names ≡ others → items ≡ found → SoFar disk others old now found → SoFar disk names old now items
+same_so_far disk names others old now found items e e' (checks, are, given, is) = (checks, subst (λ front. AreChecks disk front checks) (sym e) are, given, e' ∙ is)
+
+no_vector : {E A : Type 0} (r : Result (Vec Finding A) E) (Q : Vec Finding A → Type 0) → IsErr r → IfOk r Q
+no_vector (Ok v) Q err = cc
+no_vector (Err e) Q err = tt
+
+-- the line of the next one failed
+pub next_failed : {E F A : Type 0} (disk : Disk) → Opens disk → (names others : List Text) (name : Text) (old mid new : Option (List ℕ)) (found : List Finding) (e : E) (r : Result (Vec Finding A) F) → IsErr r →
+    SoFar disk names old mid found → ChecksSome {E = E} (λ found line. IsCheck disk name found line) mid new (Err e) → WritesChecks disk (names ++ name ∷ others) old new r
+next_failed disk opens names others name old mid new found e r err (checks, are, given, _) (last, printed, begun, _, one) =
+    let (after, more) = some_checks disk opens others in
+    let rest : Checks = with_check last printed.text after in
+    let all : Checks = and_then checks rest in (
+      all,
+      checks_then disk names (name ∷ others) checks rest are (last, printed, after, one, more, refl),
+      writes_refused old new r all.lines err
+          (beginning_then old mid new printed.text after.lines all.lines (record { front = checks.lines; given = given; whole = refl }) begun),
+      no_vector r (λ found. found.items ≡ all.found) err,
+    )
+
+-- memory was refused
+pub stopped : {F A : Type 0} (disk : Disk) → Opens disk → (names others : List Text) (old new : Option (List ℕ)) (found : List Finding) (r : Result (Vec Finding A) F) → IsErr r →
+    SoFar disk names old new found → WritesChecks disk (names ++ others) old new r
+stopped disk opens names others old new found r err (checks, are, given, _) =
+    let (after, more) = some_checks disk opens others in
+    let all : Checks = and_then checks after in (
+      all,
+      checks_then disk names others checks after are more,
+      writes_refused old new r all.lines err (given_part old new after.lines all.lines (record { front = checks.lines; given = given; whole = refl })),
+      no_vector r (λ found. found.items ≡ all.found) err,
+    )
+
+pub finished : {A : Type 0} (E : Type 0) (disk : Disk) (names : List Text) (old now : Option (List ℕ)) (found : Vec Finding A) → SoFar disk names old now found.items → WritesChecks {E = E} disk names old now (Ok found)
+finished E disk names old now found (checks, are, given, e) = (checks, are, given, e)
+
+-- ---- the names of the first files
+
+abbrev pub text_of : Bor (List ℕ) → Text
+text_of word = word.now
+
+pub names_more : (files : List (Bor (List ℕ))) (i : ℕ) (d : Bor (List ℕ)) → i < length files → map text_of (take (i + 1) files) ≡ map text_of (take i files) ++ text_of (get_or files i d) ∷ []
+names_more files i d h = rw add-one (ap (map text_of) (take-suc files i d h) ∙ map-append text_of (take i files) (get_or files i d ∷ []))
+
+pub names_cut : (files : List (Bor (List ℕ))) (i : ℕ) → map text_of files ≡ map text_of (take i files) ++ map text_of (drop i files)
+names_cut files i = ap (map text_of) (sym (take-append-drop i files)) ∙ map-append text_of (take i files) (drop i files)
+
+pub names_at : (files : List (Bor (List ℕ))) (i : ℕ) (d : Bor (List ℕ)) → i < length files → map text_of files ≡ map text_of (take i files) ++ text_of (get_or files i d) ∷ map text_of (drop (suc i) files)
+names_at files i d h = names_cut files i ∙ ap (λ rest. map text_of (take i files) ++ map text_of rest) (drop-cons files i d h)
+
+pub names_after : (files : List (Bor (List ℕ))) (i : ℕ) (d : Bor (List ℕ)) → i < length files → map text_of files ≡ (map text_of (take i files) ++ text_of (get_or files i d) ∷ []) ++ map text_of (drop (i + 1) files)
+names_after files i d h = names_cut files (i + 1) ∙ ap (λ front. front ++ map text_of (drop (i + 1) files)) (names_more files i d h)
+
+-- ---- a file that was opened, or not
+
+pub printed_of : {E : Type 0} (disk : Disk) (name : Text) (request : Request) (file : disk.Handle) (old new : Option (List ℕ)) (r : Result ℕ E) → disk.MayOpen name (Some file) →
+    PrintsOwed request (disk.bytes_of file) old new r → PrintsSome (λ line. IsPrint disk name (of_request request) line) old new r
+printed_of disk name request file old new r may (bytes, left, (printed, prints, owed)) = (printed, prints, (Some file, may, (request, bytes, refl, left, owed)))
+
+pub nothing_printed : (E : Type 0) (disk : Disk) (name : Text) (request : Request) (old : Option (List ℕ)) → disk.MayOpen name None → PrintsSome {E = E} (λ line. IsPrint disk name (of_request request) line) old old (Ok 2)
+nothing_printed E disk name request old may = (nothing, (none_yet old, refl), (None, may, refl))
+
+pub checked_of : {E : Type 0} (disk : Disk) (name : Text) (file : disk.Handle) (old new : Option (List ℕ)) (r : Result Finding E) → disk.MayOpen name (Some file) →
+    ChecksNamed name (disk.bytes_of file) old new r → ChecksSome (λ finding line. IsCheck disk name finding line) old new r
+checked_of disk name file old new r may (bytes, left, (finding, printed, writes, found, is)) = (finding, printed, writes, found, (Some file, may, (bytes, left, is)))
+
+pub unreadable : (E : Type 0) (disk : Disk) (name : Text) (old : Option (List ℕ)) → disk.MayOpen name None → ChecksSome {E = E} (λ finding line. IsCheck disk name finding line) old old (Ok Unreadable)
+unreadable E disk name old may = (Unreadable, nothing, none_yet old, refl, (None, may, (refl, refl)))
+
+-- ---- the line that counts
+
+pub tally_is : (found items : List Finding) (files tables faithful : ℕ) → items ≡ found → files ≡ length items → tables ≡ count_by has_table items → faithful ≡ count_by is_faithful items →
+    tally_text files tables faithful ++ 10 ∷ [] ≡ tally_line found
+tally_is found items files tables faithful e f t h = rw (f, t, h, e) refl
+
+pub counted : {E A : Type 0} (F : Type 0) (disk : Disk) (names : List Text) (old mid new : Option (List ℕ)) (found : Vec Finding A) (r : Result ℕ E) → WritesChecks {E = F} disk names old mid (Ok found) →
+    Writes mid new r (tally_line found.items) → IfOk r (λ status. status ≡ greatest_status found.items) → PrintsSome (λ line. AreTallied disk names line) old new r
+counted F disk names old mid new found r (checks, are, given, e) more status = (
+  tallied checks,
+  (
+    last_written old mid new r checks.lines (tally_line checks.found) given (subst (λ (items : List Finding). Writes mid new r (tally_line items)) e more),
+    subst (λ (items : List Finding). IfOk r (λ status. status ≡ greatest_status items)) e status,
+  ),
+  (checks, are, refl),
+)
+
+pub no_status : {E : Type 0} (r : Result ℕ E) (Q : ℕ → Type 0) → IsErr r → IfOk r Q
+no_status (Ok n) Q err = cc
+no_status (Err e) Q err = tt
+
+pub uncounted : {E F : Type 0} (A : Type 0) (disk : Disk) (names : List Text) (old new : Option (List ℕ)) (e : F) (r : Result ℕ E) → IsErr r → WritesChecks {A = A} disk names old new (Err e) →
+    PrintsSome (λ line. AreTallied disk names line) old new r
+uncounted A disk names old new e r err (checks, are, begun, _) = (
+  tallied checks,
+  (first_refused old new r checks.lines (tally_line checks.found) err begun, no_status r (λ status. status ≡ (tallied checks).status) err),
+  (checks, are, refl),
+)
+
+-- ---- the end of a run
+
+whole : (old mid new : Option (List ℕ)) (text : List ℕ) → Appends old mid text → Keeps mid new → Appends old new text
+whole old mid new text given keeps =
+    let P : List ℕ → Type 0 = λ xs. Appends old new xs in subst P (append-nil text) (appends_then old mid new text [] given (keeps_is mid new keeps))
+
+ends : {E : Type 0} (printed : Line) (old mid new : Option (List ℕ)) (r : Result ℕ E) (status : ℕ) → Prints printed old mid r → IsStatusOf r status → Keeps mid new → Ends printed old new status
+ends printed old mid new (Ok answered) status (given, e) (inl same) keeps = (printed.text, whole old mid new printed.text given keeps, inl (refl, same ∙ e))
+ends printed old mid new (Ok answered) status (given, e) (inr two) keeps = (printed.text, whole old mid new printed.text given keeps, inr (([], append-nil printed.text), two))
+ends printed old mid new (Err error) status ((front, given, begins), _) two keeps = (front, whole old mid new front given keeps, inr (begins, two))
+
+pub ran : {E : Type 0} (disk : Disk) (words : List Text) (command : Asked) (old mid new : Option (List ℕ)) (r : Result ℕ E) (status : ℕ) → asked words ≡ Some command →
+    PrintsSome (λ line. IsAnswer disk (task_for command) line) old mid r → IsStatusOf r status → Keeps mid new → PrintsRun disk (Some words) old new status
+ran disk words command old mid new r status e (printed, prints, is) after keeps = (
+  printed,
+  subst (λ asked_for. IsAnswerTo disk words asked_for printed) (sym e) (inl is),
+  ends printed old mid new r status prints after keeps,
+)
+
+-- an error of a kind that clap has for the words, with the names of the formats in some place of memory
+abbrev pub IsFault : List Text → Error → Type 0
+IsFault words error = (names : Bor (List (Bor Text))) × (map (λ name. name.now) names.now ≡ format_names) × HasKind (fault_of (cfi_app names) words) error
+
+explained : (disk : Disk) (words : List Text) (asked_for : Option Asked) (error : Error) (old : Option (List ℕ)) (status : ℕ) → IsFault words error →
+    (IsSome asked_for → kind_of error ≡ OutOfMemory) → IsStatusAfter (kind_of error) status → (printed : Line) × IsAnswerTo disk words asked_for printed × Ends printed old old status
+explained disk words None error old status (names, are, kinds) memory after =
+    (record { text = []; status = status }, (kind_of error, names, are, kinds, refl, after), ([], none_yet old, inl (refl, refl)))
+explained disk words (Some command) error old status kinds memory after =
+    (nothing, inr refl, ([], none_yet old, inl (refl, subst (λ kind. IsStatusAfter kind status) (memory refl) after)))
+
+-- where clap has no command for the words
+pub refused : (disk : Disk) (words : List Text) (error : Error) (old : Option (List ℕ)) (status : ℕ) → IsFault words error →
+    (IsSome (asked words) → kind_of error ≡ OutOfMemory) → IsStatusAfter (kind_of error) status → PrintsRun disk (Some words) old old status
+refused disk words error old status kinds memory after = explained disk words (asked words) error old status kinds memory after
+
+pub wordless : (disk : Disk) (old : Option (List ℕ)) → PrintsRun disk None old old 2
+wordless disk old = (nothing, refl, ([], none_yet old, inl (refl, refl)))
+
+-- ---- JSON, which isn't printed yet
+
+pub no_json_of : (disk : Disk) (command : Asked) (name : Text) (what : OfRequest) (format : Format) (old : Option (List ℕ)) (status : ℕ) → print name what format ≡ task_for command → format ≡ Json →
+    status ≡ 2 → (x : Line) × (Appends old old x.text × (status ≡ x.status)) × IsAnswer disk (task_for command) x
+no_json_of disk command name what format old status e is two =
+    (nothing, (none_yet old, two), subst (λ task. IsAnswer disk task nothing) e (subst (λ f. IsAnswer disk (print name what f) nothing) (sym is) refl))
+
+pub no_json_check : (disk : Disk) (command : Asked) (names : List Text) (format : Format) (old : Option (List ℕ)) (status : ℕ) → check names format ≡ task_for command → format ≡ Json →
+    status ≡ 2 → (x : Line) × (Appends old old x.text × (status ≡ x.status)) × IsAnswer disk (task_for command) x
+no_json_check disk command names format old status e is two =
+    (nothing, (none_yet old, two), subst (λ task. IsAnswer disk task nothing) e (subst (λ f. IsAnswer disk (check names f) nothing) (sym is) refl))

@@ -1,0 +1,137 @@
+-- Which output and status are right for a run of `cfi`.
+--     IsAnswer disk task printed      the output of a task, by the bytes of the files that were opened
+--     IsOutput disk words printed      the output for the words of the process
+--     PrintsRun disk words old new status      what a run writes, and its status
+use Rattle.std.specs.Prelude.{◌≡◌, ◌⊎◌, ℕ, List, [], ◌∷◌, ◌++◌, length, Option, Some, None, Result, Vec, MatchResult, IfOk, map}
+use Rattle.std.specs.Borrow.{Bor}
+use Rattle.std.specs.List.{count_by}
+use Rattle.std.specs.Io.KnownBytes.{Appends}
+use Rattle.clap.specs.Words.{IsAmong, Text, fault_of}
+use Rattle.clap.specs.declared.error.kind.ErrorKind.{ErrorKind}
+use Rattle.clap.specs.declared.error.kind.ErrorKind.TheVariants.{DisplayHelp, DisplayVersion, OutOfMemory}
+use Rattle.cfi_programs.specs.Lines.{Line}
+use Rattle.cfi_programs.specs.WriterOutput.{IsBeginning, Writes}
+use Rattle.cfi_files.specs.FileOutputs.{AreLeft, IsNamedCheck, IsOwed}
+use Rattle.cfi_files.specs.Findings.{has_table, is_faithful}
+use Rattle.cfi_files.specs.declared.finding.Finding.{Finding}
+use Rattle.cfi_files.specs.declared.finding.Finding.TheVariants.{Unreadable}
+use Rattle.cfi_files.specs.declared.request.Request.{Request}
+use Rattle.cfi.specs.CommandLine.{Asked, cfi_app, format_names}
+use Rattle.cfi.specs.Findings.{greatest_status, tally_text}
+use Rattle.cfi.specs.declared.command.Format.TheVariants.{Json, Text as AsText}
+use Rattle.cfi.specs.Tasks.{OfRequest, Task, check, of_request, print, task_for}
+use Rattle.cfi.specs.Words.{asked}
+
+-- The files of a system: what a path may be opened to, or none where it can't be opened, and the bytes of an open file,
+-- where they are known.
+pub record Disk : Type 1 where
+  pub Handle : Type 0
+  pub MayOpen : Text → Option Handle → Type 0
+  pub bytes_of : Handle → Option (List ℕ)
+
+abbrev pub disk_of : {Handle : Type 0} → (Text → Option Handle → Type 0) → (Handle → Option (List ℕ)) → Disk
+disk_of {Handle} may_open bytes_of = record { Handle = Handle; MayOpen = may_open; bytes_of = bytes_of }
+
+-- nothing is written, and the status is 2
+abbrev pub nothing : Line
+nothing = record { text = []; status = 2 }
+
+-- ---- what is printed of a file
+
+-- what is owed for its bytes, or nothing where it can't be opened
+abbrev pub IsPrintOf : (disk : Disk) → OfRequest → Option disk.Handle → Line → Type 0
+IsPrintOf disk what None printed = printed ≡ nothing
+IsPrintOf disk what (Some file) printed =
+    (request : Request) × (bytes : List ℕ) × (of_request request ≡ what) × AreLeft (disk.bytes_of file) bytes × IsOwed request bytes printed
+
+abbrev pub IsPrint : Disk → Text → OfRequest → Line → Type 0
+IsPrint disk name what printed = (opened : Option disk.Handle) × disk.MayOpen name opened × IsPrintOf disk what opened printed
+
+-- ---- what checks of files find
+
+-- for the bytes of a file, with its line; a file that can't be opened has no line
+abbrev pub IsCheckOf : (disk : Disk) → Text → Option disk.Handle → Finding → Line → Type 0
+IsCheckOf disk name None finding printed = (finding ≡ Unreadable) × (printed ≡ nothing)
+IsCheckOf disk name (Some file) finding printed = (bytes : List ℕ) × AreLeft (disk.bytes_of file) bytes × IsNamedCheck name bytes finding printed
+
+abbrev pub IsCheck : Disk → Text → Finding → Line → Type 0
+IsCheck disk name finding printed = (opened : Option disk.Handle) × disk.MayOpen name opened × IsCheckOf disk name opened finding printed
+
+-- what was found in several files, and their lines
+pub record Checks : Type 0 where
+  pub found : List Finding
+  pub lines : List ℕ
+
+abbrev pub no_checks : Checks
+no_checks = record { found = []; lines = [] }
+
+abbrev pub with_check : Finding → List ℕ → Checks → Checks
+with_check finding line more = record { found = finding ∷ more.found; lines = line ++ more.lines }
+
+-- one file after the other
+abbrev pub AreChecks : Disk → List Text → Checks → Type 0
+AreChecks disk [] checks = checks ≡ no_checks
+AreChecks disk (name ∷ names) checks =
+    (finding : Finding) × (printed : Line) × (more : Checks)
+    × IsCheck disk name finding printed × AreChecks disk names more × (checks ≡ with_check finding printed.text more)
+
+-- the line that counts them
+abbrev pub tally_line : List Finding → List ℕ
+tally_line found = tally_text (length found) (count_by has_table found) (count_by is_faithful found) ++ 10 ∷ []
+
+-- the lines, then their count, with the greatest status
+abbrev pub tallied : Checks → Line
+tallied checks = record { text = checks.lines ++ tally_line checks.found; status = greatest_status checks.found }
+
+abbrev pub AreTallied : Disk → List Text → Line → Type 0
+AreTallied disk names printed = (checks : Checks) × AreChecks disk names checks × (printed ≡ tallied checks)
+
+-- ---- a run
+
+abbrev pub IsAnswer : Disk → Task → Line → Type 0
+IsAnswer disk (print name what AsText) printed = IsPrint disk name what printed
+IsAnswer disk (check names AsText) printed = AreTallied disk names printed
+IsAnswer disk (print name what Json) printed = printed ≡ nothing
+IsAnswer disk (check names Json) printed = printed ≡ nothing
+
+-- the status after a text of clap's, which may be 0 after help; 2 where the text can't be written
+abbrev pub IsStatusAfter : ErrorKind → ℕ → Type 0
+IsStatusAfter DisplayHelp status = (status ≡ 0) ⊎ (status ≡ 2)
+IsStatusAfter DisplayVersion status = (status ≡ 0) ⊎ (status ≡ 2)
+IsStatusAfter _ status = status ≡ 2
+
+-- words that ask for nothing: clap says what is wrong with them, and nothing else is written
+abbrev pub IsExplained : List Text → Line → Type 0
+IsExplained words printed =
+    (kind : ErrorKind) × (names : Bor (List (Bor Text))) × (map (λ name. name.now) names.now ≡ format_names)
+    × ((kind ≡ OutOfMemory) ⊎ IsAmong kind (fault_of (cfi_app names) words)) × (printed.text ≡ []) × IsStatusAfter kind printed.status
+
+-- where memory is refused before there is a command, nothing is written
+abbrev pub IsAnswerTo : Disk → List Text → Option Asked → Line → Type 0
+IsAnswerTo disk words None printed = IsExplained words printed
+IsAnswerTo disk words (Some asked_for) printed = IsAnswer disk (task_for asked_for) printed ⊎ (printed ≡ nothing)
+
+-- by the words of the process, none where they can't be had
+abbrev pub IsOutput : Disk → Option (List Text) → Line → Type 0
+IsOutput disk None printed = printed ≡ nothing
+IsOutput disk (Some words) printed = IsAnswerTo disk words (asked words) printed
+
+-- ---- what was written
+
+-- all checks, or a beginning of their lines
+abbrev pub WritesChecks : {E A : Type 0} → Disk → List Text → Option (List ℕ) → Option (List ℕ) → Result (Vec Finding A) E → Type 0
+WritesChecks disk names old new result =
+    (checks : Checks) × AreChecks disk names checks × Writes old new result checks.lines × IfOk result (λ found. found.items ≡ checks.found)
+
+-- all of an output, with its status; or a beginning, with the status 2: the output failed, or memory was refused
+abbrev pub Ends : Line → Option (List ℕ) → Option (List ℕ) → ℕ → Type 0
+Ends printed old new status =
+    (written : List ℕ) × Appends old new written
+    × (((written ≡ printed.text) × (status ≡ printed.status)) ⊎ (IsBeginning written printed.text × (status ≡ 2)))
+
+abbrev pub PrintsRun : Disk → Option (List Text) → Option (List ℕ) → Option (List ℕ) → ℕ → Type 0
+PrintsRun disk words old new status = (printed : Line) × IsOutput disk words printed × Ends printed old new status
+
+-- the status once the output is flushed, which may fail
+abbrev pub IsStatusOf : {E : Type 0} → Result ℕ E → ℕ → Type 0
+IsStatusOf printed status = MatchResult printed (λ answered. (status ≡ answered) ⊎ (status ≡ 2)) (λ _. status ≡ 2)

@@ -1,0 +1,57 @@
+//! The names of functions by their addresses.
+ghost use Rattle.std.specs.List.Sorted.{IsNonDecreasingBy};
+
+use crate::elf_file::ElfFile;
+use crate::symbols::Function;
+use std::alloc::{AllocError, Global};
+
+/// The names of the functions of a file, by the addresses at which these begin.
+#[derive(Drop)]
+pub struct FunctionNames<'input> {
+    functions: Vec<Function<'input>>,
+    ghost sorted: { IsNonDecreasingBy (λ function. function.address) functions.items },
+}
+
+impl<'input> FunctionNames<'input> {
+    ghost use Rattle.std.specs.Prelude.{◌≡◌, ℕ, None, IfOk, option_map};
+    ghost use Rattle.cfi_elf.specs.ElfFiles.{file_view};
+    ghost use Rattle.cfi_elf.specs.FunctionNames.{function_name, name_in};
+
+    /// The names of the functions of `ElfFile::functions`. Of several functions that begin at one
+    /// address, the first gives the name.
+    ///
+    /// Fails where memory is refused. Allocates: the functions are sorted once.
+    pub fn new(alloc: Global, file: &ElfFile<'input>) -> Result<Self, AllocError>
+        ensures { (address : ℕ) → IfOk result (λ names.
+            name_in names address ≡ function_name (file_view file.now) address) }
+    {
+        let mut functions = file.functions(alloc)?;
+        functions.sort_by_key(|function| function.address)?;
+        Ok(FunctionNames { functions })
+    }
+
+    /// No names. Does not allocate.
+    pub fn none(alloc: Global) -> Self
+        ensures { (address : ℕ) → name_in result address ≡ None }
+    {
+        FunctionNames {
+            functions: Vec::new(alloc),
+        }
+    }
+
+    /// The name of the function that begins at the address, or `None` where none does. It is not
+    /// empty. Found by halving; does not allocate.
+    pub fn name_at(&self, address: u64) -> Option<&'input [u8]>
+        ensures { option_map (λ name. name.now) result ≡ name_in self.now address }
+    {
+        let index = self
+            .functions
+            .partition_point(|function| function.address < address);
+        let function = self.functions.get(index)?;
+        if function.address == address {
+            Some(function.name)
+        } else {
+            None
+        }
+    }
+}

@@ -1,0 +1,79 @@
+//! The functions of a file that have names (System V ABI chapter 4, "Symbol Table").
+ghost use Rattle.std.specs.Prelude.{◌≡◌, IfOk, map, option_map};
+ghost use Rattle.std.specs.List.{filter_map};
+ghost use Rattle.cfi_elf.specs.Results.{entries};
+ghost use Rattle.cfi_elf.specs.ElfFiles.{file_view};
+ghost use Rattle.cfi_elf.specs.Symbols.{symbol};
+ghost use Rattle.cfi_elf.specs.SymbolTables.{function_view};
+ghost use Rattle.cfi_elf.specs.FunctionNames.{named_function, named_functions};
+
+use crate::elf_file::ElfFile;
+use crate::file_header::Class;
+use crate::sections::name_at;
+use crate::symbol::{Symbol, read_symbol};
+use crate::symbols::{Function, is_function};
+use cfi_read_core::{EndianSlice, Reader};
+use std::alloc::{AllocError, Global};
+
+impl<'input> ElfFile<'input> {
+    /// The defined functions that have names, in the order of their symbols: those of `.symtab`,
+    /// or of `.dynsym` where there is none.
+    ///
+    /// A function whose name is empty or can't be read is left out. There is none where the
+    /// symbols can't be read. Fails where memory is refused; allocates the list.
+    #[tactic(auto, unfolding(crate::specs::FunctionNames::named_functions))]
+    pub fn functions(&self, alloc: Global) -> Result<Vec<Function<'input>>, AllocError>
+        ensures { IfOk result (λ functions. map function_view functions.items
+            ≡ named_functions (file_view self.now)) }
+    {
+        let Ok(table) = self.symbol_table() else {
+            return Ok(Vec::new(alloc));
+        };
+        let entries = EndianSlice::new(table.entries.bytes, self.identification.data);
+        let class = self.identification.class;
+        functions_among(alloc, class, table.entries.count, entries, table.names)
+    }
+}
+
+/// Those of `count` symbols that are functions with names.
+fn functions_among<'input, R: Reader>(
+    alloc: Global,
+    class: Class,
+    count: u64,
+    symbols: R,
+    names: &'input [u8],
+) -> Result<Vec<Function<'input>>, AllocError>
+    ensures { IfOk result (λ functions. map function_view functions.items
+        ≡ filter_map (named_function names.now) (entries count (symbol class)
+        (R.position symbols).source (R.position symbols).place)) }
+{
+    let mut functions = Vec::new(alloc);
+    let mut symbols = symbols;
+    for index in 0..count {
+        let Ok(symbol) = read_symbol(class, &mut symbols) else {
+            return Ok(functions);
+        };
+        if let Some(function) = named_function(&symbol, names) {
+            functions.push(function)?;
+        }
+    }
+    Ok(functions)
+}
+
+/// The function that a symbol names.
+fn named_function<'input>(symbol: &Symbol, names: &'input [u8]) -> Option<Function<'input>>
+    ensures { option_map function_view result ≡ named_function names.now symbol.now }
+{
+    if !is_function(symbol) {
+        return None;
+    }
+    let name = name_at(names, symbol.st_name).ok()?;
+    if name.is_empty() {
+        return None;
+    }
+    Some(Function {
+        name,
+        address: symbol.st_value,
+        size: symbol.st_size,
+    })
+}

@@ -1,0 +1,38 @@
+use Rattle.std.proofs.Common.{◌≡◌, ap, sym, subst}
+use Rattle.cfi_read_core.specs.ReadFunctions.{Readings}
+use Rattle.cfi_parts.specs.Instructions.{Instruction}
+use Rattle.cfi_parts.specs.InstructionReaders.{instructions_left}
+use Rattle.cfi_parts.specs.InstructionIterators.{instruction_reader}
+use Rattle.cfi_programs.proofs.DumpInstructionsWritten.{all_written, to_write}
+use Rattle.cfi_programs.specs.DumpInstructionLines.{instructions_text}
+use Rattle.cfi_programs.proofs.WrittenLemmas.{IsGiven, beginning_then, given_first, given_then, writes_refused}
+use Rattle.cfi_programs.proofs.dump.instruction_line.write_instructions.Goals as goal
+
+pub loop-instruction-init : goal.loop-instruction-init
+loop-instruction-init g c =
+    let old = g.W.Write.contents c.args.output.now in
+    let all = instructions_left (instruction_reader g.R.Reader.position c.args.instructions) in
+    let same : instructions_left (instruction_reader g.R.Reader.position c.into_iter-instruction-iterator.result) ≡ all =
+    ap (λ it. instructions_left (instruction_reader g.R.Reader.position it)) c.into_iter-instruction-iterator.ensures.into_iter_gives in
+    record {
+      can_next = tt;
+      is_finite = tt;
+      given = subst (λ (left : Readings Instruction). IsGiven old old (instructions_text c.args.names left) (instructions_text c.args.names all)) (sym same) (given_first old (instructions_text c.args.names all));
+    }
+
+pub returns-in_err-write_item : goal.returns-in_err-write_item
+returns-in_err-write_item g c =
+    let left = to_write c.args.names _ _ _ _ c.loop-instruction.invariant.given _ _ c.in-Some.ensures.steps in
+    writes_refused _ _ _ _ c.from_residual.ensures.0 (beginning_then _ _ _ _ _ _ left c.in_err-write_item.ensures)
+
+pub loop-instruction-preserved : goal.loop-instruction-preserved
+loop-instruction-preserved g c =
+    let left = to_write c.args.names _ _ _ _ c.loop-instruction.invariant.given _ _ c.in-Some.ensures.steps in
+    record {
+      can_next = tt;
+      is_finite = tt;
+      given = given_then _ _ _ _ _ _ left c.in_ok-write_item.ensures;
+    }
+
+pub returns : goal.returns
+returns g c = all_written c.args.names _ _ _ _ c.loop-instruction.invariant.given c.in-None.ensures.steps.0

@@ -1,0 +1,16 @@
+use Rattle.cfi_parts.specs.InstructionReaders.{instructions_left}
+use Rattle.cfi_parts.specs.InstructionIterators.{instruction_reader}
+use Rattle.cfi_programs.proofs.WrittenLemmas.{IsGiven}
+use Rattle.cfi_programs.specs.DumpInstructionLines.{instructions_text}
+use Rattle.cfi_programs.proofs.dump.instruction_line.write_instructions.Given as goal
+
+-- what is left to write is the text of the instructions that are left
+abbrev pub invariant-loop-instruction : goal.invariant-loop-instruction
+invariant-loop-instruction g l =
+    record {
+      can_next : (goal.iterator-loop-instruction g).can_next l.instruction-iterator;
+      is_finite : (goal.iterator-loop-instruction g).is_finite l.instruction-iterator;
+      given : IsGiven (g.W.Write.contents l.initial.output) (g.W.Write.contents l.output)
+          (instructions_text l.names (instructions_left (instruction_reader g.R.Reader.position l.instruction-iterator)))
+          (instructions_text l.names (instructions_left (instruction_reader g.R.Reader.position l.fn.instructions)));
+    }

@@ -1,0 +1,90 @@
+-- The lines of instructions: the name of each in DWARF (DWARF 5 section 7.24), and its operands as the section has them.
+--     shown instruction      the name, one for all sizes of an operand; the registers, which come first; the other operand
+--     instruction_line names instruction      its line
+--     instructions_text names readings      a line for each, and after the last one the error with which they end
+use Rattle.std.specs.Prelude.{ℕ, ℤ, List, [], ◌∷◌, ◌++◌, codes}
+use Rattle.std.specs.Fmt.{decimal, signed_decimal}
+use Rattle.cfi_read_core.specs.declared.common.Register.{Register}
+use Rattle.cfi_read_core.specs.declared.instruction.CallFrameInstruction.TheVariants as variant
+use Rattle.cfi_read_core.specs.declared.instruction.UnwindExpression.{UnwindExpression}
+use Rattle.cfi_read_core.specs.ReadFunctions.{Readings}
+use Rattle.cfi_parts.specs.Instructions.{Instruction}
+use Rattle.cfi_programs.specs.Lines.{address_text}
+use Rattle.cfi_programs.specs.ReadingTexts.{readings_text}
+use Rattle.cfi_programs.specs.RowLines.{expression_text}
+use Rattle.cfi_programs.specs.RegisterNames.{register_text}
+use Rattle.cfi_programs.specs.declared.register_names.RegisterNames.{RegisterNames}
+
+-- A register among the operands.
+pub record RegisterOperand : Type 0 where
+  pub label : List ℕ
+  pub register : ℕ
+
+pub record Shown : Type 0 where
+  pub name : List ℕ
+  pub registers : List RegisterOperand
+  pub value : List ℕ
+
+-- ---- what is shown of an instruction
+
+abbrev pub shown_as : List ℕ → List RegisterOperand → List ℕ → Shown
+shown_as name registers value = record { name = name; registers = registers; value = value }
+
+abbrev pub labelled : List ℕ → Register → RegisterOperand
+labelled label register = record { label = label; register = register.0 }
+
+abbrev pub of : Register → List RegisterOperand
+of register = labelled (codes " register=") register ∷ []
+
+abbrev pub dest_and_src : Register → Register → List RegisterOperand
+dest_and_src dest src = labelled (codes " dest_register=") dest ∷ labelled (codes " src_register=") src ∷ []
+
+abbrev pub expression_operand : UnwindExpression ℕ → List ℕ
+expression_operand expression = codes " expression=" ++ expression_text expression
+
+-- offsets in units of the data alignment factor are not multiplied by it
+abbrev pub factored_operand : ℕ → List ℕ
+factored_operand offset = codes " factored_offset=" ++ decimal offset
+
+abbrev pub signed_factored_operand : ℤ → List ℕ
+signed_factored_operand offset = codes " factored_offset=" ++ signed_decimal offset
+
+abbrev pub shown : Instruction → Shown
+shown (variant.SetLoc address) = shown_as (codes "DW_CFA_set_loc") [] (codes " address=" ++ address_text address)
+shown (variant.AdvanceLoc delta) = shown_as (codes "DW_CFA_advance_loc") [] (codes " delta=" ++ decimal delta)
+shown (variant.DefCfa register offset) = shown_as (codes "DW_CFA_def_cfa") (of register) (codes " offset=" ++ decimal offset)
+shown (variant.DefCfaSf register factored) = shown_as (codes "DW_CFA_def_cfa_sf") (of register) (signed_factored_operand factored)
+shown (variant.DefCfaRegister register) = shown_as (codes "DW_CFA_def_cfa_register") (of register) []
+shown (variant.DefCfaOffset offset) = shown_as (codes "DW_CFA_def_cfa_offset") [] (codes " offset=" ++ decimal offset)
+shown (variant.DefCfaOffsetSf factored) = shown_as (codes "DW_CFA_def_cfa_offset_sf") [] (signed_factored_operand factored)
+shown (variant.DefCfaExpression expression) = shown_as (codes "DW_CFA_def_cfa_expression") [] (expression_operand expression)
+shown (variant.Undefined register) = shown_as (codes "DW_CFA_undefined") (of register) []
+shown (variant.SameValue register) = shown_as (codes "DW_CFA_same_value") (of register) []
+shown (variant.Offset register factored) = shown_as (codes "DW_CFA_offset") (of register) (factored_operand factored)
+shown (variant.OffsetExtendedSf register factored) = shown_as (codes "DW_CFA_offset_extended_sf") (of register) (signed_factored_operand factored)
+shown (variant.OffsetExtendedNegative register factored) = shown_as (codes "DW_CFA_GNU_negative_offset_extended") (of register) (factored_operand factored)
+shown (variant.ValOffset register factored) = shown_as (codes "DW_CFA_val_offset") (of register) (factored_operand factored)
+shown (variant.ValOffsetSf register factored) = shown_as (codes "DW_CFA_val_offset_sf") (of register) (signed_factored_operand factored)
+shown (variant.Register dest src) = shown_as (codes "DW_CFA_register") (dest_and_src dest src) []
+shown (variant.Expression register expression) = shown_as (codes "DW_CFA_expression") (of register) (expression_operand expression)
+shown (variant.ValExpression register expression) = shown_as (codes "DW_CFA_val_expression") (of register) (expression_operand expression)
+shown (variant.Restore register) = shown_as (codes "DW_CFA_restore") (of register) []
+shown variant.RememberState = shown_as (codes "DW_CFA_remember_state") [] []
+shown variant.RestoreState = shown_as (codes "DW_CFA_restore_state") [] []
+shown (variant.ArgsSize size) = shown_as (codes "DW_CFA_GNU_args_size") [] (codes " size=" ++ decimal size)
+shown variant.NegateRaState = shown_as (codes "DW_CFA_AARCH64_negate_ra_state") [] []
+shown variant.Nop = shown_as (codes "DW_CFA_nop") [] []
+
+-- ---- the lines
+
+abbrev pub registers_text : RegisterNames → List RegisterOperand → List ℕ
+registers_text names [] = []
+registers_text names (operand ∷ operands) = operand.label ++ register_text names operand.register ++ registers_text names operands
+
+abbrev pub instruction_line : RegisterNames → Instruction → List ℕ
+instruction_line names instruction =
+    let words = shown instruction in
+    codes "  " ++ words.name ++ registers_text names words.registers ++ words.value ++ 10 ∷ []
+
+abbrev pub instructions_text : RegisterNames → Readings Instruction → List ℕ
+instructions_text names readings = readings_text (instruction_line names) readings

@@ -1,0 +1,272 @@
+//! The lines of call frame instructions.
+ghost use Rattle.std.specs.Prelude.{◌≡◌, Some, IfSome};
+ghost use Rattle.cfi_parts.specs.InstructionIterators.{instruction_reader};
+ghost use Rattle.cfi_parts.specs.InstructionReaders.{instructions_left};
+ghost use Rattle.cfi_programs.specs.WriterOutput.{Writes};
+ghost use Rattle.cfi_programs.specs.ReadingTexts.{item_text};
+ghost use Rattle.cfi_programs.specs.DumpInstructionLines.{instruction_line, instructions_text};
+ghost use Rattle.cfi_programs.specs.DumpInstructionLines.{dest_and_src, expression_operand, of};
+ghost use Rattle.cfi_programs.specs.DumpInstructionLines.{factored_operand, registers_text, shown};
+ghost use Rattle.cfi_programs.specs.DumpInstructionLines.{signed_factored_operand};
+ghost use Rattle.cfi_programs.specs.RowLines.{expression_text};
+
+use crate::dump::section::write_refused;
+use crate::lines::write_part;
+use crate::register_names::RegisterNames;
+use gimli_cfi::{
+    CallFrameInstruction as Instruction, CallFrameInstructionIter, Reader, Register, Result,
+    UnwindExpression,
+};
+use std::fmt::{Display, Formatter};
+use std::io::Write;
+use std::{fmt, io};
+
+/// Where an expression is, and its length.
+#[derive(Clone, Copy)]
+struct Place(UnwindExpression<usize>);
+
+impl Display for Place {
+    ghost output = { λ place. Some (expression_text place.0) };
+
+    fn fmt<W: fmt::Write>(&self, f: &mut Formatter<W>) -> fmt::Result {
+        write!(f, "expr@{}:{}", self.0.offset, self.0.length)
+    }
+}
+
+/// A register, as the operand of that name, with the names of registers.
+#[derive(Clone, Copy)]
+struct Of(RegisterNames, Register);
+
+impl Display for Of {
+    ghost output = { λ it. Some (registers_text it.0 (of it.1)) };
+
+    fn fmt<W: fmt::Write>(&self, f: &mut Formatter<W>) -> fmt::Result {
+        let register = self.0.name(self.1.0);
+        write!(f, " register={register}")
+    }
+}
+
+/// The registers of `DW_CFA_register`, with the names of registers.
+#[derive(Clone, Copy)]
+struct Both(RegisterNames, Register, Register);
+
+impl Display for Both {
+    ghost output = { λ it. Some (registers_text it.0 (dest_and_src it.1 it.2)) };
+
+    fn fmt<W: fmt::Write>(&self, f: &mut Formatter<W>) -> fmt::Result {
+        let dest = self.0.name(self.1.0);
+        let src = self.0.name(self.2.0);
+        write!(f, " dest_register={dest} src_register={src}")
+    }
+}
+
+/// An expression, as the operand of that name.
+#[derive(Clone, Copy)]
+struct ByExpression(UnwindExpression<usize>);
+
+impl Display for ByExpression {
+    ghost output = { λ it. Some (expression_operand it.0) };
+
+    fn fmt<W: fmt::Write>(&self, f: &mut Formatter<W>) -> fmt::Result {
+        let place = Place(self.0);
+        write!(f, " expression={place}")
+    }
+}
+
+/// An unsigned offset in units of the data alignment factor, as an operand.
+#[derive(Clone, Copy)]
+struct Factored(u64);
+
+impl Display for Factored {
+    ghost output = { λ it. Some (factored_operand it.0) };
+
+    fn fmt<W: fmt::Write>(&self, f: &mut Formatter<W>) -> fmt::Result {
+        write!(f, " factored_offset={}", self.0)
+    }
+}
+
+/// A signed offset in units of the data alignment factor, as an operand.
+#[derive(Clone, Copy)]
+struct Signed(i64);
+
+impl Display for Signed {
+    ghost output = { λ it. Some (signed_factored_operand it.0) };
+
+    fn fmt<W: fmt::Write>(&self, f: &mut Formatter<W>) -> fmt::Result {
+        write!(f, " factored_offset={}", self.0)
+    }
+}
+
+/// The registers of an instruction, with the names of registers.
+#[derive(Clone, Copy)]
+struct Registers(RegisterNames, Instruction<usize>);
+
+impl Display for Registers {
+    ghost output = { λ it. Some (registers_text it.0 (shown it.1).registers) };
+
+    fn fmt<W: fmt::Write>(&self, f: &mut Formatter<W>) -> fmt::Result {
+        match self.1 {
+            Instruction::SetLoc { .. } => Ok(()),
+            Instruction::AdvanceLoc { .. } => Ok(()),
+            Instruction::DefCfa { register, .. } => Of(self.0, register).fmt(f),
+            Instruction::DefCfaSf { register, .. } => Of(self.0, register).fmt(f),
+            Instruction::DefCfaRegister { register } => Of(self.0, register).fmt(f),
+            Instruction::DefCfaOffset { .. } => Ok(()),
+            Instruction::DefCfaOffsetSf { .. } => Ok(()),
+            Instruction::DefCfaExpression { .. } => Ok(()),
+            Instruction::Undefined { register } => Of(self.0, register).fmt(f),
+            Instruction::SameValue { register } => Of(self.0, register).fmt(f),
+            Instruction::Offset { register, .. } => Of(self.0, register).fmt(f),
+            Instruction::OffsetExtendedSf { register, .. } => Of(self.0, register).fmt(f),
+            Instruction::OffsetExtendedNegative { register, .. } => Of(self.0, register).fmt(f),
+            Instruction::ValOffset { register, .. } => Of(self.0, register).fmt(f),
+            Instruction::ValOffsetSf { register, .. } => Of(self.0, register).fmt(f),
+            Instruction::Register {
+                dest_register,
+                src_register,
+            } => Both(self.0, dest_register, src_register).fmt(f),
+            Instruction::Expression { register, .. } => Of(self.0, register).fmt(f),
+            Instruction::ValExpression { register, .. } => Of(self.0, register).fmt(f),
+            Instruction::Restore { register } => Of(self.0, register).fmt(f),
+            Instruction::RememberState => Ok(()),
+            Instruction::RestoreState => Ok(()),
+            Instruction::ArgsSize { .. } => Ok(()),
+            Instruction::NegateRaState => Ok(()),
+            Instruction::Nop => Ok(()),
+        }
+    }
+}
+
+/// The operand of an instruction that is no register, as it is encoded in the section.
+#[derive(Clone, Copy)]
+struct Value(Instruction<usize>);
+
+impl Display for Value {
+    ghost output = { λ it. Some (shown it.0).value };
+
+    fn fmt<W: fmt::Write>(&self, f: &mut Formatter<W>) -> fmt::Result {
+        match self.0 {
+            Instruction::SetLoc { address } => write!(f, " address=0x{address:x}"),
+            Instruction::AdvanceLoc { delta } => write!(f, " delta={delta}"),
+            Instruction::DefCfa { offset, .. } => write!(f, " offset={offset}"),
+            Instruction::DefCfaSf {
+                factored_offset: n,
+                ..
+            } => Signed(n).fmt(f),
+            Instruction::DefCfaRegister { .. } => Ok(()),
+            Instruction::DefCfaOffset { offset } => write!(f, " offset={offset}"),
+            Instruction::DefCfaOffsetSf { factored_offset: n } => Signed(n).fmt(f),
+            Instruction::DefCfaExpression { expression } => ByExpression(expression).fmt(f),
+            Instruction::Undefined { .. } => Ok(()),
+            Instruction::SameValue { .. } => Ok(()),
+            Instruction::Offset {
+                factored_offset: n,
+                ..
+            } => Factored(n).fmt(f),
+            Instruction::OffsetExtendedSf {
+                factored_offset: n,
+                ..
+            } => Signed(n).fmt(f),
+            Instruction::OffsetExtendedNegative {
+                factored_offset: n,
+                ..
+            } => Factored(n).fmt(f),
+            Instruction::ValOffset {
+                factored_offset: n,
+                ..
+            } => Factored(n).fmt(f),
+            Instruction::ValOffsetSf {
+                factored_offset: n,
+                ..
+            } => Signed(n).fmt(f),
+            Instruction::Register { .. } => Ok(()),
+            Instruction::Expression { expression, .. } => ByExpression(expression).fmt(f),
+            Instruction::ValExpression { expression, .. } => ByExpression(expression).fmt(f),
+            Instruction::Restore { .. } => Ok(()),
+            Instruction::RememberState => Ok(()),
+            Instruction::RestoreState => Ok(()),
+            Instruction::ArgsSize { size } => write!(f, " size={size}"),
+            Instruction::NegateRaState => Ok(()),
+            Instruction::Nop => Ok(()),
+        }
+    }
+}
+
+/// Returns the instruction's name in DWARF, one for all sizes of an operand.
+fn dwarf_name(instruction: &Instruction<usize>) -> &'static str
+    ensures { result.now ≡ (shown instruction.now).name }
+{
+    match instruction {
+        Instruction::SetLoc { .. } => "DW_CFA_set_loc",
+        Instruction::AdvanceLoc { .. } => "DW_CFA_advance_loc",
+        Instruction::DefCfa { .. } => "DW_CFA_def_cfa",
+        Instruction::DefCfaSf { .. } => "DW_CFA_def_cfa_sf",
+        Instruction::DefCfaRegister { .. } => "DW_CFA_def_cfa_register",
+        Instruction::DefCfaOffset { .. } => "DW_CFA_def_cfa_offset",
+        Instruction::DefCfaOffsetSf { .. } => "DW_CFA_def_cfa_offset_sf",
+        Instruction::DefCfaExpression { .. } => "DW_CFA_def_cfa_expression",
+        Instruction::Undefined { .. } => "DW_CFA_undefined",
+        Instruction::SameValue { .. } => "DW_CFA_same_value",
+        Instruction::Offset { .. } => "DW_CFA_offset",
+        Instruction::OffsetExtendedSf { .. } => "DW_CFA_offset_extended_sf",
+        Instruction::OffsetExtendedNegative { .. } => "DW_CFA_GNU_negative_offset_extended",
+        Instruction::ValOffset { .. } => "DW_CFA_val_offset",
+        Instruction::ValOffsetSf { .. } => "DW_CFA_val_offset_sf",
+        Instruction::Register { .. } => "DW_CFA_register",
+        Instruction::Expression { .. } => "DW_CFA_expression",
+        Instruction::ValExpression { .. } => "DW_CFA_val_expression",
+        Instruction::Restore { .. } => "DW_CFA_restore",
+        Instruction::RememberState => "DW_CFA_remember_state",
+        Instruction::RestoreState => "DW_CFA_restore_state",
+        Instruction::ArgsSize { .. } => "DW_CFA_GNU_args_size",
+        Instruction::NegateRaState => "DW_CFA_AARCH64_negate_ra_state",
+        Instruction::Nop => "DW_CFA_nop",
+    }
+}
+
+/// Writes a line for each instruction that is left; and after the last one the line of the error
+/// with which they end, if there is one.
+pub fn write_instructions<R: Reader<Offset = usize>, W: Write>(
+    output: &mut W,
+    names: RegisterNames,
+    instructions: CallFrameInstructionIter<'_, R>,
+) -> io::Result<()>
+    ensures { let left = instructions_left (instruction_reader R.position instructions.entry) in
+        Writes (W.contents output.old) (W.contents output.new) result
+        (instructions_text names left) }
+{
+    for instruction in instructions {
+        write_item(output, names, instruction)?;
+    }
+    Ok(())
+}
+
+/// Writes the line of an instruction, or of the error in its place.
+fn write_item<W: Write>(
+    output: &mut W,
+    names: RegisterNames,
+    instruction: Result<Instruction<usize>>,
+) -> io::Result<()>
+    ensures { Writes (W.contents output.old) (W.contents output.new) result
+        (item_text (instruction_line names) instruction) }
+{
+    match instruction {
+        Ok(instruction) => write_instruction(output, names, instruction),
+        Err(error) => write_refused(output, error),
+    }
+}
+
+/// Writes the line of an instruction.
+fn write_instruction<W: Write>(
+    output: &mut W,
+    names: RegisterNames,
+    instruction: Instruction<usize>,
+) -> io::Result<()>
+    ensures { Writes (W.contents output.old) (W.contents output.new) result
+        (instruction_line names instruction) }
+{
+    let name = dwarf_name(&instruction);
+    let registers = Registers(names, instruction);
+    let value = Value(instruction);
+    write_part(output, format_args!("  {name}{registers}{value}\n"))
+}
