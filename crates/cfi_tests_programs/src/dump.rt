@@ -270,5 +270,11 @@ const THREE_ROWS_NAMED: &str = "fde 0x1000 0x1020
 #[test]
 fn rows_with_names(rt: HostRuntime) -> Result<(), Fail> {
     let functions = FunctionNames::none(rt.alloc());
-    prints_rows(&rt, RegisterNames::X86_64, None, &functions, THREE_ROWS_NAMED)
+    prints_rows(
+        &rt,
+        RegisterNames::X86_64,
+        None,
+        &functions,
+        THREE_ROWS_NAMED,
+    )
 }
