@@ -6,6 +6,7 @@ use Rattle.cfi_read_core.specs.declared.error.Error.TheVariants.{OutOfMemory}
 use Rattle.cfi_parts.specs.Instructions.{Instruction}
 use Rattle.cfi_state.specs.MachineSettings.{Setting}
 use Rattle.cfi_state.specs.Machine.{State}
+use Rattle.cfi_state.specs.Row.{Row}
 use Rattle.cfi_state.specs.MachineRuns.{may_allocate}
 use Rattle.cfi_state.specs.Program.{in_fde}
 use Rattle.cfi_state.specs.FdeAnswers.{AreConsecutive, answer_at, answers, cie_refusal, on_option, rows_of, run_answers}
@@ -16,6 +17,8 @@ use Rattle.cfi_entry.specs.Fdes.{Fde, end_of}
 use Rattle.cfi_entry.specs.Sections.{Section}
 use Rattle.cfi_unwind.specs.AddressRow.{row_of_fde, setting}
 use Rattle.cfi_unwind.specs.UnwindTableCalls.{AcceptsCieProgram}
+use Rattle.cfi_compiled.specs.FrameParts.{facts_of, frame_of_fde, frame_of_row}
+use Rattle.cfi_compiled.specs.declared.facts.CieFacts.{CieFacts}
 use Rattle.cfi_compiled.proofs.KeptCies.{kept_cie_is}
 
 module _ (rule_limit stack_limit : Option ℕ) (copies_free : Bool) (section : Section) (fde : Fde) where
@@ -39,6 +42,9 @@ module _ (rule_limit stack_limit : Option ℕ) (copies_free : Bool) (section : S
       ∙ ap (answer_at a) (run_law s program.values program.refusal (in_fde all []) stands.0)
       ∙ ap (λ (l : List Instruction). answer_at a (answers s (in_fde l []) program)) accepted.1
       ∙ sym (ap (on_option (answer_at a (answers s (in_fde cie.values []) program)) (λ e. Err e)) accepted.0)
+
+  pub same_frame : (facts : CieFacts) (answer : Result (Row ℕ) Error) (a : ℕ) → facts ≡ facts_of fde → answer ≡ row_of_fde rule_limit stack_limit section a fde → frame_of_row facts answer ≡ frame_of_fde rule_limit stack_limit section a fde
+  same_frame facts answer a says is = ap (λ (f : CieFacts). frame_of_row f answer) says ∙ ap (frame_of_row (facts_of fde)) is
 
   pub by_refusal : (e : Error) → (e ≡ OutOfMemory → ⊥) → AcceptsCieProgram s copies_free cie (Err e) → (a : ℕ) → row_of_fde rule_limit stack_limit section a fde ≡ Err e
   by_refusal e other keeps a =

@@ -3,8 +3,8 @@ use Rattle.std.proofs.Common.{◌≡◌, ℕ, suc, ◌+◌, ◌-◌, ◌<◌, �
 use Rattle.std.proofs.lemmas.Bool.{cases_lt}
 use Rattle.cfi_read_core.specs.declared.error.Error.{Error}
 use Rattle.cfi_entry.specs.Fdes.{Fde, covers, end_of}
-use Rattle.cfi_state.specs.Machine.{Parts}
 use Rattle.cfi_compiled.specs.declared.pieces.Piece.{Piece}
+use Rattle.cfi_compiled.specs.FrameParts.{FrameParts}
 use Rattle.cfi_compiled.specs.CoveringFdes.{first_of}
 use Rattle.cfi_compiled.specs.Pieces.{owner, Ascend, spans_from}
 use Rattle.cfi_compiled.proofs.FirstCovering.{inside_of}
@@ -59,18 +59,18 @@ module _ (other : Result Fde Error) (a : ℕ) where
   none_found i (fde ∷ fdes) owned = none_step i fde fdes (covers fde a) refl owned (λ rest. none_found (i + 1) fdes rest)
 
 -- Up to the end of the last piece that was taken the answers are those of all; from there on what is left decides.
-pub record Taken (due : ℕ → Result Fde Error → Result (Parts ℕ) Error) (all : List Fde) (pieces left : List Piece) (other : Result Fde Error) (end : ℕ) (now : ℕ → Result (Parts ℕ) Error) : Type 0 where
+pub record Taken (due : ℕ → Result Fde Error → Result FrameParts Error) (all : List Fde) (pieces left : List Piece) (other : Result Fde Error) (end : ℕ) (now : ℕ → Result FrameParts Error) : Type 0 where
   pub ascend : Ascend end left
   pub taken : (a : ℕ) → a < end → now a ≡ due a (first_of a all other)
   pub rest : (a : ℕ) → end ≤ a → owner a pieces ≡ owner a left
 
-module _ (due : ℕ → Result Fde Error → Result (Parts ℕ) Error) (all : List Fde) (pieces : List Piece) (other : Result Fde Error) where
-  pub taken_none : (now : ℕ → Result (Parts ℕ) Error) → Ascend 0 pieces → Taken due all pieces pieces other 0 now
+module _ (due : ℕ → Result Fde Error → Result FrameParts Error) (all : List Fde) (pieces : List Piece) (other : Result Fde Error) where
+  pub taken_none : (now : ℕ → Result FrameParts Error) → Ascend 0 pieces → Taken due all pieces pieces other 0 now
   taken_none now ascend = record { ascend = ascend; taken = λ a below. absurd (omega arith); rest = λ a from. refl }
 
-  module _ (same_owner : (a : ℕ) → owner a pieces ≡ owner a (spans_from 0 all)) (left : List Piece) (end : ℕ) (now : ℕ → Result (Parts ℕ) Error) (so_far : Taken due all pieces left other end now) where
+  module _ (same_owner : (a : ℕ) → owner a pieces ≡ owner a (spans_from 0 all)) (left : List Piece) (end : ℕ) (now : ℕ → Result FrameParts Error) (so_far : Taken due all pieces left other end now) where
     -- nothing is left
-    pub taken_all : (newer : ℕ → Result (Parts ℕ) Error) → left ≡ [] → ((a : ℕ) → a < end → newer a ≡ now a) → ((a : ℕ) → end ≤ a → newer a ≡ due a other) → (a : ℕ) → newer a ≡ due a (first_of a all other)
+    pub taken_all : (newer : ℕ → Result FrameParts Error) → left ≡ [] → ((a : ℕ) → a < end → newer a ≡ now a) → ((a : ℕ) → end ≤ a → newer a ≡ due a other) → (a : ℕ) → newer a ≡ due a (first_of a all other)
     taken_all newer is same after a =
         ⊎_elim
         (λ below. same a below ∙ so_far.taken a below)
@@ -120,7 +120,7 @@ module _ (due : ℕ → Result Fde Error → Result (Parts ℕ) Error) (all : Li
             let high = subst (λ (f : Fde). (piece.to - 1) < end_of f) there (covered fde (piece.to - 1) (omega (arith, ascend.1)) (omega (arith, ascend.1))).1 in
             omega (arith, high, ascend.1)
 
-        pub taken_next : (gapped newer : ℕ → Result (Parts ℕ) Error) → ((a : ℕ) → a < end → gapped a ≡ now a) → ((a : ℕ) → end ≤ a → a < piece.from → gapped a ≡ due a other)
+        pub taken_next : (gapped newer : ℕ → Result FrameParts Error) → ((a : ℕ) → a < end → gapped a ≡ now a) → ((a : ℕ) → end ≤ a → a < piece.from → gapped a ≡ due a other)
             → ((a : ℕ) → a < piece.from → newer a ≡ gapped a) → ((a : ℕ) → piece.from ≤ a → a < piece.to → newer a ≡ due a (Ok fde)) → Taken due all pieces others other piece.to newer
         taken_next gapped newer same gap kept rows = record {
           ascend = ascend.2;

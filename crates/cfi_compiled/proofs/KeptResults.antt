@@ -8,11 +8,13 @@ use Rattle.cfi_read_core.specs.declared.error.Error.{Error}
 use Rattle.cfi_read_core.specs.declared.error.Error.TheVariants.{NoUnwindInfoForAddress}
 use Rattle.cfi_read_core.specs.ReaderCalls.{map_ok}
 use Rattle.cfi_state.specs.Machine.{Rules}
+use Rattle.cfi_compiled.specs.declared.facts.CieFacts.{CieFacts}
 use Rattle.cfi_compiled.specs.declared.rests.KeptRow.{KeptRow}
 use Rattle.cfi_compiled.specs.declared.step_list.NumberedStep.{NumberedStep}
-use Rattle.cfi_compiled.specs.KeptRows.{AreNamed, IsGrown, RestLists, parts_in, rest_args, rest_rules, results_in}
-use Rattle.cfi_compiled.specs.CompiledTables.{AreNumbersOf, IsAdded, IsSound, parts_at, parts_numbered, step_named, steps_of}
-use Rattle.cfi_compiled.specs.Steps.{Rise, free_from, parts_by_steps}
+use Rattle.cfi_compiled.specs.FrameParts.{frame_of}
+use Rattle.cfi_compiled.specs.KeptRows.{AreNamed, IsGrown, RestLists, frame_in, parts_in, rest_args, rest_facts, rest_rules, results_in}
+use Rattle.cfi_compiled.specs.CompiledTables.{AreNumbersOf, IsAdded, IsSound, frame_at, frame_numbered, step_named, steps_of}
+use Rattle.cfi_compiled.specs.Steps.{Rise, free_from, frame_by_steps}
 use Rattle.cfi_compiled.proofs.Grown.{Extends, Results}
 
 abbrev Names : ℕ → Result KeptRow Error → Type 0
@@ -23,17 +25,18 @@ more_named few many more (Ok row) within = omega (arith, more, within)
 more_named few many more (Err e) within = tt
 
 module _ (old new : RestLists) (grown : IsGrown old new) where
-  same_row : (row : Result KeptRow Error) → Names (length old.rests) row → map_ok (parts_in new) row ≡ map_ok (parts_in old) row
+  same_row : (row : Result KeptRow Error) → Names (length old.rests) row → map_ok (frame_in new) row ≡ map_ok (frame_in old) row
   same_row (Ok row) within =
-      ap (λ (r : Rules ℕ). Ok (record { cfa = row.cfa; rules = r; args_size = rest_args new row.rest })) (grown.rules row.rest within)
-      ∙ ap (λ n. Ok (record { cfa = row.cfa; rules = rest_rules old row.rest; args_size = n })) (grown.args row.rest within)
+      ap (λ (r : Rules ℕ). Ok (frame_of (rest_facts new row.rest) (record { cfa = row.cfa; rules = r; args_size = rest_args new row.rest }))) (grown.rules row.rest within)
+      ∙ ap (λ n. Ok (frame_of (rest_facts new row.rest) (record { cfa = row.cfa; rules = rest_rules old row.rest; args_size = n }))) (grown.args row.rest within)
+      ∙ ap (λ (facts : CieFacts). Ok (frame_of facts (parts_in old row))) (grown.facts row.rest within)
   same_row (Err e) within = refl
 
   pub same_results : (rows : List (Result KeptRow Error)) → AreNamed old rows → results_in new rows ≡ results_in old rows
   same_results [] named = refl
   same_results (row ∷ rows) named =
       ap (λ r. r ∷ results_in new rows) (same_row row (named 0 row (omega arith)))
-      ∙ ap (λ (l : Results). map_ok (parts_in old) row ∷ l) (same_results rows (λ i d within. named (suc i) d (omega (arith, within))))
+      ∙ ap (λ (l : Results). map_ok (frame_in old) row ∷ l) (same_results rows (λ i d within. named (suc i) d (omega (arith, within))))
 
   still_named : (rows : List (Result KeptRow Error)) → AreNamed old rows → AreNamed new rows
   still_named rows named i d within = more_named _ _ grown.more (get_or rows i d) (named i d within)
@@ -49,8 +52,8 @@ module _ (old new : RestLists) (grown : IsGrown old new) where
       named = still_named rows sound.named;
     }
 
-    pub parts_grown : (a : ℕ) → parts_at (record { lists = new; rows = rows; numbers = numbers }) a ≡ parts_at (record { lists = old; rows = rows; numbers = numbers }) a
-    parts_grown a = ap (λ (l : Results). parts_by_steps (map (step_named l) numbers) a) (sym same)
+    pub frame_grown : (a : ℕ) → frame_at (record { lists = new; rows = rows; numbers = numbers }) a ≡ frame_at (record { lists = old; rows = rows; numbers = numbers }) a
+    frame_grown a = ap (λ (l : Results). frame_by_steps (map (step_named l) numbers) a) (sym same)
 
     pub free_grown : free_from 0 (steps_of (record { lists = new; rows = rows; numbers = numbers })) ≡ free_from 0 (steps_of (record { lists = old; rows = rows; numbers = numbers }))
     free_grown = ap (λ (l : Results). free_from 0 (map (step_named l) numbers)) (sym same)
@@ -60,7 +63,7 @@ module _ (lists : RestLists) (answer : Result KeptRow Error) (old new : List (Re
   added_extends =
       ⊎_elim
       (λ is. ([], ap (results_in lists) is ∙ sym (append-nil (results_in lists old))))
-      (λ is. (map_ok (parts_in lists) answer ∷ [], ap (results_in lists) is ∙ map_push (map_ok (parts_in lists)) old answer))
+      (λ is. (map_ok (frame_in lists) answer ∷ [], ap (results_in lists) is ∙ map_push (map_ok (frame_in lists)) old answer))
       added
 
   pub added_named : AreNamed lists old → IfOk answer (λ row. row.rest < length lists.rests) → AreNamed lists new
@@ -71,16 +74,16 @@ module _ (lists : RestLists) (answer : Result KeptRow Error) (old new : List (Re
       added
 
 result_at : (lists : RestLists) (rows : List (Result KeptRow Error)) (answer : Result KeptRow Error) (number : ℕ) → number < length rows → get_or rows number answer ≡ answer
-    → (number < length (results_in lists rows)) × (parts_numbered (results_in lists rows) number ≡ map_ok (parts_in lists) answer)
+    → (number < length (results_in lists rows)) × (frame_numbered (results_in lists rows) number ≡ map_ok (frame_in lists) answer)
 result_at lists rows answer number within is = (
   simp length-map within,
-  get_or-map (map_ok (parts_in lists)) rows number answer (Err NoUnwindInfoForAddress) within ∙ ap (map_ok (parts_in lists)) is,
+  get_or-map (map_ok (frame_in lists)) rows number answer (Err NoUnwindInfoForAddress) within ∙ ap (map_ok (frame_in lists)) is,
 )
 
 pub result_named : {E : Type 0} → (lists shown : RestLists) → lists ≡ shown → (rows : List (Result KeptRow Error)) (answer : Result KeptRow Error) (found : Result ℕ E)
     → IfOk found (λ n. n < length rows) → IfOk found (λ n. (d : Result KeptRow Error) → get_or rows n d ≡ answer)
-    → IfOk found (λ n. (n < length (results_in lists rows)) × (parts_numbered (results_in lists rows) n ≡ map_ok (parts_in shown) answer))
+    → IfOk found (λ n. (n < length (results_in lists rows)) × (frame_numbered (results_in lists rows) n ≡ map_ok (frame_in shown) answer))
 result_named lists shown is_shown rows answer (Ok n) within is =
     let here = result_at lists rows answer n within (is answer) in
-    (here.0, here.1 ∙ ap (λ l. map_ok (parts_in l) answer) is_shown)
+    (here.0, here.1 ∙ ap (λ l. map_ok (frame_in l) answer) is_shown)
 result_named lists shown is_shown rows answer (Err e) within is = tt

@@ -8,6 +8,7 @@ mod FdeSteps
 mod Gathered
 mod Overlay
 mod Compiled
+mod LentRows
 mod Searched
 mod SplitSteps
 mod PagedLists

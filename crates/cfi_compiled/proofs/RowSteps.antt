@@ -17,8 +17,8 @@ use Rattle.cfi_state.specs.UnwindTableStates.{TableState, run_answers_to_come, I
 use Rattle.cfi_state.specs.MappedStates.{map_row}
 use Rattle.cfi_state.proofs.MappedEquality.{as_it_is, same_row}
 use Rattle.cfi_unwind.specs.UnwindTableCalls.{LendsNextRow}
-use Rattle.cfi_state.specs.Machine.{Parts}
-use Rattle.cfi_compiled.specs.CompiledRows.{parts_of_row}
+use Rattle.cfi_compiled.specs.FrameParts.{FrameParts, frame_of, frame_of_row}
+use Rattle.cfi_compiled.specs.declared.facts.CieFacts.{CieFacts}
 
 abbrev pub Answers : Type 0
 Answers = List (Result (Row ℕ) Error)
@@ -91,7 +91,7 @@ module _ (s t : Setting) (same : t ≡ s) (copies_free : Bool) (p q : TableState
 -- ---- how far the rows were walked
 
 -- The answers from `from` on are those of what is left, whose rows follow each other up to the last address; below it they are taken.
-pub record Walked (all left : Answers) (first from end last : ℕ) (old now : ℕ → Result (Parts ℕ) Error) : Type 0 where
+pub record Walked (facts : CieFacts) (all left : Answers) (first from end last : ℕ) (old now : ℕ → Result FrameParts Error) : Type 0 where
   pub at : ℕ
   pub reached : at ≤ from
   pub up : first ≤ from
@@ -99,11 +99,11 @@ pub record Walked (all left : Answers) (first from end last : ℕ) (old now : �
   pub ends : end ≤ last
   pub consecutive : AreConsecutive at (rows_of left) last
   pub before : (a : ℕ) → a < first → now a ≡ old a
-  pub within : (a : ℕ) → first ≤ a → a < from → now a ≡ parts_of_row (answer_at a all)
+  pub within : (a : ℕ) → first ≤ a → a < from → now a ≡ frame_of_row facts (answer_at a all)
   pub rest : (a : ℕ) → from ≤ a → answer_at a all ≡ answer_at a left
 
-module _ (all : Answers) (first end last : ℕ) (old : ℕ → Result (Parts ℕ) Error) where
-  pub walked_none : (start : ℕ) → start ≤ first → first < end → end ≤ last → AreConsecutive start (rows_of all) last → Walked all all first first end last old old
+module _ (facts : CieFacts) (all : Answers) (first end last : ℕ) (old : ℕ → Result FrameParts Error) where
+  pub walked_none : (start : ℕ) → start ≤ first → first < end → end ≤ last → AreConsecutive start (rows_of all) last → Walked facts all all first first end last old old
   walked_none start below some ends follow = record {
     at = start;
     reached = below;
@@ -135,23 +135,23 @@ module _ (all : Answers) (first end last : ℕ) (old : ℕ → Result (Parts ℕ
       no_end true c is = is
       no_end false c is = refl
 
-  module _ (left : Answers) (from : ℕ) (now : ℕ → Result (Parts ℕ) Error) (walked : Walked all left first from end last old now) where
+  module _ (left : Answers) (from : ℕ) (now : ℕ → Result FrameParts Error) (walked : Walked facts all left first from end last old now) where
     -- something is left
     pub walked_nothing : left ≡ [] → ⊥
     walked_nothing is = subst (λ (l : Answers). AreConsecutive walked.at (rows_of l) last) is walked.consecutive
 
-    module _ (newer : ℕ → Result (Parts ℕ) Error) (same : (a : ℕ) → a < from → newer a ≡ now a) where
+    module _ (newer : ℕ → Result FrameParts Error) (same : (a : ℕ) → a < from → newer a ≡ now a) where
       -- the answers of what was taken, where the new ones differ from `from` on alone
       pub kept_before : (a : ℕ) → a < first → newer a ≡ old a
       kept_before a below = same a (omega (arith, walked.up)) ∙ walked.before a below
 
-      kept_within : (a : ℕ) → first ≤ a → a < from → newer a ≡ parts_of_row (answer_at a all)
+      kept_within : (a : ℕ) → first ≤ a → a < from → newer a ≡ frame_of_row facts (answer_at a all)
       kept_within a low high = same a high ∙ walked.within a low high
 
       -- up to a refusal, which is the answer from there on
-      pub walked_refusal : (later : Answers) (e : Error) → left ≡ Err e ∷ later → ((a : ℕ) → from ≤ a → newer a ≡ Err e) → (a : ℕ) → first ≤ a → newer a ≡ parts_of_row (answer_at a all)
+      pub walked_refusal : (later : Answers) (e : Error) → left ≡ Err e ∷ later → ((a : ℕ) → from ≤ a → newer a ≡ Err e) → (a : ℕ) → first ≤ a → newer a ≡ frame_of_row facts (answer_at a all)
       walked_refusal later e is taken a low =
-          ⊎_elim (λ below. kept_within a low below) (λ here. taken a here ∙ ap (parts_of_row) (sym (walked.rest a here ∙ ap (answer_at a) is))) (cases_lt a from)
+          ⊎_elim (λ below. kept_within a low below) (λ here. taken a here ∙ ap (frame_of_row facts) (sym (walked.rest a here ∙ ap (answer_at a) is))) (cases_lt a from)
 
     module _ (later : Answers) (row : Row ℕ) (is : left ≡ Ok row ∷ later) where
       follow : AreConsecutive walked.at (row ∷ rows_of later) last
@@ -167,12 +167,12 @@ module _ (all : Answers) (first end last : ℕ) (old : ℕ → Result (Parts ℕ
       after_row a low high = walked.rest a low ∙ ap (answer_at a) is ∙ passes_row row later a high
 
       -- the step of the row was taken, or the row is empty or ends before
-      module _ (newer : ℕ → Result (Parts ℕ) Error) (same : (a : ℕ) → a < from → newer a ≡ now a) (taken : (a : ℕ) → from ≤ a → a < row.end_address → newer a ≡ Ok row.parts) where
-        up_to_row : (a : ℕ) → first ≤ a → a < row.end_address → newer a ≡ parts_of_row (answer_at a all)
+      module _ (newer : ℕ → Result FrameParts Error) (same : (a : ℕ) → a < from → newer a ≡ now a) (taken : (a : ℕ) → from ≤ a → a < row.end_address → newer a ≡ Ok (frame_of facts row.parts)) where
+        up_to_row : (a : ℕ) → first ≤ a → a < row.end_address → newer a ≡ frame_of_row facts (answer_at a all)
         up_to_row a low high =
-            ⊎_elim (λ below. kept_within newer same a low below) (λ here. taken a here high ∙ ap (parts_of_row) (sym (due a here high))) (cases_lt a from)
+            ⊎_elim (λ below. kept_within newer same a low below) (λ here. taken a here high ∙ ap (frame_of_row facts) (sym (due a here high))) (cases_lt a from)
 
-        pub walked_row : (next : ℕ) → row.end_address < end → from ≤ next → row.end_address ≤ next → (next ≡ from) ⊎ (next ≡ row.end_address) → Walked all later first next end last old newer
+        pub walked_row : (next : ℕ) → row.end_address < end → from ≤ next → row.end_address ≤ next → (next ≡ from) ⊎ (next ≡ row.end_address) → Walked facts all later first next end last old newer
         walked_row next before low high (inl is_from) = record {
           at = row.end_address;
           reached = high;
@@ -196,5 +196,5 @@ module _ (all : Answers) (first end last : ℕ) (old : ℕ → Result (Parts ℕ
           rest = λ a up. after_row a (omega (arith, low, up)) (omega (arith, high, up));
         }
 
-        pub walked_all : end ≤ row.end_address → (a : ℕ) → first ≤ a → a < end → newer a ≡ parts_of_row (answer_at a all)
+        pub walked_all : end ≤ row.end_address → (a : ℕ) → first ≤ a → a < end → newer a ≡ frame_of_row facts (answer_at a all)
         walked_all past a low high = up_to_row a low (omega arith)

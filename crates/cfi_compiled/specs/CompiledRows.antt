@@ -1,8 +1,9 @@
--- What a compiled table keeps of a row: all but its two addresses.
+-- What a compiled table keeps of a row: all but its two addresses, and what the CIE says of the return.
 --     registers_of row      the registers of a row that a table lends, with their rules
 --     parts_kept row      what the row says
+--     frame_kept row      the same with what the CIE says
 --     HasDistinctRegisters row      no register has two rules
---     parts_lent      the same of the result of a call that lends one
+--     parts_lent, frame_lent      the same of the result of a call that lends one
 --     parts_of_row      what is kept of the result for an address; an error is kept as it is
 --     parts_by_scan      what is kept of the result of the scan, over a storage with these limits
 use Rattle.std.specs.Prelude.{ℕ, List, Option, Result}
@@ -11,6 +12,7 @@ use Rattle.cfi_state.specs.declared.table.rules.RegisterRule.{RegisterRule}
 use Rattle.gimli_cfi.specs.Words.{Error, Section, Row, Parts}
 use Rattle.gimli_cfi.specs.Words.{IsDistinctRegisters, map_ok, row_by_scan, rules_of}
 use Rattle.cfi_compiled.specs.declared.row.CompiledRow.{CompiledRow}
+use Rattle.cfi_compiled.specs.FrameParts.{FrameParts, frame_of}
 
 abbrev pub registers_of : CompiledRow → List (Register × RegisterRule ℕ)
 registers_of row = row.rules.now
@@ -22,11 +24,17 @@ parts_kept row = record {
   args_size = row.saved_args_size;
 }
 
+abbrev pub frame_kept : CompiledRow → FrameParts
+frame_kept row = frame_of row.facts (parts_kept row)
+
 abbrev pub HasDistinctRegisters : CompiledRow → Type 0
 HasDistinctRegisters row = IsDistinctRegisters (registers_of row)
 
 abbrev pub parts_lent : Result CompiledRow Error → Result (Parts ℕ) Error
 parts_lent result = map_ok parts_kept result
+
+abbrev pub frame_lent : Result CompiledRow Error → Result FrameParts Error
+frame_lent result = map_ok frame_kept result
 
 abbrev pub parts_of_row : Result (Row ℕ) Error → Result (Parts ℕ) Error
 parts_of_row result = map_ok (λ row. row.parts) result

@@ -1,40 +1,41 @@
 -- A compiled table as what it means.
 --     TableContents      the distinct results as they are kept, and the steps, which name them by number
 --     results_of, steps_of table      its results, and its steps in the order of their addresses
---     parts_at table address      what it has for an address
+--     frame_at table address      what it has for an address; `parts_at` the row alone
 --     IsSound table      what holds of each table: the steps rise, and name results that there are
---     IsCompiled rule_limit stack_limit section table      for every address what the scan gives, but
---         a row's addresses
+--     IsCompiled rule_limit stack_limit section table      for every address what the FDE and the row say
+--         that the scan gives, but a row's addresses
 use Rattle.std.specs.Prelude.{◌≡◌, ◌+◌, ◌<◌, ◌≤◌, ◌⊎◌, ℕ, List, [], ◌∷◌, ◌++◌, length, map, get_or}
 use Rattle.std.specs.Prelude.{Option, Some, None, Result, Err}
 use Rattle.std.specs.List.{All}
 use Rattle.gimli_cfi.specs.Words.{Error, NoUnwindInfoForAddress, Parts, Section}
+use Rattle.cfi_compiled.specs.FrameParts.{FrameParts, frame_by_scan, parts_of_frame}
 use Rattle.cfi_compiled.specs.declared.rests.KeptRow.{KeptRow}
 use Rattle.cfi_compiled.specs.declared.row.CompiledRow.{CompiledRow}
 use Rattle.cfi_compiled.specs.declared.step_list.NumberedStep.{NumberedStep}
-use Rattle.cfi_compiled.specs.CompiledRows.{parts_lent, parts_by_scan}
+use Rattle.cfi_compiled.specs.CompiledRows.{frame_lent}
 use Rattle.cfi_compiled.specs.KeptRows.{RestLists, AreNamed, results_in}
-use Rattle.cfi_compiled.specs.Steps.{Step, Rise, parts_by_steps}
+use Rattle.cfi_compiled.specs.Steps.{Step, Rise, frame_by_steps}
 
 pub record TableContents : Type 0 where
   pub lists : RestLists
   pub rows : List (Result KeptRow Error)
   pub numbers : List NumberedStep
 
-abbrev pub parts_numbered : List (Result (Parts ℕ) Error) → ℕ → Result (Parts ℕ) Error
-parts_numbered results number = get_or results number (Err NoUnwindInfoForAddress)
+abbrev pub frame_numbered : List (Result FrameParts Error) → ℕ → Result FrameParts Error
+frame_numbered results number = get_or results number (Err NoUnwindInfoForAddress)
 
-abbrev pub step_named : List (Result (Parts ℕ) Error) → NumberedStep → Step
+abbrev pub step_named : List (Result FrameParts Error) → NumberedStep → Step
 step_named results step =
-    record { start = step.start; parts = parts_numbered results step.number }
+    record { start = step.start; frame = frame_numbered results step.number }
 
-abbrev pub results_of : TableContents → List (Result (Parts ℕ) Error)
+abbrev pub results_of : TableContents → List (Result FrameParts Error)
 results_of table = results_in table.lists table.rows
 
 abbrev pub steps_of : TableContents → List Step
 steps_of table = map (step_named (results_of table)) table.numbers
 
-abbrev pub AreNumbersOf : List (Result (Parts ℕ) Error) → List NumberedStep → Type 0
+abbrev pub AreNumbersOf : List (Result FrameParts Error) → List NumberedStep → Type 0
 AreNumbersOf results steps = All (λ step. step.number < length results) steps
 
 pub record IsSound (table : TableContents) : Type 0 where
@@ -43,9 +44,9 @@ pub record IsSound (table : TableContents) : Type 0 where
   pub named : AreNamed table.lists table.rows
 
 -- the result with this number is this one
-abbrev pub IsResultAt : TableContents → Result (Parts ℕ) Error → ℕ → Type 0
+abbrev pub IsResultAt : TableContents → Result FrameParts Error → ℕ → Type 0
 IsResultAt table result number =
-    (number < length (results_of table)) × (parts_numbered (results_of table) number ≡ result)
+    (number < length (results_of table)) × (frame_numbered (results_of table) number ≡ result)
 
 -- the last step has this number
 abbrev pub EndsWith : ℕ → List NumberedStep → Type 0
@@ -57,13 +58,16 @@ EndsWith number steps =
 abbrev pub IsAdded : {X : Type 0} → X → List X → List X → Type 0
 IsAdded item old new = (new ≡ old) ⊎ (new ≡ old ++ item ∷ [])
 
+abbrev pub frame_at : TableContents → ℕ → Result FrameParts Error
+frame_at table address = frame_by_steps (steps_of table) address
+
 abbrev pub parts_at : TableContents → ℕ → Result (Parts ℕ) Error
-parts_at table address = parts_by_steps (steps_of table) address
+parts_at table address = parts_of_frame (frame_at table address)
 
 abbrev pub IsCompiled : Option ℕ → Option ℕ → Section → TableContents → Type 0
 IsCompiled rule_limit stack_limit section table =
     (address : ℕ)
-    → parts_at table address ≡ parts_by_scan rule_limit stack_limit section address
+    → frame_at table address ≡ frame_by_scan rule_limit stack_limit section address
 
 -- the start and the result of the step with the index k; none behind the last one
 abbrev pub IsStepOf :
@@ -73,4 +77,4 @@ IsStepOf table k (Some step) =
     (k < length table.numbers)
     × ((d : NumberedStep)
     → step_named (results_of table) (get_or table.numbers k d)
-    ≡ record { start = step.0; parts = parts_lent step.1 })
+    ≡ record { start = step.0; frame = frame_lent step.1 })

@@ -1,3 +1,4 @@
+pub mod FrameParts
 pub mod CompiledRows
 pub mod KeptRows
 pub mod Steps

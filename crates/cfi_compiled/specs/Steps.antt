@@ -1,6 +1,6 @@
 -- Results that change at few addresses.
 --     Step      from an address on, up to the next step, the result is this
---     parts_by_steps      the result of the last step at or below an address, else
+--     frame_by_steps      the result of the last step at or below an address, else
 --         `NoUnwindInfoForAddress`
 --     Rise low steps      each step is above the one before it, the first at or above `low`
 --     free_from low steps      the least address above all steps
@@ -8,19 +8,20 @@
 --         one on, and between two
 use Rattle.std.specs.Prelude.{◌≡◌, ℕ, ◌<◌, ◌≤◌, ◌+◌, List, [], ◌∷◌, nat_lt, if◌then◌else◌}
 use Rattle.std.specs.Prelude.{Result, Err, ⊤}
-use Rattle.gimli_cfi.specs.Words.{Error, NoUnwindInfoForAddress, Parts}
+use Rattle.gimli_cfi.specs.Words.{Error, NoUnwindInfoForAddress}
+use Rattle.cfi_compiled.specs.FrameParts.{FrameParts}
 
 pub record Step : Type 0 where
   pub start : ℕ
-  pub parts : Result (Parts ℕ) Error
+  pub frame : Result FrameParts Error
 
-abbrev pub parts_after : Result (Parts ℕ) Error → List Step → ℕ → Result (Parts ℕ) Error
-parts_after before [] address = before
-parts_after before (step ∷ steps) address =
-    if nat_lt address step.start then before else parts_after step.parts steps address
+abbrev pub frame_after : Result FrameParts Error → List Step → ℕ → Result FrameParts Error
+frame_after before [] address = before
+frame_after before (step ∷ steps) address =
+    if nat_lt address step.start then before else frame_after step.frame steps address
 
-abbrev pub parts_by_steps : List Step → ℕ → Result (Parts ℕ) Error
-parts_by_steps steps address = parts_after (Err NoUnwindInfoForAddress) steps address
+abbrev pub frame_by_steps : List Step → ℕ → Result FrameParts Error
+frame_by_steps steps address = frame_after (Err NoUnwindInfoForAddress) steps address
 
 abbrev pub Rise : ℕ → List Step → Type 0
 Rise low [] = ⊤

@@ -4,12 +4,12 @@
 use Rattle.std.specs.Prelude.{List, drop}
 use Rattle.cfi_compiled.specs.declared.compiled_steps.CompiledStep.{CompiledStep}
 use Rattle.cfi_compiled.specs.declared.compiled_steps.CompiledSteps.{CompiledSteps}
-use Rattle.cfi_compiled.specs.CompiledRows.{parts_lent}
+use Rattle.cfi_compiled.specs.CompiledRows.{frame_lent}
 use Rattle.cfi_compiled.specs.CompiledTables.{steps_of}
 use Rattle.cfi_compiled.specs.Steps.{Step}
 
 abbrev pub step_view : CompiledStep → Step
-step_view step = record { start = step.start; parts = parts_lent step.row }
+step_view step = record { start = step.start; frame = frame_lent step.row }
 
 abbrev pub steps_left : CompiledSteps → List Step
 steps_left iterator = drop iterator.next (steps_of iterator.table.now)

@@ -3,11 +3,13 @@ ghost use Rattle.std.specs.Prelude.{◌≡◌, ◌≤◌, ◌<◌, ◌+◌, ℕ,
 ghost use Rattle.std.specs.Prelude.{IfOk, IsTrue, OnOk, Result as TheResult};
 ghost use Rattle.gimli_cfi.specs.Words.{Error as TheError, map_ok};
 ghost use Rattle.cfi_compiled.specs.declared.rests.KeptRow.{KeptRow as Kept};
-ghost use Rattle.cfi_compiled.specs.CompiledTables.{IsAdded, IsResultAt, parts_at};
-ghost use Rattle.cfi_compiled.specs.CompiledTables.{parts_numbered, results_of, steps_of};
-ghost use Rattle.cfi_compiled.specs.KeptRows.{IsRestOf, parts_in};
+ghost use Rattle.cfi_compiled.specs.CompiledTables.{IsAdded, IsResultAt, frame_at};
+ghost use Rattle.cfi_compiled.specs.CompiledTables.{frame_numbered, results_of, steps_of};
+ghost use Rattle.cfi_compiled.specs.KeptRows.{IsRestOf, frame_in};
+ghost use Rattle.cfi_compiled.specs.FrameParts.{frame_of};
 ghost use Rattle.cfi_compiled.specs.Steps.{IsFrom, SameBelow, free_from};
 
+use crate::facts::CieFacts;
 use crate::guesses::Guesses;
 use crate::hash::hash_of_answer;
 use crate::rests::{KeptRow, RestBuilder};
@@ -85,64 +87,70 @@ impl TableBuilder {
         Ok(CompiledTable::of(rests.finish(), rows, steps))
     }
 
-    /// Whether this is the number of what a row says.
+    /// Whether this is the number of what a row and its CIE say.
     #[inline(always)]
     fn is_of<A: ArrayLike<Item = (Register, RegisterRule<usize>)>>(
         &self,
         number: usize,
         row: &UnwindTableRow<usize, A>,
+        facts: CieFacts,
     ) -> bool
-        ensures { IsTrue result → IsResultAt self.now (Ok row.now.parts) number }
+        ensures { IsTrue result → IsResultAt self.now
+            (Ok (frame_of facts row.now.parts)) number }
     {
         if number >= self.rows.len() {
             return false;
         }
         match self.rows[number] {
-            Ok(kept) => is_same_cfa(kept.cfa, *row.cfa()) && self.rests.is_of(kept.rest, row),
+            Ok(kept) => is_same_cfa(kept.cfa, *row.cfa())
+                && self.rests.is_of(kept.rest, row, facts),
             Err(_) => false,
         }
     }
 
-    /// The number of what a row says, which is added if it isn't there.
+    /// The number of what a row and its CIE say, which is added if it isn't there.
     fn number_of_row<A: ArrayLike<Item = (Register, RegisterRule<usize>)>>(
         &mut self,
         row: &UnwindTableRow<usize, A>,
+        facts: CieFacts,
     ) -> std::result::Result<usize, NoMemory>
-        ensures same { OnOk result ((a : ℕ) → parts_at self.new a ≡ parts_at self.old a) }
+        ensures same { OnOk result ((a : ℕ) → frame_at self.new a ≡ frame_at self.old a) }
         ensures free { OnOk result
             (free_from 0 (steps_of self.new) ≡ free_from 0 (steps_of self.old)) }
-        ensures number { IfOk result (IsResultAt self.new (Ok row.now.parts)) }
+        ensures number { IfOk result
+            (IsResultAt self.new (Ok (frame_of facts row.now.parts))) }
     {
         let guess = self.guesses.next();
-        if self.is_of(guess, row) {
+        if self.is_of(guess, row, facts) {
             return Ok(guess);
         }
-        let rest = self.rest_of(row)?;
+        let rest = self.rest_of(row, facts)?;
         let cfa = *row.cfa();
         self.number_of(Ok(KeptRow { cfa, rest }))
     }
 
-    /// The number of what a row says but the CFA.
+    /// The number of what a row and its CIE say but the CFA.
     fn rest_of<A: ArrayLike<Item = (Register, RegisterRule<usize>)>>(
         &mut self,
         row: &UnwindTableRow<usize, A>,
+        facts: CieFacts,
     ) -> std::result::Result<usize, NoMemory>
-        ensures same { OnOk result ((a : ℕ) → parts_at self.new a ≡ parts_at self.old a) }
+        ensures same { OnOk result ((a : ℕ) → frame_at self.new a ≡ frame_at self.old a) }
         ensures free { OnOk result
             (free_from 0 (steps_of self.new) ≡ free_from 0 (steps_of self.old)) }
-        ensures number { IfOk result (IsRestOf self.new.lists row.now.parts) }
+        ensures number { IfOk result (IsRestOf self.new.lists facts row.now.parts) }
     {
-        self.rests.number_of(row)
+        self.rests.number_of(row, facts)
     }
 
     /// The number of a result, which is added if it isn't there.
     fn number_of(&mut self, answer: Result<KeptRow>) -> std::result::Result<usize, NoMemory>
         requires { IfOk answer (λ row. row.rest < length self.old.lists.rests) }
-        ensures same { OnOk result ((a : ℕ) → parts_at self.new a ≡ parts_at self.old a) }
+        ensures same { OnOk result ((a : ℕ) → frame_at self.new a ≡ frame_at self.old a) }
         ensures free { OnOk result
             (free_from 0 (steps_of self.new) ≡ free_from 0 (steps_of self.old)) }
         ensures number { IfOk result
-            (IsResultAt self.new (map_ok (parts_in self.old.lists) answer)) }
+            (IsResultAt self.new (map_ok (frame_in self.old.lists) answer)) }
     {
         number_of(&mut self.rows, &mut self.slots, answer)
     }
@@ -151,9 +159,9 @@ impl TableBuilder {
     fn push(&mut self, from: u64, number: usize) -> std::result::Result<(), NoMemory>
         requires free { free_from 0 (steps_of self.old) ≤ from }
         requires number { number < length (results_of self.old) }
-        ensures before { OnOk result (SameBelow from (parts_at self.new) (parts_at self.old)) }
+        ensures before { OnOk result (SameBelow from (frame_at self.new) (frame_at self.old)) }
         ensures after { OnOk result
-            (IsFrom from (parts_at self.new) (parts_numbered (results_of self.old) number)) }
+            (IsFrom from (frame_at self.new) (frame_numbered (results_of self.old) number)) }
         ensures free { OnOk result (free_from 0 (steps_of self.new) ≤ from + 1) }
     {
         if self.steps.ends_with(number) {
@@ -167,10 +175,10 @@ impl TableBuilder {
 }
 
 impl StepSink for TableBuilder {
-    ghost use Rattle.cfi_compiled.specs.CompiledTables.{parts_at, steps_of};
+    ghost use Rattle.cfi_compiled.specs.CompiledTables.{frame_at, steps_of};
     ghost use Rattle.cfi_compiled.specs.Steps.{free_from};
 
-    ghost answer = { parts_at };
+    ghost answer = { frame_at };
 
     ghost free = { λ table. free_from 0 (steps_of table) };
 
@@ -178,8 +186,9 @@ impl StepSink for TableBuilder {
         &mut self,
         from: u64,
         row: &UnwindTableRow<usize, A>,
+        facts: CieFacts,
     ) -> std::result::Result<(), NoMemory> {
-        let number = self.number_of_row(row)?;
+        let number = self.number_of_row(row, facts)?;
         self.push(from, number)
     }
 

@@ -1,4 +1,5 @@
 //! Hashes of what rows say. What is equal has the same.
+use crate::facts::CieFacts;
 use crate::rests::KeptRow;
 use gimli_cfi::{ArrayLike, CfaRule, Register, RegisterRule, Result, UnwindTableRow};
 
@@ -10,11 +11,12 @@ pub(crate) fn hash_of_answer(answer: &Result<KeptRow>) -> u32 {
     }
 }
 
-/// The hash of what a row says but the rule of the CFA.
+/// The hash of what a row says but the rule of the CFA, and of what its CIE says.
 pub(crate) fn hash_of_rest<A: ArrayLike<Item = (Register, RegisterRule<usize>)>>(
     row: &UnwindTableRow<usize, A>,
+    facts: CieFacts,
 ) -> u32 {
-    let mut hash = row.saved_args_size();
+    let mut hash = mix(number_of_facts(facts), row.saved_args_size());
     for pair in row.registers() {
         hash = mix(hash, number_of_pair(pair.0, pair.1));
     }
@@ -31,6 +33,12 @@ fn mix(a: u64, b: u64) -> u64 {
 #[inline(always)]
 fn upper_half(hash: u64) -> u32 {
     (hash >> 32) as u32
+}
+
+/// A number of what a CIE says.
+#[inline(always)]
+fn number_of_facts(facts: CieFacts) -> u64 {
+    u64::from(facts.return_address.0) << 1 | u64::from(facts.is_signal_trampoline)
 }
 
 /// A number of a rule of the CFA.

@@ -2,12 +2,14 @@
 //! found by a binary search.
 //!
 //! For every address a table returns what `row_by_scan` returns for its section: all that the row
-//! says but its two addresses, or the error. Nothing is read from the section any more.
+//! says but its two addresses, or the error. With a row it has what the CIE says of the return.
+//! Nothing is read from the section any more.
 #![tactic(auto)]
 
 mod builder;
 mod compile;
 mod compiled_steps;
+mod facts;
 mod fdes;
 mod guesses;
 mod hash;

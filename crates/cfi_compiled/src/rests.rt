@@ -1,12 +1,13 @@
-//! What rows say but the rule of the CFA, each kept once.
+//! What rows and their CIEs say but the rule of the CFA, each kept once.
 ghost use Rattle.std.specs.Prelude.{◌≡◌, ◌<◌, [], length, IfOk, IsTrue};
 ghost use Rattle.gimli_cfi.specs.Words.{IsDistinctRegisters, rules_of};
-ghost use Rattle.cfi_compiled.specs.CompiledRows.{HasDistinctRegisters, parts_kept};
-ghost use Rattle.cfi_compiled.specs.KeptRows.{IsGrown, IsRestOf, parts_in};
+ghost use Rattle.cfi_compiled.specs.CompiledRows.{HasDistinctRegisters, frame_kept};
+ghost use Rattle.cfi_compiled.specs.KeptRows.{IsGrown, IsRestOf, frame_in};
 
+use crate::facts::CieFacts;
 use crate::hash::hash_of_rest;
 use crate::row::CompiledRow;
-use crate::same::is_same_pair;
+use crate::same::{is_same_facts, is_same_pair};
 use crate::slots::{Slots, Sought};
 use crate::steps::NoMemory;
 use gimli_cfi::{ArrayLike, CfaRule, Register, RegisterRule, UnwindTableRow};
@@ -21,10 +22,11 @@ pub(crate) struct KeptRow {
 }
 
 /// What a row says but the rule of the CFA: the size of pushed arguments, and where its rules begin
-/// and end in the list of all.
+/// and end in the list of all; with what its CIE says.
 #[derive(Clone, Copy, Debug)]
 struct KeptRest {
     saved_args_size: u64,
+    facts: CieFacts,
     begin: usize,
     end: usize,
 }
@@ -58,17 +60,18 @@ impl Rests {
         }
     }
 
-    /// What a kept row says.
+    /// What a kept row says, and its CIE.
     #[inline(always)]
     pub(crate) fn row<'a>(&'a self, kept: &'a KeptRow) -> CompiledRow<'a>
         requires { kept.now.rest < length self.now.rests }
-        ensures parts { parts_kept result ≡ parts_in self.now kept.now }
+        ensures frame { frame_kept result ≡ frame_in self.now kept.now }
         ensures distinct { HasDistinctRegisters result }
     {
         let rest = self.rests[kept.rest];
         CompiledRow {
             cfa: &kept.cfa,
             saved_args_size: rest.saved_args_size,
+            facts: rest.facts,
             rules: &self.rules.as_slice()[rest.begin..rest.end],
         }
     }
@@ -79,14 +82,16 @@ impl Rests {
         &self,
         number: usize,
         row: &UnwindTableRow<usize, A>,
+        facts: CieFacts,
     ) -> bool
-        ensures { IsTrue result → IsRestOf self.now row.now.parts number }
+        ensures { IsTrue result → IsRestOf self.now facts row.now.parts number }
     {
         if number >= self.rests.len() {
             return false;
         }
         let rest = self.rests[number];
         rest.saved_args_size == row.saved_args_size()
+            && is_same_facts(rest.facts, facts)
             && is_rules_of(&self.rules.as_slice()[rest.begin..rest.end], row)
     }
 
@@ -95,9 +100,10 @@ impl Rests {
         &mut self,
         alloc: Global,
         row: &UnwindTableRow<usize, A>,
+        facts: CieFacts,
     ) -> Result<usize, NoMemory>
         ensures grown { IsGrown self.old self.new }
-        ensures number { IfOk result (IsRestOf self.new row.now.parts) }
+        ensures number { IfOk result (IsRestOf self.new facts row.now.parts) }
     {
         let own = rules_of_row(alloc, row)?;
         let begin = self.rules.len();
@@ -105,6 +111,7 @@ impl Rests {
         let number = self.rests.len();
         self.rests.push(KeptRest {
             saved_args_size: row.saved_args_size(),
+            facts,
             begin,
             end: self.rules.len(),
         })?;
@@ -189,10 +196,11 @@ impl RestBuilder {
         &self,
         number: usize,
         row: &UnwindTableRow<usize, A>,
+        facts: CieFacts,
     ) -> bool
-        ensures { IsTrue result → IsRestOf self.now row.now.parts number }
+        ensures { IsTrue result → IsRestOf self.now facts row.now.parts number }
     {
-        self.rests.is_of(number, row)
+        self.rests.is_of(number, row, facts)
     }
 
     /// The number of a row's rest, which is added if it isn't there. The row before mostly had the
@@ -200,23 +208,25 @@ impl RestBuilder {
     pub(crate) fn number_of<A: ArrayLike<Item = (Register, RegisterRule<usize>)>>(
         &mut self,
         row: &UnwindTableRow<usize, A>,
+        facts: CieFacts,
     ) -> Result<usize, NoMemory>
         ensures grown { IsGrown self.old self.new }
-        ensures number { IfOk result (IsRestOf self.new row.now.parts) }
+        ensures number { IfOk result (IsRestOf self.new facts row.now.parts) }
     {
-        if self.rests.is_of(self.last, row) {
+        if self.rests.is_of(self.last, row, facts) {
             return Ok(self.last);
         }
-        let hash = hash_of_rest(row);
+        let hash = hash_of_rest(row, facts);
         let sought = RestOfRow {
             rests: &self.rests,
             row,
+            facts,
         };
         if let Some(number) = self.slots.find(hash, &sought) {
             self.last = number;
             return Ok(number);
         }
-        let number = self.rests.add(self.alloc, row)?;
+        let number = self.rests.add(self.alloc, row, facts)?;
         self.slots.write(hash, number)?;
         self.last = number;
         Ok(number)
@@ -237,13 +247,14 @@ impl RestBuilder {
 struct RestOfRow<'a, A: ArrayLike<Item = (Register, RegisterRule<usize>)>> {
     rests: &'a Rests,
     row: &'a UnwindTableRow<usize, A>,
+    facts: CieFacts,
 }
 
 impl<'a, A: ArrayLike<Item = (Register, RegisterRule<usize>)>> Sought for RestOfRow<'a, A> {
-    ghost IsAt = { λ sought. IsRestOf sought.rests.now sought.row.now.parts };
+    ghost IsAt = { λ sought. IsRestOf sought.rests.now sought.facts sought.row.now.parts };
 
     #[inline(always)]
     fn is(&self, number: usize) -> bool {
-        self.rests.is_of(number, self.row)
+        self.rests.is_of(number, self.row, self.facts)
     }
 }

@@ -2,16 +2,19 @@
 ghost use Rattle.std.specs.Prelude.{◌≡◌};
 ghost use Rattle.std.specs.FinMap.{get};
 ghost use Rattle.gimli_cfi.specs.Words.{rules_of};
-ghost use Rattle.cfi_compiled.specs.CompiledRows.{parts_kept, registers_of};
+ghost use Rattle.cfi_compiled.specs.CompiledRows.{frame_kept, parts_kept, registers_of};
 
+use crate::facts::CieFacts;
 use gimli_cfi::{CfaRule, Register, RegisterRule};
 
 /// What a row says without its addresses: the rule of the CFA, the rules of the registers, and the
-/// size of pushed arguments (DWARF 5 section 6.4.1). All of it is borrowed from the table.
+/// size of pushed arguments (DWARF 5 section 6.4.1); with what its CIE says of the return. Borrowed
+/// from the table.
 #[derive(Clone, Copy, Debug)]
 pub struct CompiledRow<'a> {
     pub(crate) cfa: &'a CfaRule<usize>,
     pub(crate) saved_args_size: u64,
+    pub(crate) facts: CieFacts,
     pub(crate) rules: &'a [(Register, RegisterRule<usize>)],
 }
 
@@ -30,6 +33,22 @@ impl<'a> CompiledRow<'a> {
         ensures { result ≡ (parts_kept self.now).args_size }
     {
         self.saved_args_size
+    }
+
+    /// The register that holds the return address, as the CIE of the FDE says.
+    #[inline(always)]
+    pub fn return_address_register(&self) -> Register
+        ensures { result ≡ (frame_kept self.now).return_address }
+    {
+        self.facts.return_address
+    }
+
+    /// Whether the FDE is a signal trampoline, as its CIE says.
+    #[inline(always)]
+    pub fn is_signal_trampoline(&self) -> bool
+        ensures { result ≡ (frame_kept self.now).is_signal_trampoline }
+    {
+        self.facts.is_signal_trampoline
     }
 
     /// Returns the register's rule, `None` if it has none. Compares the row's registers one by one.

@@ -1,6 +1,7 @@
 //! Whether what rows say is equal.
 ghost use Rattle.std.specs.Prelude.{◌≡◌, IsTrue};
 
+use crate::facts::CieFacts;
 use crate::rests::KeptRow;
 use gimli_cfi::{CfaRule, Error, Register, RegisterRule, Result};
 
@@ -47,6 +48,14 @@ pub(crate) fn is_same_cfa(a: CfaRule<usize>, b: CfaRule<usize>) -> bool
     ensures { IsTrue result → a ≡ b }
 {
     a == b
+}
+
+/// Whether two CIEs say the same of the return.
+#[inline(always)]
+pub(crate) fn is_same_facts(a: CieFacts, b: CieFacts) -> bool
+    ensures { IsTrue result → a ≡ b }
+{
+    a.return_address.0 == b.return_address.0 && a.is_signal_trampoline == b.is_signal_trampoline
 }
 
 /// Whether two rules of a register are equal.

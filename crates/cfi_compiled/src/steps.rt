@@ -1,8 +1,10 @@
 //! What takes the results of addresses step by step.
 ghost use Rattle.std.specs.Prelude.{◌≤◌, ◌+◌, ℕ, Result, Ok, Err, OnOk};
-ghost use Rattle.gimli_cfi.specs.Words.{Error as TheError, Parts};
+ghost use Rattle.gimli_cfi.specs.Words.{Error as TheError};
+ghost use Rattle.cfi_compiled.specs.FrameParts.{FrameParts, frame_of};
 ghost use Rattle.cfi_compiled.specs.Steps.{IsFrom, SameBelow};
 
+use crate::facts::CieFacts;
 use gimli_cfi::{ArrayLike, Error, Register, RegisterRule, UnwindTableRow};
 use std::alloc::{AllocError, AllocFailed};
 
@@ -25,20 +27,22 @@ impl<T: Drop> From<AllocFailed<T>> for NoMemory {
 /// What takes steps one by one, each above the one before.
 pub(crate) trait StepSink {
     /// The result for each address, by the steps so far.
-    ghost answer: { Self → ℕ → Result (Parts ℕ) TheError };
+    ghost answer: { Self → ℕ → Result FrameParts TheError };
 
     /// The least address from which the next step may be.
     ghost free: { Self → ℕ };
 
-    /// From this address on the result is what the row says.
+    /// From this address on the result is what the row and its CIE say.
     fn row<A: ArrayLike<Item = (Register, RegisterRule<usize>)>>(
         &mut self,
         from: u64,
         row: &UnwindTableRow<usize, A>,
+        facts: CieFacts,
     ) -> std::result::Result<(), NoMemory>
         requires { free self.old ≤ from }
         ensures before { OnOk result (SameBelow from (answer self.new) (answer self.old)) }
-        ensures after { OnOk result (IsFrom from (answer self.new) (Ok row.now.parts)) }
+        ensures after { OnOk result (IsFrom from (answer self.new)
+            (Ok (frame_of facts row.now.parts))) }
         ensures free { OnOk result (free self.new ≤ from + 1) };
 
     /// From this address on the result is this error.

@@ -1,7 +1,8 @@
 //! Compiled tables.
 ghost use Rattle.std.specs.Prelude.{◌≡◌, ◌<◌, ◌+◌, ◌^◌, length, IfOk, IfSome};
-ghost use Rattle.cfi_compiled.specs.CompiledRows.{HasDistinctRegisters, parts_lent};
-ghost use Rattle.cfi_compiled.specs.CompiledTables.{IsSound, IsStepOf, parts_at, parts_numbered};
+ghost use Rattle.cfi_compiled.specs.CompiledRows.{HasDistinctRegisters, frame_lent, parts_lent};
+ghost use Rattle.cfi_compiled.specs.CompiledTables.{IsSound, IsStepOf, frame_at, frame_numbered};
+ghost use Rattle.cfi_compiled.specs.CompiledTables.{parts_at};
 ghost use Rattle.cfi_compiled.specs.CompiledTables.{results_of, steps_of};
 ghost use Rattle.cfi_compiled.specs.KeptRows.{AreNamed, results_in};
 ghost use Rattle.cfi_compiled.specs.StepLists.{numbered};
@@ -16,8 +17,9 @@ use std::marker::Model;
 ///
 /// A table is made once, by `new` or `with_context`. It then has for every address what
 /// `row_by_scan` returns for the section: what the row says but its two addresses, or the error.
-/// The section isn't needed any more. An expression of a rule is its place in the section, so its
-/// bytes are read there.
+/// With a row it has the return address register of the FDE's CIE, and whether the FDE is a signal
+/// trampoline. The section isn't needed any more. An expression of a rule is its place in the
+/// section, so its bytes are read there.
 ///
 /// The table has a step for each address at which the row changes, and each distinct row once; a
 /// step names its row by number. So a lookup is a binary search in the steps. Rows that differ in
@@ -62,7 +64,8 @@ impl Model for CompiledTable {
 
 impl CompiledTable {
     ghost use Rattle.std.specs.Prelude.{◌≡◌, ◌<◌, ◌+◌, ◌^◌, length, IfOk, IfSome};
-    ghost use Rattle.cfi_compiled.specs.CompiledTables.{IsSound, IsStepOf, parts_at, steps_of};
+    ghost use Rattle.cfi_compiled.specs.CompiledTables.{IsSound, IsStepOf, frame_at, parts_at};
+    ghost use Rattle.cfi_compiled.specs.CompiledTables.{steps_of};
     ghost use Rattle.cfi_compiled.specs.StepLists.{numbered};
 
     /// The table of these steps, whose numbers are those of the rows.
@@ -74,11 +77,12 @@ impl CompiledTable {
         CompiledTable { rests, rows, steps }
     }
 
-    /// Returns what the row of the address says, or the error that `row_by_scan` returns for it
-    /// with enough memory: `NoUnwindInfoForAddress` if no FDE contains the address, else the first
-    /// error on the way to the row (DWARF 5 section 6.4.3). A binary search among the steps; does
-    /// not allocate.
+    /// Returns what the row of the address and its CIE say, or the error that `row_by_scan` returns
+    /// for it with enough memory: `NoUnwindInfoForAddress` if no FDE contains the address, else the
+    /// first error on the way to the row (DWARF 5 section 6.4.3). A binary search among the steps;
+    /// does not allocate.
     pub fn row(&self, address: u64) -> Result<CompiledRow<'_>>
+        ensures frame { frame_lent result ≡ frame_at self.now address }
         ensures row { parts_lent result ≡ parts_at self.now address }
         ensures distinct { IfOk result HasDistinctRegisters }
     {
@@ -126,7 +130,7 @@ fn result_at<'a>(
     number: usize,
 ) -> Result<CompiledRow<'a>>
     requires { AreNamed rests.now rows.now }
-    ensures parts { parts_lent result ≡ parts_numbered (results_in rests.now rows.now) number }
+    ensures frames { frame_lent result ≡ frame_numbered (results_in rests.now rows.now) number }
     ensures distinct { IfOk result HasDistinctRegisters }
 {
     match rows.get(number) {

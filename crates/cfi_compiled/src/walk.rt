@@ -7,15 +7,15 @@ ghost use Rattle.cfi_state.specs.FdeAnswers.{AreConsecutive, answer_at, rows_of}
 ghost use Rattle.cfi_state.specs.UnwindTableStates.{run_answers_to_come};
 ghost use Rattle.cfi_entry.specs.Fdes.{end_of};
 ghost use Rattle.cfi_entry.specs.Sections.{section_of};
-ghost use Rattle.cfi_unwind.specs.AddressRow.{row_of_fde};
 ghost use Rattle.cfi_unwind.specs.FdeViews.{HasCieOf, IsFdeOf, fde_view};
 ghost use Rattle.cfi_unwind.specs.Scan.{answer_by};
 ghost use Rattle.cfi_unwind.specs.UnwindTableViews.{table_state};
 ghost use Rattle.cfi_compiled.specs.CoveringFdes.{first_of};
-ghost use Rattle.cfi_compiled.specs.CompiledRows.{parts_of_row};
+ghost use Rattle.cfi_compiled.specs.FrameParts.{frame_of, frame_of_fde, frame_of_row};
 ghost use Rattle.cfi_compiled.specs.Pieces.{Ascend, owner, spans_from};
 ghost use Rattle.cfi_compiled.specs.Steps.{IsFrom, IsWithin, SameBelow};
 
+use crate::facts::{CieFacts, facts_of};
 use crate::pieces::{Piece, greater};
 use crate::steps::{NoMemory, StepSink};
 use gimli_cfi::{
@@ -46,9 +46,9 @@ pub(crate) fn walk_fdes<
         ≡ owner a (spans_from 0 (map (fde_view R.position (λ n. n)) fdes.now)) }
     requires free { K.free sink.old ≡ 0 }
     ensures { let s = section_of (S.view section.now) bases.now in
-        OnOk result ((a : ℕ) → K.answer sink.new a ≡ parts_of_row
-        (answer_by (row_of_fde C.Rules.limit C.Stack.limit s a)
-        (first_of a (map (fde_view R.position (λ n. n)) fdes.now) (Err outside)))) }
+        OnOk result ((a : ℕ) → K.answer sink.new a
+        ≡ answer_by (frame_of_fde C.Rules.limit C.Stack.limit s a)
+        (first_of a (map (fde_view R.position (λ n. n)) fdes.now) (Err outside))) }
 {
     let mut end = 0;
     for piece in pieces {
@@ -113,12 +113,12 @@ fn walk_fde<
     requires free { K.free sink.old ≤ from }
     ensures before { OnOk result (SameBelow from (K.answer sink.new) (K.answer sink.old)) }
     ensures within { let s = section_of (S.view section.now) bases.now in
-        OnOk result (IsWithin from to (K.answer sink.new) (λ a. parts_of_row
-        (row_of_fde C.Rules.limit C.Stack.limit s a (fde_view R.position (λ n. n) fde.now)))) }
+        OnOk result (IsWithin from to (K.answer sink.new) (λ a.
+        frame_of_fde C.Rules.limit C.Stack.limit s a (fde_view R.position (λ n. n) fde.now))) }
     ensures free { OnOk result (K.free sink.new ≤ to) }
 {
     match fde.rows(section, bases, context) {
-        Ok(mut rows) => walk_rows(sink, &mut rows, from, to)?,
+        Ok(mut rows) => walk_rows(sink, &mut rows, facts_of(fde), from, to)?,
         Err(refusal) => take_refusal(sink, from, refusal)?,
     }
     Ok(())
@@ -129,6 +129,7 @@ fn walk_fde<
 fn walk_rows<R: Reader<Offset = usize>, K: StepSink, C: UnwindContextStorage<usize>>(
     sink: &mut K,
     rows: &mut UnwindTable<'_, '_, R, C>,
+    facts: CieFacts,
     first: u64,
     end: u64,
 ) -> Result<(), NoMemory>
@@ -145,7 +146,7 @@ fn walk_rows<R: Reader<Offset = usize>, K: StepSink, C: UnwindContextStorage<usi
     ensures within { let s = setting_of rows.old.parameters C.Rules.limit C.Stack.limit in
         let left = run_answers_to_come s (table_state R.position (λ n. n) rows.old) in
         OnOk result (IsWithin first end (K.answer sink.new)
-        (λ a. parts_of_row (answer_at a left))) }
+        (λ a. frame_of_row facts (answer_at a left))) }
     ensures free { OnOk result (K.free sink.new ≤ end) }
 {
     let mut from = first;
@@ -153,7 +154,7 @@ fn walk_rows<R: Reader<Offset = usize>, K: StepSink, C: UnwindContextStorage<usi
         match answer {
             Ok(row) => {
                 let to = row.end_address();
-                take_row(sink, row, from)?;
+                take_row(sink, row, facts, from)?;
                 if end <= to {
                     return Ok(());
                 }
@@ -172,17 +173,19 @@ fn walk_rows<R: Reader<Offset = usize>, K: StepSink, C: UnwindContextStorage<usi
 fn take_row<K: StepSink, A: ArrayLike<Item = (Register, RegisterRule<usize>)>>(
     sink: &mut K,
     row: &UnwindTableRow<usize, A>,
+    facts: CieFacts,
     from: u64,
 ) -> Result<(), NoMemory>
     requires free { K.free sink.old ≤ from }
     ensures before { OnOk result (SameBelow from (K.answer sink.new) (K.answer sink.old)) }
     ensures within { OnOk result
-        (IsWithin from row.now.end_address (K.answer sink.new) (λ _. Ok row.now.parts)) }
+        (IsWithin from row.now.end_address (K.answer sink.new)
+        (λ _. Ok (frame_of facts row.now.parts))) }
     ensures free { OnOk result (K.free sink.new ≤ from + 1) }
     ensures free_at { OnOk result (row.now.end_address ≤ from → K.free sink.new ≤ from) }
 {
     if from < row.end_address() {
-        sink.row(from, row)
+        sink.row(from, row, facts)
     } else {
         Ok(())
     }

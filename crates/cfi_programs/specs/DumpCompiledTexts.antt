@@ -6,6 +6,7 @@ use Rattle.std.specs.Fmt.{decimal}
 use Rattle.cfi_read_core.specs.declared.error.Error.{Error}
 use Rattle.cfi_read_core.specs.RefusalNames.{name_of}
 use Rattle.cfi_state.specs.Machine.{Parts}
+use Rattle.cfi_compiled.specs.FrameParts.{parts_of_frame}
 use Rattle.cfi_compiled.specs.Steps.{Step}
 use Rattle.cfi_programs.specs.Lines.{address_text}
 use Rattle.cfi_programs.specs.RowLines.{cfa_text, parts_rules}
@@ -23,4 +24,4 @@ step_text names start (Ok parts) = (step_head names start parts ++ parts_rules n
 step_text names start (Err error) = error_text start error
 
 unfoldable pub steps_text : RegisterNames → List Step → List ℕ
-steps_text names steps = flat_map (λ step. step_text names step.start step.parts) steps
+steps_text names steps = flat_map (λ step. step_text names step.start (parts_of_frame step.frame)) steps

@@ -3,6 +3,7 @@ ghost use Rattle.std.specs.Prelude.{◌≡◌, ◌≤◌, ℕ, None, Ok};
 ghost use Rattle.std.specs.FinMap as map;
 ghost use Rattle.cfi_compiled.specs.CompiledRows.{parts_kept};
 ghost use Rattle.cfi_compiled.specs.CompiledTables.{steps_of};
+ghost use Rattle.cfi_compiled.specs.FrameParts.{parts_of_frame};
 ghost use Rattle.cfi_compiled.specs.TableSteps.{step_view};
 ghost use Rattle.cfi_programs.specs.WriterOutput.{Writes};
 ghost use Rattle.cfi_programs.specs.DumpCompiledTexts.{error_text, step_text, steps_text};
@@ -41,7 +42,7 @@ fn write_step<W: Write>(
 ) -> io::Result<()>
     ensures { let viewed = step_view step.now in
         Writes (W.contents output.old) (W.contents output.new) result
-        (step_text names viewed.start viewed.parts) }
+        (step_text names viewed.start (parts_of_frame viewed.frame)) }
 {
     match step.row {
         Ok(row) => write_row(output, names, step.start, &row),

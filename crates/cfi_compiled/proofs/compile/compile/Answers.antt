@@ -3,13 +3,12 @@ use Rattle.std.specs.List.{All}
 use Rattle.cfi_read_core.specs.declared.error.Error.{Error}
 use Rattle.cfi_entry.specs.Fdes.{Fde}
 use Rattle.cfi_entry.specs.Sections.{section_of}
-use Rattle.cfi_unwind.specs.AddressRow.{row_of_fde}
 use Rattle.cfi_unwind.specs.FdeViews.{fde_view}
 use Rattle.cfi_unwind.specs.Scan.{answer_by, fde_readings}
 use Rattle.cfi_unwind.specs.declared.entry.fde.FdeFields.{FdeFields}
 use Rattle.cfi_compiled.specs.declared.pieces.Piece.{Piece}
-use Rattle.cfi_compiled.specs.CompiledRows.{parts_of_row}
-use Rattle.cfi_compiled.specs.CompiledTables.{TableContents, parts_at}
+use Rattle.cfi_compiled.specs.CompiledTables.{TableContents, frame_at}
+use Rattle.cfi_compiled.specs.FrameParts.{frame_of_fde}
 use Rattle.cfi_compiled.specs.Pieces.{owner, spans_from}
 use Rattle.cfi_compiled.proofs.Compiled.{covering_contain, chosen_is}
 use Rattle.cfi_compiled.proofs.compile.compile.Goals as goal
@@ -45,7 +44,7 @@ returns g c a =
     let section = section_of (g.S._UnwindSectionPrivate.view c.args.section.now) c.args.bases.now in
     let view = fde_view g.R.Reader.position (λ (n : ℕ). n) in
     let walked = rw c.as_slice-3.ensures.value at (c.in_ok-walk_fdes.ensures a) in
-    ap (λ (f : TableContents). parts_at f a) c.in_ok-finish.ensures
+    ap (λ (f : TableContents). frame_at f a) c.in_ok-finish.ensures
     ∙ walked
-    ∙ ap (λ (found : Result Fde Error). parts_of_row (answer_by (row_of_fde g.C.Rules.ArrayLike.limit g.C-Stack-ArrayLike.limit section a) found))
+    ∙ ap (λ (found : Result Fde Error). answer_by (frame_of_fde g.C.Rules.ArrayLike.limit g.C-Stack-ArrayLike.limit section a) found)
     (chosen_is section _ c.in_ok-found.found.outside c.in_ok-found.ensures.fdes c.in_ok-found.ensures.outside a)

@@ -2,8 +2,8 @@ use Rattle.std.proofs.Common.{ℕ, sym, ap, ◌∙◌}
 use Rattle.cfi_entry.specs.Sections.{section_of}
 use Rattle.cfi_unwind.specs.FdeViews.{fde_view}
 use Rattle.cfi_unwind.specs.UnwindTableViews.{table_state}
-use Rattle.cfi_compiled.specs.CompiledRows.{parts_of_row}
-use Rattle.cfi_compiled.proofs.FdeAnswers.{by_rows, by_refusal, consecutive_at, start_at, last_at}
+use Rattle.cfi_compiled.specs.FrameParts.{facts_of, frame_of_row}
+use Rattle.cfi_compiled.proofs.FdeAnswers.{by_rows, by_refusal, same_frame, consecutive_at, start_at, last_at}
 use Rattle.cfi_compiled.proofs.walk.walk_fde.Goals as goal
 
 pub walk_rows-requires-clause-start : goal.walk_rows-requires-clause-start
@@ -30,7 +30,7 @@ returns-in_ok-walk_rows-in-Ok-clause-within g c a low high =
     let fde = fde_view g.R.Reader.position (λ (n : ℕ). n) c.args.fde.now in
     let starts = c.in-Ok.ensures.starts in
     c.in_ok-walk_rows-in-Ok.ensures.within a low high
-    ∙ ap (parts_of_row)
+    ∙ same_frame g.C.Rules.ArrayLike.limit g.C-Stack-ArrayLike.limit g.C.Rules.CopyList.copies_free section fde c.facts_of.result _ a c.facts_of.ensures
     (by_rows g.C.Rules.ArrayLike.limit g.C-Stack-ArrayLike.limit g.C.Rules.CopyList.copies_free section fde _ (table_state g.R.Reader.position (λ (n : ℕ). n) c.in-Ok.rows) (c.in-Ok.ensures.setting g.C.Rules.ArrayLike.limit g.C-Stack-ArrayLike.limit) starts.kept starts.left starts.has_not_ended a)
 
 pub returns-in_ok-take_refusal-in-Err-clause-within : goal.returns-in_ok-take_refusal-in-Err-clause-within
@@ -38,4 +38,4 @@ returns-in_ok-take_refusal-in-Err-clause-within g c a low high =
     let section = section_of (g.S._UnwindSectionPrivate.view c.args.section.now) c.args.bases.now in
     let fde = fde_view g.R.Reader.position (λ (n : ℕ). n) c.args.fde.now in
     c.in_ok-take_refusal-in-Err.ensures.after a low
-    ∙ ap (parts_of_row) (sym (by_refusal g.C.Rules.ArrayLike.limit g.C-Stack-ArrayLike.limit g.C.Rules.CopyList.copies_free section fde c.in-Err.refusal c.in_ok-take_refusal-in-Err.ensures.due c.in-Err.ensures.starts.kept a))
+    ∙ ap (frame_of_row (facts_of fde)) (sym (by_refusal g.C.Rules.ArrayLike.limit g.C-Stack-ArrayLike.limit g.C.Rules.CopyList.copies_free section fde c.in-Err.refusal c.in_ok-take_refusal-in-Err.ensures.due c.in-Err.ensures.starts.kept a))

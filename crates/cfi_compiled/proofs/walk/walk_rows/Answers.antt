@@ -5,7 +5,7 @@ use Rattle.cfi_compiled.proofs.RowSteps.{fewer, row_comes, refusal_comes, none_c
 use Rattle.cfi_compiled.proofs.walk.walk_rows.Goals as goal
 
 pub loop-answer-init : goal.loop-answer-init
-loop-answer-init g c = record { setting = refl; free = c.requires.free; walked = walked_none _ _ _ _ _ _ c.requires.start c.requires.some c.requires.last c.requires.consecutive }
+loop-answer-init g c = record { setting = refl; free = c.requires.free; walked = walked_none _ _ _ _ _ _ _ c.requires.start c.requires.some c.requires.last c.requires.consecutive }
 
 pub loop-answer-smaller : goal.loop-answer-smaller
 loop-answer-smaller g c =
@@ -28,17 +28,17 @@ loop-answer-preserved g c =
     record {
       setting = ap (λ p. setting_of p g.C.Rules.ArrayLike.limit g.C-Stack-ArrayLike.limit) c.next_row.follows.holds-at-none.1 ∙ c.loop-answer.invariant.setting;
       free = free;
-      walked = walked_row _ _ _ _ _ _ _ _ c.loop-answer.invariant.walked _ c.in-Ok.row.now is _ taken.before taken.within c.greater-from.result before low high (rw ends at greater.either);
+      walked = walked_row _ _ _ _ _ _ _ _ _ c.loop-answer.invariant.walked _ c.in-Ok.row.now is _ taken.before taken.within c.greater-from.result before low high (rw ends at greater.either);
     }
 
 pub returns-then-end-to-clause-before : goal.returns-then-end-to-clause-before
-returns-then-end-to-clause-before g c = kept_before _ _ _ _ _ _ _ _ c.loop-answer.invariant.walked _ c.in_ok-take_row-in-Ok.ensures.before
+returns-then-end-to-clause-before g c = kept_before _ _ _ _ _ _ _ _ _ c.loop-answer.invariant.walked _ c.in_ok-take_row-in-Ok.ensures.before
 
 pub returns-then-end-to-clause-within : goal.returns-then-end-to-clause-within
 returns-then-end-to-clause-within g c =
     let is = row_comes _ _ c.loop-answer.invariant.setting _ _ _ c.next_row.result _ _ c.next_row.follows.holds-at-none.0 c.in-Some.answer (sym c.transpose.ensures ∙ c.in-Some.is) c.in-Ok.row c.in-Ok.is in
     let past : c.args.end ≤ c.in-Ok.row.now.end_address = omega (arith, c.end_address-to.ensures, c.if-end-to.true) in
-    walked_all _ _ _ _ _ _ _ _ c.loop-answer.invariant.walked _ c.in-Ok.row.now is _ c.in_ok-take_row-in-Ok.ensures.before c.in_ok-take_row-in-Ok.ensures.within past
+    walked_all _ _ _ _ _ _ _ _ _ c.loop-answer.invariant.walked _ c.in-Ok.row.now is _ c.in_ok-take_row-in-Ok.ensures.before c.in_ok-take_row-in-Ok.ensures.within past
 
 pub returns-then-end-to-clause-free : goal.returns-then-end-to-clause-free
 returns-then-end-to-clause-free g c = omega (arith, c.in_ok-take_row-in-Ok.ensures.free, c.loop-answer.invariant.walked.inside)
@@ -47,24 +47,24 @@ pub take_refusal-requires : goal.take_refusal-requires
 take_refusal-requires g c = c.loop-answer.invariant.free
 
 pub returns-in-Err-clause-before : goal.returns-in-Err-clause-before
-returns-in-Err-clause-before g c = kept_before _ _ _ _ _ _ _ _ c.loop-answer.invariant.walked _ c.in_ok-take_refusal-in-Err.ensures.before
+returns-in-Err-clause-before g c = kept_before _ _ _ _ _ _ _ _ _ c.loop-answer.invariant.walked _ c.in_ok-take_refusal-in-Err.ensures.before
 
 pub returns-in-Err-clause-within : goal.returns-in-Err-clause-within
 returns-in-Err-clause-within g c =
     let is = refusal_comes _ _ c.loop-answer.invariant.setting _ _ _ c.next_row.result _ _ c.next_row.follows.holds-at-none.0 c.in-Some.answer (sym c.transpose.ensures ∙ c.in-Some.is) c.in-Err.refusal c.in_ok-take_refusal-in-Err.ensures.due c.in-Err.is in
-    λ a low high. walked_refusal _ _ _ _ _ _ _ _ c.loop-answer.invariant.walked _ c.in_ok-take_refusal-in-Err.ensures.before _ c.in-Err.refusal is c.in_ok-take_refusal-in-Err.ensures.after a low
+    λ a low high. walked_refusal _ _ _ _ _ _ _ _ _ c.loop-answer.invariant.walked _ c.in_ok-take_refusal-in-Err.ensures.before _ c.in-Err.refusal is c.in_ok-take_refusal-in-Err.ensures.after a low
 
 pub returns-in-Err-clause-free : goal.returns-in-Err-clause-free
 returns-in-Err-clause-free g c = omega (arith, c.in_ok-take_refusal-in-Err.ensures.free, c.loop-answer.invariant.walked.inside)
 
 pub returns-clause-before : goal.returns-clause-before
 returns-clause-before g c =
-    absurd (walked_nothing _ _ _ _ _ _ _ _ c.loop-answer.invariant.walked
+    absurd (walked_nothing _ _ _ _ _ _ _ _ _ c.loop-answer.invariant.walked
     (none_comes _ _ c.loop-answer.invariant.setting _ _ _ c.next_row.result _ _ c.next_row.follows.holds-at-none.0 (sym c.transpose.ensures ∙ c.in_default.is)))
 
 pub returns-clause-within : goal.returns-clause-within
 returns-clause-within g c =
-    absurd (walked_nothing _ _ _ _ _ _ _ _ c.loop-answer.invariant.walked
+    absurd (walked_nothing _ _ _ _ _ _ _ _ _ c.loop-answer.invariant.walked
     (none_comes _ _ c.loop-answer.invariant.setting _ _ _ c.next_row.result _ _ c.next_row.follows.holds-at-none.0 (sym c.transpose.ensures ∙ c.in_default.is)))
 
 pub returns-clause-free : goal.returns-clause-free

@@ -11,7 +11,7 @@ invariant-loop-answer g l =
     record {
       setting : setting_of l.rows.parameters g.C.Rules.ArrayLike.limit g.C-Stack-ArrayLike.limit ≡ first;
       free : g.K.StepSink.free l.sink ≤ l.from;
-      walked : Walked
+      walked : Walked l.facts
           (run_answers_to_come first (table_state g.R.Reader.position (λ n. n) l.initial.rows))
           (run_answers_to_come first (table_state g.R.Reader.position (λ n. n) l.rows))
           l.first l.from l.end first.end_address (g.K.StepSink.answer l.fn.sink) (g.K.StepSink.answer l.sink);

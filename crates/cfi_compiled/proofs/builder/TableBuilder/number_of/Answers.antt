@@ -1,6 +1,6 @@
 use Rattle.std.proofs.Common.{◌<◌, length, sym, ap, subst, ◌∙◌}
 use Rattle.std.specs.Prelude.{IfOk}
-use Rattle.cfi_compiled.specs.CompiledTables.{TableContents, parts_at, steps_of}
+use Rattle.cfi_compiled.specs.CompiledTables.{TableContents, frame_at, steps_of}
 use Rattle.cfi_compiled.specs.Steps.{free_from}
 use Rattle.cfi_compiled.proofs.Grown.{if_ok, rise_kept, same_before, same_free}
 use Rattle.cfi_compiled.proofs.KeptResults.{added_extends, added_named, result_named}
@@ -23,7 +23,7 @@ returns-clause-same c =
     if_ok c.number_of.result
     (λ a.
     same_before _ _ extends _ c.self.invariant.rise c.self.invariant.numbers a
-    ∙ ap (λ (f : TableContents). parts_at f a) c.self.view_is)
+    ∙ ap (λ (f : TableContents). frame_at f a) c.self.view_is)
 
 pub returns-clause-free : goal.returns-clause-free
 returns-clause-free c =

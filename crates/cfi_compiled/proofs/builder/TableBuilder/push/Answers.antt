@@ -1,6 +1,6 @@
 use Rattle.std.proofs.Common.{◌≤◌, ◌<◌, List, length, sym, ap, subst, ◌∙◌, ⊎_elim, arith}
 use Rattle.cfi_compiled.specs.declared.step_list.NumberedStep.{NumberedStep}
-use Rattle.cfi_compiled.specs.CompiledTables.{IsSound, TableContents, parts_at, parts_numbered, results_of, steps_of}
+use Rattle.cfi_compiled.specs.CompiledTables.{IsSound, TableContents, frame_at, frame_numbered, results_of, steps_of}
 use Rattle.cfi_compiled.specs.KeptRows.{results_in}
 use Rattle.cfi_compiled.specs.Steps.{free_from}
 use Rattle.cfi_compiled.proofs.Searched.{ascends}
@@ -13,9 +13,9 @@ returns-then-ends_with-clause-after c a from =
     let results = results_in c.self.inside.rests rows in
     let free = subst (λ (f : TableContents). free_from 0 (steps_of f) ≤ c.args.from) (sym c.self.view_is) c.requires.free in
     let ends = c.ends_with.ensures c.if-ends_with.true in
-    ap (λ (f : TableContents). parts_at f a) (sym c.self.view_is)
+    ap (λ (f : TableContents). frame_at f a) (sym c.self.view_is)
     ∙ repeated results results (unchanged results) _ c.self.invariant.rise c.self.invariant.numbers a _ ends (omega (arith, free, from))
-    ∙ ap (λ (f : TableContents). parts_numbered (results_of f) c.args.number) c.self.view_is
+    ∙ ap (λ (f : TableContents). frame_numbered (results_of f) c.args.number) c.self.view_is
 
 pub push-requires : goal.push-requires
 push-requires c =
@@ -53,18 +53,18 @@ returns-clause-before c a below =
     let rows = c.self.inside.rows.items in
     let results = results_in c.self.inside.rests rows in
     let free = subst (λ (f : TableContents). free_from 0 (steps_of f) ≤ c.args.from) (sym c.self.view_is) c.requires.free in
-    ap (λ (n : List NumberedStep). parts_at (record { lists = c.self.inside.rests; rows = rows; numbers = n }) a) c.in_ok-push.ensures.pushed
+    ap (λ (n : List NumberedStep). frame_at (record { lists = c.self.inside.rests; rows = rows; numbers = n }) a) c.in_ok-push.ensures.pushed
     ∙ before_pushed results results (unchanged results) _ c.self.invariant.rise c.self.invariant.numbers (record { start = c.args.from; number = c.args.number }) free a below
-    ∙ ap (λ (f : TableContents). parts_at f a) c.self.view_is
+    ∙ ap (λ (f : TableContents). frame_at f a) c.self.view_is
 
 pub returns-clause-after : goal.returns-clause-after
 returns-clause-after c a from =
     let rows = c.self.inside.rows.items in
     let results = results_in c.self.inside.rests rows in
     let free = subst (λ (f : TableContents). free_from 0 (steps_of f) ≤ c.args.from) (sym c.self.view_is) c.requires.free in
-    ap (λ (n : List NumberedStep). parts_at (record { lists = c.self.inside.rests; rows = rows; numbers = n }) a) c.in_ok-push.ensures.pushed
+    ap (λ (n : List NumberedStep). frame_at (record { lists = c.self.inside.rests; rows = rows; numbers = n }) a) c.in_ok-push.ensures.pushed
     ∙ from_pushed results results (unchanged results) _ c.self.invariant.rise c.self.invariant.numbers (record { start = c.args.from; number = c.args.number }) free a from
-    ∙ ap (λ (f : TableContents). parts_numbered (results_of f) c.args.number) c.self.view_is
+    ∙ ap (λ (f : TableContents). frame_numbered (results_of f) c.args.number) c.self.view_is
 
 pub returns-clause-free : goal.returns-clause-free
 returns-clause-free c =

@@ -1,8 +1,8 @@
 use Rattle.std.proofs.Common.{ap, ◌∙◌}
-use Rattle.cfi_compiled.specs.CompiledTables.{TableContents, parts_at, steps_of}
+use Rattle.cfi_compiled.specs.CompiledTables.{TableContents, frame_at, steps_of}
 use Rattle.cfi_compiled.specs.Steps.{free_from}
 use Rattle.cfi_compiled.proofs.Grown.{if_ok}
-use Rattle.cfi_compiled.proofs.KeptResults.{free_grown, parts_grown, sound_grown}
+use Rattle.cfi_compiled.proofs.KeptResults.{free_grown, frame_grown, sound_grown}
 use Rattle.cfi_compiled.proofs.builder.TableBuilder.rest_of.Goals as goal
 
 pub invariant_of-self : goal.invariant_of-self
@@ -11,7 +11,7 @@ invariant_of-self g c = sound_grown _ _ c.number_of.ensures.grown _ _ c.self.inv
 pub returns-clause-same : goal.returns-clause-same
 returns-clause-same g c =
     if_ok c.number_of.result
-    (λ a. parts_grown _ _ c.number_of.ensures.grown _ _ c.self.invariant a ∙ ap (λ (f : TableContents). parts_at f a) c.self.view_is)
+    (λ a. frame_grown _ _ c.number_of.ensures.grown _ _ c.self.invariant a ∙ ap (λ (f : TableContents). frame_at f a) c.self.view_is)
 
 pub returns-clause-free : goal.returns-clause-free
 returns-clause-free g c =

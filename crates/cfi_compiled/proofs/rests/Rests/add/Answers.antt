@@ -8,7 +8,7 @@ invariant_of-self-2 g c =
     let rules = c.self.inside.rules.items in
     let more = c.in_ok-own.own.items in
     let grown : c.extend_from_slice.new.self.items ≡ rules ++ more = c.in_ok-extend_from_slice.ensures.items ∙ ap (λ l. rules ++ l) c.as_slice.ensures.value in
-    let rest : KeptRest = record { saved_args_size = c.saved_args_size.result; begin = c.len-begin.result; end = c.len.result } in
+    let rest : KeptRest = record { saved_args_size = c.saved_args_size.result; facts = c.args.facts; begin = c.len-begin.result; end = c.len.result } in
     let long = ap (λ l. length l) grown in
     rw (c.in_ok-push.ensures.items, grown)
     (kept_pushed c.self.inside.rests.items rules more c.self.invariant rest

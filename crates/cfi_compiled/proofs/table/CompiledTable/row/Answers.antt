@@ -1,26 +1,34 @@
 use Rattle.std.proofs.Common.{refl, sym, ap, ◌∙◌, arith}
 use Rattle.cfi_compiled.specs.declared.step_list.NumberedStep.{NumberedStep}
-use Rattle.cfi_compiled.specs.CompiledTables.{TableContents, parts_at, parts_numbered}
+use Rattle.cfi_compiled.specs.CompiledTables.{TableContents, frame_at, frame_numbered}
 use Rattle.cfi_compiled.specs.KeptRows.{results_in}
 use Rattle.cfi_compiled.specs.StepLists.{numbered}
+use Rattle.cfi_compiled.specs.FrameParts.{parts_of_frame}
+use Rattle.cfi_compiled.proofs.LentRows.{parts_lent_are}
 use Rattle.cfi_compiled.proofs.Searched.{found_at, found_before}
 use Rattle.cfi_compiled.proofs.table.CompiledTable.row.Goals as goal
 
-pub returns-in-Some-clause-row : goal.returns-in-Some-clause-row
-returns-in-Some-clause-row c =
+pub returns-in-Some-clause-frame : goal.returns-in-Some-clause-frame
+returns-in-Some-clause-frame c =
     let results = results_in c.self.inside.rests c.self.inside.rows.items in
     let steps = numbered c.self.inside.steps in
     let none : NumberedStep = record { start = 0; number = 0 } in
     let found = c.in-Some.ensures in
     let split = found.1 in
-    let got = rw c.as_slice.ensures.value at c.result_at.ensures.parts in
+    let got = rw c.as_slice.ensures.value at c.result_at.ensures.frames in
     got
-    ∙ ap (parts_numbered results) (sym (found.2 none))
+    ∙ ap (frame_numbered results) (sym (found.2 none))
     ∙ found_at results steps c.args.address c.self.invariant.rise none found.0 (omega (arith, split.inside)) (split.from found.0 none refl) (λ j is more. split.up_to j none is more)
-    ∙ ap (λ (f : TableContents). parts_at f c.args.address) c.self.view_is
+    ∙ ap (λ (f : TableContents). frame_at f c.args.address) c.self.view_is
 
-pub returns-in-None-clause-row : goal.returns-in-None-clause-row
-returns-in-None-clause-row c =
+pub returns-in-None-clause-frame : goal.returns-in-None-clause-frame
+returns-in-None-clause-frame c =
     let split = c.in-None.ensures in
     found_before (results_in c.self.inside.rests c.self.inside.rows.items) (numbered c.self.inside.steps) c.args.address (λ d some. split.up_to 0 d refl some)
-    ∙ ap (λ (f : TableContents). parts_at f c.args.address) c.self.view_is
+    ∙ ap (λ (f : TableContents). frame_at f c.args.address) c.self.view_is
+
+pub returns-in-Some-clause-row : goal.returns-in-Some-clause-row
+returns-in-Some-clause-row c = parts_lent_are c.result_at.result ∙ ap parts_of_frame (returns-in-Some-clause-frame c)
+
+pub returns-in-None-clause-row : goal.returns-in-None-clause-row
+returns-in-None-clause-row c = ap parts_of_frame (returns-in-None-clause-frame c)

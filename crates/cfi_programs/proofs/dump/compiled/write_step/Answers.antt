@@ -1,12 +1,13 @@
 use Rattle.std.proofs.Common.{Result, sym, subst}
 use Rattle.cfi_read_core.specs.declared.error.Error.{Error}
 use Rattle.cfi_compiled.specs.declared.row.CompiledRow.{CompiledRow}
-use Rattle.cfi_compiled.specs.CompiledRows.{parts_lent}
+use Rattle.cfi_compiled.specs.CompiledRows.{frame_lent}
+use Rattle.cfi_compiled.specs.FrameParts.{parts_of_frame}
 use Rattle.cfi_programs.specs.WriterOutput.{Writes}
 use Rattle.cfi_programs.specs.DumpCompiledTexts.{step_text}
 use Rattle.cfi_programs.proofs.dump.compiled.write_step.Goals as goal
 
 pub returns-in-Err : goal.returns-in-Err
 returns-in-Err g c =
-    subst (λ (row : Result CompiledRow Error). Writes (g.W.Write.contents c.args.output.now) (g.W.Write.contents c.write_error.new.output) c.write_error.result (step_text c.args.names c.args.step.now.start (parts_lent row)))
+    subst (λ (row : Result CompiledRow Error). Writes (g.W.Write.contents c.args.output.now) (g.W.Write.contents c.write_error.new.output) c.write_error.result (step_text c.args.names c.args.step.now.start (parts_of_frame (frame_lent row))))
     (sym c.in-Err.is) c.write_error.ensures

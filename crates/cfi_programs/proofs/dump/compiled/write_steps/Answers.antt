@@ -1,5 +1,6 @@
 use Rattle.std.proofs.Common.{subst}
 use Rattle.cfi_compiled.specs.CompiledTables.{steps_of}
+use Rattle.cfi_compiled.specs.FrameParts.{parts_of_frame}
 use Rattle.cfi_compiled.specs.TableSteps.{step_view, steps_left}
 use Rattle.cfi_programs.specs.DumpCompiledTexts.{step_text, steps_text}
 use Rattle.cfi_programs.proofs.DumpCompiledWritten.{none_left, one_more}
@@ -11,14 +12,14 @@ loop-step-preserved g c =
     let left = steps_left c.next.new.self in
     let step = step_view c.in-Some.step in
     let to_write = subst (λ xs. IsGiven (g.W.Write.contents c.args.output.now) (g.W.Write.contents c.loop-step.output) xs (steps_text c.args.names (steps_of c.args.table.now))) (one_more c.args.names _ left step c.in-Some.ensures.steps) c.loop-step.invariant.2 in
-    (tt, tt, given_then _ _ _ (step_text c.args.names step.start step.parts) (steps_text c.args.names left) _ to_write c.in_ok-write_step.ensures)
+    (tt, tt, given_then _ _ _ (step_text c.args.names step.start (parts_of_frame step.frame)) (steps_text c.args.names left) _ to_write c.in_ok-write_step.ensures)
 
 pub returns-in_err-write_step : goal.returns-in_err-write_step
 returns-in_err-write_step g c =
     let left = steps_left c.next.new.self in
     let step = step_view c.in-Some.step in
     let to_write = subst (λ xs. IsGiven (g.W.Write.contents c.args.output.now) (g.W.Write.contents c.loop-step.output) xs (steps_text c.args.names (steps_of c.args.table.now))) (one_more c.args.names _ left step c.in-Some.ensures.steps) c.loop-step.invariant.2 in
-    writes_refused _ _ _ _ c.from_residual.ensures.0 (beginning_then _ _ _ (step_text c.args.names step.start step.parts) (steps_text c.args.names left) _ to_write c.in_err-write_step.ensures)
+    writes_refused _ _ _ _ c.from_residual.ensures.0 (beginning_then _ _ _ (step_text c.args.names step.start (parts_of_frame step.frame)) (steps_text c.args.names left) _ to_write c.in_err-write_step.ensures)
 
 pub returns : goal.returns
 returns g c = given_all _ _ _ _ c.loop-step.invariant.2 (none_left c.args.names _ c.in-None.ensures.steps.0)
