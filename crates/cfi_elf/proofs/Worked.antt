@@ -12,14 +12,14 @@ use Rattle.cfi_elf.specs.SectionHeaders.{section_identity, section_place, sectio
 use Rattle.cfi_elf.specs.ProgramHeaders.{segment_place, program_header}
 use Rattle.cfi_elf.specs.ElfFiles.{File, elf_file}
 use Rattle.cfi_elf.specs.Sections.{first_section_header, section_count, section_table, contents, name_at, name_section, names_at, section_names, is_named, header_named, section_named, debug_frame}
-use Rattle.cfi_elf.specs.Segments.{segment_count, program_table, wanted_segment, loaded_bytes, eh_frame_hdr_segment}
+use Rattle.cfi_elf.specs.Segments.{segment_count, program_table, wanted_segment, loaded_bytes, eh_frame_hdr_segment, address_of_offset}
 use Rattle.cfi_elf.specs.Symbols.{symbol_64}
 use Rattle.cfi_elf.specs.SymbolTables.{Function}
 use Rattle.cfi_elf.specs.FunctionNames.{first_name, named_function}
 
 -- to name it on an `unfolding` line is to open all these
 unfoldable computing : ℕ
-unfolding unsigned identification object_kind table_offsets table_sizes file_header entries section_identity section_place section_header segment_place program_header elf_file first_section_header section_count section_table contents name_at name_section names_at section_names is_named header_named section_named debug_frame segment_count program_table wanted_segment loaded_bytes eh_frame_hdr_segment symbol_64
+unfolding unsigned identification object_kind table_offsets table_sizes file_header entries section_identity section_place section_header segment_place program_header elf_file first_section_header section_count section_table contents name_at name_section names_at section_names is_named header_named section_named debug_frame segment_count program_table wanted_segment loaded_bytes eh_frame_hdr_segment address_of_offset symbol_64
 computing = 0
 
 -- the bytes of hexadecimal text, whose letters are small
@@ -112,6 +112,19 @@ no_header_segment : of_worked eh_frame_hdr_segment ≡ Ok None
 unfolding computing
 no_header_segment = says eh_frame_hdr_segment ∙ refl
 
+-- the segment's four bytes are at offset 0x54, and are loaded at 0x1054; the page begins at offset 0
+address_of_its_third_byte : of_worked (λ file. address_of_offset file 0x56) ≡ Ok (Some 0x1056)
+unfolding computing
+address_of_its_third_byte = says (λ file. address_of_offset file 0x56) ∙ refl
+
+address_of_its_page : of_worked (λ file. address_of_offset file 0) ≡ Ok (Some 0x1000)
+unfolding computing
+address_of_its_page = says (λ file. address_of_offset file 0) ∙ refl
+
+not_with_the_segment : of_worked (λ file. address_of_offset file 0x58) ≡ Ok None
+unfolding computing
+not_with_the_segment = says (λ file. address_of_offset file 0x58) ∙ refl
+
 -- ---- cut, and changed
 
 a_header_less_a_byte : elf_file (take 51 header_bytes) ≡ Err HeaderCut
@@ -143,7 +156,7 @@ unterminated = refl
 -- ---- of 64 bits, the least significant byte first
 
 segment_of_64_bits : read_from false (bytes_behind None (codes "0100000005000000000200000000000000124000000000000012400000000000300000000000000040000000000000000010000000000000")) (program_header Elf64)
-    ≡ Ok (record { p_type = 1; place = record { p_offset = 0x200; p_vaddr = 0x401200; p_filesz = 0x30 } })
+    ≡ Ok (record { p_type = 1; p_flags = 5; place = record { p_offset = 0x200; p_vaddr = 0x401200; p_filesz = 0x30 } })
 unfolding computing
 segment_of_64_bits = refl
 

@@ -19,9 +19,9 @@ abbrev pub flags_after_type : Class → Read ℕ
 flags_after_type Elf32 = give 0
 flags_after_type Elf64 = unsigned w32
 
-abbrev pub flags_before_alignment : Class → Read ℕ
-flags_before_alignment Elf32 = unsigned w32
-flags_before_alignment Elf64 = give 0
+abbrev pub flags_before_alignment : Class → ℕ → Read ℕ
+flags_before_alignment Elf32 read = unsigned w32
+flags_before_alignment Elf64 read = give read
 
 unfoldable pub segment_place : Class → Read SegmentPlace
 segment_place class = do
@@ -37,6 +37,6 @@ program_header class = do
   p_type ← unsigned w32
   p_flags ← flags_after_type class
   place ← segment_place class
-  p_flags ← flags_before_alignment class
+  p_flags ← flags_before_alignment class p_flags
   p_align ← unsigned (class_width class)
-  give (record { p_type = p_type; place = place })
+  give (record { p_type = p_type; p_flags = p_flags; place = place })

@@ -1,10 +1,10 @@
 -- What a file has loaded at an address, by its program headers (System V ABI chapter 5, "Program Header", "Program Loading").
-use Rattle.std.specs.Prelude.{ℕ, ◌-◌, ◌+◌, Bool, not, ◌&&◌, List, Option, Some, None, Result, Ok, Err, drop, find, nat_le, nat_lt, ◌==◌, if◌then◌else◌}
+use Rattle.std.specs.Prelude.{ℕ, ◌-◌, ◌+◌, ◌%◌, ◌^◌, Bool, not, ◌&&◌, bit_and, option_map, List, Option, Some, None, Result, Ok, Err, drop, find, nat_le, nat_lt, ◌==◌, if◌then◌else◌}
 use Rattle.cfi_elf.specs.declared.error.ElfError.{ElfError}
 use Rattle.cfi_elf.specs.declared.error.ElfError.TheVariants.{ProgramEntrySize, ProgramTableOutOfBounds, SegmentOutOfBounds}
 use Rattle.cfi_elf.specs.declared.program_header.ProgramHeader.{ProgramHeader}
 use Rattle.cfi_elf.specs.declared.segments.Wanted.{Wanted}
-use Rattle.cfi_elf.specs.declared.segments.Wanted.TheVariants.{OfType, LoadedAt}
+use Rattle.cfi_elf.specs.declared.segments.Wanted.TheVariants.{OfType, LoadedAt, CodeAt}
 use Rattle.cfi_elf.specs.Results.{Table, and_then, or_missing, part, entries_of, table_of, no_entries}
 use Rattle.cfi_elf.specs.ProgramHeaders.{program_header, program_header_size}
 use Rattle.cfi_elf.specs.ElfFiles.{File, class_of_file, is_big_file}
@@ -39,9 +39,20 @@ abbrev pub is_loaded_at : ℕ → ProgramHeader → Bool
 is_loaded_at address header =
     (header.p_type == 1) && (nat_le header.place.p_vaddr address && nat_lt address (header.place.p_vaddr + header.place.p_filesz))
 
+-- where a segment begins in the file as it is mapped, by whole pages of 4 KiB
+abbrev pub page_offset : ProgramHeader → ℕ
+page_offset header = header.place.p_offset - header.place.p_offset % 4096
+
+-- whether a segment is loaded and executable (PF_X is 1), and the byte at the offset is mapped with it
+abbrev pub is_code_at : ℕ → ProgramHeader → Bool
+is_code_at offset header =
+    (header.p_type == 1) && (not (bit_and header.p_flags 1 == 0)
+    && (nat_le (page_offset header) offset && nat_lt offset (header.place.p_offset + header.place.p_filesz)))
+
 abbrev pub is_wanted : Wanted → ProgramHeader → Bool
 is_wanted (OfType p_type) header = header.p_type == p_type
 is_wanted (LoadedAt address) header = is_loaded_at address header
+is_wanted (CodeAt offset) header = is_code_at offset header
 
 -- the first program header that is wanted
 unfoldable pub wanted_segment : File → Wanted → Result (Option ProgramHeader) ElfError
@@ -70,3 +81,20 @@ bytes_after file address (Some header) =
 -- the file's bytes from an address up to the end of those of the first loaded segment that has it
 unfoldable pub loaded_bytes : File → ℕ → Result (Option (List ℕ)) ElfError
 loaded_bytes file address = and_then (wanted_segment file (LoadedAt address)) (bytes_after file address)
+
+-- ---- the address of a byte of the file
+
+-- sums and differences of addresses are modulo 2 ^ 64
+abbrev pub plus : ℕ → ℕ → ℕ
+plus a b = (a + b) % 2 ^ 64
+
+abbrev pub minus : ℕ → ℕ → ℕ
+minus a b = (a + (2 ^ 64 - b)) % 2 ^ 64
+
+-- that of the byte at an offset, by the segment's address and offset
+abbrev pub loaded_address : ℕ → ProgramHeader → ℕ
+loaded_address offset header = plus (minus header.place.p_vaddr header.place.p_offset) offset
+
+-- that of the byte at an offset in the first segment of code that has it
+unfoldable pub address_of_offset : File → ℕ → Result (Option ℕ) ElfError
+address_of_offset file offset = and_then (wanted_segment file (CodeAt offset)) (λ found. Ok (option_map (loaded_address offset) found))

@@ -11,6 +11,7 @@ use cfi_read_core::{Reader, Result};
 #[derive(Clone, Copy, Debug, PartialEq, Eq)]
 pub struct ProgramHeader {
     pub p_type: u32,
+    pub p_flags: u32,
     pub place: SegmentPlace,
 }
 
@@ -39,11 +40,15 @@ pub(crate) fn read_program_header<R: Reader>(class: Class, input: &mut R) -> Res
     ensures { ReadsValue R.position (program_header class) input.old result input.new }
 {
     let p_type = input.read_u32()?;
-    let _p_flags = read_flags_after_type(class, input)?;
+    let p_flags = read_flags_after_type(class, input)?;
     let place = read_segment_place(class, input)?;
-    let _p_flags = read_flags_before_alignment(class, input)?;
+    let p_flags = read_flags_before_alignment(class, p_flags, input)?;
     let _p_align = read_class_sized(class, input)?;
-    Ok(ProgramHeader { p_type, place })
+    Ok(ProgramHeader {
+        p_type,
+        p_flags,
+        place,
+    })
 }
 
 /// Reads `p_flags` where 64-bit files have it.
@@ -56,13 +61,14 @@ fn read_flags_after_type<R: Reader>(class: Class, input: &mut R) -> Result<u32>
     }
 }
 
-/// Reads `p_flags` where 32-bit files have it.
-fn read_flags_before_alignment<R: Reader>(class: Class, input: &mut R) -> Result<u32>
-    ensures { ReadsValue R.position (flags_before_alignment class) input.old result input.new }
+/// Reads `p_flags` where 32-bit files have it, or else returns what was read before.
+fn read_flags_before_alignment<R: Reader>(class: Class, read: u32, input: &mut R) -> Result<u32>
+    ensures { ReadsValue R.position (flags_before_alignment class read) input.old
+        result input.new }
 {
     match class {
         Class::Elf32 => input.read_u32(),
-        Class::Elf64 => Ok(0),
+        Class::Elf64 => Ok(read),
     }
 }
 

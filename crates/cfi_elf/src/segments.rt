@@ -1,13 +1,14 @@
-//! What a file has loaded at an address, by its program headers (System V ABI chapter 5, "Program
-//! Header").
+//! What a file has loaded at an address, and where its bytes are loaded, by its program headers
+//! (System V ABI chapter 5, "Program Header", "Program Loading").
 ghost use Rattle.std.specs.Prelude.{◌≡◌, find, option_map};
 ghost use Rattle.cfi_read_core.specs.ReaderCalls.{map_ok};
 ghost use Rattle.cfi_elf.specs.Results.{entries, table_view};
 ghost use Rattle.cfi_elf.specs.ElfFiles.{file_view};
 ghost use Rattle.cfi_elf.specs.ProgramHeaders.{program_header};
 ghost use Rattle.cfi_elf.specs.Sections.{section_view};
-ghost use Rattle.cfi_elf.specs.Segments.{eh_frame_hdr_segment, is_loaded_at, is_wanted};
-ghost use Rattle.cfi_elf.specs.Segments.{loaded_bytes, program_table, segment_bytes};
+ghost use Rattle.cfi_elf.specs.Segments.{address_of_offset, eh_frame_hdr_segment, is_code_at};
+ghost use Rattle.cfi_elf.specs.Segments.{is_loaded_at, is_wanted, loaded_address, loaded_bytes};
+ghost use Rattle.cfi_elf.specs.Segments.{page_offset, program_table, segment_bytes};
 ghost use Rattle.cfi_elf.specs.Segments.{segment_count, wanted_segment};
 
 use crate::bytes::{bytes_from, part};
@@ -24,6 +25,11 @@ const PT_LOAD: u32 = 1;
 
 const PT_GNU_EH_FRAME: u32 = 0x6474_e550;
 
+const PF_X: u32 = 1;
+
+/// The bytes of a page, by which files are mapped into memory.
+const PAGE_SIZE: u64 = 4096;
+
 /// Which segment is looked for.
 #[derive(Clone, Copy)]
 enum Wanted {
@@ -31,6 +37,8 @@ enum Wanted {
     OfType(u32),
     /// One that is loaded, and whose bytes in the file have this address.
     LoadedAt(u64),
+    /// One that is loaded and executable, with which the byte at this offset is mapped.
+    CodeAt(u64),
 }
 
 impl<'input> ElfFile<'input> {
@@ -73,6 +81,26 @@ impl<'input> ElfFile<'input> {
         };
         let bytes = self.segment_bytes(&header)?;
         Ok(Some(bytes_from(bytes, address.saturating_sub(header.place.p_vaddr))))
+    }
+
+    /// The address at which the file's byte at this offset is loaded, by the first executable
+    /// `PT_LOAD` segment that has the offset. Returns `None` where no such segment has it.
+    ///
+    /// Files are mapped by whole pages, so a segment has the bytes from the beginning of the page
+    /// of 4 KiB that its own begin in. The address is the offset plus the difference of the
+    /// segment's address and offset, modulo 2^64. What the file has at an address is loaded at this
+    /// address plus a bias, which is one for all segments.
+    ///
+    /// Fails as `eh_frame_hdr_segment`, but not with `SegmentOutOfBounds`: the bytes are not read.
+    /// Does not allocate (System V ABI chapter 5, "Program Loading").
+    #[tactic(auto, unfolding(crate::specs::Segments::address_of_offset))]
+    pub fn address_of_offset(&self, offset: u64) -> Result<Option<u64>, ElfError>
+        ensures { result ≡ address_of_offset (file_view self.now) offset }
+    {
+        match self.wanted_segment(Wanted::CodeAt(offset))? {
+            Some(header) => Ok(Some(loaded_address(&header, offset))),
+            None => Ok(None),
+        }
     }
 
     /// The first program header that is wanted.
@@ -159,6 +187,7 @@ fn is_wanted(header: &ProgramHeader, wanted: Wanted) -> bool
     match wanted {
         Wanted::OfType(p_type) => header.p_type == p_type,
         Wanted::LoadedAt(address) => is_loaded_at(header, address),
+        Wanted::CodeAt(offset) => is_code_at(header, offset),
     }
 }
 
@@ -167,4 +196,33 @@ fn is_loaded_at(header: &ProgramHeader, address: u64) -> bool
 {
     let place = &header.place;
     header.p_type == PT_LOAD && place.p_vaddr <= address && address - place.p_vaddr < place.p_filesz
+}
+
+/// Whether the byte at an offset is mapped with this segment, as code.
+fn is_code_at(header: &ProgramHeader, offset: u64) -> bool
+    ensures { result ≡ is_code_at offset header.now }
+{
+    let place = &header.place;
+    header.p_type == PT_LOAD
+        && header.p_flags & PF_X != 0
+        && page_offset(header) <= offset
+        && (offset < place.p_offset || offset - place.p_offset < place.p_filesz)
+}
+
+/// The offset of the page that a segment begins in.
+fn page_offset(header: &ProgramHeader) -> u64
+    ensures { result ≡ page_offset header.now }
+{
+    header.place.p_offset - header.place.p_offset % PAGE_SIZE
+}
+
+/// The address at which the byte at an offset is loaded, with this segment.
+fn loaded_address(header: &ProgramHeader, offset: u64) -> u64
+    ensures { result ≡ loaded_address offset header.now }
+{
+    let place = &header.place;
+    place
+        .p_vaddr
+        .wrapping_sub(place.p_offset)
+        .wrapping_add(offset)
 }
