@@ -1,5 +1,5 @@
-//! Tests of expressions, of the module of an address, and of the unwinder. The expected values are
-//! those of the standard, or were worked out by hand.
+//! Tests of expressions, of the module of an address, of the unwinder and of profiles. The expected
+//! values are those of the standard, of `perf script`, or were worked out by hand.
 #![tactic(auto)]
 
 #[cfg(test)]
@@ -8,3 +8,5 @@ mod expressions;
 mod frames;
 #[cfg(test)]
 mod modules;
+#[cfg(test)]
+mod profiles;

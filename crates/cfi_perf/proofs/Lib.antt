@@ -1,0 +1,6 @@
+pub mod Chains
+pub mod EntrySteps
+pub mod ItemReads
+pub mod RecordSteps
+mod Registers
+mod Worked

@@ -1,0 +1,134 @@
+-- The records of some bytes, when the first of them is read.
+use Rattle.std.proofs.Common.{◌≡◌, ◌<◌, ◌≤◌, ◌+◌, ◌-◌, ℕ, zero, suc, Bool, true, false, [], List, Option, Some, None, Result, Ok, Err, refl, sym, ap, ◌∙◌, length, drop, arith}
+use Rattle.std.specs.Prelude.{◌==◌, if◌then◌else◌, nat_le, nat_lt, slice_range}
+use Rattle.std.proofs.lemmas.Bool.{eqb-false, ltb-false}
+use Rattle.std.proofs.lemmas.List.{length-drop}
+use borrow.Author.Tests.{leb-true}
+use Rattle.cfi_perf.specs.declared.error.PerfError.{PerfError}
+use Rattle.cfi_perf.specs.declared.error.PerfError.TheVariants.{RecordCut, RecordSize}
+use Rattle.cfi_perf.specs.declared.attribute.EventLayout.{EventLayout}
+use Rattle.cfi_perf.specs.declared.records.RecordHeader.{RecordHeader}
+use Rattle.cfi_perf.specs.Events.{Record}
+use Rattle.cfi_perf.specs.Results.{and_then, or_error, or_missing, part, read_from}
+use Rattle.cfi_perf.specs.Records.{First, Framed, Records, after_record, record_header, first_record, split_record, no_records, record_of, records_of, records_up_to, records_with, with_first}
+use Rattle.cfi_perf.proofs.Chains.{gave, not_missing, not_refused}
+
+-- ---- a record takes a byte at least
+
+some_part : (b : Bool) (xs ys : List ℕ) → (if b then Some xs else None) ≡ Some ys → b ≡ true
+some_part true xs ys is = refl
+some_part false xs ys is = absurd (cc)
+
+part_fits : (bytes : List ℕ) (offset size : ℕ) (found : List ℕ) → part bytes offset size ≡ Some found → offset + size ≤ length bytes
+part_fits bytes offset size found is = leb-true _ _ (some_part (nat_le (offset + size) (length bytes)) (slice_range bytes offset (offset + size)) found is)
+
+after_trace : (behind others : List ℕ) (trace : Result ℕ PerfError) → and_then trace (λ size. if nat_lt (length behind) size then Err RecordCut else Ok (drop size behind)) ≡ Ok others → length others ≤ length behind
+after_trace behind others trace is =
+    let size = gave trace (λ size. if nat_lt (length behind) size then Err RecordCut else Ok (drop size behind)) others is in
+    let left = not_refused (nat_lt (length behind) size.value) RecordCut (Ok (drop size.value behind)) others size.gives in
+    let same : drop size.value behind ≡ others = let e = left.1 in cc in
+    let count : length (drop size.value behind) ≡ length others = ap length same in
+    let less = length-drop size.value behind in
+    omega (arith, count, less)
+
+after_other : (b : Bool) (behind others : List ℕ) (trace : Result (List ℕ) PerfError) → (trace ≡ Ok others → length others ≤ length behind) → (if b then trace else Ok behind) ≡ Ok others → length others ≤ length behind
+after_other true behind others trace h is = h is
+after_other false behind others trace h is = let same : behind ≡ others = cc in let count : length behind ≡ length others = ap length same in omega (arith, count)
+
+no_more_after : (big : Bool) (header : RecordHeader) (body behind others : List ℕ) → after_record big header body behind ≡ Ok others → length others ≤ length behind
+no_more_after big header body behind others is = after_other (header.kind == 71) behind others _ (after_trace behind others _) is
+
+-- what follows the record in a result, or else this
+abbrev others_of : Result Framed PerfError → List ℕ → List ℕ
+others_of (Ok found) other = found.others
+others_of (Err e) other = other
+
+-- the steps of a record, each with what the ones before gave
+abbrev with_others : RecordHeader → List ℕ → List ℕ → Result Framed PerfError
+with_others header body others = Ok (record { header = header; body = body; others = others })
+
+abbrev with_body : Bool → List ℕ → RecordHeader → List ℕ → Result Framed PerfError
+with_body big bytes header body = and_then (after_record big header body (drop header.size bytes)) (with_others header body)
+
+abbrev sized : Bool → List ℕ → RecordHeader → Result Framed PerfError
+sized big bytes header = and_then (or_missing RecordCut (part bytes 8 (header.size - 8))) (with_body big bytes header)
+
+abbrev with_header : Bool → List ℕ → RecordHeader → Result Framed PerfError
+with_header big bytes header = if nat_lt header.size 8 then Err (RecordSize header.size) else sized big bytes header
+
+framed_fewer : (big : Bool) (bytes : List ℕ) (found : Framed) → split_record big bytes ≡ Ok found → length found.others < length bytes
+unfolding split_record
+framed_fewer big bytes found is =
+    let header = gave (or_error RecordCut (read_from big bytes record_header)) (with_header big bytes) found is in
+    let large = not_refused (nat_lt header.value.size 8) (RecordSize header.value.size) (sized big bytes header.value) found header.gives in
+    let body = gave (or_missing RecordCut (part bytes 8 (header.value.size - 8))) (with_body big bytes header.value) found large.1 in
+    let others = gave (after_record big header.value body.value (drop header.value.size bytes)) (with_others header.value body.value) found body.gives in
+    let fits = part_fits bytes 8 (header.value.size - 8) body.value (not_missing RecordCut (part bytes 8 (header.value.size - 8)) body.value body.was) in
+    let some : 8 ≤ header.value.size = ltb-false header.value.size 8 large.0 in
+    let same : others.value ≡ found.others = ap (λ (r : Result Framed PerfError). others_of r others.value) others.gives in
+    let count : length others.value ≡ length found.others = ap length same in
+    let more = no_more_after big header.value body.value (drop header.value.size bytes) others.value others.was in
+    let less = length-drop header.value.size bytes in
+    omega (arith, fits, some, count, more, less)
+
+abbrev behind_first : Result First PerfError → List ℕ → List ℕ
+behind_first (Ok found) other = found.others
+behind_first (Err e) other = other
+
+module _ (layout : EventLayout) (big : Bool) where
+  abbrev with_frame : Framed → Record → Result First PerfError
+  with_frame frame first = Ok (record { first = first; others = frame.others })
+
+  fewer : (bytes : List ℕ) (found : First) → first_record layout big bytes ≡ Ok found → length found.others < length bytes
+  unfolding first_record
+  fewer bytes found is =
+      let frame = gave (split_record big bytes) (λ frame. and_then (record_of layout big frame.header frame.body) (with_frame frame)) found is in
+      let first = gave (record_of layout big frame.value.header frame.value.body) (with_frame frame.value) found frame.gives in
+      let same : frame.value.others ≡ found.others = ap (λ (r : Result First PerfError). behind_first r frame.value.others) first.gives in
+      let count : length frame.value.others ≡ length found.others = ap length same in
+      let less = framed_fewer big bytes frame.value frame.was in
+      omega (arith, count, less)
+
+  -- ---- as many steps as there are bytes are enough
+
+  with_same : (r : Result First PerfError) (f g : List ℕ → Records) → ((found : First) → r ≡ Ok found → f found.others ≡ g found.others) → records_with r f ≡ records_with r g
+  with_same (Err e) f g h = refl
+  with_same (Ok found) f g h = ap (with_first found.first) (h found refl)
+
+  no_bytes : (bytes : List ℕ) (others : Records) → length bytes ≤ 0 → (if length bytes == 0 then no_records None else others) ≡ no_records None
+  no_bytes bytes others none = let e : length bytes ≡ 0 = omega arith in rw e refl
+
+  same : (n m : ℕ) (bytes : List ℕ) → length bytes ≤ n → length bytes ≤ m → records_up_to n layout big bytes ≡ records_up_to m layout big bytes
+  unfolding records_up_to
+  same zero zero bytes below under = refl
+  same zero (suc m) bytes below under = sym (no_bytes bytes (records_with (first_record layout big bytes) (records_up_to m layout big)) below)
+  same (suc n) zero bytes below under = no_bytes bytes (records_with (first_record layout big bytes) (records_up_to n layout big)) under
+  same (suc n) (suc m) bytes below under =
+      ap (λ (others : Records). if length bytes == 0 then no_records None else others)
+      (with_same (first_record layout big bytes) (records_up_to n layout big) (records_up_to m layout big)
+      (λ found is. let less = fewer bytes found is in same n m found.others (omega (arith, less, below)) (omega (arith, less, under))))
+
+  -- ---- one step
+
+  step : (bytes : List ℕ) → records_of layout big bytes ≡ (if length bytes == 0 then no_records None else records_with (first_record layout big bytes) (records_of layout big))
+  unfolding records_up_to
+  step bytes =
+      same (length bytes) (suc (length bytes)) bytes (omega arith) (omega arith)
+      ∙ ap (λ (others : Records). if length bytes == 0 then no_records None else others)
+      (with_same (first_record layout big bytes) (records_up_to (length bytes) layout big) (records_of layout big)
+      (λ found is. let less = fewer bytes found is in same (length bytes) (length found.others) found.others (omega (arith, less)) (omega arith)))
+
+  pub none_met : (bytes : List ℕ) → (length bytes == 0) ≡ true → records_of layout big bytes ≡ no_records None
+  none_met bytes none = step bytes ∙ ap (λ (b : Bool). if b then no_records None else records_with (first_record layout big bytes) (records_of layout big)) none
+
+  met : (bytes : List ℕ) (r : Result First PerfError) → (length bytes == 0) ≡ false → r ≡ first_record layout big bytes → records_of layout big bytes ≡ records_with r (records_of layout big)
+  met bytes r some is =
+      step bytes
+      ∙ (ap (λ (b : Bool). if b then no_records None else records_with (first_record layout big bytes) (records_of layout big)) some
+      ∙ ap (λ (r : Result First PerfError). records_with r (records_of layout big)) (sym is))
+
+  pub first_met : (bytes : List ℕ) (found : First) → (length bytes == 0) ≡ false → Ok found ≡ first_record layout big bytes → records_of layout big bytes ≡ with_first found.first (records_of layout big found.others)
+  first_met bytes found some is = met bytes (Ok found) some is
+
+  pub error_met : (bytes : List ℕ) (e : PerfError) → (length bytes == 0) ≡ false → Err e ≡ first_record layout big bytes → records_of layout big bytes ≡ no_records (Some e)
+  error_met bytes e some is = met bytes (Err e) some is

@@ -1,0 +1,269 @@
+-- A small profile of three records by computation, as perf script -D prints it: its header, its event, its records, and its architecture, in both byte orders.
+use Rattle.std.proofs.Common.{◌≡◌, ℕ, ◌+◌, ◌-◌, ◌*◌, List, [], ◌∷◌, ◌++◌, codes, true, false, Option, Some, None, Result, Ok, Err, refl}
+use Rattle.std.specs.Prelude.{nat_lt, if◌then◌else◌, take}
+use Rattle.cfi_read_core.specs.declared.endianity.RunTimeEndian.TheVariants.{Little, Big}
+use Rattle.cfi_read_core.specs.Numbers.{unsigned}
+use Rattle.cfi_perf.specs.declared.error.PerfError.TheVariants.{NotPerf, PipeMode, HeaderCut, HeaderSize, AttributesOutOfBounds, NoEvents, MixedEvents, FeatureOutOfBounds, RecordSize, RecordCut, Compressed}
+use Rattle.cfi_perf.specs.declared.attribute.EventLayout.{EventLayout}
+use Rattle.cfi_perf.specs.Results.{items, entries, read_from}
+use Rattle.cfi_perf.specs.Layouts.{sample_format, sample_id_all, chosen, event_layout, event, events, only_layout}
+use Rattle.cfi_perf.specs.FileHeaders.{byte_order, file_section, feature_bits, header_fields, file_header}
+use Rattle.cfi_perf.specs.Samples.{UserRegisters, register_of, thread, sample_numbers, passed_numbers, group_values, single_value, call_chain, raw_data, branch_stack, passed_lists, registers, copied_stack, stack, user_state, sample}
+use Rattle.cfi_perf.specs.Events.{MappingEvent, ProgramEvent, ForkEvent, SampleEvent, OtherEvent, mapped_range, mapping, mapping2, program, fork}
+use Rattle.cfi_perf.specs.Records.{Records, no_records, record_header, split_record, sample_id_time, without_id, record_of, first_record, records_up_to, records_of}
+use Rattle.cfi_perf.specs.Profiles.{Profile, layout_by, profile, architecture, header_text}
+
+-- to name it on an `unfolding` line is to open all these
+unfoldable computing : ℕ
+unfolding unsigned items entries sample_format sample_id_all chosen event_layout event file_section feature_bits header_fields file_header thread sample_numbers passed_numbers group_values single_value call_chain raw_data branch_stack passed_lists registers copied_stack stack user_state sample mapped_range mapping mapping2 program fork record_header split_record sample_id_time without_id record_of first_record records_up_to layout_by profile architecture header_text lib.Count.ones
+computing = 0
+
+-- the bytes of hexadecimal text, whose letters are small
+abbrev digit_of : ℕ → ℕ
+digit_of c = if nat_lt c 58 then c - 48 else c - 87
+
+abbrev bytes_behind : Option ℕ → List ℕ → List ℕ
+bytes_behind high [] = []
+bytes_behind None (c ∷ cs) = bytes_behind (Some (digit_of c)) cs
+bytes_behind (Some high) (c ∷ cs) = (16 * high + digit_of c) ∷ bytes_behind None cs
+
+abbrev hex : List ℕ → List ℕ
+hex text = bytes_behind None text
+
+-- ---- the header
+
+abbrev little_header : List ℕ
+little_header = hex (codes "50455246494c45326800000000000000700000000000000068000000000000007000000000000000d8000000000000000001000000000000000000000000000000000000000000004800000000000000000000000000000000000000000000000000000000000000")
+
+little_header_read : file_header Little little_header ≡ Ok (record { attr_size = 112; attrs = record { offset = 104; size = 112 }; records = record { offset = 216; size = 256 }; features = 0x48 })
+unfolding computing
+little_header_read = refl
+
+abbrev big_header : List ℕ
+big_header = hex (codes "32454c4946524550000000000000006800000000000000700000000000000068000000000000007000000000000000d80000000000000100000000000000000000000000000000000000000000000048000000000000000000000000000000000000000000000000")
+
+big_header_read : file_header Big big_header ≡ Ok (record { attr_size = 112; attrs = record { offset = 104; size = 112 }; records = record { offset = 216; size = 256 }; features = 0x48 })
+unfolding computing
+big_header_read = refl
+
+is_little : byte_order little_header ≡ Ok Little
+is_little = refl
+
+is_big : byte_order big_header ≡ Ok Big
+is_big = refl
+
+empty_file : profile [] ≡ Err NotPerf
+unfolding computing
+empty_file = refl
+
+a_header_less_a_byte : file_header Little (take 103 little_header) ≡ Err HeaderCut
+unfolding computing
+a_header_less_a_byte = refl
+
+of_a_pipe : file_header Little (hex (codes "50455246494c45321000000000000000")) ≡ Err PipeMode
+unfolding computing
+of_a_pipe = refl
+
+of_another_size : file_header Little (hex (codes "50455246494c45324800000000000000")) ≡ Err (HeaderSize 72)
+unfolding computing
+of_another_size = refl
+
+nothing_behind_the_header : profile little_header ≡ Err AttributesOutOfBounds
+unfolding computing
+nothing_behind_the_header = refl
+
+-- ---- the event
+
+abbrev worked_layout : EventLayout
+worked_layout = record { sample_type = 0x3127; read_format = 0; sample_id_all = true; branch_sample_type = 0; sample_regs_user = 0x181 }
+
+abbrev little_event : List ℕ
+little_event = hex (codes "01000000600000000000000000000000102700000000000027310000000000000000000000000000000004000000000000000000000000000000000000000000000000000000000000000000000000008101000000000000100000000000000000000000000000000000000000000000")
+
+little_events : events false 112 little_event ≡ worked_layout ∷ []
+unfolding computing
+little_events = refl
+
+abbrev big_event : List ℕ
+big_event = hex (codes "00000001000000600000000000000000000000000000271000000000000031270000000000000000000020000000000000000000000000000000000000000000000000000000000000000000000000000000000000000181000000100000000000000000000000000000000000000000")
+
+big_events : events true 112 big_event ≡ worked_layout ∷ []
+unfolding computing
+big_events = refl
+
+no_events : only_layout [] ≡ Err NoEvents
+no_events = refl
+
+the_same_twice : only_layout (worked_layout ∷ worked_layout ∷ []) ≡ Ok worked_layout
+the_same_twice = refl
+
+other_registers : only_layout (worked_layout ∷ record worked_layout { sample_regs_user = 0x180 } ∷ []) ≡ Err MixedEvents
+other_registers = refl
+
+-- ---- the records
+
+abbrev little_program : List ℕ
+little_program = hex (codes "03000000022028000700000007000000610000000000000007000000070000000a00000000000000")
+
+little_program_read : records_of worked_layout false little_program ≡ record {
+  records = record { time = 10; event = ProgramEvent (record { pid = 7; tid = 7; name = codes "a"; is_exec = true }) } ∷ [];
+  error = None;
+}
+unfolding computing
+little_program_read = refl
+
+abbrev little_mapping : List ℕ
+little_mapping = hex (codes "0a00000002006000070000000700000000004000000000000010000000000000002000000000000000000000000000000000000000000000000000000000000005000000020000002f62696e2f61000007000000070000000b00000000000000")
+
+little_mapping_read : records_of worked_layout false little_mapping ≡ record {
+  records = record { time = 11; event = MappingEvent (record { pid = 7; address = 0x400000; length = 0x1000; offset = 0x2000; is_executable = true; name = codes "/bin/a" }) } ∷ [];
+  error = None;
+}
+unfolding computing
+little_mapping_read = refl
+
+abbrev little_sample : List ℕ
+little_sample = hex (codes "090000000200780023014000000000000700000008000000630000000000000001000000000000000100000000000000240140000000000002000000000000001100000000000000fe7f00000000000023014000000000001000000000000000a0a1a2a3a4a5a6a7a8a9aaabacadaeaf0800000000000000")
+
+abbrev little_registers : UserRegisters
+little_registers = record { abi = 2; mask = 0x181; values = hex (codes "1100000000000000fe7f0000000000002301400000000000"); big_endian = false }
+
+little_sample_read : records_of worked_layout false little_sample ≡ record {
+  records = record { time = 99; event = SampleEvent (record { pid = 7; tid = 8; ip = 0x400123; user = record { registers = Some little_registers; stack = hex (codes "a0a1a2a3a4a5a6a7") } }) } ∷ [];
+  error = None;
+}
+unfolding computing
+little_sample_read = refl
+
+little_sp : register_of little_registers 7 ≡ Some 0x7ffe
+unfolding computing
+little_sp = refl
+
+abbrev big_program : List ℕ
+big_program = hex (codes "0000000320020028000000070000000761000000000000000000000700000007000000000000000a")
+
+big_program_read : records_of worked_layout true big_program ≡ record {
+  records = record { time = 10; event = ProgramEvent (record { pid = 7; tid = 7; name = codes "a"; is_exec = true }) } ∷ [];
+  error = None;
+}
+unfolding computing
+big_program_read = refl
+
+abbrev big_mapping : List ℕ
+big_mapping = hex (codes "0000000a00020060000000070000000700000000004000000000000000001000000000000000200000000000000000000000000000000000000000000000000000000005000000022f62696e2f6100000000000700000007000000000000000b")
+
+big_mapping_read : records_of worked_layout true big_mapping ≡ record {
+  records = record { time = 11; event = MappingEvent (record { pid = 7; address = 0x400000; length = 0x1000; offset = 0x2000; is_executable = true; name = codes "/bin/a" }) } ∷ [];
+  error = None;
+}
+unfolding computing
+big_mapping_read = refl
+
+abbrev big_sample : List ℕ
+big_sample = hex (codes "0000000900020078000000000040012300000007000000080000000000000063000000000000000100000000000000010000000000400124000000000000000200000000000000110000000000007ffe00000000004001230000000000000010a0a1a2a3a4a5a6a7a8a9aaabacadaeaf0000000000000008")
+
+abbrev big_registers : UserRegisters
+big_registers = record { abi = 2; mask = 0x181; values = hex (codes "00000000000000110000000000007ffe0000000000400123"); big_endian = true }
+
+big_sample_read : records_of worked_layout true big_sample ≡ record {
+  records = record { time = 99; event = SampleEvent (record { pid = 7; tid = 8; ip = 0x400123; user = record { registers = Some big_registers; stack = hex (codes "a0a1a2a3a4a5a6a7") } }) } ∷ [];
+  error = None;
+}
+unfolding computing
+big_sample_read = refl
+
+big_sp : register_of big_registers 7 ≡ Some 0x7ffe
+unfolding computing
+big_sp = refl
+
+no_register_1 : register_of little_registers 1 ≡ None
+unfolding computing
+no_register_1 = refl
+
+a_new_process : records_of worked_layout false (hex (codes "0700000000003000090000000700000009000000070000000c0000000000000007000000070000000c00000000000000")) ≡ record { records = record { time = 12; event = ForkEvent (record { pid = 9; parent = 7; tid = 9 }) } ∷ []; error = None }
+unfolding computing
+a_new_process = refl
+
+-- of PERF_RECORD_MMAP
+mapped_data : records_of worked_layout false (hex (codes "010000000220400007000000070000000000600000000000001000000000000000000000000000002f6400000000000007000000070000000d00000000000000")) ≡ record { records = record { time = 13; event = MappingEvent (record { pid = 7; address = 0x600000; length = 0x1000; offset = 0; is_executable = false; name = codes "/d" }) } ∷ []; error = None }
+unfolding computing
+mapped_data = refl
+
+mapped_code : records_of worked_layout false (hex (codes "010000000200400007000000070000000000600000000000001000000000000000000000000000002f6400000000000007000000070000000d00000000000000")) ≡ record { records = record { time = 13; event = MappingEvent (record { pid = 7; address = 0x600000; length = 0x1000; offset = 0; is_executable = true; name = codes "/d" }) } ∷ []; error = None }
+unfolding computing
+mapped_code = refl
+
+-- PERF_RECORD_LOST has a time; a record of perf has none
+two_others : records_of worked_layout false (hex (codes "02000000000028000100000000000000010000000000000007000000070000000e000000000000004400000000000800")) ≡ record { records = record { time = 14; event = OtherEvent } ∷ record { time = 0; event = OtherEvent } ∷ []; error = None }
+unfolding computing
+two_others = refl
+
+-- four bytes of trace behind PERF_RECORD_AUXTRACE
+passed_trace : records_of worked_layout false (hex (codes "470000000000300004000000000000000000000000000000000000000000000000000000000000000000000000000000010203044400000000000800")) ≡ record { records = record { time = 0; event = OtherEvent } ∷ record { time = 0; event = OtherEvent } ∷ []; error = None }
+unfolding computing
+passed_trace = refl
+
+cut_trace : records_of worked_layout false (hex (codes "470000000000300004000000000000000000000000000000000000000000000000000000000000000000000000000000010203")) ≡ record { records = []; error = Some RecordCut }
+unfolding computing
+cut_trace = refl
+
+-- after a record comes one that is smaller than its header
+a_record_of_seven_bytes : records_of worked_layout false (hex (codes "44000000000008004400000000000700")) ≡ record { records = record { time = 0; event = OtherEvent } ∷ []; error = Some (RecordSize 7) }
+unfolding computing
+a_record_of_seven_bytes = refl
+
+cut_header : records_of worked_layout false (hex (codes "44000000000008")) ≡ record { records = []; error = Some RecordCut }
+unfolding computing
+cut_header = refl
+
+cut_record : records_of worked_layout false (hex (codes "0700000000003000090000000700000009000000070000000c0000000000000007000000070000000c000000000000")) ≡ record { records = []; error = Some RecordCut }
+unfolding computing
+cut_record = refl
+
+-- a record of the right size for the thread and time, and not for its fields
+cut_fields : records_of worked_layout false (hex (codes "0700000000002000090000000700000007000000070000000c00000000000000")) ≡ record { records = []; error = Some RecordCut }
+unfolding computing
+cut_fields = refl
+
+cut_id : records_of worked_layout false (hex (codes "02000000000010000100000000000000")) ≡ record { records = []; error = Some RecordCut }
+unfolding computing
+cut_id = refl
+
+unterminated_name : records_of worked_layout false (hex (codes "03000000000028000700000007000000616263646566676807000000070000000c00000000000000")) ≡ record { records = []; error = Some RecordCut }
+unfolding computing
+unterminated_name = refl
+
+compressed : records_of worked_layout false (hex (codes "5100000000000800")) ≡ record { records = []; error = Some Compressed }
+unfolding computing
+compressed = refl
+
+-- ---- its architecture
+
+abbrev behind : List ℕ
+behind = hex (codes "f8010000000000000c0000000000000004020000000000000c0000000000000008000000686f737400000000080000007838365f36340000")
+
+-- with the sections of bits 3 and 6, whose places begin with those of the whole file
+abbrev worked_profile : ℕ → Profile
+worked_profile features = record { bytes = little_header ++ (little_event ++ (little_program ++ (little_mapping ++ (little_sample ++ behind)))); endian = Little; layout = worked_layout; features = features; records = []; behind = behind }
+
+its_architecture : architecture (worked_profile 0x48) ≡ Ok (Some (codes "x86_64"))
+unfolding computing
+its_architecture = refl
+
+its_first_section : architecture (worked_profile 0x40) ≡ Ok (Some (codes "host"))
+unfolding computing
+its_first_section = refl
+
+no_architecture : architecture (worked_profile 0x8) ≡ Ok None
+unfolding computing
+no_architecture = refl
+
+no_third_section : architecture (worked_profile 0x58) ≡ Err FeatureOutOfBounds
+unfolding computing
+no_third_section = refl
+
+-- ---- the whole
+
+its_parts : profile (worked_profile 0x48).bytes ≡ Ok (record { bytes = (worked_profile 0x48).bytes; endian = Little; layout = worked_layout; features = 0x48; records = little_program ++ (little_mapping ++ little_sample); behind = behind })
+unfolding computing
+its_parts = refl

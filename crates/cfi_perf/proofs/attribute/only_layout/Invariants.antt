@@ -1,0 +1,13 @@
+use Rattle.std.proofs.Common.{◌≡◌, ◌-◌}
+use Rattle.cfi_read_core.specs.ByteOrder.{is_big}
+use Rattle.cfi_read_core.specs.Windows.{slice_position}
+use Rattle.cfi_perf.specs.Results.{entries}
+use Rattle.cfi_perf.specs.Layouts.{event, only_layout}
+use Rattle.cfi_perf.proofs.EntrySteps.{if_alike}
+use Rattle.cfi_perf.proofs.attribute.only_layout.Given as goal
+
+-- the events that are left give what all give
+abbrev pub invariant-loop-index : goal.invariant-loop-index
+invariant-loop-index l =
+    if_alike l.first (entries (l.count - l.index) (event l.size) (slice_position is_big l.events).source (slice_position is_big l.events).place)
+    ≡ only_layout (entries l.count (event l.size) (slice_position is_big l.fn.events).source (slice_position is_big l.fn.events).place)

@@ -1,0 +1,110 @@
+-- The records of mapped files, programs and new processes (perf_event_open(2), "MMAP layout"; include/uapi/linux/perf_event.h).
+use Rattle.std.specs.Prelude.{ℕ, Bool, not, List, drop, Result, Ok, Err, bit_and, ◌==◌, if◌then◌else◌}
+use Rattle.std.specs.Int.{w32, w64}
+use Rattle.cfi_read_core.specs.ReadFunctions.{Read, ◌>>=◌, give}
+use Rattle.cfi_read_core.specs.ReaderCalls.{map_ok}
+use Rattle.cfi_read_core.specs.Numbers.{unsigned}
+use Rattle.cfi_perf.specs.declared.error.PerfError.{PerfError}
+use Rattle.cfi_perf.specs.declared.error.PerfError.TheVariants.{RecordCut}
+use Rattle.cfi_perf.specs.declared.record.Record.{Record as RecordOfCode}
+use Rattle.cfi_perf.specs.declared.record.Event.{Event as EventOfCode}
+use Rattle.cfi_perf.specs.declared.record.Event.TheVariants.{Mapping as MappingOfCode, Program as ProgramOfCode, Fork as ForkOfCode, Sample as SampleOfCode, Other as OtherOfCode}
+use Rattle.cfi_perf.specs.declared.record.Mapping.{Mapping as MappingFields}
+use Rattle.cfi_perf.specs.declared.record.Program.{Program as ProgramFields}
+use Rattle.cfi_perf.specs.declared.record.Fork.{Fork}
+use Rattle.cfi_perf.specs.declared.event.MappedRange.{MappedRange}
+use Rattle.cfi_perf.specs.Results.{and_then, or_error, or_missing, before_zero, read_from}
+use Rattle.cfi_perf.specs.Layouts.{has_any}
+use Rattle.cfi_perf.specs.Samples.{Sample, sample_view, thread}
+
+-- ---- what a record says
+
+pub record Mapping : Type 0 where
+  pub pid : ℕ
+  pub address : ℕ
+  pub length : ℕ
+  pub offset : ℕ
+  pub is_executable : Bool
+  pub name : List ℕ
+
+pub record Program : Type 0 where
+  pub pid : ℕ
+  pub tid : ℕ
+  pub name : List ℕ
+  pub is_exec : Bool
+
+pub data Event : Type 0 where
+  MappingEvent : Mapping → Event
+  ProgramEvent : Program → Event
+  ForkEvent : Fork → Event
+  SampleEvent : Sample → Event
+  OtherEvent : Event
+
+pub record Record : Type 0 where
+  pub time : ℕ
+  pub event : Event
+
+-- what these are in the code
+abbrev pub mapping_view : MappingFields → Mapping
+mapping_view m = record { pid = m.pid; address = m.address; length = m.length; offset = m.offset; is_executable = m.is_executable; name = m.name.now }
+
+abbrev pub program_view : ProgramFields → Program
+program_view p = record { pid = p.pid; tid = p.tid; name = p.name.now; is_exec = p.is_exec }
+
+abbrev pub event_view : EventOfCode → Event
+event_view (MappingOfCode m) = MappingEvent (mapping_view m)
+event_view (ProgramOfCode p) = ProgramEvent (program_view p)
+event_view (ForkOfCode f) = ForkEvent f
+event_view (SampleOfCode s) = SampleEvent (sample_view s)
+event_view OtherOfCode = OtherEvent
+
+abbrev pub record_view : RecordOfCode → Record
+record_view r = record { time = r.time; event = event_view r.event }
+
+-- ---- mapped files
+
+-- the fields of both records up to pgoff
+unfoldable pub mapped_range : Read MappedRange
+mapped_range = do
+  pid ← unsigned w32
+  tid ← unsigned w32
+  address ← unsigned w64
+  length ← unsigned w64
+  offset ← unsigned w64
+  give (record { pid = pid; address = address; length = length; offset = offset })
+
+abbrev pub mapping_of : MappedRange → Bool → List ℕ → Mapping
+mapping_of range is_executable name =
+    record { pid = range.pid; address = range.address; length = range.length; offset = range.offset; is_executable = is_executable; name = name }
+
+-- PERF_RECORD_MMAP: the name follows. PERF_RECORD_MISC_MMAP_DATA is 1 << 13
+unfoldable pub mapping : Bool → ℕ → List ℕ → Result Mapping PerfError
+mapping big misc fields =
+    and_then (or_error RecordCut (read_from big fields mapped_range)) (λ range.
+    and_then (or_missing RecordCut (before_zero (drop 32 fields))) (λ name.
+    Ok (mapping_of range (not (has_any 0x2000 misc)) name)))
+
+-- PERF_RECORD_MMAP2: behind 24 bytes that say which file it is, prot, flags and the name. PROT_EXEC is 4
+unfoldable pub mapping2 : Bool → List ℕ → Result Mapping PerfError
+mapping2 big fields =
+    and_then (or_error RecordCut (read_from big fields mapped_range)) (λ range.
+    and_then (or_error RecordCut (read_from big (drop 56 fields) (unsigned w32))) (λ prot.
+    and_then (or_missing RecordCut (before_zero (drop 64 fields))) (λ name.
+    Ok (mapping_of range (has_any 0x4 prot) name))))
+
+-- ---- programs and processes
+
+-- PERF_RECORD_COMM. PERF_RECORD_MISC_COMM_EXEC is 1 << 13
+unfoldable pub program : Bool → ℕ → List ℕ → Result Program PerfError
+program big misc fields =
+    and_then (or_error RecordCut (read_from big fields thread)) (λ thread.
+    and_then (or_missing RecordCut (before_zero (drop 8 fields))) (λ name.
+    Ok (record { pid = thread.pid; tid = thread.tid; name = name; is_exec = has_any 0x2000 misc })))
+
+-- PERF_RECORD_FORK, up to the new thread
+unfoldable pub fork : Read Fork
+fork = do
+  pid ← unsigned w32
+  parent ← unsigned w32
+  tid ← unsigned w32
+  give (record { pid = pid; parent = parent; tid = tid })

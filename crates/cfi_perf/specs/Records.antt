@@ -1,0 +1,170 @@
+-- The records of a profile, one after the other.
+--     records_of layout big bytes      the records of these bytes in order, and the error that ended them
+--     records_left walk      those that an iterator of the code has left
+use Rattle.std.specs.Prelude.{◌≡◌, ℕ, ◌-◌, ◌*◌, zero, suc, Bool, not, ◌||◌, List, [], ◌∷◌, length, drop, take, Option, Some, None, Result, Ok, Err, count_ones, bit_and, option_map, nat_lt, nat_le, ◌==◌, if◌then◌else◌}
+use Rattle.std.specs.Int.{w16, w32, w64}
+use Rattle.cfi_read_core.specs.ByteOrder.{is_big}
+use Rattle.cfi_read_core.specs.ReadFunctions.{Read, ◌>>=◌, give}
+use Rattle.cfi_read_core.specs.ReaderCalls.{map_ok}
+use Rattle.cfi_read_core.specs.Numbers.{unsigned}
+use Rattle.cfi_perf.specs.declared.error.PerfError.{PerfError}
+use Rattle.cfi_perf.specs.declared.error.PerfError.TheVariants.{RecordSize, RecordCut, Compressed}
+use Rattle.cfi_perf.specs.declared.attribute.EventLayout.{EventLayout}
+use Rattle.cfi_perf.specs.declared.record.Record.{Record as RecordOfCode}
+use Rattle.cfi_perf.specs.declared.records.Records.{Records as RecordsOfCode}
+use Rattle.cfi_perf.specs.declared.records.RecordHeader.{RecordHeader}
+use Rattle.cfi_perf.specs.declared.records.Framed.{Framed as FramedOfCode}
+use Rattle.cfi_perf.specs.declared.records.First.{First as FirstOfCode}
+use Rattle.cfi_perf.specs.declared.records.WithoutId.{WithoutId as WithoutIdOfCode}
+use Rattle.cfi_perf.specs.Results.{and_then, or_error, or_missing, part, read_from}
+use Rattle.cfi_perf.specs.Layouts.{has, PERF_SAMPLE_TID, PERF_SAMPLE_TIME}
+use Rattle.cfi_perf.specs.Samples.{TimedSample, number_if, sample}
+use Rattle.cfi_perf.specs.Events.{Record, Event, MappingEvent, ProgramEvent, ForkEvent, SampleEvent, OtherEvent, record_view, mapping, mapping2, program, fork}
+
+-- ---- the bytes of a record
+
+unfoldable pub record_header : Read RecordHeader
+record_header = do
+  kind ← unsigned w32
+  misc ← unsigned w16
+  size ← unsigned w16
+  give (record { kind = kind; misc = misc; size = size })
+
+-- A record's header, its other bytes, and the bytes that follow.
+pub record Framed : Type 0 where
+  pub header : RecordHeader
+  pub body : List ℕ
+  pub others : List ℕ
+
+abbrev pub framed_view : FramedOfCode → Framed
+framed_view f = record { header = f.header; body = f.body.now; others = f.others.now }
+
+-- what follows a record: behind PERF_RECORD_AUXTRACE (71) stands a trace, of whose size it tells first
+abbrev pub after_record : Bool → RecordHeader → List ℕ → List ℕ → Result (List ℕ) PerfError
+after_record big header body behind =
+    if header.kind == 71
+    then and_then (or_error RecordCut (read_from big body (unsigned w64))) (λ size.
+    if nat_lt (length behind) size then Err RecordCut else Ok (drop size behind))
+    else Ok behind
+
+-- the first record of these bytes; its size counts its header, eight bytes
+unfoldable pub split_record : Bool → List ℕ → Result Framed PerfError
+split_record big bytes =
+    and_then (or_error RecordCut (read_from big bytes record_header)) (λ header.
+    if nat_lt header.size 8 then Err (RecordSize header.size)
+    else and_then (or_missing RecordCut (part bytes 8 (header.size - 8))) (λ body.
+    and_then (after_record big header body (drop header.size bytes)) (λ others.
+    Ok (record { header = header; body = body; others = others }))))
+
+-- ---- the fields of a sample that other records have at their end, in this order (struct sample_id)
+
+-- TID, TIME, ID, STREAM_ID, CPU, IDENTIFIER: eight bytes for each that samples have
+abbrev pub sample_id_size : EventLayout → ℕ
+sample_id_size layout = 8 * count_ones (bit_and layout.sample_type 0x102c6)
+
+unfoldable pub sample_id_time : EventLayout → Read ℕ
+sample_id_time layout = do
+  thread ← number_if (has PERF_SAMPLE_TID layout)
+  number_if (has PERF_SAMPLE_TIME layout)
+
+-- A record's fields before those, and its time.
+pub record WithoutId : Type 0 where
+  pub time : ℕ
+  pub fields : List ℕ
+
+abbrev pub without_id_view : WithoutIdOfCode → WithoutId
+without_id_view r = record { time = r.time; fields = r.fields.now }
+
+abbrev pub split_id : EventLayout → Bool → List ℕ → ℕ → Result WithoutId PerfError
+split_id layout big body length' =
+    and_then (or_error RecordCut (read_from big (drop length' body) (sample_id_time layout))) (λ time.
+    Ok (record { time = time; fields = take length' body }))
+
+-- the records of perf itself, from 64 on, have none
+unfoldable pub without_id : EventLayout → Bool → ℕ → List ℕ → Result WithoutId PerfError
+without_id layout big kind body =
+    if not layout.sample_id_all || nat_le 64 kind then Ok (record { time = 0; fields = body })
+    else if nat_lt (length body) (sample_id_size layout) then Err RecordCut
+    else split_id layout big body (length body - sample_id_size layout)
+
+-- ---- what a record says, by its type
+
+abbrev pub fork_event : Bool → List ℕ → Result Event PerfError
+fork_event big fields = map_ok ForkEvent (or_error RecordCut (read_from big fields fork))
+
+abbrev pub event_of : Bool → RecordHeader → List ℕ → Result Event PerfError
+event_of big header fields =
+    if header.kind == 1 then map_ok MappingEvent (mapping big header.misc fields)
+    else if header.kind == 3 then map_ok ProgramEvent (program big header.misc fields)
+    else if header.kind == 7 then fork_event big fields
+    else if header.kind == 10 then map_ok MappingEvent (mapping2 big fields)
+    else Ok OtherEvent
+
+abbrev pub sample_record : TimedSample → Record
+sample_record timed = record { time = timed.time; event = SampleEvent timed.sample }
+
+abbrev pub sample_in : EventLayout → Bool → List ℕ → Result Record PerfError
+sample_in layout big body = map_ok sample_record (or_error RecordCut (read_from big body (sample layout)))
+
+-- a sample (9), compressed records (81 and 83), or another record
+unfoldable pub record_of : EventLayout → Bool → RecordHeader → List ℕ → Result Record PerfError
+record_of layout big header body =
+    if header.kind == 9 then sample_in layout big body
+    else if (header.kind == 81) || (header.kind == 83) then Err Compressed
+    else and_then (without_id layout big header.kind body) (λ found.
+    and_then (event_of big header found.fields) (λ event.
+    Ok (record { time = found.time; event = event })))
+
+-- ---- all records
+
+-- The first record, and the bytes that follow.
+pub record First : Type 0 where
+  pub first : Record
+  pub others : List ℕ
+
+abbrev pub first_view : FirstOfCode → First
+first_view f = record { first = record_view f.first; others = f.others.now }
+
+unfoldable pub first_record : EventLayout → Bool → List ℕ → Result First PerfError
+first_record layout big bytes =
+    and_then (split_record big bytes) (λ found.
+    and_then (record_of layout big found.header found.body) (λ first.
+    Ok (record { first = first; others = found.others })))
+
+-- Records in order, and the error that ended them, if one did.
+pub record Records : Type 0 where
+  pub records : List Record
+  pub error : Option PerfError
+
+abbrev pub no_records : Option PerfError → Records
+no_records error = record { records = []; error = error }
+
+abbrev pub with_first : Record → Records → Records
+with_first r others = record { records = r ∷ others.records; error = others.error }
+
+-- the first record, and those of the bytes that follow
+abbrev pub records_with : Result First PerfError → (List ℕ → Records) → Records
+records_with (Err e) others = no_records (Some e)
+records_with (Ok found) others = with_first found.first (others found.others)
+
+-- at most n
+unfoldable pub records_up_to : ℕ → EventLayout → Bool → List ℕ → Records
+records_up_to zero layout big bytes = no_records None
+records_up_to (suc n) layout big bytes =
+    if length bytes == 0 then no_records None
+    else records_with (first_record layout big bytes) (records_up_to n layout big)
+
+-- all: each takes a byte at least
+abbrev pub records_of : EventLayout → Bool → List ℕ → Records
+records_of layout big bytes = records_up_to (length bytes) layout big bytes
+
+-- ---- the iterator of the code
+
+abbrev pub records_left : RecordsOfCode → Records
+records_left walk = records_of walk.layout (is_big walk.endian) walk.bytes.now
+
+-- What `next` returned: the first of the records that were left, or the error that ends them. After an error none are left.
+abbrev pub Meets : Result (Option Record) PerfError → Records → Records → Type 0
+Meets (Ok None) old new = (old ≡ no_records None) × (new ≡ no_records None)
+Meets (Ok (Some r)) old new = old ≡ with_first r new
+Meets (Err e) old new = (old ≡ no_records (Some e)) × (new ≡ no_records None)

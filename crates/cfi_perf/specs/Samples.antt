@@ -1,0 +1,207 @@
+-- Samples, field by field (perf_event_open(2), PERF_RECORD_SAMPLE).
+use Rattle.std.specs.Prelude.{ℕ, ◌+◌, ◌*◌, ◌^◌, ◌/◌, ◌%◌, Bool, List, [], drop, take, Option, Some, None, Result, Ok, Err, count_ones, bit_and, option_map, ◌==◌, if◌then◌else◌}
+use Rattle.std.specs.Int.{w32, w64}
+use Rattle.cfi_read_core.specs.declared.error.Error.{Error}
+use Rattle.cfi_read_core.specs.declared.endianity.RunTimeEndian.{RunTimeEndian}
+use Rattle.cfi_read_core.specs.ByteOrder.{is_big}
+use Rattle.cfi_read_core.specs.ReadFunctions.{Read, ◌>>=◌, give}
+use Rattle.cfi_read_core.specs.Numbers.{unsigned}
+use Rattle.cfi_perf.specs.declared.attribute.EventLayout.{EventLayout}
+use Rattle.cfi_perf.specs.declared.sample.Sample.{Sample as SampleOfCode}
+use Rattle.cfi_perf.specs.declared.sample.UserState.{UserState as UserStateOfCode}
+use Rattle.cfi_perf.specs.declared.sample.UserRegisters.{UserRegisters as UserRegistersOfCode}
+use Rattle.cfi_perf.specs.declared.sample_fields.Thread.{Thread}
+use Rattle.cfi_perf.specs.declared.sample_fields.SampleNumbers.{SampleNumbers}
+use Rattle.cfi_perf.specs.declared.sample_fields.TimedSample.{TimedSample as TimedSampleOfCode}
+use Rattle.cfi_perf.specs.Results.{items, read_from}
+use Rattle.cfi_perf.specs.Layouts.{has, has_any, PERF_SAMPLE_IP, PERF_SAMPLE_TID, PERF_SAMPLE_TIME, PERF_SAMPLE_ADDR, PERF_SAMPLE_READ, PERF_SAMPLE_CALLCHAIN, PERF_SAMPLE_ID, PERF_SAMPLE_CPU, PERF_SAMPLE_PERIOD, PERF_SAMPLE_STREAM_ID, PERF_SAMPLE_RAW, PERF_SAMPLE_BRANCH_STACK, PERF_SAMPLE_REGS_USER, PERF_SAMPLE_STACK_USER, PERF_SAMPLE_IDENTIFIER}
+
+-- ---- what a sample is
+
+-- The registers of user space: one number of eight bytes for each bit of the mask that is set, in their order.
+pub record UserRegisters : Type 0 where
+  pub abi : ℕ
+  pub mask : ℕ
+  pub values : List ℕ
+  pub big_endian : Bool
+
+pub record UserState : Type 0 where
+  pub registers : Option UserRegisters
+  pub stack : List ℕ
+
+pub record Sample : Type 0 where
+  pub pid : ℕ
+  pub tid : ℕ
+  pub ip : ℕ
+  pub user : UserState
+
+-- the value in a result
+abbrev pub ok_value : {A E : Type 0} → Result A E → Option A
+ok_value (Ok x) = Some x
+ok_value (Err e) = None
+
+-- The register of a number, where the mask has its bit: as many values stand before it as bits are set below.
+abbrev pub register_of : UserRegisters → ℕ → Option ℕ
+register_of registers number =
+    if (registers.mask / 2 ^ number) % 2 == 0 then None
+    else ok_value (read_from registers.big_endian (drop (8 * count_ones (registers.mask % 2 ^ number)) registers.values) (unsigned w64))
+
+-- what these are in the code
+abbrev pub registers_view : UserRegistersOfCode → UserRegisters
+registers_view registers = record { abi = registers.abi; mask = registers.mask; values = registers.values.now; big_endian = is_big registers.endian }
+
+abbrev pub user_view : UserStateOfCode → UserState
+user_view user = record { registers = option_map registers_view user.registers; stack = user.stack.now }
+
+abbrev pub sample_view : SampleOfCode → Sample
+sample_view sample = record { pid = sample.pid; tid = sample.tid; ip = sample.ip; user = user_view sample.user }
+
+-- ---- fields that a sample may have
+
+-- a number of eight bytes, or 0 where there is none
+abbrev pub number_if : Bool → Read ℕ
+number_if is_there = if is_there then unsigned w64 else give 0
+
+unfoldable pub thread : Read Thread
+thread = do
+  pid ← unsigned w32
+  tid ← unsigned w32
+  give (record { pid = pid; tid = tid })
+
+abbrev pub thread_if : Bool → Read Thread
+thread_if is_there = if is_there then thread else give (record { pid = 0; tid = 0 })
+
+-- ---- the fields up to the time
+
+unfoldable pub sample_numbers : EventLayout → Read SampleNumbers
+sample_numbers layout = do
+  identifier ← number_if (has PERF_SAMPLE_IDENTIFIER layout)
+  ip ← number_if (has PERF_SAMPLE_IP layout)
+  thread' ← thread_if (has PERF_SAMPLE_TID layout)
+  time ← number_if (has PERF_SAMPLE_TIME layout)
+  give (record { ip = ip; thread = thread'; time = time })
+
+-- ---- the fields from the time up to the registers, of which nothing is kept
+
+unfoldable pub passed_numbers : EventLayout → Read Unit
+passed_numbers layout = do
+  addr ← number_if (has PERF_SAMPLE_ADDR layout)
+  id ← number_if (has PERF_SAMPLE_ID layout)
+  stream_id ← number_if (has PERF_SAMPLE_STREAM_ID layout)
+  cpu ← number_if (has PERF_SAMPLE_CPU layout)
+  period ← number_if (has PERF_SAMPLE_PERIOD layout)
+  give tt
+
+-- one count, or several under PERF_FORMAT_GROUP (8): each value has an id (PERF_FORMAT_ID, 4) and a count of lost samples (PERF_FORMAT_LOST, 16) if these are chosen; the times (1 and 2) stand once
+unfoldable pub group_values : ℕ → Read Unit
+group_values format = do
+  count ← unsigned w64
+  times ← items (count_ones (bit_and format 0x3)) 8
+  values ← items count (8 * (1 + count_ones (bit_and format 0x14)))
+  give tt
+
+unfoldable pub single_value : ℕ → Read Unit
+single_value format = do
+  value ← items (1 + count_ones (bit_and format 0x17)) 8
+  give tt
+
+abbrev pub read_values : EventLayout → Read Unit
+read_values layout =
+    if has PERF_SAMPLE_READ layout
+    then (if has_any 0x8 layout.read_format then group_values layout.read_format else single_value layout.read_format)
+    else give tt
+
+-- a count, and as many numbers
+unfoldable pub call_chain : Read Unit
+call_chain = do
+  count ← unsigned w64
+  addresses ← items count 8
+  give tt
+
+-- a size, and as many bytes
+unfoldable pub raw_data : Read Unit
+raw_data = do
+  size ← unsigned w32
+  bytes ← items size 1
+  give tt
+
+-- PERF_SAMPLE_BRANCH_HW_INDEX is 1 << 17; PERF_SAMPLE_BRANCH_COUNTERS is 1 << 19: another eight bytes for each branch
+abbrev pub branch_size : ℕ → ℕ
+branch_size chosen = if has_any 0x80000 chosen then 32 else 24
+
+unfoldable pub branch_stack : ℕ → Read Unit
+branch_stack chosen = do
+  count ← unsigned w64
+  hw_idx ← number_if (has_any 0x20000 chosen)
+  branches ← items count (branch_size chosen)
+  give tt
+
+abbrev pub passed_if : Bool → Read Unit → Read Unit
+passed_if is_there read = if is_there then read else give tt
+
+unfoldable pub passed_lists : EventLayout → Read Unit
+passed_lists layout = do
+  values ← read_values layout
+  chain ← passed_if (has PERF_SAMPLE_CALLCHAIN layout) call_chain
+  raw ← passed_if (has PERF_SAMPLE_RAW layout) raw_data
+  branches ← passed_if (has PERF_SAMPLE_BRANCH_STACK layout) (branch_stack layout.branch_sample_type)
+  give tt
+
+-- ---- registers and stack
+
+-- an ABI, and the registers unless that is PERF_SAMPLE_REGS_ABI_NONE (0)
+abbrev pub registers_by : ℕ → ℕ → Read (Option UserRegisters)
+registers_by mask abi =
+    if abi == 0 then give None
+    else (items (count_ones mask) 8 >>= λ values source. give (Some (record { abi = abi; mask = mask; values = values; big_endian = source.big_endian })) source)
+
+unfoldable pub registers : ℕ → Read (Option UserRegisters)
+registers mask = do
+  abi ← unsigned w64
+  registers_by mask abi
+
+abbrev pub user_registers : EventLayout → Read (Option UserRegisters)
+user_registers layout = if has PERF_SAMPLE_REGS_USER layout then registers layout.sample_regs_user else give None
+
+-- the bytes that were to be copied, and how many of them were
+unfoldable pub copied_stack : ℕ → Read (List ℕ)
+copied_stack size = do
+  bytes ← items size 1
+  dyn_size ← unsigned w64
+  give (take dyn_size bytes)
+
+abbrev pub stack_of_size : ℕ → Read (List ℕ)
+stack_of_size size = if size == 0 then give [] else copied_stack size
+
+unfoldable pub stack : Read (List ℕ)
+stack = do
+  size ← unsigned w64
+  stack_of_size size
+
+abbrev pub user_stack : EventLayout → Read (List ℕ)
+user_stack layout = if has PERF_SAMPLE_STACK_USER layout then stack else give []
+
+unfoldable pub user_state : EventLayout → Read UserState
+user_state layout = do
+  registers ← user_registers layout
+  stack ← user_stack layout
+  give (record { registers = registers; stack = stack })
+
+-- ---- a sample
+
+-- A sample and its time.
+pub record TimedSample : Type 0 where
+  pub time : ℕ
+  pub sample : Sample
+
+-- what a sample of the code is
+abbrev pub timed_view : TimedSampleOfCode → TimedSample
+timed_view timed = record { time = timed.time; sample = sample_view timed.sample }
+
+unfoldable pub sample : EventLayout → Read TimedSample
+sample layout = do
+  numbers ← sample_numbers layout
+  ids ← passed_numbers layout
+  lists ← passed_lists layout
+  user ← user_state layout
+  give (record { time = numbers.time; sample = record { pid = numbers.thread.pid; tid = numbers.thread.tid; ip = numbers.ip; user = user } })

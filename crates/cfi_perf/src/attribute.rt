@@ -1,0 +1,212 @@
+//! What the events of a profile have their samples record (perf_event_open(2), `struct
+//! perf_event_attr`).
+ghost use Rattle.std.specs.Prelude.{◌≡◌, ◌≤◌};
+ghost use Rattle.cfi_read_core.specs.ByteOrder.{is_big};
+ghost use Rattle.cfi_read_core.specs.ReaderCalls.{ReadsBy, ReadsValue};
+ghost use Rattle.cfi_read_core.specs.Windows.{slice_position};
+ghost use Rattle.cfi_perf.specs.Results.{entries};
+ghost use Rattle.cfi_perf.specs.Layouts.{chosen, event, event_layout, has, has_any};
+ghost use Rattle.cfi_perf.specs.Layouts.{only_layout, same_layout, sample_format, sample_id_all};
+
+use crate::bytes::{Input, read_items};
+use crate::error::PerfError;
+use cfi_read_core::{Endianity, Reader, Result};
+
+pub(crate) const PERF_SAMPLE_IP: u64 = 1 << 0;
+
+pub(crate) const PERF_SAMPLE_TID: u64 = 1 << 1;
+
+pub(crate) const PERF_SAMPLE_TIME: u64 = 1 << 2;
+
+pub(crate) const PERF_SAMPLE_ADDR: u64 = 1 << 3;
+
+pub(crate) const PERF_SAMPLE_READ: u64 = 1 << 4;
+
+pub(crate) const PERF_SAMPLE_CALLCHAIN: u64 = 1 << 5;
+
+pub(crate) const PERF_SAMPLE_ID: u64 = 1 << 6;
+
+pub(crate) const PERF_SAMPLE_CPU: u64 = 1 << 7;
+
+pub(crate) const PERF_SAMPLE_PERIOD: u64 = 1 << 8;
+
+pub(crate) const PERF_SAMPLE_STREAM_ID: u64 = 1 << 9;
+
+pub(crate) const PERF_SAMPLE_RAW: u64 = 1 << 10;
+
+pub(crate) const PERF_SAMPLE_BRANCH_STACK: u64 = 1 << 11;
+
+pub(crate) const PERF_SAMPLE_REGS_USER: u64 = 1 << 12;
+
+pub(crate) const PERF_SAMPLE_STACK_USER: u64 = 1 << 13;
+
+pub(crate) const PERF_SAMPLE_IDENTIFIER: u64 = 1 << 16;
+
+/// `sample_id_all` in a little-endian number: its bit fields begin at the least significant bit.
+const SAMPLE_ID_ALL_LITTLE: u64 = 1 << 18;
+
+/// `sample_id_all` in a big-endian number: its bit fields begin at the most significant bit.
+const SAMPLE_ID_ALL_BIG: u64 = 1 << 45;
+
+/// The bytes of an event's attributes that are read.
+const LAYOUT_SIZE: u64 = 88;
+
+/// What the samples and the other records of an event have in them.
+#[derive(Clone, Copy, Debug, PartialEq, Eq)]
+pub struct EventLayout {
+    /// The fields of a sample (`PERF_SAMPLE_IP` and others).
+    pub sample_type: u64,
+    /// The parts of a count (`PERF_FORMAT_ID` and others).
+    pub read_format: u64,
+    /// Whether records other than samples end with their thread and time too.
+    pub sample_id_all: bool,
+    /// Which branches a sample has (`PERF_SAMPLE_BRANCH_HW_INDEX` and others).
+    pub branch_sample_type: u64,
+    /// Which registers a sample has, by the bits of their numbers.
+    pub sample_regs_user: u64,
+}
+
+/// The formats of samples and counts.
+#[derive(Clone, Copy, Debug, PartialEq, Eq)]
+pub(crate) struct SampleFormat {
+    pub(crate) sample_type: u64,
+    pub(crate) read_format: u64,
+}
+
+/// Which branches and registers were chosen.
+#[derive(Clone, Copy, Debug, PartialEq, Eq)]
+pub(crate) struct Chosen {
+    pub(crate) branch_sample_type: u64,
+    pub(crate) sample_regs_user: u64,
+}
+
+impl EventLayout {
+    /// Whether the samples have this (`PERF_SAMPLE_IP` and others).
+    #[inline(always)]
+    pub(crate) fn has(&self, bits: u64) -> bool
+        ensures { result ≡ has bits self.now }
+    {
+        has_any(bits, self.sample_type)
+    }
+
+    fn is_same(&self, other: &EventLayout) -> bool
+        ensures { result ≡ same_layout self.now other.now }
+    {
+        self.sample_type == other.sample_type
+            && self.read_format == other.read_format
+            && self.sample_id_all == other.sample_id_all
+            && self.branch_sample_type == other.branch_sample_type
+            && self.sample_regs_user == other.sample_regs_user
+    }
+}
+
+/// Whether one of these bits is set.
+#[inline(always)]
+pub(crate) fn has_any(bits: u64, number: u64) -> bool
+    ensures { result ≡ has_any bits number }
+{
+    number & bits != 0
+}
+
+/// The layout of `count` events of one size, if it is the same.
+///
+/// Fails with `NoEvents` or `MixedEvents`.
+pub(crate) fn only_layout(
+    count: u64,
+    size: u64,
+    events: Input<'_>,
+) -> std::result::Result<EventLayout, PerfError>
+    requires { 88 ≤ size }
+    ensures { result ≡ only_layout (entries count (event size)
+        (slice_position is_big events.entry).source (slice_position is_big events.entry).place) }
+{
+    let mut events = events;
+    if count == 0 {
+        return Err(PerfError::NoEvents);
+    }
+    let Ok(first) = read_event(size, &mut events) else {
+        return Err(PerfError::NoEvents);
+    };
+    for index in 1..count {
+        let Ok(layout) = read_event(size, &mut events) else {
+            return Ok(first);
+        };
+        if !first.is_same(&layout) {
+            return Err(PerfError::MixedEvents);
+        }
+    }
+    Ok(first)
+}
+
+/// Reads an event: its attributes, and where its ids are.
+#[tactic(auto, unfolding(crate::specs::Layouts::event))]
+fn read_event(size: u64, input: &mut Input<'_>) -> Result<EventLayout>
+    requires { 88 ≤ size }
+    ensures { ReadsValue (slice_position is_big) (event size) input.old result input.new }
+{
+    let layout = read_event_layout(input)?;
+    let _others = read_items(size - LAYOUT_SIZE, 1, input)?;
+    Ok(layout)
+}
+
+/// Reads the attributes of an event as far as `sample_regs_user`.
+#[tactic(auto, unfolding(crate::specs::Layouts::event_layout))]
+fn read_event_layout<R: Reader>(input: &mut R) -> Result<EventLayout>
+    ensures { ReadsValue R.position event_layout input.old result input.new }
+{
+    let format = read_sample_format(input)?;
+    let sample_id_all = read_sample_id_all(input)?;
+    let chosen = read_chosen(input)?;
+    Ok(EventLayout {
+        sample_type: format.sample_type,
+        read_format: format.read_format,
+        sample_id_all,
+        branch_sample_type: chosen.branch_sample_type,
+        sample_regs_user: chosen.sample_regs_user,
+    })
+}
+
+#[tactic(auto, unfolding(crate::specs::Layouts::sample_format))]
+fn read_sample_format<R: Reader>(input: &mut R) -> Result<SampleFormat>
+    ensures { ReadsValue R.position sample_format input.old result input.new }
+{
+    let _kind = input.read_u32()?;
+    let _size = input.read_u32()?;
+    let _config = input.read_u64()?;
+    let _sample_period = input.read_u64()?;
+    let sample_type = input.read_u64()?;
+    let read_format = input.read_u64()?;
+    Ok(SampleFormat {
+        sample_type,
+        read_format,
+    })
+}
+
+/// Reads the bit fields.
+#[tactic(auto, unfolding(crate::specs::Layouts::sample_id_all))]
+fn read_sample_id_all<R: Reader>(input: &mut R) -> Result<bool>
+    ensures { ReadsValue R.position sample_id_all input.old result input.new }
+{
+    let bits = input.read_u64()?;
+    if input.endian().is_big_endian() {
+        Ok(has_any(SAMPLE_ID_ALL_BIG, bits))
+    } else {
+        Ok(has_any(SAMPLE_ID_ALL_LITTLE, bits))
+    }
+}
+
+#[tactic(auto, unfolding(crate::specs::Layouts::chosen))]
+fn read_chosen<R: Reader>(input: &mut R) -> Result<Chosen>
+    ensures { ReadsValue R.position chosen input.old result input.new }
+{
+    let _wakeup_events = input.read_u32()?;
+    let _bp_type = input.read_u32()?;
+    let _config1 = input.read_u64()?;
+    let _config2 = input.read_u64()?;
+    let branch_sample_type = input.read_u64()?;
+    let sample_regs_user = input.read_u64()?;
+    Ok(Chosen {
+        branch_sample_type,
+        sample_regs_user,
+    })
+}

@@ -1,0 +1,341 @@
+//! The records of a profile, one after the other (perf_event_open(2), "MMAP layout").
+ghost use Rattle.std.specs.Prelude.{◌≡◌, ⊤, option_map};
+ghost use Rattle.cfi_read_core.specs.ByteOrder.{is_big};
+ghost use Rattle.cfi_read_core.specs.ReaderCalls.{ReadsValue, map_ok};
+ghost use Rattle.cfi_perf.specs.Events.{event_view, record_view};
+ghost use Rattle.cfi_perf.specs.Records.{Meets, after_record, event_of, first_record};
+ghost use Rattle.cfi_perf.specs.Records.{first_view, fork_event, split_record, framed_view};
+ghost use Rattle.cfi_perf.specs.Records.{record_header, record_of, records_left, records_of};
+ghost use Rattle.cfi_perf.specs.Records.{sample_id_size, sample_id_time, sample_in, split_id};
+ghost use Rattle.cfi_perf.specs.Records.{without_id, without_id_view};
+
+use crate::attribute::{EventLayout, PERF_SAMPLE_TID, PERF_SAMPLE_TIME};
+use crate::bytes::{bytes_from, first_bytes, part};
+use crate::error::PerfError;
+use crate::event::{mapping, mapping2, program, read_fork};
+use crate::record::{Event, Record};
+use crate::sample_fields::{read_number_if, read_sample};
+use cfi_read_core::{EndianSlice, Reader, RunTimeEndian};
+use std::alloc::AllocError;
+
+const PERF_RECORD_MMAP: u32 = 1;
+
+const PERF_RECORD_COMM: u32 = 3;
+
+const PERF_RECORD_FORK: u32 = 7;
+
+const PERF_RECORD_SAMPLE: u32 = 9;
+
+const PERF_RECORD_MMAP2: u32 = 10;
+
+/// The first type of the records that perf itself writes.
+const PERF_RECORD_USER_TYPE_START: u32 = 64;
+
+const PERF_RECORD_AUXTRACE: u32 = 71;
+
+const PERF_RECORD_COMPRESSED: u32 = 81;
+
+const PERF_RECORD_COMPRESSED2: u32 = 83;
+
+/// The size of a record's header.
+const HEADER_SIZE: u16 = 8;
+
+/// The fields of a sample that other records have at their end: `PERF_SAMPLE_TID`, `_TIME`, `_ID`,
+/// `_CPU`, `_STREAM_ID` and `_IDENTIFIER`.
+const SAMPLE_ID_FIELDS: u64 = 1 << 1 | 1 << 2 | 1 << 6 | 1 << 7 | 1 << 9 | 1 << 16;
+
+/// An iterator over the records of a profile, in the order of the file. After an error or the end
+/// it returns nothing more.
+#[derive(Copy, Debug)]
+pub struct Records<'input> {
+    bytes: &'input [u8],
+    endian: RunTimeEndian,
+    layout: EventLayout,
+}
+
+impl Clone for Records<'_> {
+    ghost is_clone = { λ x y. y ≡ x };
+
+    ghost is_infallible = { λ _. ⊤ };
+
+    #[inline(always)]
+    fn clone(&self) -> std::result::Result<Self, AllocError> {
+        Ok(*self)
+    }
+}
+
+impl<'input> Records<'input> {
+    /// The records of these bytes.
+    #[inline(always)]
+    pub(crate) fn new(bytes: &'input [u8], endian: RunTimeEndian, layout: EventLayout) -> Self
+        ensures { records_left result ≡ records_of layout (is_big endian) bytes.now }
+    {
+        Records {
+            bytes,
+            endian,
+            layout,
+        }
+    }
+
+    /// Returns the next record, or `None` at the end. A record of a type that isn't an `Event` is
+    /// `Event::Other`.
+    ///
+    /// Fails with `RecordSize` where a record is smaller than its header, with `RecordCut` where it
+    /// goes past the end of the records or its fields past its own, and with `Compressed`. After an
+    /// error it returns `None`. Does not allocate.
+    pub fn next(&mut self) -> Result<Option<Record<'input>>, PerfError>
+        ensures { Meets (map_ok (option_map record_view) result)
+            (records_left self.old) (records_left self.new) }
+    {
+        if self.bytes.is_empty() {
+            return Ok(None);
+        }
+        match first_record(&self.layout, self.endian, self.bytes) {
+            Ok(found) => {
+                self.bytes = found.others;
+                Ok(Some(found.first))
+            }
+            Err(error) => {
+                self.bytes = &[];
+                Err(error)
+            }
+        }
+    }
+}
+
+/// A record's header.
+#[derive(Clone, Copy, Debug, PartialEq, Eq)]
+pub(crate) struct RecordHeader {
+    /// What the record is (`type`).
+    pub(crate) kind: u32,
+    pub(crate) misc: u16,
+    /// The size of the record, in bytes.
+    pub(crate) size: u16,
+}
+
+/// A record's header, its other bytes, and the bytes that follow.
+#[derive(Clone, Copy, Debug)]
+pub(crate) struct Framed<'input> {
+    pub(crate) header: RecordHeader,
+    pub(crate) body: &'input [u8],
+    pub(crate) others: &'input [u8],
+}
+
+/// The first record, and the bytes that follow.
+#[derive(Clone, Copy, Debug)]
+pub(crate) struct First<'input> {
+    pub(crate) first: Record<'input>,
+    pub(crate) others: &'input [u8],
+}
+
+/// A record's fields without those of a sample at its end, and its time.
+#[derive(Clone, Copy, Debug)]
+pub(crate) struct WithoutId<'input> {
+    pub(crate) time: u64,
+    pub(crate) fields: &'input [u8],
+}
+
+/// Reads the first record of these bytes.
+#[tactic(auto, unfolding(crate::specs::Records::first_record))]
+fn first_record<'input>(
+    layout: &EventLayout,
+    endian: RunTimeEndian,
+    bytes: &'input [u8],
+) -> Result<First<'input>, PerfError>
+    ensures { map_ok first_view result ≡ first_record layout.now (is_big endian) bytes.now }
+{
+    let found = split_record(endian, bytes)?;
+    let first = record_of(layout, endian, &found.header, found.body)?;
+    Ok(First {
+        first,
+        others: found.others,
+    })
+}
+
+/// Splits the first record off.
+#[tactic(auto, unfolding(crate::specs::Records::split_record))]
+fn split_record(endian: RunTimeEndian, bytes: &[u8]) -> Result<Framed<'_>, PerfError>
+    ensures { map_ok framed_view result ≡ split_record (is_big endian) bytes.now }
+{
+    let mut input = EndianSlice::new(bytes, endian);
+    let Ok(header) = read_record_header(&mut input) else {
+        return Err(PerfError::RecordCut);
+    };
+    if header.size < HEADER_SIZE {
+        return Err(PerfError::RecordSize(header.size));
+    }
+    let Some(body) = part(bytes, 8, u64::from(header.size - HEADER_SIZE)) else {
+        return Err(PerfError::RecordCut);
+    };
+    let behind = bytes_from(bytes, u64::from(header.size));
+    let others = after_record(endian, &header, body, behind)?;
+    Ok(Framed {
+        header,
+        body,
+        others,
+    })
+}
+
+#[tactic(auto, unfolding(crate::specs::Records::record_header))]
+fn read_record_header<R: Reader>(input: &mut R) -> cfi_read_core::Result<RecordHeader>
+    ensures { ReadsValue R.position record_header input.old result input.new }
+{
+    let kind = input.read_u32()?;
+    let misc = input.read_u16()?;
+    let size = input.read_u16()?;
+    Ok(RecordHeader { kind, misc, size })
+}
+
+/// What follows a record: a trace of which it tells stands between it and the next.
+fn after_record<'input>(
+    endian: RunTimeEndian,
+    header: &RecordHeader,
+    body: &[u8],
+    behind: &'input [u8],
+) -> Result<&'input [u8], PerfError>
+    ensures { map_ok (λ others. others.now) result
+        ≡ after_record (is_big endian) header.now body.now behind.now }
+{
+    if header.kind != PERF_RECORD_AUXTRACE {
+        return Ok(behind);
+    }
+    let mut input = EndianSlice::new(body, endian);
+    let Ok(size) = input.read_u64() else {
+        return Err(PerfError::RecordCut);
+    };
+    if (behind.len() as u64) < size {
+        return Err(PerfError::RecordCut);
+    }
+    Ok(bytes_from(behind, size))
+}
+
+/// Reads what a record says, by its type.
+#[tactic(auto, unfolding(crate::specs::Records::record_of))]
+fn record_of<'input>(
+    layout: &EventLayout,
+    endian: RunTimeEndian,
+    header: &RecordHeader,
+    body: &'input [u8],
+) -> Result<Record<'input>, PerfError>
+    ensures { map_ok record_view result
+        ≡ record_of layout.now (is_big endian) header.now body.now }
+{
+    if header.kind == PERF_RECORD_SAMPLE {
+        return sample_record(layout, endian, body);
+    }
+    if header.kind == PERF_RECORD_COMPRESSED || header.kind == PERF_RECORD_COMPRESSED2 {
+        return Err(PerfError::Compressed);
+    }
+    let found = without_id(layout, endian, header.kind, body)?;
+    let event = event_of(endian, header, found.fields)?;
+    Ok(Record {
+        time: found.time,
+        event,
+    })
+}
+
+/// Reads a sample.
+fn sample_record<'input>(
+    layout: &EventLayout,
+    endian: RunTimeEndian,
+    body: &'input [u8],
+) -> Result<Record<'input>, PerfError>
+    ensures { map_ok record_view result ≡ sample_in layout.now (is_big endian) body.now }
+{
+    let mut input = EndianSlice::new(body, endian);
+    match read_sample(layout, &mut input) {
+        Ok(timed) => Ok(Record {
+            time: timed.time,
+            event: Event::Sample(timed.sample),
+        }),
+        Err(_) => Err(PerfError::RecordCut),
+    }
+}
+
+/// Reads a record that isn't a sample, by its type.
+fn event_of<'input>(
+    endian: RunTimeEndian,
+    header: &RecordHeader,
+    fields: &'input [u8],
+) -> Result<Event<'input>, PerfError>
+    ensures { map_ok event_view result ≡ event_of (is_big endian) header.now fields.now }
+{
+    match header.kind {
+        PERF_RECORD_MMAP => Ok(Event::Mapping(mapping(endian, header.misc, fields)?)),
+        PERF_RECORD_COMM => Ok(Event::Program(program(endian, header.misc, fields)?)),
+        PERF_RECORD_FORK => fork_event(endian, fields),
+        PERF_RECORD_MMAP2 => Ok(Event::Mapping(mapping2(endian, fields)?)),
+        _ => Ok(Event::Other),
+    }
+}
+
+fn fork_event(endian: RunTimeEndian, fields: &[u8]) -> Result<Event<'_>, PerfError>
+    ensures { map_ok event_view result ≡ fork_event (is_big endian) fields.now }
+{
+    let mut input = EndianSlice::new(fields, endian);
+    match read_fork(&mut input) {
+        Ok(fork) => Ok(Event::Fork(fork)),
+        Err(_) => Err(PerfError::RecordCut),
+    }
+}
+
+/// Splits the fields of a sample off the end of a record.
+#[tactic(auto, unfolding(crate::specs::Records::without_id))]
+fn without_id<'input>(
+    layout: &EventLayout,
+    endian: RunTimeEndian,
+    kind: u32,
+    body: &'input [u8],
+) -> Result<WithoutId<'input>, PerfError>
+    ensures { map_ok without_id_view result
+        ≡ without_id layout.now (is_big endian) kind body.now }
+{
+    if !layout.sample_id_all || kind >= PERF_RECORD_USER_TYPE_START {
+        return Ok(WithoutId {
+            time: 0,
+            fields: body,
+        });
+    }
+    let size = sample_id_size(layout);
+    let length = body.len() as u64;
+    if length < size {
+        return Err(PerfError::RecordCut);
+    }
+    split_id(layout, endian, body, length - size)
+}
+
+/// The size of the fields of a sample that other records have.
+fn sample_id_size(layout: &EventLayout) -> u64
+    ensures { result ≡ sample_id_size layout.now }
+{
+    8 * u64::from((layout.sample_type & SAMPLE_ID_FIELDS).count_ones())
+}
+
+/// The first `length` bytes of a record, and the time behind them.
+fn split_id<'input>(
+    layout: &EventLayout,
+    endian: RunTimeEndian,
+    body: &'input [u8],
+    length: u64,
+) -> Result<WithoutId<'input>, PerfError>
+    ensures { map_ok without_id_view result
+        ≡ split_id layout.now (is_big endian) body.now length }
+{
+    let mut input = EndianSlice::new(bytes_from(body, length), endian);
+    match read_sample_id_time(layout, &mut input) {
+        Ok(time) => Ok(WithoutId {
+            time,
+            fields: first_bytes(body, length),
+        }),
+        Err(_) => Err(PerfError::RecordCut),
+    }
+}
+
+/// Reads the time of the fields of a sample at a record's end.
+#[tactic(auto, unfolding(crate::specs::Records::sample_id_time))]
+fn read_sample_id_time<R: Reader>(layout: &EventLayout, input: &mut R) -> cfi_read_core::Result<u64>
+    ensures { ReadsValue R.position (sample_id_time layout.now) input.old result input.new }
+{
+    let _thread = read_number_if(layout.has(PERF_SAMPLE_TID), input)?;
+    read_number_if(layout.has(PERF_SAMPLE_TIME), input)
+}

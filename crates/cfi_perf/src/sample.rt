@@ -1,0 +1,115 @@
+//! Samples, and the state of user space that they have (perf_event_open(2), `PERF_RECORD_SAMPLE`).
+ghost use Rattle.std.specs.Prelude.{◌≡◌, ⊤};
+ghost use Rattle.cfi_read_core.specs.ByteOrder.{is_big};
+ghost use Rattle.cfi_perf.specs.Samples.{register_of, registers_view};
+
+use crate::bytes::bytes_from;
+use cfi_read_core::{EndianSlice, Reader, RunTimeEndian};
+use std::alloc::AllocError;
+
+/// A sample. A number that its event doesn't record is 0. Its time is that of the record.
+#[derive(Copy, Debug)]
+pub struct Sample<'input> {
+    /// The process (`PERF_SAMPLE_TID`).
+    pub pid: u32,
+    /// The thread (`PERF_SAMPLE_TID`).
+    pub tid: u32,
+    /// The address of the instruction, which may be the kernel's (`PERF_SAMPLE_IP`).
+    pub ip: u64,
+    /// The registers and the stack of user space.
+    pub user: UserState<'input>,
+}
+
+/// What a sample has of user space: its registers, and a copy of its stack.
+#[derive(Copy, Debug)]
+pub struct UserState<'input> {
+    /// The registers (`PERF_SAMPLE_REGS_USER`). `None` where the sample has none, as that of a
+    /// thread of the kernel.
+    pub registers: Option<UserRegisters<'input>>,
+    /// The bytes of the stack from the stack pointer on, as many as were copied
+    /// (`PERF_SAMPLE_STACK_USER`). Empty where the sample has none.
+    pub stack: &'input [u8],
+}
+
+/// The registers of user space in a sample.
+#[derive(Copy, Debug)]
+pub struct UserRegisters<'input> {
+    /// Whether the process has registers of 32 bits (`PERF_SAMPLE_REGS_ABI_32` is 1) or of 64
+    /// (`PERF_SAMPLE_REGS_ABI_64` is 2).
+    pub abi: u64,
+    mask: u64,
+    values: &'input [u8],
+    endian: RunTimeEndian,
+}
+
+impl<'input> UserRegisters<'input> {
+    #[inline(always)]
+    pub(crate) fn new(abi: u64, mask: u64, values: &'input [u8], endian: RunTimeEndian) -> Self
+        ensures { registers_view result
+            ≡ record { abi = abi; mask = mask; values = values.now; big_endian = is_big endian } }
+    {
+        UserRegisters {
+            abi,
+            mask,
+            values,
+            endian,
+        }
+    }
+
+    /// The register with this number of perf's (`asm/perf_regs.h` of the machine). Returns `None`
+    /// where the sample doesn't have it.
+    pub fn get(&self, number: u32) -> Option<u64>
+        ensures { result ≡ register_of (registers_view self.now) number }
+    {
+        let mask = self.mask;
+        if number >= 64 {
+            return None;
+        }
+        let bit = 1u64 << number;
+        if mask / bit % 2 == 0 {
+            return None;
+        }
+        let before = (mask % bit).count_ones();
+        let mut values = EndianSlice::new(
+            bytes_from(self.values, 8 * u64::from(before)),
+            self.endian,
+        );
+        match values.read_u64() {
+            Ok(value) => Some(value),
+            Err(_) => None,
+        }
+    }
+}
+
+impl Clone for Sample<'_> {
+    ghost is_clone = { λ x y. y ≡ x };
+
+    ghost is_infallible = { λ _. ⊤ };
+
+    #[inline(always)]
+    fn clone(&self) -> std::result::Result<Self, AllocError> {
+        Ok(*self)
+    }
+}
+
+impl Clone for UserState<'_> {
+    ghost is_clone = { λ x y. y ≡ x };
+
+    ghost is_infallible = { λ _. ⊤ };
+
+    #[inline(always)]
+    fn clone(&self) -> std::result::Result<Self, AllocError> {
+        Ok(*self)
+    }
+}
+
+impl Clone for UserRegisters<'_> {
+    ghost is_clone = { λ x y. y ≡ x };
+
+    ghost is_infallible = { λ _. ⊤ };
+
+    #[inline(always)]
+    fn clone(&self) -> std::result::Result<Self, AllocError> {
+        Ok(*self)
+    }
+}

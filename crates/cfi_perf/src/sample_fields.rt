@@ -1,0 +1,318 @@
+//! Samples, field by field (perf_event_open(2), `PERF_RECORD_SAMPLE`).
+ghost use Rattle.std.specs.Prelude.{◌≡◌, option_map};
+ghost use Rattle.cfi_read_core.specs.ByteOrder.{is_big};
+ghost use Rattle.cfi_read_core.specs.ReaderCalls.{ReadsBy, ReadsValue};
+ghost use Rattle.cfi_read_core.specs.Windows.{slice_position};
+ghost use Rattle.cfi_perf.specs.Samples.{branch_size, branch_stack, call_chain, copied_stack};
+ghost use Rattle.cfi_perf.specs.Samples.{group_values, number_if, passed_if, passed_lists};
+ghost use Rattle.cfi_perf.specs.Samples.{passed_numbers, raw_data, read_values, registers};
+ghost use Rattle.cfi_perf.specs.Samples.{registers_by, registers_view, sample, sample_numbers};
+ghost use Rattle.cfi_perf.specs.Samples.{single_value, stack, stack_of_size, thread, thread_if};
+ghost use Rattle.cfi_perf.specs.Samples.{timed_view, user_registers, user_stack, user_state};
+ghost use Rattle.cfi_perf.specs.Samples.{user_view};
+
+use crate::attribute::{
+    EventLayout, PERF_SAMPLE_ADDR, PERF_SAMPLE_BRANCH_STACK, PERF_SAMPLE_CALLCHAIN,
+    PERF_SAMPLE_CPU, PERF_SAMPLE_ID, PERF_SAMPLE_IDENTIFIER, PERF_SAMPLE_IP, PERF_SAMPLE_PERIOD,
+    PERF_SAMPLE_RAW, PERF_SAMPLE_READ, PERF_SAMPLE_REGS_USER, PERF_SAMPLE_STACK_USER,
+    PERF_SAMPLE_STREAM_ID, PERF_SAMPLE_TID, PERF_SAMPLE_TIME, has_any,
+};
+use crate::bytes::{Input, first_bytes, read_items};
+use crate::sample::{Sample, UserRegisters, UserState};
+use cfi_read_core::{Reader, Result};
+
+const PERF_FORMAT_GROUP: u64 = 1 << 3;
+
+/// `PERF_FORMAT_TOTAL_TIME_ENABLED` and `PERF_FORMAT_TOTAL_TIME_RUNNING`.
+const FORMAT_TIMES: u64 = 1 << 0 | 1 << 1;
+
+/// `PERF_FORMAT_ID` and `PERF_FORMAT_LOST`.
+const FORMAT_OF_EACH: u64 = 1 << 2 | 1 << 4;
+
+const PERF_SAMPLE_BRANCH_HW_INDEX: u64 = 1 << 17;
+
+const PERF_SAMPLE_BRANCH_COUNTERS: u64 = 1 << 19;
+
+/// A process and one of its threads.
+#[derive(Clone, Copy, Debug, PartialEq, Eq)]
+pub(crate) struct Thread {
+    pub(crate) pid: u32,
+    pub(crate) tid: u32,
+}
+
+/// The fields that a sample begins with.
+#[derive(Clone, Copy, Debug, PartialEq, Eq)]
+pub(crate) struct SampleNumbers {
+    pub(crate) ip: u64,
+    pub(crate) thread: Thread,
+    pub(crate) time: u64,
+}
+
+/// A sample and its time.
+#[derive(Clone, Copy, Debug)]
+pub(crate) struct TimedSample<'input> {
+    pub(crate) time: u64,
+    pub(crate) sample: Sample<'input>,
+}
+
+/// Reads a sample. Fails where its fields go past the end.
+#[tactic(auto, unfolding(crate::specs::Samples::sample))]
+pub(crate) fn read_sample<'input>(
+    layout: &EventLayout,
+    input: &mut Input<'input>,
+) -> Result<TimedSample<'input>>
+    ensures { ReadsBy (slice_position is_big) timed_view (sample layout.now)
+        input.old result input.new }
+{
+    let numbers = read_sample_numbers(layout, input)?;
+    pass_numbers(layout, input)?;
+    pass_lists(layout, input)?;
+    let user = read_user_state(layout, input)?;
+    Ok(TimedSample {
+        time: numbers.time,
+        sample: Sample {
+            pid: numbers.thread.pid,
+            tid: numbers.thread.tid,
+            ip: numbers.ip,
+            user,
+        },
+    })
+}
+
+/// Reads a number of eight bytes where there is one, or else gives 0.
+#[inline(always)]
+pub(crate) fn read_number_if<R: Reader>(is_there: bool, input: &mut R) -> Result<u64>
+    ensures { ReadsValue R.position (number_if is_there) input.old result input.new }
+{
+    if is_there { input.read_u64() } else { Ok(0) }
+}
+
+/// Reads a process and a thread.
+#[tactic(auto, unfolding(crate::specs::Samples::thread))]
+pub(crate) fn read_thread<R: Reader>(input: &mut R) -> Result<Thread>
+    ensures { ReadsValue R.position thread input.old result input.new }
+{
+    let pid = input.read_u32()?;
+    let tid = input.read_u32()?;
+    Ok(Thread { pid, tid })
+}
+
+#[inline(always)]
+fn read_thread_if<R: Reader>(is_there: bool, input: &mut R) -> Result<Thread>
+    ensures { ReadsValue R.position (thread_if is_there) input.old result input.new }
+{
+    if is_there {
+        read_thread(input)
+    } else {
+        Ok(Thread { pid: 0, tid: 0 })
+    }
+}
+
+/// Reads the fields up to the time.
+#[tactic(auto, unfolding(crate::specs::Samples::sample_numbers))]
+fn read_sample_numbers<R: Reader>(layout: &EventLayout, input: &mut R) -> Result<SampleNumbers>
+    ensures { ReadsValue R.position (sample_numbers layout.now) input.old result input.new }
+{
+    let _identifier = read_number_if(layout.has(PERF_SAMPLE_IDENTIFIER), input)?;
+    let ip = read_number_if(layout.has(PERF_SAMPLE_IP), input)?;
+    let thread = read_thread_if(layout.has(PERF_SAMPLE_TID), input)?;
+    let time = read_number_if(layout.has(PERF_SAMPLE_TIME), input)?;
+    Ok(SampleNumbers { ip, thread, time })
+}
+
+/// Passes the numbers behind the time.
+#[tactic(auto, unfolding(crate::specs::Samples::passed_numbers))]
+fn pass_numbers<R: Reader>(layout: &EventLayout, input: &mut R) -> Result<()>
+    ensures { ReadsValue R.position (passed_numbers layout.now) input.old result input.new }
+{
+    let _addr = read_number_if(layout.has(PERF_SAMPLE_ADDR), input)?;
+    let _id = read_number_if(layout.has(PERF_SAMPLE_ID), input)?;
+    let _stream_id = read_number_if(layout.has(PERF_SAMPLE_STREAM_ID), input)?;
+    let _cpu = read_number_if(layout.has(PERF_SAMPLE_CPU), input)?;
+    let _period = read_number_if(layout.has(PERF_SAMPLE_PERIOD), input)?;
+    Ok(())
+}
+
+/// Passes what a sample has of counts, calls, raw data and branches.
+#[tactic(auto, unfolding(crate::specs::Samples::passed_lists))]
+fn pass_lists(layout: &EventLayout, input: &mut Input<'_>) -> Result<()>
+    ensures { ReadsValue (slice_position is_big) (passed_lists layout.now)
+        input.old result input.new }
+{
+    pass_values(layout, input)?;
+    pass_call_chain(layout.has(PERF_SAMPLE_CALLCHAIN), input)?;
+    pass_raw_data(layout.has(PERF_SAMPLE_RAW), input)?;
+    let branches = layout.has(PERF_SAMPLE_BRANCH_STACK);
+    pass_branch_stack(branches, layout.branch_sample_type, input)
+}
+
+fn pass_values(layout: &EventLayout, input: &mut Input<'_>) -> Result<()>
+    ensures { ReadsValue (slice_position is_big) (read_values layout.now)
+        input.old result input.new }
+{
+    if !layout.has(PERF_SAMPLE_READ) {
+        Ok(())
+    } else if has_any(PERF_FORMAT_GROUP, layout.read_format) {
+        pass_group_values(layout.read_format, input)
+    } else {
+        pass_single_value(layout.read_format, input)
+    }
+}
+
+/// Passes the counts of a group of events.
+#[tactic(auto, unfolding(crate::specs::Samples::group_values))]
+fn pass_group_values(format: u64, input: &mut Input<'_>) -> Result<()>
+    ensures { ReadsValue (slice_position is_big) (group_values format)
+        input.old result input.new }
+{
+    let count = input.read_u64()?;
+    let times = (format & FORMAT_TIMES).count_ones();
+    let of_each = (format & FORMAT_OF_EACH).count_ones();
+    let _times = read_items(u64::from(times), 8, input)?;
+    let _values = read_items(count, 8 * (1 + u64::from(of_each)), input)?;
+    Ok(())
+}
+
+/// Passes the count of one event.
+#[tactic(auto, unfolding(crate::specs::Samples::single_value))]
+fn pass_single_value(format: u64, input: &mut Input<'_>) -> Result<()>
+    ensures { ReadsValue (slice_position is_big) (single_value format)
+        input.old result input.new }
+{
+    let others = (format & (FORMAT_TIMES | FORMAT_OF_EACH)).count_ones();
+    let _value = read_items(1 + u64::from(others), 8, input)?;
+    Ok(())
+}
+
+/// Passes the calls that the kernel recorded.
+#[tactic(auto, unfolding(crate::specs::Samples::call_chain))]
+fn pass_call_chain(is_there: bool, input: &mut Input<'_>) -> Result<()>
+    ensures { ReadsValue (slice_position is_big) (passed_if is_there call_chain)
+        input.old result input.new }
+{
+    if !is_there {
+        return Ok(());
+    }
+    let count = input.read_u64()?;
+    let _addresses = read_items(count, 8, input)?;
+    Ok(())
+}
+
+#[tactic(auto, unfolding(crate::specs::Samples::raw_data))]
+fn pass_raw_data(is_there: bool, input: &mut Input<'_>) -> Result<()>
+    ensures { ReadsValue (slice_position is_big) (passed_if is_there raw_data)
+        input.old result input.new }
+{
+    if !is_there {
+        return Ok(());
+    }
+    let size = input.read_u32()?;
+    let _bytes = read_items(u64::from(size), 1, input)?;
+    Ok(())
+}
+
+/// Passes the branches of a sample, of which the chosen parts are there.
+#[tactic(auto, unfolding(crate::specs::Samples::branch_stack))]
+fn pass_branch_stack(is_there: bool, chosen: u64, input: &mut Input<'_>) -> Result<()>
+    ensures { ReadsValue (slice_position is_big) (passed_if is_there (branch_stack chosen))
+        input.old result input.new }
+{
+    if !is_there {
+        return Ok(());
+    }
+    let count = input.read_u64()?;
+    let _hw_idx = read_number_if(has_any(PERF_SAMPLE_BRANCH_HW_INDEX, chosen), input)?;
+    let _branches = read_items(count, branch_size(chosen), input)?;
+    Ok(())
+}
+
+/// The size of a branch in bytes.
+fn branch_size(chosen: u64) -> u64
+    ensures { result ≡ branch_size chosen }
+{
+    if has_any(PERF_SAMPLE_BRANCH_COUNTERS, chosen) {
+        32
+    } else {
+        24
+    }
+}
+
+/// Reads the registers and the stack of user space.
+#[tactic(auto, unfolding(crate::specs::Samples::user_state))]
+fn read_user_state<'input>(
+    layout: &EventLayout,
+    input: &mut Input<'input>,
+) -> Result<UserState<'input>>
+    ensures { ReadsBy (slice_position is_big) user_view (user_state layout.now)
+        input.old result input.new }
+{
+    let registers = read_user_registers(layout, input)?;
+    let stack = read_user_stack(layout, input)?;
+    Ok(UserState { registers, stack })
+}
+
+fn read_user_registers<'input>(
+    layout: &EventLayout,
+    input: &mut Input<'input>,
+) -> Result<Option<UserRegisters<'input>>>
+    ensures { ReadsBy (slice_position is_big) (option_map registers_view)
+        (user_registers layout.now) input.old result input.new }
+{
+    if layout.has(PERF_SAMPLE_REGS_USER) {
+        read_registers(layout.sample_regs_user, input)
+    } else {
+        Ok(None)
+    }
+}
+
+/// Reads the registers whose bits are set in the mask.
+#[tactic(auto, unfolding(crate::specs::Samples::registers))]
+fn read_registers<'input>(
+    mask: u64,
+    input: &mut Input<'input>,
+) -> Result<Option<UserRegisters<'input>>>
+    ensures { ReadsBy (slice_position is_big) (option_map registers_view) (registers mask)
+        input.old result input.new }
+{
+    let abi = input.read_u64()?;
+    if abi == 0 {
+        return Ok(None);
+    }
+    let values = read_items(u64::from(mask.count_ones()), 8, input)?;
+    Ok(Some(UserRegisters::new(abi, mask, values, input.endian())))
+}
+
+fn read_user_stack<'input>(layout: &EventLayout, input: &mut Input<'input>) -> Result<&'input [u8]>
+    ensures { ReadsBy (slice_position is_big) (λ bytes. bytes.now) (user_stack layout.now)
+        input.old result input.new }
+{
+    if layout.has(PERF_SAMPLE_STACK_USER) {
+        read_stack(input)
+    } else {
+        Ok(&[])
+    }
+}
+
+/// Reads the bytes of a stack that were copied.
+#[tactic(auto, unfolding(crate::specs::Samples::stack))]
+fn read_stack<'input>(input: &mut Input<'input>) -> Result<&'input [u8]>
+    ensures { ReadsBy (slice_position is_big) (λ bytes. bytes.now) stack
+        input.old result input.new }
+{
+    let size = input.read_u64()?;
+    if size == 0 {
+        return Ok(&[]);
+    }
+    read_copied_stack(size, input)
+}
+
+/// Reads a room of this size, and how many bytes of it were copied.
+#[tactic(auto, unfolding(crate::specs::Samples::copied_stack))]
+fn read_copied_stack<'input>(size: u64, input: &mut Input<'input>) -> Result<&'input [u8]>
+    ensures { ReadsBy (slice_position is_big) (λ bytes. bytes.now) (copied_stack size)
+        input.old result input.new }
+{
+    let bytes = read_items(size, 1, input)?;
+    let dyn_size = input.read_u64()?;
+    Ok(first_bytes(bytes, dyn_size))
+}

@@ -1,0 +1,229 @@
+//! A small profile in both byte orders, of a program, a mapped file and a sample, and each error. The
+//! expected values are what `perf script -D` prints of the two.
+use cfi_perf::{Event, PerfError, Profile, Record, Sample};
+use cfi_tests_bytes::bytes_of;
+use std::alloc::Global;
+use std::process::Abort;
+use std::test::Fail;
+
+/// Of a little-endian machine.
+const LITTLE: &str = "\
+    50455246494c45326800000000000000700000000000000068000000000000007000000000000000d800000000000000\
+    000100000000000000000000000000000000000000000000480000000000000000000000000000000000000000000000\
+    000000000000000001000000600000000000000000000000102700000000000027310000000000000000000000000000\
+    000004000000000000000000000000000000000000000000000000000000000000000000000000008101000000000000\
+    100000000000000000000000000000000000000000000000030000000220280007000000070000006100000000000000\
+    07000000070000000a000000000000000a00000002006000070000000700000000004000000000000010000000000000\
+    002000000000000000000000000000000000000000000000000000000000000005000000020000002f62696e2f610000\
+    07000000070000000b000000000000000900000002007800230140000000000007000000080000006300000000000000\
+    01000000000000000100000000000000240140000000000002000000000000001100000000000000fe7f000000000000\
+    23014000000000001000000000000000a0a1a2a3a4a5a6a7a8a9aaabacadaeaf0800000000000000f801000000000000\
+    0c0000000000000004020000000000000c0000000000000008000000686f737400000000080000007838365f36340000";
+
+/// Of a big-endian machine.
+const BIG: &str = "\
+    32454c4946524550000000000000006800000000000000700000000000000068000000000000007000000000000000d8\
+    000000000000010000000000000000000000000000000000000000000000004800000000000000000000000000000000\
+    000000000000000000000001000000600000000000000000000000000000271000000000000031270000000000000000\
+    000020000000000000000000000000000000000000000000000000000000000000000000000000000000000000000181\
+    000000100000000000000000000000000000000000000000000000032002002800000007000000076100000000000000\
+    0000000700000007000000000000000a0000000a00020060000000070000000700000000004000000000000000001000\
+    000000000000200000000000000000000000000000000000000000000000000000000005000000022f62696e2f610000\
+    0000000700000007000000000000000b0000000900020078000000000040012300000007000000080000000000000063\
+    000000000000000100000000000000010000000000400124000000000000000200000000000000110000000000007ffe\
+    00000000004001230000000000000010a0a1a2a3a4a5a6a7a8a9aaabacadaeaf000000000000000800000000000001f8\
+    000000000000000c0000000000000204000000000000000c00000008686f737400000000000000087838365f36340000";
+
+/// Where the first record, the sample, and the places of the sections behind the records begin in
+/// the little-endian profile.
+const RECORDS: usize = 216;
+
+const SAMPLE: usize = 352;
+
+const BEHIND: usize = 472;
+
+/// A profile in which some bytes are changed, each at its offset.
+fn changed(alloc: Global, text: &str, changes: &[(usize, u8)]) -> Result<Vec<u8>, Fail> {
+    let mut bytes = bytes_of(alloc, text)?;
+    for (offset, byte) in changes {
+        if let Some(place) = bytes.get_mut(*offset) {
+            *place = *byte;
+        }
+    }
+    Ok(bytes)
+}
+
+/// The time, what kind of record it is, the process, an address, and how many bytes its name or its
+/// stack has.
+type Line = (u64, u8, u32, u64, usize);
+
+fn line(record: &Record<'_>) -> Line {
+    match record.event {
+        Event::Mapping(found) => (record.time, 10, found.pid, found.address, found.name.len()),
+        Event::Program(found) => (record.time, 3, found.pid, 0, found.name.len()),
+        Event::Fork(found) => (record.time, 7, found.pid, 0, 0),
+        Event::Sample(found) => (record.time, 9, found.pid, found.ip, found.user.stack.len()),
+        Event::Other => (record.time, 0, 0, 0, 0),
+    }
+}
+
+/// The three records, and that no other follows.
+const LINES: [Option<Line>; 4] = [
+    Some((10, 3, 7, 0, 1)),
+    Some((11, 10, 7, 0x40_0000, 6)),
+    Some((99, 9, 7, 0x40_0123, 8)),
+    None,
+];
+
+fn next_line(records: &mut cfi_perf::Records<'_>) -> Result<Option<Line>, PerfError> {
+    match records.next()? {
+        Some(record) => Ok(Some(line(&record))),
+        None => Ok(None),
+    }
+}
+
+fn lines(bytes: &[u8]) -> Result<[Option<Line>; 4], PerfError> {
+    let mut records = Profile::parse(bytes)?.records();
+    Ok([
+        next_line(&mut records)?,
+        next_line(&mut records)?,
+        next_line(&mut records)?,
+        next_line(&mut records)?,
+    ])
+}
+
+/// The registers AX, BX, SP and IP of a sample.
+fn registers(sample: &Sample<'_>) -> [Option<u64>; 4] {
+    match sample.user.registers {
+        Some(found) => [found.get(0), found.get(1), found.get(7), found.get(8)],
+        None => [None; 4],
+    }
+}
+
+/// The registers of the third record.
+fn sampled(bytes: &[u8]) -> Result<[Option<u64>; 4], PerfError> {
+    let mut records = Profile::parse(bytes)?.records();
+    records.next()?;
+    records.next()?;
+    match records.next()? {
+        Some(Record {
+            event: Event::Sample(sample),
+            ..
+        }) => Ok(registers(&sample)),
+        _ => Ok([None; 4]),
+    }
+}
+
+const REGISTERS: [Option<u64>; 4] = [Some(0x11), None, Some(0x7ffe), Some(0x40_0123)];
+
+fn check_whole(rt: &(impl Abort + AllocGlobal), text: &str) -> Result<(), Fail> {
+    let bytes = changed(rt.alloc(), text, &[])?;
+    let bytes = bytes.as_slice();
+    assert_eq!(rt; (lines(bytes), sampled(bytes)), (Ok(LINES), Ok(REGISTERS)));
+    let architecture = Profile::parse(bytes)?.architecture()?;
+    assert_eq!(rt; architecture, Some(b"x86_64".as_slice()));
+    Ok(())
+}
+
+#[test]
+fn a_profile_in_both_orders(rt: HostRuntime) -> Result<(), Fail> {
+    check_whole(&rt, LITTLE)?;
+    check_whole(&rt, BIG)
+}
+
+/// A case, the bytes that are changed, and the error.
+type Changed = (&'static str, &'static [(usize, u8)], PerfError);
+
+const ERRORS: [Changed; 14] = [
+    ("no profile", &[(7, 0x31)], PerfError::NotPerf),
+    ("the header of a pipe", &[(8, 16)], PerfError::PipeMode),
+    ("a header of 72 bytes", &[(8, 72)], PerfError::HeaderSize(72)),
+    (
+        "events of 111 bytes",
+        &[(16, 111)],
+        PerfError::AttributeSize(111),
+    ),
+    (
+        "events past the end",
+        &[(27, 1)],
+        PerfError::AttributesOutOfBounds,
+    ),
+    ("no bytes of events", &[(32, 0)], PerfError::NoEvents),
+    (
+        "a second event, which is the first record",
+        &[(32, 224)],
+        PerfError::MixedEvents,
+    ),
+    (
+        "records past the end",
+        &[(43, 1)],
+        PerfError::DataOutOfBounds,
+    ),
+    (
+        "the architecture past the end",
+        &[(BEHIND + 19, 1)],
+        PerfError::FeatureOutOfBounds,
+    ),
+    (
+        "a record of 7 bytes",
+        &[(RECORDS + 6, 7)],
+        PerfError::RecordSize(7),
+    ),
+    (
+        "a record past the end of all",
+        &[(RECORDS + 7, 4)],
+        PerfError::RecordCut,
+    ),
+    (
+        "a stack past the end of its sample",
+        &[(SAMPLE + 88, 17)],
+        PerfError::RecordCut,
+    ),
+    (
+        "a name without its zero",
+        &[(RECORDS + 6, 33)],
+        PerfError::RecordCut,
+    ),
+    (
+        "compressed records",
+        &[(RECORDS, 81)],
+        PerfError::Compressed,
+    ),
+];
+
+/// The first error of a profile, its architecture's before its records'.
+fn error_in(bytes: &[u8]) -> Result<[Option<Line>; 4], PerfError> {
+    Profile::parse(bytes)?.architecture()?;
+    lines(bytes)
+}
+
+#[test]
+fn each_error(rt: HostRuntime) -> Result<(), Fail> {
+    for (case, changes, error) in &ERRORS {
+        let bytes = changed(rt.alloc(), LITTLE, changes)?;
+        assert_eq!(rt; (case, error_in(bytes.as_slice())), (case, Err(*error)));
+    }
+    Ok(())
+}
+
+/// Nothing follows an error.
+#[test]
+fn nothing_after_an_error(rt: HostRuntime) -> Result<(), Fail> {
+    let bytes = changed(rt.alloc(), LITTLE, &[(RECORDS, 81)])?;
+    let mut records = Profile::parse(bytes.as_slice())?.records();
+    let first = next_line(&mut records);
+    assert_eq!(rt; (first, next_line(&mut records)), (Err(PerfError::Compressed), Ok(None)));
+    Ok(())
+}
+
+/// The header, cut at every length.
+#[test]
+fn cut_headers(rt: HostRuntime) -> Result<(), Fail> {
+    let bytes = changed(rt.alloc(), LITTLE, &[])?;
+    for count in 8..104usize {
+        if let Some(cut) = bytes.as_slice().get(..count) {
+            assert_eq!(rt; (count, lines(cut)), (count, Err(PerfError::HeaderCut)));
+        }
+    }
+    Ok(())
+}
