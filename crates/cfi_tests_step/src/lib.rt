@@ -1,11 +1,14 @@
-//! Tests of expressions, of the module of an address, of the unwinder and of profiles. The expected
-//! values are those of the standard, of `perf script`, or were worked out by hand.
+//! Tests of expressions, of the module of an address, of the unwinder, of profiles, and of what is
+//! mapped in processes. The expected values are those of the standard, of Linux or of `perf script`,
+//! or were worked out by hand.
 #![tactic(auto)]
 
 #[cfg(test)]
 mod expressions;
 #[cfg(test)]
 mod frames;
+#[cfg(test)]
+mod mappings;
 #[cfg(test)]
 mod modules;
 #[cfg(test)]

@@ -1,0 +1,5 @@
+pub mod MappedOver
+pub mod MappedOrder
+pub mod AfterChanges
+pub mod ByPid
+pub mod Worked
