@@ -11,6 +11,7 @@ use Rattle.cfi_parts.specs.InstructionReaders.{items}
 use Rattle.cfi_programs.specs.ReadingTexts.{item_text}
 use Rattle.cfi_programs.specs.DumpInstructionLines.{instruction_line, instructions_text}
 use Rattle.cfi_programs.specs.declared.register_names.RegisterNames.{RegisterNames}
+use Rattle.cfi_programs.specs.declared.style.Format.TheVariants.{Text as AsText}
 use Rattle.cfi_programs.specs.WriterOutput.{IsBeginning, Writes}
 use Rattle.cfi_programs.proofs.ReadingsWritten.{none_left, one_more}
 use Rattle.cfi_programs.proofs.WrittenLemmas.{IsGiven, given_all}
@@ -51,12 +52,12 @@ same_item (Err e) = refl
 
 module _ (names : RegisterNames) (before : Readings Instruction) (old now : Option (List ℕ)) (text : List ℕ) (given : IsGiven old now (instructions_text names before) text) where
   pub all_written : items before ≡ [] → Appends old now text
-  all_written is = given_all old now (instructions_text names before) text given (none_left (instruction_line names) before is)
+  all_written is = given_all old now (instructions_text names before) text given (none_left AsText (instruction_line names) before is)
 
   pub to_write : (after : Readings Instruction) (item : Result Instruction Error) → items before ≡ map_ok (map_instruction (λ (n : ℕ). n)) item ∷ items after
-      → IsGiven old now (item_text (instruction_line names) item ++ instructions_text names after) text
+      → IsGiven old now (item_text AsText (instruction_line names) item ++ instructions_text names after) text
   to_write after item is =
-      subst (λ xs. IsGiven old now xs text) (one_more (instruction_line names) before after item (is ∙ ap (λ x. x ∷ items after) (same_item item))) given
+      subst (λ xs. IsGiven old now xs text) (one_more AsText (instruction_line names) before after item (is ∙ ap (λ x. x ∷ items after) (same_item item))) given
 
 pub as_read : {T E : Type 0} (old new : Option (List ℕ)) (r : Result T E) (names : RegisterNames) (left all : Readings Instruction) → left ≡ all → Writes old new r (instructions_text names left) → Writes old new r (instructions_text names all)
 as_read old new r names left all is written = subst (λ x. Writes old new r (instructions_text names x)) is written

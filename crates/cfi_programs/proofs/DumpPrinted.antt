@@ -7,6 +7,8 @@ use Rattle.cfi_entry.specs.Sections.{Section}
 use Rattle.cfi_programs.specs.DumpInstructionLines.{instruction_line}
 use Rattle.cfi_programs.specs.DumpRowTexts.{addresses_line, fde_rows_text, is_asked_for}
 use Rattle.cfi_programs.specs.FunctionLines.{function_text}
+use Rattle.cfi_programs.specs.AnswerLines.{text_style}
+use Rattle.cfi_programs.specs.declared.style.Format.TheVariants.{Text as AsText}
 use Rattle.cfi_programs.specs.declared.register_names.RegisterNames.TheVariants.{Numbers, X86_64}
 use Rattle.cfi_programs.proofs.Computing.{computing}
 
@@ -19,15 +21,15 @@ module _ (fde : Fde) (section : Section) where
   abbrev nameless : ℕ → Option (List ℕ)
   nameless address = None
 
-  addresses : addresses_line nameless (of_addresses 0x1000 0x10) ≡ codes "fde 0x1000 0x1010" ++ 10 ∷ []
+  addresses : addresses_line AsText nameless (of_addresses 0x1000 0x10) ≡ codes "fde 0x1000 0x1010" ++ 10 ∷ []
   unfolding computing
   addresses = refl
 
-  named : addresses_line (λ address. Some (codes "main")) (of_addresses 0x1000 0x10) ≡ codes "fde 0x1000 0x1010 main" ++ 10 ∷ []
+  named : addresses_line AsText (λ address. Some (codes "main")) (of_addresses 0x1000 0x10) ≡ codes "fde 0x1000 0x1010 main" ++ 10 ∷ []
   unfolding computing
   named = refl
 
-  wrapped_end : addresses_line nameless (of_addresses 0xfffffff0 0x20) ≡ codes "fde 0xfffffff0 0x10" ++ 10 ∷ []
+  wrapped_end : addresses_line AsText nameless (of_addresses 0xfffffff0 0x20) ≡ codes "fde 0xfffffff0 0x10" ++ 10 ∷ []
   unfolding computing
   wrapped_end = refl
 
@@ -37,10 +39,10 @@ module _ (fde : Fde) (section : Section) where
   the_last : is_asked_for (Some 0x100f) (of_addresses 0x1000 0x10) ≡ true
   the_last = refl
 
-  the_one_after : fde_rows_text X86_64 nameless (Some 0x1010) section (Ok (of_addresses 0x1000 0x10)) ≡ []
+  the_one_after : fde_rows_text (text_style X86_64) nameless (Some 0x1010) section (Ok (of_addresses 0x1000 0x10)) ≡ []
   the_one_after = refl
 
-  unread : fde_rows_text X86_64 nameless (Some 0x1010) section (Err UnknownAugmentation) ≡ codes "refused UnknownAugmentation" ++ 10 ∷ []
+  unread : fde_rows_text (text_style X86_64) nameless (Some 0x1010) section (Err UnknownAugmentation) ≡ codes "refused UnknownAugmentation" ++ 10 ∷ []
   unread = refl
 
 -- ---- instructions

@@ -26,9 +26,9 @@ use Rattle.cfi_entry.specs.EntryInstructions.{cie_instructions, fde_instructions
 use Rattle.cfi_entry.specs.Fdes.{Fde}
 use Rattle.cfi_entry.specs.Sections.{Section}
 use Rattle.cfi_unwind.specs.UnwindTableCalls.{AnswersWithoutMachine, AcceptsCieProgram, LendsNextRow}
-use Rattle.cfi_programs.specs.Lines.{refusal_line}
-use Rattle.cfi_programs.specs.RowLines.{answer_line}
-use Rattle.cfi_programs.specs.declared.register_names.RegisterNames.{RegisterNames}
+use Rattle.cfi_programs.specs.Lines.{refusal_in}
+use Rattle.cfi_programs.specs.AnswerLines.{answer_line}
+use Rattle.cfi_programs.specs.declared.style.Style.{Style}
 use Rattle.cfi_programs.specs.WriterOutput.{IsBeginning, Writes}
 use Rattle.cfi_programs.proofs.WrittenLemmas.{IsGiven, given_then, given_all, beginning_then}
 use Rattle.cfi_programs.specs.DumpSectionTexts.{setting_of_fde, fde_rows, lines}
@@ -41,20 +41,20 @@ Lent = Result (Option (Bor (Row ℕ))) Error
 abbrev numbered : Lent → Result (Option (Row ℕ)) Error
 numbered r = map_ok (option_map (λ row. map_row as_it_is row.now)) r
 
-first_line : (names : RegisterNames) (before after : List (Result (Row ℕ) Error)) (r : Lent) (answer : Result (Bor (Row ℕ)) Error) → result_transpose r ≡ Some answer → IsNext before (numbered r) after
-    → lines names before ≡ (answer_line names (map_ok (λ row. row.now) answer)).text ++ lines names after
-first_line names before after (Ok None) answer is next = cc
-first_line names before after (Ok (Some row)) answer is next =
+first_line : (style : Style) (before after : List (Result (Row ℕ) Error)) (r : Lent) (answer : Result (Bor (Row ℕ)) Error) → result_transpose r ≡ Some answer → IsNext before (numbered r) after
+    → lines style before ≡ (answer_line style (map_ok (λ row. row.now) answer)).text ++ lines style after
+first_line style before after (Ok None) answer is next = cc
+first_line style before after (Ok (Some row)) answer is next =
     let same : ◌≡◌ {A = Result (Bor (Row ℕ)) Error} (Ok row) answer = cc in
-    ap (lines names) next ∙ ap (λ x. (answer_line names (Ok x)).text ++ lines names after) (same_row row.now) ∙ ap (λ a. (answer_line names (map_ok (λ x. x.now) a)).text ++ lines names after) same
-first_line names before after (Err e) answer is next =
+    ap (lines style) next ∙ ap (λ x. (answer_line style (Ok x)).text ++ lines style after) (same_row row.now) ∙ ap (λ a. (answer_line style (map_ok (λ x. x.now) a)).text ++ lines style after) same
+first_line style before after (Err e) answer is next =
     let same : ◌≡◌ {A = Result (Bor (Row ℕ)) Error} (Err e) answer = cc in
-    ap (lines names) next ∙ ap (λ a. (answer_line names (map_ok (λ x. x.now) a)).text ++ lines names after) same
+    ap (lines style) next ∙ ap (λ a. (answer_line style (map_ok (λ x. x.now) a)).text ++ lines style after) same
 
-no_line : (names : RegisterNames) (before after : List (Result (Row ℕ) Error)) (r : Lent) → result_transpose r ≡ None → IsNext before (numbered r) after → lines names before ≡ []
-no_line names before after (Ok None) is next = ap (lines names) next.0
-no_line names before after (Ok (Some row)) is next = cc
-no_line names before after (Err e) is next = cc
+no_line : (style : Style) (before after : List (Result (Row ℕ) Error)) (r : Lent) → result_transpose r ≡ None → IsNext before (numbered r) after → lines style before ≡ []
+no_line style before after (Ok None) is next = ap (lines style) next.0
+no_line style before after (Ok (Some row)) is next = cc
+no_line style before after (Err e) is next = cc
 
 -- how many answers are left at most
 abbrev pub answers_left : TableState (State ℕ) ℕ → ℕ
@@ -77,10 +77,10 @@ some_answer (Err e) answer is none = cc
 -- ---- what is written
 
 -- A table stands after a program, and the lines of the answers that are to come are what is left of the text.
-pub record StandsAt (names : RegisterNames) (s : Setting) (p : TableState (State ℕ) ℕ) (old now : Option (List ℕ)) (text : List ℕ) : Type 0 where
+pub record StandsAt (style : Style) (s : Setting) (p : TableState (State ℕ) ℕ) (old now : Option (List ℕ)) (text : List ℕ) : Type 0 where
   pub program : Program ℕ
   pub after : IsStateAfter s p.so_far program
-  pub given : IsGiven old now (lines names (answers_to_come s (at_program p program))) text
+  pub given : IsGiven old now (lines style (answers_to_come s (at_program p program))) text
 
 module _ (t : Setting) (p q : TableState (State ℕ) ℕ) (r : Lent) (context : ContextState ℕ) (holds : Bool) (lent : LendsNextRow as_it_is t true p r q context holds) where
   pub fewer_after : (answer : Result (Bor (Row ℕ)) Error) → result_transpose r ≡ Some answer → answers_left q < answers_left p
@@ -95,7 +95,7 @@ module _ (s : Setting) (rules : IsSome s.rule_limit) (stack : IsSome s.stack_lim
     abbrev kept : AnswersWithoutMachine s true p (numbered r) q
     kept = subst (λ x. AnswersWithoutMachine x true p (numbered r) q) same lent.kept
 
-    module _ (names : RegisterNames) (old now : Option (List ℕ)) (text : List ℕ) (stands : StandsAt names s p old now text) where
+    module _ (style : Style) (old now : Option (List ℕ)) (text : List ℕ) (stands : StandsAt style s p old now text) where
       abbrev next_program : Program ℕ
       next_program = (kept.from stands.program stands.after).0
 
@@ -106,24 +106,24 @@ module _ (s : Setting) (rules : IsSome s.rule_limit) (stack : IsSome s.stack_lim
       comes = kept_next_is (may_allocate s true) s never (at_program p stands.program) (numbered r) (at_program q next_program) (kept.from stands.program stands.after).1
 
       pub all_written : result_transpose r ≡ None → Appends old now text
-      all_written is = given_all old now _ text stands.given (no_line names _ left r is comes)
+      all_written is = given_all old now _ text stands.given (no_line style _ left r is comes)
 
       module _ (answer : Result (Bor (Row ℕ)) Error) (is : result_transpose r ≡ Some answer) where
         abbrev part : List ℕ
-        part = (answer_line names (map_ok (λ row. row.now) answer)).text
+        part = (answer_line style (map_ok (λ row. row.now) answer)).text
 
-        to_write : IsGiven old now (part ++ lines names left) text
-        to_write = subst (λ xs. IsGiven old now xs text) (first_line names _ left r answer is comes) stands.given
+        to_write : IsGiven old now (part ++ lines style left) text
+        to_write = subst (λ xs. IsGiven old now xs text) (first_line style _ left r answer is comes) stands.given
 
-        pub line_written : (newer : Option (List ℕ)) → Appends now newer part → StandsAt names s q old newer text
+        pub line_written : (newer : Option (List ℕ)) → Appends now newer part → StandsAt style s q old newer text
         line_written newer more = record {
           program = next_program;
           after = (kept.from stands.program stands.after).2;
-          given = given_then old now newer part (lines names left) text to_write more;
+          given = given_then old now newer part (lines style left) text to_write more;
         }
 
         pub line_begun : (newer : Option (List ℕ)) → ((front : List ℕ) × Appends now newer front × IsBeginning front part) → (front : List ℕ) × Appends old newer front × IsBeginning front text
-        line_begun newer begun = beginning_then old now newer part (lines names left) text to_write begun
+        line_begun newer begun = beginning_then old now newer part (lines style left) text to_write begun
 
 -- ---- the rows of an FDE
 
@@ -135,19 +135,19 @@ module _ (fde : Fde) (section : Section) where
   never_of_fde = never (setting_of_fde fde) refl refl
 
   -- what is written of a table that stands after the CIE's program
-  pub rows_written : {T E : Type 0} (names : RegisterNames) (t : Setting) (p : TableState (State ℕ) ℕ) (old new : Option (List ℕ)) (r : Result T E) → t ≡ setting_of_fde fde
+  pub rows_written : {T E : Type 0} (style : Style) (t : Setting) (p : TableState (State ℕ) ℕ) (old new : Option (List ℕ)) (r : Result T E) → t ≡ setting_of_fde fde
       → AcceptsCieProgram (setting_of_fde fde) true cie (Ok p.so_far) → p.left ≡ fde_instructions section fde → p.has_ended ≡ false
-      → ((program : Program ℕ) → IsStateAfter t p.so_far program → Writes old new r (lines names (answers_to_come t (at_program p program)))) → Writes old new r (lines names (fde_rows section fde))
-  rows_written names t p old new r same (all, keeps, stands) is runs written =
+      → ((program : Program ℕ) → IsStateAfter t p.so_far program → Writes old new r (lines style (answers_to_come t (at_program p program)))) → Writes old new r (lines style (fde_rows section fde))
+  rows_written style t p old new r same (all, keeps, stands) is runs written =
       let accepted = accepted_value (cie_refusal (setting_of_fde fde) cie) cie.values all (kept_cie_is (may_allocate (setting_of_fde fde) true) (setting_of_fde fde) never_of_fde cie (Ok all) keeps) in
       let rows : fde_rows section fde ≡ answers_to_come (setting_of_fde fde) (at_program p (in_fde all [])) =
       ap (on_option (answers (setting_of_fde fde) (in_fde cie.values []) (fde_instructions section fde)) (λ e. Err e ∷ [])) accepted.0
       ∙ (λ k. cond (sym runs k) [] (answers (setting_of_fde fde) (in_fde (sym accepted.1 k) []) (sym is k))) in
-      let each = subst (λ s. (program : Program ℕ) → IsStateAfter s p.so_far program → Writes old new r (lines names (answers_to_come s (at_program p program)))) same written in
-      subst (λ xs. Writes old new r (lines names xs)) (sym rows) (each (in_fde all []) stands)
+      let each = subst (λ s. (program : Program ℕ) → IsStateAfter s p.so_far program → Writes old new r (lines style (answers_to_come s (at_program p program)))) same written in
+      subst (λ xs. Writes old new r (lines style xs)) (sym rows) (each (in_fde all []) stands)
 
-  pub refused_rows : (names : RegisterNames) (e : Error) → AcceptsCieProgram (setting_of_fde fde) true cie (Err e) → (refusal_line e).text ≡ lines names (fde_rows section fde)
-  refused_rows names e keeps =
+  pub refused_rows : (style : Style) (e : Error) → AcceptsCieProgram (setting_of_fde fde) true cie (Err e) → (refusal_in style.format e).text ≡ lines style (fde_rows section fde)
+  refused_rows style e keeps =
       let refused = refused_error (cie_refusal (setting_of_fde fde) cie) cie.values e (kept_cie_is (may_allocate (setting_of_fde fde) true) (setting_of_fde fde) never_of_fde cie (Err e) keeps) in
-      sym (append-nil (refusal_line e).text)
-      ∙ ap (λ o. lines names (on_option (answers (setting_of_fde fde) (in_fde cie.values []) (fde_instructions section fde)) (λ d. Err d ∷ []) o)) (sym refused)
+      sym (append-nil (refusal_in style.format e).text)
+      ∙ ap (λ o. lines style (on_option (answers (setting_of_fde fde) (in_fde cie.values []) (fde_instructions section fde)) (λ d. Err d ∷ []) o)) (sym refused)

@@ -20,6 +20,8 @@ use Rattle.cfi_programs.specs.ReadingTexts.{item_text, readings_text}
 use Rattle.cfi_programs.proofs.ReadingsWritten.{none_left, one_more}
 use Rattle.cfi_programs.specs.DumpRowTexts.{fde_rows_text}
 use Rattle.cfi_programs.specs.declared.register_names.RegisterNames.{RegisterNames}
+use Rattle.cfi_programs.specs.declared.style.Format.{Format}
+use Rattle.cfi_programs.specs.declared.style.Style.{Style}
 
 -- ---- a text of two parts
 
@@ -35,9 +37,9 @@ pub as_read : {T E : Type 0} (old new : Option (List ℕ)) (r : Result T E) (nam
     → Writes old new r (fde_text names section found reading) → Writes old new r (fde_text names section found (read_fde section found))
 as_read old new r names section found reading is written = subst (λ x. Writes old new r (fde_text names section found x)) is written
 
-pub rows_as_read : {T E : Type 0} (old new : Option (List ℕ)) (r : Result T E) (names : RegisterNames) (function : ℕ → Option (List ℕ)) (address : Option ℕ) (section : Section) (found : PartialFde) (reading : Result Fde Error) → reading ≡ read_fde section found
-    → Writes old new r (fde_rows_text names function address section reading) → Writes old new r (fde_rows_text names function address section (read_fde section found))
-rows_as_read old new r names function address section found reading is written = subst (λ x. Writes old new r (fde_rows_text names function address section x)) is written
+pub rows_as_read : {T E : Type 0} (old new : Option (List ℕ)) (r : Result T E) (style : Style) (function : ℕ → Option (List ℕ)) (address : Option ℕ) (section : Section) (found : PartialFde) (reading : Result Fde Error) → reading ≡ read_fde section found
+    → Writes old new r (fde_rows_text style function address section reading) → Writes old new r (fde_rows_text style function address section (read_fde section found))
+rows_as_read old new r style function address section found reading is written = subst (λ x. Writes old new r (fde_rows_text style function address section x)) is written
 
 -- ---- a section's entries, by the text of one
 
@@ -55,17 +57,17 @@ of_fdes P Q (Ok (code.Fde partial)) h = h
 of_fdes P Q (Err e) h = tt
 
 -- an iterator over the section, at s and then at t
-module _ {S : Type 0} (view : S → SectionView) (section : S) (bases : BaseAddresses) (by : Entry → List ℕ) (old now : Option (List ℕ)) (text : List ℕ) where
+module _ {S : Type 0} (view : S → SectionView) (section : S) (bases : BaseAddresses) (format : Format) (by : Entry → List ℕ) (old now : Option (List ℕ)) (text : List ℕ) where
   abbrev from : Section
   from = section_of (view section) bases
 
   pub all_written : (s : S) (at : BaseAddresses) (place : ℕ) → s ≡ section → at ≡ bases → items (entries_left (section_of (view s) at) place) ≡ []
-      → IsGiven old now (readings_text by (entries_left from place)) text → Appends old now text
-  all_written s at place same based is given = given_all old now (readings_text by (entries_left from place)) text given (none_left by (entries_left from place) (rw (same, based) at is))
+      → IsGiven old now (readings_text format by (entries_left from place)) text → Appends old now text
+  all_written s at place same based is given = given_all old now (readings_text format by (entries_left from place)) text given (none_left format by (entries_left from place) (rw (same, based) at is))
 
   pub to_write : (s t : S) (s_bases t_bases : BaseAddresses) (place next : ℕ) (item : Result Entry Error) → s ≡ section → s_bases ≡ bases → t ≡ s → t_bases ≡ s_bases
       → items (entries_left (section_of (view s) s_bases) place) ≡ item ∷ items (entries_left (section_of (view t) t_bases) next)
-      → IsGiven old now (readings_text by (entries_left from place)) text → IsGiven old now (item_text by item ++ readings_text by (entries_left from next)) text
+      → IsGiven old now (readings_text format by (entries_left from place)) text → IsGiven old now (item_text format by item ++ readings_text format by (entries_left from next)) text
   to_write s t s_bases t_bases place next item same based kept kept_bases is given =
       let here : items (entries_left from place) ≡ item ∷ items (entries_left from next) = rw (kept, kept_bases, same, based) at is in
-      subst (λ xs. IsGiven old now xs text) (one_more by (entries_left from place) (entries_left from next) item here) given
+      subst (λ xs. IsGiven old now xs text) (one_more format by (entries_left from place) (entries_left from next) item here) given

@@ -24,3 +24,7 @@ pub mod DumpSectionWritten
 pub mod DumpCompiledWritten
 mod DumpPrinted
 mod FunctionLineLemmas
+mod EscapedLemmas
+mod PushedLemmas
+mod JsonRowLemmas
+mod JsonPrinted

@@ -11,37 +11,36 @@ use Rattle.std.specs.Ordering.{nat_cmp, eq_by_cmp}
 use Rattle.cfi_read_core.specs.declared.common.Register.{Register}
 use Rattle.cfi_state.specs.RulePairs.{numbered_pair, rules_of, IsRising}
 use Rattle.cfi_state.specs.declared.table.rules.RegisterRule.{RegisterRule}
-use Rattle.cfi_programs.specs.RowLines.{ruled, rules_text}
-use Rattle.cfi_programs.specs.declared.register_names.RegisterNames.{RegisterNames}
+use Rattle.cfi_programs.specs.RowLines.{ruled_by, rules_by}
 
-rules_more : (names : RegisterNames) (n r : ℕ) (rule_of : ℕ → Option (RegisterRule ℕ)) → r < n →
-    rules_text names (n - r) r rule_of ≡ ruled names r (rule_of r) ++ rules_text names (n - (r + 1)) (r + 1) rule_of
-unfolding rules_text
-rules_more names n r rule_of h =
+rules_more : (text_of : ℕ → RegisterRule ℕ → List ℕ) (n r : ℕ) (rule_of : ℕ → Option (RegisterRule ℕ)) → r < n →
+    rules_by text_of (n - r) r rule_of ≡ ruled_by text_of r (rule_of r) ++ rules_by text_of (n - (r + 1)) (r + 1) rule_of
+unfolding rules_by
+rules_more text_of n r rule_of h =
     let e : n - r ≡ suc (n - (r + 1)) = omega arith in
     rw e refl
 
-pub rules_none : (names : RegisterNames) (n r : ℕ) (rule_of : ℕ → Option (RegisterRule ℕ)) → ((k : ℕ) → r ≤ k → rule_of k ≡ None) → rules_text names n r rule_of ≡ []
-unfolding rules_text
-rules_none names zero r rule_of none = refl
-rules_none names (suc n) r rule_of none =
-    ap (λ rule. ruled names r rule ++ rules_text names n (r + 1) rule_of) (none r (omega arith)) ∙ rules_none names n (r + 1) rule_of (λ k h. none k (omega arith))
+pub rules_none : (text_of : ℕ → RegisterRule ℕ → List ℕ) (n r : ℕ) (rule_of : ℕ → Option (RegisterRule ℕ)) → ((k : ℕ) → r ≤ k → rule_of k ≡ None) → rules_by text_of n r rule_of ≡ []
+unfolding rules_by
+rules_none text_of zero r rule_of none = refl
+rules_none text_of (suc n) r rule_of none =
+    ap (λ rule. ruled_by text_of r rule ++ rules_by text_of n (r + 1) rule_of) (none r (omega arith)) ∙ rules_none text_of n (r + 1) rule_of (λ k h. none k (omega arith))
 
-pub rules_with : (names : RegisterNames) (n r : ℕ) (rule_of : ℕ → Option (RegisterRule ℕ)) (rule : RegisterRule ℕ) → r < n → Some rule ≡ rule_of r →
-    rules_text names (n - r) r rule_of ≡ ruled names r (Some rule) ++ rules_text names (n - (r + 1)) (r + 1) rule_of
-rules_with names n r rule_of rule h e = rules_more names n r rule_of h ∙ ap (λ x. ruled names r x ++ rules_text names (n - (r + 1)) (r + 1) rule_of) (sym e)
+pub rules_with : (text_of : ℕ → RegisterRule ℕ → List ℕ) (n r : ℕ) (rule_of : ℕ → Option (RegisterRule ℕ)) (rule : RegisterRule ℕ) → r < n → Some rule ≡ rule_of r →
+    rules_by text_of (n - r) r rule_of ≡ ruled_by text_of r (Some rule) ++ rules_by text_of (n - (r + 1)) (r + 1) rule_of
+rules_with text_of n r rule_of rule h e = rules_more text_of n r rule_of h ∙ ap (λ x. ruled_by text_of r x ++ rules_by text_of (n - (r + 1)) (r + 1) rule_of) (sym e)
 
-pub rules_without : (names : RegisterNames) (n r : ℕ) (rule_of : ℕ → Option (RegisterRule ℕ)) → r < n → None ≡ rule_of r →
-    rules_text names (n - r) r rule_of ≡ rules_text names (n - (r + 1)) (r + 1) rule_of
-rules_without names n r rule_of h e = rules_more names n r rule_of h ∙ ap (λ xs. xs ++ rules_text names (n - (r + 1)) (r + 1) rule_of) (ap (ruled names r) (sym e))
+pub rules_without : (text_of : ℕ → RegisterRule ℕ → List ℕ) (n r : ℕ) (rule_of : ℕ → Option (RegisterRule ℕ)) → r < n → None ≡ rule_of r →
+    rules_by text_of (n - r) r rule_of ≡ rules_by text_of (n - (r + 1)) (r + 1) rule_of
+rules_without text_of n r rule_of h e = rules_more text_of n r rule_of h ∙ ap (λ xs. xs ++ rules_by text_of (n - (r + 1)) (r + 1) rule_of) (ap (ruled_by text_of r) (sym e))
 
 -- ---- where the registers rise, the first rule comes first
 
-rules_same : (names : RegisterNames) (n k : ℕ) (a b : ℕ → Option (RegisterRule ℕ)) → ((j : ℕ) → k ≤ j → a j ≡ b j) → rules_text names n k a ≡ rules_text names n k b
-unfolding rules_text
-rules_same names zero k a b same = refl
-rules_same names (suc n) k a b same =
-    ap (λ x. ruled names k x ++ rules_text names n (k + 1) a) (same k (omega arith)) ∙ ap (λ xs. ruled names k (b k) ++ xs) (rules_same names n (k + 1) a b (λ j h. same j (omega arith)))
+rules_same : (text_of : ℕ → RegisterRule ℕ → List ℕ) (n k : ℕ) (a b : ℕ → Option (RegisterRule ℕ)) → ((j : ℕ) → k ≤ j → a j ≡ b j) → rules_by text_of n k a ≡ rules_by text_of n k b
+unfolding rules_by
+rules_same text_of zero k a b same = refl
+rules_same text_of (suc n) k a b same =
+    ap (λ x. ruled_by text_of k x ++ rules_by text_of n (k + 1) a) (same k (omega arith)) ∙ ap (λ xs. ruled_by text_of k (b k) ++ xs) (rules_same text_of n (k + 1) a b (λ j h. same j (omega arith)))
 
 -- `more` has a rule for `first` and none below it, and `less` has above it the same and none up to it
 record Leads (first : ℕ) (rule : RegisterRule ℕ) (more less : ℕ → Option (RegisterRule ℕ)) : Type 0 where
@@ -50,26 +49,26 @@ record Leads (first : ℕ) (rule : RegisterRule ℕ) (more less : ℕ → Option
   pub above : (j : ℕ) → first < j → more j ≡ less j
   pub none : (j : ℕ) → j ≤ first → less j ≡ None
 
-rules_here : (names : RegisterNames) (n first : ℕ) (rule : RegisterRule ℕ) (more less : ℕ → Option (RegisterRule ℕ)) → Leads first rule more less →
-    rules_text names (suc n) first more ≡ ruled names first (Some rule) ++ rules_text names (suc n) first less
-unfolding rules_text
-rules_here names n first rule more less leads =
-    ap (λ x. ruled names first x ++ rules_text names n (first + 1) more) leads.here
-    ∙ ap (λ xs. ruled names first (Some rule) ++ xs) (rules_same names n (first + 1) more less (λ j h. leads.above j (omega arith)))
-    ∙ ap (λ x. ruled names first (Some rule) ++ (ruled names first x ++ rules_text names n (first + 1) less)) (sym (leads.none first (omega arith)))
+rules_here : (text_of : ℕ → RegisterRule ℕ → List ℕ) (n first : ℕ) (rule : RegisterRule ℕ) (more less : ℕ → Option (RegisterRule ℕ)) → Leads first rule more less →
+    rules_by text_of (suc n) first more ≡ ruled_by text_of first (Some rule) ++ rules_by text_of (suc n) first less
+unfolding rules_by
+rules_here text_of n first rule more less leads =
+    ap (λ x. ruled_by text_of first x ++ rules_by text_of n (first + 1) more) leads.here
+    ∙ ap (λ xs. ruled_by text_of first (Some rule) ++ xs) (rules_same text_of n (first + 1) more less (λ j h. leads.above j (omega arith)))
+    ∙ ap (λ x. ruled_by text_of first (Some rule) ++ (ruled_by text_of first x ++ rules_by text_of n (first + 1) less)) (sym (leads.none first (omega arith)))
 
-rules_led : (names : RegisterNames) (n k first : ℕ) (rule : RegisterRule ℕ) (more less : ℕ → Option (RegisterRule ℕ)) → k ≤ first → first < k + n → Leads first rule more less →
-    rules_text names n k more ≡ ruled names first (Some rule) ++ rules_text names n k less
-unfolding rules_text
-rules_led names zero k first rule more less low high leads = absurd (omega arith)
-rules_led names (suc n) k first rule more less low high leads =
+rules_led : (text_of : ℕ → RegisterRule ℕ → List ℕ) (n k first : ℕ) (rule : RegisterRule ℕ) (more less : ℕ → Option (RegisterRule ℕ)) → k ≤ first → first < k + n → Leads first rule more less →
+    rules_by text_of n k more ≡ ruled_by text_of first (Some rule) ++ rules_by text_of n k less
+unfolding rules_by
+rules_led text_of zero k first rule more less low high leads = absurd (omega arith)
+rules_led text_of (suc n) k first rule more less low high leads =
     elim (cases_lt k first) [
-      | inl before ↦ ap (λ x. ruled names k x ++ rules_text names n (k + 1) more) (leads.below k before)
-          ∙ rules_led names n (k + 1) first rule more less (omega arith) (omega arith) leads
-          ∙ ap (λ x. ruled names first (Some rule) ++ (ruled names k x ++ rules_text names n (k + 1) less)) (sym (leads.none k low))
+      | inl before ↦ ap (λ x. ruled_by text_of k x ++ rules_by text_of n (k + 1) more) (leads.below k before)
+          ∙ rules_led text_of n (k + 1) first rule more less (omega arith) (omega arith) leads
+          ∙ ap (λ x. ruled_by text_of first (Some rule) ++ (ruled_by text_of k x ++ rules_by text_of n (k + 1) less)) (sym (leads.none k low))
       | inr at ↦ let here : first ≡ k = omega arith in
-          let P : ℕ → Type 0 = λ r. rules_text names (suc n) r more ≡ ruled names first (Some rule) ++ rules_text names (suc n) r less in
-          subst P here (rules_here names n first rule more less leads)
+          let P : ℕ → Type 0 = λ r. rules_by text_of (suc n) r more ≡ ruled_by text_of first (Some rule) ++ rules_by text_of (suc n) r less in
+          subst P here (rules_here text_of n first rule more less leads)
     ]
 
 -- a register other than that of the first pair has a rule where it has one among the others
@@ -111,10 +110,10 @@ get_up_to pair (next ∷ pairs) register rising h =
     let above = second_above pair next pairs rising in
     get_below pairs next register (rising_rest pair (next ∷ pairs) rising) (omega (arith, above))
 
-pub rules_rise : (names : RegisterNames) (pair : Register × RegisterRule ℕ) (pairs : List (Register × RegisterRule ℕ)) → IsRising (pair ∷ pairs) → pair.0.0 < 65536 →
-    rules_text names 65536 0 (get (rules_of (pair ∷ pairs))) ≡ ruled names pair.0.0 (Some pair.1) ++ rules_text names 65536 0 (get (rules_of pairs))
-rules_rise names pair pairs rising within =
-    rules_led names 65536 0 pair.0.0 pair.1 (get (rules_of (pair ∷ pairs))) (get (rules_of pairs)) (omega arith) (omega arith) record {
+pub rules_rise : (text_of : ℕ → RegisterRule ℕ → List ℕ) (pair : Register × RegisterRule ℕ) (pairs : List (Register × RegisterRule ℕ)) → IsRising (pair ∷ pairs) → pair.0.0 < 65536 →
+    rules_by text_of 65536 0 (get (rules_of (pair ∷ pairs))) ≡ ruled_by text_of pair.0.0 (Some pair.1) ++ rules_by text_of 65536 0 (get (rules_of pairs))
+rules_rise text_of pair pairs rising within =
+    rules_led text_of 65536 0 pair.0.0 pair.1 (get (rules_of (pair ∷ pairs))) (get (rules_of pairs)) (omega arith) (omega arith) record {
       here = get_first pair pairs;
       below = λ j h. get_below pairs pair j rising h;
       above = λ j h. get_apart pair pairs j (λ e. omega (arith, e));

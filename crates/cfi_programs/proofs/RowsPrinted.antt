@@ -11,7 +11,7 @@ use Rattle.std.specs.FinMap as map
 use Rattle.cfi_state.specs.declared.table.rules.CfaRule.{CfaRule}
 use Rattle.cfi_state.specs.Row.{Row}
 use Rattle.cfi_programs.specs.RowsCommandLine.{request_of}
-use Rattle.cfi_programs.specs.RowLines.{row_head, rules_text}
+use Rattle.cfi_programs.specs.RowLines.{row_head, ruled, rules_by}
 use Rattle.cfi_programs.specs.declared.register_names.RegisterNames.TheVariants.{Numbers, X86_64}
 use Rattle.cfi_programs.proofs.Computing.{computing}
 
@@ -79,7 +79,7 @@ row_of start end cfa args_size = record { start_address = start; end_address = e
 abbrev second_rule : ℕ → Option (RegisterRule ℕ)
 second_rule r = if r == 6 then Some (rules.Offset (negsuc 15)) else if r == 16 then Some (rules.Offset (negsuc 7)) else None
 
-printed : row_head Numbers (row_of 0x1001 0x1004 (cfas.RegisterAndOffset (record { 0 = 7 }) (pos 16)) 0) ++ rules_text Numbers 65536 0 second_rule ≡
+printed : row_head Numbers (row_of 0x1001 0x1004 (cfas.RegisterAndOffset (record { 0 = 7 }) (pos 16)) 0) ++ rules_by (ruled Numbers) 65536 0 second_rule ≡
     codes "0x1001 0x1004 cfa=r7+16 args=0 r6=offset(-16) r16=offset(-8)"
 unfolding computing request_of
 printed = refl
@@ -91,12 +91,12 @@ expression_rule r =
     else if r == 31 then Some rules.SameValue
     else None
 
-printed_expression : row_head Numbers (row_of 0 0 (cfas.Expression (record { offset = 48; length = 1 })) 7) ++ rules_text Numbers 32 0 expression_rule ≡
+printed_expression : row_head Numbers (row_of 0 0 (cfas.Expression (record { offset = 48; length = 1 })) 7) ++ rules_by (ruled Numbers) 32 0 expression_rule ≡
     codes "0x0 0x0 cfa=expr@48:1 args=7 r0=val_expr@3:6 r2=r3 r31=same"
 unfolding computing request_of
 printed_expression = refl
 
-printed_by_name : row_head X86_64 (row_of 0x1001 0x1004 (cfas.RegisterAndOffset (record { 0 = 7 }) (pos 16)) 0) ++ rules_text X86_64 65536 0 second_rule ≡
+printed_by_name : row_head X86_64 (row_of 0x1001 0x1004 (cfas.RegisterAndOffset (record { 0 = 7 }) (pos 16)) 0) ++ rules_by (ruled X86_64) 65536 0 second_rule ≡
     codes "0x1001 0x1004 cfa=rsp+16 args=0 rbp=offset(-16) ra=offset(-8)"
 unfolding computing request_of
 printed_by_name = refl

@@ -94,15 +94,15 @@ writes_refused old new (Err e) text h more = more
 pub regrouped : {T E : Type 0} (old new : Option (List ℕ)) (r : Result T E) (a b c : List ℕ) → Writes old new r (a ++ (b ++ c)) → Writes old new r ((a ++ b) ++ c)
 regrouped old new r a b c h = rw append_assoc h
 
--- a text of five parts with its line feed, and one of six
-pub regrouped_five : {T E : Type 0} (old new : Option (List ℕ)) (r : Result T E) (a b c d e n : List ℕ) → Writes old new r (a ++ (b ++ (c ++ (d ++ (e ++ n))))) → Writes old new r (((((a ++ b) ++ c) ++ d) ++ e) ++ n)
-regrouped_five old new r a b c d e n h =
-    rw (append_assoc (((a ++ b) ++ c) ++ d) e n, append_assoc ((a ++ b) ++ c) d (e ++ n), append_assoc (a ++ b) c (d ++ (e ++ n)), append_assoc a b (c ++ (d ++ (e ++ n)))) h
+-- a text of five parts, and one of six
+pub regrouped_five : {T E : Type 0} (old new : Option (List ℕ)) (r : Result T E) (a b c d e : List ℕ) → Writes old new r (a ++ (b ++ (c ++ (d ++ e)))) → Writes old new r ((((a ++ b) ++ c) ++ d) ++ e)
+regrouped_five old new r a b c d e h =
+    rw (append_assoc ((a ++ b) ++ c) d e, append_assoc (a ++ b) c (d ++ e), append_assoc a b (c ++ (d ++ e))) h
 
-pub regrouped_six : {T E : Type 0} (old new : Option (List ℕ)) (r : Result T E) (a b c d e f n : List ℕ) → Writes old new r (a ++ (b ++ (c ++ (d ++ (e ++ (f ++ n)))))) → Writes old new r ((((((a ++ b) ++ c) ++ d) ++ e) ++ f) ++ n)
-regrouped_six old new r a b c d e f n h =
-    rw (append_assoc ((((a ++ b) ++ c) ++ d) ++ e) f n)
-    (regrouped_five old new r a b c d e (f ++ n) h)
+pub regrouped_six : {T E : Type 0} (old new : Option (List ℕ)) (r : Result T E) (a b c d e f : List ℕ) → Writes old new r (a ++ (b ++ (c ++ (d ++ (e ++ f))))) → Writes old new r (((((a ++ b) ++ c) ++ d) ++ e) ++ f)
+regrouped_six old new r a b c d e f h =
+    rw (append_assoc (((a ++ b) ++ c) ++ d) e f)
+    (regrouped_five old new r a b c d (e ++ f) h)
 
 -- ---- a text that waits
 

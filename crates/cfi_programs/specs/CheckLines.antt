@@ -6,6 +6,9 @@ use Rattle.cfi_read_core.specs.RefusalNames.{name_of}
 use Rattle.gimli_cfi.specs.declared.hdr.unfaithful.Unfaithful.{Unfaithful}
 use Rattle.gimli_cfi.specs.declared.hdr.unfaithful.Unfaithful.TheVariants as reasons
 use Rattle.cfi_programs.specs.Lines.{Line, address_text, line}
+use Rattle.cfi_programs.specs.JsonLines.{json_number}
+use Rattle.cfi_programs.specs.declared.style.Format.{Format}
+use Rattle.cfi_programs.specs.declared.style.Format.TheVariants.{Text, Json}
 use Rattle.cfi_programs.specs.declared.check.table_check.Verdict.{Verdict}
 use Rattle.cfi_programs.specs.declared.check.table_check.Verdict.TheVariants as verdicts
 
@@ -33,8 +36,43 @@ reason_text (reasons.NoRow offset address) = fde_text offset ++ codes ": no row 
 reason_text (reasons.Overlap offset end next) = fde_text offset ++ codes ": ends at " ++ address_text end ++ codes ", the next row starts at " ++ address_text next
 reason_text (reasons.Count rows fdes) = codes "table: " ++ decimal rows ++ codes " rows for " ++ decimal fdes ++ codes " FDEs"
 
-abbrev pub verdict_line : Verdict → Line
-verdict_line (verdicts.Faithful rows) = line (codes "faithful " ++ decimal rows) 0
-verdict_line (verdicts.Unfaithful reason) = line (reason_text reason) 1
-verdict_line verdicts.NoTable = line (codes "header: has no table") 1
-verdict_line (verdicts.Refused error) = line (refused_text (codes "header") error) 1
+abbrev pub verdict_text : Verdict → List ℕ
+verdict_text (verdicts.Faithful rows) = codes "faithful " ++ decimal rows
+verdict_text (verdicts.Unfaithful reason) = reason_text reason
+verdict_text verdicts.NoTable = codes "header: has no table"
+verdict_text (verdicts.Refused error) = refused_text (codes "header") error
+
+abbrev pub verdict_status : Verdict → ℕ
+verdict_status (verdicts.Faithful rows) = 0
+verdict_status (verdicts.Unfaithful reason) = 1
+verdict_status verdicts.NoTable = 1
+verdict_status (verdicts.Refused error) = 1
+
+-- ---- in JSON: the members behind the name of the file, and the end of the object
+
+-- what was found, and why
+abbrev pub reasoned : List ℕ → List ℕ → List ℕ
+reasoned found reason = codes "\"result\":\"" ++ (found ++ codes "\",\"reason\":\"") ++ (reason ++ codes "\"}")
+
+abbrev pub faithful_object : ℕ → List ℕ
+faithful_object rows = codes "\"result\":\"faithful\",\"rows\":" ++ json_number rows ++ codes "}"
+
+abbrev pub verdict_object : Verdict → List ℕ
+verdict_object (verdicts.Faithful rows) = faithful_object rows
+verdict_object (verdicts.Unfaithful reason) = reasoned (codes "unfaithful") (reason_text reason)
+verdict_object verdicts.NoTable = reasoned (codes "no table") (codes "header: has no table")
+verdict_object (verdicts.Refused error) = reasoned (codes "unfaithful") (refused_text (codes "header") error)
+
+-- ---- the line
+
+abbrev pub verdict_in : Format → Verdict → List ℕ
+verdict_in Text verdict = verdict_text verdict
+verdict_in Json verdict = verdict_object verdict
+
+abbrev pub verdict_line : Format → Verdict → Line
+verdict_line format verdict = line (verdict_in format verdict) (verdict_status verdict)
+
+-- what is said of a file that has no verdict: only JSON says what was found
+abbrev pub finding_text : Format → List ℕ → List ℕ → List ℕ
+finding_text Text found reason = reason
+finding_text Json found reason = reasoned found reason

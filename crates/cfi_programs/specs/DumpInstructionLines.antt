@@ -14,6 +14,7 @@ use Rattle.cfi_programs.specs.ReadingTexts.{readings_text}
 use Rattle.cfi_programs.specs.RowLines.{expression_text}
 use Rattle.cfi_programs.specs.RegisterNames.{register_text}
 use Rattle.cfi_programs.specs.declared.register_names.RegisterNames.{RegisterNames}
+use Rattle.cfi_programs.specs.declared.style.Format.TheVariants.{Text as AsText}
 
 -- A register among the operands.
 pub record RegisterOperand : Type 0 where
@@ -87,4 +88,4 @@ instruction_line names instruction =
     codes "  " ++ words.name ++ registers_text names words.registers ++ words.value ++ 10 ∷ []
 
 abbrev pub instructions_text : RegisterNames → Readings Instruction → List ℕ
-instructions_text names readings = readings_text (instruction_line names) readings
+instructions_text names readings = readings_text AsText (instruction_line names) readings

@@ -3,14 +3,22 @@ use Rattle.std.specs.Prelude.{◌≡◌, ◌⊎◌, ℕ, Some, List}
 use Rattle.cfi_entry.specs.Sections.{Section}
 use Rattle.cfi_compiled.specs.CompiledTables.{TableContents, IsCompiled, steps_of}
 use Rattle.cfi_elf.specs.FunctionNames.{name_in}
-use Rattle.cfi_programs.specs.Lines.{Line}
-use Rattle.cfi_programs.specs.Runs.{out_of_memory}
+use Rattle.cfi_read_core.specs.declared.error.Error.TheVariants.{OutOfMemory}
+use Rattle.cfi_programs.specs.Lines.{Line, refusal_in}
+use Rattle.cfi_programs.specs.declared.style.Format.{Format}
+use Rattle.cfi_programs.specs.declared.style.Format.TheVariants.{Text as AsText}
 use Rattle.cfi_programs.specs.declared.register_names.RegisterNames.{RegisterNames}
 use Rattle.cfi_programs.specs.declared.dump.printed.Printed.{Printed}
 use Rattle.cfi_programs.specs.declared.dump.printed.Printed.TheVariants as printing
 use Rattle.cfi_programs.specs.DumpCompiledTexts.{steps_text}
-use Rattle.cfi_programs.specs.DumpRowTexts.{rows_text}
+use Rattle.cfi_programs.specs.DumpRowTexts.{rows_text, style_of}
 use Rattle.cfi_programs.specs.DumpSectionTexts.{section_text}
+
+-- the form of the lines
+abbrev pub format_of : Printed → Format
+format_of printing.Entries = AsText
+format_of (printing.Rows asked) = asked.format
+format_of printing.Compiled = AsText
 
 -- a text of any number of lines, with the status
 abbrev pub text_output : List ℕ → Line
@@ -20,10 +28,10 @@ text_output text = record { text = text; status = 0 }
 -- the scan gives, in a storage of 192 rules and 4 rows
 abbrev pub IsOutput : RegisterNames → Printed → Section → Line → Type 0
 IsOutput names printing.Entries section printed = printed ≡ text_output (section_text names section)
-IsOutput names (printing.Rows asked) section printed = printed ≡ text_output (rows_text names (name_in asked.functions.now) asked.address section)
+IsOutput names (printing.Rows asked) section printed = printed ≡ text_output (rows_text (style_of names asked) (name_in asked.functions.now) asked.address section)
 IsOutput names printing.Compiled section printed =
     (table : TableContents) × IsCompiled (Some 192) (Some 4) section table × (printed ≡ text_output (steps_text names (steps_of table)))
 
 -- the same, or that memory was refused
 abbrev pub IsPrinted : RegisterNames → Printed → Section → Line → Type 0
-IsPrinted names what section printed = IsOutput names what section printed ⊎ (printed ≡ out_of_memory)
+IsPrinted names what section printed = IsOutput names what section printed ⊎ (printed ≡ refusal_in (format_of what) OutOfMemory)

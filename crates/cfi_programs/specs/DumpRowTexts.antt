@@ -1,7 +1,7 @@
 -- What is printed of the rows of a section: for each FDE, or each that contains an address, a line with its addresses
 -- and the name of the function that begins there, and then its rows.
---     fde_rows_text names function address section reading      of an FDE that was read, or the refusal in its place
---     rows_text names function address section      of all FDEs in order
+--     fde_rows_text style function address section reading      of an FDE that was read, or the refusal in its place
+--     rows_text style function address section      of all FDEs in order
 --     listed_text names listed section      that, or each entry with its instructions and rows
 use Rattle.std.specs.Prelude.{ℕ, Bool, true, Option, Some, None, List, [], ◌∷◌, ◌++◌, Result, Ok, Err, codes, if◌then◌else◌}
 use Rattle.cfi_read_core.specs.declared.error.Error.{Error}
@@ -10,11 +10,16 @@ use Rattle.cfi_entry.specs.Fdes.{Fde, covers, end_of}
 use Rattle.cfi_entry.specs.Sections.{Section}
 use Rattle.cfi_unwind.specs.Scan.{read_fde}
 use Rattle.cfi_elf.specs.FunctionNames.{name_in}
-use Rattle.cfi_programs.specs.Lines.{address_text, refusal_line}
+use Rattle.cfi_programs.specs.Lines.{address_text, refusal_in}
 use Rattle.cfi_programs.specs.FunctionLines.{function_text}
+use Rattle.cfi_programs.specs.JsonLines.{json_addresses, json_function}
 use Rattle.cfi_programs.specs.DumpSectionTexts.{entry_text, fde_rows, lines}
 use Rattle.cfi_programs.specs.ReadingTexts.{readings_text}
 use Rattle.cfi_programs.specs.declared.register_names.RegisterNames.{RegisterNames}
+use Rattle.cfi_programs.specs.declared.style.Format.{Format}
+use Rattle.cfi_programs.specs.declared.style.Format.TheVariants.{Text as AsText, Json}
+use Rattle.cfi_programs.specs.declared.style.Style.{Style}
+use Rattle.cfi_programs.specs.declared.dump.printed.AskedRows.{AskedRows}
 use Rattle.cfi_programs.specs.declared.dump.section.Listed.{Listed}
 use Rattle.cfi_programs.specs.declared.dump.section.Listed.TheVariants as listings
 
@@ -24,9 +29,19 @@ use Rattle.cfi_programs.specs.declared.dump.section.Listed.TheVariants as listin
 abbrev pub addresses_text : ℕ → ℕ → List ℕ
 addresses_text start end = codes "fde " ++ address_text start ++ codes " " ++ address_text end
 
--- and the name of the function that begins at the first, by the function's address
-abbrev pub addresses_line : (ℕ → Option (List ℕ)) → Fde → List ℕ
-addresses_line function fde = addresses_text fde.initial (end_of fde) ++ (function_text (function fde.initial) ++ 10 ∷ [])
+-- the same by the format
+abbrev pub addresses_in : Format → ℕ → ℕ → List ℕ
+addresses_in AsText start end = addresses_text start end
+addresses_in Json start end = json_addresses start end
+
+-- the end of the line: the name of a function, if there is one
+abbrev pub function_in : Format → Option (List ℕ) → List ℕ
+function_in AsText name = function_text name ++ 10 ∷ []
+function_in Json name = json_function name ++ 10 ∷ []
+
+-- the addresses, and the name of the function that begins at the first, by the function's address
+abbrev pub addresses_line : Format → (ℕ → Option (List ℕ)) → Fde → List ℕ
+addresses_line format function fde = addresses_in format fde.initial (end_of fde) ++ function_in format (function fde.initial)
 
 -- an FDE that contains the address; any, where there is none
 abbrev pub is_asked_for : Option ℕ → Fde → Bool
@@ -34,23 +49,30 @@ is_asked_for None fde = true
 is_asked_for (Some address) fde = covers fde address
 
 -- an FDE that can't be read may be the one of the address
-abbrev pub fde_rows_text : RegisterNames → (ℕ → Option (List ℕ)) → Option ℕ → Section → Result Fde Error → List ℕ
-fde_rows_text names function address section (Ok fde) =
-    if is_asked_for address fde then addresses_line function fde ++ lines names (fde_rows section fde) else []
-fde_rows_text names function address section (Err error) = (refusal_line error).text
+abbrev pub fde_rows_text : Style → (ℕ → Option (List ℕ)) → Option ℕ → Section → Result Fde Error → List ℕ
+fde_rows_text style function address section (Ok fde) =
+    if is_asked_for address fde then addresses_line style.format function fde ++ lines style (fde_rows section fde) else []
+fde_rows_text style function address section (Err error) = (refusal_in style.format error).text
 
-abbrev pub entry_rows_text : RegisterNames → (ℕ → Option (List ℕ)) → Option ℕ → Section → Entry → List ℕ
-entry_rows_text names function address section (CieEntry cie) = []
-entry_rows_text names function address section (FdeEntry partial) = fde_rows_text names function address section (read_fde section partial)
+abbrev pub entry_rows_text : Style → (ℕ → Option (List ℕ)) → Option ℕ → Section → Entry → List ℕ
+entry_rows_text style function address section (CieEntry cie) = []
+entry_rows_text style function address section (FdeEntry partial) = fde_rows_text style function address section (read_fde section partial)
 
-abbrev pub rows_text : RegisterNames → (ℕ → Option (List ℕ)) → Option ℕ → Section → List ℕ
-rows_text names function address section = readings_text (entry_rows_text names function address section) (entries section)
+abbrev pub rows_text : Style → (ℕ → Option (List ℕ)) → Option ℕ → Section → List ℕ
+rows_text style function address section = readings_text style.format (entry_rows_text style function address section) (entries section)
 
 -- ---- by what is asked for
 
+abbrev pub style_of : RegisterNames → AskedRows → Style
+style_of names asked = record { names = names; format = asked.format }
+
+abbrev pub listed_format : Listed → Format
+listed_format listings.Entries = AsText
+listed_format (listings.Rows asked) = asked.format
+
 abbrev pub listed_entry_text : RegisterNames → Listed → Section → Entry → List ℕ
 listed_entry_text names listings.Entries section entry = entry_text names section entry
-listed_entry_text names (listings.Rows asked) section entry = entry_rows_text names (name_in asked.functions.now) asked.address section entry
+listed_entry_text names (listings.Rows asked) section entry = entry_rows_text (style_of names asked) (name_in asked.functions.now) asked.address section entry
 
 abbrev pub listed_text : RegisterNames → Listed → Section → List ℕ
-listed_text names listed section = readings_text (λ entry. listed_entry_text names listed section entry) (entries section)
+listed_text names listed section = readings_text (listed_format listed) (λ entry. listed_entry_text names listed section entry) (entries section)

@@ -1,6 +1,6 @@
 -- What is printed of a section.
 --     fde_rows section fde      the rows of an FDE, and the refusals among them, in order
---     lines names answers      a line for each
+--     lines style answers      a line for each
 --     entry_text names section entry      an entry and its instructions, and after those of an FDE its rows
 --     section_text names section      each entry of a section
 use Rattle.std.specs.Prelude.{ℕ, Some, List, [], ◌∷◌, ◌++◌, Result, Ok, Err}
@@ -17,11 +17,13 @@ use Rattle.cfi_entry.specs.Fdes.{Fde, PartialFde}
 use Rattle.cfi_unwind.specs.Scan.{read_fde}
 use Rattle.cfi_entry.specs.Sections.{Section}
 use Rattle.cfi_programs.specs.Lines.{refusal_line}
-use Rattle.cfi_programs.specs.RowLines.{answer_line}
+use Rattle.cfi_programs.specs.AnswerLines.{answer_line, text_style}
 use Rattle.cfi_programs.specs.DumpEntryLines.{cie_line, fde_line, partial_fde_line}
 use Rattle.cfi_programs.specs.DumpInstructionLines.{instructions_text}
 use Rattle.cfi_programs.specs.ReadingTexts.{readings_text}
 use Rattle.cfi_programs.specs.declared.register_names.RegisterNames.{RegisterNames}
+use Rattle.cfi_programs.specs.declared.style.Format.TheVariants.{Text as AsText}
+use Rattle.cfi_programs.specs.declared.style.Style.{Style}
 
 -- ---- the rows of an FDE
 
@@ -35,9 +37,9 @@ fde_rows section fde =
     on_option (answers (setting_of_fde fde) (in_fde (cie_instructions section fde.cie).values []) (fde_instructions section fde)) (λ error. Err error ∷ [])
     (cie_refusal (setting_of_fde fde) (cie_instructions section fde.cie))
 
-abbrev pub lines : RegisterNames → List (Result (Row ℕ) Error) → List ℕ
-lines names [] = []
-lines names (answer ∷ answers) = (answer_line names answer).text ++ lines names answers
+abbrev pub lines : Style → List (Result (Row ℕ) Error) → List ℕ
+lines style [] = []
+lines style (answer ∷ answers) = (answer_line style answer).text ++ lines style answers
 
 -- ---- an entry
 
@@ -47,7 +49,7 @@ cie_text names section cie = cie_line names cie ++ instructions_text names (cie_
 
 -- an FDE, its instructions and its rows; or what was read of it, and the error of the rest
 abbrev pub fde_text : RegisterNames → Section → PartialFde → Result Fde Error → List ℕ
-fde_text names section partial (Ok fde) = fde_line fde ++ (instructions_text names (fde_instructions section fde) ++ lines names (fde_rows section fde))
+fde_text names section partial (Ok fde) = fde_line fde ++ (instructions_text names (fde_instructions section fde) ++ lines (text_style names) (fde_rows section fde))
 fde_text names section partial (Err error) = partial_fde_line partial.prefix.offset partial.prefix.length ++ (refusal_line error).text
 
 -- an FDE is read with the CIE to which it points
@@ -58,4 +60,4 @@ entry_text names section (FdeEntry partial) = fde_text names section partial (re
 -- ---- the section
 
 abbrev pub section_text : RegisterNames → Section → List ℕ
-section_text names section = readings_text (entry_text names section) (entries section)
+section_text names section = readings_text AsText (entry_text names section) (entries section)

@@ -4,6 +4,9 @@ pub mod Input
 pub mod Lines
 pub mod RegisterNames
 pub mod RowLines
+pub mod FunctionLines
+pub mod JsonLines
+pub mod AnswerLines
 pub mod WriterOutput
 pub mod Runs
 pub mod RowsCommandLine
@@ -15,7 +18,6 @@ pub mod ReadingTexts
 pub mod DumpEntryLines
 pub mod DumpInstructionLines
 pub mod DumpSectionTexts
-pub mod FunctionLines
 pub mod DumpRowTexts
 pub mod DumpCompiledTexts
 pub mod DumpProgramOutput

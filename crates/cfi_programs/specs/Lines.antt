@@ -3,6 +3,8 @@ use Rattle.std.specs.Prelude.{ℕ, false, List, [], ◌∷◌, ◌++◌, codes}
 use Rattle.std.specs.Fmt.{digits}
 use Rattle.cfi_read_core.specs.declared.error.Error.{Error}
 use Rattle.cfi_read_core.specs.RefusalNames.{name_of}
+use Rattle.cfi_programs.specs.declared.style.Format.{Format}
+use Rattle.cfi_programs.specs.declared.style.Format.TheVariants.{Text, Json}
 
 -- ---- the parts
 
@@ -29,3 +31,24 @@ wrong_hexadecimal = line (codes "wrong hexadecimal") 2
 
 abbrev pub wrong_input : Line
 wrong_input = line (codes "wrong input") 2
+
+-- ---- the same by the format
+
+-- an object of JSON that says why there is no answer
+abbrev pub error_object : List ℕ → List ℕ
+error_object reason = codes "{\"error\":\"" ++ (reason ++ codes "\"}")
+
+-- why there is no answer; in text behind another text
+abbrev pub error_in : Format → List ℕ → List ℕ → List ℕ
+error_in Text before reason = before ++ reason
+error_in Json before reason = error_object reason
+
+abbrev pub reason_line : Format → List ℕ → ℕ → Line
+reason_line format reason status = line (error_in format [] reason) status
+
+-- that something was refused, by the name of the error
+abbrev pub refused_line : Format → List ℕ → Line
+refused_line format name = line (error_in format (codes "refused ") name) 1
+
+abbrev pub refusal_in : Format → Error → Line
+refusal_in format error = refused_line format (name_of error)

@@ -1,18 +1,19 @@
 -- What is printed of values that are read in order, by the text of one.
---     item_text text item      a value, or the error in its place
---     readings_text text readings      each value, and after the last one the error with which they end
+--     item_text format text item      a value, or the error in its place
+--     readings_text format text readings      each value, and after the last one the error with which they end
 use Rattle.std.specs.Prelude.{ℕ, Option, Some, None, List, [], ◌++◌, Result, Ok, Err, flat_map}
 use Rattle.cfi_read_core.specs.declared.error.Error.{Error}
 use Rattle.cfi_read_core.specs.ReadFunctions.{Readings}
-use Rattle.cfi_programs.specs.Lines.{refusal_line}
+use Rattle.cfi_programs.specs.Lines.{refusal_in}
+use Rattle.cfi_programs.specs.declared.style.Format.{Format}
 
-abbrev pub item_text : {A : Type 0} → (A → List ℕ) → Result A Error → List ℕ
-item_text text (Ok value) = text value
-item_text text (Err error) = (refusal_line error).text
+abbrev pub item_text : {A : Type 0} → Format → (A → List ℕ) → Result A Error → List ℕ
+item_text format text (Ok value) = text value
+item_text format text (Err error) = (refusal_in format error).text
 
-abbrev pub refusal_text : Option Error → List ℕ
-refusal_text None = []
-refusal_text (Some error) = (refusal_line error).text
+abbrev pub refusal_text : Format → Option Error → List ℕ
+refusal_text format None = []
+refusal_text format (Some error) = (refusal_in format error).text
 
-unfoldable pub readings_text : {A : Type 0} → (A → List ℕ) → Readings A → List ℕ
-readings_text text readings = flat_map text readings.values ++ refusal_text readings.refusal
+unfoldable pub readings_text : {A : Type 0} → Format → (A → List ℕ) → Readings A → List ℕ
+readings_text format text readings = flat_map text readings.values ++ refusal_text format readings.refusal

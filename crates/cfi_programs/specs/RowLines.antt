@@ -1,8 +1,7 @@
--- The line that is printed, with the names of registers.
-use Rattle.std.specs.Prelude.{ℕ, zero, suc, ◌+◌, ℤ, pos, negsuc, Option, Some, None, List, [], ◌++◌, Result, Ok, Err, codes}
+-- What is printed of a row, with the names of registers.
+use Rattle.std.specs.Prelude.{ℕ, zero, suc, ◌+◌, ℤ, pos, negsuc, Option, Some, None, List, [], ◌++◌, codes}
 use Rattle.std.specs.FinMap as map
 use Rattle.std.specs.Fmt.{decimal, signed_decimal}
-use Rattle.cfi_read_core.specs.declared.error.Error.{Error}
 use Rattle.cfi_read_core.specs.declared.instruction.UnwindExpression.{UnwindExpression}
 use Rattle.cfi_state.specs.declared.table.rules.CfaRule.{CfaRule}
 use Rattle.cfi_state.specs.declared.table.rules.CfaRule.TheVariants as cfas
@@ -10,7 +9,7 @@ use Rattle.cfi_state.specs.declared.table.rules.RegisterRule.{RegisterRule}
 use Rattle.cfi_state.specs.declared.table.rules.RegisterRule.TheVariants as rules
 use Rattle.cfi_state.specs.Machine.{Parts}
 use Rattle.cfi_state.specs.Row.{Row}
-use Rattle.cfi_programs.specs.Lines.{Line, address_text, line, refusal_line}
+use Rattle.cfi_programs.specs.Lines.{address_text}
 use Rattle.cfi_programs.specs.RegisterNames.{register_text}
 use Rattle.cfi_programs.specs.declared.register_names.RegisterNames.{RegisterNames}
 
@@ -40,14 +39,19 @@ rule_text names (rules.ValExpression e) = codes "val_" ++ expression_text e
 rule_text names rules.Architectural = codes "architectural"
 rule_text names (rules.Constant n) = codes "constant(" ++ decimal n ++ codes ")"
 
-abbrev pub ruled : RegisterNames → ℕ → Option (RegisterRule ℕ) → List ℕ
-ruled names register None = []
-ruled names register (Some rule) = codes " " ++ register_text names register ++ codes "=" ++ rule_text names rule
+-- a register that has a rule, by what is written of it
+abbrev pub ruled_by : (ℕ → RegisterRule ℕ → List ℕ) → ℕ → Option (RegisterRule ℕ) → List ℕ
+ruled_by text_of register None = []
+ruled_by text_of register (Some rule) = text_of register rule
 
 -- the n registers from r on that have a rule
-unfoldable pub rules_text : RegisterNames → ℕ → ℕ → (ℕ → Option (RegisterRule ℕ)) → List ℕ
-rules_text names zero register rule_of = []
-rules_text names (suc n) register rule_of = ruled names register (rule_of register) ++ rules_text names n (register + 1) rule_of
+unfoldable pub rules_by : (ℕ → RegisterRule ℕ → List ℕ) → ℕ → ℕ → (ℕ → Option (RegisterRule ℕ)) → List ℕ
+rules_by text_of zero register rule_of = []
+rules_by text_of (suc n) register rule_of = ruled_by text_of register (rule_of register) ++ rules_by text_of n (register + 1) rule_of
+
+-- a register and its rule
+abbrev pub ruled : RegisterNames → ℕ → RegisterRule ℕ → List ℕ
+ruled names register rule = codes " " ++ register_text names register ++ codes "=" ++ rule_text names rule
 
 -- what comes before the rules
 abbrev pub row_head : RegisterNames → Row ℕ → List ℕ
@@ -57,13 +61,7 @@ row_head names row =
 
 -- the rules of all registers, by rising number
 abbrev pub parts_rules : RegisterNames → Parts ℕ → List ℕ
-parts_rules names parts = rules_text names 65536 0 (map.get parts.rules)
+parts_rules names parts = rules_by (ruled names) 65536 0 (map.get parts.rules)
 
 abbrev pub row_text : RegisterNames → Row ℕ → List ℕ
 row_text names row = row_head names row ++ parts_rules names row.parts
-
--- ---- the line, with its line feed, and the status
-
-abbrev pub answer_line : RegisterNames → Result (Row ℕ) Error → Line
-answer_line names (Ok row) = line (row_text names row) 0
-answer_line names (Err e) = refusal_line e

@@ -14,7 +14,7 @@ use Rattle.cfi_programs.specs.RowsCommandLine.{request_of}
 use Rattle.cfi_programs.specs.Input.{Bytes, bytes_by}
 use Rattle.cfi_programs.specs.Runs.{Tool}
 use Rattle.cfi_programs.specs.SectionOfWords.{header_section_of, section_of}
-use Rattle.cfi_programs.specs.RowLines.{answer_line}
+use Rattle.cfi_programs.specs.AnswerLines.{answer_line, text_style}
 use Rattle.cfi_programs.specs.declared.register_names.RegisterNames.TheVariants.{Numbers}
 
 -- ---- the room for an unwind
@@ -54,7 +54,7 @@ rows_in room_for = record {
   Request = Request;
   request_of = request_of;
   meaning = λ request input. bytes_by request.words.header input;
-  IsLine = λ request bytes printed. (answer : Result (Row ℕ) Error) × IsAnswer (room_for request) request bytes answer × (printed ≡ answer_line Numbers answer);
+  IsLine = λ request bytes printed. (answer : Result (Row ℕ) Error) × IsAnswer (room_for request) request bytes answer × (printed ≡ answer_line (text_style Numbers) answer);
 }
 
 -- the program

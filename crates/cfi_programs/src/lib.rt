@@ -7,10 +7,13 @@
 pub mod check;
 pub mod dump;
 pub mod input;
+pub mod json;
+mod json_row;
 pub mod lines;
 pub mod register_names;
 pub mod row_line;
 pub mod rows;
 pub mod run;
+pub mod style;
 pub mod text;
 pub mod words;

@@ -1,9 +1,11 @@
 //! Writes lines, and the lines that say why there is no answer.
-ghost use Rattle.std.specs.Prelude.{◌≡◌, Some, IfSome};
-ghost use Rattle.cfi_programs.specs.Lines.{address_text, refusal_line};
+ghost use Rattle.std.specs.Prelude.{◌≡◌, ◌++◌, [], ◌∷◌, Some, IfSome};
+ghost use Rattle.cfi_programs.specs.Lines.{address_text, error_in, reason_line};
+ghost use Rattle.cfi_programs.specs.Lines.{refusal_in, refusal_line, refused_line};
 ghost use Rattle.cfi_programs.specs.Lines.{wrong_hexadecimal, wrong_input, wrong_words};
 ghost use Rattle.cfi_programs.specs.WriterOutput.{Writes, Prints};
 
+use crate::style::Format;
 use arrayvec::ArrayString;
 use gimli_cfi::Error;
 use std::fmt::{Display, Formatter, Write as _};
@@ -47,6 +49,21 @@ pub fn write_part<W: Write, D: Display + Drop>(output: &mut W, part: D) -> io::R
     write_text(output, text.as_bytes())
 }
 
+/// Writes the text between the two others.
+pub fn write_between<W: Write>(
+    output: &mut W,
+    before: &[u8],
+    text: &[u8],
+    after: &[u8],
+) -> io::Result<()>
+    ensures { Writes (W.contents output.old) (W.contents output.new) result
+        (before.now ++ (text.now ++ after.now)) }
+{
+    write_text(output, before)?;
+    write_text(output, text)?;
+    write_text(output, after)
+}
+
 /// An address, as `0x` and lower-case digits.
 #[derive(Clone, Copy)]
 pub struct Address(pub u64);
@@ -87,7 +104,53 @@ pub fn write_wrong_input<W: Write>(output: &mut W) -> io::Result<u8>
 pub fn write_refusal<W: Write>(output: &mut W, error: Error) -> io::Result<u8>
     ensures { Prints (refusal_line error) (W.contents output.old) (W.contents output.new) result }
 {
-    let name = error.name();
-    write_part(output, format_args!("refused {name}\n"))?;
+    write_refusal_in(output, Format::Text, error)
+}
+
+/// Prints why there is no answer, and returns the status.
+pub fn write_reason<W: Write>(
+    output: &mut W,
+    format: Format,
+    reason: &str,
+    status: u8,
+) -> io::Result<u8>
+    ensures { Prints (reason_line format reason.now status)
+        (W.contents output.old) (W.contents output.new) result }
+{
+    write_error(output, format, b"", reason)?;
+    Ok(status)
+}
+
+/// Prints that something was refused, by the name of the error, and returns the status 1.
+pub fn write_refused_name<W: Write>(output: &mut W, format: Format, name: &str) -> io::Result<u8>
+    ensures { Prints (refused_line format name.now)
+        (W.contents output.old) (W.contents output.new) result }
+{
+    write_error(output, format, b"refused ", name)?;
     Ok(1)
+}
+
+/// Writes the line that says why there is no answer: in text after another, in JSON as a member.
+fn write_error<W: Write>(
+    output: &mut W,
+    format: Format,
+    before: &[u8],
+    reason: &str,
+) -> io::Result<()>
+    ensures { Writes (W.contents output.old) (W.contents output.new) result
+        (error_in format before.now reason.now ++ 10 ∷ []) }
+{
+    let reason = reason.as_bytes();
+    match format {
+        Format::Text => write_between(output, before, reason, b"\n"),
+        Format::Json => write_between(output, b"{\"error\":\"", reason, b"\"}\n"),
+    }
+}
+
+/// Prints the name of the error, and returns the status 1.
+pub fn write_refusal_in<W: Write>(output: &mut W, format: Format, error: Error) -> io::Result<u8>
+    ensures { Prints (refusal_in format error)
+        (W.contents output.old) (W.contents output.new) result }
+{
+    write_refused_name(output, format, error.name())
 }

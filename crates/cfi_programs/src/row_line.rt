@@ -1,5 +1,5 @@
 //! The line of a row.
-ghost use Rattle.std.specs.Prelude.{◌≡◌, ◌≤◌, ◌+◌, ◌++◌, ℕ, [], ◌∷◌, None, OnOk, Some, codes};
+ghost use Rattle.std.specs.Prelude.{◌≡◌, ◌≤◌, ◌+◌, ◌++◌, ℕ, [], ◌∷◌, None, OnOk, codes};
 ghost use Rattle.std.specs.Prelude.{true};
 ghost use Rattle.std.specs.FinMap as map;
 ghost use Rattle.std.specs.Fmt.{decimal, signed_decimal};
@@ -8,13 +8,16 @@ ghost use Rattle.cfi_state.specs.RegisterRuleIters.{rules_left};
 ghost use Rattle.cfi_state.specs.RulePairs.{IsRising, rules_of};
 ghost use Rattle.gimli_cfi.specs.Words.{Parts};
 ghost use Rattle.cfi_programs.specs.WriterOutput.{Prints, Writes, WritesBehind};
-ghost use Rattle.cfi_programs.specs.RowLines.{answer_line, cfa_text, expression_text};
+ghost use Rattle.cfi_programs.specs.AnswerLines.{answer_line, row_in};
+ghost use Rattle.cfi_programs.specs.RowLines.{cfa_text, expression_text};
 ghost use Rattle.cfi_programs.specs.RegisterNames.{register_text};
 ghost use Rattle.cfi_programs.specs.RowLines.{offset_text, parts_rules, row_head};
-ghost use Rattle.cfi_programs.specs.RowLines.{row_text, rule_text, ruled, rules_text};
+ghost use Rattle.cfi_programs.specs.RowLines.{row_text, rule_text, ruled, rules_by};
 
-use crate::lines::{write_refusal, write_text};
+use crate::json_row::write_json_row;
+use crate::lines::{write_refusal_in, write_text};
 use crate::register_names::RegisterNames;
+use crate::style::{Format, Style};
 use crate::text::{Text, push, push_address, push_decimal, push_signed};
 use gimli_cfi::{
     ArrayLike, CfaRule, Error, Register, RegisterRule, RegisterRuleIter, UnwindExpression,
@@ -23,11 +26,15 @@ use gimli_cfi::{
 use std::io::Write;
 use std::{fmt, io};
 
-/// How much text may wait for another rule, which has at most 66 bytes.
-const FULL: usize = 190;
+/// How much text may wait for another rule, which has at most 70 bytes in either format.
+const FULL: usize = 180;
 
 /// Appends the name of the register.
-fn push_register(text: &mut Text, names: RegisterNames, register: Register) -> fmt::Result
+pub(crate) fn push_register(
+    text: &mut Text,
+    names: RegisterNames,
+    register: Register,
+) -> fmt::Result
     ensures { OnOk result (text.new.items ≡ text.old.items ++ register_text names register.0) }
 {
     let name = names.name(register.0);
@@ -59,7 +66,7 @@ fn push_expression(text: &mut Text, expression: UnwindExpression<usize>) -> fmt:
 }
 
 /// Appends the rule of the canonical frame address.
-fn push_cfa(text: &mut Text, names: RegisterNames, cfa: CfaRule<usize>) -> fmt::Result
+pub(crate) fn push_cfa(text: &mut Text, names: RegisterNames, cfa: CfaRule<usize>) -> fmt::Result
     ensures { OnOk result (text.new.items ≡ text.old.items ++ cfa_text names cfa) }
 {
     match cfa {
@@ -89,7 +96,11 @@ pub fn push_frame(
 }
 
 /// Appends the rule of a register.
-fn push_rule(text: &mut Text, names: RegisterNames, rule: RegisterRule<usize>) -> fmt::Result
+pub(crate) fn push_rule(
+    text: &mut Text,
+    names: RegisterNames,
+    rule: RegisterRule<usize>,
+) -> fmt::Result
     ensures { OnOk result (text.new.items ≡ text.old.items ++ rule_text names rule) }
 {
     match rule {
@@ -133,7 +144,7 @@ pub fn push_ruled(
     rule: RegisterRule<usize>,
 ) -> fmt::Result
     ensures text { OnOk result (text.new.items
-        ≡ text.old.items ++ ruled names register.0 (Some rule)) }
+        ≡ text.old.items ++ ruled names register.0 rule) }
     ensures within { register.0 ≤ 65535 }
 {
     push(text, b" ")?;
@@ -145,23 +156,38 @@ pub fn push_ruled(
 /// Prints the line of an answer, and returns the status: 0 for a row, 1 for an error.
 pub fn write_answer<W: Write, A: ArrayLike<Item = (Register, RegisterRule<usize>)>>(
     output: &mut W,
-    names: RegisterNames,
+    style: Style,
     answer: Result<&UnwindTableRow<usize, A>, Error>,
 ) -> io::Result<u8>
-    ensures { Prints (answer_line names (map_ok (λ row. row.now) answer.entry))
+    ensures { Prints (answer_line style (map_ok (λ row. row.now) answer.entry))
         (W.contents output.old) (W.contents output.new) result }
 {
     match answer {
         Ok(row) => {
-            write_row(output, names, row)?;
+            write_row_in(output, style, row)?;
             Ok(0)
         }
-        Err(error) => write_refusal(output, error),
+        Err(error) => write_refusal_in(output, style.format, error),
     }
 }
 
 /// Writes the line of a row, its registers in ascending order.
-pub fn write_row<W: Write, A: ArrayLike<Item = (Register, RegisterRule<usize>)>>(
+fn write_row_in<W: Write, A: ArrayLike<Item = (Register, RegisterRule<usize>)>>(
+    output: &mut W,
+    style: Style,
+    row: &UnwindTableRow<usize, A>,
+) -> io::Result<()>
+    ensures { Writes (W.contents output.old) (W.contents output.new) result
+        (row_in style.format style.names row.now ++ 10 ∷ []) }
+{
+    match style.format {
+        Format::Text => write_row(output, style.names, row),
+        Format::Json => write_json_row(output, style.names, row),
+    }
+}
+
+/// Writes the row as a line of text.
+fn write_row<W: Write, A: ArrayLike<Item = (Register, RegisterRule<usize>)>>(
     output: &mut W,
     names: RegisterNames,
     row: &UnwindTableRow<usize, A>,
@@ -232,7 +258,8 @@ fn write_rising<W: Write>(
     requires { IsRising (rules_left rules) }
     ensures { let rule_of = map.get (rules_of (rules_left rules.entry)) in
         WritesBehind text.old.items text.new.items
-        (W.contents output.old) (W.contents output.new) result (rules_text names 65536 0 rule_of) }
+        (W.contents output.old) (W.contents output.new) result
+        (rules_by (ruled names) 65536 0 rule_of) }
 {
     for (register, rule) in rules {
         make_room(output, text)?;
@@ -304,7 +331,7 @@ pub(crate) fn number_behind(register: Register) -> u32
 }
 
 /// Writes the text where it is too long for another rule.
-fn make_room<W: Write>(output: &mut W, text: &mut Text) -> io::Result<()>
+pub(crate) fn make_room<W: Write>(output: &mut W, text: &mut Text) -> io::Result<()>
     ensures { WritesBehind text.old.items text.new.items
         (W.contents output.old) (W.contents output.new) result [] }
 {

@@ -67,7 +67,7 @@ fn push_hexadecimal(text: &mut Text, number: u64) -> fmt::Result
 }
 
 /// Returns the lower-case hexadecimal digit of the value.
-fn digit(value: u8) -> u8
+pub(crate) fn digit(value: u8) -> u8
     requires { value < 16 }
     ensures { result ≡ digit_glyph false value }
 {

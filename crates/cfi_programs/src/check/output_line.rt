@@ -1,38 +1,51 @@
 //! The line of a verdict.
-ghost use Rattle.std.specs.Prelude.{◌≡◌, ◌++◌, [], ◌∷◌};
+ghost use Rattle.std.specs.Prelude.{◌≡◌, ◌++◌, [], ◌∷◌, OnOk, codes};
 ghost use Rattle.cfi_programs.specs.WriterOutput.{Prints, Writes};
-ghost use Rattle.cfi_programs.specs.CheckLines.{reason_text, verdict_line};
+ghost use Rattle.cfi_programs.specs.CheckLines.{faithful_object, finding_text, reason_text};
+ghost use Rattle.cfi_programs.specs.CheckLines.{reasoned, verdict_in, verdict_line};
+ghost use Rattle.cfi_programs.specs.CheckLines.{verdict_object, verdict_status, verdict_text};
 
 use crate::check::table_check::Verdict;
-use crate::lines::{Address, write_part, write_text};
+use crate::json::push_number;
+use crate::lines::{Address, write_between, write_part, write_text};
+use crate::style::Format;
+use crate::text::{Text, push};
 use gimli_cfi::Error;
 use gimli_cfi::hdr::Unfaithful;
-use std::io;
 use std::io::Write;
+use std::{fmt, io};
 
 /// Prints the line of a verdict, and returns the status: 0 where the table is faithful, 1 where it
-/// isn't or there is none.
-pub fn write_verdict<W: Write>(output: &mut W, verdict: Verdict) -> io::Result<u8>
-    ensures { Prints (verdict_line verdict) (W.contents output.old) (W.contents output.new) result }
+/// isn't or there is none. In JSON the line is the end of an object that begins with the name of
+/// the file.
+pub fn write_verdict<W: Write>(output: &mut W, format: Format, verdict: Verdict) -> io::Result<u8>
+    ensures { Prints (verdict_line format verdict)
+        (W.contents output.old) (W.contents output.new) result }
 {
-    write_verdict_line(output, verdict)?;
+    write_verdict_line(output, format, verdict)?;
     Ok(status_of(verdict))
 }
 
-fn write_verdict_line<W: Write>(output: &mut W, verdict: Verdict) -> io::Result<()>
+fn write_verdict_line<W: Write>(output: &mut W, format: Format, verdict: Verdict) -> io::Result<()>
     ensures { Writes (W.contents output.old) (W.contents output.new) result
-        (verdict_line verdict).text }
+        (verdict_line format verdict).text }
 {
-    match verdict {
-        Verdict::Faithful(rows) => write_part(output, format_args!("faithful {rows}\n")),
-        Verdict::Unfaithful(reason) => write_reason(output, reason),
-        Verdict::NoTable => write_text(output, b"header: has no table\n"),
-        Verdict::Refused(refusal) => write_refused_header(output, refusal),
+    write_verdict_in(output, format, verdict)?;
+    write_text(output, b"\n")
+}
+
+fn write_verdict_in<W: Write>(output: &mut W, format: Format, verdict: Verdict) -> io::Result<()>
+    ensures { Writes (W.contents output.old) (W.contents output.new) result
+        (verdict_in format verdict) }
+{
+    match format {
+        Format::Text => write_verdict_text(output, verdict),
+        Format::Json => write_verdict_object(output, verdict),
     }
 }
 
 fn status_of(verdict: Verdict) -> u8
-    ensures { result ≡ (verdict_line verdict).status }
+    ensures { result ≡ verdict_status verdict }
 {
     match verdict {
         Verdict::Faithful(_) => 0,
@@ -40,11 +53,105 @@ fn status_of(verdict: Verdict) -> u8
     }
 }
 
-/// Writes the line of a reason: where the fault is, by row or by the offset of an entry, and what
+fn write_verdict_text<W: Write>(output: &mut W, verdict: Verdict) -> io::Result<()>
+    ensures { Writes (W.contents output.old) (W.contents output.new) result
+        (verdict_text verdict) }
+{
+    match verdict {
+        Verdict::Faithful(rows) => write_part(output, format_args!("faithful {rows}")),
+        Verdict::Unfaithful(reason) => write_reason(output, reason),
+        Verdict::NoTable => write_text(output, b"header: has no table"),
+        Verdict::Refused(refusal) => write_refused_header(output, refusal),
+    }
+}
+
+fn write_verdict_object<W: Write>(output: &mut W, verdict: Verdict) -> io::Result<()>
+    ensures { Writes (W.contents output.old) (W.contents output.new) result
+        (verdict_object verdict) }
+{
+    match verdict {
+        Verdict::Faithful(rows) => write_faithful_object(output, rows),
+        Verdict::Unfaithful(reason) => write_unfaithful_object(output, reason),
+        Verdict::NoTable => write_reasoned(output, b"no table", b"header: has no table", b""),
+        Verdict::Refused(error) => write_unfaithful_object(output, Unfaithful::Header(error)),
+    }
+}
+
+fn write_faithful_object<W: Write>(output: &mut W, rows: u64) -> io::Result<()>
+    ensures { Writes (W.contents output.old) (W.contents output.new) result
+        (faithful_object rows) }
+{
+    let mut text = Text::new();
+    push_faithful(&mut text, rows)?;
+    write_text(output, text.as_slice())
+}
+
+fn push_faithful(text: &mut Text, rows: u64) -> fmt::Result
+    ensures { OnOk result (text.new.items ≡ text.old.items ++ faithful_object rows) }
+{
+    push(text, b"\"result\":\"faithful\",\"rows\":")?;
+    push_number(text, rows)?;
+    push(text, b"}")
+}
+
+fn write_unfaithful_object<W: Write>(output: &mut W, reason: Unfaithful) -> io::Result<()>
+    ensures { Writes (W.contents output.old) (W.contents output.new) result
+        (reasoned (codes "unfaithful") (reason_text reason)) }
+{
+    write_text(output, b"\"result\":\"unfaithful\",\"reason\":\"")?;
+    write_reason(output, reason)?;
+    write_text(output, b"\"}")
+}
+
+/// Writes the end of a line about a file: in JSON what was found, and in either format why, as a
+/// text and a name behind it.
+pub fn write_finding<W: Write>(
+    output: &mut W,
+    format: Format,
+    found: &[u8],
+    reason: &[u8],
+    name: &[u8],
+) -> io::Result<()>
+    ensures { Writes (W.contents output.old) (W.contents output.new) result
+        (finding_text format found.now (reason.now ++ name.now) ++ 10 ∷ []) }
+{
+    match format {
+        Format::Text => write_between(output, reason, name, b"\n"),
+        Format::Json => write_reasoned_line(output, found, reason, name),
+    }
+}
+
+fn write_reasoned_line<W: Write>(
+    output: &mut W,
+    found: &[u8],
+    reason: &[u8],
+    name: &[u8],
+) -> io::Result<()>
+    ensures { Writes (W.contents output.old) (W.contents output.new) result
+        (reasoned found.now (reason.now ++ name.now) ++ 10 ∷ []) }
+{
+    write_reasoned(output, found, reason, name)?;
+    write_text(output, b"\n")
+}
+
+fn write_reasoned<W: Write>(
+    output: &mut W,
+    found: &[u8],
+    reason: &[u8],
+    name: &[u8],
+) -> io::Result<()>
+    ensures { Writes (W.contents output.old) (W.contents output.new) result
+        (reasoned found.now (reason.now ++ name.now)) }
+{
+    write_between(output, b"\"result\":\"", found, b"\",\"reason\":\"")?;
+    write_between(output, reason, name, b"\"}")
+}
+
+/// Writes a reason: where the fault is, by row or by the offset of an entry, and what
 /// it is.
 fn write_reason<W: Write>(output: &mut W, reason: Unfaithful) -> io::Result<()>
     ensures { Writes (W.contents output.old) (W.contents output.new) result
-        (reason_text reason ++ 10 ∷ []) }
+        (reason_text reason) }
 {
     match reason {
         Unfaithful::Header(refusal) => write_refused_header(output, refusal),
@@ -60,78 +167,78 @@ fn write_reason<W: Write>(output: &mut W, reason: Unfaithful) -> io::Result<()>
 
 fn write_refused_header<W: Write>(output: &mut W, refusal: Error) -> io::Result<()>
     ensures { Writes (W.contents output.old) (W.contents output.new) result
-        (reason_text (Unfaithful.Header refusal) ++ 10 ∷ []) }
+        (reason_text (Unfaithful.Header refusal)) }
 {
     let name = refusal.name();
-    write_part(output, format_args!("header: refused {name}\n"))
+    write_part(output, format_args!("header: refused {name}"))
 }
 
 fn write_refused_row<W: Write>(output: &mut W, row: u64, refusal: Error) -> io::Result<()>
     ensures { Writes (W.contents output.old) (W.contents output.new) result
-        (reason_text (Unfaithful.Row row refusal) ++ 10 ∷ []) }
+        (reason_text (Unfaithful.Row row refusal)) }
 {
     let name = refusal.name();
-    write_part(output, format_args!("row {row}: refused {name}\n"))
+    write_part(output, format_args!("row {row}: refused {name}"))
 }
 
 fn write_order<W: Write>(output: &mut W, row: u64, before: u64, start: u64) -> io::Result<()>
     ensures { Writes (W.contents output.old) (W.contents output.new) result
-        (reason_text (Unfaithful.Order row before start) ++ 10 ∷ []) }
+        (reason_text (Unfaithful.Order row before start)) }
 {
     let start = Address(start);
     let before = Address(before);
     write_part(
         output,
-        format_args!("row {row}: starts at {start}, the row before it at {before}\n"),
+        format_args!("row {row}: starts at {start}, the row before it at {before}"),
     )
 }
 
 fn write_refused_entry<W: Write>(output: &mut W, offset: u64, refusal: Error) -> io::Result<()>
     ensures { Writes (W.contents output.old) (W.contents output.new) result
-        (reason_text (Unfaithful.Entry offset refusal) ++ 10 ∷ []) }
+        (reason_text (Unfaithful.Entry offset refusal)) }
 {
     let offset = Address(offset);
     let name = refusal.name();
-    write_part(output, format_args!("entry {offset}: refused {name}\n"))
+    write_part(output, format_args!("entry {offset}: refused {name}"))
 }
 
 fn write_refused_fde<W: Write>(output: &mut W, offset: u64, refusal: Error) -> io::Result<()>
     ensures { Writes (W.contents output.old) (W.contents output.new) result
-        (reason_text (Unfaithful.Fde offset refusal) ++ 10 ∷ []) }
+        (reason_text (Unfaithful.Fde offset refusal)) }
 {
     let offset = Address(offset);
     let name = refusal.name();
-    write_part(output, format_args!("FDE {offset}: refused {name}\n"))
+    write_part(output, format_args!("FDE {offset}: refused {name}"))
 }
 
 fn write_no_row<W: Write>(output: &mut W, offset: u64, address: u64) -> io::Result<()>
     ensures { Writes (W.contents output.old) (W.contents output.new) result
-        (reason_text (Unfaithful.NoRow offset address) ++ 10 ∷ []) }
+        (reason_text (Unfaithful.NoRow offset address)) }
 {
     let offset = Address(offset);
     let address = Address(address);
     write_part(
         output,
-        format_args!("FDE {offset}: no row starts at {address} and leads to it\n"),
+        format_args!("FDE {offset}: no row starts at {address} and leads to it"),
     )
 }
 
 fn write_overlap<W: Write>(output: &mut W, offset: u64, end: u64, next: u64) -> io::Result<()>
     ensures { Writes (W.contents output.old) (W.contents output.new) result
-        (reason_text (Unfaithful.Overlap offset end next) ++ 10 ∷ []) }
+        (reason_text (Unfaithful.Overlap offset end next)) }
 {
     let offset = Address(offset);
     let end = Address(end);
     let next = Address(next);
     write_part(
         output,
-        format_args!("FDE {offset}: ends at {end}, the next row starts at {next}\n"),
+        format_args!("FDE {offset}: ends at {end}, the next row starts at {next}"),
     )
 }
 
 fn write_count<W: Write>(output: &mut W, rows: u64, fdes: u64) -> io::Result<()>
     ensures { Writes (W.contents output.old) (W.contents output.new) result
-        (reason_text (Unfaithful.Count rows fdes) ++ 10 ∷ []) }
+        (reason_text (Unfaithful.Count rows fdes)) }
 {
-    write_part(output, format_args!("table: {rows} rows for {fdes} FDEs\n"))
+    write_part(output, format_args!("table: {rows} rows for {fdes} FDEs"))
 }

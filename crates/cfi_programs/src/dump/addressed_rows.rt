@@ -1,6 +1,6 @@
 //! The rows of each FDE, or of those that contain an address, after a line with its addresses and
 //! the name of the function that begins there.
-ghost use Rattle.std.specs.Prelude.{◌≡◌, ◌++◌, [], ⊤, IfOk, if◌then◌else◌};
+ghost use Rattle.std.specs.Prelude.{◌≡◌, ◌++◌, [], ⊤, IfOk, OnOk, if◌then◌else◌};
 ghost use Rattle.cfi_read_core.specs.ReaderCalls.{map_ok};
 ghost use Rattle.cfi_read_core.specs.CallFrameSections.{IsOf};
 ghost use Rattle.cfi_entry.specs.EntryViews.{cie_view};
@@ -11,7 +11,8 @@ ghost use Rattle.cfi_unwind.specs.Scan.{read_fde};
 ghost use Rattle.cfi_elf.specs.FunctionNames.{name_in};
 ghost use Rattle.cfi_programs.specs.WriterOutput.{Writes};
 ghost use Rattle.cfi_programs.specs.DumpSectionTexts.{fde_rows, lines};
-ghost use Rattle.cfi_programs.specs.DumpRowTexts.{addresses_line, addresses_text};
+ghost use Rattle.cfi_programs.specs.JsonLines.{json_addresses};
+ghost use Rattle.cfi_programs.specs.DumpRowTexts.{addresses_in, addresses_line, addresses_text};
 ghost use Rattle.cfi_programs.specs.DumpRowTexts.{entry_rows_text, fde_rows_text, is_asked_for};
 ghost use Rattle.cfi_programs.specs.ReadingTexts.{item_text};
 
@@ -19,21 +20,21 @@ use crate::dump::function_line::end_line;
 use crate::dump::printed::AskedRows;
 use crate::dump::section::{whole, write_refused, write_rows};
 use crate::lines::write_text;
-use crate::register_names::RegisterNames;
+use crate::style::{Format, Style};
 use crate::text::{Text, push, push_address};
 use cfi_elf::FunctionNames;
 use gimli_cfi::{
     _UnwindSectionPrivate, BaseAddresses, CieOrFde, FrameDescriptionEntry,
     PartialFrameDescriptionEntry, Reader, Result, UnwindContext, UnwindSection,
 };
-use std::io;
 use std::io::Write;
+use std::{fmt, io};
 
 /// Writes the addresses and the rows of an entry that is an FDE, and contains the address where
 /// there is one; or the error in place of an entry. A CIE has no text.
 pub fn write_entry_rows<R: Reader<Offset = usize>, S: UnwindSection<R>, W: Write>(
     output: &mut W,
-    names: RegisterNames,
+    style: Style,
     asked: AskedRows<'_>,
     section: &S,
     bases: &BaseAddresses,
@@ -46,22 +47,22 @@ pub fn write_entry_rows<R: Reader<Offset = usize>, S: UnwindSection<R>, W: Write
         (λ p. partial_of R.position (λ n. n) p.prefix p.cie_offset)) entry.entry in
         let function = name_in asked.entry.functions.now in
         Writes (W.contents output.old) (W.contents output.new) result
-        (item_text (λ e. entry_rows_text names function asked.entry.address
+        (item_text style.format (λ e. entry_rows_text style function asked.entry.address
         (section_of (S.view section.now) bases.now) e) found) }
 {
     match entry {
         Ok(CieOrFde::Cie(_)) => Ok(()),
         Ok(CieOrFde::Fde(partial)) => {
-            write_partial_rows(output, names, asked, section, bases, context, &partial)
+            write_partial_rows(output, style, asked, section, bases, context, &partial)
         }
-        Err(error) => write_refused(output, error),
+        Err(error) => write_refused(output, style.format, error),
     }
 }
 
 /// Writes the addresses and the rows of the FDE, if it is asked for; or why it can't be read whole.
 fn write_partial_rows<R: Reader<Offset = usize>, S: UnwindSection<R>, W: Write>(
     output: &mut W,
-    names: RegisterNames,
+    style: Style,
     asked: AskedRows<'_>,
     section: &S,
     bases: &BaseAddresses,
@@ -73,19 +74,19 @@ fn write_partial_rows<R: Reader<Offset = usize>, S: UnwindSection<R>, W: Write>(
     ensures { let from = section_of (S.view section.now) bases.now in
         let found = partial_of R.position (λ n. n) partial.now.prefix partial.now.cie_offset in
         Writes (W.contents output.old) (W.contents output.new) result
-        (fde_rows_text names (name_in asked.entry.functions.now) asked.entry.address from
+        (fde_rows_text style (name_in asked.entry.functions.now) asked.entry.address from
         (read_fde from found)) }
 {
     match whole(partial) {
-        Ok(fde) => write_if_asked_for(output, names, asked, section, bases, context, &fde),
-        Err(error) => write_refused(output, error),
+        Ok(fde) => write_if_asked_for(output, style, asked, section, bases, context, &fde),
+        Err(error) => write_refused(output, style.format, error),
     }
 }
 
 /// Writes the addresses and the rows of the FDE, if it is asked for.
 fn write_if_asked_for<R: Reader<Offset = usize>, S: UnwindSection<R>, W: Write>(
     output: &mut W,
-    names: RegisterNames,
+    style: Style,
     asked: AskedRows<'_>,
     section: &S,
     bases: &BaseAddresses,
@@ -96,13 +97,13 @@ fn write_if_asked_for<R: Reader<Offset = usize>, S: UnwindSection<R>, W: Write>(
     requires cie { IsOf (R.position fde.now.cie.initial_instructions)
         (S.view section.now).position }
     ensures { let read = fde_view R.position (λ n. n) fde.now in
-        let rows = lines names (fde_rows (section_of (S.view section.now) bases.now) read) in
+        let rows = lines style (fde_rows (section_of (S.view section.now) bases.now) read) in
         Writes (W.contents output.old) (W.contents output.new) result
         (if is_asked_for asked.entry.address read
-        then addresses_line (name_in asked.entry.functions.now) read ++ rows else []) }
+        then addresses_line style.format (name_in asked.entry.functions.now) read ++ rows else []) }
 {
     if is_asked_for(asked.address, fde) {
-        write_addressed_rows(output, names, asked.functions, section, bases, context, fde)
+        write_addressed_rows(output, style, asked.functions, section, bases, context, fde)
     } else {
         Ok(())
     }
@@ -124,7 +125,7 @@ fn is_asked_for<R: Reader<Offset = usize>>(
 /// Writes the line of the FDE's addresses, and the lines of its rows.
 fn write_addressed_rows<R: Reader<Offset = usize>, S: UnwindSection<R>, W: Write>(
     output: &mut W,
-    names: RegisterNames,
+    style: Style,
     functions: &FunctionNames<'_>,
     section: &S,
     bases: &BaseAddresses,
@@ -135,38 +136,67 @@ fn write_addressed_rows<R: Reader<Offset = usize>, S: UnwindSection<R>, W: Write
     requires cie { IsOf (R.position fde.now.cie.initial_instructions)
         (S.view section.now).position }
     ensures { let read = fde_view R.position (λ n. n) fde.now in
-        let rows = lines names (fde_rows (section_of (S.view section.now) bases.now) read) in
+        let rows = lines style (fde_rows (section_of (S.view section.now) bases.now) read) in
         Writes (W.contents output.old) (W.contents output.new) result
-        (addresses_line (name_in functions.now) read ++ rows) }
+        (addresses_line style.format (name_in functions.now) read ++ rows) }
 {
-    write_addresses(output, functions, fde)?;
-    write_rows(output, names, section, bases, context, fde)
+    write_addresses(output, style.format, functions, fde)?;
+    write_rows(output, style, section, bases, context, fde)
 }
 
 /// Writes the line of the FDE's addresses, from the first up to the end, and of the name of the
 /// function that begins at the first.
 fn write_addresses<R: Reader<Offset = usize>, W: Write>(
     output: &mut W,
+    format: Format,
     functions: &FunctionNames<'_>,
     fde: &FrameDescriptionEntry<R>,
 ) -> io::Result<()>
     ensures { Writes (W.contents output.old) (W.contents output.new) result
-        (addresses_line (name_in functions.now) (fde_view R.position (λ n. n) fde.now)) }
+        (addresses_line format (name_in functions.now) (fde_view R.position (λ n. n) fde.now)) }
 {
     let start = fde.initial_address();
-    write_range(output, start, fde.end_address())?;
-    end_line(output, functions.name_at(start))
+    write_range(output, format, start, fde.end_address())?;
+    end_line(output, format, functions.name_at(start))
 }
 
 /// Writes the addresses, from the first up to the end.
-fn write_range<W: Write>(output: &mut W, start: u64, end: u64) -> io::Result<()>
+fn write_range<W: Write>(output: &mut W, format: Format, start: u64, end: u64) -> io::Result<()>
     ensures { Writes (W.contents output.old) (W.contents output.new) result
-        (addresses_text start end) }
+        (addresses_in format start end) }
 {
     let mut text = Text::new();
-    push(&mut text, b"fde ")?;
-    push_address(&mut text, start)?;
-    push(&mut text, b" ")?;
-    push_address(&mut text, end)?;
+    push_addresses(&mut text, format, start, end)?;
     write_text(output, text.as_slice())
+}
+
+/// Appends the addresses.
+fn push_addresses(text: &mut Text, format: Format, start: u64, end: u64) -> fmt::Result
+    ensures { OnOk result (text.new.items ≡ text.old.items ++ addresses_in format start end) }
+{
+    match format {
+        Format::Text => push_range(text, start, end),
+        Format::Json => push_json_range(text, start, end),
+    }
+}
+
+/// Appends the addresses to a line of text.
+fn push_range(text: &mut Text, start: u64, end: u64) -> fmt::Result
+    ensures { OnOk result (text.new.items ≡ text.old.items ++ addresses_text start end) }
+{
+    push(text, b"fde ")?;
+    push_address(text, start)?;
+    push(text, b" ")?;
+    push_address(text, end)
+}
+
+/// Appends the addresses as members of an object.
+fn push_json_range(text: &mut Text, start: u64, end: u64) -> fmt::Result
+    ensures { OnOk result (text.new.items ≡ text.old.items ++ json_addresses start end) }
+{
+    push(text, b"{\"fde\":{\"start\":\"")?;
+    push_address(text, start)?;
+    push(text, b"\",\"end\":\"")?;
+    push_address(text, end)?;
+    push(text, b"\"")
 }

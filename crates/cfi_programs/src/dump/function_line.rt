@@ -1,15 +1,34 @@
 //! The end of the line of an FDE's addresses: the name of the function that begins there.
-ghost use Rattle.std.specs.Prelude.{◌≡◌, ◌++◌, [], ◌∷◌, map, option_map};
+ghost use Rattle.std.specs.Prelude.{◌≡◌, ◌++◌, [], ◌∷◌, Some, map, option_map};
 ghost use Rattle.cfi_programs.specs.WriterOutput.{Writes};
 ghost use Rattle.cfi_programs.specs.FunctionLines.{function_text, shown};
+ghost use Rattle.cfi_programs.specs.JsonLines.{escaped, json_function};
+ghost use Rattle.cfi_programs.specs.DumpRowTexts.{function_in};
 
+use crate::json::write_escape;
 use crate::lines::write_text;
+use crate::style::Format;
 use std::io;
 use std::io::Write;
 
-/// Ends a line, after a space and the name where there is one. A byte of the name that is not a
-/// printable character of ASCII is written as a question mark.
-pub(crate) fn end_line<W: Write>(output: &mut W, name: Option<&[u8]>) -> io::Result<()>
+/// Ends a line, after the name where there is one. A byte of the name that is not a printable
+/// character of ASCII is written as a question mark.
+pub(crate) fn end_line<W: Write>(
+    output: &mut W,
+    format: Format,
+    name: Option<&[u8]>,
+) -> io::Result<()>
+    ensures { Writes (W.contents output.old) (W.contents output.new) result
+        (function_in format (option_map (λ name. name.now) name.entry)) }
+{
+    match format {
+        Format::Text => end_text(output, name),
+        Format::Json => end_object(output, name),
+    }
+}
+
+/// Ends a line of text, after a space and the name where there is one.
+fn end_text<W: Write>(output: &mut W, name: Option<&[u8]>) -> io::Result<()>
     ensures { Writes (W.contents output.old) (W.contents output.new) result
         (function_text (option_map (λ name. name.now) name.entry) ++ 10 ∷ []) }
 {
@@ -19,7 +38,7 @@ pub(crate) fn end_line<W: Write>(output: &mut W, name: Option<&[u8]>) -> io::Res
     }
 }
 
-/// Ends a line, after a space and the name.
+/// Ends a line of text, after a space and the name.
 fn end_named_line<W: Write>(output: &mut W, name: &[u8]) -> io::Result<()>
     ensures { Writes (W.contents output.old) (W.contents output.new) result
         ((32 ∷ map shown name.now) ++ 10 ∷ []) }
@@ -49,4 +68,36 @@ fn shown(byte: u8) -> u8
     } else {
         b'?'
     }
+}
+
+/// Ends the object of an FDE, after the name where there is one.
+fn end_object<W: Write>(output: &mut W, name: Option<&[u8]>) -> io::Result<()>
+    ensures { Writes (W.contents output.old) (W.contents output.new) result
+        (json_function (option_map (λ name. name.now) name.entry) ++ 10 ∷ []) }
+{
+    match name {
+        None => write_text(output, b"}}\n"),
+        Some(name) => end_named_object(output, name),
+    }
+}
+
+/// Ends the object of an FDE, after the name.
+fn end_named_object<W: Write>(output: &mut W, name: &[u8]) -> io::Result<()>
+    ensures { Writes (W.contents output.old) (W.contents output.new) result
+        (json_function (Some name.now) ++ 10 ∷ []) }
+{
+    write_text(output, b",\"function\":\"")?;
+    write_shown_escaped(output, name)?;
+    write_text(output, b"\"}}\n")
+}
+
+/// Writes the name within a string of JSON.
+fn write_shown_escaped<W: Write>(output: &mut W, name: &[u8]) -> io::Result<()>
+    ensures { Writes (W.contents output.old) (W.contents output.new) result
+        (escaped (map shown name.now)) }
+{
+    for byte in name {
+        write_escape(output, shown(*byte))?;
+    }
+    Ok(())
 }

@@ -13,6 +13,7 @@ ghost use Rattle.cfi_programs.specs.RowLines.{expression_text};
 use crate::dump::section::write_refused;
 use crate::lines::write_part;
 use crate::register_names::RegisterNames;
+use crate::style::Format;
 use gimli_cfi::{
     CallFrameInstruction as Instruction, CallFrameInstructionIter, Reader, Register, Result,
     UnwindExpression,
@@ -248,11 +249,11 @@ fn write_item<W: Write>(
     instruction: Result<Instruction<usize>>,
 ) -> io::Result<()>
     ensures { Writes (W.contents output.old) (W.contents output.new) result
-        (item_text (instruction_line names) instruction) }
+        (item_text Format.Text (instruction_line names) instruction) }
 {
     match instruction {
         Ok(instruction) => write_instruction(output, names, instruction),
-        Err(error) => write_refused(output, error),
+        Err(error) => write_refused(output, Format::Text, error),
     }
 }
 

@@ -16,7 +16,7 @@ ghost use Rattle.cfi_programs.specs.declared.dump.printed.Printed.TheVariants.{C
 use crate::dump::compiled::write_steps;
 use crate::dump::printed::{AskedRows, Printed};
 use crate::dump::section::{Listed, write_section};
-use crate::lines::write_refusal;
+use crate::lines::{write_refusal, write_refusal_in};
 use crate::register_names::RegisterNames;
 use crate::words::{Kind, SectionWords};
 use cfi_compiled::CompiledTable;
@@ -52,7 +52,7 @@ pub fn print_bytes<W: Write>(
             let reader = EndianSlice::new(bytes, words.endian);
             print_read(alloc, output, names, printed, words, reader, &mut context)
         }
-        Err(error) => write_refusal(output, error),
+        Err(error) => write_refusal_in(output, printed.format(), error),
     }
 }
 

@@ -1,5 +1,9 @@
 //! What may be printed of a section.
 
+ghost use Rattle.std.specs.Prelude.{◌≡◌};
+ghost use Rattle.cfi_programs.specs.DumpProgramOutput.{format_of};
+
+use crate::style::Format;
 use cfi_elf::FunctionNames;
 
 /// The FDEs whose rows are printed, and the names of their functions.
@@ -9,16 +13,31 @@ pub struct AskedRows<'names> {
     pub address: Option<u64>,
     /// The names, by the first address of an FDE.
     pub functions: &'names FunctionNames<'names>,
+    /// The form of the lines.
+    pub format: Format,
 }
 
 /// What is printed of the section.
 #[derive(Clone, Copy)]
 pub enum Printed<'names> {
-    /// Each entry and its instructions, and after those of each FDE its rows.
+    /// Each entry and its instructions, and after those of each FDE its rows, as lines of text.
     Entries,
     /// For each FDE a line with its addresses and the name of the function that begins there, and
     /// its rows.
     Rows(AskedRows<'names>),
-    /// The rows for all addresses, by a compiled table.
+    /// The rows for all addresses, by a compiled table, as lines of text.
     Compiled,
+}
+
+impl Printed<'_> {
+    /// Returns the form of the lines.
+    pub fn format(self) -> Format
+        ensures { result ≡ format_of self.entry }
+    {
+        match self {
+            Printed::Rows(asked) => asked.format,
+            Printed::Entries => Format::Text,
+            Printed::Compiled => Format::Text,
+        }
+    }
 }

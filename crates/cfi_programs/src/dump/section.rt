@@ -14,22 +14,24 @@ ghost use Rattle.cfi_unwind.specs.FdeViews.{fde_view};
 ghost use Rattle.cfi_unwind.specs.WalkViews.{OfEither, entry_view, partial_of};
 ghost use Rattle.cfi_unwind.specs.Scan.{read_fde};
 ghost use Rattle.cfi_unwind.specs.UnwindTableViews.{table_state};
-ghost use Rattle.cfi_programs.specs.Lines.{refusal_line};
+ghost use Rattle.cfi_programs.specs.AnswerLines.{text_style};
+ghost use Rattle.cfi_programs.specs.Lines.{refusal_in, refusal_line};
 ghost use Rattle.cfi_programs.specs.WriterOutput.{Writes};
 ghost use Rattle.cfi_programs.specs.DumpEntryLines.{fde_line, partial_fde_line};
 ghost use Rattle.cfi_programs.specs.DumpInstructionLines.{instructions_text};
 ghost use Rattle.cfi_programs.specs.DumpSectionTexts.{cie_text, entry_text, fde_rows, fde_text};
 ghost use Rattle.cfi_programs.specs.DumpSectionTexts.{lines};
 ghost use Rattle.cfi_programs.specs.ReadingTexts.{item_text};
-ghost use Rattle.cfi_programs.specs.DumpRowTexts.{listed_entry_text, listed_text};
+ghost use Rattle.cfi_programs.specs.DumpRowTexts.{listed_entry_text, listed_format, listed_text};
 
 use crate::dump::addressed_rows::write_entry_rows;
 use crate::dump::entry_line::{write_cie, write_fde, write_partial_fde};
 use crate::dump::instruction_line::write_instructions;
 use crate::dump::printed::AskedRows;
-use crate::lines::write_refusal;
+use crate::lines::write_refusal_in;
 use crate::register_names::RegisterNames;
 use crate::row_line::write_answer;
+use crate::style::{Format, Style};
 use gimli_cfi::{
     _UnwindSectionPrivate, BaseAddresses, CieOrFde, CommonInformationEntry, Error,
     FrameDescriptionEntry, PartialFrameDescriptionEntry, Reader, Result, UnwindContext,
@@ -45,7 +47,7 @@ pub enum Listed<'names> {
     /// its rows.
     Entries,
     /// For each FDE a line with its addresses and the name of the function that begins there, and
-    /// the lines of its rows.
+    /// the lines of its rows, in the format that is asked for.
     Rows(AskedRows<'names>),
 }
 
@@ -88,13 +90,15 @@ fn write_listed<R: Reader<Offset = usize>, S: UnwindSection<R>, W: Write>(
     ensures { let found = map_ok (entry_view (cie_view R.position (λ n. n))
         (λ p. partial_of R.position (λ n. n) p.prefix p.cie_offset)) entry.entry in
         Writes (W.contents output.old) (W.contents output.new) result
-        (item_text (λ e. listed_entry_text names listed.entry
+        (item_text (listed_format listed.entry) (λ e. listed_entry_text names listed.entry
         (section_of (S.view section.now) bases.now) e) found) }
 {
     match listed {
         Listed::Entries => write_entry(output, names, section, bases, context, entry),
         Listed::Rows(asked) => {
-            write_entry_rows(output, names, asked, section, bases, context, entry)
+            let format = asked.format;
+            let style = Style { names, format };
+            write_entry_rows(output, style, asked, section, bases, context, entry)
         }
     }
 }
@@ -114,23 +118,23 @@ fn write_entry<R: Reader<Offset = usize>, S: UnwindSection<R>, W: Write>(
     ensures { let found = map_ok (entry_view (cie_view R.position (λ n. n))
         (λ p. partial_of R.position (λ n. n) p.prefix p.cie_offset)) entry.entry in
         Writes (W.contents output.old) (W.contents output.new) result
-        (item_text (λ e. entry_text names (section_of (S.view section.now) bases.now) e) found) }
+        (item_text Format.Text (λ e. entry_text names (section_of (S.view section.now) bases.now) e) found) }
 {
     match entry {
         Ok(CieOrFde::Cie(cie)) => write_whole_cie(output, names, section, bases, &cie),
         Ok(CieOrFde::Fde(partial)) => write_fde_and_rows(
             output, names, section, bases, context, &partial,
         ),
-        Err(error) => write_refused(output, error),
+        Err(error) => write_refused(output, Format::Text, error),
     }
 }
 
 /// Writes the line of an error.
-pub fn write_refused<W: Write>(output: &mut W, error: Error) -> io::Result<()>
+pub fn write_refused<W: Write>(output: &mut W, format: Format, error: Error) -> io::Result<()>
     ensures { Writes (W.contents output.old) (W.contents output.new) result
-        (refusal_line error).text }
+        (refusal_in format error).text }
 {
-    write_refusal(output, error)?;
+    write_refusal_in(output, format, error)?;
     Ok(())
 }
 
@@ -190,11 +194,13 @@ fn write_whole_fde<R: Reader<Offset = usize>, S: UnwindSection<R>, W: Write>(
         let read = fde_view R.position (λ n. n) fde.now in
         let instructions = instructions_text names (fde_instructions from read) in
         Writes (W.contents output.old) (W.contents output.new) result
-        (fde_line read ++ (instructions ++ lines names (fde_rows from read))) }
+        (fde_line read ++ (instructions ++ lines (text_style names) (fde_rows from read))) }
 {
     write_fde(output, fde)?;
     write_instructions(output, names, fde.instructions(section, bases))?;
-    write_rows(output, names, section, bases, context, fde)
+    let format = Format::Text;
+    let style = Style { names, format };
+    write_rows(output, style, section, bases, context, fde)
 }
 
 /// Writes what is known of an FDE that can't be read whole, and why it can't.
@@ -208,7 +214,7 @@ fn write_refused_fde<W: Write>(
         (partial_fde_line offset length ++ (refusal_line error).text) }
 {
     write_partial_fde(output, offset, length)?;
-    write_refused(output, error)
+    write_refused(output, Format::Text, error)
 }
 
 /// Returns the whole FDE, with its CIE in the section.
@@ -233,7 +239,7 @@ pub fn whole<R: Reader, S: UnwindSection<R>>(
 /// Writes a line for each row of the FDE, and for each error among them.
 pub fn write_rows<R: Reader<Offset = usize>, S: UnwindSection<R>, W: Write>(
     output: &mut W,
-    names: RegisterNames,
+    style: Style,
     section: &S,
     bases: &BaseAddresses,
     context: &mut UnwindContext<usize>,
@@ -243,29 +249,29 @@ pub fn write_rows<R: Reader<Offset = usize>, S: UnwindSection<R>, W: Write>(
     requires cie { IsOf (R.position fde.now.cie.initial_instructions)
         (S.view section.now).position }
     ensures { Writes (W.contents output.old) (W.contents output.new) result
-        (lines names (fde_rows (section_of (S.view section.now) bases.now)
+        (lines style (fde_rows (section_of (S.view section.now) bases.now)
         (fde_view R.position (λ n. n) fde.now))) }
 {
     match fde.rows(section, bases, context) {
-        Ok(mut table) => write_table(output, names, &mut table),
-        Err(error) => write_refused(output, error),
+        Ok(mut table) => write_table(output, style, &mut table),
+        Err(error) => write_refused(output, style.format, error),
     }
 }
 
 /// Writes a line for each row that is left in the table, and for each error among them.
 fn write_table<R: Reader<Offset = usize>, W: Write>(
     output: &mut W,
-    names: RegisterNames,
+    style: Style,
     table: &mut UnwindTable<'_, '_, R>,
 ) -> io::Result<()>
     ensures { let setting = setting_of table.old.parameters (Some 192) (Some 4) in
         let state = table_state R.position (λ n. n) table.old in
         (program : Program ℕ) → IsStateAfter setting state.so_far program
         → Writes (W.contents output.old) (W.contents output.new) result
-        (lines names (answers_to_come setting (at_program state program))) }
+        (lines style (answers_to_come setting (at_program state program))) }
 {
     while let Some(answer) = table.next_row().transpose() {
-        write_answer(output, names, answer)?;
+        write_answer(output, style, answer)?;
     }
     Ok(())
 }

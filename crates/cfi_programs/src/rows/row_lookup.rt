@@ -15,6 +15,7 @@ use crate::lines::write_refusal;
 use crate::register_names::RegisterNames;
 use crate::row_line::write_answer;
 use crate::rows::command_line::{Request, Storage};
+use crate::style::{Format, Style};
 use crate::words::{Kind, SectionWords};
 use gimli_cfi::{
     DebugFrame, EhFrame, EhFrameHdr, Error, StoreGrowing, StoreOnHeap, UnwindContext,
@@ -23,6 +24,12 @@ use gimli_cfi::{
 use std::alloc::Global;
 use std::io;
 use std::io::Write;
+
+/// Lines of text, with registers by number.
+const PLAIN: Style = Style {
+    names: RegisterNames::Numbers,
+    format: Format::Text,
+};
 
 /// Prints the answer to the request.
 pub fn print_answer<W: Write>(
@@ -58,7 +65,7 @@ fn print_row<S: UnwindContextStorage<usize>, W: Write>(
         Err(error) => return write_refusal(output, error),
     };
     let answer = find_row(request, sections, &mut context);
-    write_answer(output, RegisterNames::Numbers, answer)
+    write_answer(output, PLAIN, answer)
 }
 
 /// Returns the row for the request's address.

@@ -1,5 +1,5 @@
 use Rattle.std.proofs.Common.{arith}
-use Rattle.cfi_programs.specs.RowLines.{parts_rules}
+use Rattle.cfi_programs.specs.RowLines.{parts_rules, ruled}
 use Rattle.cfi_programs.proofs.RowLineLemmas.{rules_none, rules_with, rules_without}
 use Rattle.cfi_programs.proofs.WrittenLemmas.{behind_all, behind_begun, behind_less, behind_more, behind_refused, given_part}
 use Rattle.cfi_programs.proofs.row_line.write_by_number.Goals as goal
@@ -16,9 +16,9 @@ pub loop-number-preserved : goal.loop-number-preserved
 loop-number-preserved g c = elim c.match-rule.branch [
   | in-Some+in_ok-make_room+in_ok-push_ruled w ↦ rw (w.output-is, w.text-is)
       (behind_more _ _ _ _ _ _ _ _ (behind_less _ _ _ _ _ _ _ c.loop-number.invariant w.in_ok-make_room.ensures) w.in_ok-push_ruled.ensures.text
-      (rules_with c.args.names 65536 c.loop-number.number _ _ (omega (arith, c.end-end.ensures.within)) w.in-Some.ensures))
-  | in_default w ↦ rw (w.output-is, w.text-is, ← rules_without c.args.names 65536 c.loop-number.number _ (omega (arith, c.end-end.ensures.within)) w.in_default.ensures) c.loop-number.invariant
+      (rules_with (ruled c.args.names) 65536 c.loop-number.number _ _ (omega (arith, c.end-end.ensures.within)) w.in-Some.ensures))
+  | in_default w ↦ rw (w.output-is, w.text-is, ← rules_without (ruled c.args.names) 65536 c.loop-number.number _ (omega (arith, c.end-end.ensures.within)) w.in_default.ensures) c.loop-number.invariant
 ]
 
 pub returns : goal.returns
-returns g c = behind_all _ _ _ _ _ c.loop-number.invariant (rules_none c.args.names _ c.loop-number.number _ (λ k h. c.end-end.ensures.above k (omega arith)))
+returns g c = behind_all _ _ _ _ _ c.loop-number.invariant (rules_none (ruled c.args.names) _ c.loop-number.number _ (λ k h. c.end-end.ensures.above k (omega arith)))

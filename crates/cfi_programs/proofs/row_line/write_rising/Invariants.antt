@@ -1,7 +1,7 @@
 use Rattle.std.proofs.Common.{◌++◌}
 use Rattle.std.specs.FinMap as map
 use Rattle.cfi_state.specs.RulePairs.{rules_of, IsRising}
-use Rattle.cfi_programs.specs.RowLines.{rules_text}
+use Rattle.cfi_programs.specs.RowLines.{ruled, rules_by}
 use Rattle.cfi_programs.proofs.WrittenLemmas.{IsGiven}
 use Rattle.cfi_programs.proofs.row_line.write_rising.Given as goal
 
@@ -11,4 +11,4 @@ invariant-loop-register g l =
     (goal.iterator-loop-register g).can_next l.register-iterator ×
     (goal.iterator-loop-register g).is_finite l.register-iterator ×
     (IsRising left × IsGiven (g.W.Write.contents l.initial.output) (g.W.Write.contents l.output)
-    (l.text.items ++ rules_text l.names 65536 0 (map.get (rules_of left))) (l.initial.text.items ++ rules_text l.names 65536 0 (map.get (rules_of l.fn.rules.rules.now))))
+    (l.text.items ++ rules_by (ruled l.names) 65536 0 (map.get (rules_of left))) (l.initial.text.items ++ rules_by (ruled l.names) 65536 0 (map.get (rules_of l.fn.rules.rules.now))))

@@ -7,11 +7,11 @@ use Rattle.cfi_programs.proofs.dump.addressed_rows.write_addresses.Goals as goal
 pub returns-in_err-write_range : goal.returns-in_err-write_range
 returns-in_err-write_range g c =
     let fde = fde_view g.R.Reader.position (λ n. n) c.args.fde.now in
-    addresses_refused _ (g.W.Write.contents c.args.output.now) _ _ (name_in c.args.functions.now) fde c.initial_address-start.result c.end_address.result c.initial_address-start.ensures c.end_address.ensures
+    addresses_refused _ (g.W.Write.contents c.args.output.now) _ _ c.args.format (name_in c.args.functions.now) fde c.initial_address-start.result c.end_address.result c.initial_address-start.ensures c.end_address.ensures
     c.from_residual.ensures.0 c.in_err-write_range.ensures
 
 pub returns : goal.returns
 returns g c =
     let fde = fde_view g.R.Reader.position (λ n. n) c.args.fde.now in
-    addresses_written _ _ _ _ (name_in c.args.functions.now) fde c.initial_address-start.result c.end_address.result c.initial_address-start.ensures c.end_address.ensures
+    addresses_written _ _ _ _ c.args.format (name_in c.args.functions.now) fde c.initial_address-start.result c.end_address.result c.initial_address-start.ensures c.end_address.ensures
     (option_map (λ (name : Bor (List ℕ)). name.now) c.name_at.result) c.name_at.ensures c.in_ok-write_range.ensures c.end_line.ensures

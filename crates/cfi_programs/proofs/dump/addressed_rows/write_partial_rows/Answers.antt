@@ -12,11 +12,11 @@ returns-in-Ok g c =
     let section = section_of (g.S._UnwindSectionPrivate.view c.args.section.now) c.args.bases.now in
     let found = partial_of g.R.Reader.position (λ n. n) c.args.partial.now.prefix c.args.partial.now.cie_offset in
     let read : Ok (fde_view g.R.Reader.position (λ n. n) c.in-Ok.fde) ≡ read_fde section found = rw (c.requires.section, c.requires.bases) at c.in-Ok.ensures.read in
-    rows_as_read _ _ _ c.args.names (name_in c.args.asked.functions.now) c.args.asked.address section found _ read c.write_if_asked_for.ensures
+    rows_as_read _ _ _ c.args.style (name_in c.args.asked.functions.now) c.args.asked.address section found _ read c.write_if_asked_for.ensures
 
 pub returns-in-Err : goal.returns-in-Err
 returns-in-Err g c =
     let section = section_of (g.S._UnwindSectionPrivate.view c.args.section.now) c.args.bases.now in
     let found = partial_of g.R.Reader.position (λ n. n) c.args.partial.now.prefix c.args.partial.now.cie_offset in
     let read : Err c.in-Err.error ≡ read_fde section found = rw (c.requires.section, c.requires.bases) at c.in-Err.ensures.read in
-    rows_as_read _ _ _ c.args.names (name_in c.args.asked.functions.now) c.args.asked.address section found _ read c.write_refused.ensures
+    rows_as_read _ _ _ c.args.style (name_in c.args.asked.functions.now) c.args.asked.address section found _ read c.write_refused.ensures

@@ -3,7 +3,7 @@ use Rattle.cfi_entry.specs.Entries.{entries_left}
 use Rattle.cfi_entry.specs.EntryViews.{IsCieOf}
 use Rattle.cfi_entry.specs.Sections.{section_of}
 use Rattle.cfi_programs.proofs.WrittenLemmas.{IsGiven, beginning_then, given_first, given_then, writes_refused}
-use Rattle.cfi_programs.specs.DumpRowTexts.{listed_entry_text, listed_text}
+use Rattle.cfi_programs.specs.DumpRowTexts.{listed_entry_text, listed_format, listed_text}
 use Rattle.cfi_programs.specs.ReadingTexts.{readings_text}
 use Rattle.cfi_programs.proofs.DumpSectionWritten.{all_written, of_section, to_write}
 use Rattle.cfi_programs.proofs.dump.section.write_section.Goals as goal
@@ -23,7 +23,7 @@ loop-entry-init g c =
       is_finite = tt;
       same_section = ap (λ it. it.section) is ∙ c.entries-entry-items.ensures.section;
       same_bases = ap (λ it. it.bases.now) is ∙ c.entries-entry-items.ensures.bases;
-      given = subst (λ (place : ℕ). IsGiven old old (readings_text (λ entry. listed_entry_text names listed section entry) (entries_left section place)) (listed_text names listed section)) (sym at) (given_first old (listed_text names listed section));
+      given = subst (λ (place : ℕ). IsGiven old old (readings_text (listed_format listed) (λ entry. listed_entry_text names listed section entry) (entries_left section place)) (listed_text names listed section)) (sym at) (given_first old (listed_text names listed section));
     }
 
 pub write_listed-requires : goal.write_listed-requires
@@ -33,13 +33,13 @@ write_listed-requires g c =
 pub returns-in_err-write_listed : goal.returns-in_err-write_listed
 returns-in_err-write_listed g c =
     let steps = c.in-Some.ensures.steps in
-    let left = to_write g.S._UnwindSectionPrivate.view _ _ _ _ _ _ _ _ _ _ _ _ _ c.loop-entry.invariant.same_section c.loop-entry.invariant.same_bases steps.1.0 steps.1.1 steps.0 c.loop-entry.invariant.given in
+    let left = to_write g.S._UnwindSectionPrivate.view _ _ _ _ _ _ _ _ _ _ _ _ _ _ c.loop-entry.invariant.same_section c.loop-entry.invariant.same_bases steps.1.0 steps.1.1 steps.0 c.loop-entry.invariant.given in
     writes_refused _ _ _ _ c.from_residual.ensures.0 (beginning_then _ _ _ _ _ _ left c.in_err-write_listed.ensures)
 
 pub loop-entry-preserved : goal.loop-entry-preserved
 loop-entry-preserved g c =
     let steps = c.in-Some.ensures.steps in
-    let left = to_write g.S._UnwindSectionPrivate.view _ _ _ _ _ _ _ _ _ _ _ _ _ c.loop-entry.invariant.same_section c.loop-entry.invariant.same_bases steps.1.0 steps.1.1 steps.0 c.loop-entry.invariant.given in
+    let left = to_write g.S._UnwindSectionPrivate.view _ _ _ _ _ _ _ _ _ _ _ _ _ _ c.loop-entry.invariant.same_section c.loop-entry.invariant.same_bases steps.1.0 steps.1.1 steps.0 c.loop-entry.invariant.given in
     record {
       can_next = tt;
       is_finite = tt;
@@ -50,4 +50,4 @@ loop-entry-preserved g c =
 
 pub returns : goal.returns
 returns g c =
-    all_written g.S._UnwindSectionPrivate.view _ _ _ _ _ _ _ _ _ c.loop-entry.invariant.same_section c.loop-entry.invariant.same_bases c.in-None.ensures.steps.0.0 c.loop-entry.invariant.given
+    all_written g.S._UnwindSectionPrivate.view _ _ _ _ _ _ _ _ _ _ c.loop-entry.invariant.same_section c.loop-entry.invariant.same_bases c.in-None.ensures.steps.0.0 c.loop-entry.invariant.given

@@ -16,7 +16,7 @@ invariant-loop-answer g l =
     let first = table_state g.R.Reader.position (λ n. n) l.initial.table in
     (setting_of l.table.parameters (Some 192) (Some 4) ≡ setting)
     × ((program : Program ℕ) → IsStateAfter setting first.so_far program
-    → StandsAt l.names setting (table_state g.R.Reader.position (λ n. n) l.table) (g.W.Write.contents l.initial.output) (g.W.Write.contents l.output) (lines l.names (answers_to_come setting (at_program first program))))
+    → StandsAt l.style setting (table_state g.R.Reader.position (λ n. n) l.table) (g.W.Write.contents l.initial.output) (g.W.Write.contents l.output) (lines l.style (answers_to_come setting (at_program first program))))
 
 abbrev pub decreases-loop-answer : goal.decreases-loop-answer
 decreases-loop-answer g l = answers_left (table_state g.R.Reader.position (λ n. n) l.table)

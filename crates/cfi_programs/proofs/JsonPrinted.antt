@@ -1,0 +1,75 @@
+-- Lines of JSON, by computation.
+use Rattle.std.proofs.Common.{◌≡◌, ℕ, ◌^◌, Option, [], ◌∷◌, ◌++◌, Some, None, true, pos, negsuc, refl, codes, ◌==◌, if◌then◌else◌}
+use Rattle.cfi_read_core.specs.declared.error.Error.TheVariants.{NoUnwindInfoForAddress}
+use Rattle.cfi_state.specs.declared.table.rules.CfaRule.TheVariants as cfas
+use Rattle.cfi_state.specs.declared.table.rules.CfaRule.{CfaRule}
+use Rattle.cfi_state.specs.declared.table.rules.RegisterRule.{RegisterRule}
+use Rattle.cfi_state.specs.declared.table.rules.RegisterRule.TheVariants as rules
+use Rattle.cfi_state.specs.Row.{Row}
+use Rattle.std.specs.FinMap as map
+use Rattle.cfi_programs.specs.JsonLines.{escaped, json_addresses, json_function, json_head, json_number, json_rule, json_section, separated}
+use Rattle.cfi_programs.specs.Lines.{reason_line, refusal_in}
+use Rattle.cfi_programs.specs.RowLines.{rules_by}
+use Rattle.cfi_programs.specs.declared.register_names.RegisterNames.TheVariants.{X86_64}
+use Rattle.cfi_programs.specs.declared.style.Format.TheVariants.{Json}
+use Rattle.cfi_programs.proofs.Computing.{computing}
+
+abbrev row_of : ℕ → ℕ → CfaRule ℕ → ℕ → Row ℕ
+row_of start end cfa args_size = record { start_address = start; end_address = end; parts = record { cfa = cfa; rules = map.empty; args_size = args_size } }
+
+-- ---- a row
+
+before_the_rules : json_head X86_64 (row_of 0x1001 0x1004 (cfas.RegisterAndOffset (record { 0 = 7 }) (pos 16)) 0) ≡
+    codes "{\"start\":\"0x1001\",\"end\":\"0x1004\",\"cfa\":\"rsp+16\",\"args\":0,\"rules\":{"
+unfolding computing
+before_the_rules = refl
+
+abbrev two_rules : ℕ → Option (RegisterRule ℕ)
+two_rules r = if r == 6 then Some (rules.Offset (negsuc 15)) else if r == 16 then Some rules.Undefined else None
+
+two_members : separated true (rules_by (json_rule X86_64) 32 0 two_rules) ≡ codes "\"rbp\":\"offset(-16)\",\"ra\":\"undefined\""
+unfolding computing
+two_members = refl
+
+abbrev no_rule : ℕ → Option (RegisterRule ℕ)
+no_rule r = None
+
+no_member : separated true (rules_by (json_rule X86_64) 32 0 no_rule) ≡ []
+unfolding computing
+no_member = refl
+
+-- ---- an FDE
+
+named_fde : json_addresses 0x1000 0x1010 ++ json_function (Some (codes "operator\"\"_s" ++ 0x1b ∷ [])) ≡
+    codes "{\"fde\":{\"start\":\"0x1000\",\"end\":\"0x1010\",\"function\":\"operator\\\"\\\"_s?\"}}"
+unfolding computing
+named_fde = refl
+
+nameless_fde : json_addresses 0x1000 0x1010 ++ json_function None ≡ codes "{\"fde\":{\"start\":\"0x1000\",\"end\":\"0x1010\"}}"
+unfolding computing
+nameless_fde = refl
+
+section_name : json_section (codes ".eh_frame") ≡ codes "{\"section\":\".eh_frame\"}"
+unfolding computing
+section_name = refl
+
+-- ---- numbers, strings and errors
+
+greatest_number : json_number (9007199254740991) ≡ codes "9007199254740991"
+unfolding computing
+greatest_number = refl
+
+least_string : json_number (2 ^ 53) ≡ codes "\"9007199254740992\""
+unfolding computing
+least_string = refl
+
+-- a tab, a quotation mark, a backslash, delete and a character of two bytes
+escaped_characters : escaped (codes "a" ++ 9 ∷ 0x1f ∷ codes "\"\\" ++ 0x7f ∷ 0xc3 ∷ 0xa9 ∷ []) ≡ codes "a\\u0009\\u001f\\\"\\\\" ++ 0x7f ∷ 0xc3 ∷ 0xa9 ∷ []
+unfolding computing
+escaped_characters = refl
+
+refused : refusal_in Json NoUnwindInfoForAddress ≡ record { text = codes "{\"error\":\"NoUnwindInfoForAddress\"}" ++ 10 ∷ []; status = 1 }
+refused = refl
+
+no_address : reason_line Json (codes "no address") 1 ≡ record { text = codes "{\"error\":\"no address\"}" ++ 10 ∷ []; status = 1 }
+no_address = refl
