@@ -1,9 +1,10 @@
 -- Outputs that are written one after the other.
-use Rattle.std.proofs.Common.{◌≡◌, ℕ, List, Option, Some, None, Result, Ok, Err, IfOk, [], refl, sym, subst, max, unwrap_or}
+use Rattle.std.proofs.Common.{◌≡◌, ℕ, List, Option, Some, None, Result, Ok, Err, IfOk, [], ◌∷◌, ◌++◌, append_assoc, codes, refl, sym, subst, max, unwrap_or}
 use Rattle.std.specs.Result.{IsErr}
 use Rattle.std.specs.Io.KnownBytes.{Appends}
 use Rattle.cfi_programs.specs.Lines.{Line}
-use Rattle.cfi_programs.specs.WriterOutput.{IsBeginning, Prints}
+use Rattle.cfi_programs.specs.WriterOutput.{IsBeginning, Prints, Writes}
+use Rattle.cfi_programs.specs.JsonLines.{json_section}
 use Rattle.cfi_read_core.specs.ReaderCalls.{map_ok}
 use Rattle.cfi_programs.proofs.WrittenLemmas.{appends_then}
 use Rattle.cfi_programs.proofs.DumpSectionWritten.{first_refused, last_written}
@@ -27,6 +28,11 @@ pub under_refused : {E : Type 0} (Is : Line → Type 0) (front : List ℕ) (old 
     ((begun : List ℕ) × Appends old new begun × IsBeginning begun front) → PrintsSome (λ line. IsUnder front Is line) old new r
 under_refused Is front old new r (body, is) err begun =
     (under front body, (first_refused old new r front body.text err begun, no_status r (λ status. status ≡ body.status) err), (body, is, refl))
+
+-- the object with the name of a section, part by part
+pub section_named : {T E : Type 0} (old new : Option (List ℕ)) (r : Result T E) (name : List ℕ) → Writes old new r (codes "{\"section\":\"" ++ (name ++ (codes "\"}" ++ 10 ∷ []))) → Writes old new r (json_section name ++ 10 ∷ [])
+section_named old new r name h =
+    rw (append_assoc (codes "{\"section\":\"") (name ++ codes "\"}") (10 ∷ []), append_assoc name (codes "\"}") (10 ∷ [])) h
 
 pub no_finding : {E : Type 0} (r : Result Finding E) (Q : Finding → Type 0) → IsErr r → IfOk r Q
 no_finding (Ok n) Q err = cc
@@ -53,6 +59,11 @@ line_checked Is finding printed old new (Err e) is (writes, status) = (finding, 
 pub checks_line : {E : Type 0} (Is : Finding → Line → Type 0) (finding : Finding) (printed : Line) (old new : Option (List ℕ)) (r : Result ℕ E) (answer : Result Finding E) →
     answer ≡ map_ok (λ status. finding) r → Is finding printed → Prints printed old new r → ChecksSome Is old new answer
 checks_line Is finding printed old new r answer e is prints = subst (λ found. ChecksSome Is old new found) (sym e) (line_checked Is finding printed old new r is prints)
+
+-- a line that was written for what was found, and what was found
+pub checks_found : {E : Type 0} (Is : Finding → Line → Type 0) (finding : Finding) (printed : Line) (old new : Option (List ℕ)) (r : Result Finding E) →
+    Is finding printed → Writes old new r printed.text → IfOk r (λ found. found ≡ finding) → ChecksSome Is old new r
+checks_found Is finding printed old new r is writes found = (finding, printed, writes, found, is)
 
 -- ---- one and then another
 

@@ -10,12 +10,11 @@ use Rattle.std.specs.Io.KnownBytes.{Appends}
 use Rattle.cfi_elf.specs.declared.error.ElfError.{ElfError}
 use Rattle.cfi_elf.specs.ElfFiles.{File}
 use Rattle.cfi_programs.specs.Lines.{Line}
-use Rattle.cfi_programs.specs.Runs.{out_of_memory}
-use Rattle.cfi_programs.specs.declared.register_names.RegisterNames.{RegisterNames}
+use Rattle.cfi_programs.specs.declared.style.Style.{Style}
 use Rattle.cfi_programs.specs.Words.{texts}
 use Rattle.cfi_programs.proofs.WrittenLemmas.{appends_then, none_yet}
 use Rattle.cfi_programs.proofs.DumpSectionWritten.{first_refused, last_written}
-use Rattle.cfi_files.specs.FileLines.{PrintsSome, elf_refusal, in_turn, no_address}
+use Rattle.cfi_files.specs.FileLines.{PrintsSome, elf_refusal, in_turn, no_address, out_of_memory}
 use Rattle.cfi_files.specs.RowOutputs.{AreWordLines, IsWordLine, no_lines}
 use Rattle.cfi_files.specs.Targets.{target_address}
 use Rattle.cfi_files.proofs.Joined.{IsGiven}
@@ -36,55 +35,55 @@ regrouped a b c = λ i. record { text = sym (append_assoc a.text b.text c.text) 
 
 -- ---- each word has some line
 
-some_line : (names : RegisterNames) (file : File) (target : Result (Option ℕ) ElfError) → (line : Line) × IsWordLine names file target line
-some_line names file (Ok (Some address)) = (out_of_memory, inr refl)
-some_line names file (Ok None) = (no_address, refl)
-some_line names file (Err e) = (elf_refusal e, refl)
+some_line : (style : Style) (file : File) (target : Result (Option ℕ) ElfError) → (line : Line) × IsWordLine style file target line
+some_line style file (Ok (Some address)) = (out_of_memory style.format, inr refl)
+some_line style file (Ok None) = (no_address style.format, refl)
+some_line style file (Err e) = (elf_refusal style.format e, refl)
 
-some_lines : (names : RegisterNames) (file : File) (words : List (List ℕ)) → (line : Line) × AreWordLines names file words line
-some_lines names file [] = (no_lines, refl)
-some_lines names file (word ∷ words) =
-    let first = some_line names file (target_address file word) in
-    let others = some_lines names file words in
+some_lines : (style : Style) (file : File) (words : List (List ℕ)) → (line : Line) × AreWordLines style file words line
+some_lines style file [] = (no_lines, refl)
+some_lines style file (word ∷ words) =
+    let first = some_line style file (target_address file word) in
+    let others = some_lines style file words in
     (in_turn first.0 others.0, (first.0, others.0, first.1, others.1, refl))
 
 -- ---- so far
 
 -- What was printed for the first words: the lines of those that are left complete it.
-pub record SoFar (names : RegisterNames) (file : File) (words left : List (List ℕ)) (old now : Option (List ℕ)) (status : ℕ) : Type 0 where
+pub record SoFar (style : Style) (file : File) (words left : List (List ℕ)) (old now : Option (List ℕ)) (status : ℕ) : Type 0 where
   pub before : Line
   pub given : Appends old now before.text
   pub reached : status ≡ before.status
-  pub whole : (others : Line) → AreWordLines names file left others → AreWordLines names file words (in_turn before others)
+  pub whole : (others : Line) → AreWordLines style file left others → AreWordLines style file words (in_turn before others)
 
-pub no_word_yet : (names : RegisterNames) (file : File) (words : List (List ℕ)) (old : Option (List ℕ)) → SoFar names file words words old old 0
-no_word_yet names file words old = record {
+pub no_word_yet : (style : Style) (file : File) (words : List (List ℕ)) (old : Option (List ℕ)) → SoFar style file words words old old 0
+no_word_yet style file words old = record {
   before = no_lines;
   given = none_yet old;
   reached = refl;
-  whole = λ others are. subst (AreWordLines names file words) (first_none others) are;
+  whole = λ others are. subst (AreWordLines style file words) (first_none others) are;
 }
 
-pub one_word_more : (names : RegisterNames) (file : File) (words left : List (List ℕ)) (word : List ℕ) (old mid new : Option (List ℕ)) (m n : ℕ) → SoFar names file words (word ∷ left) old mid m →
-    IsGiven (λ line. IsWordLine names file (target_address file word) line) mid new n → SoFar names file words left old new (max m n)
-one_word_more names file words left word old mid new m n so (line, (writes, status), is) = record {
+pub one_word_more : (style : Style) (file : File) (words left : List (List ℕ)) (word : List ℕ) (old mid new : Option (List ℕ)) (m n : ℕ) → SoFar style file words (word ∷ left) old mid m →
+    IsGiven (λ line. IsWordLine style file (target_address file word) line) mid new n → SoFar style file words left old new (max m n)
+one_word_more style file words left word old mid new m n so (line, (writes, status), is) = record {
   before = in_turn so.before line;
   given = appends_then old mid new so.before.text line.text so.given writes;
   reached = λ i. max (so.reached i) (status i);
-  whole = λ others are. subst (AreWordLines names file words) (regrouped so.before line others) (so.whole (in_turn line others) (line, others, is, are, refl));
+  whole = λ others are. subst (AreWordLines style file words) (regrouped so.before line others) (so.whole (in_turn line others) (line, others, is, are, refl));
 }
 
-pub all_words : (names : RegisterNames) (file : File) (words : List (List ℕ)) (old new : Option (List ℕ)) (status : ℕ) → SoFar names file words [] old new status →
-    IsGiven (λ line. AreWordLines names file words line) old new status
-all_words names file words old new status so =
-    (so.before, (so.given, so.reached), subst (AreWordLines names file words) (last_none so.before) (so.whole no_lines refl))
+pub all_words : (style : Style) (file : File) (words : List (List ℕ)) (old new : Option (List ℕ)) (status : ℕ) → SoFar style file words [] old new status →
+    IsGiven (λ line. AreWordLines style file words line) old new status
+all_words style file words old new status so =
+    (so.before, (so.given, so.reached), subst (AreWordLines style file words) (last_none so.before) (so.whole no_lines refl))
 
-pub word_failed : {E : Type 0} (names : RegisterNames) (file : File) (words left : List (List ℕ)) (word : List ℕ) (old mid new : Option (List ℕ)) (m : ℕ) (e : E) (r : Result ℕ E) → IsErr r →
-    SoFar names file words (word ∷ left) old mid m → PrintsSome (λ line. IsWordLine names file (target_address file word) line) mid new (Err e) →
-    PrintsSome (λ line. AreWordLines names file words line) old new r
-word_failed names file words left word old mid new m e (Ok n) err so failed = cc
-word_failed {E} names file words left word old mid new m e (Err e') err so (line, (begun, status), is) =
-    let others = some_lines names file left in (
+pub word_failed : {E : Type 0} (style : Style) (file : File) (words left : List (List ℕ)) (word : List ℕ) (old mid new : Option (List ℕ)) (m : ℕ) (e : E) (r : Result ℕ E) → IsErr r →
+    SoFar style file words (word ∷ left) old mid m → PrintsSome (λ line. IsWordLine style file (target_address file word) line) mid new (Err e) →
+    PrintsSome (λ line. AreWordLines style file words line) old new r
+word_failed style file words left word old mid new m e (Ok n) err so failed = cc
+word_failed {E} style file words left word old mid new m e (Err e') err so (line, (begun, status), is) =
+    let others = some_lines style file left in (
       in_turn so.before (in_turn line others.0),
       (
         last_written {T = ℕ} {E = E} old mid new (Err e') so.before.text (line.text ++ others.0.text) so.given

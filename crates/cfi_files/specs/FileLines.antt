@@ -1,23 +1,41 @@
 -- Lines that say why nothing is printed of a file, and outputs that are put together.
-use Rattle.std.specs.Prelude.{◌≡◌, ℕ, List, ◌++◌, Option, Result, codes, max}
+use Rattle.std.specs.Prelude.{◌≡◌, ℕ, List, [], ◌∷◌, ◌++◌, Option, Result, codes, max}
 use Rattle.cfi_elf.specs.declared.error.ElfError.{ElfError}
 use Rattle.cfi_elf.specs.ErrorNames.{name_of_elf}
-use Rattle.cfi_programs.specs.Lines.{Line, line}
+use Rattle.cfi_read_core.specs.declared.error.Error.TheVariants.{OutOfMemory}
+use Rattle.cfi_programs.specs.Lines.{Line, reason_line, refusal_in, refused_line}
+use Rattle.cfi_programs.specs.JsonLines.{escaped, json_section}
+use Rattle.cfi_programs.specs.declared.style.Format.{Format}
+use Rattle.cfi_programs.specs.declared.style.Format.TheVariants.{Text, Json}
 use Rattle.cfi_programs.specs.WriterOutput.{Prints}
 
--- ---- lines, with their status
+-- ---- lines, with their status, by the format
 
-abbrev pub elf_refusal : ElfError → Line
-elf_refusal error = line (codes "refused " ++ name_of_elf error) 1
+abbrev pub elf_refusal : Format → ElfError → Line
+elf_refusal format error = refused_line format (name_of_elf error)
 
-abbrev pub no_call_frames : Line
-no_call_frames = line (codes "no call frames") 1
+abbrev pub no_call_frames : Format → Line
+no_call_frames format = reason_line format (codes "no call frames") 1
 
-abbrev pub no_header : Line
-no_header = line (codes "no header") 1
+abbrev pub no_address : Format → Line
+no_address format = reason_line format (codes "no address") 1
 
-abbrev pub no_address : Line
-no_address = line (codes "no address") 1
+abbrev pub wrong_input : Format → Line
+wrong_input format = reason_line format (codes "wrong input") 2
+
+abbrev pub out_of_memory : Format → Line
+out_of_memory format = refusal_in format OutOfMemory
+
+-- ---- beginnings of lines, and lines with a name
+
+abbrev pub section_line : Format → List ℕ → List ℕ
+section_line Text name = name ++ 10 ∷ []
+section_line Json name = json_section name ++ 10 ∷ []
+
+-- before what is said of a file
+abbrev pub file_label : Format → List ℕ → List ℕ
+file_label Text name = name ++ codes ": "
+file_label Json name = codes "{\"file\":\"" ++ (escaped name ++ codes "\",")
 
 -- ---- outputs that are put together
 

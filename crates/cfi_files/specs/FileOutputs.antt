@@ -1,17 +1,19 @@
 -- Which output is right for the bytes of a file.
 --     IsOutput request bytes line      what is printed of these bytes
 --     IsOwed request bytes line      the same, or that there was no memory or no input
---     IsNamedCheck name bytes finding line      what the check of a file finds, and its line behind the name of the file
+--     IsNamedCheck format name bytes finding line      what the check of a file finds, and its line behind the name of the file
 --     PrintsOwed request input old new result      what is owed for the bytes of an input was written, with its status
---     ChecksNamed name input old new result      the check of an input, and its line, was written
-use Rattle.std.specs.Prelude.{◌≡◌, ◌⊎◌, ℕ, List, [], ◌∷◌, ◌++◌, Option, Some, None, Result, Ok, Err, IfSome, codes}
+--     ChecksNamed format name input old new result      the check of an input, and its line, was written
+use Rattle.std.specs.Prelude.{◌≡◌, ◌⊎◌, ℕ, List, ◌++◌, Option, Some, None, Result, Ok, Err, IfSome, codes}
 use Rattle.std.specs.Borrow.{Bor}
 use Rattle.cfi_elf.specs.declared.error.ElfError.{ElfError}
 use Rattle.cfi_elf.specs.declared.function_names.FunctionNames.{FunctionNames}
+use Rattle.cfi_elf.specs.ErrorNames.{name_of_elf}
 use Rattle.cfi_elf.specs.ElfFiles.{File, elf_file}
+use Rattle.cfi_read_core.specs.RefusalNames.{name_of}
+use Rattle.cfi_read_core.specs.declared.error.Error.TheVariants.{OutOfMemory}
 use Rattle.cfi_elf.specs.FunctionNames.{function_name, name_in}
-use Rattle.cfi_programs.specs.Lines.{Line, wrong_input}
-use Rattle.cfi_programs.specs.Runs.{out_of_memory}
+use Rattle.cfi_programs.specs.Lines.{Line}
 use Rattle.cfi_programs.specs.Words.{texts}
 use Rattle.cfi_programs.specs.SectionOfWords.{header_section_of, section_of}
 use Rattle.cfi_programs.specs.declared.check.table_check.Verdict.{Verdict}
@@ -19,16 +21,19 @@ use Rattle.cfi_programs.specs.CheckVerdicts.{IsVerdict}
 use Rattle.cfi_programs.specs.CheckLines.{verdict_line}
 use Rattle.cfi_programs.specs.declared.dump.printed.Printed.{Printed as SectionPrinted}
 use Rattle.cfi_programs.specs.declared.dump.printed.Printed.TheVariants as sections
-use Rattle.cfi_programs.specs.DumpProgramOutput.{IsPrinted}
+use Rattle.cfi_programs.specs.DumpProgramOutput.{IsPrinted, format_of}
 use Rattle.cfi_programs.specs.declared.register_names.RegisterNames.{RegisterNames}
+use Rattle.cfi_programs.specs.declared.style.Format.{Format}
+use Rattle.cfi_programs.specs.declared.style.Format.TheVariants.{Text}
+use Rattle.cfi_programs.specs.declared.style.Style.{Style}
 use Rattle.cfi_files.specs.declared.request.Request.{Request}
 use Rattle.cfi_files.specs.declared.request.Printed.{Printed}
 use Rattle.cfi_files.specs.declared.request.Printed.TheVariants.{Row, Rows, Dump, Table}
 use Rattle.cfi_files.specs.declared.finding.Finding.{Finding}
 use Rattle.cfi_files.specs.declared.finding.Finding.TheVariants.{NoTable, Unreadable}
-use Rattle.cfi_files.specs.Findings.{ChecksSome, finding_of}
+use Rattle.cfi_files.specs.Findings.{ChecksSome, finding_of, found_line}
 use Rattle.cfi_files.specs.CallFrames.{Frames}
-use Rattle.cfi_files.specs.FileLines.{IsUnder, InTurn, PrintsSome, elf_refusal, no_address, no_call_frames, no_header}
+use Rattle.cfi_files.specs.FileLines.{IsUnder, InTurn, PrintsSome, elf_refusal, file_label, no_address, no_call_frames, out_of_memory, section_line, wrong_input}
 use Rattle.cfi_files.specs.Found.{debug_frame_in, eh_frame_in}
 use Rattle.cfi_files.specs.RowOutputs.{AreWordLines}
 use Rattle.cfi_files.specs.MachineNames.{names_in}
@@ -39,15 +44,15 @@ use Rattle.cfi_files.specs.Targets.{target_address}
 -- what is printed of a section
 abbrev pub IsPart : RegisterNames → SectionPrinted → Result Frames ElfError → Line → Type 0
 IsPart names what (Ok frames) printed = IsPrinted names what (section_of frames.words frames.section) printed
-IsPart names what (Err e) printed = printed ≡ elf_refusal e
+IsPart names what (Err e) printed = printed ≡ elf_refusal (format_of what) e
 
 -- that of .eh_frame and of .debug_frame, where there are both each under a line with its name
 abbrev pub AreParts : RegisterNames → SectionPrinted → Option (Result Frames ElfError) → Option (Result Frames ElfError) → Line → Type 0
-AreParts names what None None printed = printed ≡ no_call_frames
+AreParts names what None None printed = printed ≡ no_call_frames (format_of what)
 AreParts names what (Some eh_frame) None printed = IsPart names what eh_frame printed
 AreParts names what None (Some debug_frame) printed = IsPart names what debug_frame printed
 AreParts names what (Some eh_frame) (Some debug_frame) printed =
-    InTurn (IsUnder (codes ".eh_frame" ++ 10 ∷ []) (IsPart names what eh_frame)) (IsUnder (codes ".debug_frame" ++ 10 ∷ []) (IsPart names what debug_frame)) printed
+    InTurn (IsUnder (section_line (format_of what) (codes ".eh_frame")) (IsPart names what eh_frame)) (IsUnder (section_line (format_of what) (codes ".debug_frame")) (IsPart names what debug_frame)) printed
 
 abbrev pub AreSections : RegisterNames → SectionPrinted → File → Line → Type 0
 AreSections names what file printed = AreParts names what (eh_frame_in file) (debug_frame_in file) printed
@@ -55,38 +60,41 @@ AreSections names what file printed = AreParts names what (eh_frame_in file) (de
 -- ---- whether the header's table is faithful
 
 -- by the header at this address
-abbrev pub IsVerdictOf : Frames → ℕ → Finding → Line → Type 0
-IsVerdictOf frames address finding printed =
+abbrev pub IsVerdictOf : Format → Frames → ℕ → Finding → Line → Type 0
+IsVerdictOf format frames address finding printed =
     (verdict : Verdict) × IsVerdict (section_of frames.words frames.section) (header_section_of frames.words address frames.header) verdict
-    × (finding ≡ finding_of verdict) × (printed ≡ verdict_line verdict)
+    × (finding ≡ finding_of verdict) × (printed ≡ verdict_line format verdict)
 
--- without a table there is a line that says so
-abbrev pub IsWithout : Line → Finding → Line → Type 0
-IsWithout reason finding printed = (finding ≡ NoTable) × (printed ≡ reason)
+-- without a verdict, for a reason
+abbrev pub IsFound : Format → Finding → List ℕ → Finding → Line → Type 0
+IsFound format what reason finding printed = (finding ≡ what) × (printed ≡ found_line format what reason)
 
-abbrev pub IsVerdictIn : Frames → Option ℕ → Finding → Line → Type 0
-IsVerdictIn frames None finding printed = IsWithout no_header finding printed
-IsVerdictIn frames (Some address) finding printed = IsVerdictOf frames address finding printed
+abbrev pub refused : List ℕ → List ℕ
+refused name = codes "refused " ++ name
 
-abbrev pub IsCheck : Option (Result Frames ElfError) → Finding → Line → Type 0
-IsCheck None finding printed = IsWithout no_call_frames finding printed
-IsCheck (Some (Ok frames)) finding printed = IsVerdictIn frames frames.words.header finding printed
-IsCheck (Some (Err e)) finding printed = IsWithout (elf_refusal e) finding printed
+abbrev pub IsVerdictIn : Format → Frames → Option ℕ → Finding → Line → Type 0
+IsVerdictIn format frames None finding printed = IsFound format NoTable (codes "no header") finding printed
+IsVerdictIn format frames (Some address) finding printed = IsVerdictOf format frames address finding printed
+
+abbrev pub IsCheck : Format → Option (Result Frames ElfError) → Finding → Line → Type 0
+IsCheck format None finding printed = IsFound format NoTable (codes "no call frames") finding printed
+IsCheck format (Some (Ok frames)) finding printed = IsVerdictIn format frames frames.words.header finding printed
+IsCheck format (Some (Err e)) finding printed = IsFound format NoTable (refused (name_of_elf e)) finding printed
 
 -- of a file
-abbrev pub IsCheckOfParsed : Result File ElfError → Finding → Line → Type 0
-IsCheckOfParsed (Ok file) finding printed = IsCheck (eh_frame_in file) finding printed
-IsCheckOfParsed (Err e) finding printed = IsWithout (elf_refusal e) finding printed
+abbrev pub IsCheckOfParsed : Format → Result File ElfError → Finding → Line → Type 0
+IsCheckOfParsed format (Ok file) finding printed = IsCheck format (eh_frame_in file) finding printed
+IsCheckOfParsed format (Err e) finding printed = IsFound format NoTable (refused (name_of_elf e)) finding printed
 
 -- or that there was no memory, or the input can't be read
-abbrev pub IsCheckOfInput : List ℕ → Finding → Line → Type 0
-IsCheckOfInput bytes finding printed =
-    IsCheckOfParsed (elf_file bytes) finding printed
-    ⊎ (IsWithout out_of_memory finding printed ⊎ ((finding ≡ Unreadable) × (printed ≡ wrong_input)))
+abbrev pub IsCheckOfInput : Format → List ℕ → Finding → Line → Type 0
+IsCheckOfInput format bytes finding printed =
+    IsCheckOfParsed format (elf_file bytes) finding printed
+    ⊎ (IsFound format NoTable (refused (name_of OutOfMemory)) finding printed ⊎ IsFound format Unreadable (codes "wrong input") finding printed)
 
 -- behind the name of the file
-abbrev pub IsNamedCheck : List ℕ → List ℕ → Finding → Line → Type 0
-IsNamedCheck name bytes finding printed = IsUnder (name ++ codes ": ") (IsCheckOfInput bytes finding) printed
+abbrev pub IsNamedCheck : Format → List ℕ → List ℕ → Finding → Line → Type 0
+IsNamedCheck format name bytes finding printed = IsUnder (file_label format name) (IsCheckOfInput format bytes finding) printed
 
 -- ---- the rows of FDEs
 
@@ -94,31 +102,41 @@ IsNamedCheck name bytes finding printed = IsUnder (name ++ codes ": ") (IsCheckO
 abbrev pub AreNamesOf : File → FunctionNames → Type 0
 AreNamesOf file functions = (address : ℕ) → name_in functions address ≡ function_name file address
 
-abbrev pub AreNamedRows : RegisterNames → File → Option ℕ → Line → Type 0
-AreNamedRows names file address printed =
-    (functions : Bor FunctionNames) × AreNamesOf file functions.now × AreSections names (sections.Rows (record { address = address; functions = functions })) file printed
+abbrev pub AreNamedRows : Style → File → Option ℕ → Line → Type 0
+AreNamedRows style file address printed =
+    (functions : Bor FunctionNames) × AreNamesOf file functions.now × AreSections style.names (sections.Rows (record { address = address; functions = functions; format = style.format })) file printed
 
 -- or that memory was refused for these
-abbrev pub AreFdeRows : RegisterNames → File → Option ℕ → Line → Type 0
-AreFdeRows names file address printed = AreNamedRows names file address printed ⊎ (printed ≡ out_of_memory)
+abbrev pub AreFdeRows : Style → File → Option ℕ → Line → Type 0
+AreFdeRows style file address printed = AreNamedRows style file address printed ⊎ (printed ≡ out_of_memory style.format)
 
 -- at the address that a word names
-abbrev pub AreRowsAt : RegisterNames → File → Result (Option ℕ) ElfError → Line → Type 0
-AreRowsAt names file (Ok (Some address)) printed = AreFdeRows names file (Some address) printed
-AreRowsAt names file (Ok None) printed = printed ≡ no_address
-AreRowsAt names file (Err e) printed = printed ≡ elf_refusal e
+abbrev pub AreRowsAt : Style → File → Result (Option ℕ) ElfError → Line → Type 0
+AreRowsAt style file (Ok (Some address)) printed = AreFdeRows style file (Some address) printed
+AreRowsAt style file (Ok None) printed = printed ≡ no_address style.format
+AreRowsAt style file (Err e) printed = printed ≡ elf_refusal style.format e
 
 -- of all, where there is no word
-abbrev pub AreRows : RegisterNames → File → Option (Bor (List ℕ)) → Line → Type 0
-AreRows names file None printed = AreFdeRows names file None printed
-AreRows names file (Some word) printed = AreRowsAt names file (target_address file word.now) printed
+abbrev pub AreRows : Style → File → Option (Bor (List ℕ)) → Line → Type 0
+AreRows style file None printed = AreFdeRows style file None printed
+AreRows style file (Some word) printed = AreRowsAt style file (target_address file word.now) printed
 
 -- ---- a file
 
+-- the form of the lines
+abbrev pub format_for : Printed → Format
+format_for (Row words format) = format
+format_for (Rows word format) = format
+format_for Dump = Text
+format_for Table = Text
+
+abbrev pub styled : RegisterNames → Format → Style
+styled names format = record { names = names; format = format }
+
 -- with these names of registers
 abbrev pub IsNamed : RegisterNames → Printed → File → Line → Type 0
-IsNamed names (Row words) file printed = AreWordLines names file (texts words.now) printed
-IsNamed names (Rows word) file printed = AreRows names file word printed
+IsNamed names (Row words format) file printed = AreWordLines (styled names format) file (texts words.now) printed
+IsNamed names (Rows word format) file printed = AreRows (styled names format) file word printed
 IsNamed names Dump file printed = AreSections names sections.Entries file printed
 IsNamed names Table file printed = AreSections names sections.Compiled file printed
 
@@ -127,7 +145,7 @@ IsOfFile request file printed = IsNamed (names_in file request.raw) request.prin
 
 abbrev pub IsOfParsed : Request → Result File ElfError → Line → Type 0
 IsOfParsed request (Ok file) printed = IsOfFile request file printed
-IsOfParsed request (Err e) printed = printed ≡ elf_refusal e
+IsOfParsed request (Err e) printed = printed ≡ elf_refusal (format_for request.printed) e
 
 abbrev pub IsOutput : Request → List ℕ → Line → Type 0
 IsOutput request bytes printed = IsOfParsed request (elf_file bytes) printed
@@ -136,7 +154,7 @@ IsOutput request bytes printed = IsOfParsed request (elf_file bytes) printed
 
 -- or that there was no memory, or the input can't be read
 abbrev pub IsOwed : Request → List ℕ → Line → Type 0
-IsOwed request bytes printed = IsOutput request bytes printed ⊎ ((printed ≡ out_of_memory) ⊎ (printed ≡ wrong_input))
+IsOwed request bytes printed = IsOutput request bytes printed ⊎ ((printed ≡ out_of_memory (format_for request.printed)) ⊎ (printed ≡ wrong_input (format_for request.printed)))
 
 -- ---- what was written for an input
 
@@ -148,9 +166,9 @@ AreLeft known bytes = IfSome known (λ left. bytes ≡ left)
 abbrev pub PrintsOwed : {E : Type 0} → Request → Option (List ℕ) → Option (List ℕ) → Option (List ℕ) → Result ℕ E → Type 0
 PrintsOwed request input old new result = (bytes : List ℕ) × AreLeft input bytes × PrintsSome (λ line. IsOwed request bytes line) old new result
 
-abbrev pub ChecksInput : {E : Type 0} → Option (List ℕ) → Option (List ℕ) → Option (List ℕ) → Result Finding E → Type 0
-ChecksInput input old new result = (bytes : List ℕ) × AreLeft input bytes × ChecksSome (λ finding line. IsCheckOfInput bytes finding line) old new result
+abbrev pub ChecksInput : {E : Type 0} → Format → Option (List ℕ) → Option (List ℕ) → Option (List ℕ) → Result Finding E → Type 0
+ChecksInput format input old new result = (bytes : List ℕ) × AreLeft input bytes × ChecksSome (λ finding line. IsCheckOfInput format bytes finding line) old new result
 
-abbrev pub ChecksNamed : {E : Type 0} → List ℕ → Option (List ℕ) → Option (List ℕ) → Option (List ℕ) → Result Finding E → Type 0
-ChecksNamed name input old new result =
-    (bytes : List ℕ) × AreLeft input bytes × ChecksSome (λ finding line. IsNamedCheck name bytes finding line) old new result
+abbrev pub ChecksNamed : {E : Type 0} → Format → List ℕ → Option (List ℕ) → Option (List ℕ) → Option (List ℕ) → Result Finding E → Type 0
+ChecksNamed format name input old new result =
+    (bytes : List ℕ) × AreLeft input bytes × ChecksSome (λ finding line. IsNamedCheck format name bytes finding line) old new result

@@ -1,6 +1,8 @@
 -- What the check of a file found.
-use Rattle.std.specs.Prelude.{◌≡◌, ℕ, Bool, true, false, List, Option, Result, IfOk}
-use Rattle.cfi_programs.specs.Lines.{Line}
+use Rattle.std.specs.Prelude.{◌≡◌, ℕ, Bool, true, false, List, Option, Result, IfOk, codes}
+use Rattle.cfi_programs.specs.Lines.{Line, line}
+use Rattle.cfi_programs.specs.CheckLines.{finding_text}
+use Rattle.cfi_programs.specs.declared.style.Format.{Format}
 use Rattle.cfi_programs.specs.WriterOutput.{Writes}
 use Rattle.cfi_programs.specs.declared.check.table_check.Verdict.{Verdict}
 use Rattle.cfi_programs.specs.declared.check.table_check.Verdict.TheVariants as verdicts
@@ -25,6 +27,16 @@ status_of Faithful = 0
 status_of Unfaithful = 1
 status_of NoTable = 1
 status_of Unreadable = 2
+
+abbrev pub name_of_finding : Finding → List ℕ
+name_of_finding Faithful = codes "faithful"
+name_of_finding Unfaithful = codes "unfaithful"
+name_of_finding NoTable = codes "no table"
+name_of_finding Unreadable = codes "unreadable"
+
+-- the end of the line of a file, for a reason
+abbrev pub found_line : Format → Finding → List ℕ → Line
+found_line format finding reason = line (finding_text format (name_of_finding finding) reason) (status_of finding)
 
 abbrev pub finding_of : Verdict → Finding
 finding_of (verdicts.Faithful rows) = Faithful

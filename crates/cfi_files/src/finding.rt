@@ -1,10 +1,15 @@
 //! What the check of a file found.
-ghost use Rattle.std.specs.Prelude.{◌≡◌};
+ghost use Rattle.std.specs.Prelude.{◌≡◌, ◌++◌, IfOk};
 ghost use Rattle.cfi_read_core.specs.ReaderCalls.{map_ok};
-ghost use Rattle.cfi_files.specs.Findings.{finding_of, has_table, is_faithful, status_of};
+ghost use Rattle.cfi_programs.specs.WriterOutput.{Writes};
+ghost use Rattle.cfi_files.specs.Findings.{finding_of, found_line, has_table, is_faithful};
+ghost use Rattle.cfi_files.specs.Findings.{name_of_finding, status_of};
 
+use cfi_programs::check::output_line::write_finding;
 use cfi_programs::check::table_check::Verdict;
+use cfi_programs::style::Format;
 use std::io;
+use std::io::Write;
 
 /// What the check of a file found.
 #[derive(Clone, Copy, Debug, PartialEq, Eq)]
@@ -46,6 +51,18 @@ impl Finding {
             Finding::Unreadable => 2,
         }
     }
+
+    /// Returns the name of what was found.
+    fn name(self) -> &'static str
+        ensures { result.now ≡ name_of_finding self }
+    {
+        match self {
+            Finding::Faithful => "faithful",
+            Finding::Unfaithful => "unfaithful",
+            Finding::NoTable => "no table",
+            Finding::Unreadable => "unreadable",
+        }
+    }
 }
 
 /// Returns what a verdict comes to.
@@ -68,4 +85,22 @@ pub(crate) fn found(finding: Finding, printed: io::Result<u8>) -> io::Result<Fin
         Ok(_) => Ok(finding),
         Err(error) => Err(error),
     }
+}
+
+/// Writes the end of the line of a file of which this was found for a reason, a text and a name
+/// behind it, and returns what was found.
+pub(crate) fn write_found<W: Write>(
+    output: &mut W,
+    format: Format,
+    finding: Finding,
+    reason: &str,
+    name: &str,
+) -> io::Result<Finding>
+    ensures line { Writes (W.contents output.old) (W.contents output.new) result
+        (found_line format finding (reason.now ++ name.now)).text }
+    ensures found { IfOk result (λ found. found ≡ finding) }
+{
+    let what = finding.name().as_bytes();
+    write_finding(output, format, what, reason.as_bytes(), name.as_bytes())?;
+    Ok(finding)
 }

@@ -1,4 +1,8 @@
 //! What is printed of a file.
+ghost use Rattle.std.specs.Prelude.{◌≡◌};
+ghost use Rattle.cfi_files.specs.FileOutputs.{format_for};
+
+use cfi_programs::style::Format;
 
 /// What is asked for of a file.
 #[derive(Clone, Copy)]
@@ -12,13 +16,27 @@ pub struct Request<'words> {
 /// What is printed of a file, by the words that ask for it.
 #[derive(Clone, Copy)]
 pub enum Printed<'words> {
-    /// The row of each address that the words name, a line for each.
-    Row(&'words [&'words str]),
+    /// The row of each address that the words name, a line for each in the format.
+    Row(&'words [&'words str], Format),
     /// The rows of each FDE, after a line with the name of its function; where there is a word, of
-    /// those that contain the address that it names.
-    Rows(Option<&'words str>),
-    /// Each entry, and after each FDE its rows.
+    /// those that contain the address that it names. The lines are in the format.
+    Rows(Option<&'words str>, Format),
+    /// Each entry, and after each FDE its rows, as lines of text.
     Dump,
-    /// The rows for all addresses, by a compiled table.
+    /// The rows for all addresses, by a compiled table, as lines of text.
     Table,
+}
+
+impl Printed<'_> {
+    /// Returns the form of the lines.
+    pub fn format(self) -> Format
+        ensures { result ≡ format_for self.entry }
+    {
+        match self {
+            Printed::Row(_, format) => format,
+            Printed::Rows(_, format) => format,
+            Printed::Dump => Format::Text,
+            Printed::Table => Format::Text,
+        }
+    }
 }

@@ -16,10 +16,10 @@ use crate::lines::{write_elf_refusal, write_no_address, write_no_call_frames};
 use crate::sections::{debug_frame_part, eh_frame_part};
 use crate::target::target_address;
 use cfi_elf::{ElfError, ElfFile};
-use cfi_programs::lines::write_refusal;
-use cfi_programs::register_names::RegisterNames;
+use cfi_programs::lines::write_refusal_in;
 use cfi_programs::row_line::write_answer;
 use cfi_programs::rows::row_lookup::{find_by_header, find_by_scan};
+use cfi_programs::style::Style;
 use gimli_cfi::{Error, UnwindContext};
 use std::alloc::Global;
 use std::io;
@@ -29,17 +29,17 @@ use std::io::Write;
 /// none, or `refused` and the name of the error. Returns the greatest status.
 pub fn print_words<W: Write>(
     alloc: Global,
-    names: RegisterNames,
+    style: Style,
     words: &[&str],
     file: &ElfFile<'_>,
     output: &mut W,
 ) -> io::Result<u8>
-    ensures { PrintsSome (λ line. AreWordLines names (file_view file.now) (texts words.now) line)
+    ensures { PrintsSome (λ line. AreWordLines style (file_view file.now) (texts words.now) line)
         (W.contents output.old) (W.contents output.new) result }
 {
     let mut status: u8 = 0;
     for word in words {
-        let status_of_word = print_word(alloc, names, word, file, output)?;
+        let status_of_word = print_word(alloc, style, word, file, output)?;
         status = status.max(status_of_word);
     }
     Ok(status)
@@ -48,66 +48,66 @@ pub fn print_words<W: Write>(
 /// Prints the line of a word.
 fn print_word<W: Write>(
     alloc: Global,
-    names: RegisterNames,
+    style: Style,
     word: &str,
     file: &ElfFile<'_>,
     output: &mut W,
 ) -> io::Result<u8>
-    ensures { PrintsSome (λ line. IsWordLine names (file_view file.now)
+    ensures { PrintsSome (λ line. IsWordLine style (file_view file.now)
         (target_address (file_view file.now) word.now) line)
         (W.contents output.old) (W.contents output.new) result }
 {
     match target_address(file, word) {
-        Ok(Some(address)) => print_row(alloc, names, file, address, output),
-        Ok(None) => write_no_address(output),
-        Err(error) => write_elf_refusal(output, error),
+        Ok(Some(address)) => print_row(alloc, style, file, address, output),
+        Ok(None) => write_no_address(output, style.format),
+        Err(error) => write_elf_refusal(output, style.format, error),
     }
 }
 
 /// Prints the row for an address.
 fn print_row<W: Write>(
     alloc: Global,
-    names: RegisterNames,
+    style: Style,
     file: &ElfFile<'_>,
     address: u64,
     output: &mut W,
 ) -> io::Result<u8>
-    ensures { PrintsSome (λ line. IsRowOfFile names (file_view file.now) address line)
+    ensures { PrintsSome (λ line. IsRowOfFile style (file_view file.now) address line)
         (W.contents output.old) (W.contents output.new) result }
 {
     match UnwindContext::<usize>::new(alloc) {
-        Ok(mut context) => print_row_with(names, file, address, &mut context, output),
-        Err(error) => write_refusal(output, error),
+        Ok(mut context) => print_row_with(style, file, address, &mut context, output),
+        Err(error) => write_refusal_in(output, style.format, error),
     }
 }
 
 /// Prints the row in `.eh_frame`, or in `.debug_frame` where the file has no `.eh_frame` or that
 /// has no row for the address.
 fn print_row_with<W: Write>(
-    names: RegisterNames,
+    style: Style,
     file: &ElfFile<'_>,
     address: u64,
     context: &mut UnwindContext<usize>,
     output: &mut W,
 ) -> io::Result<u8>
-    ensures { PrintsSome (λ line. IsRowLine names (eh_frame_in (file_view file.now))
+    ensures { PrintsSome (λ line. IsRowLine style (eh_frame_in (file_view file.now))
         (debug_frame_in (file_view file.now)) address line)
         (W.contents output.old) (W.contents output.new) result }
 {
     match eh_frame_part(file) {
         None => match debug_frame_part(file) {
-            None => write_no_call_frames(output),
-            Some(part) => print_part_row(names, part, address, context, output),
+            None => write_no_call_frames(output, style.format),
+            Some(part) => print_part_row(style, part, address, context, output),
         },
-        Some(Ok(frames)) => print_eh_frame_row(names, file, &frames, address, context, output),
-        Some(Err(error)) => write_elf_refusal(output, error),
+        Some(Ok(frames)) => print_eh_frame_row(style, file, &frames, address, context, output),
+        Some(Err(error)) => write_elf_refusal(output, style.format, error),
     }
 }
 
 /// Prints the row in `.eh_frame`: by the header's table where there is one and it leads to a row,
 /// and else by a scan.
 fn print_eh_frame_row<W: Write>(
-    names: RegisterNames,
+    style: Style,
     file: &ElfFile<'_>,
     frames: &CallFrames<'_>,
     address: u64,
@@ -115,23 +115,23 @@ fn print_eh_frame_row<W: Write>(
     output: &mut W,
 ) -> io::Result<u8>
     requires { AreRead frames.now.words }
-    ensures { PrintsSome (λ line. IsRowByTableOrScan names (frames_view frames.now)
+    ensures { PrintsSome (λ line. IsRowByTableOrScan style (frames_view frames.now)
         frames.now.words.header (debug_frame_in (file_view file.now)) address line)
         (W.contents output.old) (W.contents output.new) result }
 {
     let Some(base) = frames.words.header else {
-        return print_scanned_row(names, file, frames, address, context, output);
+        return print_scanned_row(style, file, frames, address, context, output);
     };
     let (section, header) = (frames.section, frames.header);
     match find_by_header(&frames.words, base, section, header, address, context) {
-        Ok(row) => write_answer(output, names, Ok(row)),
-        Err(_) => print_scanned_row(names, file, frames, address, context, output),
+        Ok(row) => write_answer(output, style, Ok(row)),
+        Err(_) => print_scanned_row(style, file, frames, address, context, output),
     }
 }
 
 /// Prints the row in `.eh_frame` by a scan, or the one in `.debug_frame` where there is none.
 fn print_scanned_row<W: Write>(
-    names: RegisterNames,
+    style: Style,
     file: &ElfFile<'_>,
     frames: &CallFrames<'_>,
     address: u64,
@@ -139,55 +139,55 @@ fn print_scanned_row<W: Write>(
     output: &mut W,
 ) -> io::Result<u8>
     requires { AreRead frames.now.words }
-    ensures { PrintsSome (λ line. IsRowOr names (frames_view frames.now)
+    ensures { PrintsSome (λ line. IsRowOr style (frames_view frames.now)
         (debug_frame_in (file_view file.now)) address line)
         (W.contents output.old) (W.contents output.new) result }
 {
     match find_by_scan(&frames.words, frames.section, address, context) {
-        Ok(row) => write_answer(output, names, Ok(row)),
-        Err(error) => print_otherwise(names, file, error, address, context, output),
+        Ok(row) => write_answer(output, style, Ok(row)),
+        Err(error) => print_otherwise(style, file, error, address, context, output),
     }
 }
 
 /// Prints why `.eh_frame` has no row; or the row in `.debug_frame`, where that is because no FDE
 /// has the address.
 fn print_otherwise<W: Write>(
-    names: RegisterNames,
+    style: Style,
     file: &ElfFile<'_>,
     error: Error,
     address: u64,
     context: &mut UnwindContext<usize>,
     output: &mut W,
 ) -> io::Result<u8>
-    ensures { PrintsSome (λ line. OtherwiseIn names (debug_frame_in (file_view file.now))
+    ensures { PrintsSome (λ line. OtherwiseIn style (debug_frame_in (file_view file.now))
         error address line) (W.contents output.old) (W.contents output.new) result }
 {
     if error != Error::NoUnwindInfoForAddress {
-        return write_refusal(output, error);
+        return write_refusal_in(output, style.format, error);
     }
     match debug_frame_part(file) {
-        None => write_refusal(output, error),
-        Some(part) => print_part_row(names, part, address, context, output),
+        None => write_refusal_in(output, style.format, error),
+        Some(part) => print_part_row(style, part, address, context, output),
     }
 }
 
 /// Prints the row in `.debug_frame` by a scan, or the error in the place of the section.
 fn print_part_row<W: Write>(
-    names: RegisterNames,
+    style: Style,
     part: Result<CallFrames<'_>, ElfError>,
     address: u64,
     context: &mut UnwindContext<usize>,
     output: &mut W,
 ) -> io::Result<u8>
     requires { IfOk part (λ frames. AreRead frames.words) }
-    ensures { PrintsSome (λ line. IsPartRow names (map_ok frames_view part.entry) address line)
+    ensures { PrintsSome (λ line. IsPartRow style (map_ok frames_view part.entry) address line)
         (W.contents output.old) (W.contents output.new) result }
 {
     match part {
         Ok(frames) => {
             let row = find_by_scan(&frames.words, frames.section, address, context);
-            write_answer(output, names, row)
+            write_answer(output, style, row)
         }
-        Err(error) => write_elf_refusal(output, error),
+        Err(error) => write_elf_refusal(output, style.format, error),
     }
 }

@@ -1,14 +1,13 @@
 //! What is printed of a file that a reader gives.
-ghost use Rattle.std.specs.Prelude.{◌++◌, codes};
 ghost use Rattle.cfi_elf.specs.ElfFiles.{elf_file, file_view};
 ghost use Rattle.cfi_programs.specs.WriterOutput.{Writes};
-ghost use Rattle.cfi_files.specs.FileLines.{PrintsSome};
+ghost use Rattle.cfi_files.specs.FileLines.{PrintsSome, file_label};
 ghost use Rattle.cfi_files.specs.FileOutputs.{ChecksInput, ChecksNamed, IsCheckOfParsed};
 ghost use Rattle.cfi_files.specs.FileOutputs.{IsOfFile, IsOutput, PrintsOwed};
 ghost use Rattle.cfi_files.specs.Findings.{ChecksSome};
 
-use crate::finding::{Finding, found};
-use crate::lines::write_elf_refusal;
+use crate::finding::{Finding, write_found};
+use crate::lines::{write_elf_refusal, write_wrong_input};
 use crate::machine_names::names_in;
 use crate::request::{Printed, Request};
 use crate::row::print_words;
@@ -17,7 +16,9 @@ use crate::table_check::check_table;
 use cfi_elf::ElfFile;
 use cfi_programs::dump::Printed as SectionPrinted;
 use cfi_programs::input::{InputError, read_all};
-use cfi_programs::lines::{write_refusal, write_text, write_wrong_input};
+use cfi_programs::json::write_escaped;
+use cfi_programs::lines::{write_between, write_refusal_in, write_text};
+use cfi_programs::style::{Format, Style};
 use gimli_cfi::Error;
 use std::alloc::Global;
 use std::io;
@@ -29,8 +30,9 @@ use std::io::{Read, Write};
 /// Status 0: it is printed. Status 1: the file or a part of it can't be read, which prints
 /// `refused` and the name of the error; it has no call frames, which prints `no call frames`; a
 /// word names no address, which prints `no address`; there is no row; or memory is refused.
-/// Status 2: the input can't be read, which prints `wrong input`. Fails where the output can't be
-/// written: then a beginning has been written.
+/// Status 2: the input can't be read, which prints `wrong input`. In JSON each of these is the
+/// `error` of an object, without the word `refused`. Fails where the output can't be written: then
+/// a beginning has been written.
 ///
 /// Allocates for the input, for contexts, for the names of functions and for compiled tables.
 /// Printing does not allocate.
@@ -43,10 +45,11 @@ pub fn run_on_file<R: Read, W: Write>(
     ensures { PrintsOwed request.entry (R.remaining input.old) (W.contents output.old)
         (W.contents output.new) result }
 {
+    let format = request.printed.format();
     match read_all(alloc, input) {
         Ok(bytes) => print_bytes(alloc, request, bytes.as_slice(), output),
-        Err(InputError::OutOfMemory) => write_refusal(output, Error::OutOfMemory),
-        Err(_) => write_wrong_input(output),
+        Err(InputError::OutOfMemory) => write_refusal_in(output, format, Error::OutOfMemory),
+        Err(_) => write_wrong_input(output, format),
     }
 }
 
@@ -62,7 +65,7 @@ fn print_bytes<W: Write>(
 {
     match ElfFile::parse(bytes) {
         Ok(file) => print_file(alloc, request, &file, output),
-        Err(error) => write_elf_refusal(output, error),
+        Err(error) => write_elf_refusal(output, request.printed.format(), error),
     }
 }
 
@@ -78,8 +81,12 @@ fn print_file<W: Write>(
 {
     let names = names_in(file, request.raw);
     match request.printed {
-        Printed::Row(words) => print_words(alloc, names, words, file, output),
-        Printed::Rows(word) => print_rows(alloc, names, word, file, output),
+        Printed::Row(words, format) => {
+            print_words(alloc, Style { names, format }, words, file, output)
+        }
+        Printed::Rows(word, format) => {
+            print_rows(alloc, Style { names, format }, word, file, output)
+        }
         Printed::Dump => print_sections(alloc, names, SectionPrinted::Entries, file, output),
         Printed::Table => print_sections(alloc, names, SectionPrinted::Compiled, file, output),
     }
@@ -91,55 +98,72 @@ fn print_file<W: Write>(
 /// The line has after the name and `: ` the verdict on the table, as `write_verdict` of
 /// `cfi_programs` prints it; `no call frames` or `no header` where the file has no `.eh_frame` or
 /// no header; `refused` and the name of an error; or `wrong input` where the input can't be read.
-/// Fails where the output can't be written: then a beginning has been written. Allocates for the
-/// input.
+/// In JSON it is an object with the name as `file`, what was found as `result`, and the number of
+/// rows of a faithful table as `rows` or else that text as `reason`. Fails where the output can't be
+/// written: then a beginning has been written. Allocates for the input.
 pub fn check_file<R: Read, W: Write>(
     alloc: Global,
+    format: Format,
     name: &str,
     input: &mut R,
     output: &mut W,
 ) -> io::Result<Finding>
-    ensures { ChecksNamed name.now (R.remaining input.old) (W.contents output.old)
+    ensures { ChecksNamed format name.now (R.remaining input.old) (W.contents output.old)
         (W.contents output.new) result }
 {
-    write_name(name, output)?;
-    check_input(alloc, input, output)
+    write_name(format, name, output)?;
+    check_input(alloc, format, input, output)
 }
 
 /// Writes the name of the file, and what parts it from the rest of the line.
-fn write_name<W: Write>(name: &str, output: &mut W) -> io::Result<()>
+fn write_name<W: Write>(format: Format, name: &str, output: &mut W) -> io::Result<()>
     ensures { Writes (W.contents output.old) (W.contents output.new) result
-        (name.now ++ codes ": ") }
+        (file_label format name.now) }
 {
-    write_text(output, name.as_bytes())?;
-    write_text(output, b": ")
+    match format {
+        Format::Text => write_between(output, b"", name.as_bytes(), b": "),
+        Format::Json => write_name_member(name, output),
+    }
+}
+
+/// Writes the beginning of an object, with the name of the file.
+fn write_name_member<W: Write>(name: &str, output: &mut W) -> io::Result<()>
+    ensures { Writes (W.contents output.old) (W.contents output.new) result
+        (file_label Format.Json name.now) }
+{
+    write_text(output, b"{\"file\":\"")?;
+    write_escaped(output, name.as_bytes())?;
+    write_text(output, b"\",")
 }
 
 /// Reads the input to its end, and checks the file that it is.
 fn check_input<R: Read, W: Write>(
     alloc: Global,
+    format: Format,
     input: &mut R,
     output: &mut W,
 ) -> io::Result<Finding>
-    ensures { ChecksInput (R.remaining input.old) (W.contents output.old)
+    ensures { ChecksInput format (R.remaining input.old) (W.contents output.old)
         (W.contents output.new) result }
 {
     match read_all(alloc, input) {
-        Ok(bytes) => check_bytes(bytes.as_slice(), output),
+        Ok(bytes) => check_bytes(bytes.as_slice(), format, output),
         Err(InputError::OutOfMemory) => {
-            found(Finding::NoTable, write_refusal(output, Error::OutOfMemory))
+            let name = Error::OutOfMemory.name();
+            write_found(output, format, Finding::NoTable, "refused ", name)
         }
-        Err(_) => found(Finding::Unreadable, write_wrong_input(output)),
+        Err(_) => write_found(output, format, Finding::Unreadable, "wrong input", ""),
     }
 }
 
 /// Checks the file that these bytes are.
-fn check_bytes<W: Write>(bytes: &[u8], output: &mut W) -> io::Result<Finding>
-    ensures { ChecksSome (λ finding line. IsCheckOfParsed (elf_file bytes.now) finding line)
+fn check_bytes<W: Write>(bytes: &[u8], format: Format, output: &mut W) -> io::Result<Finding>
+    ensures { ChecksSome
+        (λ finding line. IsCheckOfParsed format (elf_file bytes.now) finding line)
         (W.contents output.old) (W.contents output.new) result }
 {
     match ElfFile::parse(bytes) {
-        Ok(file) => check_table(&file, output),
-        Err(error) => found(Finding::NoTable, write_elf_refusal(output, error)),
+        Ok(file) => check_table(&file, format, output),
+        Err(error) => { write_found(output, format, Finding::NoTable, "refused ", error.name()) }
     }
 }

@@ -4,20 +4,22 @@ ghost use Rattle.cfi_read_core.specs.ReaderCalls.{map_ok};
 ghost use Rattle.cfi_elf.specs.ElfFiles.{file_view};
 ghost use Rattle.cfi_programs.specs.Words.{AreRead};
 ghost use Rattle.cfi_files.specs.CallFrames.{frames_view};
-ghost use Rattle.cfi_files.specs.FileLines.{InTurn, IsUnder, PrintsSome};
+ghost use Rattle.cfi_programs.specs.DumpProgramOutput.{format_of};
+ghost use Rattle.cfi_files.specs.FileLines.{InTurn, IsUnder, PrintsSome, section_line};
 ghost use Rattle.cfi_files.specs.FileOutputs.{AreFdeRows, AreNamedRows, AreNamesOf, AreParts};
 ghost use Rattle.cfi_files.specs.FileOutputs.{AreRows, AreRowsAt, AreSections, IsPart};
 ghost use Rattle.cfi_files.specs.Found.{debug_frame_in, eh_frame_in};
 ghost use Rattle.cfi_files.specs.Targets.{target_address};
 
 use crate::call_frames::{CallFrames, debug_frame, eh_frame};
-use crate::lines::{write_elf_refusal, write_no_address, write_no_call_frames};
+use crate::lines::{write_elf_refusal, write_no_address, write_no_call_frames, write_section_name};
 use crate::target::target_address;
 use cfi_elf::{ElfError, ElfFile, FunctionNames};
 use cfi_programs::dump::print::print_bytes;
 use cfi_programs::dump::{AskedRows, Printed};
-use cfi_programs::lines::{write_refusal, write_text};
+use cfi_programs::lines::write_refusal_in;
 use cfi_programs::register_names::RegisterNames;
+use cfi_programs::style::Style;
 use gimli_cfi::Error;
 use std::alloc::Global;
 use std::io;
@@ -57,7 +59,7 @@ pub fn print_sections<W: Write>(
         (W.contents output.old) (W.contents output.new) result }
 {
     match (eh_frame_part(file), debug_frame_part(file)) {
-        (None, None) => write_no_call_frames(output),
+        (None, None) => write_no_call_frames(output, printed.format()),
         (Some(part), None) => print_part(alloc, names, printed, part, output),
         (None, Some(part)) => print_part(alloc, names, printed, part, output),
         (Some(first), Some(second)) => print_both(alloc, names, printed, first, second, output),
@@ -70,36 +72,36 @@ pub fn print_sections<W: Write>(
 /// error where that can't be read.
 pub fn print_rows<W: Write>(
     alloc: Global,
-    names: RegisterNames,
+    style: Style,
     word: Option<&str>,
     file: &ElfFile<'_>,
     output: &mut W,
 ) -> io::Result<u8>
-    ensures { PrintsSome (λ line. AreRows names (file_view file.now) word.entry line)
+    ensures { PrintsSome (λ line. AreRows style (file_view file.now) word.entry line)
         (W.contents output.old) (W.contents output.new) result }
 {
     match word {
-        Some(word) => print_rows_at(alloc, names, word, file, output),
-        None => print_fde_rows(alloc, names, None, file, output),
+        Some(word) => print_rows_at(alloc, style, word, file, output),
+        None => print_fde_rows(alloc, style, None, file, output),
     }
 }
 
 /// Prints the rows of the FDEs that contain the address that the word names.
 fn print_rows_at<W: Write>(
     alloc: Global,
-    names: RegisterNames,
+    style: Style,
     word: &str,
     file: &ElfFile<'_>,
     output: &mut W,
 ) -> io::Result<u8>
-    ensures { PrintsSome (λ line. AreRowsAt names (file_view file.now)
+    ensures { PrintsSome (λ line. AreRowsAt style (file_view file.now)
         (target_address (file_view file.now) word.now) line)
         (W.contents output.old) (W.contents output.new) result }
 {
     match target_address(file, word) {
-        Ok(Some(address)) => print_fde_rows(alloc, names, Some(address), file, output),
-        Ok(None) => write_no_address(output),
-        Err(error) => write_elf_refusal(output, error),
+        Ok(Some(address)) => print_fde_rows(alloc, style, Some(address), file, output),
+        Ok(None) => write_no_address(output, style.format),
+        Err(error) => write_elf_refusal(output, style.format, error),
     }
 }
 
@@ -108,17 +110,17 @@ fn print_rows_at<W: Write>(
 /// memory for the names of functions.
 fn print_fde_rows<W: Write>(
     alloc: Global,
-    names: RegisterNames,
+    style: Style,
     address: Option<u64>,
     file: &ElfFile<'_>,
     output: &mut W,
 ) -> io::Result<u8>
-    ensures { PrintsSome (λ line. AreFdeRows names (file_view file.now) address line)
+    ensures { PrintsSome (λ line. AreFdeRows style (file_view file.now) address line)
         (W.contents output.old) (W.contents output.new) result }
 {
     match FunctionNames::new(alloc, file) {
-        Ok(functions) => print_named_rows(alloc, names, address, &functions, file, output),
-        Err(_) => write_refusal(output, Error::OutOfMemory),
+        Ok(functions) => print_named_rows(alloc, style, address, &functions, file, output),
+        Err(_) => write_refusal_in(output, style.format, Error::OutOfMemory),
     }
 }
 
@@ -126,18 +128,22 @@ fn print_fde_rows<W: Write>(
 /// function that begins there.
 fn print_named_rows<W: Write>(
     alloc: Global,
-    names: RegisterNames,
+    style: Style,
     address: Option<u64>,
     functions: &FunctionNames<'_>,
     file: &ElfFile<'_>,
     output: &mut W,
 ) -> io::Result<u8>
     requires { AreNamesOf (file_view file.now) functions.now }
-    ensures { PrintsSome (λ line. AreNamedRows names (file_view file.now) address line)
+    ensures { PrintsSome (λ line. AreNamedRows style (file_view file.now) address line)
         (W.contents output.old) (W.contents output.new) result }
 {
-    let asked = AskedRows { address, functions };
-    print_sections(alloc, names, Printed::Rows(asked), file, output)
+    let asked = AskedRows {
+        address,
+        functions,
+        format: style.format,
+    };
+    print_sections(alloc, style.names, Printed::Rows(asked), file, output)
 }
 
 /// Prints both sections, each after a line with its name, and returns the greater status.
@@ -156,15 +162,8 @@ fn print_both<W: Write>(
         (Some (map_ok frames_view debug_frame.entry)) line)
         (W.contents output.old) (W.contents output.new) result }
 {
-    let first = print_under(alloc, names, b".eh_frame\n", printed, eh_frame, output)?;
-    let second = print_under(
-        alloc,
-        names,
-        b".debug_frame\n",
-        printed,
-        debug_frame,
-        output,
-    )?;
+    let first = print_under(alloc, names, b".eh_frame", printed, eh_frame, output)?;
+    let second = print_under(alloc, names, b".debug_frame", printed, debug_frame, output)?;
     Ok(first.max(second))
 }
 
@@ -172,17 +171,17 @@ fn print_both<W: Write>(
 fn print_under<W: Write>(
     alloc: Global,
     names: RegisterNames,
-    name_line: &[u8],
+    name: &[u8],
     printed: Printed<'_>,
     part: Result<CallFrames<'_>, ElfError>,
     output: &mut W,
 ) -> io::Result<u8>
     requires { IfOk part (λ frames. AreRead frames.words) }
-    ensures { PrintsSome (λ line. IsUnder name_line.now
+    ensures { PrintsSome (λ line. IsUnder (section_line (format_of printed.entry) name.now)
         (λ body. IsPart names printed.entry (map_ok frames_view part.entry) body) line)
         (W.contents output.old) (W.contents output.new) result }
 {
-    write_text(output, name_line)?;
+    write_section_name(output, printed.format(), name)?;
     print_part(alloc, names, printed, part, output)
 }
 
@@ -200,6 +199,6 @@ fn print_part<W: Write>(
 {
     match part {
         Ok(frames) => print_bytes(alloc, names, printed, &frames.words, frames.section, output),
-        Err(error) => write_elf_refusal(output, error),
+        Err(error) => write_elf_refusal(output, printed.format(), error),
     }
 }

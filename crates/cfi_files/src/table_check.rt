@@ -7,40 +7,51 @@ ghost use Rattle.cfi_files.specs.Findings.{ChecksSome};
 ghost use Rattle.cfi_files.specs.Found.{eh_frame_in};
 
 use crate::call_frames::CallFrames;
-use crate::finding::{Finding, finding_of, found};
-use crate::lines::{write_elf_refusal, write_no_call_frames, write_no_header};
+use crate::finding::{Finding, finding_of, found, write_found};
 use crate::sections::eh_frame_part;
 use cfi_elf::ElfFile;
 use cfi_programs::check::output_line::write_verdict;
 use cfi_programs::check::table_check::check;
+use cfi_programs::style::Format;
 use std::io;
 use std::io::Write;
 
 /// Prints the verdict on the header's table, and returns what was found. Prints `no call frames` or
 /// `no header` where the file has no `.eh_frame` or that has no header, and `refused` and the name
 /// of the error in the place of a section that can't be had. Does not allocate.
-pub fn check_table<W: Write>(file: &ElfFile<'_>, output: &mut W) -> io::Result<Finding>
+pub fn check_table<W: Write>(
+    file: &ElfFile<'_>,
+    format: Format,
+    output: &mut W,
+) -> io::Result<Finding>
     ensures { ChecksSome
-        (λ finding line. IsCheck (eh_frame_in (file_view file.now)) finding line)
+        (λ finding line. IsCheck format (eh_frame_in (file_view file.now)) finding line)
         (W.contents output.old) (W.contents output.new) result }
 {
     match eh_frame_part(file) {
-        None => found(Finding::NoTable, write_no_call_frames(output)),
-        Some(Ok(frames)) => check_frames(&frames, output),
-        Some(Err(error)) => found(Finding::NoTable, write_elf_refusal(output, error)),
+        None => write_found(output, format, Finding::NoTable, "no call frames", ""),
+        Some(Ok(frames)) => check_frames(&frames, format, output),
+        Some(Err(error)) => {
+            write_found(output, format, Finding::NoTable, "refused ", error.name())
+        }
     }
 }
 
 /// Prints the verdict on the table of these call frames.
-fn check_frames<W: Write>(frames: &CallFrames<'_>, output: &mut W) -> io::Result<Finding>
+fn check_frames<W: Write>(
+    frames: &CallFrames<'_>,
+    format: Format,
+    output: &mut W,
+) -> io::Result<Finding>
     requires { AreRead frames.now.words }
     ensures { ChecksSome
-        (λ finding line. IsVerdictIn (frames_view frames.now) frames.now.words.header finding line)
+        (λ finding line. IsVerdictIn format (frames_view frames.now) frames.now.words.header
+        finding line)
         (W.contents output.old) (W.contents output.new) result }
 {
     let Some(address) = frames.words.header else {
-        return found(Finding::NoTable, write_no_header(output));
+        return write_found(output, format, Finding::NoTable, "no header", "");
     };
     let verdict = check(&frames.words, address, frames.section, frames.header);
-    found(finding_of(verdict), write_verdict(output, verdict))
+    found(finding_of(verdict), write_verdict(output, format, verdict))
 }

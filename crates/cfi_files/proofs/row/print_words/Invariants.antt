@@ -7,4 +7,4 @@ use Rattle.cfi_files.proofs.row.print_words.Given as goal
 abbrev pub invariant-loop-word : goal.invariant-loop-word
 invariant-loop-word g l =
     let contents = g.W.Write.contents in
-    SoFar l.names (file_view l.file) (texts l.words) (texts (drop l.word-index l.words)) (contents l.initial.output) (contents l.output) l.status
+    SoFar l.style (file_view l.file) (texts l.words) (texts (drop l.word-index l.words)) (contents l.initial.output) (contents l.output) l.status

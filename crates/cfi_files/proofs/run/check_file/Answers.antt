@@ -1,16 +1,18 @@
-use Rattle.std.proofs.Common.{inr, refl, codes, ◌++◌}
-use Rattle.cfi_programs.specs.Lines.{wrong_input}
+use Rattle.std.proofs.Common.{inr, refl, codes}
 use Rattle.cfi_files.specs.declared.finding.Finding.TheVariants.{Unreadable}
+use Rattle.cfi_files.specs.FileLines.{file_label}
 use Rattle.cfi_files.specs.FileOutputs.{IsCheckOfInput}
+use Rattle.cfi_files.specs.Findings.{found_line}
 use Rattle.cfi_files.proofs.Joined.{checks_under_refused, checks_under_written, for_input}
 use Rattle.cfi_files.proofs.run.check_file.Goals as goal
 
 pub returns-in_err-write_name : goal.returns-in_err-write_name
 returns-in_err-write_name g c =
+    let format = c.args.format in
     for_input (g.R.Read.remaining c.args.input.now) _ (λ bytes.
-    checks_under_refused (IsCheckOfInput bytes) (c.args.name.now ++ codes ": ") _ _ c.from_residual.result (Unreadable, wrong_input, inr (inr (refl, refl))) c.from_residual.ensures.0 c.in_err-write_name.ensures)
+    checks_under_refused (IsCheckOfInput format bytes) (file_label format c.args.name.now) _ _ c.from_residual.result (Unreadable, found_line format Unreadable (codes "wrong input"), inr (inr (refl, refl))) c.from_residual.ensures.0 c.in_err-write_name.ensures)
 
 pub returns : goal.returns
 returns g c =
     let (bytes, left, checked) = c.check_input.ensures in
-    (bytes, left, checks_under_written (IsCheckOfInput bytes) (c.args.name.now ++ codes ": ") _ _ _ c.check_input.result c.in_ok-write_name.ensures checked)
+    (bytes, left, checks_under_written (IsCheckOfInput c.args.format bytes) (file_label c.args.format c.args.name.now) _ _ _ c.check_input.result c.in_ok-write_name.ensures checked)

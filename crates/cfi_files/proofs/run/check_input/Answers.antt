@@ -1,17 +1,20 @@
-use Rattle.std.proofs.Common.{inl, inr, refl}
-use Rattle.cfi_programs.specs.Lines.{wrong_input}
-use Rattle.cfi_programs.specs.Runs.{out_of_memory}
+use Rattle.std.proofs.Common.{inl, inr, refl, codes}
+use Rattle.cfi_read_core.specs.RefusalNames.{name_of}
+use Rattle.cfi_read_core.specs.declared.error.Error.TheVariants.{OutOfMemory}
 use Rattle.cfi_files.specs.declared.finding.Finding.TheVariants.{NoTable, Unreadable}
-use Rattle.cfi_files.specs.FileOutputs.{IsCheckOfInput}
-use Rattle.cfi_files.proofs.Joined.{checks_line, for_input}
+use Rattle.cfi_files.specs.FileOutputs.{IsCheckOfInput, refused}
+use Rattle.cfi_files.specs.Findings.{found_line}
+use Rattle.cfi_files.proofs.Joined.{checks_found, for_input}
 use Rattle.cfi_files.proofs.run.check_input.Goals as goal
 
 pub returns-in-Err-OutOfMemory : goal.returns-in-Err-OutOfMemory
 returns-in-Err-OutOfMemory g c =
+    let format = c.args.format in
     for_input (g.R.Read.remaining c.args.input.now) _ (λ bytes.
-    checks_line (IsCheckOfInput bytes) NoTable out_of_memory _ _ c.write_refusal.result c.found.result c.found.ensures (inr (inl (refl, refl))) c.write_refusal.ensures)
+    checks_found (IsCheckOfInput format bytes) NoTable (found_line format NoTable (refused (name_of OutOfMemory))) _ _ c.write_found.result (inr (inl (refl, refl))) (rw c.name-name.ensures at c.write_found.ensures.line) c.write_found.ensures.found)
 
 pub returns-in-Err : goal.returns-in-Err
 returns-in-Err g c =
+    let format = c.args.format in
     for_input (g.R.Read.remaining c.args.input.now) _ (λ bytes.
-    checks_line (IsCheckOfInput bytes) Unreadable wrong_input _ _ c.write_wrong_input.result c.found-in-Err.result c.found-in-Err.ensures (inr (inr (refl, refl))) c.write_wrong_input.ensures)
+    checks_found (IsCheckOfInput format bytes) Unreadable (found_line format Unreadable (codes "wrong input")) _ _ c.write_found-in-Err.result (inr (inr (refl, refl))) c.write_found-in-Err.ensures.line c.write_found-in-Err.ensures.found)

@@ -1,11 +1,15 @@
 use Rattle.std.proofs.Common.{inl, inr, refl}
-use Rattle.cfi_programs.specs.Lines.{wrong_input}
-use Rattle.cfi_programs.specs.Runs.{out_of_memory}
+use Rattle.cfi_files.specs.FileLines.{out_of_memory, wrong_input}
+use Rattle.cfi_files.specs.FileOutputs.{format_for}
 use Rattle.cfi_files.proofs.Joined.{for_input}
 use Rattle.cfi_files.proofs.run.run_on_file.Goals as goal
 
 pub returns-in-Err-OutOfMemory : goal.returns-in-Err-OutOfMemory
-returns-in-Err-OutOfMemory g c = for_input (g.R.Read.remaining c.args.input.now) _ (λ bytes. (out_of_memory, c.write_refusal.ensures, inr (inl refl)))
+returns-in-Err-OutOfMemory g c =
+    let format = format_for c.args.request.printed in
+    for_input (g.R.Read.remaining c.args.input.now) _ (λ bytes. (out_of_memory format, (rw c.format-format.ensures at c.write_refusal_in.ensures), inr (inl refl)))
 
 pub returns-in-Err : goal.returns-in-Err
-returns-in-Err g c = for_input (g.R.Read.remaining c.args.input.now) _ (λ bytes. (wrong_input, c.write_wrong_input.ensures, inr (inr refl)))
+returns-in-Err g c =
+    let format = format_for c.args.request.printed in
+    for_input (g.R.Read.remaining c.args.input.now) _ (λ bytes. (wrong_input format, (rw c.format-format.ensures at c.write_wrong_input.ensures), inr (inr refl)))
