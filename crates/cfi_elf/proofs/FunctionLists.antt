@@ -1,5 +1,5 @@
 -- Functions that are gathered symbol by symbol, sorted by address, and found by halving.
-use Rattle.std.proofs.Common.{◌≡◌, ℕ, zero, suc, ◌+◌, ◌<◌, ◌≤◌, ◌&&◌, ◌++◌, Bool, true, false, not, List, [], ◌∷◌, length, get_or, map, Option, Some, None, option_map, nat_lt, nat_eq, Less, Equal, Greater, refl, sym, ap, ◌∙◌, ⊎_elim, arith, append_assoc, eq-eqb, ne_eqb, cond}
+use Rattle.std.proofs.Common.{◌≡◌, ℕ, zero, suc, ◌<◌, ◌≤◌, ◌&&◌, ◌++◌, Bool, true, false, not, List, [], ◌∷◌, length, get_or, map, Option, Some, None, option_and_then, option_map, nat_lt, nat_eq, Less, Equal, Greater, refl, sym, ap, ◌∙◌, ⊎_elim, arith, append_assoc, eq-eqb, ne_eqb, cond}
 use Rattle.std.specs.Prelude.{find}
 use Rattle.std.specs.List.{cons_option, filter, filter_map}
 use Rattle.std.specs.List.Sorted.{IsNonDecreasingBy, IsStableByKey, ties}
@@ -8,7 +8,8 @@ use Rattle.std.proofs.lemmas.Bool.{cond-true, cond-false, cases_lt, lt-ltb, le-l
 use Rattle.std.proofs.lemmas.List.{get_or_default, map_push}
 use Rattle.cfi_elf.specs.declared.symbols.Function.{Function as FunctionOfCode}
 use Rattle.cfi_elf.specs.SymbolTables.{Function, function_view}
-use Rattle.cfi_elf.specs.FunctionNames.{first_name}
+use Rattle.cfi_elf.specs.FunctionNames.{first_at, first_name, nearest, place_among}
+use Rattle.cfi_elf.specs.FunctionPlaces.{place_of}
 
 -- ---- gathered
 
@@ -42,31 +43,28 @@ module _ {X : Type 0} where
         by true h = refl
         by false h = h
 
-    find_here : (xs : List X) (k : ℕ) (d : X) → k < length xs → ((j : ℕ) → j < k → p (get_or xs j d) ≡ false) → p (get_or xs k d) ≡ true → find p xs ≡ Some (get_or xs k d)
+    pub find_here : (xs : List X) (k : ℕ) (d : X) → k < length xs → ((j : ℕ) → j < k → p (get_or xs j d) ≡ false) → p (get_or xs k d) ≡ true → find p xs ≡ Some (get_or xs k d)
     find_here [] k d inside fails passes = absurd (omega arith)
     find_here (x ∷ xs) zero d inside fails passes = cond-true (p x) (Some x) (find p xs) passes
     find_here (x ∷ xs) (suc k) d inside fails passes =
         cond-false (p x) (Some x) (find p xs) (fails 0 (omega arith)) ∙ find_here xs k d (omega arith) (λ j less. fails (suc j) (omega arith)) passes
 
-    find_nowhere : (xs : List X) → ((j : ℕ) (d : X) → j < length xs → p (get_or xs j d) ≡ false) → find p xs ≡ None
+    pub find_nowhere : (xs : List X) → ((j : ℕ) (d : X) → j < length xs → p (get_or xs j d) ≡ false) → find p xs ≡ None
     find_nowhere [] fails = refl
     find_nowhere (x ∷ xs) fails = cond-false (p x) (Some x) (find p xs) (fails 0 x (omega arith)) ∙ find_nowhere xs (λ j d inside. fails (suc j) d (omega arith))
 
 -- ---- of functions
 
-abbrev begins_at : ℕ → FunctionOfCode → Bool
+abbrev pub begins_at : ℕ → FunctionOfCode → Bool
 begins_at a f = nat_eq f.address a
 
-abbrev name_of : Option FunctionOfCode → Option (List ℕ)
-name_of found = option_map (λ f. f.name.now) found
-
--- the first name, by the functions of the code
-first_name_is : (a : ℕ) (fs : List FunctionOfCode) → first_name (map function_view fs) a ≡ name_of (find (begins_at a) fs)
-first_name_is a [] = refl
-first_name_is a (f ∷ fs) = by (nat_eq f.address a) (first_name_is a fs)
+-- the first, by the functions of the code
+pub first_at_is : (a : ℕ) (fs : List FunctionOfCode) → first_at (map function_view fs) a ≡ option_map function_view (find (begins_at a) fs)
+first_at_is a [] = refl
+first_at_is a (f ∷ fs) = by (nat_eq f.address a) (first_at_is a fs)
   where
-    by : (b : Bool) → first_name (map function_view fs) a ≡ name_of (find (begins_at a) fs) →
-        option_map (λ (g : Function). g.name) (cond b (Some (function_view f)) (find (λ (g : Function). nat_eq g.address a) (map function_view fs))) ≡ name_of (cond b (Some f) (find (begins_at a) fs))
+    by : (b : Bool) → first_at (map function_view fs) a ≡ option_map function_view (find (begins_at a) fs) →
+        cond b (Some (function_view f)) (first_at (map function_view fs) a) ≡ option_map function_view (cond b (Some f) (find (begins_at a) fs))
     by true h = refl
     by false h = h
 
@@ -109,9 +107,18 @@ found_as_before a [] (d ∷ new) stable = same_first a [] (d ∷ new) stable d
 found_as_before a (d ∷ old) new stable = same_first a (d ∷ old) new stable d
 
 -- a stable sort leaves the first at each address the first
+pub first_as_before : (a : ℕ) (old new : List FunctionOfCode) (all : List Function) → map function_view old ≡ all → IsStableByKey (λ (f : FunctionOfCode). f.address) nat_cmp old new → first_at (map function_view new) a ≡ first_at all a
+first_as_before a old new all is stable =
+    first_at_is a new ∙ (ap (option_map function_view) (found_as_before a old new stable) ∙ (sym (first_at_is a old) ∙ ap (λ (fs : List Function). first_at fs a) is))
+
 pub named_as_before : (a : ℕ) (old new : List FunctionOfCode) (all : List Function) → map function_view old ≡ all → IsStableByKey (λ (f : FunctionOfCode). f.address) nat_cmp old new → first_name (map function_view new) a ≡ first_name all a
-named_as_before a old new all is stable =
-    first_name_is a new ∙ (ap name_of (found_as_before a old new stable) ∙ (sym (first_name_is a old) ∙ ap (λ (fs : List Function). first_name fs a) is))
+named_as_before a old new all is stable = ap (option_map (λ (f : Function). f.name)) (first_as_before a old new all is stable)
+
+-- so the nearest one is the same too
+pub placed_as_before : (a : ℕ) (old new : List FunctionOfCode) (all : List Function) → map function_view old ≡ all → IsStableByKey (λ (f : FunctionOfCode). f.address) nat_cmp old new → place_among (map function_view new) a ≡ place_among all a
+placed_as_before a old new all is stable =
+    let same : first_at (map function_view new) ≡ first_at all = λ i t. first_as_before t old new all is stable i in
+    ap (λ (first : ℕ → Option Function). option_and_then (place_of a) (nearest first a)) same
 
 -- ---- found by halving
 
@@ -119,23 +126,23 @@ module _ (fs : List FunctionOfCode) (a k : ℕ) (below : (j : ℕ) (d : Function
   not_before : (j : ℕ) (d : FunctionOfCode) → j < k → j < length fs → begins_at a (get_or fs j d) ≡ false
   not_before j d less inside = ne_eqb (get_or fs j d).address a (λ same. let low = below j d less inside in omega (arith, low, same))
 
-  nowhere : ((j : ℕ) (d : FunctionOfCode) → k ≤ j → j < length fs → a < (get_or fs j d).address) → None ≡ first_name (map function_view fs) a
+  nowhere : ((j : ℕ) (d : FunctionOfCode) → k ≤ j → j < length fs → a < (get_or fs j d).address) → None ≡ first_at (map function_view fs) a
   nowhere above =
-      sym (first_name_is a fs ∙ ap name_of (find_nowhere (begins_at a) fs (λ j d inside. ⊎_elim
+      sym (first_at_is a fs ∙ ap (option_map function_view) (find_nowhere (begins_at a) fs (λ j d inside. ⊎_elim
       (λ (less : j < k). not_before j d less inside)
       (λ (up : k ≤ j). ne_eqb (get_or fs j d).address a (λ same. let high = above j d up inside in omega (arith, high, same)))
       (cases_lt j k))))
 
-  pub none_left : length fs ≤ k → None ≡ first_name (map function_view fs) a
+  pub none_left : length fs ≤ k → None ≡ first_at (map function_view fs) a
   none_left all = nowhere (λ j d up inside. absurd (omega (arith, all, up, inside)))
 
   module _ (x : FunctionOfCode) (inside : k < length fs) (there : x ≡ get_or fs k x) where
-    pub named_here : x.address ≡ a → Some x.name.now ≡ first_name (map function_view fs) a
-    named_here at =
+    pub begins_here : x.address ≡ a → Some (function_view x) ≡ first_at (map function_view fs) a
+    begins_here at =
         let here = find_here (begins_at a) fs k x inside (λ j less. not_before j x less (omega (arith, less, inside))) (ap (begins_at a) (sym there) ∙ eq-eqb x.address a at) in
-        sym (first_name_is a fs ∙ ap name_of (here ∙ ap Some (sym there)))
+        sym (first_at_is a fs ∙ ap (option_map function_view) (here ∙ ap Some (sym there)))
 
-    pub other_here : IsNonDecreasingBy (λ (f : FunctionOfCode). f.address) fs → a ≤ x.address → (x.address ≡ a → ⊥) → None ≡ first_name (map function_view fs) a
+    pub other_here : IsNonDecreasingBy (λ (f : FunctionOfCode). f.address) fs → a ≤ x.address → (x.address ≡ a → ⊥) → None ≡ first_at (map function_view fs) a
     other_here sorted from other = nowhere (λ j d up here.
         let rises = sorted k j x up here in
         let at : (get_or fs k x).address ≡ x.address = ap (λ (f : FunctionOfCode). f.address) (sym there) in

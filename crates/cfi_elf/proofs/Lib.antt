@@ -6,4 +6,5 @@ mod FunctionLists
 mod FileKinds
 pub mod Laws
 pub mod NameSteps
+mod NearestFunctions
 mod Worked

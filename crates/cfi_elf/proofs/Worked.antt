@@ -15,7 +15,7 @@ use Rattle.cfi_elf.specs.Sections.{first_section_header, section_count, section_
 use Rattle.cfi_elf.specs.Segments.{segment_count, program_table, wanted_segment, loaded_bytes, eh_frame_hdr_segment, address_of_offset}
 use Rattle.cfi_elf.specs.Symbols.{symbol_64}
 use Rattle.cfi_elf.specs.SymbolTables.{Function}
-use Rattle.cfi_elf.specs.FunctionNames.{first_name, named_function}
+use Rattle.cfi_elf.specs.FunctionNames.{first_name, named_function, place_among}
 
 -- to name it on an `unfolding` line is to open all these
 unfoldable computing : ℕ
@@ -197,3 +197,18 @@ first_of_two = refl
 
 inside_a_function : first_name three_functions 6 ≡ None
 inside_a_function = refl
+
+-- ---- by an address in a function's bytes
+
+abbrev nested : List Function
+nested = record { name = 0x66 ∷ []; address = 3; size = 9 } ∷ record { name = 0x67 ∷ []; address = 5; size = 2 } ∷ record { name = 0x68 ∷ []; address = 5; size = 4 } ∷ []
+
+at_the_last_byte : place_among nested 6 ≡ Some (record { name = 0x67 ∷ []; offset = 1 })
+at_the_last_byte = refl
+
+-- the function that begins nearest before it has no such byte
+behind_the_nearest : place_among nested 7 ≡ None
+behind_the_nearest = refl
+
+before_all : place_among nested 2 ≡ None
+before_all = refl

@@ -1,15 +1,17 @@
 -- The names of functions by their addresses (System V ABI chapter 4, "Symbol Table").
 --     named_functions file      the functions that have names, in the order of their symbols
 --     function_name file address      the name of the first of them that begins at the address
-use Rattle.std.specs.Prelude.{ℕ, List, [], ◌∷◌, Option, Some, None, Result, Ok, Err, find, map, option_map, ◌==◌, if◌then◌else◌}
+--     function_place file address      the name of the one whose bytes have the address, and how far into it that is
+use Rattle.std.specs.Prelude.{ℕ, zero, suc, List, [], ◌∷◌, Option, Some, None, Result, Ok, Err, find, map, option_and_then, option_map, ◌==◌, if◌then◌else◌}
 use Rattle.std.specs.List.{filter_map}
 use Rattle.cfi_elf.specs.declared.error.ElfError.{ElfError}
 use Rattle.cfi_elf.specs.declared.symbol.Symbol.{Symbol}
 use Rattle.cfi_elf.specs.declared.function_names.FunctionNames.{FunctionNames}
 use Rattle.cfi_elf.specs.ElfFiles.{File}
+use Rattle.cfi_elf.specs.FunctionPlaces.{Place, place_of}
 use Rattle.cfi_elf.specs.Sections.{name_at}
 use Rattle.cfi_elf.specs.Symbols.{is_function}
-use Rattle.cfi_elf.specs.SymbolTables.{Function, SymbolTable, function_view, symbol_table, symbols}
+use Rattle.cfi_elf.specs.SymbolTables.{Function, SymbolTable, function_view, or_else, symbol_table, symbols}
 
 -- ---- the functions that have names
 
@@ -30,15 +32,41 @@ functions_in file (Err e) = []
 unfoldable pub named_functions : File → List Function
 named_functions file = functions_in file (symbol_table file)
 
--- ---- by address
+-- ---- that begin at an address
 
--- the name of the first function that begins at the address
+-- the first of them
+abbrev pub first_at : List Function → ℕ → Option Function
+first_at functions address = find (λ f. f.address == address) functions
+
 abbrev pub first_name : List Function → ℕ → Option (List ℕ)
-first_name functions address = option_map (λ f. f.name) (find (λ f. f.address == address) functions)
+first_name functions address = option_map (λ f. f.name) (first_at functions address)
 
 abbrev pub function_name : File → ℕ → Option (List ℕ)
 function_name file address = first_name (named_functions file) address
 
--- the same of the names of the code
+-- ---- that have an address in their bytes
+
+-- the function that begins at the address, or else nearest before it
+abbrev pub nearest : (ℕ → Option Function) → ℕ → Option Function
+nearest first zero = first zero
+nearest first (suc address) = or_else (first (suc address)) (nearest first address)
+
+abbrev pub place_among : List Function → ℕ → Option Place
+place_among functions address = option_and_then (place_of address) (nearest (first_at functions) address)
+
+abbrev pub function_place : File → ℕ → Option Place
+function_place file address = place_among (named_functions file) address
+
+-- ---- the same of the names of the code
+
+abbrev pub functions_of : FunctionNames → List Function
+functions_of names = map function_view names.functions.items
+
+abbrev pub first_in : FunctionNames → ℕ → Option Function
+first_in names address = first_at (functions_of names) address
+
 abbrev pub name_in : FunctionNames → ℕ → Option (List ℕ)
-name_in names address = first_name (map function_view names.functions.items) address
+name_in names address = first_name (functions_of names) address
+
+abbrev pub place_in : FunctionNames → ℕ → Option Place
+place_in names address = place_among (functions_of names) address

@@ -8,4 +8,5 @@ pub mod Sections
 pub mod Segments
 pub mod Symbols
 pub mod SymbolTables
+pub mod FunctionPlaces
 pub mod FunctionNames

@@ -2,6 +2,7 @@
 ghost use Rattle.std.specs.List.Sorted.{IsNonDecreasingBy};
 
 use crate::elf_file::ElfFile;
+use crate::function_place::{FunctionPlace, place_of};
 use crate::symbols::Function;
 use std::alloc::{AllocError, Global};
 
@@ -15,15 +16,20 @@ pub struct FunctionNames<'input> {
 impl<'input> FunctionNames<'input> {
     ghost use Rattle.std.specs.Prelude.{◌≡◌, ℕ, None, IfOk, option_map};
     ghost use Rattle.cfi_elf.specs.ElfFiles.{file_view};
-    ghost use Rattle.cfi_elf.specs.FunctionNames.{function_name, name_in};
+    ghost use Rattle.cfi_elf.specs.FunctionNames.{function_name, function_place, name_in};
+    ghost use Rattle.cfi_elf.specs.FunctionNames.{first_in, place_in};
+    ghost use Rattle.cfi_elf.specs.FunctionPlaces.{place_view};
+    ghost use Rattle.cfi_elf.specs.SymbolTables.{function_view};
 
     /// The names of the functions of `ElfFile::functions`. Of several functions that begin at one
     /// address, the first gives the name.
     ///
     /// Fails where memory is refused. Allocates: the functions are sorted once.
     pub fn new(alloc: Global, file: &ElfFile<'input>) -> Result<Self, AllocError>
-        ensures { (address : ℕ) → IfOk result (λ names.
+        ensures names { (address : ℕ) → IfOk result (λ names.
             name_in names address ≡ function_name (file_view file.now) address) }
+        ensures places { (address : ℕ) → IfOk result (λ names.
+            place_in names address ≡ function_place (file_view file.now) address) }
     {
         let mut functions = file.functions(alloc)?;
         functions.sort_by_key(|function| function.address)?;
@@ -32,7 +38,8 @@ impl<'input> FunctionNames<'input> {
 
     /// No names. Does not allocate.
     pub fn none(alloc: Global) -> Self
-        ensures { (address : ℕ) → name_in result address ≡ None }
+        ensures names { (address : ℕ) → name_in result address ≡ None }
+        ensures places { (address : ℕ) → place_in result address ≡ None }
     {
         FunctionNames {
             functions: Vec::new(alloc),
@@ -44,12 +51,37 @@ impl<'input> FunctionNames<'input> {
     pub fn name_at(&self, address: u64) -> Option<&'input [u8]>
         ensures { option_map (λ name. name.now) result ≡ name_in self.now address }
     {
+        Some(self.first_at(address)?.name)
+    }
+
+    /// The address by the function that begins at it, or else nearest before it. Of several
+    /// functions that begin there, it is the first. Returns `None` where there is none, and where
+    /// the address is behind the function's last byte: a function of size 0 has no bytes.
+    ///
+    /// Found by halving; does not allocate.
+    pub fn place_at(&self, address: u64) -> Option<FunctionPlace<'input>>
+        ensures { option_map place_view result ≡ place_in self.now address }
+    {
+        let count = self
+            .functions
+            .partition_point(|function| function.address <= address);
+        if count == 0 {
+            return None;
+        }
+        let nearest = self.functions.get(count - 1)?;
+        place_of(address, &self.first_at(nearest.address)?)
+    }
+
+    /// The first function that begins at the address.
+    fn first_at(&self, address: u64) -> Option<Function<'input>>
+        ensures { option_map function_view result ≡ first_in self.now address }
+    {
         let index = self
             .functions
             .partition_point(|function| function.address < address);
         let function = self.functions.get(index)?;
         if function.address == address {
-            Some(function.name)
+            Some(*function)
         } else {
             None
         }
