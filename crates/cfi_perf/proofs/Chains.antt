@@ -2,7 +2,7 @@
 use Rattle.std.proofs.Common.{◌≡◌, Bool, true, false, Option, Some, None, Result, Ok, Err, ap, refl}
 use Rattle.std.specs.Prelude.{if◌then◌else◌}
 use Rattle.cfi_perf.specs.declared.error.PerfError.{PerfError}
-use Rattle.cfi_perf.specs.Results.{and_then, or_error, or_missing}
+use Rattle.cfi_perf.specs.Results.{and_then, or_missing}
 
 pub ok_then : {A B : Type 0} (x : A) (r : Result A PerfError) (next : A → Result B PerfError) → Ok x ≡ r → next x ≡ and_then r next
 ok_then x r next is = ap (λ r. and_then r next) is

@@ -8,7 +8,7 @@ use Rattle.cfi_perf.specs.declared.error.PerfError.{PerfError}
 use Rattle.cfi_perf.specs.declared.error.PerfError.TheVariants.{MixedEvents}
 use Rattle.cfi_perf.specs.declared.attribute.EventLayout.{EventLayout}
 use Rattle.cfi_perf.specs.Results.{entries, listed}
-use Rattle.cfi_perf.specs.Layouts.{only_layout, same_layout}
+use Rattle.cfi_perf.specs.Layouts.{same_layout}
 
 one_more : (count index : ℕ) → index < count → count - index ≡ suc (count - (index + 1))
 one_more count index below = omega arith

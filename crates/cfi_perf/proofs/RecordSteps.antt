@@ -1,7 +1,7 @@
 -- The records of some bytes, when the first of them is read.
-use Rattle.std.proofs.Common.{◌≡◌, ◌<◌, ◌≤◌, ◌+◌, ◌-◌, ℕ, zero, suc, Bool, true, false, [], List, Option, Some, None, Result, Ok, Err, refl, sym, ap, ◌∙◌, length, drop, arith}
+use Rattle.std.proofs.Common.{◌≡◌, ◌<◌, ◌≤◌, ◌+◌, ◌-◌, ℕ, zero, suc, Bool, true, false, List, Some, None, Result, Ok, Err, refl, sym, ap, ◌∙◌, length, drop, arith}
 use Rattle.std.specs.Prelude.{◌==◌, if◌then◌else◌, nat_le, nat_lt, slice_range}
-use Rattle.std.proofs.lemmas.Bool.{eqb-false, ltb-false}
+use Rattle.std.proofs.lemmas.Bool.{ltb-false}
 use Rattle.std.proofs.lemmas.List.{length-drop}
 use borrow.Author.Tests.{leb-true}
 use Rattle.cfi_perf.specs.declared.error.PerfError.{PerfError}
@@ -43,6 +43,9 @@ abbrev others_of : Result Framed PerfError → List ℕ → List ℕ
 others_of (Ok found) other = found.others
 others_of (Err e) other = other
 
+same_others : (header : RecordHeader) (body others : List ℕ) (found : Framed) → ◌≡◌ {A = Result Framed PerfError} (Ok (record { header = header; body = body; others = others })) (Ok found) → length others ≡ length found.others
+same_others header body others found is = ap (λ (r : Result Framed PerfError). length (others_of r others)) is
+
 -- the steps of a record, each with what the ones before gave
 abbrev with_others : RecordHeader → List ℕ → List ℕ → Result Framed PerfError
 with_others header body others = Ok (record { header = header; body = body; others = others })
@@ -65,8 +68,7 @@ framed_fewer big bytes found is =
     let others = gave (after_record big header.value body.value (drop header.value.size bytes)) (with_others header.value body.value) found body.gives in
     let fits = part_fits bytes 8 (header.value.size - 8) body.value (not_missing RecordCut (part bytes 8 (header.value.size - 8)) body.value body.was) in
     let some : 8 ≤ header.value.size = ltb-false header.value.size 8 large.0 in
-    let same : others.value ≡ found.others = ap (λ (r : Result Framed PerfError). others_of r others.value) others.gives in
-    let count : length others.value ≡ length found.others = ap length same in
+    let count = same_others header.value body.value others.value found others.gives in
     let more = no_more_after big header.value body.value (drop header.value.size bytes) others.value others.was in
     let less = length-drop header.value.size bytes in
     omega (arith, fits, some, count, more, less)
@@ -74,6 +76,9 @@ framed_fewer big bytes found is =
 abbrev behind_first : Result First PerfError → List ℕ → List ℕ
 behind_first (Ok found) other = found.others
 behind_first (Err e) other = other
+
+same_behind : (first : Record) (others : List ℕ) (found : First) → ◌≡◌ {A = Result First PerfError} (Ok (record { first = first; others = others })) (Ok found) → length others ≡ length found.others
+same_behind first others found is = ap (λ (r : Result First PerfError). length (behind_first r others)) is
 
 module _ (layout : EventLayout) (big : Bool) where
   abbrev with_frame : Framed → Record → Result First PerfError
@@ -84,8 +89,7 @@ module _ (layout : EventLayout) (big : Bool) where
   fewer bytes found is =
       let frame = gave (split_record big bytes) (λ frame. and_then (record_of layout big frame.header frame.body) (with_frame frame)) found is in
       let first = gave (record_of layout big frame.value.header frame.value.body) (with_frame frame.value) found frame.gives in
-      let same : frame.value.others ≡ found.others = ap (λ (r : Result First PerfError). behind_first r frame.value.others) first.gives in
-      let count : length frame.value.others ≡ length found.others = ap length same in
+      let count = same_behind first.value frame.value.others found first.gives in
       let less = framed_fewer big bytes frame.value frame.was in
       omega (arith, count, less)
 

@@ -1,16 +1,16 @@
 -- A small profile of three records by computation, as perf script -D prints it: its header, its event, its records, and its architecture, in both byte orders.
-use Rattle.std.proofs.Common.{◌≡◌, ℕ, ◌+◌, ◌-◌, ◌*◌, List, [], ◌∷◌, ◌++◌, codes, true, false, Option, Some, None, Result, Ok, Err, refl}
+use Rattle.std.proofs.Common.{◌≡◌, ℕ, ◌+◌, ◌-◌, ◌*◌, List, [], ◌∷◌, ◌++◌, codes, true, false, Option, Some, None, Ok, Err, refl}
 use Rattle.std.specs.Prelude.{nat_lt, if◌then◌else◌, take}
 use Rattle.cfi_read_core.specs.declared.endianity.RunTimeEndian.TheVariants.{Little, Big}
 use Rattle.cfi_read_core.specs.Numbers.{unsigned}
 use Rattle.cfi_perf.specs.declared.error.PerfError.TheVariants.{NotPerf, PipeMode, HeaderCut, HeaderSize, AttributesOutOfBounds, NoEvents, MixedEvents, FeatureOutOfBounds, RecordSize, RecordCut, Compressed}
 use Rattle.cfi_perf.specs.declared.attribute.EventLayout.{EventLayout}
-use Rattle.cfi_perf.specs.Results.{items, entries, read_from}
+use Rattle.cfi_perf.specs.Results.{items, entries}
 use Rattle.cfi_perf.specs.Layouts.{sample_format, sample_id_all, chosen, event_layout, event, events, only_layout}
 use Rattle.cfi_perf.specs.FileHeaders.{byte_order, file_section, feature_bits, header_fields, file_header}
 use Rattle.cfi_perf.specs.Samples.{UserRegisters, register_of, thread, sample_numbers, passed_numbers, group_values, single_value, call_chain, raw_data, branch_stack, passed_lists, registers, copied_stack, stack, user_state, sample}
 use Rattle.cfi_perf.specs.Events.{MappingEvent, ProgramEvent, ForkEvent, SampleEvent, OtherEvent, mapped_range, mapping, mapping2, program, fork}
-use Rattle.cfi_perf.specs.Records.{Records, no_records, record_header, split_record, sample_id_time, without_id, record_of, first_record, records_up_to, records_of}
+use Rattle.cfi_perf.specs.Records.{record_header, split_record, sample_id_time, without_id, record_of, first_record, records_up_to, records_of}
 use Rattle.cfi_perf.specs.Profiles.{Profile, layout_by, profile, architecture, header_text}
 
 -- to name it on an `unfolding` line is to open all these

@@ -1,8 +1,7 @@
 -- The records of mapped files, programs and new processes (perf_event_open(2), "MMAP layout"; include/uapi/linux/perf_event.h).
-use Rattle.std.specs.Prelude.{ℕ, Bool, not, List, drop, Result, Ok, Err, bit_and, ◌==◌, if◌then◌else◌}
+use Rattle.std.specs.Prelude.{ℕ, Bool, not, List, drop, Result, Ok}
 use Rattle.std.specs.Int.{w32, w64}
 use Rattle.cfi_read_core.specs.ReadFunctions.{Read, ◌>>=◌, give}
-use Rattle.cfi_read_core.specs.ReaderCalls.{map_ok}
 use Rattle.cfi_read_core.specs.Numbers.{unsigned}
 use Rattle.cfi_perf.specs.declared.error.PerfError.{PerfError}
 use Rattle.cfi_perf.specs.declared.error.PerfError.TheVariants.{RecordCut}

@@ -1,7 +1,7 @@
 -- A profile, by its header (perf.data-file-format.txt).
 --     profile bytes      the profile of these bytes, or the first error
 --     profile_view p      what a `Profile` of the code is
-use Rattle.std.specs.Prelude.{ℕ, ◌+◌, ◌*◌, Bool, List, drop, Option, Some, None, Result, Ok, Err, count_ones, bit_and, nat_lt, ◌==◌, if◌then◌else◌}
+use Rattle.std.specs.Prelude.{ℕ, ◌+◌, ◌*◌, List, drop, Option, Some, None, Result, Ok, Err, count_ones, bit_and, nat_lt, ◌==◌, if◌then◌else◌}
 use Rattle.std.specs.Int.{w32}
 use Rattle.cfi_read_core.specs.declared.endianity.RunTimeEndian.{RunTimeEndian}
 use Rattle.cfi_read_core.specs.ByteOrder.{is_big}
@@ -10,7 +10,6 @@ use Rattle.cfi_read_core.specs.Numbers.{unsigned}
 use Rattle.cfi_perf.specs.declared.error.PerfError.{PerfError}
 use Rattle.cfi_perf.specs.declared.error.PerfError.TheVariants.{AttributeSize, AttributesOutOfBounds, DataOutOfBounds, FeatureOutOfBounds}
 use Rattle.cfi_perf.specs.declared.attribute.EventLayout.{EventLayout}
-use Rattle.cfi_perf.specs.declared.file_header.FileSection.{FileSection}
 use Rattle.cfi_perf.specs.declared.file_header.FileHeader.{FileHeader}
 use Rattle.cfi_perf.specs.declared.profile.Profile.{Profile as ProfileOfCode}
 use Rattle.cfi_perf.specs.Results.{and_then, or_error, or_missing, part, before_zero, read_from, items}

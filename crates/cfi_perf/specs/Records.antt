@@ -1,7 +1,7 @@
 -- The records of a profile, one after the other.
 --     records_of layout big bytes      the records of these bytes in order, and the error that ended them
 --     records_left walk      those that an iterator of the code has left
-use Rattle.std.specs.Prelude.{◌≡◌, ℕ, ◌-◌, ◌*◌, zero, suc, Bool, not, ◌||◌, List, [], ◌∷◌, length, drop, take, Option, Some, None, Result, Ok, Err, count_ones, bit_and, option_map, nat_lt, nat_le, ◌==◌, if◌then◌else◌}
+use Rattle.std.specs.Prelude.{◌≡◌, ℕ, ◌-◌, ◌*◌, zero, suc, Bool, not, ◌||◌, List, [], ◌∷◌, ◌++◌, map, length, drop, take, Option, Some, None, Result, Ok, Err, count_ones, bit_and, nat_lt, nat_le, ◌==◌, if◌then◌else◌}
 use Rattle.std.specs.Int.{w16, w32, w64}
 use Rattle.cfi_read_core.specs.ByteOrder.{is_big}
 use Rattle.cfi_read_core.specs.ReadFunctions.{Read, ◌>>=◌, give}
@@ -10,7 +10,6 @@ use Rattle.cfi_read_core.specs.Numbers.{unsigned}
 use Rattle.cfi_perf.specs.declared.error.PerfError.{PerfError}
 use Rattle.cfi_perf.specs.declared.error.PerfError.TheVariants.{RecordSize, RecordCut, Compressed}
 use Rattle.cfi_perf.specs.declared.attribute.EventLayout.{EventLayout}
-use Rattle.cfi_perf.specs.declared.record.Record.{Record as RecordOfCode}
 use Rattle.cfi_perf.specs.declared.records.Records.{Records as RecordsOfCode}
 use Rattle.cfi_perf.specs.declared.records.RecordHeader.{RecordHeader}
 use Rattle.cfi_perf.specs.declared.records.Framed.{Framed as FramedOfCode}
@@ -157,6 +156,16 @@ records_up_to (suc n) layout big bytes =
 -- all: each takes a byte at least
 abbrev pub records_of : EventLayout → Bool → List ℕ → Records
 records_of layout big bytes = records_up_to (length bytes) layout big bytes
+
+-- ---- as the items of an iterator
+
+abbrev pub error_item : Option PerfError → List (Result Record PerfError)
+error_item None = []
+error_item (Some e) = Err e ∷ []
+
+-- each record, and the error
+abbrev pub items : Records → List (Result Record PerfError)
+items all = map Ok all.records ++ error_item all.error
 
 -- ---- the iterator of the code
 

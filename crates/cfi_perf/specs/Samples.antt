@@ -1,8 +1,6 @@
 -- Samples, field by field (perf_event_open(2), PERF_RECORD_SAMPLE).
-use Rattle.std.specs.Prelude.{ℕ, ◌+◌, ◌*◌, ◌^◌, ◌/◌, ◌%◌, Bool, List, [], drop, take, Option, Some, None, Result, Ok, Err, count_ones, bit_and, option_map, ◌==◌, if◌then◌else◌}
+use Rattle.std.specs.Prelude.{ℕ, ◌+◌, ◌*◌, ◌^◌, ◌/◌, ◌%◌, Bool, not, List, [], drop, take, Option, Some, None, Result, Ok, Err, count_ones, bit_and, option_map, ◌==◌, if◌then◌else◌}
 use Rattle.std.specs.Int.{w32, w64}
-use Rattle.cfi_read_core.specs.declared.error.Error.{Error}
-use Rattle.cfi_read_core.specs.declared.endianity.RunTimeEndian.{RunTimeEndian}
 use Rattle.cfi_read_core.specs.ByteOrder.{is_big}
 use Rattle.cfi_read_core.specs.ReadFunctions.{Read, ◌>>=◌, give}
 use Rattle.cfi_read_core.specs.Numbers.{unsigned}
@@ -40,11 +38,16 @@ abbrev pub ok_value : {A E : Type 0} → Result A E → Option A
 ok_value (Ok x) = Some x
 ok_value (Err e) = None
 
--- The register of a number, where the mask has its bit: as many values stand before it as bits are set below.
+-- whether the mask has the bit of a number
+abbrev pub has_register : UserRegisters → ℕ → Bool
+has_register registers number = not ((registers.mask / 2 ^ number) % 2 == 0)
+
+-- the register of a number: as many values stand before it as bits are set below its own
 abbrev pub register_of : UserRegisters → ℕ → Option ℕ
 register_of registers number =
-    if (registers.mask / 2 ^ number) % 2 == 0 then None
-    else ok_value (read_from registers.big_endian (drop (8 * count_ones (registers.mask % 2 ^ number)) registers.values) (unsigned w64))
+    if has_register registers number
+    then ok_value (read_from registers.big_endian (drop (8 * count_ones (registers.mask % 2 ^ number)) registers.values) (unsigned w64))
+    else None
 
 -- what these are in the code
 abbrev pub registers_view : UserRegistersOfCode → UserRegisters

@@ -1,5 +1,5 @@
 //! Parts of a slice of bytes.
-ghost use Rattle.std.specs.Prelude.{◌≡◌, ◌≤◌, ◌==◌, IfSome, drop, length, option_map, position, take};
+ghost use Rattle.std.specs.Prelude.{◌≡◌, ◌≤◌, ◌==◌, ◌*◌, IfOk, IfSome, drop, length, option_map, position, take};
 ghost use Rattle.cfi_read_core.specs.ReaderCalls.{ReadsBy};
 ghost use Rattle.cfi_read_core.specs.ByteOrder.{is_big};
 ghost use Rattle.cfi_read_core.specs.Windows.{slice_position};
@@ -69,8 +69,9 @@ pub(crate) fn read_items<'input>(
     size: u64,
     input: &mut Input<'input>,
 ) -> Result<&'input [u8]>
-    ensures { ReadsBy (slice_position is_big) (λ found. found.now) (items count size)
+    ensures read { ReadsBy (slice_position is_big) (λ found. found.now) (items count size)
         input.old result input.new }
+    ensures total { IfOk result (λ found. length found.now ≡ count * size) }
 {
     let Some(total) = count.checked_mul(size) else {
         return Err(Error::UnsupportedOffset);

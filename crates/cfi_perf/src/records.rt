@@ -4,10 +4,10 @@ ghost use Rattle.cfi_read_core.specs.ByteOrder.{is_big};
 ghost use Rattle.cfi_read_core.specs.ReaderCalls.{ReadsValue, map_ok};
 ghost use Rattle.cfi_perf.specs.Events.{event_view, record_view};
 ghost use Rattle.cfi_perf.specs.Records.{Meets, after_record, event_of, first_record};
-ghost use Rattle.cfi_perf.specs.Records.{first_view, fork_event, split_record, framed_view};
+ghost use Rattle.cfi_perf.specs.Records.{first_view, fork_event, framed_view};
 ghost use Rattle.cfi_perf.specs.Records.{record_header, record_of, records_left, records_of};
 ghost use Rattle.cfi_perf.specs.Records.{sample_id_size, sample_id_time, sample_in, split_id};
-ghost use Rattle.cfi_perf.specs.Records.{without_id, without_id_view};
+ghost use Rattle.cfi_perf.specs.Records.{split_record, without_id, without_id_view};
 
 use crate::attribute::{EventLayout, PERF_SAMPLE_TID, PERF_SAMPLE_TIME};
 use crate::bytes::{bytes_from, first_bytes, part};
@@ -100,6 +100,22 @@ impl<'input> Records<'input> {
                 Err(error)
             }
         }
+    }
+}
+
+impl<'input> Iterator for Records<'input> {
+    ghost use Rattle.std.specs.Iterator.{YieldsFirstBy, item_count};
+    ghost use Rattle.cfi_perf.specs.Records.{items};
+
+    type Item = Result<Record<'input>, PerfError>;
+
+    ghost next_gives = { YieldsFirstBy (map_ok record_view) (λ walk. items (records_left walk)) };
+
+    ghost remaining = { item_count (λ walk. items (records_left walk)) };
+
+    #[inline(always)]
+    fn next(&mut self) -> Option<Result<Record<'input>, PerfError>> {
+        Records::next(self).transpose()
     }
 }
 

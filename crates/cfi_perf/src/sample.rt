@@ -1,7 +1,5 @@
 //! Samples, and the state of user space that they have (perf_event_open(2), `PERF_RECORD_SAMPLE`).
-ghost use Rattle.std.specs.Prelude.{◌≡◌, ⊤};
-ghost use Rattle.cfi_read_core.specs.ByteOrder.{is_big};
-ghost use Rattle.cfi_perf.specs.Samples.{register_of, registers_view};
+ghost use Rattle.std.specs.Prelude.{◌≡◌, ◌*◌, ⊤, count_ones, length};
 
 use crate::bytes::bytes_from;
 use cfi_read_core::{EndianSlice, Reader, RunTimeEndian};
@@ -32,7 +30,7 @@ pub struct UserState<'input> {
 }
 
 /// The registers of user space in a sample.
-#[derive(Copy, Debug)]
+#[derive(Debug)]
 pub struct UserRegisters<'input> {
     /// Whether the process has registers of 32 bits (`PERF_SAMPLE_REGS_ABI_32` is 1) or of 64
     /// (`PERF_SAMPLE_REGS_ABI_64` is 2).
@@ -40,11 +38,17 @@ pub struct UserRegisters<'input> {
     mask: u64,
     values: &'input [u8],
     endian: RunTimeEndian,
+    ghost whole: { length values.now ≡ count_ones mask * 8 },
 }
 
 impl<'input> UserRegisters<'input> {
+    ghost use Rattle.std.specs.Prelude.{◌↔◌, IsSome, IsTrue};
+    ghost use Rattle.cfi_read_core.specs.ByteOrder.{is_big};
+    ghost use Rattle.cfi_perf.specs.Samples.{has_register, register_of, registers_view};
+
     #[inline(always)]
     pub(crate) fn new(abi: u64, mask: u64, values: &'input [u8], endian: RunTimeEndian) -> Self
+        requires { length values.now ≡ count_ones mask * 8 }
         ensures { registers_view result
             ≡ record { abi = abi; mask = mask; values = values.now; big_endian = is_big endian } }
     {
@@ -59,7 +63,8 @@ impl<'input> UserRegisters<'input> {
     /// The register with this number of perf's (`asm/perf_regs.h` of the machine). Returns `None`
     /// where the sample doesn't have it.
     pub fn get(&self, number: u32) -> Option<u64>
-        ensures { result ≡ register_of (registers_view self.now) number }
+        ensures value { result ≡ register_of (registers_view self.now) number }
+        ensures there { IsSome result ↔ IsTrue (has_register (registers_view self.now) number) }
     {
         let mask = self.mask;
         if number >= 64 {
@@ -113,3 +118,5 @@ impl Clone for UserRegisters<'_> {
         Ok(*self)
     }
 }
+
+impl Copy for UserRegisters<'_> {}
