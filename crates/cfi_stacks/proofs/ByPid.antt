@@ -11,7 +11,7 @@ other_pid : (pid q : ℕ) → (q ≡ pid → ⊥) → is_at (nat_cmp pid) q ≡ 
 other_pid pid q other = grind (arith, nat_tests)
 
 -- in the process of this pid what it was given, or nothing; in each other one what there was
-pub updated : (old new : BTreeMap ℕ (List MappedCode)) (pid : ℕ) (w : Option (List MappedCode)) → Updates nat_cmp old new pid w →
+updated : (old new : BTreeMap ℕ (List MappedCode)) (pid : ℕ) (w : Option (List MappedCode)) → Updates nat_cmp old new pid w →
     (q : ℕ) → unwrap_or (get nat_cmp new q) [] ≡ cond (q == pid) (unwrap_or w []) (unwrap_or (get nat_cmp old q) [])
 updated old new pid w updates q = ⊎_elim
     (λ (same : q ≡ pid).
