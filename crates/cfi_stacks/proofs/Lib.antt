@@ -3,3 +3,6 @@ pub mod MappedOrder
 pub mod AfterChanges
 pub mod ByPid
 pub mod Worked
+mod RegisterTables
+mod Unwinding
+mod WorkedSamples

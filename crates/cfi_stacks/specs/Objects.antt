@@ -1,0 +1,42 @@
+-- A file of a profile, and the module that it is where a process has mapped it.
+--     Object, object_view      its segments and its call frames, and that of the code
+--     object_of bytes      the file of these bytes, if it has .eh_frame
+--     bias_of object mapped      how far its code is moved
+--     module_of object mapped      the module
+use Rattle.std.specs.Prelude.{ℕ, List, Option, None, Result, Ok, Err, option_map}
+use Rattle.std.specs.Option.{option_and_then}
+use Rattle.std.specs.Result.{result_ok}
+use Rattle.cfi_elf.specs.declared.error.ElfError.{ElfError}
+use Rattle.cfi_elf.specs.ElfFiles.{File, elf_file, file_view}
+use Rattle.cfi_elf.specs.Segments.{address_of_offset, minus}
+use Rattle.cfi_files.specs.CallFrames.{Frames, eh_frame_of, frames_view}
+use Rattle.cfi_stacks.specs.declared.mappings.MappedCode.{MappedCode}
+use Rattle.cfi_stacks.specs.declared.objects.Object.{Object as ObjectOfCode}
+use Rattle.cfi_stacks.specs.Modules.{Module, loaded_module}
+
+pub record Object : Type 0 where
+  pub file : File
+  pub frames : Frames
+
+-- what an `Object` of the code is
+abbrev pub object_view : ObjectOfCode → Object
+object_view object = record { file = file_view object.file; frames = frames_view object.frames }
+
+-- the value, if it is there and no error is in its place
+abbrev pub there : {A : Type 0} → Result (Option A) ElfError → Option A
+there (Ok found) = found
+there (Err e) = None
+
+abbrev pub with_frames : File → Option Object
+with_frames file = option_map (λ frames. record { file = file; frames = frames }) (there (eh_frame_of file))
+
+-- the file of these bytes, if it can be read and has .eh_frame
+abbrev pub object_of : List ℕ → Option Object
+object_of bytes = option_and_then with_frames (result_ok (elf_file bytes))
+
+-- the byte at the first mapped address is that at the offset in the file, which has an address of the file's own
+abbrev pub bias_of : Object → MappedCode → Option ℕ
+bias_of object mapped = option_map (minus mapped.start) (there (address_of_offset object.file mapped.offset))
+
+abbrev pub module_of : Object → MappedCode → Option Module
+module_of object mapped = option_map (loaded_module object.frames mapped) (bias_of object mapped)

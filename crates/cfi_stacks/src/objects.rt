@@ -1,0 +1,153 @@
+//! Files of a profile as modules: their call frames, where a process has mapped them.
+ghost use Rattle.std.specs.Prelude.{◌≡◌, ⊤, option_map, true};
+ghost use Rattle.cfi_read_core.specs.Addresses.{is_sized};
+ghost use Rattle.cfi_read_core.specs.ByteOrder.{is_big};
+ghost use Rattle.cfi_read_core.specs.Windows.{slice_over, slice_position};
+ghost use Rattle.cfi_elf.specs.ElfFiles.{file_view};
+ghost use Rattle.cfi_elf.specs.Segments.{plus};
+ghost use Rattle.gimli_cfi.specs.HeaderViews.{header_reader};
+ghost use Rattle.cfi_stacks.specs.Modules.{Module, module_view, moved_words};
+
+use crate::mappings::MappedCode;
+use cfi_elf::ElfFile;
+use cfi_files::{CallFrames, eh_frame};
+use cfi_programs::words::SectionWords;
+use cfi_step::LoadedModule;
+use gimli_cfi::{EhFrame, EhFrameHdr, EndianSlice, RunTimeEndian};
+use std::alloc::AllocError;
+
+/// A file of a profile: its segments and its call frames. The bytes are borrowed, not copied.
+pub struct Object<'file> {
+    file: ElfFile<'file>,
+    frames: CallFrames<'file>,
+    ghost sized: { is_sized frames.words.address_size ≡ true },
+}
+
+impl Clone for Object<'_> {
+    ghost is_clone = { λ x y. y ≡ x };
+
+    ghost is_infallible = { λ _. ⊤ };
+
+    fn clone(&self) -> std::result::Result<Self, AllocError> {
+        Ok(*self)
+    }
+}
+
+impl Copy for Object<'_> {}
+
+impl<'file> Object<'file> {
+    ghost use Rattle.std.specs.Prelude.{◌≡◌, option_map};
+    ghost use Rattle.cfi_elf.specs.ElfFiles.{file_view};
+    ghost use Rattle.cfi_stacks.specs.Modules.{loaded_module, module_view};
+    ghost use Rattle.cfi_stacks.specs.Objects.{bias_of, module_of, object_of, object_view};
+
+    /// The file that these bytes are. Returns `None` where they are no ELF file, and where the file
+    /// has no `.eh_frame` or its headers can't be read (`cfi_elf::ElfFile::parse`,
+    /// `cfi_files::eh_frame`). Does not allocate.
+    pub fn of(bytes: &'file [u8]) -> Option<Object<'file>>
+        ensures { option_map object_view result ≡ object_of bytes.now }
+    {
+        let Ok(file) = ElfFile::parse(bytes) else {
+            return None;
+        };
+        match eh_frame(&file) {
+            Ok(Some(frames)) => Some(Object { file, frames }),
+            _ => None,
+        }
+    }
+
+    /// The file's segments, symbols and sections.
+    pub fn file(&self) -> ElfFile<'file>
+        ensures { file_view result ≡ (object_view self.now).file }
+    {
+        self.file
+    }
+
+    /// How far the file's code is moved where it is mapped: an address of the file plus the bias,
+    /// modulo 2^64, is that in the process. Returns `None` where no executable segment has the
+    /// bytes that are mapped, and where the program headers can't be read.
+    ///
+    /// The byte at `mapped.start` is the one at `mapped.offset` in the file, so it has the address
+    /// `ElfFile::address_of_offset` there (System V ABI chapter 5, "Program Loading"). Does not
+    /// allocate.
+    pub fn bias(&self, mapped: &MappedCode) -> Option<u64>
+        ensures { result ≡ bias_of (object_view self.now) mapped.now }
+    {
+        match self.file.address_of_offset(mapped.offset) {
+            Ok(Some(address)) => Some(mapped.start.wrapping_sub(address)),
+            _ => None,
+        }
+    }
+
+    /// The module that the file is where it is mapped: its code is that between the two addresses,
+    /// its sections and their bases are moved by the bias. Returns `None` where there is no bias.
+    /// Does not allocate.
+    pub fn module(
+        &self,
+        mapped: &MappedCode,
+    ) -> Option<LoadedModule<EndianSlice<'file, RunTimeEndian>>>
+        ensures { option_map module_view result ≡ module_of (object_view self.now) mapped.now }
+    {
+        let bias = self.bias(mapped)?;
+        Some(self.module_with(bias, mapped))
+    }
+
+    /// The module, with this bias.
+    fn module_with(
+        &self,
+        bias: u64,
+        mapped: &MappedCode,
+    ) -> LoadedModule<EndianSlice<'file, RunTimeEndian>>
+        ensures { module_view result
+            ≡ loaded_module (object_view self.now).frames mapped.now bias }
+    {
+        let words = moved_words(&self.frames.words, bias);
+        let mut frame = EhFrame::new(self.frames.section, words.endian);
+        frame.set_address_size(words.address_size);
+        frame.set_vendor(words.vendor);
+        LoadedModule {
+            start: mapped.start,
+            end: mapped.end,
+            frame,
+            header: header_of(&words, self.frames.header),
+            bases: words.bases(),
+        }
+    }
+}
+
+/// The header of these bytes, if the words have one.
+fn header_of<'file>(
+    words: &SectionWords,
+    bytes: &'file [u8],
+) -> Option<EhFrameHdr<EndianSlice<'file, RunTimeEndian>>>
+    ensures { option_map (λ header. slice_position is_big (header_reader header)) result
+        ≡ option_map (λ base. slice_over bytes.now (is_big words.now.endian)) words.now.header }
+{
+    match words.header {
+        Some(_) => Some(EhFrameHdr::new(bytes, words.endian)),
+        None => None,
+    }
+}
+
+/// The words of a section that is moved by a bias.
+fn moved_words(words: &SectionWords, bias: u64) -> SectionWords
+    ensures { result ≡ moved_words bias words.now }
+{
+    SectionWords {
+        section: moved(words.section, bias),
+        text: moved(words.text, bias),
+        data_base: moved(words.data_base, bias),
+        header: moved(words.header, bias),
+        ..*words
+    }
+}
+
+/// An address that is moved by a bias, where there is one.
+fn moved(address: Option<u64>, bias: u64) -> Option<u64>
+    ensures { result ≡ option_map (plus bias) address }
+{
+    match address {
+        Some(address) => Some(bias.wrapping_add(address)),
+        None => None,
+    }
+}
