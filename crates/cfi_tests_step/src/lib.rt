@@ -1,6 +1,6 @@
 //! Tests of expressions, of the module of an address, of the unwinder, of profiles, and of what is
-//! mapped in processes. The expected values are those of the standard, of Linux or of `perf script`,
-//! or were worked out by hand.
+//! mapped in processes. The expected values are those of the standard, of Linux or of
+//! `perf script`, or were worked out by hand.
 #![tactic(auto)]
 
 #[cfg(test)]
