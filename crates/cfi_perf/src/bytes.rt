@@ -1,5 +1,6 @@
 //! Parts of a slice of bytes.
-ghost use Rattle.std.specs.Prelude.{◌≡◌, ◌≤◌, ◌==◌, ◌*◌, IfOk, IfSome, drop, length, option_map, position, take};
+ghost use Rattle.std.specs.Prelude.{◌≡◌, ◌≤◌, ◌==◌, ◌*◌, IfOk, IfSome, drop, length};
+ghost use Rattle.std.specs.Prelude.{option_map, position, take};
 ghost use Rattle.cfi_read_core.specs.ReaderCalls.{ReadsBy};
 ghost use Rattle.cfi_read_core.specs.ByteOrder.{is_big};
 ghost use Rattle.cfi_read_core.specs.Windows.{slice_position};

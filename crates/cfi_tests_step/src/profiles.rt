@@ -1,5 +1,5 @@
-//! A small profile in both byte orders, of a program, a mapped file and a sample, and each error. The
-//! expected values are what `perf script -D` prints of the two.
+//! A small profile in both byte orders, of a program, a mapped file and a sample, and each error.
+//! The expected values are what `perf script -D` prints of the two.
 use cfi_perf::{Event, PerfError, Profile, Record, Sample};
 use cfi_tests_bytes::bytes_of;
 use std::alloc::Global;
@@ -106,10 +106,12 @@ fn sampled(bytes: &[u8]) -> Result<[Option<u64>; 4], PerfError> {
     records.next()?;
     records.next()?;
     match records.next()? {
-        Some(Record {
-            event: Event::Sample(sample),
-            ..
-        }) => Ok(registers(&sample)),
+        Some(
+            Record {
+                event: Event::Sample(sample),
+                ..
+            },
+        ) => Ok(registers(&sample)),
         _ => Ok([None; 4]),
     }
 }
@@ -137,7 +139,11 @@ type Changed = (&'static str, &'static [(usize, u8)], PerfError);
 const ERRORS: [Changed; 14] = [
     ("no profile", &[(7, 0x31)], PerfError::NotPerf),
     ("the header of a pipe", &[(8, 16)], PerfError::PipeMode),
-    ("a header of 72 bytes", &[(8, 72)], PerfError::HeaderSize(72)),
+    (
+        "a header of 72 bytes",
+        &[(8, 72)],
+        PerfError::HeaderSize(72),
+    ),
     (
         "events of 111 bytes",
         &[(16, 111)],
@@ -212,7 +218,10 @@ fn nothing_after_an_error(rt: HostRuntime) -> Result<(), Fail> {
     let bytes = changed(rt.alloc(), LITTLE, &[(RECORDS, 81)])?;
     let mut records = Profile::parse(bytes.as_slice())?.records();
     let first = next_line(&mut records);
-    assert_eq!(rt; (first, next_line(&mut records)), (Err(PerfError::Compressed), Ok(None)));
+    assert_eq!(rt;
+        (first, next_line(&mut records)),
+        (Err(PerfError::Compressed), Ok(None))
+    );
     Ok(())
 }
 
