@@ -10,8 +10,8 @@ use Rattle.clap.specs.Faults.{default_fault, defaults_fault, given_default_fault
 use Rattle.clap.specs.declared.builder.value_parser.Reading.TheVariants.{AsWritten}
 use Rattle.clap.specs.declared.error.kind.ErrorKind.TheVariants.{MissingRequiredArgument}
 use Rattle.clap.specs.declared.parser.matches.ValueSource.TheVariants.{DefaultValue}
-use Rattle.cfi.specs.declared.command.Format.{Format}
-use Rattle.cfi.specs.declared.command.Format.TheVariants as form
+use Rattle.cfi_programs.specs.declared.style.Format.{Format}
+use Rattle.cfi_programs.specs.declared.style.Format.TheVariants as form
 use Rattle.cfi.specs.CommandLine.{format_in, raw_in}
 use Rattle.cfi.proofs.RowLemmas.{Has, at_id, has_row_by, is_given, line, new_row, other_row}
 use Rattle.cfi.proofs.WordLemmas.{format_values, raw_here, raw_values}

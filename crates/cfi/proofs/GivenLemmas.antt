@@ -3,7 +3,7 @@ use Rattle.std.proofs.Common.{◌≡◌, ◌≤◌, ◌+◌, ℕ, Bool, true, fa
 use Rattle.std.specs.Option.{option_and_then, option_map}
 use Rattle.std.proofs.lemmas.List.{length-append}
 use Rattle.clap.specs.Words.{Text}
-use Rattle.cfi.specs.declared.command.Format.{Format}
+use Rattle.cfi_programs.specs.declared.style.Format.{Format}
 use Rattle.cfi.specs.CommandLine.{Asked}
 use Rattle.cfi.specs.Words.{Given, Word, argument, format_flag, format_of, given, other_flag, raw_flag, taken, with_arguments, with_format, with_raw, word_of}
 

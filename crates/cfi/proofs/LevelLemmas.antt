@@ -9,7 +9,7 @@ use Rattle.clap.specs.Walk.{Row, Rule, Text, first_of, arg_by_index, arg_by_long
 use Rattle.clap.specs.Simple.{App, Shape, built_leaf, inherited, marked_built, with_leaf_noted}
 use Rattle.clap.specs.Kinds.{or_else}
 use Rattle.clap.specs.Faults.{check_fault, defaults_fault, level_fault}
-use Rattle.cfi.specs.declared.command.Format.{Format}
+use Rattle.cfi_programs.specs.declared.style.Format.{Format}
 use Rattle.cfi.specs.CommandLine.{Asked, asked_of, cfi_app, check, check_app, dump, dump_app, file_in, format_in, format_names, raw_in, row, row_app, rows, rows_app, table, table_app, values_in}
 use Rattle.cfi.specs.Words.{Given, check_by, check_of, dump_by, dump_of, format_given, given, nothing, row_by, row_of, rows_by, rows_of, table_by, table_of}
 use Rattle.cfi.proofs.EndLemmas.{NoDefaults, format_is, found_at, lacks, missing, no_defaults, raw_defaults, raw_is, skips}

@@ -10,22 +10,20 @@ use Rattle.clap.specs.Words.{HasKind, Text, fault_of, kind_of}
 use Rattle.clap.specs.declared.error.Error.{Error}
 use Rattle.clap.specs.declared.error.kind.ErrorKind.TheVariants.{OutOfMemory}
 use Rattle.cfi_programs.specs.Lines.{Line}
-use Rattle.cfi_programs.specs.Runs.{out_of_memory}
 use Rattle.cfi_programs.specs.WriterOutput.{Prints, Writes}
 use Rattle.cfi_programs.proofs.WrittenLemmas.{appends_then, beginning_then, given_part, keeps_is, none_yet, writes_refused}
 use Rattle.cfi_programs.proofs.DumpSectionWritten.{first_refused, last_written}
-use Rattle.cfi_files.specs.FileLines.{PrintsSome, under}
+use Rattle.cfi_files.specs.FileLines.{PrintsSome, file_label, under}
 use Rattle.cfi_files.specs.FileOutputs.{AreLeft, ChecksNamed, PrintsOwed}
-use Rattle.cfi_files.specs.Findings.{ChecksSome, has_table, is_faithful}
+use Rattle.cfi_files.specs.Findings.{ChecksSome, found_line, has_table, is_faithful}
 use Rattle.cfi_files.specs.declared.finding.Finding.{Finding}
-use Rattle.cfi_files.specs.declared.finding.Finding.TheVariants.{NoTable, Unreadable}
+use Rattle.cfi_files.specs.declared.finding.Finding.TheVariants.{Unreadable}
 use Rattle.cfi_files.specs.declared.request.Request.{Request}
 use Rattle.cfi.specs.CommandLine.{Asked, cfi_app, format_names}
-use Rattle.cfi.specs.Findings.{greatest_status, tally_text}
+use Rattle.cfi.specs.Findings.{greatest_status, tally_in}
 use Rattle.cfi.specs.Words.{asked}
-use Rattle.cfi.specs.declared.command.Format.{Format}
-use Rattle.cfi.specs.declared.command.Format.TheVariants.{Json}
-use Rattle.cfi.specs.Tasks.{OfRequest, check, of_request, print, task_for}
+use Rattle.cfi_programs.specs.declared.style.Format.{Format}
+use Rattle.cfi.specs.Tasks.{of_request, task_for}
 use Rattle.cfi.specs.Process.{AreChecks, AreTallied, Checks, Disk, Ends, IsAnswer, IsAnswerTo, IsCheck, IsCheckOf, IsPrint, IsStatusAfter, IsStatusOf, PrintsRun, WritesChecks, no_checks, nothing, tallied, tally_line, with_check}
 
 -- ---- checks one after the other
@@ -38,14 +36,14 @@ and_then_more : (finding : Finding) (line : List ℕ) (more second : Checks) →
 and_then_more finding line more second =
     ap (λ (lines : List ℕ). record { found = finding ∷ (more.found ++ second.found); lines = lines }) (sym (append_assoc line more.lines second.lines))
 
-checks_then : (disk : Disk) (names others : List Text) (first second : Checks) → AreChecks disk names first → AreChecks disk others second → AreChecks disk (names ++ others) (and_then first second)
-checks_then disk [] others first second is is' = subst (λ checks. AreChecks disk others (and_then checks second)) (sym is) is'
-checks_then disk (name ∷ names) others first second (finding, printed, more, one, rest, e) is' = (
+checks_then : (disk : Disk) (format : Format) (names others : List Text) (first second : Checks) → AreChecks disk format names first → AreChecks disk format others second → AreChecks disk format (names ++ others) (and_then first second)
+checks_then disk format [] others first second is is' = subst (λ checks. AreChecks disk format others (and_then checks second)) (sym is) is'
+checks_then disk format (name ∷ names) others first second (finding, printed, more, one, rest, e) is' = (
   finding,
   printed,
   and_then more second,
   one,
-  checks_then disk names others more second rest is',
+  checks_then disk format names others more second rest is',
   ap (λ checks. and_then checks second) e ∙ sym (and_then_more finding printed.text more second),
 )
 
@@ -58,82 +56,86 @@ left_is : (known : Option (List ℕ)) → AreLeft known (unwrap_or known [])
 left_is None = tt
 left_is (Some bytes) = refl
 
-some_check_of : (disk : Disk) (name : Text) (opened : Option disk.Handle) → (finding : Finding) × (printed : Line) × IsCheckOf disk name opened finding printed
-some_check_of disk name None = (Unreadable, nothing, (refl, refl))
-some_check_of disk name (Some file) = (
-  NoTable,
-  under (name ++ codes ": ") out_of_memory,
-  (unwrap_or (disk.bytes_of file) [], left_is (disk.bytes_of file), (out_of_memory, inr (inl (refl, refl)), refl)),
+some_check_of : (disk : Disk) (format : Format) (name : Text) (opened : Option disk.Handle) → (finding : Finding) × (printed : Line) × IsCheckOf disk format name opened finding printed
+some_check_of disk format name None = (Unreadable, nothing, (refl, refl))
+some_check_of disk format name (Some file) = (
+  Unreadable,
+  under (file_label format name) (found_line format Unreadable (codes "wrong input")),
+  (
+    unwrap_or (disk.bytes_of file) [],
+    left_is (disk.bytes_of file),
+    (found_line format Unreadable (codes "wrong input"), inr (inr (refl, refl)), refl),
+  ),
 )
 
-some_check : (disk : Disk) → Opens disk → (name : Text) → (finding : Finding) × (printed : Line) × IsCheck disk name finding printed
-some_check disk opens name =
+some_check : (disk : Disk) (format : Format) → Opens disk → (name : Text) → (finding : Finding) × (printed : Line) × IsCheck disk format name finding printed
+some_check disk format opens name =
     let (opened, may) = opens name in
-    let (finding, printed, is) = some_check_of disk name opened in
+    let (finding, printed, is) = some_check_of disk format name opened in
     (finding, printed, (opened, may, is))
 
-some_checks : (disk : Disk) → Opens disk → (names : List Text) → (checks : Checks) × AreChecks disk names checks
-some_checks disk opens [] = (no_checks, refl)
-some_checks disk opens (name ∷ names) =
-    let (finding, printed, is) = some_check disk opens name in
-    let (more, are) = some_checks disk opens names in
+some_checks : (disk : Disk) (format : Format) → Opens disk → (names : List Text) → (checks : Checks) × AreChecks disk format names checks
+some_checks disk format opens [] = (no_checks, refl)
+some_checks disk format opens (name ∷ names) =
+    let (finding, printed, is) = some_check disk format opens name in
+    let (more, are) = some_checks disk format opens names in
     (with_check finding printed.text more, (finding, printed, more, is, are, refl))
 
 -- ---- the checks of the first files
 
 -- their lines were written, and this was found
-abbrev pub SoFar : Disk → List Text → Option (List ℕ) → Option (List ℕ) → List Finding → Type 0
-SoFar disk names old now found = (checks : Checks) × AreChecks disk names checks × Appends old now checks.lines × (found ≡ checks.found)
+abbrev pub SoFar : Disk → Format → List Text → Option (List ℕ) → Option (List ℕ) → List Finding → Type 0
+SoFar disk format names old now found = (checks : Checks) × AreChecks disk format names checks × Appends old now checks.lines × (found ≡ checks.found)
 
-pub none_so_far : (disk : Disk) (old : Option (List ℕ)) → SoFar disk [] old old []
-none_so_far disk old = (no_checks, refl, none_yet old, refl)
+pub none_so_far : (disk : Disk) (format : Format) (old : Option (List ℕ)) → SoFar disk format [] old old []
+none_so_far disk format old = (no_checks, refl, none_yet old, refl)
 
-pub one_more : (E : Type 0) (disk : Disk) (names : List Text) (name : Text) (old mid new : Option (List ℕ)) (found : List Finding) (finding : Finding) →
-    SoFar disk names old mid found → ChecksSome {E = E} (λ found line. IsCheck disk name found line) mid new (Ok finding) → SoFar disk (names ++ name ∷ []) old new (found ++ finding ∷ [])
-one_more E disk names name old mid new found finding (checks, are, given, e) (last, printed, more, is, one) =
+pub one_more : (E : Type 0) (disk : Disk) (format : Format) (names : List Text) (name : Text) (old mid new : Option (List ℕ)) (found : List Finding) (finding : Finding) →
+    SoFar disk format names old mid found → ChecksSome {E = E} (λ found line. IsCheck disk format name found line) mid new (Ok finding) → SoFar disk format (names ++ name ∷ []) old new (found ++ finding ∷ [])
+one_more E disk format names name old mid new found finding (checks, are, given, e) (last, printed, more, is, one) =
     let P : List ℕ → Type 0 = λ xs. Appends mid new xs in (
       and_then checks (with_check last printed.text no_checks),
-      checks_then disk names (name ∷ []) checks (with_check last printed.text no_checks) are (last, printed, no_checks, one, refl, refl),
+      checks_then disk format names (name ∷ []) checks (with_check last printed.text no_checks) are (last, printed, no_checks, one, refl, refl),
       appends_then old mid new checks.lines (printed.text ++ []) given (subst P (sym (append-nil printed.text)) more),
       ap (λ xs. xs ++ finding ∷ []) e ∙ ap (λ x. checks.found ++ x ∷ []) is,
     )
 
 -- the same by other words for the names and for what was found
-pub same_so_far : (disk : Disk) (names others : List Text) (old now : Option (List ℕ)) (found items : List Finding) → names ≡ others → items ≡ found → SoFar disk others old now found → SoFar disk names old now items
-same_so_far disk names others old now found items e e' (checks, are, given, is) = (checks, subst (λ front. AreChecks disk front checks) (sym e) are, given, e' ∙ is)
+pub same_so_far : (disk : Disk) (format : Format) (names others : List Text) (old now : Option (List ℕ)) (found items : List Finding) → names ≡ others → items ≡ found → SoFar disk format others old now found → SoFar disk format names old now items
+same_so_far disk format names others old now found items e e' (checks, are, given, is) = (checks, subst (λ front. AreChecks disk format front checks) (sym e) are, given, e' ∙ is)
 
 no_vector : {E A : Type 0} (r : Result (Vec Finding A) E) (Q : Vec Finding A → Type 0) → IsErr r → IfOk r Q
 no_vector (Ok v) Q err = cc
 no_vector (Err e) Q err = tt
 
 -- the line of the next one failed
-pub next_failed : {E F A : Type 0} (disk : Disk) → Opens disk → (names others : List Text) (name : Text) (old mid new : Option (List ℕ)) (found : List Finding) (e : E) (r : Result (Vec Finding A) F) → IsErr r →
-    SoFar disk names old mid found → ChecksSome {E = E} (λ found line. IsCheck disk name found line) mid new (Err e) → WritesChecks disk (names ++ name ∷ others) old new r
-next_failed disk opens names others name old mid new found e r err (checks, are, given, _) (last, printed, begun, _, one) =
-    let (after, more) = some_checks disk opens others in
+pub next_failed : {E F A : Type 0} (disk : Disk) (format : Format) → Opens disk → (names others : List Text) (name : Text) (old mid new : Option (List ℕ)) (found : List Finding) (e : E) (r : Result (Vec Finding A) F) → IsErr r →
+    SoFar disk format names old mid found → ChecksSome {E = E} (λ found line. IsCheck disk format name found line) mid new (Err e) → WritesChecks disk format (names ++ name ∷ others) old new r
+next_failed disk format opens names others name old mid new found e r err (checks, are, given, _) (last, printed, begun, _, one) =
+    let (after, more) = some_checks disk format opens others in
     let rest : Checks = with_check last printed.text after in
     let all : Checks = and_then checks rest in (
       all,
-      checks_then disk names (name ∷ others) checks rest are (last, printed, after, one, more, refl),
+      checks_then disk format names (name ∷ others) checks rest are (last, printed, after, one, more, refl),
       writes_refused old new r all.lines err
           (beginning_then old mid new printed.text after.lines all.lines (record { front = checks.lines; given = given; whole = refl }) begun),
       no_vector r (λ found. found.items ≡ all.found) err,
     )
 
 -- memory was refused
-pub stopped : {F A : Type 0} (disk : Disk) → Opens disk → (names others : List Text) (old new : Option (List ℕ)) (found : List Finding) (r : Result (Vec Finding A) F) → IsErr r →
-    SoFar disk names old new found → WritesChecks disk (names ++ others) old new r
-stopped disk opens names others old new found r err (checks, are, given, _) =
-    let (after, more) = some_checks disk opens others in
+pub stopped : {F A : Type 0} (disk : Disk) (format : Format) → Opens disk → (names others : List Text) (old new : Option (List ℕ)) (found : List Finding) (r : Result (Vec Finding A) F) → IsErr r →
+    SoFar disk format names old new found → WritesChecks disk format (names ++ others) old new r
+stopped disk format opens names others old new found r err (checks, are, given, _) =
+    let (after, more) = some_checks disk format opens others in
     let all : Checks = and_then checks after in (
       all,
-      checks_then disk names others checks after are more,
+      checks_then disk format names others checks after are more,
       writes_refused old new r all.lines err (given_part old new after.lines all.lines (record { front = checks.lines; given = given; whole = refl })),
       no_vector r (λ found. found.items ≡ all.found) err,
     )
 
-pub finished : {A : Type 0} (E : Type 0) (disk : Disk) (names : List Text) (old now : Option (List ℕ)) (found : Vec Finding A) → SoFar disk names old now found.items → WritesChecks {E = E} disk names old now (Ok found)
-finished E disk names old now found (checks, are, given, e) = (checks, are, given, e)
+pub finished : {A : Type 0} (E : Type 0) (disk : Disk) (format : Format) (names : List Text) (old now : Option (List ℕ)) (found : Vec Finding A) → SoFar disk format names old now found.items → WritesChecks {E = E} disk format names old now (Ok found)
+finished E disk format names old now found (checks, are, given, e) = (checks, are, given, e)
 
 -- ---- the names of the first files
 
@@ -161,25 +163,25 @@ printed_of disk name request file old new r may (bytes, left, (printed, prints, 
 pub nothing_printed : (E : Type 0) (disk : Disk) (name : Text) (request : Request) (old : Option (List ℕ)) → disk.MayOpen name None → PrintsSome {E = E} (λ line. IsPrint disk name (of_request request) line) old old (Ok 2)
 nothing_printed E disk name request old may = (nothing, (none_yet old, refl), (None, may, refl))
 
-pub checked_of : {E : Type 0} (disk : Disk) (name : Text) (file : disk.Handle) (old new : Option (List ℕ)) (r : Result Finding E) → disk.MayOpen name (Some file) →
-    ChecksNamed name (disk.bytes_of file) old new r → ChecksSome (λ finding line. IsCheck disk name finding line) old new r
-checked_of disk name file old new r may (bytes, left, (finding, printed, writes, found, is)) = (finding, printed, writes, found, (Some file, may, (bytes, left, is)))
+pub checked_of : {E : Type 0} (disk : Disk) (format : Format) (name : Text) (file : disk.Handle) (old new : Option (List ℕ)) (r : Result Finding E) → disk.MayOpen name (Some file) →
+    ChecksNamed format name (disk.bytes_of file) old new r → ChecksSome (λ finding line. IsCheck disk format name finding line) old new r
+checked_of disk format name file old new r may (bytes, left, (finding, printed, writes, found, is)) = (finding, printed, writes, found, (Some file, may, (bytes, left, is)))
 
-pub unreadable : (E : Type 0) (disk : Disk) (name : Text) (old : Option (List ℕ)) → disk.MayOpen name None → ChecksSome {E = E} (λ finding line. IsCheck disk name finding line) old old (Ok Unreadable)
-unreadable E disk name old may = (Unreadable, nothing, none_yet old, refl, (None, may, (refl, refl)))
+pub unreadable : (E : Type 0) (disk : Disk) (format : Format) (name : Text) (old : Option (List ℕ)) → disk.MayOpen name None → ChecksSome {E = E} (λ finding line. IsCheck disk format name finding line) old old (Ok Unreadable)
+unreadable E disk format name old may = (Unreadable, nothing, none_yet old, refl, (None, may, (refl, refl)))
 
 -- ---- the line that counts
 
-pub tally_is : (found items : List Finding) (files tables faithful : ℕ) → items ≡ found → files ≡ length items → tables ≡ count_by has_table items → faithful ≡ count_by is_faithful items →
-    tally_text files tables faithful ++ 10 ∷ [] ≡ tally_line found
-tally_is found items files tables faithful e f t h = rw (f, t, h, e) refl
+pub tally_is : (format : Format) (found items : List Finding) (files tables faithful : ℕ) → items ≡ found → files ≡ length items → tables ≡ count_by has_table items → faithful ≡ count_by is_faithful items →
+    tally_in format files tables faithful ++ 10 ∷ [] ≡ tally_line format found
+tally_is format found items files tables faithful e f t h = rw (f, t, h, e) refl
 
-pub counted : {E A : Type 0} (F : Type 0) (disk : Disk) (names : List Text) (old mid new : Option (List ℕ)) (found : Vec Finding A) (r : Result ℕ E) → WritesChecks {E = F} disk names old mid (Ok found) →
-    Writes mid new r (tally_line found.items) → IfOk r (λ status. status ≡ greatest_status found.items) → PrintsSome (λ line. AreTallied disk names line) old new r
-counted F disk names old mid new found r (checks, are, given, e) more status = (
-  tallied checks,
+pub counted : {E A : Type 0} (F : Type 0) (disk : Disk) (format : Format) (names : List Text) (old mid new : Option (List ℕ)) (found : Vec Finding A) (r : Result ℕ E) → WritesChecks {E = F} disk format names old mid (Ok found) →
+    Writes mid new r (tally_line format found.items) → IfOk r (λ status. status ≡ greatest_status found.items) → PrintsSome (λ line. AreTallied disk format names line) old new r
+counted F disk format names old mid new found r (checks, are, given, e) more status = (
+  tallied format checks,
   (
-    last_written old mid new r checks.lines (tally_line checks.found) given (subst (λ (items : List Finding). Writes mid new r (tally_line items)) e more),
+    last_written old mid new r checks.lines (tally_line format checks.found) given (subst (λ (items : List Finding). Writes mid new r (tally_line format items)) e more),
     subst (λ (items : List Finding). IfOk r (λ status. status ≡ greatest_status items)) e status,
   ),
   (checks, are, refl),
@@ -189,11 +191,11 @@ pub no_status : {E : Type 0} (r : Result ℕ E) (Q : ℕ → Type 0) → IsErr r
 no_status (Ok n) Q err = cc
 no_status (Err e) Q err = tt
 
-pub uncounted : {E F : Type 0} (A : Type 0) (disk : Disk) (names : List Text) (old new : Option (List ℕ)) (e : F) (r : Result ℕ E) → IsErr r → WritesChecks {A = A} disk names old new (Err e) →
-    PrintsSome (λ line. AreTallied disk names line) old new r
-uncounted A disk names old new e r err (checks, are, begun, _) = (
-  tallied checks,
-  (first_refused old new r checks.lines (tally_line checks.found) err begun, no_status r (λ status. status ≡ (tallied checks).status) err),
+pub uncounted : {E F : Type 0} (A : Type 0) (disk : Disk) (format : Format) (names : List Text) (old new : Option (List ℕ)) (e : F) (r : Result ℕ E) → IsErr r → WritesChecks {A = A} disk format names old new (Err e) →
+    PrintsSome (λ line. AreTallied disk format names line) old new r
+uncounted A disk format names old new e r err (checks, are, begun, _) = (
+  tallied format checks,
+  (first_refused old new r checks.lines (tally_line format checks.found) err begun, no_status r (λ status. status ≡ (tallied format checks).status) err),
   (checks, are, refl),
 )
 
@@ -234,15 +236,3 @@ refused disk words error old status kinds memory after = explained disk words (a
 
 pub wordless : (disk : Disk) (old : Option (List ℕ)) → PrintsRun disk None old old 2
 wordless disk old = (nothing, refl, ([], none_yet old, inl (refl, refl)))
-
--- ---- JSON, which isn't printed yet
-
-pub no_json_of : (disk : Disk) (command : Asked) (name : Text) (what : OfRequest) (format : Format) (old : Option (List ℕ)) (status : ℕ) → print name what format ≡ task_for command → format ≡ Json →
-    status ≡ 2 → (x : Line) × (Appends old old x.text × (status ≡ x.status)) × IsAnswer disk (task_for command) x
-no_json_of disk command name what format old status e is two =
-    (nothing, (none_yet old, two), subst (λ task. IsAnswer disk task nothing) e (subst (λ f. IsAnswer disk (print name what f) nothing) (sym is) refl))
-
-pub no_json_check : (disk : Disk) (command : Asked) (names : List Text) (format : Format) (old : Option (List ℕ)) (status : ℕ) → check names format ≡ task_for command → format ≡ Json →
-    status ≡ 2 → (x : Line) × (Appends old old x.text × (status ≡ x.status)) × IsAnswer disk (task_for command) x
-no_json_check disk command names format old status e is two =
-    (nothing, (none_yet old, two), subst (λ task. IsAnswer disk task nothing) e (subst (λ f. IsAnswer disk (check names f) nothing) (sym is) refl))

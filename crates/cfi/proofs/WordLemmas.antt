@@ -12,8 +12,8 @@ use Rattle.clap.specs.Faults.{check_fault, defaults_fault, long_fault, step_faul
 use Rattle.clap.specs.declared.builder.value_parser.ValueParser.TheVariants.{Names}
 use Rattle.clap.specs.declared.error.kind.ErrorKind.TheVariants.{ArgumentConflict, InvalidValue}
 use Rattle.clap.proofs.WalkLemmas.{list_any-map}
-use Rattle.cfi.specs.declared.command.Format.{Format}
-use Rattle.cfi.specs.declared.command.Format.TheVariants as form
+use Rattle.cfi_programs.specs.declared.style.Format.{Format}
+use Rattle.cfi_programs.specs.declared.style.Format.TheVariants as form
 use Rattle.cfi.specs.CommandLine.{Asked, asked_of, format_names, format_rule, raw_rule}
 use Rattle.cfi.specs.Words.{Given, format_of, given, with_format}
 use Rattle.cfi.proofs.FlagLemmas.{IsFault, held, help}

@@ -1,8 +1,10 @@
 -- What some command lines ask for, computed from the definitions alone.
 use Rattle.std.proofs.Common.{◌≡◌, codes, refl, true, false, [], ◌∷◌, Some, None}
+use Rattle.std.specs.Fmt.{digits}
 use Rattle.std.specs.Str.{chars}
-use Rattle.cfi.specs.declared.command.Format.TheVariants as form
+use Rattle.cfi_programs.specs.declared.style.Format.TheVariants as form
 use Rattle.cfi.specs.CommandLine.{check, dump, row, rows}
+use Rattle.cfi.specs.Findings.{tally_in}
 use Rattle.cfi.specs.Words.{asked}
 
 two_addresses : asked (codes "cfi" ∷ codes "row" ∷ codes "a" ∷ codes "0x10" ∷ codes "main+4" ∷ []) ≡ Some (row false form.Text (codes "a") (codes "0x10" ∷ codes "main+4" ∷ []))
@@ -54,3 +56,13 @@ no_name = refl
 -- and a command has some of the flags
 not_of_dump : asked (codes "cfi" ∷ codes "dump" ∷ codes "--format=text" ∷ codes "a" ∷ []) ≡ None
 not_of_dump = refl
+
+-- ---- the count of a check
+
+counted : tally_in form.Text 3 2 1 ≡ codes "3 files, 2 tables, 1 faithful"
+unfolding digits
+counted = refl
+
+counted_object : tally_in form.Json 3 2 1 ≡ codes "{\"files\":3,\"tables\":2,\"faithful\":1}"
+unfolding digits
+counted_object = refl

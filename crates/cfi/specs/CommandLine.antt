@@ -17,8 +17,8 @@ use Rattle.clap.specs.declared.builder.value_parser.ValueParser.TheVariants.{Nam
 use Rattle.clap.specs.declared.error.Error.{Error}
 use Rattle.cfi.specs.declared.command.Command.{Command}
 use Rattle.cfi.specs.declared.command.Command.TheVariants as command
-use Rattle.cfi.specs.declared.command.Format.{Format}
-use Rattle.cfi.specs.declared.command.Format.TheVariants as form
+use Rattle.cfi_programs.specs.declared.style.Format.{Format}
+use Rattle.cfi_programs.specs.declared.style.Format.TheVariants as form
 
 -- ---- the commands, with the bytes of their words
 

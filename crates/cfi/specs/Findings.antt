@@ -1,6 +1,9 @@
 -- What a check of files found, and the line that counts it.
 use Rattle.std.specs.Prelude.{ℕ, List, ◌++◌, codes, fold, max}
 use Rattle.std.specs.Fmt.{decimal}
+use Rattle.cfi_programs.specs.JsonLines.{json_number}
+use Rattle.cfi_programs.specs.declared.style.Format.{Format}
+use Rattle.cfi_programs.specs.declared.style.Format.TheVariants.{Text, Json}
 use Rattle.cfi_files.specs.declared.finding.Finding.{Finding}
 use Rattle.cfi_files.specs.Findings.{status_of}
 
@@ -8,6 +11,15 @@ use Rattle.cfi_files.specs.Findings.{status_of}
 abbrev pub tally_text : ℕ → ℕ → ℕ → List ℕ
 tally_text files tables faithful =
     decimal files ++ codes " files, " ++ decimal tables ++ codes " tables, " ++ decimal faithful ++ codes " faithful"
+
+-- `{"files":N,"tables":N,"faithful":N}`
+abbrev pub tally_object : ℕ → ℕ → ℕ → List ℕ
+tally_object files tables faithful =
+    codes "{\"files\":" ++ json_number files ++ codes ",\"tables\":" ++ json_number tables ++ codes ",\"faithful\":" ++ json_number faithful ++ codes "}"
+
+abbrev pub tally_in : Format → ℕ → ℕ → ℕ → List ℕ
+tally_in Text files tables faithful = tally_text files tables faithful
+tally_in Json files tables faithful = tally_object files tables faithful
 
 -- the greatest status of what was found
 abbrev pub greatest_status : List Finding → ℕ

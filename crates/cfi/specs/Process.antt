@@ -17,8 +17,8 @@ use Rattle.cfi_files.specs.declared.finding.Finding.{Finding}
 use Rattle.cfi_files.specs.declared.finding.Finding.TheVariants.{Unreadable}
 use Rattle.cfi_files.specs.declared.request.Request.{Request}
 use Rattle.cfi.specs.CommandLine.{Asked, cfi_app, format_names}
-use Rattle.cfi.specs.Findings.{greatest_status, tally_text}
-use Rattle.cfi.specs.declared.command.Format.TheVariants.{Json, Text as AsText}
+use Rattle.cfi.specs.Findings.{greatest_status, tally_in}
+use Rattle.cfi_programs.specs.declared.style.Format.{Format}
 use Rattle.cfi.specs.Tasks.{OfRequest, Task, check, of_request, print, task_for}
 use Rattle.cfi.specs.Words.{asked}
 
@@ -50,12 +50,12 @@ IsPrint disk name what printed = (opened : Option disk.Handle) × disk.MayOpen n
 -- ---- what checks of files find
 
 -- for the bytes of a file, with its line; a file that can't be opened has no line
-abbrev pub IsCheckOf : (disk : Disk) → Text → Option disk.Handle → Finding → Line → Type 0
-IsCheckOf disk name None finding printed = (finding ≡ Unreadable) × (printed ≡ nothing)
-IsCheckOf disk name (Some file) finding printed = (bytes : List ℕ) × AreLeft (disk.bytes_of file) bytes × IsNamedCheck name bytes finding printed
+abbrev pub IsCheckOf : (disk : Disk) → Format → Text → Option disk.Handle → Finding → Line → Type 0
+IsCheckOf disk format name None finding printed = (finding ≡ Unreadable) × (printed ≡ nothing)
+IsCheckOf disk format name (Some file) finding printed = (bytes : List ℕ) × AreLeft (disk.bytes_of file) bytes × IsNamedCheck format name bytes finding printed
 
-abbrev pub IsCheck : Disk → Text → Finding → Line → Type 0
-IsCheck disk name finding printed = (opened : Option disk.Handle) × disk.MayOpen name opened × IsCheckOf disk name opened finding printed
+abbrev pub IsCheck : Disk → Format → Text → Finding → Line → Type 0
+IsCheck disk format name finding printed = (opened : Option disk.Handle) × disk.MayOpen name opened × IsCheckOf disk format name opened finding printed
 
 -- what was found in several files, and their lines
 pub record Checks : Type 0 where
@@ -69,30 +69,28 @@ abbrev pub with_check : Finding → List ℕ → Checks → Checks
 with_check finding line more = record { found = finding ∷ more.found; lines = line ++ more.lines }
 
 -- one file after the other
-abbrev pub AreChecks : Disk → List Text → Checks → Type 0
-AreChecks disk [] checks = checks ≡ no_checks
-AreChecks disk (name ∷ names) checks =
+abbrev pub AreChecks : Disk → Format → List Text → Checks → Type 0
+AreChecks disk format [] checks = checks ≡ no_checks
+AreChecks disk format (name ∷ names) checks =
     (finding : Finding) × (printed : Line) × (more : Checks)
-    × IsCheck disk name finding printed × AreChecks disk names more × (checks ≡ with_check finding printed.text more)
+    × IsCheck disk format name finding printed × AreChecks disk format names more × (checks ≡ with_check finding printed.text more)
 
 -- the line that counts them
-abbrev pub tally_line : List Finding → List ℕ
-tally_line found = tally_text (length found) (count_by has_table found) (count_by is_faithful found) ++ 10 ∷ []
+abbrev pub tally_line : Format → List Finding → List ℕ
+tally_line format found = tally_in format (length found) (count_by has_table found) (count_by is_faithful found) ++ 10 ∷ []
 
 -- the lines, then their count, with the greatest status
-abbrev pub tallied : Checks → Line
-tallied checks = record { text = checks.lines ++ tally_line checks.found; status = greatest_status checks.found }
+abbrev pub tallied : Format → Checks → Line
+tallied format checks = record { text = checks.lines ++ tally_line format checks.found; status = greatest_status checks.found }
 
-abbrev pub AreTallied : Disk → List Text → Line → Type 0
-AreTallied disk names printed = (checks : Checks) × AreChecks disk names checks × (printed ≡ tallied checks)
+abbrev pub AreTallied : Disk → Format → List Text → Line → Type 0
+AreTallied disk format names printed = (checks : Checks) × AreChecks disk format names checks × (printed ≡ tallied format checks)
 
 -- ---- a run
 
 abbrev pub IsAnswer : Disk → Task → Line → Type 0
-IsAnswer disk (print name what AsText) printed = IsPrint disk name what printed
-IsAnswer disk (check names AsText) printed = AreTallied disk names printed
-IsAnswer disk (print name what Json) printed = printed ≡ nothing
-IsAnswer disk (check names Json) printed = printed ≡ nothing
+IsAnswer disk (print name what) printed = IsPrint disk name what printed
+IsAnswer disk (check names format) printed = AreTallied disk format names printed
 
 -- the status after a text of clap's, which may be 0 after help; 2 where the text can't be written
 abbrev pub IsStatusAfter : ErrorKind → ℕ → Type 0
@@ -119,9 +117,9 @@ IsOutput disk (Some words) printed = IsAnswerTo disk words (asked words) printed
 -- ---- what was written
 
 -- all checks, or a beginning of their lines
-abbrev pub WritesChecks : {E A : Type 0} → Disk → List Text → Option (List ℕ) → Option (List ℕ) → Result (Vec Finding A) E → Type 0
-WritesChecks disk names old new result =
-    (checks : Checks) × AreChecks disk names checks × Writes old new result checks.lines × IfOk result (λ found. found.items ≡ checks.found)
+abbrev pub WritesChecks : {E A : Type 0} → Disk → Format → List Text → Option (List ℕ) → Option (List ℕ) → Result (Vec Finding A) E → Type 0
+WritesChecks disk format names old new result =
+    (checks : Checks) × AreChecks disk format names checks × Writes old new result checks.lines × IfOk result (λ found. found.items ≡ checks.found)
 
 -- all of an output, with its status; or a beginning, with the status 2: the output failed, or memory was refused
 abbrev pub Ends : Line → Option (List ℕ) → Option (List ℕ) → ℕ → Type 0

@@ -4,23 +4,22 @@ use Rattle.clap.specs.Words.{Text}
 use Rattle.cfi_files.specs.declared.request.Printed.{Printed}
 use Rattle.cfi_files.specs.declared.request.Printed.TheVariants as printing
 use Rattle.cfi_files.specs.declared.request.Request.{Request}
-use Rattle.cfi.specs.declared.command.Format.{Format}
-use Rattle.cfi.specs.declared.command.Format.TheVariants.{Text as AsText}
+use Rattle.cfi_programs.specs.declared.style.Format.{Format}
 use Rattle.cfi.specs.declared.task.Task.{Task as TaskOfCode}
 use Rattle.cfi.specs.declared.task.Task.TheVariants.{Print, Check}
 use Rattle.cfi.specs.CommandLine.{Asked}
 use Rattle.cfi.specs.CommandLine as asked
 
--- what is printed of a file, with the bytes of the words
+-- what is printed of a file, with the bytes of the words, in a format where there is a choice
 pub data OfFile : Type 0 where
-  row_of : List Text → OfFile
-  rows_of : Option Text → OfFile
+  row_of : Format → List Text → OfFile
+  rows_of : Format → Option Text → OfFile
   dump_of : OfFile
   table_of : OfFile
 
 abbrev pub of_file : Printed → OfFile
-of_file (printing.Row words) = row_of (map (λ word. word.now) words.now)
-of_file (printing.Rows word) = rows_of (option_map (λ word. word.now) word)
+of_file (printing.Row words format) = row_of format (map (λ word. word.now) words.now)
+of_file (printing.Rows word format) = rows_of format (option_map (λ word. word.now) word)
 of_file printing.Dump = dump_of
 of_file printing.Table = table_of
 
@@ -35,19 +34,19 @@ asking raw what = record { what = what; raw = raw }
 abbrev pub of_request : Request → OfRequest
 of_request request = asking request.raw (of_file request.printed)
 
--- to print something of a file in a format; or to check files, in a format
+-- to print something of a file; or to check files, in a format
 pub data Task : Type 0 where
-  print : Text → OfRequest → Format → Task
+  print : Text → OfRequest → Task
   check : List Text → Format → Task
 
 abbrev pub task_view : TaskOfCode → Task
-task_view (Print file request format) = print file.now (of_request request) format
+task_view (Print file request) = print file.now (of_request request)
 task_view (Check files format) = check (map (λ file. file.now) files.now) format
 
 -- for what the words ask for
 abbrev pub task_for : Asked → Task
-task_for (asked.row raw format file addresses) = print file (asking raw (row_of addresses)) format
-task_for (asked.rows raw format file address) = print file (asking raw (rows_of address)) format
-task_for (asked.dump raw file) = print file (asking raw dump_of) AsText
+task_for (asked.row raw format file addresses) = print file (asking raw (row_of format addresses))
+task_for (asked.rows raw format file address) = print file (asking raw (rows_of format address))
+task_for (asked.dump raw file) = print file (asking raw dump_of)
 task_for (asked.check format files) = check files format
-task_for (asked.table raw file) = print file (asking raw table_of) AsText
+task_for (asked.table raw file) = print file (asking raw table_of)

@@ -6,8 +6,8 @@ use Rattle.std.specs.Option.{option_map_or}
 use Rattle.std.specs.Str.{bytes_eq, chars}
 use Rattle.clap.specs.Lexer.{long_of, short_of}
 use Rattle.clap.specs.Words.{Text}
-use Rattle.cfi.specs.declared.command.Format.{Format}
-use Rattle.cfi.specs.declared.command.Format.TheVariants as form
+use Rattle.cfi_programs.specs.declared.style.Format.{Format}
+use Rattle.cfi_programs.specs.declared.style.Format.TheVariants as form
 use Rattle.cfi.specs.CommandLine.{Asked, check, dump, row, rows, table}
 
 -- ---- what one word is

@@ -10,20 +10,12 @@ ghost use Rattle.cfi.specs.CommandLine.{has_value, raw_in, raw_rule, row_app, ro
 ghost use Rattle.cfi.specs.CommandLine.{top_app, values_in};
 ghost use Rattle.cfi.specs.Words.{asked};
 
+use cfi_programs::style::Format;
 use clap::builder::ValueParser;
 use clap::error::ErrorKind;
 use clap::{Arg, ArgAction, ArgMatches, Error};
 use std::alloc::{AllocError, Global};
 use std::convert::AsStr;
-
-/// The form of what is printed.
-#[derive(Clone, Copy, Debug, PartialEq, Eq)]
-pub enum Format {
-    /// Lines of text.
-    Text,
-    /// Objects of JSON.
-    Json,
-}
 
 /// What the words of a command line ask for. The texts are those of the words, and `raw` says that
 /// registers are printed by their numbers.
@@ -277,7 +269,7 @@ fn format_flag<'w>(alloc: Global, names: &'w [&'w str]) -> Arg<'w>
     ensures local { result.global ≡ false }
 {
     Arg::new(alloc, "format")
-        .help("The form of what is printed: text, the default; json is not there yet")
+        .help("The form of what is printed: text, the default, or json, an object on each line")
         .long("format")
         .value_name("FORMAT")
         .value_parser(ValueParser::Names(names))

@@ -1,14 +1,17 @@
 //! The files of a command, and what a check of several of them found.
-ghost use Rattle.std.specs.Prelude.{◌≡◌, ◌++◌, [], ◌∷◌, Some, length, map};
+ghost use Rattle.std.specs.Prelude.{◌≡◌, ◌++◌, [], ◌∷◌, OnOk, Some, length, map};
 ghost use Rattle.std.specs.List.{count_by};
 ghost use Rattle.cfi_programs.specs.WriterOutput.{Writes};
 ghost use Rattle.cfi_files.specs.Findings.{ChecksSome, has_table, is_faithful};
-ghost use Rattle.cfi.specs.Findings.{greatest_status, tally_text};
+ghost use Rattle.cfi.specs.Findings.{greatest_status, tally_in, tally_object, tally_text};
 ghost use Rattle.cfi.specs.Process.{IsCheck, WritesChecks, disk_of};
 
 use crate::system::System;
 use cfi_files::{Finding, check_file};
-use cfi_programs::lines::write_part;
+use cfi_programs::json::push_number;
+use cfi_programs::lines::{write_part, write_text};
+use cfi_programs::style::Format;
+use cfi_programs::text::{Text, push};
 use std::io::Write;
 use std::{fmt, io};
 
@@ -24,10 +27,11 @@ const MANY: usize = 20;
 /// Fails where the output can't be written, or memory for what was found is refused.
 pub fn check_files<S: System, W: Write>(
     system: &S,
+    format: Format,
     files: &[&str],
     output: &mut W,
 ) -> io::Result<Vec<Finding>>
-    ensures { WritesChecks (disk_of (S.may_open system.now) S.File.remaining)
+    ensures { WritesChecks (disk_of (S.may_open system.now) S.File.remaining) format
         (map (λ file. file.now) files.now) (W.contents output.old) (W.contents output.new)
         result }
 {
@@ -37,7 +41,7 @@ pub fn check_files<S: System, W: Write>(
         if shows_progress {
             system.show_progress(findings.len() + 1, files.len(), file);
         }
-        let finding = check_one(system, file, output)?;
+        let finding = check_one(system, format, file, output)?;
         findings.push(finding)?;
     }
     if shows_progress {
@@ -47,14 +51,19 @@ pub fn check_files<S: System, W: Write>(
 }
 
 /// Checks one file, and returns what was found.
-fn check_one<S: System, W: Write>(system: &S, file: &str, output: &mut W) -> io::Result<Finding>
+fn check_one<S: System, W: Write>(
+    system: &S,
+    format: Format,
+    file: &str,
+    output: &mut W,
+) -> io::Result<Finding>
     ensures { ChecksSome
-        (λ finding line. IsCheck (disk_of (S.may_open system.now) S.File.remaining)
+        (λ finding line. IsCheck (disk_of (S.may_open system.now) S.File.remaining) format
         file.now finding line)
         (W.contents output.old) (W.contents output.new) result }
 {
     match system.open(file) {
-        Some(mut input) => check_file(system.alloc(), file, &mut input, output),
+        Some(mut input) => check_file(system.alloc(), format, file, &mut input, output),
         None => Ok(Finding::Unreadable),
     }
 }
@@ -109,9 +118,37 @@ impl fmt::Display for Tally {
 }
 
 /// Writes what was counted, as a line.
-pub fn write_tally<W: Write>(tally: Tally, output: &mut W) -> io::Result<()>
+pub fn write_tally<W: Write>(tally: Tally, format: Format, output: &mut W) -> io::Result<()>
     ensures { Writes (W.contents output.old) (W.contents output.new) result
-        (tally_text tally.files tally.tables tally.faithful ++ 10 ∷ []) }
+        (tally_in format tally.files tally.tables tally.faithful ++ 10 ∷ []) }
 {
-    write_part(output, format_args!("{tally}\n"))
+    match format {
+        Format::Text => write_part(output, format_args!("{tally}\n")),
+        Format::Json => write_tally_object(tally, output),
+    }
+}
+
+/// Writes what was counted, as an object on a line.
+fn write_tally_object<W: Write>(tally: Tally, output: &mut W) -> io::Result<()>
+    ensures { Writes (W.contents output.old) (W.contents output.new) result
+        (tally_object tally.files tally.tables tally.faithful ++ 10 ∷ []) }
+{
+    let mut text = Text::new();
+    push_tally(&mut text, tally)?;
+    push(&mut text, b"\n")?;
+    write_text(output, text.as_slice())
+}
+
+/// Appends what was counted, as an object.
+fn push_tally(text: &mut Text, tally: Tally) -> fmt::Result
+    ensures { OnOk result (text.new.items
+        ≡ text.old.items ++ tally_object tally.files tally.tables tally.faithful) }
+{
+    push(text, b"{\"files\":")?;
+    push_number(text, tally.files as u64)?;
+    push(text, b",\"tables\":")?;
+    push_number(text, tally.tables as u64)?;
+    push(text, b",\"faithful\":")?;
+    push_number(text, tally.faithful as u64)?;
+    push(text, b"}")
 }

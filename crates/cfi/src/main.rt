@@ -16,8 +16,9 @@ mod system;
 mod task;
 
 use cfi_files::{Request, run_on_file};
+use cfi_programs::style::Format;
 use clap::Error;
-use command::{Command, Format, command_of};
+use command::{Command, command_of};
 use files::{WRONG, check_files, count_findings, greatest_status, write_tally};
 use std::alloc::AllocGlobal;
 use std::convert::AsStr;
@@ -91,19 +92,9 @@ fn run_command<S: System, W: Write>(system: &S, command: &Command, output: &mut 
         (W.contents output.old) (W.contents output.new) result }
 {
     match task_of(command) {
-        Task::Print(file, request, Format::Text) => print_file(system, file, request, output),
-        Task::Check(files, Format::Text) => print_checks(system, files, output),
-        Task::Print(_, _, Format::Json) => Ok(refuse_json(system)),
-        Task::Check(_, Format::Json) => Ok(refuse_json(system)),
+        Task::Print(file, request) => print_file(system, file, request, output),
+        Task::Check(files, format) => print_checks(system, format, files, output),
     }
-}
-
-/// Says that JSON isn't printed yet, and returns the status.
-fn refuse_json<S: System>(system: &S) -> u8
-    ensures { result ≡ 2 }
-{
-    system.complain("--format=json isn't there yet");
-    WRONG
 }
 
 /// Opens the file, and prints what is asked for of it.
@@ -124,12 +115,17 @@ fn print_file<S: System, W: Write>(
 }
 
 /// Checks the files, prints how many there are, and returns the greatest status.
-fn print_checks<S: System, W: Write>(system: &S, files: &[&str], output: &mut W) -> io::Result<u8>
+fn print_checks<S: System, W: Write>(
+    system: &S,
+    format: Format,
+    files: &[&str],
+    output: &mut W,
+) -> io::Result<u8>
     ensures { PrintsSome (λ line. AreTallied (disk_of (S.may_open system.now) S.File.remaining)
-        (map (λ file. file.now) files.now) line)
+        format (map (λ file. file.now) files.now) line)
         (W.contents output.old) (W.contents output.new) result }
 {
-    let findings = check_files(system, files, output)?;
-    write_tally(count_findings(findings.as_slice()), output)?;
+    let findings = check_files(system, format, files, output)?;
+    write_tally(count_findings(findings.as_slice()), format, output)?;
     Ok(greatest_status(findings.as_slice()))
 }

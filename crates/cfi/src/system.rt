@@ -37,9 +37,6 @@ pub trait System {
     /// can't be written.
     fn print_error(&self, error: &Error) -> io::Result<()>;
 
-    /// Says on standard error why nothing is done, as `cfi: SENTENCE`.
-    fn complain(&self, sentence: &str);
-
     /// Says on standard error which of several files is checked, where there is one to read it.
     fn show_progress(&self, number: usize, files: usize, file: &str);
 
@@ -96,11 +93,6 @@ impl<P: Env + Files + Print + Eprint + AllocGlobal> System for Host<'_, P> {
 
     fn print_error(&self, error: &Error) -> io::Result<()> {
         error.print(self.rt)
-    }
-
-    fn complain(&self, sentence: &str) {
-        // There is no other place to say that standard error can't be written.
-        let _ = eprintln!(self.rt; "cfi: {sentence}");
     }
 
     fn show_progress(&self, number: usize, files: usize, file: &str) {
