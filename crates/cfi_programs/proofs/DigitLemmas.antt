@@ -72,7 +72,20 @@ hex_pair n low high =
     let second : n % 16 ≡ n % 256 % 16 = omega arith in
     rw (hex_step n (omega arith) high, hex_step (n / 16) (omega arith) (omega arith), append_assoc, front, first, ← second) refl
 
-pub hex_two : (n : ℕ) → 16 ≤ n → n < 256 → digits 16 false n ≡ digit_glyph false (n % 256 / 16) ∷ digit_glyph false (n % 256 % 16) ∷ []
-hex_two n low high =
-    let same : n % 256 ≡ n = omega arith in
-    rw same (hex_two_digits false n low high)
+abbrev pair : ℕ → List ℕ
+pair n = digit_glyph false (n / 16) ∷ digit_glyph false (n % 16) ∷ []
+
+-- behind what stands there
+pub hex_more : (old : List ℕ) (n : ℕ) → 256 ≤ n → n < 2 ^ 64 → (old ++ digits 16 false (n / 256)) ++ pair (n % 256) ≡ old ++ digits 16 false n
+hex_more old n low high =
+    append_assoc old (digits 16 false (n / 256)) (pair (n % 256)) ∙ ap (λ (xs : List ℕ). old ++ xs) (sym (hex_pair n low high))
+
+pub hex_wide : (old : List ℕ) (n : ℕ) → 65536 ≤ n → n < 2 ^ 64 → ((old ++ digits 16 false (n / 65536)) ++ pair (n / 256 % 256)) ++ pair (n % 256) ≡ old ++ digits 16 false n
+hex_wide old n low high =
+    let front : n / 65536 ≡ n / 256 / 256 = omega arith in
+    ap (λ (k : ℕ). ((old ++ digits 16 false k) ++ pair (n / 256 % 256)) ++ pair (n % 256)) front
+    ∙ ap (λ (xs : List ℕ). xs ++ pair (n % 256)) (hex_more old (n / 256) (omega arith) (omega arith))
+    ∙ hex_more old n (omega arith) high
+
+pub hex_two : (n : ℕ) → 16 ≤ n → n < 256 → digits 16 false n ≡ pair n
+hex_two n low high = hex_two_digits false n low high

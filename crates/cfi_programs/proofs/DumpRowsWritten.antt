@@ -30,7 +30,7 @@ use Rattle.cfi_programs.specs.Lines.{refusal_in}
 use Rattle.cfi_programs.specs.AnswerLines.{answer_line}
 use Rattle.cfi_programs.specs.declared.style.Style.{Style}
 use Rattle.cfi_programs.specs.WriterOutput.{IsBeginning, Writes}
-use Rattle.cfi_programs.proofs.WrittenLemmas.{IsGiven, given_then, given_all, beginning_then}
+use Rattle.cfi_programs.proofs.WrittenLemmas.{IsGiven, given_all, given_first, given_then, beginning_then, behind_more, writes_last}
 use Rattle.cfi_programs.specs.DumpSectionTexts.{setting_of_fde, fde_rows, lines}
 
 -- ---- the answers of a table
@@ -76,11 +76,36 @@ some_answer (Err e) answer is none = cc
 
 -- ---- what is written
 
--- A table stands after a program, and the lines of the answers that are to come are what is left of the text.
-pub record StandsAt (style : Style) (s : Setting) (p : TableState (State ℕ) ℕ) (old now : Option (List ℕ)) (text : List ℕ) : Type 0 where
+-- A table stands after a program, and the text that waits and the lines of the answers that are to come are what is left
+-- of the whole text.
+pub record StandsAt (style : Style) (s : Setting) (p : TableState (State ℕ) ℕ) (old now : Option (List ℕ)) (waiting text : List ℕ) : Type 0 where
   pub program : Program ℕ
   pub after : IsStateAfter s p.so_far program
-  pub given : IsGiven old now (lines style (answers_to_come s (at_program p program))) text
+  pub given : IsGiven old now (waiting ++ lines style (answers_to_come s (at_program p program))) text
+
+pub stands_first : (style : Style) (s : Setting) (p : TableState (State ℕ) ℕ) (old : Option (List ℕ)) (waiting : List ℕ) (program : Program ℕ) → waiting ≡ [] → IsStateAfter s p.so_far program
+    → StandsAt style s p old old waiting (lines style (answers_to_come s (at_program p program)))
+stands_first style s p old waiting program none after =
+    let whole = lines style (answers_to_come s (at_program p program)) in
+    record {
+      program = program;
+      after = after;
+      given = subst (λ (xs : List ℕ). IsGiven old old (xs ++ whole) whole) (sym none) (given_first old whole);
+    }
+
+-- the text that waits is written
+module _ (style : Style) (s : Setting) (p : TableState (State ℕ) ℕ) (old now newer : Option (List ℕ)) (waiting text : List ℕ) (stands : StandsAt style s p old now waiting text) where
+  pub out_written : (waits : List ℕ) → waits ≡ [] → Appends now newer waiting → StandsAt style s p old newer waits text
+  out_written waits none more =
+      let left = lines style (answers_to_come s (at_program p stands.program)) in
+      record {
+        program = stands.program;
+        after = stands.after;
+        given = subst (λ (xs : List ℕ). IsGiven old newer (xs ++ left) text) (sym none) (given_then old now newer waiting left text stands.given more);
+      }
+
+  pub out_begun : ((front : List ℕ) × Appends now newer front × IsBeginning front waiting) → (front : List ℕ) × Appends old newer front × IsBeginning front text
+  out_begun begun = beginning_then old now newer waiting (lines style (answers_to_come s (at_program p stands.program))) text stands.given begun
 
 module _ (t : Setting) (p q : TableState (State ℕ) ℕ) (r : Lent) (context : ContextState ℕ) (holds : Bool) (lent : LendsNextRow as_it_is t true p r q context holds) where
   pub fewer_after : (answer : Result (Bor (Row ℕ)) Error) → result_transpose r ≡ Some answer → answers_left q < answers_left p
@@ -95,7 +120,7 @@ module _ (s : Setting) (rules : IsSome s.rule_limit) (stack : IsSome s.stack_lim
     abbrev kept : AnswersWithoutMachine s true p (numbered r) q
     kept = subst (λ x. AnswersWithoutMachine x true p (numbered r) q) same lent.kept
 
-    module _ (style : Style) (old now : Option (List ℕ)) (text : List ℕ) (stands : StandsAt style s p old now text) where
+    module _ (style : Style) (old now : Option (List ℕ)) (waiting text : List ℕ) (stands : StandsAt style s p old now waiting text) where
       abbrev next_program : Program ℕ
       next_program = (kept.from stands.program stands.after).0
 
@@ -105,25 +130,42 @@ module _ (s : Setting) (rules : IsSome s.rule_limit) (stack : IsSome s.stack_lim
       comes : IsNext (answers_to_come s (at_program p stands.program)) (numbered r) left
       comes = kept_next_is (may_allocate s true) s never (at_program p stands.program) (numbered r) (at_program q next_program) (kept.from stands.program stands.after).1
 
-      pub all_written : result_transpose r ≡ None → Appends old now text
-      all_written is = given_all old now _ text stands.given (no_line style _ left r is comes)
+      -- only the text that waits is left
+      pub all_written : {T E : Type 0} → result_transpose r ≡ None → (new : Option (List ℕ)) (result : Result T E) → Writes now new result waiting → Writes old new result text
+      all_written is new result written =
+          let whole = subst (λ (xs : List ℕ). IsGiven old now (waiting ++ xs) text) (no_line style _ left r is comes) stands.given in
+          writes_last old now new result waiting text (subst (λ (xs : List ℕ). IsGiven old now xs text) (append-nil waiting) whole) written
+
+      -- where no text waits
+      pub all_given : waiting ≡ [] → result_transpose r ≡ None → Appends old now text
+      all_given none is =
+          given_all old now _ text stands.given (ap (λ (xs : List ℕ). xs ++ lines style (answers_to_come s (at_program p stands.program))) none ∙ no_line style _ left r is comes)
 
       module _ (answer : Result (Bor (Row ℕ)) Error) (is : result_transpose r ≡ Some answer) where
         abbrev part : List ℕ
         part = (answer_line style (map_ok (λ row. row.now) answer)).text
 
-        to_write : IsGiven old now (part ++ lines style left) text
-        to_write = subst (λ xs. IsGiven old now xs text) (first_line style _ left r answer is comes) stands.given
+        to_write : (waits : List ℕ) → waits ≡ waiting ++ part → IsGiven old now (waits ++ lines style left) text
+        to_write waits e = behind_more old now waiting waits part (lines style left) _ text stands.given e (first_line style _ left r answer is comes)
 
-        pub line_written : (newer : Option (List ℕ)) → Appends now newer part → StandsAt style s q old newer text
-        line_written newer more = record {
+        -- the line waits too
+        pub line_waits : (waits : List ℕ) → waits ≡ waiting ++ part → StandsAt style s q old now waits text
+        line_waits waits e = record {
           program = next_program;
           after = (kept.from stands.program stands.after).2;
-          given = given_then old now newer part (lines style left) text to_write more;
+          given = to_write waits e;
         }
 
-        pub line_begun : (newer : Option (List ℕ)) → ((front : List ℕ) × Appends now newer front × IsBeginning front part) → (front : List ℕ) × Appends old newer front × IsBeginning front text
-        line_begun newer begun = beginning_then old now newer part (lines style left) text to_write begun
+        -- the text that waits and the line are written
+        pub line_written : (newer : Option (List ℕ)) (waits : List ℕ) → waits ≡ [] → Appends now newer (waiting ++ part) → StandsAt style s q old newer waits text
+        line_written newer waits none more = record {
+          program = next_program;
+          after = (kept.from stands.program stands.after).2;
+          given = subst (λ (xs : List ℕ). IsGiven old newer (xs ++ lines style left) text) (sym none) (given_then old now newer (waiting ++ part) (lines style left) text (to_write (waiting ++ part) refl) more);
+        }
+
+        pub line_begun : (newer : Option (List ℕ)) → ((front : List ℕ) × Appends now newer front × IsBeginning front (waiting ++ part)) → (front : List ℕ) × Appends old newer front × IsBeginning front text
+        line_begun newer begun = beginning_then old now newer (waiting ++ part) (lines style left) text (to_write (waiting ++ part) refl) begun
 
 -- ---- the rows of an FDE
 

@@ -25,6 +25,15 @@ next_shown old now name i b h is given =
 pub none_shown : (name : List ℕ) (i : ℕ) → length name ≤ i → map shown (drop i name) ≡ []
 none_shown name i h = rw drop_all refl
 
+-- a name of which each byte is written as it is
+pub whole_more : (name : List ℕ) (i : ℕ) → i < length name → shown (get_or name i 0) ≡ get_or name i 0 → map shown (drop (i + 1) name) ≡ drop (i + 1) name → map shown (drop i name) ≡ drop i name
+whole_more name i h same rest =
+    let first : drop i name ≡ get_or name i 0 ∷ drop (i + 1) name = rw (drop-cons name i 0 h, add-one) refl in
+    shown_first name i 0 h ∙ ap (λ (c : ℕ). c ∷ map shown (drop (i + 1) name)) same ∙ ap (λ (xs : List ℕ). get_or name i 0 ∷ xs) rest ∙ sym first
+
+pub whole_none : (name : List ℕ) (i : ℕ) → length name ≤ i → map shown (drop i name) ≡ drop i name
+whole_none name i h = rw drop_all refl
+
 -- ---- the line
 
 module _ {T E : Type 0} (old mid new : Option (List ℕ)) (r : Result T E) (format : Format) (function : ℕ → Option (List ℕ)) (fde : Fde) (start end : ℕ) (starts : start ≡ fde.initial) (ends : end ≡ end_of fde) where

@@ -5,6 +5,7 @@ pub mod DecodingLemmas
 pub mod RunLemmas
 mod Printed
 pub mod RowLineLemmas
+mod KeptRulesLemmas
 pub mod SectionLemmas
 pub mod SectionWordsLemmas
 pub mod WordLemmas

@@ -7,6 +7,7 @@ pub mod RowLines
 pub mod FunctionLines
 pub mod JsonLines
 pub mod AnswerLines
+pub mod KeptRules
 pub mod WriterOutput
 pub mod Runs
 pub mod RowsCommandLine

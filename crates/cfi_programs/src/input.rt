@@ -16,6 +16,9 @@ use std::io::Read;
 /// How many bytes a read asks for.
 const CHUNK: usize = 16384;
 
+/// How many bytes there is room for before the first read. A system gives memory as it is used.
+const ROOM: usize = 1 << 20;
+
 /// Why there are no bytes.
 #[derive(Clone, Copy)]
 pub enum InputError {
@@ -33,7 +36,7 @@ pub fn read_all<R: Read>(alloc: Global, input: &mut R) -> Result<Vec<u8>, InputE
     ensures refused { IfErr result (λ e.
         (e ≡ InputError.Unreadable) ⊎ (e ≡ InputError.OutOfMemory)) }
 {
-    let mut bytes = Vec::new(alloc);
+    let mut bytes = room(alloc);
     let mut chunk = [0u8; CHUNK];
     for _ in 0..u64::MAX {
         match input.read(&mut chunk) {
@@ -47,6 +50,16 @@ pub fn read_all<R: Read>(alloc: Global, input: &mut R) -> Result<Vec<u8>, InputE
         }
     }
     Err(InputError::Unreadable)
+}
+
+/// Returns an empty vector, with room for the input of a small file where there is memory for it.
+fn room(alloc: Global) -> Vec<u8>
+    ensures { result.items ≡ [] }
+{
+    match Vec::with_capacity(alloc, ROOM) {
+        Ok(bytes) => bytes,
+        Err(_) => Vec::new(alloc),
+    }
 }
 
 /// Reads the input to its end, and then decodes it.

@@ -9,6 +9,7 @@ pub mod dump;
 pub mod input;
 pub mod json;
 mod json_row;
+mod kept_rules;
 pub mod lines;
 pub mod register_names;
 pub mod row_line;

@@ -1,20 +1,22 @@
 //! The line of a row.
 ghost use Rattle.std.specs.Prelude.{◌≡◌, ◌≤◌, ◌+◌, ◌++◌, ℕ, [], ◌∷◌, None, OnOk, codes};
-ghost use Rattle.std.specs.Prelude.{true};
+ghost use Rattle.std.specs.Prelude.{IfOk, false, true};
 ghost use Rattle.std.specs.FinMap as map;
 ghost use Rattle.std.specs.Fmt.{decimal, signed_decimal};
 ghost use Rattle.cfi_read_core.specs.ReaderCalls.{map_ok};
 ghost use Rattle.cfi_state.specs.RegisterRuleIters.{rules_left};
 ghost use Rattle.cfi_state.specs.RulePairs.{IsRising, rules_of};
 ghost use Rattle.gimli_cfi.specs.Words.{Parts};
+ghost use Rattle.cfi_programs.specs.KeptRules.{AreKept, kept_rules};
 ghost use Rattle.cfi_programs.specs.WriterOutput.{Prints, Writes, WritesBehind};
-ghost use Rattle.cfi_programs.specs.AnswerLines.{answer_line, row_in};
+ghost use Rattle.cfi_programs.specs.AnswerLines.{answer_line, row_in, text_style};
 ghost use Rattle.cfi_programs.specs.RowLines.{cfa_text, expression_text};
 ghost use Rattle.cfi_programs.specs.RegisterNames.{register_text};
 ghost use Rattle.cfi_programs.specs.RowLines.{offset_text, parts_rules, row_head};
 ghost use Rattle.cfi_programs.specs.RowLines.{row_text, rule_text, ruled, rules_by};
 
 use crate::json_row::write_json_row;
+use crate::kept_rules::KeptRules;
 use crate::lines::{write_refusal_in, write_text};
 use crate::register_names::RegisterNames;
 use crate::style::{Format, Style};
@@ -27,7 +29,11 @@ use std::io::Write;
 use std::{fmt, io};
 
 /// How much text may wait for another rule, which has at most 70 bytes in either format.
-const FULL: usize = 180;
+const FULL: usize = 950;
+
+/// How much text may wait for another line of a row whose rules are kept, which has at most 415
+/// bytes.
+pub(crate) const FULL_OF_LINES: usize = 600;
 
 /// Appends the name of the register.
 pub(crate) fn push_register(
@@ -171,6 +177,76 @@ pub fn write_answer<W: Write, A: ArrayLike<Item = (Register, RegisterRule<usize>
     }
 }
 
+/// Appends the line of text of an answer that comes after others of its table, if it is a row whose
+/// rules can be kept for the next one. Returns whether it is. Fails where there is no room for the
+/// line.
+#[inline]
+pub(crate) fn push_next<A: ArrayLike<Item = (Register, RegisterRule<usize>)>>(
+    text: &mut Text,
+    names: RegisterNames,
+    kept: &mut KeptRules,
+    answer: Result<&UnwindTableRow<usize, A>, Error>,
+) -> Result<bool, fmt::Error>
+    requires { AreKept names kept.old }
+    ensures kept { AreKept names kept.new }
+    ensures pushed { IfOk result (λ pushed. pushed ≡ true → text.new.items ≡ text.old.items
+        ++ (answer_line (text_style names) (map_ok (λ row. row.now) answer.entry)).text) }
+    ensures left { IfOk result (λ pushed. pushed ≡ false → text.new.items ≡ text.old.items) }
+{
+    let Ok(row) = answer else {
+        return Ok(false);
+    };
+    if !kept.keep(names, row.registers()) {
+        return Ok(false);
+    }
+    push_row(text, names, kept, row)?;
+    Ok(true)
+}
+
+/// Appends the line of text of a row whose rules are kept. Fails where there is no room for it.
+#[inline]
+fn push_row<A: ArrayLike<Item = (Register, RegisterRule<usize>)>>(
+    text: &mut Text,
+    names: RegisterNames,
+    kept: &KeptRules,
+    row: &UnwindTableRow<usize, A>,
+) -> fmt::Result
+    requires kept { AreKept names kept.now }
+    requires same { rules_of (kept_rules kept.now) ≡ row.now.parts.rules }
+    ensures { OnOk result (text.new.items ≡ text.old.items ++ (row_text names row.now ++ 10 ∷ [])) }
+{
+    push_head(text, names, row)?;
+    push(text, kept.text())?;
+    push(text, b"\n")
+}
+
+/// Writes the text and then the line of text of an answer. There is no text left.
+pub(crate) fn write_apart<W: Write, A: ArrayLike<Item = (Register, RegisterRule<usize>)>>(
+    output: &mut W,
+    text: &mut Text,
+    names: RegisterNames,
+    answer: Result<&UnwindTableRow<usize, A>, Error>,
+) -> io::Result<()>
+    ensures written { Writes (W.contents output.old) (W.contents output.new) result (text.old.items
+        ++ (answer_line (text_style names) (map_ok (λ row. row.now) answer.entry)).text) }
+    ensures empty { OnOk result (text.new.items ≡ []) }
+{
+    write_out(output, text)?;
+    let format = Format::Text;
+    write_answer(output, Style { names, format }, answer)?;
+    Ok(())
+}
+
+/// Writes the text. There is none left.
+pub(crate) fn write_out<W: Write>(output: &mut W, text: &mut Text) -> io::Result<()>
+    ensures written { Writes (W.contents output.old) (W.contents output.new) result text.old.items }
+    ensures empty { OnOk result (text.new.items ≡ []) }
+{
+    write_text(output, text.as_slice())?;
+    text.clear();
+    Ok(())
+}
+
 /// Writes the line of a row, its registers in ascending order.
 fn write_row_in<W: Write, A: ArrayLike<Item = (Register, RegisterRule<usize>)>>(
     output: &mut W,
@@ -235,7 +311,7 @@ fn write_rules<W: Write, A: ArrayLike<Item = (Register, RegisterRule<usize>)>>(
 }
 
 /// Returns whether the registers are in ascending order, each once; so they mostly are.
-fn is_rising(rules: RegisterRuleIter<'_, usize>) -> bool
+pub(crate) fn is_rising(rules: RegisterRuleIter<'_, usize>) -> bool
     ensures { result ≡ true → IsRising (rules_left rules.entry) }
 {
     let mut from = 0u32;

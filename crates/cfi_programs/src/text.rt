@@ -1,13 +1,14 @@
 //! The text of a line, put together before it is written.
-ghost use Rattle.std.specs.Prelude.{◌≡◌, ◌<◌, ◌++◌, OnOk, false};
+ghost use Rattle.std.specs.Prelude.{◌≡◌, ◌/◌, ◌%◌, ◌<◌, [], ◌∷◌, ◌++◌, OnOk};
+ghost use Rattle.std.specs.Prelude.{false};
 ghost use Rattle.std.specs.Fmt.{decimal, digit_glyph, digits, signed_decimal};
 ghost use Rattle.cfi_programs.specs.Lines.{address_text};
 
 use arrayvec::ArrayVec;
 use std::fmt;
 
-/// The text of a line that is not written yet, of at most 256 bytes.
-pub type Text = ArrayVec<u8, 256>;
+/// Text that is not written yet, of at most 1024 bytes.
+pub type Text = ArrayVec<u8, 1024>;
 
 /// Appends the bytes. Fails where there is no room for them.
 pub fn push(text: &mut Text, bytes: &[u8]) -> fmt::Result
@@ -19,18 +20,43 @@ pub fn push(text: &mut Text, bytes: &[u8]) -> fmt::Result
     }
 }
 
+/// Appends the byte. Fails where there is no room for it.
+#[inline(always)]
+fn push_byte(text: &mut Text, byte: u8) -> fmt::Result
+    ensures { OnOk result (text.new.items ≡ text.old.items ++ byte ∷ []) }
+{
+    match text.try_push(byte) {
+        Ok(()) => Ok(()),
+        Err(_) => Err(fmt::Error),
+    }
+}
+
+/// Appends two bytes. Fails where there is no room for them.
+#[inline(always)]
+fn push_two(text: &mut Text, first: u8, second: u8) -> fmt::Result
+    ensures { OnOk result (text.new.items ≡ text.old.items ++ first ∷ second ∷ []) }
+{
+    if text.remaining_capacity() < 2 {
+        return Err(fmt::Error);
+    }
+    // One at a time: a processor waits where bytes are written apart and then read together.
+    text.push(first);
+    text.push(second);
+    Ok(())
+}
+
 /// Appends the number in decimal digits. Fails where there is no room for them.
 pub fn push_decimal(text: &mut Text, number: u64) -> fmt::Result
     ensures { OnOk result (text.new.items ≡ text.old.items ++ decimal number) }
 {
     if number < 10 {
-        return push(text, &[b'0' + number as u8]);
+        return push_byte(text, b'0' + number as u8);
     }
     if number >= 100 {
         push_decimal(text, number / 100)?;
     }
     let pair = (number % 100) as u8;
-    push(text, &[b'0' + pair / 10, b'0' + pair % 10])
+    push_two(text, b'0' + pair / 10, b'0' + pair % 10)
 }
 
 /// Appends the number in decimal digits, after a minus sign where it is negative. Fails where there
@@ -56,14 +82,36 @@ pub fn push_address(text: &mut Text, address: u64) -> fmt::Result
 fn push_hexadecimal(text: &mut Text, number: u64) -> fmt::Result
     ensures { OnOk result (text.new.items ≡ text.old.items ++ digits 16 false number) }
 {
+    if number >= 0x1_0000 {
+        push_hexadecimal(text, number / 0x1_0000)?;
+        push_pair(text, (number / 0x100 % 0x100) as u8)?;
+        return push_pair(text, (number % 0x100) as u8);
+    }
+    if number >= 0x100 {
+        push_first(text, (number / 0x100) as u8)?;
+        return push_pair(text, (number % 0x100) as u8);
+    }
+    push_first(text, number as u8)
+}
+
+/// Appends the number in one hexadecimal digit or two. Fails where there is no room for them.
+#[inline(always)]
+fn push_first(text: &mut Text, number: u8) -> fmt::Result
+    ensures { OnOk result (text.new.items ≡ text.old.items ++ digits 16 false number) }
+{
     if number < 16 {
-        return push(text, &[digit(number as u8)]);
+        return push_byte(text, digit(number));
     }
-    if number >= 256 {
-        push_hexadecimal(text, number / 256)?;
-    }
-    let pair = (number % 256) as u8;
-    push(text, &[digit(pair / 16), digit(pair % 16)])
+    push_pair(text, number)
+}
+
+/// Appends the number in two hexadecimal digits. Fails where there is no room for them.
+#[inline(always)]
+fn push_pair(text: &mut Text, number: u8) -> fmt::Result
+    ensures { OnOk result (text.new.items ≡ text.old.items
+        ++ digit_glyph false (number / 16) ∷ digit_glyph false (number % 16) ∷ []) }
+{
+    push_two(text, digit(number / 16), digit(number % 16))
 }
 
 /// Returns the lower-case hexadecimal digit of the value.

@@ -1,5 +1,5 @@
 //! The end of the line of an FDE's addresses: the name of the function that begins there.
-ghost use Rattle.std.specs.Prelude.{◌≡◌, ◌++◌, [], ◌∷◌, Some, map, option_map};
+ghost use Rattle.std.specs.Prelude.{◌≡◌, ◌++◌, [], ◌∷◌, Some, map, option_map, true};
 ghost use Rattle.cfi_programs.specs.WriterOutput.{Writes};
 ghost use Rattle.cfi_programs.specs.FunctionLines.{function_text, shown};
 ghost use Rattle.cfi_programs.specs.JsonLines.{escaped, json_function};
@@ -48,8 +48,31 @@ fn end_named_line<W: Write>(output: &mut W, name: &[u8]) -> io::Result<()>
     write_text(output, b"\n")
 }
 
-/// Writes the name.
+/// Writes the name: at once where each byte is written as it is, and so it mostly is.
 fn write_shown<W: Write>(output: &mut W, name: &[u8]) -> io::Result<()>
+    ensures { Writes (W.contents output.old) (W.contents output.new) result
+        (map shown name.now) }
+{
+    if is_shown_whole(name) {
+        return write_text(output, name);
+    }
+    write_by_byte(output, name)
+}
+
+/// Returns whether each byte of the name is written as it is.
+fn is_shown_whole(name: &[u8]) -> bool
+    ensures { result ≡ true → map shown name.now ≡ name.now }
+{
+    for byte in name {
+        if shown(*byte) != *byte {
+            return false;
+        }
+    }
+    true
+}
+
+/// Writes the name byte by byte.
+fn write_by_byte<W: Write>(output: &mut W, name: &[u8]) -> io::Result<()>
     ensures { Writes (W.contents output.old) (W.contents output.new) result
         (map shown name.now) }
 {

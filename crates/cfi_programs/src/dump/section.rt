@@ -28,10 +28,12 @@ use crate::dump::addressed_rows::write_entry_rows;
 use crate::dump::entry_line::{write_cie, write_fde, write_partial_fde};
 use crate::dump::instruction_line::write_instructions;
 use crate::dump::printed::AskedRows;
-use crate::lines::write_refusal_in;
+use crate::kept_rules::KeptRules;
+use crate::lines::{write_refusal_in, write_text};
 use crate::register_names::RegisterNames;
-use crate::row_line::write_answer;
+use crate::row_line::{FULL_OF_LINES, push_next, write_answer, write_apart, write_out};
 use crate::style::{Format, Style};
+use crate::text::Text;
 use gimli_cfi::{
     _UnwindSectionPrivate, BaseAddresses, CieOrFde, CommonInformationEntry, Error,
     FrameDescriptionEntry, PartialFrameDescriptionEntry, Reader, Result, UnwindContext,
@@ -118,7 +120,8 @@ fn write_entry<R: Reader<Offset = usize>, S: UnwindSection<R>, W: Write>(
     ensures { let found = map_ok (entry_view (cie_view R.position (λ n. n))
         (λ p. partial_of R.position (λ n. n) p.prefix p.cie_offset)) entry.entry in
         Writes (W.contents output.old) (W.contents output.new) result
-        (item_text Format.Text (λ e. entry_text names (section_of (S.view section.now) bases.now) e) found) }
+        (item_text Format.Text
+        (λ e. entry_text names (section_of (S.view section.now) bases.now) e) found) }
 {
     match entry {
         Ok(CieOrFde::Cie(cie)) => write_whole_cie(output, names, section, bases, &cie),
@@ -260,6 +263,50 @@ pub fn write_rows<R: Reader<Offset = usize>, S: UnwindSection<R>, W: Write>(
 
 /// Writes a line for each row that is left in the table, and for each error among them.
 fn write_table<R: Reader<Offset = usize>, W: Write>(
+    output: &mut W,
+    style: Style,
+    table: &mut UnwindTable<'_, '_, R>,
+) -> io::Result<()>
+    ensures { let setting = setting_of table.old.parameters (Some 192) (Some 4) in
+        let state = table_state R.position (λ n. n) table.old in
+        (program : Program ℕ) → IsStateAfter setting state.so_far program
+        → Writes (W.contents output.old) (W.contents output.new) result
+        (lines style (answers_to_come setting (at_program state program))) }
+{
+    match style.format {
+        Format::Text => write_text_table(output, style.names, table),
+        Format::Json => write_each(output, style, table),
+    }
+}
+
+/// Writes the lines of text of what is left in the table. They are gathered before they are
+/// written, and rules that are those of the row before take their text from it.
+fn write_text_table<R: Reader<Offset = usize>, W: Write>(
+    output: &mut W,
+    names: RegisterNames,
+    table: &mut UnwindTable<'_, '_, R>,
+) -> io::Result<()>
+    ensures { let setting = setting_of table.old.parameters (Some 192) (Some 4) in
+        let state = table_state R.position (λ n. n) table.old in
+        (program : Program ℕ) → IsStateAfter setting state.so_far program
+        → Writes (W.contents output.old) (W.contents output.new) result
+        (lines (text_style names) (answers_to_come setting (at_program state program))) }
+{
+    let mut kept = KeptRules::new();
+    let mut text = Text::new();
+    while let Some(answer) = table.next_row().transpose() {
+        if text.len() > FULL_OF_LINES {
+            write_out(output, &mut text)?;
+        }
+        if !push_next(&mut text, names, &mut kept, answer)? {
+            write_apart(output, &mut text, names, answer)?;
+        }
+    }
+    write_text(output, text.as_slice())
+}
+
+/// Writes the lines of what is left in the table, each by itself.
+fn write_each<R: Reader<Offset = usize>, W: Write>(
     output: &mut W,
     style: Style,
     table: &mut UnwindTable<'_, '_, R>,

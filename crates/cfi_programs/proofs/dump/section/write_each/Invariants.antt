@@ -1,4 +1,4 @@
-use Rattle.std.proofs.Common.{◌≡◌, ℕ, Some}
+use Rattle.std.proofs.Common.{◌≡◌, ℕ, [], Some}
 use Rattle.cfi_state.specs.ContextEffects.{setting_of}
 use Rattle.cfi_state.specs.FdeAnswers.{IsStateAfter}
 use Rattle.cfi_state.specs.AcceptedInstructions.{at_program}
@@ -7,7 +7,7 @@ use Rattle.cfi_state.specs.UnwindTableStates.{answers_to_come}
 use Rattle.cfi_unwind.specs.UnwindTableViews.{table_state}
 use Rattle.cfi_programs.specs.DumpSectionTexts.{lines}
 use Rattle.cfi_programs.proofs.DumpRowsWritten.{StandsAt, answers_left}
-use Rattle.cfi_programs.proofs.dump.section.write_table.Given as goal
+use Rattle.cfi_programs.proofs.dump.section.write_each.Given as goal
 
 -- from each program after which the table stood
 abbrev pub invariant-loop-answer : goal.invariant-loop-answer
@@ -16,7 +16,7 @@ invariant-loop-answer g l =
     let first = table_state g.R.Reader.position (λ n. n) l.initial.table in
     (setting_of l.table.parameters (Some 192) (Some 4) ≡ setting)
     × ((program : Program ℕ) → IsStateAfter setting first.so_far program
-    → StandsAt l.style setting (table_state g.R.Reader.position (λ n. n) l.table) (g.W.Write.contents l.initial.output) (g.W.Write.contents l.output) (lines l.style (answers_to_come setting (at_program first program))))
+    → StandsAt l.style setting (table_state g.R.Reader.position (λ n. n) l.table) (g.W.Write.contents l.initial.output) (g.W.Write.contents l.output) [] (lines l.style (answers_to_come setting (at_program first program))))
 
 abbrev pub decreases-loop-answer : goal.decreases-loop-answer
 decreases-loop-answer g l = answers_left (table_state g.R.Reader.position (λ n. n) l.table)

@@ -2,7 +2,7 @@ use Rattle.std.proofs.Common.{◌+◌, [], ◌∷◌, drop, map}
 use Rattle.cfi_programs.specs.FunctionLines.{shown}
 use Rattle.cfi_programs.proofs.FunctionLineLemmas.{next_shown}
 use Rattle.cfi_programs.proofs.WrittenLemmas.{beginning_then, given_then, writes_refused}
-use Rattle.cfi_programs.proofs.dump.function_line.write_shown.Goals as goal
+use Rattle.cfi_programs.proofs.dump.function_line.write_by_byte.Goals as goal
 
 pub returns-in_err-write_text : goal.returns-in_err-write_text
 returns-in_err-write_text g c =
