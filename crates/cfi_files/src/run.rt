@@ -99,8 +99,8 @@ fn print_file<W: Write>(
 /// `cfi_programs` prints it; `no call frames` or `no header` where the file has no `.eh_frame` or
 /// no header; `refused` and the name of an error; or `wrong input` where the input can't be read.
 /// In JSON it is an object with the name as `file`, what was found as `result`, and the number of
-/// rows of a faithful table as `rows` or else that text as `reason`. Fails where the output can't be
-/// written: then a beginning has been written. Allocates for the input.
+/// rows of a faithful table as `rows` or else that text as `reason`. Fails where the output can't
+/// be written: then a beginning has been written. Allocates for the input.
 pub fn check_file<R: Read, W: Write>(
     alloc: Global,
     format: Format,
