@@ -1,5 +1,6 @@
 pub mod Recovering
 pub mod ByHeader
+pub mod AsScanned
 pub mod SortedModules
 pub mod WorkedModules
 pub mod Walking

@@ -1,5 +1,6 @@
 pub mod Callers
 pub mod Steps
+pub mod CompiledSteps
 pub mod Modules
 pub mod ModuleLists
 pub mod Walks

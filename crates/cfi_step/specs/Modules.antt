@@ -1,7 +1,8 @@
--- The FDE that a loaded module has for an address: by its header, or by a scan of its section where it has none.
+-- What a loaded module has for an address: by a compiled table; where it has none, the FDE by its header, or by a scan of its section.
 --     module_section position loaded      the section of its entries
 --     IsFoundIn position size loaded a found      the FDE, or the error in its place, where an address has this size
---     IsStepIn .. loaded a result caller      a step by it
+--     IsStepByFound .. loaded a result caller      a step by it
+--     IsStepIn .. loaded a result caller      a step by the compiled table, or by the FDE where there is none
 --     has_code loaded a, first_module modules a      the module whose code the address is in
 --     are_sorted low modules      whether modules are in the order of their addresses, with no overlap
 --     IsOutOfOrder modules k      the first module that isn't, by its index
@@ -22,9 +23,12 @@ use Rattle.gimli_cfi.specs.HeaderViews.{section_view, unparsed_view}
 use Rattle.gimli_cfi.specs.RowsByHeader.{FoundByHeader}
 use Rattle.cfi_expression.specs.declared.error.FrameError.{FrameError}
 use Rattle.cfi_expression.specs.Frames.{Frame}
+use Rattle.cfi_compiled.specs.CompiledTables.{frame_at}
 use Rattle.cfi_step.specs.declared.abi.Abi.{Abi}
+use Rattle.cfi_step.specs.declared.compiled.LoadedTable.{LoadedTable}
 use Rattle.cfi_step.specs.declared.module.LoadedModule.{LoadedModule}
 use Rattle.cfi_step.specs.declared.step.Caller.{Caller}
+use Rattle.cfi_step.specs.CompiledSteps.{IsStepByFrame, address_in_file}
 use Rattle.cfi_step.specs.Steps.{IsStepBy}
 
 module _ {R : Type 0} (position : R → Position) (size : ℕ) (loaded : LoadedModule R) where
@@ -42,12 +46,21 @@ module _ {R : Type 0} (position : R → Position) (size : ℕ) (loaded : LoadedM
 
 -- the caller of a frame of the module's code, whose row is that of the address
 module _ {R T : Type 0} (position : R → Position) (number : T → ℕ) (frame : Frame) (abi : Abi) (rule_limit stack_limit : Option ℕ) (copies_free : Bool) where
-  abbrev pub IsStepIn : LoadedModule R → ℕ → Result Caller FrameError → List (Option ℕ) → Type 0
-  IsStepIn loaded a result caller =
+  abbrev pub IsStepByFound : LoadedModule R → ℕ → Result Caller FrameError → List (Option ℕ) → Type 0
+  IsStepByFound loaded a result caller =
       (found : Result Fde Error) × IsFoundIn position frame.size loaded a found
       × IfOk found (λ fde. Covers fde a)
       × IsStepBy frame (eh_frame_view position loaded.frame).position abi number rule_limit stack_limit copies_free
       (module_section position frame.size loaded) a found result caller
+
+  -- the bytes of expressions are those of the module's section
+  abbrev pub IsStepVia : Option LoadedTable → LoadedModule R → ℕ → Result Caller FrameError → List (Option ℕ) → Type 0
+  IsStepVia None loaded a result caller = IsStepByFound loaded a result caller
+  IsStepVia (Some table) loaded a result caller =
+      IsStepByFrame frame (eh_frame_view position loaded.frame).position abi (frame_at table.rows.now (address_in_file table.bias a)) result caller
+
+  abbrev pub IsStepIn : LoadedModule R → ℕ → Result Caller FrameError → List (Option ℕ) → Type 0
+  IsStepIn loaded a result caller = IsStepVia loaded.compiled loaded a result caller
 
 -- ---- several modules
 

@@ -4,13 +4,13 @@
 --     IsCallerBy ra trampoline row result caller      what a step returns and writes by a row, or by the error in its place
 --     IsStepBy .. section a found result caller      the same by the FDE that is found for the address, or the error in its place
 use Rattle.std.specs.Prelude.{◌≡◌, ℕ, ◌+◌, ◌-◌, ◌%◌, ◌^◌, Bool, true, false, List, length, Option, Result, Ok, Err, IfOk}
-use Rattle.std.specs.Borrow.{Bor}
 use Rattle.cfi_read_core.specs.declared.common.Register.{Register}
 use Rattle.cfi_read_core.specs.declared.error.Error.{Error}
 use Rattle.cfi_read_core.specs.ReadFunctions.{Position}
+use Rattle.cfi_read_core.specs.ReaderCalls.{map_ok}
 use Rattle.cfi_state.specs.Row.{Row}
 use Rattle.cfi_state.specs.Machine.{Parts}
-use Rattle.cfi_state.specs.MappedStates.{row_lent}
+use Rattle.cfi_state.specs.MappedStates.{map_row}
 use Rattle.cfi_entry.specs.Augmentations.{is_trampoline}
 use Rattle.cfi_entry.specs.Sections.{Section}
 use Rattle.cfi_entry.specs.Fdes.{Fde}
@@ -36,15 +36,15 @@ module _ (frame : Frame) (bytes : Position) (abi : Abi) {T : Type 0} (number : T
       on_ok (λ the_cfa. map_value (λ pc. record { cfa = the_cfa; pc = pc; is_interrupted = trampoline }) (return_address frame bytes abi number parts the_cfa ra))
       (cfa_of frame bytes abi number parts.cfa)
 
-  abbrev pub IsCallerBy : Register → Bool → Result (Bor (Row T)) Error → Result Caller FrameError → List (Option ℕ) → Type 0
+  abbrev pub IsCallerBy : Register → Bool → Result (Row T) Error → Result Caller FrameError → List (Option ℕ) → Type 0
   IsCallerBy ra trampoline (Ok row) result caller =
-      (result ≡ caller_by ra trampoline row.now.parts)
-      × IfOk result (λ c. AreRecovered frame bytes abi number row.now.parts c.cfa (length caller) caller)
+      (result ≡ caller_by ra trampoline row.parts)
+      × IfOk result (λ c. AreRecovered frame bytes abi number row.parts c.cfa (length caller) caller)
   IsCallerBy ra trampoline (Err e) result caller = result ≡ Err (NoRow e)
 
   -- over a storage with these limits
   abbrev pub IsStepBy : Option ℕ → Option ℕ → Bool → Section → ℕ → Result Fde Error → Result Caller FrameError → List (Option ℕ) → Type 0
   IsStepBy rule_limit stack_limit copies_free section a (Ok fde) result caller =
-      (row : Result (Bor (Row T)) Error) × IsRowOfFde rule_limit stack_limit copies_free section a fde (row_lent number row)
+      (row : Result (Row T) Error) × IsRowOfFde rule_limit stack_limit copies_free section a fde (map_ok (map_row number) row)
       × IsCallerBy fde.cie.return_address_register (is_trampoline fde.cie.augmentation) row result caller
   IsStepBy rule_limit stack_limit copies_free section a (Err e) result caller = result ≡ Err (NoRow e)

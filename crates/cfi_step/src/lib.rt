@@ -1,20 +1,25 @@
 //! From a frame to its caller, by a row of an unwind table (DWARF 5 sections 6.4.1 and 6.4.4).
 //!
 //! `recover` and `step_by_row` take a row, the other steps find it: by an FDE, by a scan of a
-//! section, or by the table of a header. `Modules` finds the module of an address, and `unwind`
-//! writes the frames of a stack. Nothing allocates over a fixed storage.
+//! section, by the table of a header, or by a compiled table. `Modules` finds the module of an
+//! address, and `unwind` writes the frames of a stack. Nothing allocates over a fixed storage.
 #![tactic(auto)]
 
 pub mod abi;
+pub mod compiled;
 pub mod module;
 pub mod modules;
+mod places;
 pub mod recover;
+pub mod rows;
 pub mod step;
 pub mod walk;
 
 pub use abi::Abi;
 pub use cfi_expression::{AddressSize, Frame, FrameError, Memory, Window};
+pub use compiled::{LoadedTable, step_by_compiled};
 pub use module::{LoadedModule, fde_by_header, fde_in_module, step_in_module};
 pub use modules::{Modules, OutOfOrder};
+pub use rows::RowRules;
 pub use step::{Caller, row_address, step_by_fde, step_by_row, step_by_scan};
 pub use walk::{End, Process, StackFrame, Walk, unwind};

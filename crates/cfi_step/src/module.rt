@@ -1,5 +1,5 @@
 //! A loaded module, and the caller of a frame of its code.
-ghost use Rattle.std.specs.Prelude.{◌≡◌, ◌≤◌, length, IfOk, OnErr};
+ghost use Rattle.std.specs.Prelude.{◌≡◌, ◌≤◌, length, IfOk, IfSome, OnErr};
 ghost use Rattle.cfi_read_core.specs.Addresses.{IsAddressSize};
 ghost use Rattle.cfi_read_core.specs.ReaderCalls.{map_ok};
 ghost use Rattle.cfi_entry.specs.Fdes.{Covers};
@@ -10,9 +10,12 @@ ghost use Rattle.gimli_cfi.specs.HeaderViews.{listing_view, section_view, unpars
 ghost use Rattle.gimli_cfi.specs.RowsByHeader.{FoundByHeader};
 ghost use Rattle.gimli_cfi.specs.RowsByTable.{IsFdeFound};
 ghost use Rattle.cfi_expression.specs.Frames.{frame_view};
-ghost use Rattle.cfi_step.specs.Modules.{IsFoundIn, IsStepIn, begins_from, has_code};
+ghost use Rattle.cfi_step.specs.CompiledSteps.{IsStepAsScanned, address_in_file};
+ghost use Rattle.cfi_step.specs.Modules.{IsFoundIn, IsStepByFound, IsStepIn};
+ghost use Rattle.cfi_step.specs.Modules.{begins_from, has_code};
 
 use crate::abi::Abi;
+use crate::compiled::{LoadedTable, step_by_compiled};
 use crate::step::{Caller, step_by_fde};
 use cfi_expression::{Frame, FrameError, Memory};
 use gimli_cfi::{
@@ -22,7 +25,7 @@ use gimli_cfi::{
 
 /// A module as it is loaded: its code, and its call frames.
 #[derive(Clone, Copy, Debug)]
-pub struct LoadedModule<R> {
+pub struct LoadedModule<'a, R> {
     /// The first address of its code.
     pub start: u64,
     /// The first address after its code.
@@ -33,9 +36,11 @@ pub struct LoadedModule<R> {
     pub header: Option<EhFrameHdr<R>>,
     /// Where the sections are loaded.
     pub bases: BaseAddresses,
+    /// The compiled table of the file's `.eh_frame`, if there is one. Then the header isn't asked.
+    pub compiled: Option<LoadedTable<'a>>,
 }
 
-impl<R> LoadedModule<R> {
+impl<R> LoadedModule<'_, R> {
     /// Whether the address is in the module's code.
     pub fn has_code(&self, address: u64) -> bool
         ensures { result ≡ has_code self.now address }
@@ -52,12 +57,13 @@ impl<R> LoadedModule<R> {
 }
 
 /// The FDE of a module for an address, by the table of its header; by a scan of its section if it
-/// has no header, or one without a table. The address size is 1, 2, 4 or 8.
+/// has no header, or one without a table. The address size is 1, 2, 4 or 8. A compiled table has no
+/// FDEs, so it isn't asked.
 ///
 /// The FDE contains the address. Fails as `EhFrameHdr::parse` and `EhHdrTable::fde_for_address`, or
 /// as `scan_for_fde`. Does not allocate.
 pub fn fde_in_module<R: Reader>(
-    loaded: &LoadedModule<R>,
+    loaded: &LoadedModule<'_, R>,
     address_size: u8,
     address: u64,
 ) -> gimli_cfi::Result<FrameDescriptionEntry<R>>
@@ -127,13 +133,14 @@ fn fde_by_table<R: Reader>(
     table.fde_for_address(frame, bases, address, EhFrame::cie_from_offset)
 }
 
-/// The caller of a frame of a module's code, by the FDE of its address (`row_address`) that
-/// `fde_in_module` finds.
+/// The caller of a frame of a module's code, by its address (`row_address`).
 ///
-/// Fails with `FrameError::NoRow` as `fde_in_module`, then as `step_by_fde`, which says what is
-/// written. Over a fixed storage it does not allocate.
+/// If the module has a compiled table, by what that has for the address less the bias, as
+/// `step_by_compiled`: then neither an FDE nor an instruction is read, and nothing allocates. Else
+/// by the FDE that `fde_in_module` finds. Fails with `FrameError::NoRow` as that, then as
+/// `step_by_fde`, which says what is written. Over a fixed storage it does not allocate.
 pub fn step_in_module<R: Reader, S: UnwindContextStorage<R::Offset>, M: Memory>(
-    loaded: &LoadedModule<R>,
+    loaded: &LoadedModule<'_, R>,
     ctx: &mut UnwindContext<R::Offset, S>,
     address: u64,
     abi: &Abi,
@@ -142,6 +149,33 @@ pub fn step_in_module<R: Reader, S: UnwindContextStorage<R::Offset>, M: Memory>(
 ) -> Result<Caller, FrameError>
     requires { length caller.old ≤ 0x10000 }
     ensures step { IsStepIn R.position R.Offset.number (frame_view M.number_at frame.now)
+        abi.now S.Rules.limit S.Stack.limit S.Rules.copies_free
+        loaded.now address result caller.new }
+    ensures scan { IfSome loaded.now.compiled (λ table. IsStepAsScanned
+        (frame_view M.number_at frame.now) (eh_frame_view R.position loaded.now.frame).position
+        abi.now table.rows.now (address_in_file table.bias address) result caller.new) }
+    ensures unwritten { OnErr result (caller.new ≡ caller.old) }
+{
+    match &loaded.compiled {
+        Some(table) => {
+            let address = table.address_in_file(address);
+            step_by_compiled(table.rows, &loaded.frame, address, abi, frame, caller)
+        }
+        None => step_by_found(loaded, ctx, address, abi, frame, caller),
+    }
+}
+
+/// The caller of a frame of a module's code, by the FDE that `fde_in_module` finds.
+fn step_by_found<R: Reader, S: UnwindContextStorage<R::Offset>, M: Memory>(
+    loaded: &LoadedModule<'_, R>,
+    ctx: &mut UnwindContext<R::Offset, S>,
+    address: u64,
+    abi: &Abi,
+    frame: &Frame<'_, M>,
+    caller: &mut [Option<u64>],
+) -> Result<Caller, FrameError>
+    requires { length caller.old ≤ 0x10000 }
+    ensures step { IsStepByFound R.position R.Offset.number (frame_view M.number_at frame.now)
         abi.now S.Rules.limit S.Stack.limit S.Rules.copies_free
         loaded.now address result caller.new }
     ensures unwritten { OnErr result (caller.new ≡ caller.old) }

@@ -9,7 +9,7 @@ use std::alloc::AllocError;
 /// the modules of a process once, and keep the result.
 #[derive(Debug)]
 pub struct Modules<'a, R> {
-    list: &'a [LoadedModule<R>],
+    list: &'a [LoadedModule<'a, R>],
     ghost sorted: { are_sorted 0 list.now ≡ true },
 }
 
@@ -44,7 +44,7 @@ impl<'a, R> Modules<'a, R> {
     ///
     /// Fails with the first that doesn't, or that ends before it begins. A module may have no code.
     /// Goes through all of them once; does not allocate.
-    pub fn new(list: &'a [LoadedModule<R>]) -> Result<Self, OutOfOrder>
+    pub fn new(list: &'a [LoadedModule<'a, R>]) -> Result<Self, OutOfOrder>
         ensures sorted { OkIff (map_ok module_list result)
             (are_sorted 0 list.now ≡ true) list.now }
         ensures out_of_order { IfErr result (λ first. IsOutOfOrder list.now first.index) }
@@ -62,7 +62,7 @@ impl<'a, R> Modules<'a, R> {
 
     /// The module whose code the address is in: there is at most one. Found by halving; does not
     /// allocate.
-    pub fn module_of(&self, address: u64) -> Option<&'a LoadedModule<R>>
+    pub fn module_of(&self, address: u64) -> Option<&'a LoadedModule<'a, R>>
         ensures module { option_map (λ loaded. loaded.now) result
             ≡ first_module (module_list self.now) address }
         ensures only { IsInOneAtMost (module_list self.now) address }

@@ -6,30 +6,28 @@ ghost use Rattle.cfi_step.specs.Callers.{AreRecovered, by_rule, cfa_of, expressi
 ghost use Rattle.cfi_step.specs.Callers.{is_signed, recovered, return_address, saved_at};
 
 use crate::abi::Abi;
+use crate::places::bytes_of;
+use crate::rows::RowRules;
 use cfi_expression::frame::{Frame, displaced, known_register, number_at, register_value};
 use cfi_expression::memory::Memory;
 use cfi_expression::{FrameError, evaluate};
 use gimli_cfi::{
-    _UnwindSectionPrivate, ArrayLike, CfaRule, RA_SIGN_STATE, Reader, Register, RegisterRule,
-    UnwindExpression, UnwindTableRow,
+    _UnwindSectionPrivate, CfaRule, RA_SIGN_STATE, Reader, ReaderOffset, Register, RegisterRule,
+    UnwindExpression,
 };
 
 /// The registers that the caller of a frame has, by the row of the frame's pc. Returns the
 /// canonical frame address, and writes `caller[k]` for each register k for which there is room:
 /// `None` if the value is lost, if it is not known, and if what it is made of cannot be read.
 ///
-/// The row is of the section, which has the bytes of its expressions. A register without a rule
-/// keeps its value, but for the stack pointer, which is the CFA.
+/// The row is of an unwind table or of a compiled one, and of the section, which has the bytes of
+/// its expressions. A register without a rule keeps its value, but for the stack pointer, which is
+/// the CFA.
 ///
 /// Fails if the CFA cannot be found: with `FrameError::UnknownRegister`, or as `evaluate` for its
 /// expression. Then nothing is written. Does not allocate.
-pub fn recover<
-    R: Reader,
-    Section: _UnwindSectionPrivate<R>,
-    A: ArrayLike<Item = (Register, RegisterRule<R::Offset>)>,
-    M: Memory,
->(
-    row: &UnwindTableRow<R::Offset, A>,
+pub fn recover<R: Reader, Section: _UnwindSectionPrivate<R>, Rules: RowRules, M: Memory>(
+    row: &Rules,
     section: &Section,
     abi: &Abi,
     frame: &Frame<'_, M>,
@@ -37,13 +35,13 @@ pub fn recover<
 ) -> Result<u64, FrameError>
     requires { length caller.old ≤ 0x10000 }
     ensures cfa { result ≡ cfa_of (frame_view M.number_at frame.now)
-        (Section.view section.now).position abi.now R.Offset.number row.now.parts.cfa }
+        (Section.view section.now).position abi.now Rules.Offset.number (Rules.parts row.now).cfa }
     ensures registers { IfOk result (λ cfa. AreRecovered (frame_view M.number_at frame.now)
-        (Section.view section.now).position abi.now R.Offset.number row.now.parts cfa
+        (Section.view section.now).position abi.now Rules.Offset.number (Rules.parts row.now) cfa
         (length caller.new) caller.new) }
     ensures unwritten { OnErr result (caller.new ≡ caller.old) }
 {
-    let cfa = frame_address(row.cfa(), section, abi, frame)?;
+    let cfa = frame_address(row.cfa_rule(), section, abi, frame)?;
     write_registers(row, section, abi, frame, cfa, caller);
     Ok(cfa)
 }
@@ -52,10 +50,10 @@ pub fn recover<
 pub(crate) fn write_registers<
     R: Reader,
     Section: _UnwindSectionPrivate<R>,
-    A: ArrayLike<Item = (Register, RegisterRule<R::Offset>)>,
+    Rules: RowRules,
     M: Memory,
 >(
-    row: &UnwindTableRow<R::Offset, A>,
+    row: &Rules,
     section: &Section,
     abi: &Abi,
     frame: &Frame<'_, M>,
@@ -64,7 +62,7 @@ pub(crate) fn write_registers<
 )
     requires { length caller.old ≤ 0x10000 }
     ensures { AreRecovered (frame_view M.number_at frame.now)
-        (Section.view section.now).position abi.now R.Offset.number row.now.parts cfa
+        (Section.view section.now).position abi.now Rules.Offset.number (Rules.parts row.now) cfa
         (length caller.new) caller.new }
 {
     for k in 0..caller.len() {
@@ -88,13 +86,8 @@ fn where_found(found: Result<Option<u64>, FrameError>) -> Option<u64>
 ///
 /// Fails with `FrameError::UnreadableMemory` if it is saved at an address that cannot be read, as
 /// `evaluate` for an expression, and with `ArchitecturalRule`. Does not allocate.
-pub fn recover_register<
-    R: Reader,
-    Section: _UnwindSectionPrivate<R>,
-    A: ArrayLike<Item = (Register, RegisterRule<R::Offset>)>,
-    M: Memory,
->(
-    row: &UnwindTableRow<R::Offset, A>,
+pub fn recover_register<R: Reader, Section: _UnwindSectionPrivate<R>, Rules: RowRules, M: Memory>(
+    row: &Rules,
     section: &Section,
     abi: &Abi,
     frame: &Frame<'_, M>,
@@ -102,9 +95,10 @@ pub fn recover_register<
     register: Register,
 ) -> Result<Option<u64>, FrameError>
     ensures { result ≡ recovered (frame_view M.number_at frame.now)
-        (Section.view section.now).position abi.now R.Offset.number row.now.parts cfa register.0 }
+        (Section.view section.now).position abi.now Rules.Offset.number (Rules.parts row.now)
+        cfa register.0 }
 {
-    match row.register(register) {
+    match row.register_rule(register) {
         Some(rule) => by_rule(&rule, section, abi, frame, cfa, register),
         None => {
             if register.0 == abi.stack_pointer.0 {
@@ -124,10 +118,10 @@ pub fn recover_register<
 pub fn recover_return_address<
     R: Reader,
     Section: _UnwindSectionPrivate<R>,
-    A: ArrayLike<Item = (Register, RegisterRule<R::Offset>)>,
+    Rules: RowRules,
     M: Memory,
 >(
-    row: &UnwindTableRow<R::Offset, A>,
+    row: &Rules,
     section: &Section,
     abi: &Abi,
     frame: &Frame<'_, M>,
@@ -135,15 +129,16 @@ pub fn recover_return_address<
     register: Register,
 ) -> Result<Option<u64>, FrameError>
     ensures { result ≡ return_address (frame_view M.number_at frame.now)
-        (Section.view section.now).position abi.now R.Offset.number row.now.parts cfa register }
+        (Section.view section.now).position abi.now Rules.Offset.number (Rules.parts row.now)
+        cfa register }
 {
-    if let Some(RegisterRule::Undefined) = row.register(register) {
+    if let Some(RegisterRule::Undefined) = row.register_rule(register) {
         return Ok(None);
     }
     match recover_register(row, section, abi, frame, cfa, register)? {
         None => Err(FrameError::UnknownRegister(register)),
         Some(address) => {
-            if is_signed(row.register(RA_SIGN_STATE)) {
+            if is_signed(row.register_rule(RA_SIGN_STATE)) {
                 Ok(Some(address & !abi.signature_mask))
             } else {
                 Ok(Some(address))
@@ -163,14 +158,14 @@ fn is_signed<T: Copy>(rule: Option<RegisterRule<T>>) -> bool
 }
 
 /// The canonical frame address.
-pub(crate) fn frame_address<R: Reader, Section: _UnwindSectionPrivate<R>, M: Memory>(
-    rule: &CfaRule<R::Offset>,
-    section: &Section,
-    abi: &Abi,
-    frame: &Frame<'_, M>,
-) -> Result<u64, FrameError>
+pub(crate) fn frame_address<
+    R: Reader,
+    Section: _UnwindSectionPrivate<R>,
+    T: ReaderOffset,
+    M: Memory,
+>(rule: &CfaRule<T>, section: &Section, abi: &Abi, frame: &Frame<'_, M>) -> Result<u64, FrameError>
     ensures { result ≡ cfa_of (frame_view M.number_at frame.now)
-        (Section.view section.now).position abi.now R.Offset.number rule.now }
+        (Section.view section.now).position abi.now T.number rule.now }
 {
     match *rule {
         CfaRule::RegisterAndOffset { register, offset } => {
@@ -182,8 +177,8 @@ pub(crate) fn frame_address<R: Reader, Section: _UnwindSectionPrivate<R>, M: Mem
 }
 
 /// The value that a register has in the caller, by its rule.
-fn by_rule<R: Reader, Section: _UnwindSectionPrivate<R>, M: Memory>(
-    rule: &RegisterRule<R::Offset>,
+fn by_rule<R: Reader, Section: _UnwindSectionPrivate<R>, T: ReaderOffset, M: Memory>(
+    rule: &RegisterRule<T>,
     section: &Section,
     abi: &Abi,
     frame: &Frame<'_, M>,
@@ -191,7 +186,7 @@ fn by_rule<R: Reader, Section: _UnwindSectionPrivate<R>, M: Memory>(
     register: Register,
 ) -> Result<Option<u64>, FrameError>
     ensures { result ≡ by_rule (frame_view M.number_at frame.now)
-        (Section.view section.now).position abi.now R.Offset.number cfa register.0 rule.now }
+        (Section.view section.now).position abi.now T.number cfa register.0 rule.now }
 {
     match *rule {
         RegisterRule::Undefined => Ok(None),
@@ -221,8 +216,8 @@ fn saved_at<M: Memory>(address: u64, frame: &Frame<'_, M>) -> Result<Option<u64>
 }
 
 /// The value of an expression whose bytes are in the section.
-fn value_at<R: Reader, Section: _UnwindSectionPrivate<R>, M: Memory>(
-    expression: &UnwindExpression<R::Offset>,
+fn value_at<R: Reader, Section: _UnwindSectionPrivate<R>, T: ReaderOffset, M: Memory>(
+    expression: &UnwindExpression<T>,
     section: &Section,
     abi: &Abi,
     frame: &Frame<'_, M>,
@@ -230,9 +225,9 @@ fn value_at<R: Reader, Section: _UnwindSectionPrivate<R>, M: Memory>(
 ) -> Result<u64, FrameError>
     ensures { result ≡ expression_value (frame_view M.number_at frame.now)
         (Section.view section.now).position abi.now
-        (map_expression R.Offset.number expression.now) initial }
+        (map_expression T.number expression.now) initial }
 {
-    match expression.get(section) {
+    match bytes_of(expression, section) {
         Ok(bytes) => evaluate(&bytes, frame, initial, abi.max_iterations),
         Err(error) => Err(FrameError::Unreadable(error)),
     }

@@ -9,10 +9,11 @@ ghost use Rattle.cfi_step.specs.Steps.{IsStepBy, caller_by, row_address};
 
 use crate::abi::Abi;
 use crate::recover::{frame_address, recover_return_address, write_registers};
+use crate::rows::RowRules;
 use cfi_expression::{Frame, FrameError, Memory};
 use gimli_cfi::{
-    _UnwindSectionPrivate, ArrayLike, BaseAddresses, FrameDescriptionEntry, Reader, Register,
-    RegisterRule, UnwindContext, UnwindContextStorage, UnwindSection, UnwindTableRow, scan_for_fde,
+    _UnwindSectionPrivate, BaseAddresses, FrameDescriptionEntry, Reader, Register, UnwindContext,
+    UnwindContextStorage, UnwindSection, scan_for_fde,
 };
 
 /// Where the caller of a frame goes on.
@@ -41,18 +42,14 @@ pub fn row_address(pc: u64, is_interrupted: bool) -> u64
     }
 }
 
-/// The caller of a frame, by the row of its address. `return_address` is the CIE's return address
-/// register, and `is_signal_trampoline` is whether the FDE is a signal trampoline.
+/// The caller of a frame, by the row of its address, of an unwind table or of a compiled one.
+/// `return_address` is the CIE's return address register, and `is_signal_trampoline` is whether the
+/// FDE is a signal trampoline.
 ///
 /// Writes `caller[k]` for each register k for which there is room, as `recover`. Fails as
 /// `recover`, then as `recover_return_address`; then nothing is written. Does not allocate.
-pub fn step_by_row<
-    R: Reader,
-    Section: _UnwindSectionPrivate<R>,
-    A: ArrayLike<Item = (Register, RegisterRule<R::Offset>)>,
-    M: Memory,
->(
-    row: &UnwindTableRow<R::Offset, A>,
+pub fn step_by_row<R: Reader, Section: _UnwindSectionPrivate<R>, Rules: RowRules, M: Memory>(
+    row: &Rules,
     section: &Section,
     return_address: Register,
     is_signal_trampoline: bool,
@@ -62,14 +59,14 @@ pub fn step_by_row<
 ) -> Result<Caller, FrameError>
     requires { length caller.old ≤ 0x10000 }
     ensures caller { result ≡ caller_by (frame_view M.number_at frame.now)
-        (Section.view section.now).position abi.now R.Offset.number
-        return_address is_signal_trampoline row.now.parts }
+        (Section.view section.now).position abi.now Rules.Offset.number
+        return_address is_signal_trampoline (Rules.parts row.now) }
     ensures registers { IfOk result (λ c. AreRecovered (frame_view M.number_at frame.now)
-        (Section.view section.now).position abi.now R.Offset.number row.now.parts c.cfa
-        (length caller.new) caller.new) }
+        (Section.view section.now).position abi.now Rules.Offset.number (Rules.parts row.now)
+        c.cfa (length caller.new) caller.new) }
     ensures unwritten { OnErr result (caller.new ≡ caller.old) }
 {
-    let cfa = frame_address(row.cfa(), section, abi, frame)?;
+    let cfa = frame_address(row.cfa_rule(), section, abi, frame)?;
     let pc = recover_return_address(row, section, abi, frame, cfa, return_address)?;
     write_registers(row, section, abi, frame, cfa, caller);
     Ok(Caller {

@@ -1,7 +1,7 @@
 use Rattle.std.proofs.Common.{ℕ, Ok, Err, refl, subst}
 use Rattle.cfi_unwind.specs.FdeViews.{fde_view}
 use Rattle.cfi_step.specs.Modules.{IsFoundIn}
-use Rattle.cfi_step.proofs.module.step_in_module.Goals as goal
+use Rattle.cfi_step.proofs.module.step_by_found.Goals as goal
 
 pub returns-in-Ok-clause-step : goal.returns-in-Ok-clause-step
 returns-in-Ok-clause-step g c = (
