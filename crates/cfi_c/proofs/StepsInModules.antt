@@ -15,9 +15,10 @@ use Rattle.gimli_cfi.specs.RowsByHeader.{FoundByHeader}
 use Rattle.cfi_expression.specs.declared.error.FrameError.{FrameError}
 use Rattle.cfi_expression.specs.Frames.{Frame}
 use Rattle.cfi_step.specs.declared.abi.Abi.{Abi}
+use Rattle.cfi_step.specs.declared.compiled.LoadedTable.{LoadedTable}
 use Rattle.cfi_step.specs.declared.module.LoadedModule.{LoadedModule}
 use Rattle.cfi_step.specs.declared.step.Caller.{Caller}
-use Rattle.cfi_step.specs.Modules.{IsFoundBy, IsStepIn}
+use Rattle.cfi_step.specs.Modules.{IsFoundBy, IsStepByFound, IsStepIn, IsStepVia}
 use Rattle.cfi_step.specs.Steps.{IsStepBy}
 use Rattle.cfi_step.specs.Walks.{State, address_of}
 use Rattle.cfi_c.specs.declared.CfiBases.{CfiBases}
@@ -45,15 +46,17 @@ module _ {R : Type 0} (position : R → Position) (stack : CfiStack) (passed : C
       → (eh_frame_view position loaded.frame).position ≡ slice_over passed.section.now passed.bases.big_endian
       → section_view position loaded.frame loaded.bases ≡ eh_frame_of (sized stack.address_size passed.bases) passed.section.now
       → option_map (λ header. unparsed_view position header stack.address_size loaded.bases) loaded.header ≡ option_map (header_of (sized stack.address_size passed.bases)) (header_in passed.header.now)
-      → IsStepIn position (λ (n : ℕ). n) frame abi (Some 192) (Some 4) true loaded a result caller
+      → loaded.compiled ≡ None → IsStepIn position (λ (n : ℕ). n) frame abi (Some 192) (Some 4) true loaded a result caller
       → IsStepInModule stack passed s result caller
-  as_passed s frame abi a result caller frames abis addresses bytes sections headers is =
-      let framed : IsStepIn position (λ (n : ℕ). n) (frame_of stack s) abi (Some 192) (Some 4) true loaded a result caller =
-      subst (λ (f : Frame). IsStepIn position (λ (n : ℕ). n) f abi (Some 192) (Some 4) true loaded a result caller) frames is in
-      let ruled : IsStepIn position (λ (n : ℕ). n) (frame_of stack s) (abi_of stack) (Some 192) (Some 4) true loaded a result caller =
-      subst (λ (b : Abi). IsStepIn position (λ (n : ℕ). n) (frame_of stack s) b (Some 192) (Some 4) true loaded a result caller) abis framed in
-      let so : IsStepIn position (λ (n : ℕ). n) (frame_of stack s) (abi_of stack) (Some 192) (Some 4) true loaded (address_of s) result caller =
-      subst (λ (n : ℕ). IsStepIn position (λ (n : ℕ). n) (frame_of stack s) (abi_of stack) (Some 192) (Some 4) true loaded n result caller) addresses ruled in (
+  as_passed s frame abi a result caller frames abis addresses bytes sections headers none is =
+      let found : IsStepByFound position (λ (n : ℕ). n) frame abi (Some 192) (Some 4) true loaded a result caller =
+      subst (λ (o : Option LoadedTable). IsStepVia position (λ (n : ℕ). n) frame abi (Some 192) (Some 4) true o loaded a result caller) none is in
+      let framed : IsStepByFound position (λ (n : ℕ). n) (frame_of stack s) abi (Some 192) (Some 4) true loaded a result caller =
+      subst (λ (f : Frame). IsStepByFound position (λ (n : ℕ). n) f abi (Some 192) (Some 4) true loaded a result caller) frames found in
+      let ruled : IsStepByFound position (λ (n : ℕ). n) (frame_of stack s) (abi_of stack) (Some 192) (Some 4) true loaded a result caller =
+      subst (λ (b : Abi). IsStepByFound position (λ (n : ℕ). n) (frame_of stack s) b (Some 192) (Some 4) true loaded a result caller) abis framed in
+      let so : IsStepByFound position (λ (n : ℕ). n) (frame_of stack s) (abi_of stack) (Some 192) (Some 4) true loaded (address_of s) result caller =
+      subst (λ (n : ℕ). IsStepByFound position (λ (n : ℕ). n) (frame_of stack s) (abi_of stack) (Some 192) (Some 4) true loaded n result caller) addresses ruled in (
         so.0,
         found_by position stack.address_size loaded (sized stack.address_size passed.bases) passed.section.now sections loaded.header (header_in passed.header.now) headers (address_of s) so.0 so.1,
         so.2,

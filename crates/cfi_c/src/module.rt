@@ -1,5 +1,5 @@
 //! Modules that C passes, and steps in them.
-ghost use Rattle.std.specs.Prelude.{◌≡◌, ◌<◌, ◌≤◌, IfSome, OnErr, length, position};
+ghost use Rattle.std.specs.Prelude.{◌≡◌, ◌<◌, ◌≤◌, None, IfSome, OnErr, length, position};
 ghost use Rattle.std.specs.Option.{option_map};
 ghost use Rattle.cfi_read_core.specs.Addresses.{IsAddressSize};
 ghost use Rattle.cfi_read_core.specs.ByteOrder.{is_big};
@@ -110,7 +110,10 @@ fn memory_of<'a>(stack: &CfiStack<'a>) -> Window<EndianSlice<'a, RunTimeEndian>>
 }
 
 /// The module with its sections, whose addresses have this size.
-fn loaded_of<'a>(module: &CfiModule<'a>, size: u8) -> LoadedModule<EndianSlice<'a, RunTimeEndian>>
+fn loaded_of<'a>(
+    module: &CfiModule<'a>,
+    size: u8,
+) -> LoadedModule<'a, EndianSlice<'a, RunTimeEndian>>
     requires { IsAddressSize size }
     ensures bytes { (eh_frame_view (slice_position is_big) result.frame).position
         ≡ slice_over module.now.section.now module.now.bases.big_endian }
@@ -119,6 +122,7 @@ fn loaded_of<'a>(module: &CfiModule<'a>, size: u8) -> LoadedModule<EndianSlice<'
     ensures header { option_map
         (λ header. unparsed_view (slice_position is_big) header size result.bases) result.header
         ≡ option_map (header_of (sized size module.now.bases)) (header_in module.now.header.now) }
+    ensures compiled { result.compiled ≡ None }
 {
     let bases = &module.bases;
     let mut frame = EhFrame::new(module.section, endian_of(bases));
@@ -130,6 +134,7 @@ fn loaded_of<'a>(module: &CfiModule<'a>, size: u8) -> LoadedModule<EndianSlice<'
         frame,
         header: header_of(module),
         bases: bases_of(bases),
+        compiled: None,
     }
 }
 

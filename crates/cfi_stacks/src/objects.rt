@@ -36,7 +36,7 @@ impl Clone for Object<'_> {
 impl Copy for Object<'_> {}
 
 impl<'file> Object<'file> {
-    ghost use Rattle.std.specs.Prelude.{◌≡◌, option_map};
+    ghost use Rattle.std.specs.Prelude.{◌≡◌, None, IfSome, option_map};
     ghost use Rattle.cfi_elf.specs.ElfFiles.{file_view};
     ghost use Rattle.cfi_stacks.specs.Modules.{loaded_module, module_view};
     ghost use Rattle.cfi_stacks.specs.Objects.{bias_of, module_of, object_of, object_view};
@@ -80,13 +80,15 @@ impl<'file> Object<'file> {
     }
 
     /// The module that the file is where it is mapped: its code is that between the two addresses,
-    /// its sections and their bases are moved by the bias. Returns `None` where there is no bias.
-    /// Does not allocate.
+    /// its sections and their bases are moved by the bias, and it has no compiled table. Returns
+    /// `None` where there is no bias. Does not allocate.
     pub fn module(
         &self,
         mapped: &MappedCode,
-    ) -> Option<LoadedModule<EndianSlice<'file, RunTimeEndian>>>
-        ensures { option_map module_view result ≡ module_of (object_view self.now) mapped.now }
+    ) -> Option<LoadedModule<'file, EndianSlice<'file, RunTimeEndian>>>
+        ensures module { option_map module_view result
+            ≡ module_of (object_view self.now) mapped.now }
+        ensures compiled { IfSome result (λ loaded. loaded.compiled ≡ None) }
     {
         let bias = self.bias(mapped)?;
         Some(self.module_with(bias, mapped))
@@ -97,9 +99,10 @@ impl<'file> Object<'file> {
         &self,
         bias: u64,
         mapped: &MappedCode,
-    ) -> LoadedModule<EndianSlice<'file, RunTimeEndian>>
-        ensures { module_view result
+    ) -> LoadedModule<'file, EndianSlice<'file, RunTimeEndian>>
+        ensures module { module_view result
             ≡ loaded_module (object_view self.now).frames mapped.now bias }
+        ensures compiled { result.compiled ≡ None }
     {
         let words = moved_words(&self.frames.words, bias);
         let mut frame = EhFrame::new(self.frames.section, words.endian);
@@ -111,6 +114,7 @@ impl<'file> Object<'file> {
             frame,
             header: header_of(&words, self.frames.header),
             bases: words.bases(),
+            compiled: None,
         }
     }
 }

@@ -1,9 +1,18 @@
--- Modules in order and out of order, worked out from the definitions alone.
-use Rattle.std.proofs.Common.{◌≡◌, ℕ, true, List, [], ◌∷◌, Some, None, refl}
+-- Modules in order and out of order, and addresses in a file, worked out from the definitions alone.
+use Rattle.std.proofs.Common.{◌≡◌, ◌-◌, ◌^◌, ℕ, true, List, [], ◌∷◌, Some, None, refl}
 use Rattle.cfi_parts.specs.declared.pointer.BaseAddresses.{BaseAddresses}
 use Rattle.cfi_entry.specs.declared.eh_frame.EhFrame.{EhFrame}
 use Rattle.cfi_step.specs.declared.module.LoadedModule.{LoadedModule}
+use Rattle.cfi_step.specs.CompiledSteps.{address_in_file}
 use Rattle.cfi_step.specs.Modules.{IsOutOfOrder, are_sorted, first_module}
+
+-- 0x40001001, of a file that is loaded at 0x40000000
+in_file : address_in_file 1073741824 1073745921 ≡ 4097
+in_file = refl
+
+-- 0x1000, of one that is loaded 0x1000 below the addresses that it has
+below_its_own : address_in_file (2 ^ 64 - 4096) 4096 ≡ 8192
+below_its_own = refl
 
 module _ {R : Type 0} (frame : EhFrame R) (bases : BaseAddresses) where
   abbrev code : ℕ → ℕ → LoadedModule R

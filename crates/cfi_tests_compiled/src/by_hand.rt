@@ -77,7 +77,7 @@ fn rows_and_steps(rt: HostRuntime) -> Result<(), Fail> {
 const CIE: &str = "10000000 ffffffff 04000800 017810 0c0708 9001";
 
 /// Sections with how many steps and how many distinct rows and errors their tables have.
-const COUNTED: [(&str, usize, usize); 4] = [
+const COUNTED: [(&str, usize, usize); 5] = [
     ("", 1, 1),
     // two FDEs that meet and say the same: one step
     (
@@ -85,6 +85,14 @@ const COUNTED: [(&str, usize, usize); 4] = [
          14000000 00000000 2010000000000000 2000000000000000",
         3,
         2,
+    ),
+    // two that meet and say the same, by CIEs with other return address registers
+    (
+        "14000000 00000000 0010000000000000 2000000000000000 \
+         10000000 ffffffff 04000800 017811 0c0708 9001 \
+         14000000 2c000000 2010000000000000 2000000000000000",
+        4,
+        3,
     ),
     // the same two rows twice, with a gap
     (

@@ -1,11 +1,13 @@
 //! Stacks that are walked, with registers and memory made by hand.
+use cfi_compiled::CompiledTable;
 use cfi_expression::{AddressSize, FrameError, Window};
-use cfi_step::{Abi, End, LoadedModule, Modules, Process, StackFrame, Walk, unwind};
+use cfi_step::{Abi, End, LoadedModule, LoadedTable, Modules, Process, StackFrame, Walk, unwind};
 use cfi_tests_bytes::bytes_of;
 use gimli_cfi::{
     BaseAddresses, EhFrame, EndianSlice, Error, LittleEndian, Register, UnwindContext, Vendor,
 };
 use std::alloc::Global;
+use std::process::Abort;
 use std::test::Fail;
 
 /// Two CIEs (CFA r7+8, r16 saved at CFA-8), of which the second is of signal trampolines; and FDEs:
@@ -154,9 +156,11 @@ const CASES: [Case; 9] = [
     ),
 ];
 
-/// Walks from a pc: r6 is 0x7100, r7 the stack pointer 0x7000, and r16 the pc.
+/// Walks from a pc: r6 is 0x7100, r7 the stack pointer 0x7000, and r16 the pc. The module has a
+/// compiled table if there is a bias, at which it is then loaded.
 fn walked(
     alloc: Global,
+    bias: Option<u64>,
     pc: u64,
     memory: &[u8],
     frames: &mut [StackFrame],
@@ -164,12 +168,16 @@ fn walked(
     let bytes = bytes_of(alloc, SECTION)?;
     let mut section = EhFrame::new(bytes.as_slice(), LittleEndian);
     section.set_vendor(Vendor::AArch64);
+    let bases = BaseAddresses::default();
+    let table = CompiledTable::new(alloc, &section, &bases)?;
+    let rows = &table;
     let modules = [LoadedModule {
-        start: 0x1000,
-        end: 0x6000,
+        start: bias.unwrap_or(0).wrapping_add(0x1000),
+        end: bias.unwrap_or(0).wrapping_add(0x6000),
         frame: section,
         header: None,
-        bases: BaseAddresses::default(),
+        bases,
+        compiled: bias.map(|bias| LoadedTable { rows, bias }),
     }];
     let memory = Window {
         base: 0x7000,
@@ -195,13 +203,20 @@ fn walked(
     Ok((walk, [three(&registers), three(&caller)]))
 }
 
+/// By a scan of the section, and by its compiled table.
 #[test]
 fn walks(rt: HostRuntime) -> Result<(), Fail> {
+    check_walks(&rt, rt.alloc(), None)?;
+    check_walks(&rt, rt.alloc(), Some(0))
+}
+
+fn check_walks(rt: &impl Abort, alloc: Global, bias: Option<u64>) -> Result<(), Fail> {
     for (pc, room, text, written, count, end, left) in &CASES {
-        let memory = bytes_of(rt.alloc(), text)?;
+        let memory = bytes_of(alloc, text)?;
         let mut frames = [NOTHING, NOTHING];
         let walk = walked(
-            rt.alloc(),
+            alloc,
+            bias,
             *pc,
             memory.as_slice(),
             &mut frames[..(*room).min(2)],
@@ -216,6 +231,27 @@ fn walks(rt: HostRuntime) -> Result<(), Fail> {
     Ok(())
 }
 
+/// A file that is loaded elsewhere, by the table of its own addresses.
+#[test]
+fn loaded_at_a_bias(rt: HostRuntime) -> Result<(), Fail> {
+    let memory = bytes_of(rt.alloc(), "6600000000000000 0820004000000000")?;
+    let mut frames = [NOTHING, NOTHING];
+    let (walk, _left) = walked(
+        rt.alloc(),
+        Some(0x4000_0000),
+        0x4000_1001,
+        memory.as_slice(),
+        &mut frames,
+    )?;
+    let written = [
+        (0x4000_1001, true, Some(0x7010)),
+        (0x4000_2008, false, Some(0x7018)),
+    ];
+    let all = [shown(&frames[0]), shown(&frames[1])];
+    assert_eq!(rt; (all, walk.count, walk.end), (written, 2, End::Outermost));
+    Ok(())
+}
+
 /// However much of the stack was copied, a word of it is read whole or not at all.
 #[test]
 fn memory_cut_at_every_length(rt: HostRuntime) -> Result<(), Fail> {
@@ -224,7 +260,7 @@ fn memory_cut_at_every_length(rt: HostRuntime) -> Result<(), Fail> {
         let mut frames = [NOTHING, NOTHING];
         let whole = memory.as_slice();
         let cut = &whole[..length.min(whole.len())];
-        let (walk, _left) = walked(rt.alloc(), 0x1001, cut, &mut frames)?;
+        let (walk, _left) = walked(rt.alloc(), None, 0x1001, cut, &mut frames)?;
         let refused = End::Failed(FrameError::UnreadableMemory(0x7008));
         assert_eq!(rt; (walk.count, walk.end), (1, refused), "{length}");
     }

@@ -6,7 +6,7 @@ use std::test::Fail;
 /// The first address of a module's code, and the first one after it.
 type Code = (u64, u64);
 
-type Module = LoadedModule<EndianSlice<'static, LittleEndian>>;
+type Module = LoadedModule<'static, EndianSlice<'static, LittleEndian>>;
 
 fn module(code: Code) -> Module {
     LoadedModule {
@@ -15,6 +15,7 @@ fn module(code: Code) -> Module {
         frame: EhFrame::new(&[], LittleEndian),
         header: None,
         bases: BaseAddresses::default(),
+        compiled: None,
     }
 }
 

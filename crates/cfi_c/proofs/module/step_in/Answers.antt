@@ -16,4 +16,4 @@ returns-clause-step c =
     })
     c.abi_of.result c.row_address-address.result c.step_in_module.result c.step_in_module.new.caller
     (λ i. record { registers = c.args.registers.now; memory = number_in (c.memory_of-memory.ensures.bytes i) (c.memory_of-memory.ensures.base i); size = c.new.ensures i })
-    c.abi_of.ensures c.row_address-address.ensures c.loaded_of-loaded.ensures.bytes c.loaded_of-loaded.ensures.section c.loaded_of-loaded.ensures.header c.step_in_module.ensures.step
+    c.abi_of.ensures c.row_address-address.ensures c.loaded_of-loaded.ensures.bytes c.loaded_of-loaded.ensures.section c.loaded_of-loaded.ensures.header c.loaded_of-loaded.ensures.compiled c.step_in_module.ensures.step
