@@ -2,6 +2,7 @@
 //! expected rows and instructions are readelf's.
 use crate::bytes::{LITTLE_64, changed};
 use cfi_files::{Finding, Printed, Request, check_file, run_on_file};
+use cfi_programs::style::Format;
 use cfi_tests_bytes::bytes_of;
 use std::io;
 use std::io::{ErrorKind, Read, Write};
@@ -108,6 +109,37 @@ refused NoUnwindInfoForAddress
 no address
 ";
 
+/// The same as lines of JSON.
+const ALL_ROWS_JSON: &str = "{\"section\":\".eh_frame\"}
+{\"fde\":{\"start\":\"0x4000b0\",\"end\":\"0x4000b6\",\"function\":\"pushes\"}}
+{\"start\":\"0x4000b0\",\"end\":\"0x4000b1\",\"cfa\":\"rsp+8\",\"args\":0,\
+\"rules\":{\"ra\":\"offset(-8)\"}}
+{\"start\":\"0x4000b1\",\"end\":\"0x4000b4\",\"cfa\":\"rsp+16\",\"args\":0,\
+\"rules\":{\"rbp\":\"offset(-16)\",\"ra\":\"offset(-8)\"}}
+{\"start\":\"0x4000b4\",\"end\":\"0x4000b5\",\"cfa\":\"rbp+16\",\"args\":0,\
+\"rules\":{\"rbp\":\"offset(-16)\",\"ra\":\"offset(-8)\"}}
+{\"start\":\"0x4000b5\",\"end\":\"0x4000b6\",\"cfa\":\"rsp+8\",\"args\":0,\
+\"rules\":{\"rbp\":\"offset(-16)\",\"ra\":\"offset(-8)\"}}
+{\"section\":\".debug_frame\"}
+{\"fde\":{\"start\":\"0x4000b6\",\"end\":\"0x4000b8\",\"function\":\"waits\"}}
+{\"start\":\"0x4000b6\",\"end\":\"0x4000b8\",\"cfa\":\"rsp+8\",\"args\":0,\
+\"rules\":{\"ra\":\"offset(-8)\"}}
+";
+
+const ROWS_OF_WORDS_JSON: &str = "\
+{\"start\":\"0x4000b0\",\"end\":\"0x4000b1\",\"cfa\":\"rsp+8\",\"args\":0,\
+\"rules\":{\"ra\":\"offset(-8)\"}}
+{\"start\":\"0x4000b5\",\"end\":\"0x4000b6\",\"cfa\":\"rsp+8\",\"args\":0,\
+\"rules\":{\"rbp\":\"offset(-16)\",\"ra\":\"offset(-8)\"}}
+{\"start\":\"0x4000b6\",\"end\":\"0x4000b8\",\"cfa\":\"rsp+8\",\"args\":0,\
+\"rules\":{\"ra\":\"offset(-8)\"}}
+{\"start\":\"0x4000b6\",\"end\":\"0x4000b8\",\"cfa\":\"rsp+8\",\"args\":0,\
+\"rules\":{\"ra\":\"offset(-8)\"}}
+{\"error\":\"NoUnwindInfoForAddress\"}
+{\"error\":\"NoUnwindInfoForAddress\"}
+{\"error\":\"no address\"}
+";
+
 const TABLE: &str = ".eh_frame
 0x0 refused NoUnwindInfoForAddress
 0x4000b0 cfa=rsp+8 args=0 ra=offset(-8)
@@ -188,12 +220,13 @@ fn answers<R: Read>(
 /// Compares what is printed of the check of the input, and what was found.
 fn finds<R: Read>(
     rt: &(impl Abort + AllocGlobal),
+    format: Format,
     input: &mut R,
     text: &str,
     finding: Finding,
 ) -> Result<(), Fail> {
     let mut output = Vec::new(rt.alloc());
-    let found = check_file(rt.alloc(), "a file", input, &mut output)?;
+    let found = check_file(rt.alloc(), format, "a file", input, &mut output)?;
     assert_eq!(rt;
         (str::from_utf8(output.as_slice()), found),
         (Ok(text), finding)
@@ -205,19 +238,37 @@ fn finds<R: Read>(
 fn rows(rt: HostRuntime) -> Result<(), Fail> {
     let bytes = bytes_of(rt.alloc(), FILE)?;
     let bytes = bytes.as_slice();
-    prints(&rt, Printed::Row(&WORDS), &mut &*bytes, ROWS_OF_WORDS, 1)?;
-    prints(&rt, Printed::Row(&WORDS[..4]), &mut &*bytes, FOUND_ROWS, 0)?;
-    prints(&rt, Printed::Rows(None), &mut &*bytes, ALL_ROWS, 0)?;
     prints(
         &rt,
-        Printed::Rows(Some("waits+1")),
+        Printed::Row(&WORDS, Format::Text),
+        &mut &*bytes,
+        ROWS_OF_WORDS,
+        1,
+    )?;
+    prints(
+        &rt,
+        Printed::Row(&WORDS[..4], Format::Text),
+        &mut &*bytes,
+        FOUND_ROWS,
+        0,
+    )?;
+    prints(
+        &rt,
+        Printed::Rows(None, Format::Text),
+        &mut &*bytes,
+        ALL_ROWS,
+        0,
+    )?;
+    prints(
+        &rt,
+        Printed::Rows(Some("waits+1"), Format::Text),
         &mut &*bytes,
         ROWS_OF_WAITS,
         0,
     )?;
     prints(
         &rt,
-        Printed::Rows(Some("sleeps")),
+        Printed::Rows(Some("sleeps"), Format::Text),
         &mut &*bytes,
         "no address\n",
         1,
@@ -244,7 +295,7 @@ fn names_of_registers(rt: HostRuntime) -> Result<(), Fail> {
     for (machine, text) in &MACHINES {
         let bytes = changed(rt.alloc(), FILE, &[(18, *machine)])?;
         let bytes = bytes.as_slice();
-        let printed = Printed::Row(&["waits"]);
+        let printed = Printed::Row(&["waits"], Format::Text);
         prints(&rt, printed, &mut &*bytes, text, 0)?;
         let raw = true;
         answers(&rt, Request { printed, raw }, &mut &*bytes, numbers, 0)?;
@@ -256,20 +307,74 @@ fn names_of_registers(rt: HostRuntime) -> Result<(), Fail> {
 fn checks(rt: HostRuntime) -> Result<(), Fail> {
     let bytes = bytes_of(rt.alloc(), FILE)?;
     let faithful = Finding::Faithful;
-    finds(&rt, &mut bytes.as_slice(), "a file: faithful 1\n", faithful)?;
+    let text = Format::Text;
+    let line = "a file: faithful 1\n";
+    finds(&rt, text, &mut bytes.as_slice(), line, faithful)?;
     // The first address of the table's row is one above that of `pushes`.
     let changed = changed(rt.alloc(), FILE, &[(0xc4, 0xf9)])?;
     let no_row = "a file: FDE 0x18: no row starts at 0x4000b0 and leads to it\n";
-    finds(&rt, &mut changed.as_slice(), no_row, Finding::Unfaithful)?;
+    finds(
+        &rt,
+        text,
+        &mut changed.as_slice(),
+        no_row,
+        Finding::Unfaithful,
+    )?;
     let cut = bytes.get(..63).unwrap_or_default();
     finds(
         &rt,
+        text,
         &mut &*cut,
         "a file: refused HeaderCut\n",
         Finding::NoTable,
     )?;
     let failing = &mut FailsAfter(bytes.as_slice());
-    finds(&rt, failing, "a file: wrong input\n", Finding::Unreadable)
+    let line = "a file: wrong input\n";
+    finds(&rt, text, failing, line, Finding::Unreadable)
+}
+
+const FAITHFUL_JSON: &str = "{\"file\":\"a file\",\"result\":\"faithful\",\"rows\":1}
+";
+
+const NO_ROW_JSON: &str = "{\"file\":\"a file\",\"result\":\"unfaithful\",\
+\"reason\":\"FDE 0x18: no row starts at 0x4000b0 and leads to it\"}
+";
+
+const CUT_JSON: &str = "{\"file\":\"a file\",\"result\":\"no table\",\
+\"reason\":\"refused HeaderCut\"}
+";
+
+const WRONG_INPUT_JSON: &str = "{\"file\":\"a file\",\"result\":\"unreadable\",\
+\"reason\":\"wrong input\"}
+";
+
+#[test]
+fn checks_in_json(rt: HostRuntime) -> Result<(), Fail> {
+    let bytes = bytes_of(rt.alloc(), FILE)?;
+    let bytes = bytes.as_slice();
+    let json = Format::Json;
+    finds(&rt, json, &mut &*bytes, FAITHFUL_JSON, Finding::Faithful)?;
+    let changed = changed(rt.alloc(), FILE, &[(0xc4, 0xf9)])?;
+    let unfaithful = Finding::Unfaithful;
+    finds(&rt, json, &mut changed.as_slice(), NO_ROW_JSON, unfaithful)?;
+    let cut = bytes.get(..63).unwrap_or_default();
+    finds(&rt, json, &mut &*cut, CUT_JSON, Finding::NoTable)?;
+    let failing = &mut FailsAfter(bytes);
+    finds(&rt, json, failing, WRONG_INPUT_JSON, Finding::Unreadable)
+}
+
+#[test]
+fn rows_in_json(rt: HostRuntime) -> Result<(), Fail> {
+    let bytes = bytes_of(rt.alloc(), FILE)?;
+    let bytes = bytes.as_slice();
+    let words = Printed::Row(&WORDS, Format::Json);
+    prints(&rt, words, &mut &*bytes, ROWS_OF_WORDS_JSON, 1)?;
+    let all = Printed::Rows(None, Format::Json);
+    prints(&rt, all, &mut &*bytes, ALL_ROWS_JSON, 0)?;
+    let cut = bytes.get(..3).unwrap_or_default();
+    prints(&rt, all, &mut &*cut, "{\"error\":\"NotElf\"}\n", 1)?;
+    let failing = &mut FailsAfter(bytes);
+    prints(&rt, all, failing, "{\"error\":\"wrong input\"}\n", 2)
 }
 
 #[test]
@@ -282,7 +387,7 @@ fn files_that_cannot_be_read(rt: HostRuntime) -> Result<(), Fail> {
     let without = changed(rt.alloc(), LITTLE_64, &[])?;
     prints(
         &rt,
-        Printed::Row(&["sleeps"]),
+        Printed::Row(&["sleeps"], Format::Text),
         &mut without.as_slice(),
         "no address\n",
         1,
@@ -297,7 +402,7 @@ fn outputs_that_fail(rt: HostRuntime) -> Result<(), Fail> {
         let printed = run_on_file(
             rt.alloc(),
             Request {
-                printed: Printed::Rows(None),
+                printed: Printed::Rows(None, Format::Text),
                 raw: false,
             },
             &mut bytes.as_slice(),
@@ -328,7 +433,7 @@ fn files_cut_at_every_length(rt: HostRuntime) -> Result<(), Fail> {
     for (first, last, text) in &CUT {
         for count in *first..=*last {
             let cut = bytes.get(..count).unwrap_or_default();
-            prints(&rt, Printed::Rows(None), &mut &*cut, text, 1)?;
+            prints(&rt, Printed::Rows(None, Format::Text), &mut &*cut, text, 1)?;
         }
     }
     Ok(())

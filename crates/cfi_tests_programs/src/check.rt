@@ -5,6 +5,7 @@ ghost use Rattle.gimli_cfi.specs.Words.{IsAddressSize};
 
 use cfi_programs::check::output_line::write_verdict;
 use cfi_programs::check::table_check::{Verdict, check};
+use cfi_programs::style::Format;
 use cfi_programs::words::{Kind, SectionWords};
 use cfi_tests_bytes::bytes_of;
 use gimli_cfi::{RunTimeEndian, Vendor};
@@ -125,7 +126,7 @@ fn verdict_on(
 /// Compares the line of a verdict, and its status.
 fn expect_line(rt: &(impl Abort + AllocGlobal), verdict: Verdict, line: &str) -> Result<(), Fail> {
     let mut output = Vec::new(rt.alloc());
-    let status = write_verdict(&mut output, verdict)?;
+    let status = write_verdict(&mut output, Format::Text, verdict)?;
     let whole = format!(in rt.alloc(); "{line}\n")?;
     assert_eq!(rt;
         (str::from_utf8(output.as_slice()), status),
@@ -253,7 +254,7 @@ impl Write for Failing {
 
 /// The status of a verdict written to an output that takes so many bytes; `None` where it fails.
 fn written(verdict: Verdict, room: usize) -> Option<u8> {
-    write_verdict(&mut Failing { room }, verdict).ok()
+    write_verdict(&mut Failing { room }, Format::Text, verdict).ok()
 }
 
 /// Writes the verdict to outputs that take each number of bytes.

@@ -5,6 +5,7 @@ use cfi_elf::FunctionNames;
 use cfi_programs::dump::print::{print_bytes, print_rows};
 use cfi_programs::dump::{AskedRows, Printed};
 use cfi_programs::register_names::RegisterNames;
+use cfi_programs::style::{Format, Style};
 use cfi_programs::words::{Kind, SectionWords};
 use cfi_tests_bytes::bytes_of;
 use gimli_cfi::{RunTimeEndian, Vendor};
@@ -235,17 +236,29 @@ const ADDRESSES: [(Option<u64>, &str); 4] = [
     (Some(0x1020), ""),
 ];
 
-/// Compares the rows of `THREE_ROWS` that are printed at an address, and the status.
+/// Lines of text, with registers by number.
+const PLAIN: Style = Style {
+    names: RegisterNames::Numbers,
+    format: Format::Text,
+};
+
+/// Compares the rows that are printed at an address, and the status.
 fn prints_rows(
     rt: &(impl Abort + AllocGlobal),
-    names: RegisterNames,
+    style: Style,
+    digits: &str,
     address: Option<u64>,
     functions: &FunctionNames<'_>,
     text: &str,
 ) -> Result<(), Fail> {
-    let bytes = bytes_of(rt.alloc(), THREE_ROWS)?;
+    let bytes = bytes_of(rt.alloc(), digits)?;
     let section = bytes.as_slice();
-    let asked = AskedRows { address, functions };
+    let Style { names, format } = style;
+    let asked = AskedRows {
+        address,
+        functions,
+        format,
+    };
     let mut output = Vec::new(rt.alloc());
     let status = print_rows(rt.alloc(), names, asked, &DEBUG_FRAME, section, &mut output)?;
     expect(rt, output.as_slice(), status, text)
@@ -255,7 +268,7 @@ fn prints_rows(
 fn rows_of_fdes(rt: HostRuntime) -> Result<(), Fail> {
     let functions = FunctionNames::none(rt.alloc());
     for (address, text) in &ADDRESSES {
-        prints_rows(&rt, RegisterNames::Numbers, *address, &functions, text)?;
+        prints_rows(&rt, PLAIN, THREE_ROWS, *address, &functions, text)?;
     }
     Ok(())
 }
@@ -270,11 +283,66 @@ const THREE_ROWS_NAMED: &str = "fde 0x1000 0x1020
 #[test]
 fn rows_with_names(rt: HostRuntime) -> Result<(), Fail> {
     let functions = FunctionNames::none(rt.alloc());
-    prints_rows(
-        &rt,
-        RegisterNames::X86_64,
-        None,
-        &functions,
-        THREE_ROWS_NAMED,
-    )
+    let names = RegisterNames::X86_64;
+    let style = Style { names, ..PLAIN };
+    prints_rows(&rt, style, THREE_ROWS, None, &functions, THREE_ROWS_NAMED)
+}
+
+/// The rows of the FDE as lines of JSON.
+const THREE_ROWS_JSON: &str = "{\"fde\":{\"start\":\"0x1000\",\"end\":\"0x1020\"}}
+{\"start\":\"0x1000\",\"end\":\"0x1001\",\"cfa\":\"r7+8\",\"args\":0,\"rules\":{\"r16\":\"offset(-8)\"}}
+{\"start\":\"0x1001\",\"end\":\"0x1004\",\"cfa\":\"r7+16\",\"args\":0,\"rules\":{\"r6\":\"offset(-16)\",\
+\"r16\":\"offset(-8)\"}}
+{\"start\":\"0x1004\",\"end\":\"0x1020\",\"cfa\":\"r6+16\",\"args\":0,\"rules\":{\"r6\":\"offset(-16)\",\
+\"r16\":\"offset(-8)\"}}
+";
+
+/// A state that was never remembered is restored, and the argument size is 2^53.
+const REFUSED_IN_JSON: &str = "10000000 ffffffff 04000800 017810 0c0708 9001 \
+    1f000000 00000000 0010000000000000 2000000000000000 0b 2e8080808080808010 41";
+
+const REFUSED_JSON: &str = "{\"fde\":{\"start\":\"0x1000\",\"end\":\"0x1020\"}}
+{\"error\":\"PopWithEmptyStack\"}
+{\"start\":\"0x1000\",\"end\":\"0x1001\",\"cfa\":\"r7+8\",\"args\":\"9007199254740992\",\"rules\":{\
+\"r16\":\"offset(-8)\"}}
+{\"start\":\"0x1001\",\"end\":\"0x1020\",\"cfa\":\"r7+8\",\"args\":\"9007199254740992\",\"rules\":{\
+\"r16\":\"offset(-8)\"}}
+";
+
+/// A row of rules that are as long as rules may be without an expression.
+const LONG_RULES: &str = "10000000 ffffffff 04000800 017810 0c0708 9001 \
+    6c000000 00000000 0010000000000000 2000000000000000 \
+    1500808080808080808070 1501808080808080808070 1502808080808080808070 \
+    1503808080808080808070 1504808080808080808070 1505808080808080808070 \
+    1506808080808080808070 1507808080808080808070";
+
+const LONG_RULES_JSON: &str = "{\"fde\":{\"start\":\"0x1000\",\"end\":\"0x1020\"}}
+{\"start\":\"0x1000\",\"end\":\"0x1020\",\"cfa\":\"r7+8\",\"args\":0,\"rules\":{\
+\"r0\":\"val_offset(-9223372036854775808)\",\
+\"r1\":\"val_offset(-9223372036854775808)\",\
+\"r2\":\"val_offset(-9223372036854775808)\",\
+\"r3\":\"val_offset(-9223372036854775808)\",\
+\"r4\":\"val_offset(-9223372036854775808)\",\
+\"r5\":\"val_offset(-9223372036854775808)\",\
+\"r6\":\"val_offset(-9223372036854775808)\",\
+\"r7\":\"val_offset(-9223372036854775808)\",\
+\"r16\":\"offset(-8)\"}}
+";
+
+/// Sections, and their rows as lines of JSON.
+const IN_JSON: [(&str, &str); 3] = [
+    (THREE_ROWS, THREE_ROWS_JSON),
+    (REFUSED_IN_JSON, REFUSED_JSON),
+    (LONG_RULES, LONG_RULES_JSON),
+];
+
+#[test]
+fn rows_in_json(rt: HostRuntime) -> Result<(), Fail> {
+    let functions = FunctionNames::none(rt.alloc());
+    let format = Format::Json;
+    let style = Style { format, ..PLAIN };
+    for (digits, text) in &IN_JSON {
+        prints_rows(&rt, style, digits, None, &functions, text)?;
+    }
+    Ok(())
 }
