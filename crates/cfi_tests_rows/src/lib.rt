@@ -1,11 +1,13 @@
-//! Tests of rows, over both readers and both storages. The expected values are those of the
-//! standards, or were worked out by hand.
+//! Tests of rows, over both readers and both storages, and of the header's calls. The expected
+//! values are those of the standards, or were worked out by hand.
 #![tactic(auto)]
 
 #[cfg(test)]
 mod cuts;
 #[cfg(test)]
 mod derives;
+#[cfg(test)]
+mod header;
 #[cfg(test)]
 mod own_section;
 #[cfg(test)]

@@ -1,9 +1,9 @@
 //! The checks that take a context, which is made here once for all of them: what makes one takes
 //! longer to prove than most of them.
-use crate::asked::{a_scan_asks_once_an_fde, a_table_asks_once};
-use crate::counted::{starts_are_read_by_halving, what_each_call_reads};
-use crate::cuts::headers_cut_at_every_length;
-use crate::searches::{dishonest_tables, table_and_scan_agree};
+use crate::header::asked::{a_scan_asks_once_an_fde, a_table_asks_once};
+use crate::header::counted::{starts_are_read_by_halving, what_each_call_reads};
+use crate::header::cuts::headers_cut_at_every_length;
+use crate::header::searches::{dishonest_tables, table_and_scan_agree};
 use gimli_cfi::{BigEndian, LittleEndian, StoreOnHeap, UnwindContext, UnwindContextStorage};
 use std::process::Abort;
 use std::test::Fail;

@@ -2,7 +2,7 @@
 //!
 //! The contracts of calls that take the closure by value say nothing of its last state, so the
 //! counts are tested here.
-use crate::searches::{HEADER, SECTION, Shown, bases, read_header, shown, table_of};
+use crate::header::searches::{HEADER, SECTION, Shown, bases, read_header, shown, table_of};
 use gimli_cfi::{
     BaseAddresses, CommonInformationEntry, DebugFrame, DebugFrameOffset, EhFrame, EhHdrTable,
     EndianSlice, Error, FrameDescriptionEntry, LittleEndian, Reader, ReaderOffsetId, UnwindContext,

@@ -1,5 +1,5 @@
 //! Headers of `.eh_frame_hdr`, and the rows of their tables.
-use crate::searches::{HEADER, Slice, read_header, table_of};
+use crate::header::searches::{HEADER, Slice, read_header, table_of};
 use gimli_cfi::{
     BaseAddresses, BigEndian, DwEhPe, EhFrameHdr, EhHdrTable, EhHdrTableIter, EndianSlice, Error,
     LittleEndian, NarrowSlice, Pointer, Reader, ReaderOffsetId, Section, SectionId,

@@ -2,8 +2,8 @@
 ghost use Rattle.std.specs.Ordering.{on};
 ghost use Rattle.std.specs.Cmp.{on_per, on_equiv};
 
-use crate::asked::{fde_by_table, row_by_cies};
-use crate::searches::{HEADER, Listed, SECTION, Slice, bases, read_header, table_of};
+use crate::header::asked::{fde_by_table, row_by_cies};
+use crate::header::searches::{HEADER, Listed, SECTION, Slice, bases, read_header, table_of};
 use gimli_cfi::{
     EhFrame, EhFrameHdr, EhFrameOffset, EhHdrTable, EndianSlice, Error, FaithfulTable,
     LittleEndian, Reader, StartSource, TableStarts, UnwindContext, UnwindContextStorage,

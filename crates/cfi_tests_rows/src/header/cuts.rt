@@ -1,5 +1,5 @@
 //! Headers that are cut at every length: the error of parsing one, or of a search in its table.
-use crate::searches::read_header;
+use crate::header::searches::read_header;
 use cfi_tests_bytes::{bytes_of, ended};
 use gimli_cfi::{
     BaseAddresses, DwEhPe, EndianSlice, Endianity, Error, NarrowSlice, Pointer, Reader,

@@ -1,6 +1,6 @@
 //! Tables of `.eh_frame_hdr` that list the FDEs of their section faithfully, and the faults of
 //! others.
-use crate::searches::{Shown, bases, read_header, shown, table_of};
+use crate::header::searches::{Shown, bases, read_header, shown, table_of};
 use cfi_tests_bytes::joined;
 use gimli_cfi::{
     DwEhPe, EhFrame, EndianSlice, Error, FaithfulTable, LittleEndian, ParsedEhFrameHdr, Reader,

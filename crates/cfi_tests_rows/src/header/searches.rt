@@ -2,8 +2,8 @@
 ghost use Rattle.std.specs.Prelude.{ok_or, slice_get};
 ghost use Rattle.gimli_cfi.specs.Words.{NoUnwindInfoForAddress};
 
-use crate::asked::row_by_cies;
-use crate::faithful::row_by_checked_table;
+use crate::header::asked::row_by_cies;
+use crate::header::faithful::row_by_checked_table;
 use gimli_cfi::{
     ArrayLike, BaseAddresses, CallCount, CfaRule, DwEhPe, EhFrame, EhFrameHdr, EhFrameOffset,
     EhHdrTable, EndianSlice, Error, LittleEndian, NarrowSlice, ParsedEhFrameHdr, Pointer, Reader,
