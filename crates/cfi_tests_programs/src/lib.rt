@@ -1,11 +1,13 @@
 //! Tests of what the programs print, over memory: whole runs of `cfi_rows` with its test vectors,
 //! wrong words and input, cut sections, failing input and output; verdicts on faithful tables and
-//! on each fault of others; printed sections.
+//! on each fault of others; printed sections. Tests of ELF files.
 #![tactic(auto)]
 
 #[cfg(test)]
 mod check;
 #[cfg(test)]
 mod dump;
+#[cfg(test)]
+mod elf;
 #[cfg(test)]
 mod rows;

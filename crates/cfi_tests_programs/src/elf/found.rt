@@ -1,5 +1,5 @@
 //! What is found in the four files.
-use crate::bytes::{BIG_32, BIG_64, LITTLE_32, LITTLE_64, changed};
+use super::bytes::{BIG_32, BIG_64, LITTLE_32, LITTLE_64, changed};
 use cfi_elf::{Class, ElfError, ElfFile, FunctionNames, Section};
 use cfi_read_core::{RunTimeEndian, Vendor};
 use std::process::Abort;

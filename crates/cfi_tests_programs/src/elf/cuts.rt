@@ -1,6 +1,6 @@
 //! Files that are cut at every length: the error of the header, or those of a section and of a
 //! segment.
-use crate::bytes::{BIG_32, BIG_64, LITTLE_32, LITTLE_64, changed};
+use super::bytes::{BIG_32, BIG_64, LITTLE_32, LITTLE_64, changed};
 use cfi_elf::{ElfError, ElfFile, Section};
 use std::test::Fail;
 

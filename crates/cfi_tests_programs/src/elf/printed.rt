@@ -1,6 +1,6 @@
 //! What is printed of a file with a function in each of `.eh_frame` and `.debug_frame`. The
 //! expected rows and instructions are readelf's.
-use crate::bytes::{LITTLE_64, changed};
+use super::bytes::{LITTLE_64, changed};
 use cfi_files::{Finding, Printed, Request, check_file, run_on_file};
 use cfi_programs::style::Format;
 use cfi_tests_bytes::bytes_of;

@@ -1,5 +1,5 @@
 //! Each error, by bytes of a file that are changed.
-use crate::bytes::{LITTLE_64, changed};
+use super::bytes::{LITTLE_64, changed};
 use cfi_elf::{ElfError, ElfFile};
 use std::process::Abort;
 use std::test::Fail;
