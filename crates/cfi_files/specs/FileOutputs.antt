@@ -13,14 +13,14 @@ use Rattle.cfi_elf.specs.ElfFiles.{File, elf_file}
 use Rattle.cfi_read_core.specs.RefusalNames.{name_of}
 use Rattle.cfi_read_core.specs.declared.error.Error.TheVariants.{OutOfMemory}
 use Rattle.cfi_elf.specs.FunctionNames.{function_name, name_in}
+use Rattle.cfi_entry.specs.Sections.{Section}
 use Rattle.cfi_programs.specs.Lines.{Line}
 use Rattle.cfi_programs.specs.Words.{texts}
 use Rattle.cfi_programs.specs.SectionOfWords.{header_section_of, section_of}
 use Rattle.cfi_programs.specs.declared.check.table_check.Verdict.{Verdict}
 use Rattle.cfi_programs.specs.CheckVerdicts.{IsVerdict}
 use Rattle.cfi_programs.specs.CheckLines.{verdict_line}
-use Rattle.cfi_programs.specs.declared.dump.printed.Printed.{Printed as SectionPrinted}
-use Rattle.cfi_programs.specs.declared.dump.printed.Printed.TheVariants as sections
+use Rattle.cfi_programs.specs.declared.dump.printed.Printed.TheVariants as listed
 use Rattle.cfi_programs.specs.DumpProgramOutput.{IsPrinted, format_of}
 use Rattle.cfi_programs.specs.declared.register_names.RegisterNames.{RegisterNames}
 use Rattle.cfi_programs.specs.declared.style.Format.{Format}
@@ -32,7 +32,10 @@ use Rattle.cfi_files.specs.declared.request.Printed.TheVariants.{Row, Rows, Dump
 use Rattle.cfi_files.specs.declared.finding.Finding.{Finding}
 use Rattle.cfi_files.specs.declared.finding.Finding.TheVariants.{NoTable, Unreadable}
 use Rattle.cfi_files.specs.Findings.{ChecksSome, finding_of, found_line}
+use Rattle.cfi_files.specs.declared.sections.SectionPrinted.{SectionPrinted}
+use Rattle.cfi_files.specs.declared.sections.SectionPrinted.TheVariants as sections
 use Rattle.cfi_files.specs.CallFrames.{Frames}
+use Rattle.cfi_files.specs.CompiledTexts.{IsCompiledText}
 use Rattle.cfi_files.specs.FileLines.{IsUnder, InTurn, PrintsSome, elf_refusal, file_label, no_address, no_call_frames, out_of_memory, section_line, wrong_input}
 use Rattle.cfi_files.specs.Found.{debug_frame_in, eh_frame_in}
 use Rattle.cfi_files.specs.RowOutputs.{AreWordLines}
@@ -41,18 +44,28 @@ use Rattle.cfi_files.specs.Targets.{target_address}
 
 -- ---- sections
 
+-- the form of the lines
+abbrev pub section_format : SectionPrinted → Format
+section_format (sections.Listed printed) = format_of printed
+section_format sections.Compiled = Text
+
+-- of a section
+abbrev pub IsOfSection : RegisterNames → SectionPrinted → Section → Line → Type 0
+IsOfSection names (sections.Listed what) section printed = IsPrinted names what section printed
+IsOfSection names sections.Compiled section printed = IsCompiledText names section printed
+
 -- what is printed of a section
 abbrev pub IsPart : RegisterNames → SectionPrinted → Result Frames ElfError → Line → Type 0
-IsPart names what (Ok frames) printed = IsPrinted names what (section_of frames.words frames.section) printed
-IsPart names what (Err e) printed = printed ≡ elf_refusal (format_of what) e
+IsPart names what (Ok frames) printed = IsOfSection names what (section_of frames.words frames.section) printed
+IsPart names what (Err e) printed = printed ≡ elf_refusal (section_format what) e
 
 -- that of .eh_frame and of .debug_frame, where there are both each under a line with its name
 abbrev pub AreParts : RegisterNames → SectionPrinted → Option (Result Frames ElfError) → Option (Result Frames ElfError) → Line → Type 0
-AreParts names what None None printed = printed ≡ no_call_frames (format_of what)
+AreParts names what None None printed = printed ≡ no_call_frames (section_format what)
 AreParts names what (Some eh_frame) None printed = IsPart names what eh_frame printed
 AreParts names what None (Some debug_frame) printed = IsPart names what debug_frame printed
 AreParts names what (Some eh_frame) (Some debug_frame) printed =
-    InTurn (IsUnder (section_line (format_of what) (codes ".eh_frame")) (IsPart names what eh_frame)) (IsUnder (section_line (format_of what) (codes ".debug_frame")) (IsPart names what debug_frame)) printed
+    InTurn (IsUnder (section_line (section_format what) (codes ".eh_frame")) (IsPart names what eh_frame)) (IsUnder (section_line (section_format what) (codes ".debug_frame")) (IsPart names what debug_frame)) printed
 
 abbrev pub AreSections : RegisterNames → SectionPrinted → File → Line → Type 0
 AreSections names what file printed = AreParts names what (eh_frame_in file) (debug_frame_in file) printed
@@ -104,7 +117,7 @@ AreNamesOf file functions = (address : ℕ) → name_in functions address ≡ fu
 
 abbrev pub AreNamedRows : Style → File → Option ℕ → Line → Type 0
 AreNamedRows style file address printed =
-    (functions : Bor FunctionNames) × AreNamesOf file functions.now × AreSections style.names (sections.Rows (record { address = address; functions = functions; format = style.format })) file printed
+    (functions : Bor FunctionNames) × AreNamesOf file functions.now × AreSections style.names (sections.Listed (listed.Rows (record { address = address; functions = functions; format = style.format }))) file printed
 
 -- or that memory was refused for these
 abbrev pub AreFdeRows : Style → File → Option ℕ → Line → Type 0
@@ -137,7 +150,7 @@ styled names format = record { names = names; format = format }
 abbrev pub IsNamed : RegisterNames → Printed → File → Line → Type 0
 IsNamed names (Row words format) file printed = AreWordLines (styled names format) file (texts words.now) printed
 IsNamed names (Rows word format) file printed = AreRows (styled names format) file word printed
-IsNamed names Dump file printed = AreSections names sections.Entries file printed
+IsNamed names Dump file printed = AreSections names (sections.Listed listed.Entries) file printed
 IsNamed names Table file printed = AreSections names sections.Compiled file printed
 
 abbrev pub IsOfFile : Request → File → Line → Type 0

@@ -5,4 +5,5 @@ pub mod FileLines
 pub mod Found
 pub mod RowOutputs
 pub mod Findings
+pub mod CompiledTexts
 pub mod FileOutputs

@@ -1,9 +1,10 @@
 #![tactic(auto)]
 //! What is printed of the call frames of an ELF file: its sections of call frames with their
-//! addresses (`call_frames`), the addresses that words name in it (`target`), and the output for
-//! the bytes of a file (`run`).
+//! addresses (`call_frames`), their compiled tables (`compiled`), the addresses that words name in
+//! it (`target`), and the output for the bytes of a file (`run`).
 
 pub mod call_frames;
+pub mod compiled;
 pub mod finding;
 mod lines;
 pub mod machine_names;

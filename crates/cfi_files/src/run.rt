@@ -11,10 +11,10 @@ use crate::lines::{write_elf_refusal, write_wrong_input};
 use crate::machine_names::names_in;
 use crate::request::{Printed, Request};
 use crate::row::print_words;
-use crate::sections::{print_rows, print_sections};
+use crate::sections::{SectionPrinted, print_rows, print_sections};
 use crate::table_check::check_table;
 use cfi_elf::ElfFile;
-use cfi_programs::dump::Printed as SectionPrinted;
+use cfi_programs::dump::Printed as Listed;
 use cfi_programs::input::{InputError, read_all};
 use cfi_programs::json::write_escaped;
 use cfi_programs::lines::{write_between, write_refusal_in, write_text};
@@ -87,7 +87,10 @@ fn print_file<W: Write>(
         Printed::Rows(word, format) => {
             print_rows(alloc, Style { names, format }, word, file, output)
         }
-        Printed::Dump => print_sections(alloc, names, SectionPrinted::Entries, file, output),
+        Printed::Dump => {
+            let entries = SectionPrinted::Listed(Listed::Entries);
+            print_sections(alloc, names, entries, file, output)
+        }
         Printed::Table => print_sections(alloc, names, SectionPrinted::Compiled, file, output),
     }
 }

@@ -2,16 +2,20 @@
 ghost use Rattle.std.specs.Prelude.{◌≡◌, IfOk, IfSome, option_map};
 ghost use Rattle.cfi_read_core.specs.ReaderCalls.{map_ok};
 ghost use Rattle.cfi_elf.specs.ElfFiles.{file_view};
+ghost use Rattle.cfi_programs.specs.Lines.{Line};
+ghost use Rattle.cfi_programs.specs.SectionOfWords.{section_of};
 ghost use Rattle.cfi_programs.specs.Words.{AreRead};
+ghost use Rattle.cfi_programs.specs.WriterOutput.{Prints};
 ghost use Rattle.cfi_files.specs.CallFrames.{frames_view};
-ghost use Rattle.cfi_programs.specs.DumpProgramOutput.{format_of};
 ghost use Rattle.cfi_files.specs.FileLines.{InTurn, IsUnder, PrintsSome, section_line};
 ghost use Rattle.cfi_files.specs.FileOutputs.{AreFdeRows, AreNamedRows, AreNamesOf, AreParts};
-ghost use Rattle.cfi_files.specs.FileOutputs.{AreRows, AreRowsAt, AreSections, IsPart};
+ghost use Rattle.cfi_files.specs.FileOutputs.{AreRows, AreRowsAt, AreSections, IsOfSection};
+ghost use Rattle.cfi_files.specs.FileOutputs.{IsPart, section_format};
 ghost use Rattle.cfi_files.specs.Found.{debug_frame_in, eh_frame_in};
 ghost use Rattle.cfi_files.specs.Targets.{target_address};
 
 use crate::call_frames::{CallFrames, debug_frame, eh_frame};
+use crate::compiled::print_compiled;
 use crate::lines::{write_elf_refusal, write_no_address, write_no_call_frames, write_section_name};
 use crate::target::target_address;
 use cfi_elf::{ElfError, ElfFile, FunctionNames};
@@ -19,11 +23,32 @@ use cfi_programs::dump::print::print_bytes;
 use cfi_programs::dump::{AskedRows, Printed};
 use cfi_programs::lines::write_refusal_in;
 use cfi_programs::register_names::RegisterNames;
-use cfi_programs::style::Style;
+use cfi_programs::style::{Format, Style};
 use gimli_cfi::Error;
 use std::alloc::Global;
 use std::io;
 use std::io::Write;
+
+/// What is printed of each section.
+#[derive(Clone, Copy)]
+pub enum SectionPrinted<'names> {
+    /// Its entries, or the rows of its FDEs.
+    Listed(Printed<'names>),
+    /// The rows for all addresses, by a compiled table, as lines of text.
+    Compiled,
+}
+
+impl SectionPrinted<'_> {
+    /// Returns the form of the lines.
+    fn format(self) -> Format
+        ensures { result ≡ section_format self.entry }
+    {
+        match self {
+            SectionPrinted::Listed(printed) => printed.format(),
+            SectionPrinted::Compiled => Format::Text,
+        }
+    }
+}
 
 /// The section `.eh_frame`, or the error in its place; `None` where the file has no such section.
 pub fn eh_frame_part<'file>(file: &ElfFile<'file>) -> Option<Result<CallFrames<'file>, ElfError>>
@@ -51,7 +76,7 @@ pub fn debug_frame_part<'file>(file: &ElfFile<'file>) -> Option<Result<CallFrame
 pub fn print_sections<W: Write>(
     alloc: Global,
     names: RegisterNames,
-    printed: Printed<'_>,
+    printed: SectionPrinted<'_>,
     file: &ElfFile<'_>,
     output: &mut W,
 ) -> io::Result<u8>
@@ -143,14 +168,15 @@ fn print_named_rows<W: Write>(
         functions,
         format: style.format,
     };
-    print_sections(alloc, style.names, Printed::Rows(asked), file, output)
+    let printed = SectionPrinted::Listed(Printed::Rows(asked));
+    print_sections(alloc, style.names, printed, file, output)
 }
 
 /// Prints both sections, each after a line with its name, and returns the greater status.
 fn print_both<W: Write>(
     alloc: Global,
     names: RegisterNames,
-    printed: Printed<'_>,
+    printed: SectionPrinted<'_>,
     eh_frame: Result<CallFrames<'_>, ElfError>,
     debug_frame: Result<CallFrames<'_>, ElfError>,
     output: &mut W,
@@ -172,12 +198,12 @@ fn print_under<W: Write>(
     alloc: Global,
     names: RegisterNames,
     name: &[u8],
-    printed: Printed<'_>,
+    printed: SectionPrinted<'_>,
     part: Result<CallFrames<'_>, ElfError>,
     output: &mut W,
 ) -> io::Result<u8>
     requires { IfOk part (λ frames. AreRead frames.words) }
-    ensures { PrintsSome (λ line. IsUnder (section_line (format_of printed.entry) name.now)
+    ensures { PrintsSome (λ line. IsUnder (section_line (section_format printed.entry) name.now)
         (λ body. IsPart names printed.entry (map_ok frames_view part.entry) body) line)
         (W.contents output.old) (W.contents output.new) result }
 {
@@ -189,7 +215,7 @@ fn print_under<W: Write>(
 fn print_part<W: Write>(
     alloc: Global,
     names: RegisterNames,
-    printed: Printed<'_>,
+    printed: SectionPrinted<'_>,
     part: Result<CallFrames<'_>, ElfError>,
     output: &mut W,
 ) -> io::Result<u8>
@@ -198,7 +224,30 @@ fn print_part<W: Write>(
         (W.contents output.old) (W.contents output.new) result }
 {
     match part {
-        Ok(frames) => print_bytes(alloc, names, printed, &frames.words, frames.section, output),
+        Ok(frames) => print_section(alloc, names, printed, &frames, output),
         Err(error) => write_elf_refusal(output, printed.format(), error),
+    }
+}
+
+/// Prints what is asked for of a section.
+fn print_section<W: Write>(
+    alloc: Global,
+    names: RegisterNames,
+    printed: SectionPrinted<'_>,
+    frames: &CallFrames<'_>,
+    output: &mut W,
+) -> io::Result<u8>
+    requires { AreRead frames.now.words }
+    ensures { (line : Line) × Prints line (W.contents output.old) (W.contents output.new) result
+        × IsOfSection names printed.entry
+        (section_of frames.now.words frames.now.section.now) line }
+{
+    match printed {
+        SectionPrinted::Listed(printed) => {
+            print_bytes(alloc, names, printed, &frames.words, frames.section, output)
+        }
+        SectionPrinted::Compiled => {
+            print_compiled(alloc, names, &frames.words, frames.section, output)
+        }
     }
 }

@@ -22,7 +22,6 @@ pub mod DumpRowsWritten
 pub mod ReadingsWritten
 pub mod DumpInstructionsWritten
 pub mod DumpSectionWritten
-pub mod DumpCompiledWritten
 mod DumpPrinted
 mod FunctionLineLemmas
 mod EscapedLemmas

@@ -1,7 +1,6 @@
 -- Which output is right for a whole section.
-use Rattle.std.specs.Prelude.{◌≡◌, ◌⊎◌, ℕ, Some, List}
+use Rattle.std.specs.Prelude.{◌≡◌, ◌⊎◌, ℕ, List}
 use Rattle.cfi_entry.specs.Sections.{Section}
-use Rattle.cfi_compiled.specs.CompiledTables.{TableContents, IsCompiled, steps_of}
 use Rattle.cfi_elf.specs.FunctionNames.{name_in}
 use Rattle.cfi_read_core.specs.declared.error.Error.TheVariants.{OutOfMemory}
 use Rattle.cfi_programs.specs.Lines.{Line, refusal_in}
@@ -10,7 +9,6 @@ use Rattle.cfi_programs.specs.declared.style.Format.TheVariants.{Text as AsText}
 use Rattle.cfi_programs.specs.declared.register_names.RegisterNames.{RegisterNames}
 use Rattle.cfi_programs.specs.declared.dump.printed.Printed.{Printed}
 use Rattle.cfi_programs.specs.declared.dump.printed.Printed.TheVariants as printing
-use Rattle.cfi_programs.specs.DumpCompiledTexts.{steps_text}
 use Rattle.cfi_programs.specs.DumpRowTexts.{rows_text, style_of}
 use Rattle.cfi_programs.specs.DumpSectionTexts.{section_text}
 
@@ -18,19 +16,15 @@ use Rattle.cfi_programs.specs.DumpSectionTexts.{section_text}
 abbrev pub format_of : Printed → Format
 format_of printing.Entries = AsText
 format_of (printing.Rows asked) = asked.format
-format_of printing.Compiled = AsText
 
 -- a text of any number of lines, with the status
 abbrev pub text_output : List ℕ → Line
 text_output text = record { text = text; status = 0 }
 
--- the entries and rows of the section; or the rows of its FDEs; or the steps of a table that has for every address what
--- the scan gives, in a storage of 192 rules and 4 rows
+-- the entries and rows of the section; or the rows of its FDEs
 abbrev pub IsOutput : RegisterNames → Printed → Section → Line → Type 0
 IsOutput names printing.Entries section printed = printed ≡ text_output (section_text names section)
 IsOutput names (printing.Rows asked) section printed = printed ≡ text_output (rows_text (style_of names asked) (name_in asked.functions.now) asked.address section)
-IsOutput names printing.Compiled section printed =
-    (table : TableContents) × IsCompiled (Some 192) (Some 4) section table × (printed ≡ text_output (steps_text names (steps_of table)))
 
 -- the same, or that memory was refused
 abbrev pub IsPrinted : RegisterNames → Printed → Section → Line → Type 0

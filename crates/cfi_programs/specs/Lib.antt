@@ -20,5 +20,4 @@ pub mod DumpEntryLines
 pub mod DumpInstructionLines
 pub mod DumpSectionTexts
 pub mod DumpRowTexts
-pub mod DumpCompiledTexts
 pub mod DumpProgramOutput

@@ -1,8 +1,7 @@
-//! What is printed of a whole section: its entries with their instructions and rows, the rows of
-//! its FDEs, or those of its compiled table.
+//! What is printed of a whole section: its entries with their instructions and rows, or the rows
+//! of its FDEs.
 
 mod addressed_rows;
-mod compiled;
 mod entry_line;
 mod function_line;
 mod instruction_line;

@@ -345,7 +345,7 @@ fn write_rising<W: Write>(
 }
 
 /// What has rules of registers.
-pub(crate) trait HasRules {
+pub trait HasRules {
     /// What it says.
     ghost parts: { Self → Parts ℕ };
 
@@ -377,7 +377,7 @@ impl<A: ArrayLike<Item = (Register, RegisterRule<usize>)>> HasRules for UnwindTa
 }
 
 /// Appends the rules, each looked up by its number. Writes the text where it is long.
-pub(crate) fn write_by_number<W: Write, H: HasRules>(
+pub fn write_by_number<W: Write, H: HasRules>(
     output: &mut W,
     text: &mut Text,
     names: RegisterNames,
@@ -399,7 +399,7 @@ pub(crate) fn write_by_number<W: Write, H: HasRules>(
 }
 
 /// Returns the number after that of the register.
-pub(crate) fn number_behind(register: Register) -> u32
+pub fn number_behind(register: Register) -> u32
     ensures number { result ≡ register.0 + 1 }
     ensures within { result ≤ 65536 }
 {

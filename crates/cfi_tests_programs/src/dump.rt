@@ -2,6 +2,7 @@
 ghost use Rattle.cfi_programs.specs.Words.{AreRead};
 
 use cfi_elf::FunctionNames;
+use cfi_files::compiled::print_compiled;
 use cfi_programs::dump::print::{print_bytes, print_rows};
 use cfi_programs::dump::{AskedRows, Printed};
 use cfi_programs::register_names::RegisterNames;
@@ -205,8 +206,12 @@ fn each_instruction(rt: HostRuntime) -> Result<(), Fail> {
 
 #[test]
 fn a_compiled_table(rt: HostRuntime) -> Result<(), Fail> {
-    let compiled = Printed::Compiled;
-    prints(&rt, compiled, &DEBUG_FRAME, THREE_ROWS, THREE_ROWS_COMPILED)
+    let alloc = rt.alloc();
+    let bytes = bytes_of(alloc, THREE_ROWS)?;
+    let mut output = Vec::new(alloc);
+    let numbers = RegisterNames::Numbers;
+    let status = print_compiled(alloc, numbers, &DEBUG_FRAME, bytes.as_slice(), &mut output)?;
+    expect(&rt, output.as_slice(), status, THREE_ROWS_COMPILED)
 }
 
 #[test]

@@ -3,23 +3,19 @@ ghost use Rattle.std.specs.Prelude.{◌≡◌, ℕ, List};
 ghost use Rattle.cfi_read_core.specs.ByteOrder.{is_big};
 ghost use Rattle.cfi_read_core.specs.ReaderCalls.{all_of};
 ghost use Rattle.cfi_entry.specs.Sections.{section_of};
-ghost use Rattle.cfi_compiled.specs.CompiledTables.{steps_of};
 ghost use Rattle.cfi_programs.specs.Lines.{Line};
 ghost use Rattle.cfi_programs.specs.SectionOfWords.{section_of as section_of_words};
 ghost use Rattle.cfi_programs.specs.Words.{AreRead};
 ghost use Rattle.cfi_programs.specs.WriterOutput.{Prints};
-ghost use Rattle.cfi_programs.specs.DumpCompiledTexts.{steps_text};
 ghost use Rattle.cfi_programs.specs.DumpProgramOutput.{IsPrinted, text_output};
 ghost use Rattle.cfi_programs.specs.DumpRowTexts.{listed_text};
-ghost use Rattle.cfi_programs.specs.declared.dump.printed.Printed.TheVariants.{Compiled, Rows};
+ghost use Rattle.cfi_programs.specs.declared.dump.printed.Printed.TheVariants.{Rows};
 
-use crate::dump::compiled::write_steps;
 use crate::dump::printed::{AskedRows, Printed};
 use crate::dump::section::{Listed, write_section};
-use crate::lines::{write_refusal, write_refusal_in};
+use crate::lines::write_refusal_in;
 use crate::register_names::RegisterNames;
 use crate::words::{Kind, SectionWords};
-use cfi_compiled::CompiledTable;
 use gimli_cfi::{
     _UnwindSectionPrivate, BaseAddresses, DebugFrame, EhFrame, EndianSlice, Reader, UnwindContext,
     UnwindSection,
@@ -31,10 +27,10 @@ use std::io::Write;
 /// Prints what is asked for of the section that these bytes are, of the kind and at the addresses
 /// that the words give, and returns the status.
 ///
-/// Status 0: the section is printed, as `write_section` says, or the steps of its compiled table,
-/// as `write_steps` says. Status 1: `refused OutOfMemory`. Fails where the output can't be written.
+/// Status 0: the section is printed, as `write_section` says. Status 1: `refused OutOfMemory`.
+/// Fails where the output can't be written.
 ///
-/// Allocates one context and a compiled table. Printing does not allocate.
+/// Allocates one context. Printing does not allocate.
 pub fn print_bytes<W: Write>(
     alloc: Global,
     names: RegisterNames,
@@ -50,7 +46,7 @@ pub fn print_bytes<W: Write>(
     match UnwindContext::<usize>::new(alloc) {
         Ok(mut context) => {
             let reader = EndianSlice::new(bytes, words.endian);
-            print_read(alloc, output, names, printed, words, reader, &mut context)
+            print_read(output, names, printed, words, reader, &mut context)
         }
         Err(error) => write_refusal_in(output, printed.format(), error),
     }
@@ -81,7 +77,6 @@ pub fn print_rows<W: Write>(
 
 /// Prints the section that a reader has.
 fn print_read<R: Reader<Offset = usize>, W: Write>(
-    alloc: Global,
     output: &mut W,
     names: RegisterNames,
     printed: Printed<'_>,
@@ -101,20 +96,19 @@ fn print_read<R: Reader<Offset = usize>, W: Write>(
             let mut frame = DebugFrame::from(reader);
             frame.set_address_size(words.address_size);
             frame.set_vendor(words.vendor);
-            print_section(alloc, output, names, printed, &frame, &bases, context)
+            print_section(output, names, printed, &frame, &bases, context)
         }
         Kind::EhFrame => {
             let mut frame = EhFrame::from(reader);
             frame.set_address_size(words.address_size);
             frame.set_vendor(words.vendor);
-            print_section(alloc, output, names, printed, &frame, &bases, context)
+            print_section(output, names, printed, &frame, &bases, context)
         }
     }
 }
 
 /// Prints what is asked for of the section, and returns the status.
 fn print_section<R: Reader<Offset = usize>, S: UnwindSection<R>, W: Write>(
-    alloc: Global,
     output: &mut W,
     names: RegisterNames,
     printed: Printed<'_>,
@@ -130,7 +124,6 @@ fn print_section<R: Reader<Offset = usize>, S: UnwindSection<R>, W: Write>(
         Printed::Rows(asked) => {
             print_listed(output, names, Listed::Rows(asked), section, bases, context)
         }
-        Printed::Compiled => print_compiled(alloc, output, names, section, bases, context),
     }
 }
 
@@ -148,36 +141,5 @@ fn print_listed<R: Reader<Offset = usize>, S: UnwindSection<R>, W: Write>(
         (W.contents output.old) (W.contents output.new) result }
 {
     write_section(output, names, listed, section, bases, context)?;
-    Ok(0)
-}
-
-/// Prints the steps of the compiled table of the section, and returns the status.
-fn print_compiled<R: Reader<Offset = usize>, S: UnwindSection<R>, W: Write>(
-    alloc: Global,
-    output: &mut W,
-    names: RegisterNames,
-    section: &S,
-    bases: &BaseAddresses,
-    context: &mut UnwindContext<usize>,
-) -> io::Result<u8>
-    ensures { (line : Line) × Prints line (W.contents output.old) (W.contents output.new) result
-        × IsPrinted names Compiled (section_of (S.view section.now) bases.now) line }
-{
-    match CompiledTable::with_context(alloc, section, bases, context) {
-        Ok(table) => print_steps(output, names, &table),
-        Err(error) => write_refusal(output, error),
-    }
-}
-
-/// Prints the steps of the table, and returns the status 0.
-fn print_steps<W: Write>(
-    output: &mut W,
-    names: RegisterNames,
-    table: &CompiledTable,
-) -> io::Result<u8>
-    ensures { Prints (text_output (steps_text names (steps_of table.now)))
-        (W.contents output.old) (W.contents output.new) result }
-{
-    write_steps(output, names, table)?;
     Ok(0)
 }

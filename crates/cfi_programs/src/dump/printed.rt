@@ -25,8 +25,6 @@ pub enum Printed<'names> {
     /// For each FDE a line with its addresses and the name of the function that begins there, and
     /// its rows.
     Rows(AskedRows<'names>),
-    /// The rows for all addresses, by a compiled table, as lines of text.
-    Compiled,
 }
 
 impl Printed<'_> {
@@ -37,7 +35,6 @@ impl Printed<'_> {
         match self {
             Printed::Rows(asked) => asked.format,
             Printed::Entries => Format::Text,
-            Printed::Compiled => Format::Text,
         }
     }
 }

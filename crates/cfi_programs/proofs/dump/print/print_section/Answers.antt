@@ -13,6 +13,3 @@ returns-in-Entries g c = rw c.in-Entries.is
 pub returns-in-Rows : goal.returns-in-Rows
 returns-in-Rows g c = rw c.in-Rows.is
     (text_output (rows_text (style_of c.args.names c.in-Rows.asked) (name_in c.in-Rows.asked.functions.now) c.in-Rows.asked.address (section_of (g.S._UnwindSectionPrivate.view c.args.section.now) c.args.bases.now)), c.print_listed-in-Rows.ensures, inl refl)
-
-pub returns-in-Compiled : goal.returns-in-Compiled
-returns-in-Compiled g c = rw c.in-Compiled.is c.print_compiled.ensures

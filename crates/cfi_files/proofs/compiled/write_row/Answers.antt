@@ -1,8 +1,8 @@
 use Rattle.std.proofs.Common.{◌≡◌, ◌∙◌, refl, [], ◌∷◌, ◌++◌}
 use Rattle.cfi_compiled.specs.CompiledRows.{parts_kept}
-use Rattle.cfi_programs.specs.DumpCompiledTexts.{step_head}
+use Rattle.cfi_files.specs.CompiledTexts.{step_head}
 use Rattle.cfi_programs.proofs.WrittenLemmas.{given_first, given_part, line_begun, line_given, writes_last, writes_refused}
-use Rattle.cfi_programs.proofs.dump.compiled.write_row.Goals as goal
+use Rattle.cfi_files.proofs.compiled.write_row.Goals as goal
 
 pub returns-in_err-push_frame : goal.returns-in_err-push_frame
 returns-in_err-push_frame g c = writes_refused _ _ _ _ c.from_residual-in_err-push_frame.ensures.0 (given_part _ _ _ _ (given_first _ _))

@@ -2,7 +2,7 @@
 use Rattle.std.proofs.Common.{◌≡◌, List, [], ◌∷◌, ◌++◌, ap}
 use Rattle.cfi_compiled.specs.FrameParts.{parts_of_frame}
 use Rattle.cfi_compiled.specs.Steps.{Step}
-use Rattle.cfi_programs.specs.DumpCompiledTexts.{step_text, steps_text}
+use Rattle.cfi_files.specs.CompiledTexts.{step_text, steps_text}
 use Rattle.cfi_programs.specs.declared.register_names.RegisterNames.{RegisterNames}
 
 pub one_more : (names : RegisterNames) (before after : List Step) (step : Step) → before ≡ step ∷ after → steps_text names before ≡ step_text names step.start (parts_of_frame step.frame) ++ steps_text names after

@@ -4,8 +4,8 @@ use Rattle.cfi_compiled.specs.declared.row.CompiledRow.{CompiledRow}
 use Rattle.cfi_compiled.specs.CompiledRows.{frame_lent}
 use Rattle.cfi_compiled.specs.FrameParts.{parts_of_frame}
 use Rattle.cfi_programs.specs.WriterOutput.{Writes}
-use Rattle.cfi_programs.specs.DumpCompiledTexts.{step_text}
-use Rattle.cfi_programs.proofs.dump.compiled.write_step.Goals as goal
+use Rattle.cfi_files.specs.CompiledTexts.{step_text}
+use Rattle.cfi_files.proofs.compiled.write_step.Goals as goal
 
 pub returns-in-Err : goal.returns-in-Err
 returns-in-Err g c =

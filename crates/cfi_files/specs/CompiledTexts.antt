@@ -1,14 +1,20 @@
 -- What is printed of a compiled table.
+--     IsCompiledText names section line      the steps of a table of the section, or that memory was refused
 --     step_text names start parts      the line of a step: its first address, and what it has
 --     steps_text names steps      a line for each step
-use Rattle.std.specs.Prelude.{ℕ, List, [], ◌∷◌, ◌++◌, Result, Ok, Err, codes, flat_map}
+use Rattle.std.specs.Prelude.{◌≡◌, ◌⊎◌, ℕ, List, [], ◌∷◌, ◌++◌, Some, Result, Ok, Err, codes, flat_map}
 use Rattle.std.specs.Fmt.{decimal}
 use Rattle.cfi_read_core.specs.declared.error.Error.{Error}
+use Rattle.cfi_read_core.specs.declared.error.Error.TheVariants.{OutOfMemory}
 use Rattle.cfi_read_core.specs.RefusalNames.{name_of}
 use Rattle.cfi_state.specs.Machine.{Parts}
+use Rattle.cfi_entry.specs.Sections.{Section}
+use Rattle.cfi_compiled.specs.CompiledTables.{TableContents, IsCompiled, steps_of}
 use Rattle.cfi_compiled.specs.FrameParts.{parts_of_frame}
 use Rattle.cfi_compiled.specs.Steps.{Step}
-use Rattle.cfi_programs.specs.Lines.{address_text}
+use Rattle.cfi_programs.specs.DumpProgramOutput.{text_output}
+use Rattle.cfi_programs.specs.Lines.{Line, address_text, refusal_in}
+use Rattle.cfi_programs.specs.declared.style.Format.TheVariants.{Text}
 use Rattle.cfi_programs.specs.RowLines.{cfa_text, parts_rules}
 use Rattle.cfi_programs.specs.declared.register_names.RegisterNames.{RegisterNames}
 
@@ -25,3 +31,11 @@ step_text names start (Err error) = error_text start error
 
 unfoldable pub steps_text : RegisterNames → List Step → List ℕ
 steps_text names steps = flat_map (λ step. step_text names step.start (parts_of_frame step.frame)) steps
+
+-- the steps of a table that has for every address what the scan gives, in a storage of 192 rules and 4 rows
+abbrev pub AreStepsOf : RegisterNames → Section → Line → Type 0
+AreStepsOf names section printed =
+    (table : TableContents) × IsCompiled (Some 192) (Some 4) section table × (printed ≡ text_output (steps_text names (steps_of table)))
+
+abbrev pub IsCompiledText : RegisterNames → Section → Line → Type 0
+IsCompiledText names section printed = AreStepsOf names section printed ⊎ (printed ≡ refusal_in Text OutOfMemory)

@@ -6,7 +6,7 @@ use Rattle.cfi_state.specs.RulePairs.{rules_of}
 use Rattle.cfi_state.specs.declared.table.rules.RegisterRule.{RegisterRule}
 use Rattle.cfi_state.specs.declared.table.rules.RegisterRule.TheVariants.{Undefined}
 use Rattle.cfi_programs.proofs.RowLineLemmas.{get_behind, get_of_none}
-use Rattle.cfi_programs.proofs.dump.compiled.CompiledRowHasRules.end.Goals as goal
+use Rattle.cfi_files.proofs.compiled.TableRowHasRules.end.Goals as goal
 
 abbrev nothing : Register × RegisterRule ℕ
 nothing = (record { 0 = 0 }, Undefined)

@@ -2,10 +2,10 @@ use Rattle.std.proofs.Common.{subst}
 use Rattle.cfi_compiled.specs.CompiledTables.{steps_of}
 use Rattle.cfi_compiled.specs.FrameParts.{parts_of_frame}
 use Rattle.cfi_compiled.specs.TableSteps.{step_view, steps_left}
-use Rattle.cfi_programs.specs.DumpCompiledTexts.{step_text, steps_text}
-use Rattle.cfi_programs.proofs.DumpCompiledWritten.{none_left, one_more}
+use Rattle.cfi_files.specs.CompiledTexts.{step_text, steps_text}
+use Rattle.cfi_files.proofs.CompiledWritten.{none_left, one_more}
 use Rattle.cfi_programs.proofs.WrittenLemmas.{IsGiven, beginning_then, given_all, given_then, writes_refused}
-use Rattle.cfi_programs.proofs.dump.compiled.write_steps.Goals as goal
+use Rattle.cfi_files.proofs.compiled.write_steps.Goals as goal
 
 pub loop-step-preserved : goal.loop-step-preserved
 loop-step-preserved g c =

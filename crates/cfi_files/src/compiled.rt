@@ -1,0 +1,176 @@
+//! The compiled table of a section: its steps, a line each.
+ghost use Rattle.std.specs.Prelude.{◌≡◌, ◌≤◌, ℕ, None, Ok};
+ghost use Rattle.std.specs.FinMap as map;
+ghost use Rattle.cfi_entry.specs.Sections.{section_of};
+ghost use Rattle.cfi_compiled.specs.CompiledRows.{parts_kept};
+ghost use Rattle.cfi_compiled.specs.CompiledTables.{steps_of};
+ghost use Rattle.cfi_compiled.specs.FrameParts.{parts_of_frame};
+ghost use Rattle.cfi_compiled.specs.TableSteps.{step_view};
+ghost use Rattle.cfi_programs.specs.DumpProgramOutput.{text_output};
+ghost use Rattle.cfi_programs.specs.Lines.{Line};
+ghost use Rattle.cfi_programs.specs.SectionOfWords.{section_of as section_of_words};
+ghost use Rattle.cfi_programs.specs.Words.{AreRead};
+ghost use Rattle.cfi_programs.specs.WriterOutput.{Prints, Writes};
+ghost use Rattle.cfi_files.specs.CompiledTexts.{IsCompiledText, error_text, step_text};
+ghost use Rattle.cfi_files.specs.CompiledTexts.{steps_text};
+
+use cfi_compiled::{CompiledRow, CompiledStep, CompiledTable};
+use cfi_programs::lines::{Address, write_part, write_refusal, write_text};
+use cfi_programs::register_names::RegisterNames;
+use cfi_programs::row_line::{HasRules, number_behind, push_frame, write_by_number};
+use cfi_programs::text::{Text, push, push_address};
+use cfi_programs::words::{Kind, SectionWords};
+use gimli_cfi::{
+    _UnwindSectionPrivate, BaseAddresses, DebugFrame, EhFrame, EndianSlice, Error, Reader,
+    Register, RegisterRule, UnwindSection,
+};
+use std::alloc::Global;
+use std::io;
+use std::io::Write;
+
+/// Prints the rows for all addresses, by the compiled table of the section that these bytes are, of
+/// the kind and at the addresses that the words give, and returns the status.
+///
+/// Status 0: the steps of the table are printed, as `write_steps` says. Status 1: `refused
+/// OutOfMemory`. Fails where the output can't be written.
+///
+/// Allocates a context and the table. Printing does not allocate.
+pub fn print_compiled<W: Write>(
+    alloc: Global,
+    names: RegisterNames,
+    words: &SectionWords,
+    bytes: &[u8],
+    output: &mut W,
+) -> io::Result<u8>
+    requires { AreRead words.now }
+    ensures { (line : Line) × Prints line (W.contents output.old) (W.contents output.new) result
+        × IsCompiledText names (section_of_words words.now bytes.now) line }
+{
+    let reader = EndianSlice::new(bytes, words.endian);
+    let bases = words.bases();
+    match words.kind {
+        Kind::DebugFrame => {
+            let mut frame = DebugFrame::from(reader);
+            frame.set_address_size(words.address_size);
+            frame.set_vendor(words.vendor);
+            print_table(alloc, names, &frame, &bases, output)
+        }
+        Kind::EhFrame => {
+            let mut frame = EhFrame::from(reader);
+            frame.set_address_size(words.address_size);
+            frame.set_vendor(words.vendor);
+            print_table(alloc, names, &frame, &bases, output)
+        }
+    }
+}
+
+/// Prints the steps of the compiled table of the section, and returns the status.
+fn print_table<R: Reader<Offset = usize>, S: UnwindSection<R>, W: Write>(
+    alloc: Global,
+    names: RegisterNames,
+    section: &S,
+    bases: &BaseAddresses,
+    output: &mut W,
+) -> io::Result<u8>
+    ensures { (line : Line) × Prints line (W.contents output.old) (W.contents output.new) result
+        × IsCompiledText names (section_of (S.view section.now) bases.now) line }
+{
+    match CompiledTable::new(alloc, section, bases) {
+        Ok(table) => print_steps(names, &table, output),
+        Err(error) => write_refusal(output, error),
+    }
+}
+
+/// Prints the steps of the table, and returns the status 0.
+fn print_steps<W: Write>(
+    names: RegisterNames,
+    table: &CompiledTable,
+    output: &mut W,
+) -> io::Result<u8>
+    ensures { Prints (text_output (steps_text names (steps_of table.now)))
+        (W.contents output.old) (W.contents output.new) result }
+{
+    write_steps(output, names, table)?;
+    Ok(0)
+}
+
+/// Writes a line for each step of the table, in the order of their addresses: the first address,
+/// and the CFA, the argument size and the rules from there up to the next step; or `refused` and
+/// the name of the error.
+pub fn write_steps<W: Write>(
+    output: &mut W,
+    names: RegisterNames,
+    table: &CompiledTable,
+) -> io::Result<()>
+    ensures { Writes (W.contents output.old) (W.contents output.new) result
+        (steps_text names (steps_of table.now)) }
+{
+    for step in table.iter() {
+        write_step(output, names, &step)?;
+    }
+    Ok(())
+}
+
+/// Writes the line of a step.
+fn write_step<W: Write>(
+    output: &mut W,
+    names: RegisterNames,
+    step: &CompiledStep<'_>,
+) -> io::Result<()>
+    ensures { let viewed = step_view step.now in
+        Writes (W.contents output.old) (W.contents output.new) result
+        (step_text names viewed.start (parts_of_frame viewed.frame)) }
+{
+    match step.row {
+        Ok(row) => write_row(output, names, step.start, &row),
+        Err(error) => write_error(output, step.start, error),
+    }
+}
+
+/// Writes the line of a step that has a row, its registers in ascending order.
+fn write_row<W: Write>(
+    output: &mut W,
+    names: RegisterNames,
+    start: u64,
+    row: &CompiledRow<'_>,
+) -> io::Result<()>
+    ensures { Writes (W.contents output.old) (W.contents output.new) result
+        (step_text names start (Ok (parts_kept row.now))) }
+{
+    let mut text = Text::new();
+    push_address(&mut text, start)?;
+    push_frame(&mut text, names, *row.cfa(), row.saved_args_size())?;
+    write_by_number(output, &mut text, names, &TableRow(row))?;
+    push(&mut text, b"\n")?;
+    write_text(output, text.as_slice())
+}
+
+/// Writes the line of a step that has an error.
+fn write_error<W: Write>(output: &mut W, start: u64, error: Error) -> io::Result<()>
+    ensures { Writes (W.contents output.old) (W.contents output.new) result
+        (error_text start error) }
+{
+    let start = Address(start);
+    let name = error.name();
+    write_part(output, format_args!("{start} refused {name}\n"))
+}
+
+/// A row of a table, whose rules are written.
+#[derive(Drop)]
+struct TableRow<'row, 'table>(&'row CompiledRow<'table>);
+
+impl HasRules for TableRow<'_, '_> {
+    ghost parts = { λ row. parts_kept row.0.now };
+
+    fn rule(&self, register: Register) -> Option<RegisterRule<usize>> {
+        self.0.register(register)
+    }
+
+    fn end(&self) -> u32 {
+        let mut end = 0u32;
+        for pair in self.0.registers() {
+            end = end.max(number_behind(pair.0));
+        }
+        end
+    }
+}
