@@ -10,3 +10,4 @@ mod CodeLemmas
 mod FileLemmas
 mod RunLemmas
 mod StackLemmas
+mod ReadLemmas

@@ -153,10 +153,10 @@ fn is_file_name(name: &[u8]) -> bool
 }
 
 /// The files that were opened. Fails where memory is refused.
-pub fn profile_files<'run>(
+pub fn profile_files<'opened>(
     alloc: Global,
-    opened: &'run [OpenedFile<'run>],
-) -> Result<Vec<ProfileFile<'run>>, AllocError>
+    opened: &'opened [OpenedFile<'_>],
+) -> Result<Vec<ProfileFile<'opened>>, AllocError>
     ensures { IfOk result (λ files. map known_view files.items
         ≡ files_of (map opened_view opened.now)) }
 {
@@ -168,10 +168,10 @@ pub fn profile_files<'run>(
 }
 
 /// A file that was opened.
-fn profile_file<'run>(
+fn profile_file<'opened>(
     alloc: Global,
-    opened: &'run OpenedFile<'run>,
-) -> Result<ProfileFile<'run>, AllocError>
+    opened: &'opened OpenedFile<'_>,
+) -> Result<ProfileFile<'opened>, AllocError>
     ensures { IfOk result (λ file. known_view file ≡ file_of (opened_view opened.now)) }
 {
     let code = match &opened.bytes {

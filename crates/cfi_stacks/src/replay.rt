@@ -50,7 +50,7 @@ impl<'a, 'run> Replay<'a, 'run> {
     /// Follows a record. Before a sample, the modules are made those of its process.
     ///
     /// Fails where memory is refused.
-    pub fn follow(&mut self, record: &Record<'run>) -> Result<(), AllocError>
+    pub fn follow(&mut self, record: &Record<'_>) -> Result<(), AllocError>
         ensures processes { OnOk result ((pid : ℕ) → replayed self.new pid
             ≡ after (files_in self.old) (record_view record.now).event (replayed self.old) pid) }
         ensures modules { OnOk result
@@ -89,7 +89,7 @@ impl<'a, 'run> Replay<'a, 'run> {
     }
 
     /// A file is mapped.
-    fn map(&mut self, mapping: &Mapping<'run>) -> Result<(), AllocError>
+    fn map(&mut self, mapping: &Mapping<'_>) -> Result<(), AllocError>
         ensures processes { OnOk result ((pid : ℕ) → replayed self.new pid
             ≡ after (files_in self.old) (MappingEvent (mapping_view mapping.now))
             (replayed self.old) pid) }
@@ -101,7 +101,7 @@ impl<'a, 'run> Replay<'a, 'run> {
     }
 
     /// A thread has a new name, and perhaps runs another program.
-    fn run(&mut self, program: &Program<'run>)
+    fn run(&mut self, program: &Program<'_>)
         ensures processes { (pid : ℕ) → replayed self.new pid
             ≡ after (files_in self.old) (ProgramEvent (program_view program.now))
             (replayed self.old) pid }
@@ -124,7 +124,7 @@ impl<'a, 'run> Replay<'a, 'run> {
     }
 
     /// Where the file is mapped, up to the last address at most.
-    fn mapped(&self, mapping: &Mapping<'run>) -> MappedCode
+    fn mapped(&self, mapping: &Mapping<'_>) -> MappedCode
         ensures { result ≡ mapped_code (files_in self.now) (mapping_view mapping.now) }
     {
         MappedCode {
@@ -136,7 +136,7 @@ impl<'a, 'run> Replay<'a, 'run> {
     }
 
     /// Which of the files is mapped; `None` where it isn't mapped as code.
-    fn object_of(&self, mapping: &Mapping<'run>) -> Option<usize>
+    fn object_of(&self, mapping: &Mapping<'_>) -> Option<usize>
         ensures { result ≡ object_of (files_in self.now) (mapping_view mapping.now) }
     {
         if mapping.is_executable {

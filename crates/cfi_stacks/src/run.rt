@@ -196,12 +196,12 @@ fn print_sorted<O: Opener, W: Write>(
 }
 
 /// Opens the files of these names, and prints the stacks of the records.
-fn print_named<'run, O: Opener, W: Write>(
+fn print_named<O: Opener, W: Write>(
     alloc: Global,
     opener: &O,
     machine: SampleMachine,
-    names: &[&'run [u8]],
-    records: &[Record<'run>],
+    names: &[&[u8]],
+    records: &[Record<'_>],
     error: Option<PerfError>,
     output: &mut W,
 ) -> io::Result<u8>
@@ -216,11 +216,11 @@ fn print_named<'run, O: Opener, W: Write>(
 }
 
 /// Prints the stacks of the records, by files that were opened.
-fn print_opened<'run, W: Write>(
+fn print_opened<W: Write>(
     alloc: Global,
     machine: SampleMachine,
-    opened: &[OpenedFile<'run>],
-    records: &[Record<'run>],
+    opened: &[OpenedFile<'_>],
+    records: &[Record<'_>],
     error: Option<PerfError>,
     output: &mut W,
 ) -> io::Result<u8>
@@ -235,11 +235,11 @@ fn print_opened<'run, W: Write>(
 }
 
 /// Prints the stacks of the records, by the files, and then the error that ended the records.
-fn print_stacks<'run, W: Write>(
+fn print_stacks<W: Write>(
     alloc: Global,
     machine: SampleMachine,
-    files: &[ProfileFile<'run>],
-    records: &[Record<'run>],
+    files: &[ProfileFile<'_>],
+    records: &[Record<'_>],
     error: Option<PerfError>,
     output: &mut W,
 ) -> io::Result<u8>
@@ -254,12 +254,12 @@ fn print_stacks<'run, W: Write>(
 }
 
 /// Prints the stacks of the records in this room, and then the error that ended the records.
-fn print_in<'run, W: Write>(
+fn print_in<W: Write>(
     alloc: Global,
     room: Room,
     machine: SampleMachine,
-    files: &[ProfileFile<'run>],
-    records: &[Record<'run>],
+    files: &[ProfileFile<'_>],
+    records: &[Record<'_>],
     error: Option<PerfError>,
     output: &mut W,
 ) -> io::Result<u8>
@@ -279,10 +279,10 @@ fn print_in<'run, W: Write>(
 }
 
 /// Prints the stack of a record that was followed last, if it is a sample.
-fn print_followed<'run, W: Write>(
+fn print_followed<W: Write>(
     machine: SampleMachine,
-    replay: &Replay<'_, 'run>,
-    record: &Record<'run>,
+    replay: &Replay<'_, '_>,
+    record: &Record<'_>,
     room: &mut Room,
     output: &mut W,
 ) -> io::Result<()>
