@@ -1,7 +1,6 @@
 -- The code of a process: the mapping of an address, found by halving, and the order of its modules.
-use Rattle.std.proofs.Common.{◌≡◌, ◌∙◌, ℕ, zero, suc, ◌+◌, ◌<◌, ◌≤◌, ◌&&◌, Bool, true, false, List, [], ◌∷◌, length, get_or, map, cond, nat_le, nat_lt, Option, Some, None, refl, sym, ap, ap₂, subst, ⊎_elim, arith}
-use Rattle.std.specs.Prelude.{find}
-use Rattle.std.specs.List.{cons_option, filter_map}
+use Rattle.std.proofs.Common.{◌≡◌, ◌∙◌, ℕ, zero, suc, ◌<◌, ◌≤◌, ◌&&◌, Bool, true, false, List, [], ◌∷◌, length, get_or, map, cond, nat_le, nat_lt, Option, Some, None, refl, sym, ap, subst, arith}
+use Rattle.std.specs.List.{cons_option}
 use Rattle.std.specs.Option.{option_and_then, option_map}
 use Rattle.std.proofs.lemmas.Bool.{le-leb, lt-ltb, le-ltb, lt-leb}
 use Rattle.cfi_read_core.specs.declared.endian_slice.EndianSlice.{EndianSlice}

@@ -1,14 +1,14 @@
 -- The stacks of the records of a profile, one after the other.
-use Rattle.std.proofs.Common.{◌≡◌, ◌∙◌, ◌⊎◌, ℕ, suc, ◌+◌, ◌<◌, ◌≤◌, List, [], ◌∷◌, ◌++◌, Option, Some, None, Result, Ok, Err, IfOk, length, get_or, take, drop, map, refl, sym, ap, ap₂, subst, inl, inr, append_assoc, append-nil, add-one}
+use Rattle.std.proofs.Common.{◌≡◌, ◌∙◌, ℕ, ◌+◌, ◌<◌, ◌≤◌, List, [], ◌∷◌, ◌++◌, Option, Some, None, Result, Ok, Err, IfOk, length, get_or, take, map, refl, sym, ap, subst, inl, inr, append_assoc, append-nil, add-one}
 use Rattle.std.proofs.Math.Seq.{take-suc}
-use Rattle.std.proofs.lemmas.List.{map-append}
+use Rattle.std.proofs.lemmas.List.{get_or-map, length-map, take_all}
 use Rattle.std.specs.Io.KnownBytes.{Appends}
 use Rattle.std.specs.Result.{IsErr}
 use Rattle.cfi_perf.specs.declared.error.PerfError.{PerfError}
-use Rattle.cfi_perf.specs.Events.{Event, Record, ForkEvent, MappingEvent, OtherEvent, ProgramEvent, SampleEvent}
-use Rattle.cfi_programs.specs.Lines.{Line}
+use Rattle.cfi_perf.specs.declared.record.Record.{Record as RecordOfCode}
+use Rattle.cfi_perf.specs.Events.{Event, Record, record_view, ForkEvent, MappingEvent, OtherEvent, ProgramEvent, SampleEvent}
 use Rattle.cfi_programs.specs.Runs.{out_of_memory}
-use Rattle.cfi_programs.specs.WriterOutput.{IsBeginning, Prints, Writes}
+use Rattle.cfi_programs.specs.WriterOutput.{IsBeginning, Prints}
 use Rattle.cfi_programs.proofs.WrittenLemmas.{appends_then, beginning_then, none_yet, writes_refused}
 use Rattle.cfi_programs.proofs.DumpSectionWritten.{last_written}
 use Rattle.cfi_files.specs.FileLines.{PrintsSome}
@@ -118,3 +118,13 @@ module _ (machine : SampleMachine) (files : List KnownFile) where
     (last_written old mid new r front (ended [] error).text given written, status),
     inl (front, subst (λ (records : List Record). AreStacks machine files nothing_mapped records front) all (so_far first now front so), behind front error),
   )
+
+-- one more record of the code
+pub next_record : (list : List RecordOfCode) (i : ℕ) (r : RecordOfCode) → r ≡ get_or list i r → i < length list → take (i + 1) (map record_view list) ≡ take i (map record_view list) ++ record_view r ∷ []
+next_record list i r is inside =
+    ap (λ (n : ℕ). take n (map record_view list)) (add-one i) ∙ (take-suc (map record_view list) i (record_view r) (rw (length-map list record_view) inside)
+    ∙ ap (λ (next : Record). take i (map record_view list) ++ next ∷ []) (get_or-map record_view list i r (record_view r) inside ∙ ap record_view (sym is)))
+
+-- those up to the end are all
+pub all_records : (list : List RecordOfCode) (i : ℕ) → length list ≤ i → take i (map record_view list) ≡ map record_view list
+all_records list i behind = take_all i (map record_view list) (rw (length-map list record_view) behind)

@@ -3,7 +3,7 @@
 --     mapped_at list a      the mapping that has an address
 --     site_of files list a      where an address is: the place in the file, the function and the file's name
 --     modules_in files list      the modules of what is mapped
-use Rattle.std.specs.Prelude.{ℕ, List, Option, Some, None, find, map, option_map, slice_get}
+use Rattle.std.specs.Prelude.{ℕ, List, Option, Some, None, find, option_map, slice_get}
 use Rattle.std.specs.List.{filter_map}
 use Rattle.std.specs.Option.{option_and_then}
 use Rattle.cfi_elf.specs.FunctionNames.{function_place}

@@ -1,4 +1,4 @@
-use Rattle.std.proofs.Common.{◌≡◌, ◌∙◌, Bor, List, [], ◌∷◌, ◌++◌, ℕ, ap, get_or, map}
+use Rattle.std.proofs.Common.{◌∙◌, Bor, List, [], ◌∷◌, ◌++◌, ℕ, ap, get_or, map}
 use Rattle.std.proofs.lemmas.List.{map_push}
 use Rattle.cfi_stacks.specs.declared.profile_files.OpenedFile.{OpenedFile}
 use Rattle.cfi_stacks.specs.OpenedFiles.{bytes_view, opened_view, texts}

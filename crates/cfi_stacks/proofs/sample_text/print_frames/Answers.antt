@@ -1,11 +1,11 @@
-use Rattle.std.proofs.Common.{◌≡◌, ◌∙◌, ◌+◌, ap, drop, get_or, map, false, None}
+use Rattle.std.proofs.Common.{◌∙◌, ◌+◌, ap, drop, map, false, None}
 use Rattle.std.specs.List.{flat_map}
-use Rattle.cfi_programs.proofs.WrittenLemmas.{beginning_then, given_all, given_then, writes_refused}
+use Rattle.cfi_programs.proofs.WrittenLemmas.{beginning_then, given_then, writes_refused}
 use Rattle.cfi_step.specs.declared.walk.StackFrame.{StackFrame}
 use Rattle.cfi_stacks.specs.KnownFiles.{known_view, site_of}
 use Rattle.cfi_stacks.specs.ProfileOutputs.{frame_text}
 use Rattle.cfi_stacks.specs.StackTexts.{frame_line, site_view}
-use Rattle.cfi_stacks.proofs.StackLemmas.{next_line, no_line_left}
+use Rattle.cfi_stacks.proofs.StackLemmas.{next_line}
 use Rattle.cfi_stacks.proofs.sample_text.print_frames.Goals as goal
 
 no_frame : StackFrame

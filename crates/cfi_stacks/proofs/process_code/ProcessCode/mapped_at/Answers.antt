@@ -1,4 +1,4 @@
-use Rattle.std.proofs.Common.{◌≡◌, ◌∙◌, Bool, Bor, Option, Some, None, cond, length, nat_le, option_map, sym, ap, arith, rules}
+use Rattle.std.proofs.Common.{◌∙◌, Bool, Bor, Some, None, cond, length, nat_le, option_map, sym, ap, arith, rules}
 use Rattle.std.proofs.lemmas.Bool.{leb-true, leb-false, le-leb, lt-leb, ltb-true, ltb-false}
 use Rattle.std.proofs.lemmas.List.Sorted.{IsPartitionedBy-leb, IsPartitionPoint-from_clause}
 use Rattle.cfi_stacks.specs.declared.mappings.MappedCode.{MappedCode}

@@ -1,4 +1,4 @@
-use Rattle.std.proofs.Common.{◌∙◌, ℕ, Bool, List, Option, Some, None, cond, length, nat_lt, map, ap, ap₂, sym, rules}
+use Rattle.std.proofs.Common.{◌∙◌, ℕ, Some, None, cond, nat_lt, ap₂, sym, rules}
 use borrow.Author.Tests.{tests}
 use Rattle.std.specs.Str.{bytes_eq}
 use Rattle.std.proofs.lemmas.List.{length-map}
