@@ -15,7 +15,8 @@ pub struct ProfileOpener<'s, S> {
 impl<S: System> Opener for ProfileOpener<'_, S> {
     type File = S::File;
 
-    ghost may_open = { λ opener name opened. IsNone opened ⊎ S.may_open opener.system.now name opened };
+    ghost may_open = { λ opener name opened.
+        IsNone opened ⊎ S.may_open opener.system.now name opened };
 
     /// Opens the file with this name, if it is UTF-8 and a regular file.
     fn open(&self, name: &[u8]) -> Option<S::File> {

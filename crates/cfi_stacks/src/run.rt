@@ -10,8 +10,9 @@ ghost use Rattle.cfi_programs.specs.WriterOutput.{Prints, Writes};
 ghost use Rattle.cfi_stacks.specs.KnownFiles.{known_view};
 ghost use Rattle.cfi_stacks.specs.OpenedFiles.{files_of, opened_view, texts};
 ghost use Rattle.cfi_stacks.specs.ProfileOutputs.{IsOfNamed, IsOfProfile, IsOfRecords, IsOfSorted};
-ghost use Rattle.cfi_stacks.specs.ProfileOutputs.{IsOutput, IsOwed, IsPrinted, IsSortedOf, IsTextOf};
-ghost use Rattle.cfi_stacks.specs.ProfileOutputs.{ended, perf_refusal, unknown_machine};
+ghost use Rattle.cfi_stacks.specs.ProfileOutputs.{IsOutput, IsOwed, IsPrinted, IsSortedOf};
+ghost use Rattle.cfi_stacks.specs.ProfileOutputs.{IsTextOf, ended, perf_refusal};
+ghost use Rattle.cfi_stacks.specs.ProfileOutputs.{unknown_machine};
 ghost use Rattle.cfi_stacks.specs.Replays.{AreModulesFor, files_in, replayed};
 
 use crate::profile_files::{

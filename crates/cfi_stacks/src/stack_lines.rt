@@ -39,8 +39,8 @@ pub fn write_head<W: Write>(output: &mut W, pid: u32, tid: u32, time: u64) -> io
 }
 
 /// Writes the line of a frame: a tab, the place in the file in sixteen columns, the function and
-/// how far into it the address is, and the file in parentheses. `[unknown]` stands for a function or a
-/// file that isn't known. Bytes of names that aren't printable ASCII are question marks.
+/// how far into it the address is, and the file in parentheses. `[unknown]` stands for a function
+/// or a file that isn't known. Bytes of names that aren't printable ASCII are question marks.
 pub fn write_frame_line<W: Write>(output: &mut W, site: Site<'_>) -> io::Result<()>
     ensures { Writes (W.contents output.old) (W.contents output.new) result
         (frame_line (site_view site.entry)) }
