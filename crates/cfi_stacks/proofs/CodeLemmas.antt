@@ -8,10 +8,10 @@ use Rattle.cfi_read_core.specs.declared.endianity.RunTimeEndian.{RunTimeEndian}
 use Rattle.cfi_step.specs.declared.module.LoadedModule.{LoadedModule}
 use Rattle.cfi_step.specs.Modules.{are_sorted, begins_from}
 use Rattle.cfi_stacks.specs.declared.mappings.MappedCode.{MappedCode}
-use Rattle.cfi_stacks.specs.KnownFiles.{KnownFile, file_of, mapped_at, module_in, modules_in}
+use Rattle.cfi_stacks.specs.KnownFiles.{KnownCode, KnownFile, file_of, mapped_at, module_in, modules_in}
 use Rattle.cfi_stacks.specs.Mappings.{AreInOrder, has_byte_at}
 use Rattle.cfi_stacks.specs.Modules.{Module, loaded_module, module_view}
-use Rattle.cfi_stacks.specs.Objects.{Object, bias_of, module_of}
+use Rattle.cfi_stacks.specs.Objects.{bias_of, module_of}
 
 -- ---- the order of modules
 
@@ -24,19 +24,19 @@ same_order low [] = refl
 same_order low (m ∷ ms) = ap (λ (b : Bool). begins_from low m && b) (same_order m.end ms)
 
 -- a module spans what is mapped
-spans_of : (mapped : MappedCode) (object : Object) (bias : Option ℕ) (m : Module) → option_map (loaded_module object.frames mapped) bias ≡ Some m → (m.start ≡ mapped.start) × (m.end ≡ mapped.end)
-spans_of mapped object None m e = cc
-spans_of mapped object (Some bias) m e =
-    let is : m ≡ loaded_module object.frames mapped bias = cc in
+spans_of : (mapped : MappedCode) (code : KnownCode) (bias : Option ℕ) (m : Module) → option_map (loaded_module code.object.frames (Some code.table) mapped) bias ≡ Some m → (m.start ≡ mapped.start) × (m.end ≡ mapped.end)
+spans_of mapped code None m e = cc
+spans_of mapped code (Some bias) m e =
+    let is : m ≡ loaded_module code.object.frames (Some code.table) mapped bias = cc in
     (ap (λ (x : Module). x.start) is, ap (λ (x : Module). x.end) is)
 
-spans_in : (mapped : MappedCode) (o : Option Object) (m : Module) → option_and_then (λ object. module_of object mapped) o ≡ Some m → (m.start ≡ mapped.start) × (m.end ≡ mapped.end)
+spans_in : (mapped : MappedCode) (o : Option KnownCode) (m : Module) → option_and_then (λ code. module_of code.object (Some code.table) mapped) o ≡ Some m → (m.start ≡ mapped.start) × (m.end ≡ mapped.end)
 spans_in mapped None m e = cc
-spans_in mapped (Some object) m e = spans_of mapped object (bias_of object mapped) m e
+spans_in mapped (Some code) m e = spans_of mapped code (bias_of code.object mapped) m e
 
 spans : (mapped : MappedCode) (file : Option KnownFile) (m : Module) → option_and_then (module_in mapped) file ≡ Some m → (m.start ≡ mapped.start) × (m.end ≡ mapped.end)
 spans mapped None m e = cc
-spans mapped (Some file) m e = spans_in mapped file.object m e
+spans mapped (Some file) m e = spans_in mapped file.code m e
 
 lower : (list : List MappedCode) (low high : ℕ) → low ≤ high → AreInOrder high list → AreInOrder low list
 lower [] low high le ordered = tt

@@ -3,7 +3,9 @@ use Rattle.std.proofs.Common.{◌≡◌, ◌∙◌, ℕ, ◌+◌, ◌<◌, ◌�
 use Rattle.std.proofs.Math.Seq.{drop-cons}
 use Rattle.std.proofs.lemmas.List.{drop_all}
 use Rattle.std.specs.List.{list_any, position_or_len, prefix_len}
-use Rattle.cfi_stacks.specs.OpenedFiles.{AreOpened, IsContents, Opened, texts}
+use Rattle.cfi_stacks.specs.declared.profile_files.OpenedFile.{OpenedFile}
+use Rattle.cfi_stacks.specs.KnownFiles.{KnownFile}
+use Rattle.cfi_stacks.specs.OpenedFiles.{AreFilesOf, AreOpened, IsContents, IsFileOf, Opened, opened_view, texts}
 
 pub any_mapped : {X Y : Type 0} (f : X → Y) (p : Y → Bool) (xs : List X) → list_any (λ x. p (f x)) xs ≡ list_any p (map f xs)
 any_mapped f p [] = refl
@@ -43,3 +45,29 @@ module _ {Handle : Type 0} (may_open : List ℕ → Option Handle → Type 0) (r
       let none : texts (drop i names) ≡ [] = rw drop_all refl in
       subst (λ (all : List Opened). AreOpened may_open remaining (texts names) all) (append-nil opened)
       (so.opens_on [] (subst (λ (left : List (List ℕ)). AreOpened may_open remaining left []) (sym none) refl))
+
+-- ---- as files of the profile
+
+-- with the files of the others, the first are those of all
+pub record IsFilesOn (all left : List Opened) (first : List KnownFile) : Type 0 where
+  pub files_on : (others : List KnownFile) → AreFilesOf left others → AreFilesOf all (first ++ others)
+
+pub no_files : (all : List Opened) → IsFilesOn all all []
+no_files all = record { files_on = λ others are. are }
+
+pub one_file : (all : List Opened) (opened : List OpenedFile) (i : ℕ) (d : OpenedFile) (first next : List KnownFile) (file : KnownFile) → i < length opened
+    → next ≡ first ++ file ∷ [] → IsFilesOn all (map opened_view (drop i opened)) first → IsFileOf (opened_view (get_or opened i d)) file
+    → IsFilesOn all (map opened_view (drop (i + 1) opened)) next
+one_file all opened i d first next file inside is so one = record {
+  files_on = λ others are.
+      let left : map opened_view (drop i opened) ≡ opened_view (get_or opened i d) ∷ map opened_view (drop (i + 1) opened) = rw (drop-cons opened i d, add-one) refl in
+      let whole = so.files_on (file ∷ others) (subst (λ (left : List Opened). AreFilesOf left (file ∷ others)) (sym left) (file, others, one, are, refl)) in
+      subst (λ (files : List KnownFile). AreFilesOf all files) (sym (ap (λ (front : List KnownFile). front ++ others) is ∙ append_assoc first (file ∷ []) others)) whole;
+}
+
+pub all_files : (opened : List OpenedFile) (i : ℕ) (files : List KnownFile) → length opened ≤ i → IsFilesOn (map opened_view opened) (map opened_view (drop i opened)) files
+    → AreFilesOf (map opened_view opened) files
+all_files opened i files behind so =
+    let none : map opened_view (drop i opened) ≡ [] = rw drop_all refl in
+    subst (λ (all : List KnownFile). AreFilesOf (map opened_view opened) all) (append-nil files)
+    (so.files_on [] (subst (λ (left : List Opened). AreFilesOf left []) (sym none) refl))

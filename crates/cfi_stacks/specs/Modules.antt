@@ -2,8 +2,9 @@
 -- chapter 5, "Program Loading").
 --     Module, module_view      a module by its code and its sections, and that of the code
 --     moved_words bias words      what is said of a section that is moved
---     loaded_module frames mapped bias      the module
-use Rattle.std.specs.Prelude.{ℕ, Option, None, option_map}
+--     file_section frames      .eh_frame, at the addresses that the file has
+--     loaded_module frames compiled mapped bias      the module, with this compiled table
+use Rattle.std.specs.Prelude.{ℕ, Option, option_map}
 use Rattle.cfi_read_core.specs.declared.endian_slice.EndianSlice.{EndianSlice}
 use Rattle.cfi_read_core.specs.declared.endianity.RunTimeEndian.{RunTimeEndian}
 use Rattle.cfi_read_core.specs.AddressSizes.{size_in_bytes}
@@ -60,14 +61,21 @@ moved_words bias words = record words {
   header = option_map (plus bias) words.header;
 }
 
+-- .eh_frame as it lies in the file
+abbrev pub file_section : Frames → Section
+file_section frames = section_of (record frames.words { kind = EhFrame }) frames.section
+
+abbrev pub table_at : ℕ → TableContents → Compiled
+table_at bias table = record { bias = bias; table = table }
+
 -- .eh_frame and its header, as they lie in the process
-abbrev pub loaded_module : Frames → MappedCode → ℕ → Module
-loaded_module frames mapped bias =
+abbrev pub loaded_module : Frames → Option TableContents → MappedCode → ℕ → Module
+loaded_module frames table mapped bias =
     let words = record (moved_words bias frames.words) { kind = EhFrame } in
     record {
       start = mapped.start;
       end = mapped.end;
       section = section_of words frames.section;
       header = option_map (λ base. header_section_of words base frames.header) words.header;
-      compiled = None;
+      compiled = option_map (table_at bias) table;
     }

@@ -30,7 +30,7 @@ use Rattle.cfi_stacks.specs.declared.registers.SampleMachine.{SampleMachine}
 use Rattle.cfi_stacks.specs.declared.sample_stack.NoFrames.{NoFrames}
 use Rattle.cfi_stacks.specs.KnownFiles.{KnownFile, modules_in, site_of}
 use Rattle.cfi_stacks.specs.Modules.{module_view}
-use Rattle.cfi_stacks.specs.OpenedFiles.{AreOpened, Opened, files_of}
+use Rattle.cfi_stacks.specs.OpenedFiles.{AreFilesOf, AreOpened, Opened}
 use Rattle.cfi_stacks.specs.Reasons.{reason_line, reason_of, reason_without}
 use Rattle.cfi_stacks.specs.Registers.{machine_named}
 use Rattle.cfi_stacks.specs.Replays.{after, names_of}
@@ -110,11 +110,16 @@ pub record AreInTimeOrder (records sorted : List Record) : Type 0 where
 abbrev pub IsSortedOf : Records → List Record → Option PerfError → Type 0
 IsSortedOf found sorted error = AreInTimeOrder found.records sorted × (error ≡ found.error)
 
+-- by files that were opened
+abbrev pub IsOfOpened : SampleMachine → List Opened → List Record → Option PerfError → Line → Type 0
+IsOfOpened machine opened sorted error printed =
+    (files : List KnownFile) × AreFilesOf opened files × IsPrinted machine files sorted error printed
+
 module _ {Handle : Type 0} (may_open : List ℕ → Option Handle → Type 0) (remaining : Handle → Option (List ℕ)) where
   -- by the files of these names
   abbrev pub IsOfNamed : SampleMachine → List (List ℕ) → List Record → Option PerfError → Line → Type 0
   IsOfNamed machine names sorted error printed =
-      (opened : List Opened) × AreOpened may_open remaining names opened × IsPrinted machine (files_of opened) sorted error printed
+      (opened : List Opened) × AreOpened may_open remaining names opened × IsOfOpened machine opened sorted error printed
 
   abbrev pub IsOfSorted : SampleMachine → List Record → Option PerfError → Line → Type 0
   IsOfSorted machine sorted error printed = IsOfNamed machine (names_of sorted) sorted error printed

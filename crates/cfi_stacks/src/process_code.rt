@@ -17,18 +17,18 @@ use gimli_cfi::{EndianSlice, RunTimeEndian};
 use std::alloc::AllocError;
 
 /// A module of a profile's file.
-pub type FileModule<'run> = LoadedModule<'run, EndianSlice<'run, RunTimeEndian>>;
+pub type FileModule<'a, 'run> = LoadedModule<'a, EndianSlice<'run, RunTimeEndian>>;
 
 /// What is mapped in a process, and the files of the profile.
 #[derive(Clone, Copy)]
-pub struct ProcessCode<'a, 'run> {
+pub struct ProcessCode<'a, 'files, 'run> {
     /// What is mapped, in the order of addresses.
     pub mappings: &'a [MappedCode],
     /// The files, to which the mappings' `object` counts.
-    pub files: &'a [ProfileFile<'run>],
+    pub files: &'files [ProfileFile<'run>],
 }
 
-impl<'a, 'run> ProcessCode<'a, 'run> {
+impl<'a, 'files, 'run> ProcessCode<'a, 'files, 'run> {
     /// Where an address is: in which function of which file.
     pub fn site(&self, address: u64) -> Site<'run>
         requires { AreInOrder 0 self.now.mappings.now }
@@ -76,7 +76,7 @@ impl<'a, 'run> ProcessCode<'a, 'run> {
     }
 
     /// The file that is mapped.
-    fn file_of(&self, mapped: &MappedCode) -> Option<&'a ProfileFile<'run>>
+    fn file_of(&self, mapped: &MappedCode) -> Option<&'files ProfileFile<'run>>
         ensures { option_map (λ file. known_view file.now) result
             ≡ file_of (map known_view self.now.files.now) mapped.now }
     {
@@ -84,7 +84,10 @@ impl<'a, 'run> ProcessCode<'a, 'run> {
     }
 
     /// Appends the modules of what is mapped. Fails where memory is refused.
-    pub fn push_modules(&self, modules: &mut Vec<FileModule<'run>>) -> Result<(), AllocError>
+    pub fn push_modules(
+        &self,
+        modules: &mut Vec<FileModule<'files, 'run>>,
+    ) -> Result<(), AllocError>
         ensures { OnOk result (map module_view modules.new.items
             ≡ map module_view modules.old.items
             ++ modules_in (map known_view self.now.files.now) self.now.mappings.now) }
@@ -98,7 +101,7 @@ impl<'a, 'run> ProcessCode<'a, 'run> {
     }
 
     /// The module that is mapped.
-    fn module_at(&self, mapped: &MappedCode) -> Option<FileModule<'run>>
+    fn module_at(&self, mapped: &MappedCode) -> Option<FileModule<'files, 'run>>
         ensures { option_map module_view result ≡ option_and_then (module_in mapped.now)
             (file_of (map known_view self.now.files.now) mapped.now) }
     {
@@ -124,7 +127,7 @@ fn function_in<'run>(
     address: u64,
 ) -> Option<FunctionPlace<'run>>
     ensures { option_map place_view result
-        ≡ option_and_then (function_in mapped.now address) (known_view file.now).object }
+        ≡ option_and_then (function_in mapped.now address) (known_view file.now).code }
 {
     match &file.code {
         Some(code) => code.function_at(mapped, address),
@@ -133,7 +136,10 @@ fn function_in<'run>(
 }
 
 /// The module that a file is where it is mapped.
-fn module_in<'run>(file: &ProfileFile<'run>, mapped: &MappedCode) -> Option<FileModule<'run>>
+fn module_in<'a, 'run>(
+    file: &'a ProfileFile<'run>,
+    mapped: &MappedCode,
+) -> Option<FileModule<'a, 'run>>
     ensures { option_map module_view result ≡ module_in mapped.now (known_view file.now) }
 {
     match &file.code {

@@ -3,8 +3,9 @@ ghost use Rattle.std.specs.Prelude.{◌≡◌, ℕ, List, Option, IfOk, OnOk, ma
 ghost use Rattle.cfi_perf.specs.Events.{record_view};
 ghost use Rattle.cfi_stacks.specs.KnownFiles.{code_view, known_view};
 ghost use Rattle.cfi_stacks.specs.Objects.{object_of};
-ghost use Rattle.cfi_stacks.specs.OpenedFiles.{AreOpened, IsContents, IsReading, bytes_view};
-ghost use Rattle.cfi_stacks.specs.OpenedFiles.{file_of, files_of, is_file_name, opened_view, texts};
+ghost use Rattle.cfi_stacks.specs.OpenedFiles.{AreFilesOf, AreOpened, IsCodeOf, IsContents};
+ghost use Rattle.cfi_stacks.specs.OpenedFiles.{IsFileOf, IsReading, bytes_view, is_file_name};
+ghost use Rattle.cfi_stacks.specs.OpenedFiles.{opened_view, texts};
 ghost use Rattle.cfi_stacks.specs.Replays.{code_name, is_among, names_of, with_name};
 
 use crate::file_code::FileCode;
@@ -157,8 +158,8 @@ pub fn profile_files<'opened>(
     alloc: Global,
     opened: &'opened [OpenedFile<'_>],
 ) -> Result<Vec<ProfileFile<'opened>>, AllocError>
-    ensures { IfOk result (λ files. map known_view files.items
-        ≡ files_of (map opened_view opened.now)) }
+    ensures { IfOk result (λ files. AreFilesOf (map opened_view opened.now)
+        (map known_view files.items)) }
 {
     let mut files = Vec::new(alloc);
     for file in opened {
@@ -172,7 +173,7 @@ fn profile_file<'opened>(
     alloc: Global,
     opened: &'opened OpenedFile<'_>,
 ) -> Result<ProfileFile<'opened>, AllocError>
-    ensures { IfOk result (λ file. known_view file ≡ file_of (opened_view opened.now)) }
+    ensures { IfOk result (λ file. IsFileOf (opened_view opened.now) (known_view file)) }
 {
     let code = match &opened.bytes {
         Some(bytes) => code_of(alloc, bytes.as_slice())?,
@@ -186,7 +187,7 @@ fn profile_file<'opened>(
 
 /// The code of the file that these bytes are.
 fn code_of<'run>(alloc: Global, bytes: &'run [u8]) -> Result<Option<FileCode<'run>>, AllocError>
-    ensures { IfOk result (λ code. option_map code_view code ≡ object_of bytes.now) }
+    ensures { IfOk result (λ code. IsCodeOf (object_of bytes.now) (option_map code_view code)) }
 {
     match Object::of(bytes) {
         Some(object) => Ok(Some(FileCode::of(alloc, object)?)),

@@ -17,7 +17,7 @@ use std::alloc::{AllocError, Global};
 pub struct Replay<'a, 'run> {
     files: &'a [ProfileFile<'run>],
     processes: Processes,
-    modules: Vec<FileModule<'run>>,
+    modules: Vec<FileModule<'a, 'run>>,
     /// The process whose modules these are.
     pid: Option<u32>,
     ghost loaded: { ForSome pid (λ pid. map module_view modules.items
@@ -70,7 +70,7 @@ impl<'a, 'run> Replay<'a, 'run> {
     }
 
     /// What is mapped in a process, with the files.
-    pub fn code(&self, pid: u32) -> ProcessCode<'_, 'run>
+    pub fn code(&self, pid: u32) -> ProcessCode<'_, 'a, 'run>
         ensures mappings { result.mappings.now ≡ replayed self.now pid }
         ensures order { AreInOrder 0 result.mappings.now }
         ensures files { map known_view result.files.now ≡ files_in self.now }
@@ -82,7 +82,7 @@ impl<'a, 'run> Replay<'a, 'run> {
     }
 
     /// The modules of the process of the sample that was followed last.
-    pub fn modules(&self) -> &[FileModule<'run>]
+    pub fn modules(&self) -> &[FileModule<'a, 'run>]
         ensures { result.now ≡ self.now.modules.items }
     {
         self.modules.as_slice()

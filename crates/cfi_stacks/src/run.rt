@@ -8,8 +8,9 @@ ghost use Rattle.cfi_perf.specs.Records.{records_left};
 ghost use Rattle.cfi_programs.specs.Runs.{out_of_memory};
 ghost use Rattle.cfi_programs.specs.WriterOutput.{Prints, Writes};
 ghost use Rattle.cfi_stacks.specs.KnownFiles.{known_view};
-ghost use Rattle.cfi_stacks.specs.OpenedFiles.{files_of, opened_view, texts};
-ghost use Rattle.cfi_stacks.specs.ProfileOutputs.{IsOfNamed, IsOfProfile, IsOfRecords, IsOfSorted};
+ghost use Rattle.cfi_stacks.specs.OpenedFiles.{opened_view, texts};
+ghost use Rattle.cfi_stacks.specs.ProfileOutputs.{IsOfNamed, IsOfOpened, IsOfProfile};
+ghost use Rattle.cfi_stacks.specs.ProfileOutputs.{IsOfRecords, IsOfSorted};
 ghost use Rattle.cfi_stacks.specs.ProfileOutputs.{IsOutput, IsOwed, IsPrinted, IsSortedOf};
 ghost use Rattle.cfi_stacks.specs.ProfileOutputs.{IsTextOf, ended, perf_refusal};
 ghost use Rattle.cfi_stacks.specs.ProfileOutputs.{unknown_machine};
@@ -225,7 +226,7 @@ fn print_opened<W: Write>(
     error: Option<PerfError>,
     output: &mut W,
 ) -> io::Result<u8>
-    ensures { PrintsSome (λ line. IsPrinted machine (files_of (map opened_view opened.now))
+    ensures { PrintsSome (λ line. IsOfOpened machine (map opened_view opened.now)
         (map record_view records.now) error line ⊎ (line ≡ out_of_memory))
         (W.contents output.old) (W.contents output.new) result }
 {

@@ -57,8 +57,8 @@ impl Room {
 /// The modules are those of what is mapped. Does not allocate.
 pub fn print_sample<W: Write>(
     machine: SampleMachine,
-    code: &ProcessCode<'_, '_>,
-    modules: &[FileModule<'_>],
+    code: &ProcessCode<'_, '_, '_>,
+    modules: &[FileModule<'_, '_>],
     time: u64,
     sample: &Sample<'_>,
     room: &mut Room,
@@ -92,7 +92,7 @@ pub fn print_sample<W: Write>(
 
 /// Prints what was found of a sample's stack.
 fn print_found<W: Write>(
-    code: &ProcessCode<'_, '_>,
+    code: &ProcessCode<'_, '_, '_>,
     time: u64,
     sample: &Sample<'_>,
     found: Result<Walk, NoFrames>,
@@ -112,7 +112,7 @@ fn print_found<W: Write>(
 
 /// Prints the frames of a walk and why there are no more, or why there are none.
 fn print_walk<W: Write>(
-    code: &ProcessCode<'_, '_>,
+    code: &ProcessCode<'_, '_, '_>,
     found: Result<Walk, NoFrames>,
     frames: &[StackFrame],
     output: &mut W,
@@ -133,7 +133,7 @@ fn print_walk<W: Write>(
 
 /// Prints a line for each frame.
 fn print_frames<W: Write>(
-    code: &ProcessCode<'_, '_>,
+    code: &ProcessCode<'_, '_, '_>,
     frames: &[StackFrame],
     output: &mut W,
 ) -> io::Result<()>
