@@ -14,7 +14,7 @@ use Rattle.clap.specs.Faults.{check_fault, defaults_fault, entered_fault, fault_
 use Rattle.clap.specs.declared.error.kind.ErrorKind.TheVariants.{InvalidSubcommand, OutOfMemory, UnknownArgument}
 use Rattle.cfi.specs.CommandLine.{Asked, asked_by, asked_of, cfi_app, check_app, dump_app, format_names, row_app, rows_app, table_app, unwind_app}
 use Rattle.cfi.specs.Words.{Given, asked, check_of, dump_of, given, nothing, row_of, rows_of, table_of, unwind_of}
-use Rattle.cfi.proofs.FlagLemmas.{IsFault, fault_first, fault_next, flag_fails, held, is_flag, long_refused, no_fault, or_else-nil, plain_is_value, short_refused, value_met, value_passes, waiting}
+use Rattle.cfi.proofs.FlagLemmas.{IsFault, fault_first, fault_next, flag_fails, held, is_flag, long_refused, no_fault, or_else-nil, plain_is_value, short_refused, value_met, value_passes}
 use Rattle.cfi.proofs.LevelLemmas.{Level, check_leaf, dump_leaf, file_and_more, file_and_one, files, help_by_name, leaf, level, one_file, row_leaf, rows_leaf, table_leaf, unwind_leaf}
 
 module _ (formats : Bor (List (Bor Text))) (are : map (λ name. name.now) formats.now ≡ format_names) where

@@ -1,6 +1,8 @@
 //! The stacks of a profile of two samples in one file. The expected lines are those of
 //! `perf script --no-inline -F pid,tid,time,ip,sym,symoff,dso`, but for the two that begin with
 //! `#`.
+ghost use Rattle.std.specs.Prelude.{⊤};
+
 use cfi_stacks::{Opener, unwind_profile};
 use cfi_tests_bytes::bytes_of;
 use std::process::Abort;
