@@ -10,8 +10,8 @@ use Rattle.clap.specs.Simple.{App, Shape, built_leaf, inherited, marked_built, w
 use Rattle.clap.specs.Kinds.{or_else}
 use Rattle.clap.specs.Faults.{check_fault, defaults_fault, level_fault}
 use Rattle.cfi_programs.specs.declared.style.Format.{Format}
-use Rattle.cfi.specs.CommandLine.{Asked, asked_of, cfi_app, check, check_app, dump, dump_app, file_in, format_in, format_names, raw_in, row, row_app, rows, rows_app, table, table_app, values_in}
-use Rattle.cfi.specs.Words.{Given, check_by, check_of, dump_by, dump_of, format_given, given, nothing, row_by, row_of, rows_by, rows_of, table_by, table_of}
+use Rattle.cfi.specs.CommandLine.{Asked, asked_of, cfi_app, check, check_app, dump, dump_app, file_in, format_in, format_names, raw_in, row, row_app, rows, rows_app, table, table_app, unwind, unwind_app, values_in}
+use Rattle.cfi.specs.Words.{Given, check_by, check_of, dump_by, dump_of, format_given, given, nothing, row_by, row_of, rows_by, rows_of, table_by, table_of, unwind_by, unwind_of}
 use Rattle.cfi.proofs.EndLemmas.{NoDefaults, format_is, found_at, lacks, missing, no_defaults, raw_defaults, raw_is, skips}
 use Rattle.cfi.proofs.FlagLemmas.{IsFault, fault_next, help, waiting}
 use Rattle.cfi.proofs.PlaceLemmas.{many, single}
@@ -85,6 +85,13 @@ table_refuses true raw arguments le = refl
 table_refuses false raw [] le = refl
 table_refuses false raw (f ∷ []) le = absurd (omega arith)
 table_refuses false raw (f ∷ x ∷ more) le = refl
+
+unwind_refuses : (a b : Bool) (arguments : List Text) → 2 ≤ length arguments → cond a None (cond b None (unwind_by arguments)) ≡ None
+unwind_refuses true b arguments le = refl
+unwind_refuses false true arguments le = refl
+unwind_refuses false false [] le = refl
+unwind_refuses false false (f ∷ []) le = absurd (omega arith)
+unwind_refuses false false (f ∷ x ∷ more) le = refl
 
 module _ (names : Bor (List (Bor Text))) where
   -- ---- row
@@ -437,6 +444,73 @@ module _ (names : Bor (List (Bor Text))) where
     where
       without_format : (g : Given) → is_some g.format ≡ true → table_of g ≡ None
       without_format g h = ap (λ (b : Bool). cond b None (table_by g.raw g.arguments)) h
+
+  -- ---- unwind
+
+  unwind_place : (arguments : List Text) (position : ℕ) (now : Text → List Text) → one_file arguments position (now (codes "FILE")) (now (codes "ADDRESS"))
+      → Takes (leaf names unwind_app) one_file unwind_of arguments position now
+  unwind_place [] position now h = inr (
+    single (codes "FILE") 1 true,
+    ap (arg_by_index (leaf names unwind_app).rules) h.0,
+    record { id = codes "FILE"; index = 1; required = true; found = refl; kind = inl (refl, h.1) },
+    refl,
+    refl,
+    λ word. (ap (next_position (single (codes "FILE") 1 true)) h.0, ap (λ (x : List Text). x ++ word ∷ []) h.1),
+  )
+  unwind_place (f ∷ []) position now h = inl (ap (arg_by_index (leaf names unwind_app).rules) h.0, λ g le. unwind_refuses g.raw (is_some g.format) g.arguments le)
+  unwind_place (f ∷ x ∷ more) position now h = absurd h
+
+  abbrev unwind_rules : List Rule
+  unwind_rules = single (codes "FILE") 1 true ∷ help ∷ []
+
+  unwind_plain : NoDefaults unwind_rules
+  unwind_plain = (refl, (refl, tt {0}))
+
+  unwind_ends : (g : Given) (position : ℕ) (rs : List Row) (now : Text → List Text) → one_file g.arguments position (now (codes "FILE")) (now (codes "ADDRESS"))
+      → now (codes "raw") ≡ raw_values g.raw → now (codes "format") ≡ format_values g.format
+      → (arg_by_long (leaf names unwind_app).rules (codes "raw") ≡ None → g.raw ≡ false) → (arg_by_long (leaf names unwind_app).rules (codes "format") ≡ None → g.format ≡ None)
+      → Has rs now → Ends (leaf names unwind_app) (codes "unwind") rs (unwind_of g)
+  unwind_ends g position rs now placed raw format no_raw no_format has =
+      subst (λ (b : Bool). Ends (leaf names unwind_app) (codes "unwind") rs (cond b None (cond (is_some g.format) None (unwind_by g.arguments)))) (sym (no_raw refl))
+      (subst (λ (o : Option Format). Ends (leaf names unwind_app) (codes "unwind") rs (cond (is_some o) None (unwind_by g.arguments))) (sym (no_format refl)) (go g.arguments placed))
+    where
+      at_end : (id : Text) (values : List Text) → now id ≡ values → at_id id (fold with_default rs unwind_rules) ≡ line id values
+      at_end id values is = ap (at_id id) (skips unwind_rules rs unwind_plain) ∙ has id ∙ ap (line id) is
+
+      lacking : (file : List Text) → now (codes "FILE") ≡ file
+          → check_fault (leaf names unwind_app) (fold with_default rs unwind_rules) false ≡ missing (lacks (line (codes "FILE") file) || false)
+      lacking file e = ap (λ (x : Option Row). missing (lacks x || false)) (at_end (codes "FILE") file e)
+
+      asks : (f : Text) → now (codes "FILE") ≡ f ∷ [] → asked_of (codes "unwind", fold with_default rs unwind_rules) ≡ unwind f
+      asks f e = ap (λ (o : Option Row). unwind (unwrap_or (option_and_then (λ r. slice_get r.values 0) o) [])) (at_end (codes "FILE") (f ∷ []) e)
+
+      go : (arguments : List Text) → one_file arguments position (now (codes "FILE")) (now (codes "ADDRESS")) → Ends (leaf names unwind_app) (codes "unwind") rs (unwind_by arguments)
+      go [] h =
+          fault_next (defaults_fault rs unwind_rules) (check_fault (leaf names unwind_app) (fold with_default rs unwind_rules) false) (subst IsFault (sym (lacking [] h.1)) (tt {0}))
+      go (f ∷ []) h = (ap₂ or_else (no_defaults unwind_rules rs unwind_plain) (lacking (f ∷ []) h.1), asks f h.1)
+      go (f ∷ x ∷ more) h = absurd h
+
+  pub unwind_leaf : Leaf (leaf names unwind_app) (codes "unwind") names one_file unwind_of
+  unwind_leaf = record {
+    again = refl;
+    raw = inl (refl, without_raw);
+    format = inl (refl, without_format);
+    others = λ flag e d. help_by_name (bytes_eq (codes "help") flag);
+    short = λ x. help_by_name (nat_eq 104 x);
+    apart = λ position a e. apart_of (arg_by_index (leaf names unwind_app).rules position) a e (one_apart (single (codes "FILE") 1 true) refl (nat_eq 1 position));
+    place = unwind_place;
+    ends = unwind_ends;
+  }
+    where
+      without_raw : (g : Given) → g.raw ≡ true → unwind_of g ≡ None
+      without_raw g h = ap (λ (b : Bool). cond b None (cond (is_some g.format) None (unwind_by g.arguments))) h
+
+      none_twice : (a b : Bool) (o : Option Asked) → b ≡ true → cond a None (cond b None o) ≡ None
+      none_twice true b o h = refl
+      none_twice false b o h = ap (λ (x : Bool). cond x None o) h
+
+      without_format : (g : Given) → is_some g.format ≡ true → unwind_of g ≡ None
+      without_format g h = none_twice g.raw (is_some g.format) (unwind_by g.arguments) h
 
   -- ---- all words of a command
 

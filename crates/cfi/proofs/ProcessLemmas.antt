@@ -19,12 +19,13 @@ use Rattle.cfi_files.specs.Findings.{ChecksSome, found_line, has_table, is_faith
 use Rattle.cfi_files.specs.declared.finding.Finding.{Finding}
 use Rattle.cfi_files.specs.declared.finding.Finding.TheVariants.{Unreadable}
 use Rattle.cfi_files.specs.declared.request.Request.{Request}
+use Rattle.cfi_stacks.specs.ProfileOutputs.{IsOwed as IsOwedOfProfile}
 use Rattle.cfi.specs.CommandLine.{Asked, cfi_app, format_names}
 use Rattle.cfi.specs.Findings.{greatest_status, tally_in}
 use Rattle.cfi.specs.Words.{asked}
 use Rattle.cfi_programs.specs.declared.style.Format.{Format}
 use Rattle.cfi.specs.Tasks.{of_request, task_for}
-use Rattle.cfi.specs.Process.{AreChecks, AreTallied, Checks, Disk, Ends, IsAnswer, IsAnswerTo, IsCheck, IsCheckOf, IsPrint, IsStatusAfter, IsStatusOf, PrintsRun, WritesChecks, no_checks, nothing, tallied, tally_line, with_check}
+use Rattle.cfi.specs.Process.{AreChecks, AreStacks, AreTallied, Checks, Disk, Ends, IsAnswer, IsAnswerTo, IsCheck, IsCheckOf, IsPrint, IsStatusAfter, IsStatusOf, MayOpenNamed, PrintsRun, WritesChecks, no_checks, nothing, tallied, tally_line, with_check}
 
 -- ---- checks one after the other
 
@@ -169,6 +170,13 @@ checked_of disk format name file old new r may (bytes, left, (finding, printed, 
 
 pub unreadable : (E : Type 0) (disk : Disk) (format : Format) (name : Text) (old : Option (List ℕ)) → disk.MayOpen name None → ChecksSome {E = E} (λ finding line. IsCheck disk format name finding line) old old (Ok Unreadable)
 unreadable E disk format name old may = (Unreadable, nothing, none_yet old, refl, (None, may, (refl, refl)))
+
+pub stacks_of : {E : Type 0} (disk : Disk) (name : Text) (file : disk.Handle) (old new : Option (List ℕ)) (r : Result ℕ E) → disk.MayOpen name (Some file) →
+    ((bytes : List ℕ) × AreLeft (disk.bytes_of file) bytes × PrintsSome (λ line. IsOwedOfProfile (MayOpenNamed disk) disk.bytes_of bytes line) old new r) → PrintsSome (λ line. AreStacks disk name line) old new r
+stacks_of disk name file old new r may (bytes, left, (printed, prints, owed)) = (printed, prints, (Some file, may, (bytes, left, owed)))
+
+pub no_stacks : (E : Type 0) (disk : Disk) (name : Text) (old : Option (List ℕ)) → disk.MayOpen name None → PrintsSome {E = E} (λ line. AreStacks disk name line) old old (Ok 2)
+no_stacks E disk name old may = (nothing, (none_yet old, refl), (None, may, refl))
 
 -- ---- the line that counts
 

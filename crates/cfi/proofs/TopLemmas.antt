@@ -12,10 +12,10 @@ use Rattle.clap.specs.Values.{kind_of}
 use Rattle.clap.specs.declared.error.Error.{Error}
 use Rattle.clap.specs.Faults.{check_fault, defaults_fault, entered_fault, fault_of, level_fault, settle_fault, step_fault, turn_fault, walk_fault, word_fault}
 use Rattle.clap.specs.declared.error.kind.ErrorKind.TheVariants.{InvalidSubcommand, OutOfMemory, UnknownArgument}
-use Rattle.cfi.specs.CommandLine.{Asked, asked_by, asked_of, cfi_app, check_app, dump_app, format_names, row_app, rows_app, table_app}
-use Rattle.cfi.specs.Words.{Given, asked, check_of, dump_of, given, nothing, row_of, rows_of, table_of}
-use Rattle.cfi.proofs.FlagLemmas.{IsFault, fault_first, fault_next, flag_fails, held, is_flag, long_refused, no_fault, or_else-nil, plain_is_value, short_refused, value_met, value_passes, waiting}
-use Rattle.cfi.proofs.LevelLemmas.{Level, check_leaf, dump_leaf, file_and_more, file_and_one, files, help_by_name, leaf, level, one_file, row_leaf, rows_leaf, table_leaf}
+use Rattle.cfi.specs.CommandLine.{Asked, asked_by, asked_of, cfi_app, check_app, dump_app, format_names, row_app, rows_app, table_app, unwind_app}
+use Rattle.cfi.specs.Words.{Given, asked, check_of, dump_of, given, nothing, row_of, rows_of, table_of, unwind_of}
+use Rattle.cfi.proofs.FlagLemmas.{IsFault, fault_first, fault_next, flag_fails, held, is_flag, long_refused, no_fault, or_else-nil, plain_is_value, short_refused, value_met, value_passes}
+use Rattle.cfi.proofs.LevelLemmas.{Level, check_leaf, dump_leaf, file_and_more, file_and_one, files, help_by_name, leaf, level, one_file, row_leaf, rows_leaf, table_leaf, unwind_leaf}
 
 module _ (formats : Bor (List (Bor Text))) (are : map (λ name. name.now) formats.now ≡ format_names) where
   abbrev cfi_built : App
@@ -118,6 +118,14 @@ module _ (formats : Bor (List (Bor Text))) (are : map (λ name. name.now) format
         ap (λ (w : Walk). option_map asked_of (entered cfi_built w.stopped)) e.1,
       )
 
+  unwind_is : (program word : Text) (rest : List Text) → subcommand_met names idle word ≡ Some (codes "unwind") → IsOf (leaf formats unwind_app) (codes "unwind") (program ∷ word ∷ rest) rest
+  unfolding defaults_fault
+  unwind_is program word rest met =
+      let e = enters (codes "unwind") word rest met refl in (
+        ap₂ fault_by e.0 e.1 ∙ or_else-nil (level_fault (leaf formats unwind_app) [] nothing_held rest false []),
+        ap (λ (w : Walk). option_map asked_of (entered cfi_built w.stopped)) e.1,
+      )
+
   -- ---- none is named
 
   fails_by_walk : (program : Text) (words : List Text) → IsFault (walk_fault top names (walk_from nothing_held) words) → IsFault (fault_of (cfi_app formats) (program ∷ words))
@@ -184,36 +192,43 @@ module _ (formats : Bor (List (Bor Text))) (are : map (λ name. name.now) format
       none_named None h = h
       none_named (Some values) h = h
 
+      by_unwind : (b : Bool) → bytes_eq (codes "row") word ≡ false → bytes_eq (codes "rows") word ≡ false → bytes_eq (codes "dump") word ≡ false → bytes_eq (codes "check") word ≡ false → bytes_eq (codes "table") word ≡ false
+          → bytes_eq (codes "unwind") word ≡ b → Judged (program ∷ word ∷ rest) (option_and_then (λ values. cond b (unwind_of values) None) (given false nothing rest))
+      by_unwind true e0 e1 e2 e3 e4 e =
+          judged (leaf formats unwind_app) (codes "unwind") (program ∷ word ∷ rest) rest (option_and_then unwind_of (given false nothing rest)) (unwind_is program word rest (rw (e0, e1, e2, e3, e4, e) refl))
+          (level formats are (leaf formats unwind_app) (codes "unwind") rest one_file unwind_of (unwind_leaf formats) (refl, refl) few)
+      by_unwind false e0 e1 e2 e3 e4 e = none_named (given false nothing rest) (unknown program word rest (rw (e0, e1, e2, e3, e4, e) refl))
+
       by_table : (b : Bool) → bytes_eq (codes "row") word ≡ false → bytes_eq (codes "rows") word ≡ false → bytes_eq (codes "dump") word ≡ false → bytes_eq (codes "check") word ≡ false → bytes_eq (codes "table") word ≡ b
-          → Judged (program ∷ word ∷ rest) (option_and_then (λ values. cond b (table_of values) None) (given false nothing rest))
+          → Judged (program ∷ word ∷ rest) (option_and_then (λ values. cond b (table_of values) (cond (bytes_eq (codes "unwind") word) (unwind_of values) None)) (given false nothing rest))
       by_table true e0 e1 e2 e3 e =
           judged (leaf formats table_app) (codes "table") (program ∷ word ∷ rest) rest (option_and_then table_of (given false nothing rest)) (table_is program word rest (rw (e0, e1, e2, e3, e) refl))
           (level formats are (leaf formats table_app) (codes "table") rest one_file table_of (table_leaf formats) (refl, refl) few)
-      by_table false e0 e1 e2 e3 e = none_named (given false nothing rest) (unknown program word rest (rw (e0, e1, e2, e3, e) refl))
+      by_table false e0 e1 e2 e3 e = by_unwind (bytes_eq (codes "unwind") word) e0 e1 e2 e3 e refl
 
       by_check : (b : Bool) → bytes_eq (codes "row") word ≡ false → bytes_eq (codes "rows") word ≡ false → bytes_eq (codes "dump") word ≡ false → bytes_eq (codes "check") word ≡ b
-          → Judged (program ∷ word ∷ rest) (option_and_then (λ values. cond b (check_of values) (cond (bytes_eq (codes "table") word) (table_of values) None)) (given false nothing rest))
+          → Judged (program ∷ word ∷ rest) (option_and_then (λ values. cond b (check_of values) (cond (bytes_eq (codes "table") word) (table_of values) (cond (bytes_eq (codes "unwind") word) (unwind_of values) None))) (given false nothing rest))
       by_check true e0 e1 e2 e =
           judged (leaf formats (check_app formats)) (codes "check") (program ∷ word ∷ rest) rest (option_and_then check_of (given false nothing rest)) (check_is program word rest (rw (e0, e1, e2, e) refl))
           (level formats are (leaf formats (check_app formats)) (codes "check") rest files check_of (check_leaf formats) (refl, refl) few)
       by_check false e0 e1 e2 e = by_table (bytes_eq (codes "table") word) e0 e1 e2 e refl
 
       by_dump : (b : Bool) → bytes_eq (codes "row") word ≡ false → bytes_eq (codes "rows") word ≡ false → bytes_eq (codes "dump") word ≡ b
-          → Judged (program ∷ word ∷ rest) (option_and_then (λ values. cond b (dump_of values) (cond (bytes_eq (codes "check") word) (check_of values) (cond (bytes_eq (codes "table") word) (table_of values) None))) (given false nothing rest))
+          → Judged (program ∷ word ∷ rest) (option_and_then (λ values. cond b (dump_of values) (cond (bytes_eq (codes "check") word) (check_of values) (cond (bytes_eq (codes "table") word) (table_of values) (cond (bytes_eq (codes "unwind") word) (unwind_of values) None)))) (given false nothing rest))
       by_dump true e0 e1 e =
           judged (leaf formats dump_app) (codes "dump") (program ∷ word ∷ rest) rest (option_and_then dump_of (given false nothing rest)) (dump_is program word rest (rw (e0, e1, e) refl))
           (level formats are (leaf formats dump_app) (codes "dump") rest one_file dump_of (dump_leaf formats) (refl, refl) few)
       by_dump false e0 e1 e = by_check (bytes_eq (codes "check") word) e0 e1 e refl
 
       by_rows : (b : Bool) → bytes_eq (codes "row") word ≡ false → bytes_eq (codes "rows") word ≡ b
-          → Judged (program ∷ word ∷ rest) (option_and_then (λ values. cond b (rows_of values) (cond (bytes_eq (codes "dump") word) (dump_of values) (cond (bytes_eq (codes "check") word) (check_of values) (cond (bytes_eq (codes "table") word) (table_of values) None)))) (given false nothing rest))
+          → Judged (program ∷ word ∷ rest) (option_and_then (λ values. cond b (rows_of values) (cond (bytes_eq (codes "dump") word) (dump_of values) (cond (bytes_eq (codes "check") word) (check_of values) (cond (bytes_eq (codes "table") word) (table_of values) (cond (bytes_eq (codes "unwind") word) (unwind_of values) None))))) (given false nothing rest))
       by_rows true e0 e =
           judged (leaf formats (rows_app formats)) (codes "rows") (program ∷ word ∷ rest) rest (option_and_then rows_of (given false nothing rest)) (rows_is program word rest (rw (e0, e) refl))
           (level formats are (leaf formats (rows_app formats)) (codes "rows") rest file_and_one rows_of (rows_leaf formats) (refl, refl, refl) few)
       by_rows false e0 e = by_dump (bytes_eq (codes "dump") word) e0 e refl
 
       by_row : (b : Bool) → bytes_eq (codes "row") word ≡ b
-          → Judged (program ∷ word ∷ rest) (option_and_then (λ values. cond b (row_of values) (cond (bytes_eq (codes "rows") word) (rows_of values) (cond (bytes_eq (codes "dump") word) (dump_of values) (cond (bytes_eq (codes "check") word) (check_of values) (cond (bytes_eq (codes "table") word) (table_of values) None))))) (given false nothing rest))
+          → Judged (program ∷ word ∷ rest) (option_and_then (λ values. cond b (row_of values) (cond (bytes_eq (codes "rows") word) (rows_of values) (cond (bytes_eq (codes "dump") word) (dump_of values) (cond (bytes_eq (codes "check") word) (check_of values) (cond (bytes_eq (codes "table") word) (table_of values) (cond (bytes_eq (codes "unwind") word) (unwind_of values) None)))))) (given false nothing rest))
       by_row true e =
           judged (leaf formats (row_app formats)) (codes "row") (program ∷ word ∷ rest) rest (option_and_then row_of (given false nothing rest)) (row_is program word rest (rw e refl))
           (level formats are (leaf formats (row_app formats)) (codes "row") rest file_and_more row_of (row_leaf formats) (refl, refl, refl) few)

@@ -3,7 +3,7 @@ use Rattle.std.proofs.Common.{◌≡◌, codes, refl, true, false, [], ◌∷◌
 use Rattle.std.specs.Fmt.{digits}
 use Rattle.std.specs.Str.{chars}
 use Rattle.cfi_programs.specs.declared.style.Format.TheVariants as form
-use Rattle.cfi.specs.CommandLine.{check, dump, row, rows}
+use Rattle.cfi.specs.CommandLine.{check, dump, row, rows, unwind}
 use Rattle.cfi.specs.Findings.{tally_in}
 use Rattle.cfi.specs.Words.{asked}
 
@@ -62,6 +62,12 @@ not_of_dump = refl
 counted : tally_in form.Text 3 2 1 ≡ codes "3 files, 2 tables, 1 faithful"
 unfolding digits
 counted = refl
+
+a_profile : asked (codes "cfi" ∷ codes "unwind" ∷ codes "perf.data" ∷ []) ≡ Some (unwind (codes "perf.data"))
+a_profile = refl
+
+a_profile_has_no_format : asked (codes "cfi" ∷ codes "unwind" ∷ codes "--format=text" ∷ codes "perf.data" ∷ []) ≡ None
+a_profile_has_no_format = refl
 
 counted_object : tally_in form.Json 3 2 1 ≡ codes "{\"files\":3,\"tables\":2,\"faithful\":1}"
 unfolding digits

@@ -29,6 +29,7 @@ pub data Asked : Type 0 where
   dump : Bool → Text → Asked
   check : Format → List Text → Asked
   table : Bool → Text → Asked
+  unwind : Text → Asked
 
 abbrev pub command_view : Command → Asked
 command_view (command.Row raw format file addresses) = row raw format file.now (map (λ address. address.now) addresses.items)
@@ -36,6 +37,7 @@ command_view (command.Rows raw format file address) = rows raw format file.now (
 command_view (command.Dump raw file) = dump raw file.now
 command_view (command.Check format files) = check format (map (λ file. file.now) files.items)
 command_view (command.Table raw file) = table raw file.now
+command_view (command.Unwind file) = unwind file.now
 
 -- ---- the commands as clap is told of them
 
@@ -77,13 +79,18 @@ check_app names = with_rule (with_rule (new_app (codes "check")) (format_rule na
 abbrev pub table_app : App
 table_app = with_rule (with_rule (new_app (codes "table")) raw_rule) file_rule
 
+abbrev pub unwind_app : App
+unwind_app = with_rule (new_app (codes "unwind")) file_rule
+
 -- one of the subcommands has to be asked for, and there is none that is called help
 abbrev pub top_app : App
 top_app = on_top (λ shape. record shape { arg_required_else_help = true; subcommand_required = true; disable_help_subcommand = true }) (new_app (codes "cfi"))
 
 abbrev pub cfi_app : Bor (List (Bor Text)) → App
 cfi_app names =
-    with_subcommand (with_subcommand (with_subcommand (with_subcommand (with_subcommand top_app (row_app names).top) (rows_app names).top) dump_app.top) (check_app names).top) table_app.top
+    with_subcommand
+    (with_subcommand (with_subcommand (with_subcommand (with_subcommand (with_subcommand top_app (row_app names).top) (rows_app names).top) dump_app.top) (check_app names).top) table_app.top)
+    unwind_app.top
 
 -- the command of clap is the one that is described so
 abbrev pub IsApp : App → ClapCommand → Type 0
@@ -122,7 +129,8 @@ asked_of named =
     else if bytes_eq named.0 (codes "rows") then rows raw format (file_in named.1) (first_of (codes "ADDRESS") named.1)
     else if bytes_eq named.0 (codes "dump") then dump raw (file_in named.1)
     else if bytes_eq named.0 (codes "check") then check format (values_in (codes "FILE") named.1)
-    else table raw (file_in named.1)
+    else if bytes_eq named.0 (codes "table") then table raw (file_in named.1)
+    else unwind (file_in named.1)
 
 -- by the words
 abbrev pub asked_by : Bor (List (Bor Text)) → List Text → Option Asked

@@ -2,7 +2,7 @@
 --     IsAnswer disk task printed      the output of a task, by the bytes of the files that were opened
 --     IsOutput disk words printed      the output for the words of the process
 --     PrintsRun disk words old new status      what a run writes, and its status
-use Rattle.std.specs.Prelude.{◌≡◌, ◌⊎◌, ℕ, List, [], ◌∷◌, ◌++◌, length, Option, Some, None, Result, Vec, MatchResult, IfOk, map}
+use Rattle.std.specs.Prelude.{◌≡◌, ◌⊎◌, ℕ, List, [], ◌∷◌, ◌++◌, length, Option, Some, None, Result, Vec, IsNone, MatchResult, IfOk, map}
 use Rattle.std.specs.Borrow.{Bor}
 use Rattle.std.specs.List.{count_by}
 use Rattle.std.specs.Io.KnownBytes.{Appends}
@@ -16,10 +16,11 @@ use Rattle.cfi_files.specs.Findings.{has_table, is_faithful}
 use Rattle.cfi_files.specs.declared.finding.Finding.{Finding}
 use Rattle.cfi_files.specs.declared.finding.Finding.TheVariants.{Unreadable}
 use Rattle.cfi_files.specs.declared.request.Request.{Request}
+use Rattle.cfi_stacks.specs.ProfileOutputs.{IsOwed as IsOwedOfProfile}
 use Rattle.cfi.specs.CommandLine.{Asked, cfi_app, format_names}
 use Rattle.cfi.specs.Findings.{greatest_status, tally_in}
 use Rattle.cfi_programs.specs.declared.style.Format.{Format}
-use Rattle.cfi.specs.Tasks.{OfRequest, Task, check, of_request, print, task_for}
+use Rattle.cfi.specs.Tasks.{OfRequest, Task, check, of_request, print, task_for, unwind}
 use Rattle.cfi.specs.Words.{asked}
 
 -- The files of a system: what a path may be opened to, or none where it can't be opened, and the bytes of an open file,
@@ -86,11 +87,26 @@ tallied format checks = record { text = checks.lines ++ tally_line format checks
 abbrev pub AreTallied : Disk → Format → List Text → Line → Type 0
 AreTallied disk format names printed = (checks : Checks) × AreChecks disk format names checks × (printed ≡ tallied format checks)
 
+-- ---- what is printed of a profile
+
+-- the files that it names; none is opened by a name that isn't UTF-8, or if the file isn't a regular one
+abbrev pub MayOpenNamed : (disk : Disk) → List ℕ → Option disk.Handle → Type 0
+MayOpenNamed disk name opened = IsNone opened ⊎ disk.MayOpen name opened
+
+abbrev pub AreStacksOf : (disk : Disk) → Option disk.Handle → Line → Type 0
+AreStacksOf disk None printed = printed ≡ nothing
+AreStacksOf disk (Some file) printed =
+    (bytes : List ℕ) × AreLeft (disk.bytes_of file) bytes × IsOwedOfProfile (MayOpenNamed disk) disk.bytes_of bytes printed
+
+abbrev pub AreStacks : Disk → Text → Line → Type 0
+AreStacks disk name printed = (opened : Option disk.Handle) × disk.MayOpen name opened × AreStacksOf disk opened printed
+
 -- ---- a run
 
 abbrev pub IsAnswer : Disk → Task → Line → Type 0
 IsAnswer disk (print name what) printed = IsPrint disk name what printed
 IsAnswer disk (check names format) printed = AreTallied disk format names printed
+IsAnswer disk (unwind name) printed = AreStacks disk name printed
 
 -- the status after a text of clap's, which may be 0 after help; 2 where the text can't be written
 abbrev pub IsStatusAfter : ErrorKind → ℕ → Type 0

@@ -8,7 +8,7 @@ use Rattle.clap.specs.Lexer.{long_of, short_of}
 use Rattle.clap.specs.Words.{Text}
 use Rattle.cfi_programs.specs.declared.style.Format.{Format}
 use Rattle.cfi_programs.specs.declared.style.Format.TheVariants as form
-use Rattle.cfi.specs.CommandLine.{Asked, check, dump, row, rows, table}
+use Rattle.cfi.specs.CommandLine.{Asked, check, dump, row, rows, table, unwind}
 
 -- ---- what one word is
 
@@ -103,6 +103,10 @@ abbrev pub table_by : Bool → List Text → Option Asked
 table_by raw (file ∷ []) = Some (table raw file)
 table_by raw _ = None
 
+abbrev pub unwind_by : List Text → Option Asked
+unwind_by (file ∷ []) = Some (unwind file)
+unwind_by _ = None
+
 -- text, where no format was named
 abbrev pub format_given : Given → Format
 format_given given = unwrap_or given.format form.Text
@@ -122,6 +126,9 @@ check_of given = if given.raw then None else check_by (format_given given) given
 abbrev pub table_of : Given → Option Asked
 table_of given = if is_some given.format then None else table_by given.raw given.arguments
 
+abbrev pub unwind_of : Given → Option Asked
+unwind_of given = if given.raw then None else if is_some given.format then None else unwind_by given.arguments
+
 abbrev pub named : Text → Given → Option Asked
 named name given =
     if bytes_eq (codes "row") name then row_of given
@@ -129,6 +136,7 @@ named name given =
     else if bytes_eq (codes "dump") name then dump_of given
     else if bytes_eq (codes "check") name then check_of given
     else if bytes_eq (codes "table") name then table_of given
+    else if bytes_eq (codes "unwind") name then unwind_of given
     else None
 
 -- what the words ask for, of which the first is the program's name

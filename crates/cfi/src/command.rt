@@ -7,7 +7,7 @@ ghost use Rattle.cfi.specs.CommandLine.{cfi_app, check_app, command_view, dump_a
 ghost use Rattle.cfi.specs.CommandLine.{file_rule, files_rule, format_in, format_names};
 ghost use Rattle.cfi.specs.CommandLine.{format_rule};
 ghost use Rattle.cfi.specs.CommandLine.{has_value, raw_in, raw_rule, row_app, rows_app, table_app};
-ghost use Rattle.cfi.specs.CommandLine.{top_app, values_in};
+ghost use Rattle.cfi.specs.CommandLine.{top_app, unwind_app, values_in};
 ghost use Rattle.cfi.specs.Words.{asked};
 
 use cfi_programs::style::Format;
@@ -48,6 +48,10 @@ pub enum Command<'w> {
     /// `table FILE`: the compiled table.
     Table {
         raw: bool,
+        file: &'w str,
+    },
+    /// `unwind FILE`: the stack of each sample of a profile.
+    Unwind {
         file: &'w str,
     },
 }
@@ -117,9 +121,13 @@ fn named<'w>(
             format: format_in(arguments),
             files: values_in(alloc, arguments, "FILE")?,
         })
-    } else {
+    } else if name == "table" {
         Ok(Command::Table {
             raw: raw_in(arguments),
+            file: file_in(arguments),
+        })
+    } else {
+        Ok(Command::Unwind {
             file: file_in(arguments),
         })
     }
@@ -191,7 +199,8 @@ fn cfi<'w>(alloc: Global, formats: &'w [&'w str]) -> Result<clap::Command<'w>, A
         .subcommand(rows(alloc, formats)?)?
         .subcommand(dump(alloc)?)?
         .subcommand(check(alloc, formats)?)?
-        .subcommand(table(alloc)?)
+        .subcommand(table(alloc)?)?
+        .subcommand(unwind(alloc)?)
 }
 
 fn top<'w>(alloc: Global) -> Result<clap::Command<'w>, AllocError>
@@ -254,6 +263,14 @@ fn table<'w>(alloc: Global) -> Result<clap::Command<'w>, AllocError>
         .arg(file(alloc))
 }
 
+fn unwind<'w>(alloc: Global) -> Result<clap::Command<'w>, AllocError>
+    ensures { IfOk result (IsApp unwind_app) }
+{
+    clap::Command::new(alloc, "unwind")
+        .about("Prints the stack of each sample of a profile: perf record --call-graph dwarf")
+        .arg(profile(alloc))
+}
+
 fn raw_flag<'w>(alloc: Global) -> Arg<'w>
     ensures rule { rule_of result ≡ raw_rule }
     ensures local { result.global ≡ false }
@@ -281,6 +298,15 @@ fn file<'w>(alloc: Global) -> Arg<'w>
 {
     Arg::new(alloc, "FILE")
         .help("A program or library: an ELF file")
+        .required(true)
+}
+
+fn profile<'w>(alloc: Global) -> Arg<'w>
+    ensures rule { rule_of result ≡ file_rule }
+    ensures local { result.global ≡ false }
+{
+    Arg::new(alloc, "FILE")
+        .help("A profile of perf record: perf.data")
         .required(true)
 }
 

@@ -6,20 +6,24 @@ ghost use Rattle.std.specs.Io.KnownBytes.{Keeps};
 ghost use Rattle.clap.specs.Words.{kind_of};
 ghost use Rattle.cfi_files.specs.FileLines.{PrintsSome};
 ghost use Rattle.cfi.specs.CommandLine.{command_view};
-ghost use Rattle.cfi.specs.Process.{AreTallied, IsAnswer, IsPrint, IsStatusAfter, IsStatusOf};
+ghost use Rattle.cfi.specs.Process.{AreTallied, IsAnswer, IsPrint, AreStacks, IsStatusAfter};
+ghost use Rattle.cfi.specs.Process.{IsStatusOf};
 ghost use Rattle.cfi.specs.Process.{PrintsRun, disk_of};
 ghost use Rattle.cfi.specs.Tasks.{of_request, task_for};
 
 mod command;
 mod files;
+mod profile;
 mod system;
 mod task;
 
 use cfi_files::{Request, run_on_file};
 use cfi_programs::style::Format;
+use cfi_stacks::unwind_profile;
 use clap::Error;
 use command::{Command, command_of};
 use files::{WRONG, check_files, count_findings, greatest_status, write_tally};
+use profile::ProfileOpener;
 use std::alloc::AllocGlobal;
 use std::convert::AsStr;
 use std::io;
@@ -94,6 +98,7 @@ fn run_command<S: System, W: Write>(system: &S, command: &Command, output: &mut 
     match task_of(command) {
         Task::Print(file, request) => print_file(system, file, request, output),
         Task::Check(files, format) => print_checks(system, format, files, output),
+        Task::Unwind(file) => print_stacks(system, file, output),
     }
 }
 
@@ -110,6 +115,19 @@ fn print_file<S: System, W: Write>(
 {
     match system.open(file) {
         Some(mut input) => run_on_file(system.alloc(), request, &mut input, output),
+        None => Ok(WRONG),
+    }
+}
+
+/// Opens the profile, and prints the stacks of its samples.
+fn print_stacks<S: System, W: Write>(system: &S, file: &str, output: &mut W) -> io::Result<u8>
+    ensures { PrintsSome (λ line. AreStacks (disk_of (S.may_open system.now) S.File.remaining)
+        file.now line)
+        (W.contents output.old) (W.contents output.new) result }
+{
+    let opener = ProfileOpener { system };
+    match system.open(file) {
+        Some(mut input) => unwind_profile(system.alloc(), &opener, &mut input, output),
         None => Ok(WRONG),
     }
 }

@@ -6,7 +6,7 @@ use std::alloc::{AllocGlobal, Global};
 use std::fs::File;
 use std::io::Read;
 use std::rt::{Env, Files};
-use std::{env, io};
+use std::{env, fs, io};
 
 /// What a run has of the system. Whatever it gives, `run` prints what is right for it.
 pub trait System {
@@ -31,6 +31,11 @@ pub trait System {
     /// Opens the file at a path. Where it can't be opened, the reason is printed on standard error,
     /// as `cfi: FILE: SENTENCE`, and there is none.
     fn open(&self, path: &str) -> Option<Self::File>
+        ensures { may_open self.now path.now result };
+
+    /// Opens the file at a path, if it is a regular one. Where it can't be opened, the reason is
+    /// printed on standard error, as `open` does.
+    fn open_regular(&self, path: &str) -> Option<Self::File>
         ensures { may_open self.now path.now result };
 
     /// Prints clap's text: help on standard output and a mistake on standard error. Fails where it
@@ -88,6 +93,14 @@ impl<P: Env + Files + Print + Eprint + AllocGlobal> System for Host<'_, P> {
                 let _ = eprintln!(self.rt; "cfi: {path}: {error}");
                 None
             }
+        }
+    }
+
+    fn open_regular(&self, path: &str) -> Option<P::File> {
+        // Opening a pipe would wait for another process.
+        match fs::metadata(self.rt, path) {
+            Ok(metadata) if !metadata.is_file() => None,
+            _ => self.open(path),
         }
     }
 

@@ -6,3 +6,8 @@ pub mod Worked
 mod RegisterTables
 mod Unwinding
 mod WorkedSamples
+mod CodeLemmas
+mod FileLemmas
+mod RunLemmas
+mod StackLemmas
+mod ReadLemmas

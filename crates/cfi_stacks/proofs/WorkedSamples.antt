@@ -50,6 +50,7 @@ mapped_higher =
       section = 1 ∷ 2 ∷ [];
       header = 3 ∷ [];
     })
+    None
     (record { start = 0x7f0000001000; end = 0x7f0000002000; offset = 0x1000; object = Some 0 }) 0x7f0000000000
 
 its_bases : mapped_higher.section.bases ≡ record { section = Some 0x7f0000002040; text = Some 0x7f0000001000; data_base = None }

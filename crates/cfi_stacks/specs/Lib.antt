@@ -1,7 +1,13 @@
 pub mod Mappings
 pub mod Histories
 pub mod Processes
+pub mod Registers
 pub mod Modules
 pub mod Objects
-pub mod Registers
 pub mod SampleStacks
+pub mod StackTexts
+pub mod Reasons
+pub mod KnownFiles
+pub mod OpenedFiles
+pub mod Replays
+pub mod ProfileOutputs

@@ -2,12 +2,13 @@
 --     Object, object_view      its segments and its call frames, and that of the code
 --     object_of bytes      the file of these bytes, if it has .eh_frame
 --     bias_of object mapped      how far its code is moved
---     module_of object mapped      the module
+--     module_of object table mapped      the module, with this compiled table
 use Rattle.std.specs.Prelude.{ℕ, List, Option, None, Result, Ok, Err, option_map}
 use Rattle.std.specs.Option.{option_and_then}
 use Rattle.std.specs.Result.{result_ok}
 use Rattle.cfi_elf.specs.declared.error.ElfError.{ElfError}
 use Rattle.cfi_elf.specs.ElfFiles.{File, elf_file, file_view}
+use Rattle.cfi_compiled.specs.CompiledTables.{TableContents}
 use Rattle.cfi_elf.specs.Segments.{address_of_offset, minus}
 use Rattle.cfi_files.specs.CallFrames.{Frames, eh_frame_of, frames_view}
 use Rattle.cfi_stacks.specs.declared.mappings.MappedCode.{MappedCode}
@@ -38,5 +39,5 @@ object_of bytes = option_and_then with_frames (result_ok (elf_file bytes))
 abbrev pub bias_of : Object → MappedCode → Option ℕ
 bias_of object mapped = option_map (minus mapped.start) (there (address_of_offset object.file mapped.offset))
 
-abbrev pub module_of : Object → MappedCode → Option Module
-module_of object mapped = option_map (loaded_module object.frames mapped) (bias_of object mapped)
+abbrev pub module_of : Object → Option TableContents → MappedCode → Option Module
+module_of object table mapped = option_map (loaded_module object.frames table mapped) (bias_of object mapped)

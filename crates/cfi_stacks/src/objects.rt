@@ -6,15 +6,16 @@ ghost use Rattle.cfi_read_core.specs.Windows.{slice_over, slice_position};
 ghost use Rattle.cfi_elf.specs.ElfFiles.{file_view};
 ghost use Rattle.cfi_elf.specs.Segments.{plus};
 ghost use Rattle.gimli_cfi.specs.HeaderViews.{header_reader};
-ghost use Rattle.cfi_stacks.specs.Modules.{Module, module_view, moved_words};
+ghost use Rattle.cfi_stacks.specs.Modules.{Module, module_view, moved_words, table_at, table_view};
 
 use crate::mappings::MappedCode;
+use cfi_compiled::CompiledTable;
 use cfi_elf::ElfFile;
 use cfi_files::{CallFrames, eh_frame};
 use cfi_programs::words::SectionWords;
-use cfi_step::LoadedModule;
-use gimli_cfi::{EhFrame, EhFrameHdr, EndianSlice, RunTimeEndian};
-use std::alloc::AllocError;
+use cfi_step::{LoadedModule, LoadedTable};
+use gimli_cfi::{EhFrame, EhFrameHdr, EndianSlice, Error, RunTimeEndian};
+use std::alloc::{AllocError, Global};
 
 /// A file of a profile: its segments and its call frames. The bytes are borrowed, not copied.
 pub struct Object<'file> {
@@ -36,9 +37,10 @@ impl Clone for Object<'_> {
 impl Copy for Object<'_> {}
 
 impl<'file> Object<'file> {
-    ghost use Rattle.std.specs.Prelude.{◌≡◌, None, IfSome, option_map};
+    ghost use Rattle.std.specs.Prelude.{◌≡◌, Some, IfOk, option_map};
+    ghost use Rattle.cfi_compiled.specs.CompiledTables.{IsCompiled};
     ghost use Rattle.cfi_elf.specs.ElfFiles.{file_view};
-    ghost use Rattle.cfi_stacks.specs.Modules.{loaded_module, module_view};
+    ghost use Rattle.cfi_stacks.specs.Modules.{file_section, loaded_module, module_view};
     ghost use Rattle.cfi_stacks.specs.Objects.{bias_of, module_of, object_of, object_view};
 
     /// The file that these bytes are. Returns `None` where they are no ELF file, and where the file
@@ -79,30 +81,43 @@ impl<'file> Object<'file> {
         }
     }
 
-    /// The module that the file is where it is mapped: its code is that between the two addresses,
-    /// its sections and their bases are moved by the bias, and it has no compiled table. Returns
-    /// `None` where there is no bias. Does not allocate.
-    pub fn module(
+    /// Returns the compiled table of the file's `.eh_frame`, at the addresses that the file has.
+    /// Fails where memory is refused.
+    pub fn compile(&self, alloc: Global) -> Result<CompiledTable, Error>
+        ensures { IfOk result (IsCompiled (Some 192) (Some 4)
+            (file_section (object_view self.now).frames)) }
+    {
+        let words = &self.frames.words;
+        let mut frame = EhFrame::new(self.frames.section, words.endian);
+        frame.set_address_size(words.address_size);
+        frame.set_vendor(words.vendor);
+        CompiledTable::new(alloc, &frame, &words.bases())
+    }
+
+    /// The module that the file is where it is mapped, with this compiled table of it: its code is
+    /// that between the two addresses, and its sections and their bases are moved by the bias.
+    /// Returns `None` where there is no bias. Does not allocate.
+    pub fn module<'a>(
         &self,
+        table: Option<&'a CompiledTable>,
         mapped: &MappedCode,
-    ) -> Option<LoadedModule<'file, EndianSlice<'file, RunTimeEndian>>>
-        ensures module { option_map module_view result
-            ≡ module_of (object_view self.now) mapped.now }
-        ensures compiled { IfSome result (λ loaded. loaded.compiled ≡ None) }
+    ) -> Option<LoadedModule<'a, EndianSlice<'file, RunTimeEndian>>>
+        ensures { option_map module_view result ≡ module_of (object_view self.now)
+            (option_map (λ table. table.now) table.entry) mapped.now }
     {
         let bias = self.bias(mapped)?;
-        Some(self.module_with(bias, mapped))
+        Some(self.module_with(bias, table, mapped))
     }
 
     /// The module, with this bias.
-    fn module_with(
+    fn module_with<'a>(
         &self,
         bias: u64,
+        table: Option<&'a CompiledTable>,
         mapped: &MappedCode,
-    ) -> LoadedModule<'file, EndianSlice<'file, RunTimeEndian>>
-        ensures module { module_view result
-            ≡ loaded_module (object_view self.now).frames mapped.now bias }
-        ensures compiled { result.compiled ≡ None }
+    ) -> LoadedModule<'a, EndianSlice<'file, RunTimeEndian>>
+        ensures { module_view result ≡ loaded_module (object_view self.now).frames
+            (option_map (λ table. table.now) table.entry) mapped.now bias }
     {
         let words = moved_words(&self.frames.words, bias);
         let mut frame = EhFrame::new(self.frames.section, words.endian);
@@ -114,8 +129,19 @@ impl<'file> Object<'file> {
             frame,
             header: header_of(&words, self.frames.header),
             bases: words.bases(),
-            compiled: None,
+            compiled: loaded_table(table, bias),
         }
+    }
+}
+
+/// A compiled table, if there is one, of a file that is loaded with a bias.
+fn loaded_table(table: Option<&CompiledTable>, bias: u64) -> Option<LoadedTable<'_>>
+    ensures { option_map table_view result
+        ≡ option_map (λ table. table_at bias table.now) table.entry }
+{
+    match table {
+        Some(rows) => Some(LoadedTable { rows, bias }),
+        None => None,
     }
 }
 

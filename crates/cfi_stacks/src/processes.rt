@@ -15,7 +15,7 @@ pub struct Processes {
 }
 
 impl Processes {
-    ghost use Rattle.std.specs.Prelude.{◌≡◌, [], OnErr, OnOk};
+    ghost use Rattle.std.specs.Prelude.{◌≡◌, ℕ, [], OnErr, OnOk};
     ghost use Rattle.cfi_stacks.specs.Mappings.{AreInOrder};
     ghost use Rattle.cfi_stacks.specs.Histories.{mapped, executed, forked};
     ghost use Rattle.cfi_stacks.specs.Processes.{Continues, IsAfter, IsChangedBy, IsUnchanged};
@@ -23,7 +23,8 @@ impl Processes {
 
     /// Nothing is mapped in any process yet. Does not allocate.
     pub fn new(alloc: Global) -> Self
-        ensures { IsAfter [] result }
+        ensures nothing { (pid : ℕ) → mappings_of result pid ≡ [] }
+        ensures history { IsAfter [] result }
     {
         Processes {
             alloc,

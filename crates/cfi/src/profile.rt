@@ -1,0 +1,28 @@
+//! The files that a profile names, as the system opens them.
+ghost use Rattle.std.specs.Prelude.{◌⊎◌, IsNone};
+
+use crate::system::System;
+use cfi_stacks::Opener;
+use std::str;
+
+/// The files of a system, by the names that a profile has for them.
+#[derive(Drop)]
+pub struct ProfileOpener<'s, S> {
+    /// The system.
+    pub system: &'s S,
+}
+
+impl<S: System> Opener for ProfileOpener<'_, S> {
+    type File = S::File;
+
+    ghost may_open = { λ opener name opened.
+        IsNone opened ⊎ S.may_open opener.system.now name opened };
+
+    /// Opens the file with this name, if it is UTF-8 and a regular file.
+    fn open(&self, name: &[u8]) -> Option<S::File> {
+        match str::from_utf8(name) {
+            Ok(path) => self.system.open_regular(path),
+            Err(_) => None,
+        }
+    }
+}

@@ -1,0 +1,55 @@
+-- The text of a stack, part by part.
+use Rattle.std.proofs.Common.{◌≡◌, ◌∙◌, ℕ, ◌+◌, ◌<◌, ◌≤◌, ◌&&◌, Bool, true, false, true≢false, List, [], ◌∷◌, ◌++◌, length, get_or, drop, map, cond, codes, Option, refl, sym, ap, ap₂, subst, add-one}
+use Rattle.std.proofs.Math.Seq.{drop-cons}
+use Rattle.std.proofs.lemmas.List.{drop_all}
+use Rattle.std.specs.List.{flat_map, list_all}
+use Rattle.cfi_programs.specs.FunctionLines.{shown}
+use Rattle.cfi_programs.proofs.WrittenLemmas.{IsGiven}
+use Rattle.cfi_stacks.specs.StackTexts.{Site, file_text, function_text, is_printable}
+
+-- ---- a name
+
+shown_first : (name : List ℕ) (i d : ℕ) → i < length name → map shown (drop i name) ≡ shown (get_or name i d) ∷ map shown (drop (i + 1) name)
+shown_first name i d h = rw (drop-cons name i d, add-one) refl
+
+pub next_shown : (old now : Option (List ℕ)) (name : List ℕ) (i b : ℕ) → i < length name → b ≡ shown (get_or name i 0) → IsGiven old now (map shown (drop i name)) (map shown name) →
+    IsGiven old now ((b ∷ []) ++ map shown (drop (i + 1) name)) (map shown name)
+next_shown old now name i b h is given =
+    subst (λ (left : List ℕ). IsGiven old now left (map shown name)) (shown_first name i 0 h ∙ ap (λ (c : ℕ). c ∷ map shown (drop (i + 1) name)) (sym is)) given
+
+-- a name without other bytes is shown as it is
+pub all_shown : (name : List ℕ) → list_all is_printable name ≡ true → map shown name ≡ name
+all_shown [] plain = refl
+all_shown (c ∷ cs) plain = by (is_printable c) refl plain (all_shown cs)
+  where
+    by : (b : Bool) → is_printable c ≡ b → (b && list_all is_printable cs) ≡ true → (list_all is_printable cs ≡ true → map shown cs ≡ cs) → map shown (c ∷ cs) ≡ c ∷ cs
+    by true printable rest others = ap₂ (λ (x : ℕ) (xs : List ℕ). x ∷ xs) (ap (λ (b : Bool). cond b c 63) printable) (others rest)
+    by false printable rest others = absurd (true≢false (sym rest))
+
+-- ---- the parts of a frame's line, each from its place on
+
+abbrev pub closing : List ℕ
+closing = codes ")" ++ 10 ∷ []
+
+abbrev pub from_file : Site → List ℕ
+from_file site = file_text site.file ++ closing
+
+abbrev pub from_parenthesis : Site → List ℕ
+from_parenthesis site = codes " (" ++ from_file site
+
+abbrev pub from_function : Site → List ℕ
+from_function site = function_text site.function ++ from_parenthesis site
+
+-- ---- the lines of frames
+
+module _ {X : Type 0} (text : X → List ℕ) (frames : List X) where
+  lines_first : (i : ℕ) (d : X) → i < length frames → flat_map text (drop i frames) ≡ text (get_or frames i d) ++ flat_map text (drop (i + 1) frames)
+  lines_first i d h = rw (drop-cons frames i d, add-one) refl
+
+  pub next_line : (old now : Option (List ℕ)) (i : ℕ) (d : X) (line : List ℕ) → i < length frames → line ≡ text (get_or frames i d) → IsGiven old now (flat_map text (drop i frames)) (flat_map text frames) →
+      IsGiven old now (line ++ flat_map text (drop (i + 1) frames)) (flat_map text frames)
+  next_line old now i d line h is given =
+      subst (λ (left : List ℕ). IsGiven old now left (flat_map text frames)) (lines_first i d h ∙ ap (λ (first : List ℕ). first ++ flat_map text (drop (i + 1) frames)) (sym is)) given
+
+  pub no_line_left : (i : ℕ) → length frames ≤ i → flat_map text (drop i frames) ≡ []
+  no_line_left i h = rw drop_all refl

@@ -1,0 +1,12 @@
+use Rattle.std.proofs.Common.{◌≡◌, map, take}
+use Rattle.cfi_perf.specs.Events.{record_view}
+use Rattle.cfi_stacks.specs.KnownFiles.{known_view}
+use Rattle.cfi_stacks.specs.Replays.{files_in, replayed}
+use Rattle.cfi_stacks.proofs.RunLemmas.{Followed}
+use Rattle.cfi_stacks.proofs.run.print_in.Given as goal
+
+abbrev pub invariant-loop-record : goal.invariant-loop-record
+invariant-loop-record g l =
+    let files = map known_view l.files in
+    (files_in l.replay ≡ files)
+    × Followed l.machine files (take l.record-index (map record_view l.records)) (replayed l.replay) (g.W.Write.contents l.initial.output) (g.W.Write.contents l.output)

@@ -1,0 +1,56 @@
+-- The text of a sample's stack.
+--     Site, site_view      where the code of a frame is, and that of the code
+--     head_line pid tid time      the line of the thread and the time
+--     frame_line site      the line of a frame
+use Rattle.std.specs.Prelude.{ℕ, ◌-◌, ◌/◌, ◌%◌, ◌&&◌, Bool, nat_le, nat_lt, List, [], ◌∷◌, ◌++◌, Option, Some, None, codes, false, length, map, option_map, take}
+use Rattle.std.specs.Fmt.{decimal, digits}
+use Rattle.cfi_elf.specs.FunctionPlaces.{Place, place_view}
+use Rattle.cfi_programs.specs.FunctionLines.{shown}
+use Rattle.cfi_programs.specs.Lines.{address_text}
+use Rattle.cfi_stacks.specs.declared.stack_lines.Site.{Site as SiteOfCode}
+
+-- behind as much of the fill as makes it as long
+abbrev pub filled : List ℕ → List ℕ → List ℕ
+filled fill text = take (length fill - length text) fill ++ text
+
+-- whether a byte of a name is shown as it is
+abbrev pub is_printable : ℕ → Bool
+is_printable c = nat_le 0x20 c && nat_lt c 0x7f
+
+-- ---- the line before the frames
+
+-- nanoseconds as seconds, with six digits behind the point
+abbrev pub seconds_text : ℕ → List ℕ
+seconds_text time = decimal (time / 1000000000) ++ codes "." ++ filled (codes "000000") (decimal (time / 1000 % 1000000))
+
+abbrev pub head_line : ℕ → ℕ → ℕ → List ℕ
+head_line pid tid time = decimal pid ++ codes "/" ++ decimal tid ++ codes " " ++ seconds_text time ++ (codes ":" ++ 10 ∷ [])
+
+-- ---- a frame
+
+-- the place in the file that is mapped at an address, the function whose bytes have it, and the file's name
+pub record Site : Type 0 where
+  pub place : ℕ
+  pub function : Option Place
+  pub file : Option (List ℕ)
+
+abbrev pub site_view : SiteOfCode → Site
+site_view site = record { place = site.place; function = option_map place_view site.function; file = option_map (λ name. name.now) site.file }
+
+abbrev pub unknown : List ℕ
+unknown = codes "[unknown]"
+
+abbrev pub function_text : Option Place → List ℕ
+function_text None = unknown
+function_text (Some place) = map shown place.name ++ (codes "+" ++ address_text place.offset)
+
+abbrev pub file_text : Option (List ℕ) → List ℕ
+file_text None = unknown
+file_text (Some name) = map shown name
+
+-- behind a tab, in sixteen columns
+abbrev pub column_text : ℕ → List ℕ
+column_text place = codes "\t" ++ filled (codes "                ") (digits 16 false place) ++ codes " "
+
+abbrev pub frame_line : Site → List ℕ
+frame_line site = column_text site.place ++ (function_text site.function ++ (codes " (" ++ (file_text site.file ++ (codes ")" ++ 10 ∷ []))))

@@ -1,0 +1,149 @@
+//! The code of a process, as it is mapped.
+ghost use Rattle.std.specs.Prelude.{◌≡◌, ◌++◌, IfOk, OnOk, map, option_map, true};
+ghost use Rattle.std.specs.Option.{option_and_then};
+ghost use Rattle.cfi_elf.specs.FunctionPlaces.{place_view};
+ghost use Rattle.cfi_stacks.specs.KnownFiles.{file_of, function_in, known_view, mapped_at};
+ghost use Rattle.cfi_stacks.specs.KnownFiles.{module_in, modules_in, nowhere, site_in, site_of};
+ghost use Rattle.cfi_stacks.specs.Mappings.{AreInOrder, has_byte_at};
+ghost use Rattle.cfi_stacks.specs.Modules.{module_view};
+ghost use Rattle.cfi_stacks.specs.StackTexts.{site_view};
+
+use crate::mappings::MappedCode;
+use crate::profile_files::ProfileFile;
+use crate::stack_lines::Site;
+use cfi_elf::FunctionPlace;
+use cfi_step::LoadedModule;
+use gimli_cfi::{EndianSlice, RunTimeEndian};
+use std::alloc::AllocError;
+
+/// A module of a profile's file.
+pub type FileModule<'a, 'run> = LoadedModule<'a, EndianSlice<'run, RunTimeEndian>>;
+
+/// What is mapped in a process, and the files of the profile.
+#[derive(Clone, Copy)]
+pub struct ProcessCode<'a, 'files, 'run> {
+    /// What is mapped, in the order of addresses.
+    pub mappings: &'a [MappedCode],
+    /// The files, to which the mappings' `object` counts.
+    pub files: &'files [ProfileFile<'run>],
+}
+
+impl<'a, 'files, 'run> ProcessCode<'a, 'files, 'run> {
+    /// Where an address is: in which function of which file.
+    pub fn site(&self, address: u64) -> Site<'run>
+        requires { AreInOrder 0 self.now.mappings.now }
+        ensures { site_view result
+            ≡ site_of (map known_view self.now.files.now) self.now.mappings.now address }
+    {
+        match self.mapped_at(address) {
+            Some(mapped) => self.site_in(mapped, address),
+            None => nowhere(address),
+        }
+    }
+
+    /// Where an address is that is mapped here.
+    fn site_in(&self, mapped: &MappedCode, address: u64) -> Site<'run>
+        ensures { site_view result ≡ site_in mapped.now address
+            (file_of (map known_view self.now.files.now) mapped.now) }
+    {
+        match self.file_of(mapped) {
+            Some(file) => Site {
+                place: mapped
+                    .offset
+                    .wrapping_add(address.saturating_sub(mapped.start)),
+                function: function_in(file, mapped, address),
+                file: Some(file.name),
+            },
+            None => nowhere(address),
+        }
+    }
+
+    /// The mapping that has the address.
+    fn mapped_at(&self, address: u64) -> Option<&'a MappedCode>
+        requires { AreInOrder 0 self.now.mappings.now }
+        ensures { option_map (λ mapped. mapped.now) result
+            ≡ mapped_at self.now.mappings.now address }
+    {
+        let index = self
+            .mappings
+            .partition_point(|mapped| mapped.end <= address);
+        let mapped = self.mappings.get(index)?;
+        if mapped.start <= address {
+            Some(mapped)
+        } else {
+            None
+        }
+    }
+
+    /// The file that is mapped.
+    fn file_of(&self, mapped: &MappedCode) -> Option<&'files ProfileFile<'run>>
+        ensures { option_map (λ file. known_view file.now) result
+            ≡ file_of (map known_view self.now.files.now) mapped.now }
+    {
+        self.files.get(mapped.object?)
+    }
+
+    /// Appends the modules of what is mapped. Fails where memory is refused.
+    pub fn push_modules(
+        &self,
+        modules: &mut Vec<FileModule<'files, 'run>>,
+    ) -> Result<(), AllocError>
+        ensures { OnOk result (map module_view modules.new.items
+            ≡ map module_view modules.old.items
+            ++ modules_in (map known_view self.now.files.now) self.now.mappings.now) }
+    {
+        for mapped in self.mappings {
+            if let Some(module) = self.module_at(mapped) {
+                modules.push(module)?;
+            }
+        }
+        Ok(())
+    }
+
+    /// The module that is mapped.
+    fn module_at(&self, mapped: &MappedCode) -> Option<FileModule<'files, 'run>>
+        ensures { option_map module_view result ≡ option_and_then (module_in mapped.now)
+            (file_of (map known_view self.now.files.now) mapped.now) }
+    {
+        module_in(self.file_of(mapped)?, mapped)
+    }
+}
+
+/// An address where no file is mapped.
+fn nowhere<'run>(address: u64) -> Site<'run>
+    ensures { site_view result ≡ nowhere address }
+{
+    Site {
+        place: address,
+        function: None,
+        file: None,
+    }
+}
+
+/// The function of a file that has the address.
+fn function_in<'run>(
+    file: &ProfileFile<'run>,
+    mapped: &MappedCode,
+    address: u64,
+) -> Option<FunctionPlace<'run>>
+    ensures { option_map place_view result
+        ≡ option_and_then (function_in mapped.now address) (known_view file.now).code }
+{
+    match &file.code {
+        Some(code) => code.function_at(mapped, address),
+        None => None,
+    }
+}
+
+/// The module that a file is where it is mapped.
+fn module_in<'a, 'run>(
+    file: &'a ProfileFile<'run>,
+    mapped: &MappedCode,
+) -> Option<FileModule<'a, 'run>>
+    ensures { option_map module_view result ≡ module_in mapped.now (known_view file.now) }
+{
+    match &file.code {
+        Some(code) => code.module(mapped),
+        None => None,
+    }
+}

@@ -1,0 +1,335 @@
+//! The stacks of a profile that a reader gives.
+ghost use Rattle.std.specs.Prelude.{◌≡◌, ◌⊎◌, ℕ, List, [], Ok, IfOk, map};
+ghost use Rattle.cfi_files.specs.FileLines.{PrintsSome};
+ghost use Rattle.cfi_files.specs.FileOutputs.{AreLeft};
+ghost use Rattle.cfi_perf.specs.Events.{record_view};
+ghost use Rattle.cfi_perf.specs.Profiles.{profile_view};
+ghost use Rattle.cfi_perf.specs.Records.{records_left};
+ghost use Rattle.cfi_programs.specs.Runs.{out_of_memory};
+ghost use Rattle.cfi_programs.specs.WriterOutput.{Prints, Writes};
+ghost use Rattle.cfi_stacks.specs.KnownFiles.{known_view};
+ghost use Rattle.cfi_stacks.specs.OpenedFiles.{opened_view, texts};
+ghost use Rattle.cfi_stacks.specs.ProfileOutputs.{IsOfNamed, IsOfOpened, IsOfProfile};
+ghost use Rattle.cfi_stacks.specs.ProfileOutputs.{IsOfRecords, IsOfSorted};
+ghost use Rattle.cfi_stacks.specs.ProfileOutputs.{IsOutput, IsOwed, IsPrinted, IsSortedOf};
+ghost use Rattle.cfi_stacks.specs.ProfileOutputs.{IsTextOf, ended, perf_refusal};
+ghost use Rattle.cfi_stacks.specs.ProfileOutputs.{unknown_machine};
+ghost use Rattle.cfi_stacks.specs.Replays.{AreModulesFor, files_in, replayed};
+
+use crate::profile_files::{
+    OpenedFile, Opener, ProfileFile, mapped_names, profile_files, read_files,
+};
+use crate::registers::SampleMachine;
+use crate::replay::Replay;
+use crate::sample_text::{Room, print_sample};
+use cfi_perf::{Event, PerfError, Profile, Record, Records};
+use cfi_programs::input::{InputError, read_all};
+use cfi_programs::lines::{write_part, write_refusal, write_text, write_wrong_input};
+use gimli_cfi::Error;
+use std::alloc::{AllocError, Global};
+use std::io;
+use std::io::{Read, Write};
+
+/// Reads the profile to its end, and prints the stack of each sample, in the order of their times.
+///
+/// For each there is a line with the process, the thread and the time, a line for each frame, where
+/// there is a reason for which the last frame isn't the outermost one a line with it, and an empty
+/// line. The files of code are opened by the names that the profile has for them.
+///
+/// Status 0: all samples are printed. Status 1: the profile, or the rest of it, can't be read,
+/// which prints `refused` and the name of the error; it is of a machine whose registers aren't
+/// known here, which prints `unknown machine`; or memory is refused. Status 2: the input can't be
+/// read, which prints `wrong input`. Fails where the output can't be written: then a beginning has
+/// been written.
+///
+/// Allocates for the input, the records, the files and what is mapped. Unwinding and printing don't
+/// allocate.
+pub fn unwind_profile<O: Opener, R: Read, W: Write>(
+    alloc: Global,
+    opener: &O,
+    input: &mut R,
+    output: &mut W,
+) -> io::Result<u8>
+    ensures { (bytes : List ℕ) × AreLeft (R.remaining input.old) bytes
+        × PrintsSome (λ line. IsOwed (O.may_open opener.now) O.File.remaining bytes line)
+        (W.contents output.old) (W.contents output.new) result }
+{
+    match read_all(alloc, input) {
+        Ok(bytes) => print_bytes(alloc, opener, bytes.as_slice(), output),
+        Err(InputError::OutOfMemory) => write_refusal(output, Error::OutOfMemory),
+        Err(_) => write_wrong_input(output),
+    }
+}
+
+/// Prints the stacks of the profile that these bytes are.
+fn print_bytes<O: Opener, W: Write>(
+    alloc: Global,
+    opener: &O,
+    bytes: &[u8],
+    output: &mut W,
+) -> io::Result<u8>
+    ensures { PrintsSome (λ line. IsOutput (O.may_open opener.now) O.File.remaining bytes.now line)
+        (W.contents output.old) (W.contents output.new) result }
+{
+    match Profile::parse(bytes) {
+        Ok(profile) => print_profile(alloc, opener, &profile, output),
+        Err(error) => write_perf_refusal(output, error),
+    }
+}
+
+/// Prints the stacks of a profile.
+fn print_profile<O: Opener, W: Write>(
+    alloc: Global,
+    opener: &O,
+    profile: &Profile<'_>,
+    output: &mut W,
+) -> io::Result<u8>
+    ensures { PrintsSome (λ line. IsOfProfile (O.may_open opener.now) O.File.remaining
+        (Ok (profile_view profile.now)) line)
+        (W.contents output.old) (W.contents output.new) result }
+{
+    match profile.architecture() {
+        Ok(Some(name)) => match SampleMachine::named(name) {
+            Some(machine) => print_records(alloc, opener, machine, profile.records(), output),
+            None => write_unknown_machine(output),
+        },
+        Ok(None) => write_unknown_machine(output),
+        Err(error) => write_perf_refusal(output, error),
+    }
+}
+
+/// Prints the stacks that the records have, and then the error that ends them, if any.
+fn print_records<O: Opener, W: Write>(
+    alloc: Global,
+    opener: &O,
+    machine: SampleMachine,
+    records: Records<'_>,
+    output: &mut W,
+) -> io::Result<u8>
+    ensures { PrintsSome (λ line. IsOfRecords (O.may_open opener.now) O.File.remaining machine
+        (records_left records.entry) line)
+        (W.contents output.old) (W.contents output.new) result }
+{
+    match sorted_records(alloc, records) {
+        Ok(found) => print_sorted(
+            alloc,
+            opener,
+            machine,
+            found.list.as_slice(),
+            found.error,
+            output,
+        ),
+        Err(_) => write_refusal(output, Error::OutOfMemory),
+    }
+}
+
+/// The records of a profile in the order of their times, and the error that ended them.
+#[derive(Drop)]
+struct FoundRecords<'run> {
+    list: Vec<Record<'run>>,
+    error: Option<PerfError>,
+}
+
+/// The records in the order of their times, and the error that ends them.
+fn sorted_records<'run>(
+    alloc: Global,
+    records: Records<'run>,
+) -> Result<FoundRecords<'run>, AllocError>
+    ensures { IfOk result (λ found. IsSortedOf (records_left records.entry)
+        (map record_view found.list.items) found.error) }
+{
+    let mut found = read_records(alloc, records)?;
+    found.list.sort_by_key(|record| record.time)?;
+    Ok(found)
+}
+
+/// The records in their order, and the error that ends them.
+fn read_records<'run>(
+    alloc: Global,
+    records: Records<'run>,
+) -> Result<FoundRecords<'run>, AllocError>
+    ensures { IfOk result (λ found. record {
+      records = map record_view found.list.items;
+      error = found.error;
+    } ≡ records_left records.entry) }
+{
+    let mut list = Vec::new(alloc);
+    for record in records {
+        match record {
+            Ok(record) => list.push(record)?,
+            Err(error) => {
+                return Ok(FoundRecords {
+                    list,
+                    error: Some(error),
+                });
+            }
+        }
+    }
+    Ok(FoundRecords { list, error: None })
+}
+
+/// Opens the files of the records, and prints the stacks.
+fn print_sorted<O: Opener, W: Write>(
+    alloc: Global,
+    opener: &O,
+    machine: SampleMachine,
+    records: &[Record<'_>],
+    error: Option<PerfError>,
+    output: &mut W,
+) -> io::Result<u8>
+    ensures { PrintsSome (λ line. IsOfSorted (O.may_open opener.now) O.File.remaining machine
+        (map record_view records.now) error line ⊎ (line ≡ out_of_memory))
+        (W.contents output.old) (W.contents output.new) result }
+{
+    match mapped_names(alloc, records) {
+        Ok(names) => {
+            print_named(
+                alloc,
+                opener,
+                machine,
+                names.as_slice(),
+                records,
+                error,
+                output,
+            )
+        }
+        Err(_) => write_refusal(output, Error::OutOfMemory),
+    }
+}
+
+/// Opens the files of these names, and prints the stacks of the records.
+fn print_named<O: Opener, W: Write>(
+    alloc: Global,
+    opener: &O,
+    machine: SampleMachine,
+    names: &[&[u8]],
+    records: &[Record<'_>],
+    error: Option<PerfError>,
+    output: &mut W,
+) -> io::Result<u8>
+    ensures { PrintsSome (λ line. IsOfNamed (O.may_open opener.now) O.File.remaining machine
+        (texts names.now) (map record_view records.now) error line ⊎ (line ≡ out_of_memory))
+        (W.contents output.old) (W.contents output.new) result }
+{
+    match read_files(alloc, opener, names) {
+        Ok(opened) => print_opened(alloc, machine, opened.as_slice(), records, error, output),
+        Err(_) => write_refusal(output, Error::OutOfMemory),
+    }
+}
+
+/// Prints the stacks of the records, by files that were opened.
+fn print_opened<W: Write>(
+    alloc: Global,
+    machine: SampleMachine,
+    opened: &[OpenedFile<'_>],
+    records: &[Record<'_>],
+    error: Option<PerfError>,
+    output: &mut W,
+) -> io::Result<u8>
+    ensures { PrintsSome (λ line. IsOfOpened machine (map opened_view opened.now)
+        (map record_view records.now) error line ⊎ (line ≡ out_of_memory))
+        (W.contents output.old) (W.contents output.new) result }
+{
+    match profile_files(alloc, opened) {
+        Ok(files) => print_stacks(alloc, machine, files.as_slice(), records, error, output),
+        Err(_) => write_refusal(output, Error::OutOfMemory),
+    }
+}
+
+/// Prints the stacks of the records, by the files, and then the error that ended the records.
+fn print_stacks<W: Write>(
+    alloc: Global,
+    machine: SampleMachine,
+    files: &[ProfileFile<'_>],
+    records: &[Record<'_>],
+    error: Option<PerfError>,
+    output: &mut W,
+) -> io::Result<u8>
+    ensures { PrintsSome (λ line. IsPrinted machine (map known_view files.now)
+        (map record_view records.now) error line)
+        (W.contents output.old) (W.contents output.new) result }
+{
+    match Room::new(alloc) {
+        Ok(room) => print_in(alloc, room, machine, files, records, error, output),
+        Err(_) => write_refusal(output, Error::OutOfMemory),
+    }
+}
+
+/// Prints the stacks of the records in this room, and then the error that ended the records.
+fn print_in<W: Write>(
+    alloc: Global,
+    room: Room,
+    machine: SampleMachine,
+    files: &[ProfileFile<'_>],
+    records: &[Record<'_>],
+    error: Option<PerfError>,
+    output: &mut W,
+) -> io::Result<u8>
+    ensures { PrintsSome (λ line. IsPrinted machine (map known_view files.now)
+        (map record_view records.now) error line)
+        (W.contents output.old) (W.contents output.new) result }
+{
+    let mut room = room;
+    let mut replay = Replay::new(alloc, files);
+    for record in records {
+        match replay.follow(record) {
+            Ok(()) => print_followed(machine, &replay, record, &mut room, output)?,
+            Err(_) => return write_refusal(output, Error::OutOfMemory),
+        }
+    }
+    write_end(output, error)
+}
+
+/// Prints the stack of a record that was followed last, if it is a sample.
+fn print_followed<W: Write>(
+    machine: SampleMachine,
+    replay: &Replay<'_, '_>,
+    record: &Record<'_>,
+    room: &mut Room,
+    output: &mut W,
+) -> io::Result<()>
+    requires { AreModulesFor (record_view record.now).event replay.now }
+    ensures { (text : List ℕ) × Writes (W.contents output.old) (W.contents output.new) result text
+        × IsTextOf machine (files_in replay.now) (replayed replay.now) record.now.time
+        (record_view record.now).event text }
+{
+    match record.event {
+        Event::Sample(sample) => print_sample(
+            machine,
+            &replay.code(sample.pid),
+            replay.modules(),
+            record.time,
+            &sample,
+            room,
+            output,
+        ),
+        _ => Ok(()),
+    }
+}
+
+/// Prints the error that ended the records, if there is one, and returns the status.
+fn write_end<W: Write>(output: &mut W, error: Option<PerfError>) -> io::Result<u8>
+    ensures { Prints (ended [] error) (W.contents output.old) (W.contents output.new) result }
+{
+    match error {
+        None => Ok(0),
+        Some(error) => write_perf_refusal(output, error),
+    }
+}
+
+/// Prints `refused` and the name of the error, and returns the status 1.
+fn write_perf_refusal<W: Write>(output: &mut W, error: PerfError) -> io::Result<u8>
+    ensures { Prints (perf_refusal error) (W.contents output.old) (W.contents output.new) result }
+{
+    let name = error.name();
+    write_part(output, format_args!("refused {name}\n"))?;
+    Ok(1)
+}
+
+/// Prints that the registers of the profile's machine aren't known, and returns the status 1.
+fn write_unknown_machine<W: Write>(output: &mut W) -> io::Result<u8>
+    ensures { Prints unknown_machine (W.contents output.old) (W.contents output.new) result }
+{
+    write_text(output, b"unknown machine\n")?;
+    Ok(1)
+}

@@ -1,0 +1,149 @@
+//! The text of a sample's stack.
+ghost use Rattle.std.specs.Prelude.{◌≡◌, ◌≤◌, ℕ, IfOk, List, length, map};
+ghost use Rattle.cfi_perf.specs.Samples.{sample_view};
+ghost use Rattle.cfi_programs.specs.WriterOutput.{Writes};
+ghost use Rattle.cfi_stacks.specs.KnownFiles.{known_view, modules_in};
+ghost use Rattle.cfi_stacks.specs.Mappings.{AreInOrder};
+ghost use Rattle.cfi_stacks.specs.Modules.{module_view};
+ghost use Rattle.cfi_stacks.specs.ProfileOutputs.{IsStackText, sample_text, stack_text, walk_text};
+
+use crate::process_code::{FileModule, ProcessCode};
+use crate::reasons::{reason_of, reason_without, write_reason};
+use crate::registers::SampleMachine;
+use crate::sample_stack::{NoFrames, unwind_sample};
+use crate::stack_lines::{write_frame_line, write_head};
+use cfi_perf::Sample;
+use cfi_programs::lines::write_text;
+use cfi_step::{Modules, StackFrame, Walk, row_address};
+use gimli_cfi::{Error, UnwindContext};
+use std::alloc::Global;
+use std::io;
+use std::io::Write;
+
+/// How many frames a stack may have. perf copies 65,528 bytes of a stack at most, and most frames
+/// have 16 bytes at least.
+const FRAMES: usize = 4096;
+
+/// As many registers as the machine with most of them has.
+const REGISTERS: usize = 33;
+
+const NO_FRAME: StackFrame = StackFrame {
+    pc: 0,
+    is_interrupted: false,
+    cfa: None,
+};
+
+/// What the stacks of all samples are unwound in.
+#[derive(Drop)]
+pub struct Room {
+    context: UnwindContext<usize>,
+    frames: Vec<StackFrame>,
+}
+
+impl Room {
+    /// Room for `FRAMES` frames. Fails where memory is refused.
+    pub fn new(alloc: Global) -> Result<Room, Error> {
+        let context = UnwindContext::<usize>::new(alloc)?;
+        match vec![in alloc; NO_FRAME; FRAMES] {
+            Ok(frames) => Ok(Room { context, frames }),
+            Err(_) => Err(Error::OutOfMemory),
+        }
+    }
+}
+
+/// Prints the stack of a sample: a line with its thread and time, a line for each frame, the reason
+/// why there are no more if the last one isn't the outermost, and an empty line.
+///
+/// The modules are those of what is mapped. Does not allocate.
+pub fn print_sample<W: Write>(
+    machine: SampleMachine,
+    code: &ProcessCode<'_, '_, '_>,
+    modules: &[FileModule<'_, '_>],
+    time: u64,
+    sample: &Sample<'_>,
+    room: &mut Room,
+    output: &mut W,
+) -> io::Result<()>
+    requires order { AreInOrder 0 code.now.mappings.now }
+    requires modules { map module_view modules.now
+        ≡ modules_in (map known_view code.now.files.now) code.now.mappings.now }
+    ensures { (text : List ℕ) × Writes (W.contents output.old) (W.contents output.new) result text
+        × IsStackText machine (map known_view code.now.files.now) code.now.mappings.now time
+        (sample_view sample.now) text }
+{
+    let Ok(modules) = Modules::new(modules) else {
+        unreachable!()
+    };
+    let count = machine.register_count();
+    let mut registers = [None; REGISTERS];
+    let mut caller = [None; REGISTERS];
+    let frames = room.frames.as_mut_slice();
+    let found = unwind_sample(
+        modules,
+        machine,
+        &sample.user,
+        &mut room.context,
+        &mut registers[..count],
+        &mut caller[..count],
+        frames,
+    );
+    print_found(code, time, sample, found, frames, output)
+}
+
+/// Prints what was found of a sample's stack.
+fn print_found<W: Write>(
+    code: &ProcessCode<'_, '_, '_>,
+    time: u64,
+    sample: &Sample<'_>,
+    found: Result<Walk, NoFrames>,
+    frames: &[StackFrame],
+    output: &mut W,
+) -> io::Result<()>
+    requires order { AreInOrder 0 code.now.mappings.now }
+    requires count { IfOk found (λ walk. walk.count ≤ length frames.now) }
+    ensures { Writes (W.contents output.old) (W.contents output.new) result
+        (sample_text (map known_view code.now.files.now) code.now.mappings.now time
+        (sample_view sample.now) found frames.now) }
+{
+    write_head(output, sample.pid, sample.tid, time)?;
+    print_walk(code, found, frames, output)?;
+    write_text(output, b"\n")
+}
+
+/// Prints the frames of a walk and why there are no more, or why there are none.
+fn print_walk<W: Write>(
+    code: &ProcessCode<'_, '_, '_>,
+    found: Result<Walk, NoFrames>,
+    frames: &[StackFrame],
+    output: &mut W,
+) -> io::Result<()>
+    requires order { AreInOrder 0 code.now.mappings.now }
+    requires count { IfOk found (λ walk. walk.count ≤ length frames.now) }
+    ensures { Writes (W.contents output.old) (W.contents output.new) result
+        (walk_text (map known_view code.now.files.now) code.now.mappings.now found frames.now) }
+{
+    match found {
+        Ok(walk) => {
+            print_frames(code, &frames[..walk.count], output)?;
+            write_reason(output, reason_of(walk.end))
+        }
+        Err(why) => write_reason(output, Some(reason_without(why))),
+    }
+}
+
+/// Prints a line for each frame.
+fn print_frames<W: Write>(
+    code: &ProcessCode<'_, '_, '_>,
+    frames: &[StackFrame],
+    output: &mut W,
+) -> io::Result<()>
+    requires { AreInOrder 0 code.now.mappings.now }
+    ensures { Writes (W.contents output.old) (W.contents output.new) result
+        (stack_text (map known_view code.now.files.now) code.now.mappings.now frames.now) }
+{
+    for frame in frames {
+        let address = row_address(frame.pc, frame.is_interrupted);
+        write_frame_line(output, code.site(address))?;
+    }
+    Ok(())
+}

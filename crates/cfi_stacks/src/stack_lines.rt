@@ -1,0 +1,146 @@
+//! The lines of a sample's stack.
+ghost use Rattle.std.specs.Prelude.{◌≡◌, ◌++◌, OnOk, Some, codes, option_map};
+ghost use Rattle.cfi_elf.specs.FunctionPlaces.{place_view};
+ghost use Rattle.cfi_programs.specs.Lines.{address_text};
+ghost use Rattle.cfi_programs.specs.WriterOutput.{Writes};
+ghost use Rattle.cfi_stacks.specs.StackTexts.{column_text, file_text, filled, frame_line};
+ghost use Rattle.cfi_stacks.specs.StackTexts.{function_text, head_line, seconds_text, site_view};
+
+use crate::names::write_name;
+use cfi_elf::FunctionPlace;
+use cfi_programs::lines::write_text;
+use cfi_programs::text::{Text, push, push_address, push_decimal};
+use std::io::Write;
+use std::{fmt, io};
+
+/// How many bytes stand before the digits of an address: `0x`.
+const PREFIX: usize = 2;
+
+/// Where the code of a frame is, as far as it is known.
+#[derive(Clone, Copy, Debug)]
+pub struct Site<'run> {
+    /// The place in the file; where no file is mapped, the address.
+    pub place: u64,
+    /// The function whose bytes have the address.
+    pub function: Option<FunctionPlace<'run>>,
+    /// The name of the file that is mapped there.
+    pub file: Option<&'run [u8]>,
+}
+
+/// Writes the line of a sample's thread and time, which is in nanoseconds: `PID/TID SECONDS:`, with
+/// six digits behind the point.
+pub fn write_head<W: Write>(output: &mut W, pid: u32, tid: u32, time: u64) -> io::Result<()>
+    ensures { Writes (W.contents output.old) (W.contents output.new) result
+        (head_line pid tid time) }
+{
+    let mut text = Text::new();
+    push_head(&mut text, pid, tid, time)?;
+    write_text(output, text.as_slice())
+}
+
+/// Writes the line of a frame: a tab, the place in the file in sixteen columns, the function and
+/// how far into it the address is, and the file in parentheses. `[unknown]` stands for a function
+/// or a file that isn't known. Bytes of names that aren't printable ASCII are question marks.
+pub fn write_frame_line<W: Write>(output: &mut W, site: Site<'_>) -> io::Result<()>
+    ensures { Writes (W.contents output.old) (W.contents output.new) result
+        (frame_line (site_view site.entry)) }
+{
+    write_column(output, site.place)?;
+    write_function(output, site.function)?;
+    write_text(output, b" (")?;
+    write_file(output, site.file)?;
+    write_text(output, b")\n")
+}
+
+/// Appends what `write_head` writes. Fails where there is no room.
+fn push_head(text: &mut Text, pid: u32, tid: u32, time: u64) -> fmt::Result
+    ensures { OnOk result (text.new.items ≡ text.old.items ++ head_line pid tid time) }
+{
+    push_decimal(text, u64::from(pid))?;
+    push(text, b"/")?;
+    push_decimal(text, u64::from(tid))?;
+    push(text, b" ")?;
+    push_seconds(text, time)?;
+    push(text, b":\n")
+}
+
+/// Appends a time in nanoseconds as seconds. Fails where there is no room.
+fn push_seconds(text: &mut Text, time: u64) -> fmt::Result
+    ensures { OnOk result (text.new.items ≡ text.old.items ++ seconds_text time) }
+{
+    push_decimal(text, time / 1_000_000_000)?;
+    push(text, b".")?;
+    let mut micros = Text::new();
+    push_decimal(&mut micros, time / 1000 % 1_000_000)?;
+    push_filled(text, b"000000", micros.as_slice())
+}
+
+/// Appends a text behind as much of the fill as makes it as long. Fails where there is no room.
+fn push_filled(text: &mut Text, fill: &[u8], shown: &[u8]) -> fmt::Result
+    ensures { OnOk result (text.new.items ≡ text.old.items ++ filled fill.now shown.now) }
+{
+    push(text, &fill[..fill.len().saturating_sub(shown.len())])?;
+    push(text, shown)
+}
+
+/// Writes a place behind a tab, in sixteen columns, and a space.
+fn write_column<W: Write>(output: &mut W, place: u64) -> io::Result<()>
+    ensures { Writes (W.contents output.old) (W.contents output.new) result
+        (column_text place) }
+{
+    let mut text = Text::new();
+    push_column(&mut text, place)?;
+    write_text(output, text.as_slice())
+}
+
+/// Appends what `write_column` writes. Fails where there is no room.
+fn push_column(text: &mut Text, place: u64) -> fmt::Result
+    ensures { OnOk result (text.new.items ≡ text.old.items ++ column_text place) }
+{
+    let mut shown = Text::new();
+    push_address(&mut shown, place)?;
+    let digits = &shown.as_slice()[PREFIX..];
+    push(text, b"\t")?;
+    push_filled(text, b"                ", digits)?;
+    push(text, b" ")
+}
+
+/// Writes the name of a function, and how far into it an address is.
+fn write_function<W: Write>(output: &mut W, place: Option<FunctionPlace<'_>>) -> io::Result<()>
+    ensures { Writes (W.contents output.old) (W.contents output.new) result
+        (function_text (option_map place_view place.entry)) }
+{
+    match place {
+        None => write_text(output, b"[unknown]"),
+        Some(place) => write_place(output, place),
+    }
+}
+
+fn write_place<W: Write>(output: &mut W, place: FunctionPlace<'_>) -> io::Result<()>
+    ensures { Writes (W.contents output.old) (W.contents output.new) result
+        (function_text (Some (place_view place.entry))) }
+{
+    write_name(output, place.name)?;
+    write_offset(output, place.offset)
+}
+
+fn write_offset<W: Write>(output: &mut W, offset: u64) -> io::Result<()>
+    ensures { Writes (W.contents output.old) (W.contents output.new) result
+        (codes "+" ++ address_text offset) }
+{
+    let mut text = Text::new();
+    push(&mut text, b"+")?;
+    push_address(&mut text, offset)?;
+    write_text(output, text.as_slice())
+}
+
+/// Writes the name of a file.
+fn write_file<W: Write>(output: &mut W, name: Option<&[u8]>) -> io::Result<()>
+    ensures { Writes (W.contents output.old) (W.contents output.new) result
+        (file_text (option_map (λ name. name.now) name.entry)) }
+{
+    match name {
+        None => write_text(output, b"[unknown]"),
+        Some(name) => write_name(output, name),
+    }
+}
