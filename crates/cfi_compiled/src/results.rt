@@ -12,7 +12,7 @@ use std::alloc::Global;
 use std::marker::Model;
 
 /// What a row that stands for an error has in place of the number of a rest.
-const NO_REST: usize = usize::MAX;
+const ERROR_MARK: usize = usize::MAX;
 
 /// Results by number, each in the memory that a row takes; an error takes its own besides.
 ///
@@ -65,7 +65,7 @@ impl KeptResults {
             get_or self.now number d ≡ map_ok (λ row. row.now) result }
     {
         let row = &self.rows[number];
-        if row.rest == NO_REST {
+        if row.rest == ERROR_MARK {
             return Err(self.errors[index_in(row.cfa)]);
         }
         Ok(row)
@@ -102,7 +102,7 @@ impl KeptResults {
         self.errors.push(error)?;
         self.rows.push(KeptRow {
             cfa: CfaRule::Expression(UnwindExpression { offset, length: 0 }),
-            rest: NO_REST,
+            rest: ERROR_MARK,
         })?;
         Ok(())
     }
