@@ -8,16 +8,17 @@ use Rattle.cfi_read_core.specs.declared.error.Error.{Error}
 use Rattle.cfi_read_core.specs.declared.error.Error.TheVariants.{NoUnwindInfoForAddress}
 use Rattle.cfi_read_core.specs.ReaderCalls.{map_ok}
 use Rattle.cfi_state.specs.Machine.{Rules}
+use Rattle.gimli_cfi.specs.Words.{Parts}
 use Rattle.cfi_compiled.specs.declared.facts.CieFacts.{CieFacts}
 use Rattle.cfi_compiled.specs.declared.rests.KeptRow.{KeptRow}
 use Rattle.cfi_compiled.specs.declared.step_list.NumberedStep.{NumberedStep}
 use Rattle.cfi_compiled.specs.FrameParts.{frame_of}
-use Rattle.cfi_compiled.specs.KeptRows.{AreNamed, IsGrown, RestLists, frame_in, parts_in, rest_args, rest_facts, rest_rules, results_in}
+use Rattle.cfi_compiled.specs.KeptRows.{AreNamed, IsGrown, IsRestOf, RestLists, frame_in, parts_in, rest_args, rest_facts, rest_rules, results_in}
 use Rattle.cfi_compiled.specs.CompiledTables.{AreNumbersOf, IsAdded, IsSound, frame_at, frame_numbered, step_named, steps_of}
 use Rattle.cfi_compiled.specs.Steps.{Rise, free_from, frame_by_steps}
 use Rattle.cfi_compiled.proofs.Grown.{Extends, Results}
 
-abbrev Names : ℕ → Result KeptRow Error → Type 0
+abbrev pub Names : ℕ → Result KeptRow Error → Type 0
 Names count row = IfOk row (λ row. row.rest < count)
 
 more_named : (few many : ℕ) → few ≤ many → (row : Result KeptRow Error) → Names few row → Names many row
@@ -73,12 +74,16 @@ module _ (lists : RestLists) (answer : Result KeptRow Error) (old new : List (Re
       (λ is. subst (AreNamed lists) (sym is) (All-push (Names (length lists.rests)) old answer named within))
       added
 
-result_at : (lists : RestLists) (rows : List (Result KeptRow Error)) (answer : Result KeptRow Error) (number : ℕ) → number < length rows → get_or rows number answer ≡ answer
+pub result_at : (lists : RestLists) (rows : List (Result KeptRow Error)) (answer : Result KeptRow Error) (number : ℕ) → number < length rows → get_or rows number answer ≡ answer
     → (number < length (results_in lists rows)) × (frame_numbered (results_in lists rows) number ≡ map_ok (frame_in lists) answer)
 result_at lists rows answer number within is = (
   simp length-map within,
   get_or-map (map_ok (frame_in lists)) rows number answer (Err NoUnwindInfoForAddress) within ∙ ap (map_ok (frame_in lists)) is,
 )
+
+-- the rest of a row, with its CFA, is what the row says
+pub frame_of_rest : (lists : RestLists) (row : KeptRow) (facts : CieFacts) (parts : Parts ℕ) → row.cfa ≡ parts.cfa → IsRestOf lists facts parts row.rest → frame_in lists row ≡ frame_of facts parts
+frame_of_rest lists row facts parts cfa is = rw (cfa, is.rules, is.args, is.said) refl
 
 pub result_named : {E : Type 0} → (lists shown : RestLists) → lists ≡ shown → (rows : List (Result KeptRow Error)) (answer : Result KeptRow Error) (found : Result ℕ E)
     → IfOk found (λ n. n < length rows) → IfOk found (λ n. (d : Result KeptRow Error) → get_or rows n d ≡ answer)

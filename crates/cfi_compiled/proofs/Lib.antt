@@ -19,4 +19,5 @@ mod Grown
 mod RuleLists
 mod RestLists
 mod KeptResults
+mod ResultLists
 pub mod Laws

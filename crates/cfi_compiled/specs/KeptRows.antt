@@ -8,7 +8,7 @@
 --         but for the CFA
 --     IsGrown old new      what a number meant it means still
 --     AreNamed lists rows      each row names a rest that there is
-use Rattle.std.specs.Prelude.{◌≡◌, ◌<◌, ◌≤◌, ℕ, false, List, length, map, get_or, slice_range}
+use Rattle.std.specs.Prelude.{◌≡◌, ◌<◌, ◌≤◌, ◌+◌, ◌^◌, ℕ, false, List, length, map, get_or, slice_range}
 use Rattle.std.specs.Prelude.{Result, IfOk}
 use Rattle.std.specs.List.{All}
 use Rattle.cfi_read_core.specs.declared.common.Register.{Register}
@@ -64,6 +64,7 @@ results_in lists rows = map (map_ok (frame_in lists)) rows
 
 pub record IsRestOf (lists : RestLists) (facts : CieFacts) (parts : Parts ℕ) (number : ℕ) : Type 0 where
   pub inside : number < length lists.rests
+  pub room : number + 1 < 2 ^ 64
   pub rules : rest_rules lists number ≡ parts.rules
   pub args : rest_args lists number ≡ parts.args_size
   pub said : rest_facts lists number ≡ facts

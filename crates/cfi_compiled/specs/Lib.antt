@@ -1,6 +1,7 @@
 pub mod FrameParts
 pub mod CompiledRows
 pub mod KeptRows
+pub mod ResultLists
 pub mod Steps
 pub mod SearchedSteps
 pub mod PagedSteps

@@ -1,5 +1,5 @@
 //! Tables while they are made.
-ghost use Rattle.std.specs.Prelude.{◌≡◌, ◌≤◌, ◌<◌, ◌+◌, ℕ, [], length, get_or, Ok};
+ghost use Rattle.std.specs.Prelude.{◌≡◌, ◌≤◌, ◌<◌, ◌+◌, ◌^◌, ℕ, [], length, get_or, Ok};
 ghost use Rattle.std.specs.Prelude.{IfOk, IsTrue, OnOk, Result as TheResult};
 ghost use Rattle.gimli_cfi.specs.Words.{Error as TheError, map_ok};
 ghost use Rattle.cfi_compiled.specs.declared.rests.KeptRow.{KeptRow as Kept};
@@ -13,6 +13,7 @@ use crate::facts::CieFacts;
 use crate::guesses::Guesses;
 use crate::hash::hash_of_answer;
 use crate::rests::{KeptRow, RestBuilder};
+use crate::results::KeptResults;
 use crate::same::{is_same, is_same_cfa};
 use crate::slots::{Slots, Sought};
 use crate::step_list::{NumberedStep, StepList};
@@ -27,7 +28,7 @@ use std::marker::Model;
 pub(crate) struct TableBuilder {
     alloc: Global,
     rests: RestBuilder,
-    rows: Vec<Result<KeptRow>>,
+    rows: KeptResults,
     slots: Slots,
     guesses: Guesses,
     steps: StepList,
@@ -41,13 +42,13 @@ impl Model for TableBuilder {
 
     ghost view = { λ table. record {
       lists = table.rests;
-      rows = table.rows.items;
+      rows = table.rows;
       numbers = numbered table.steps;
     } };
 
     ghost invariant = { λ table. IsSound (record {
       lists = table.rests;
-      rows = table.rows.items;
+      rows = table.rows;
       numbers = numbered table.steps;
     }) };
 }
@@ -64,7 +65,7 @@ impl TableBuilder {
         TableBuilder {
             alloc,
             rests: RestBuilder::new(alloc),
-            rows: Vec::new(alloc),
+            rows: KeptResults::new(alloc),
             slots: Slots::new(alloc),
             guesses: Guesses::new(alloc),
             steps: StepList::new(alloc),
@@ -82,7 +83,7 @@ impl TableBuilder {
             steps,
             ..
         } = self;
-        rows.shrink_to_fit();
+        rows.shrink();
         let steps = steps.finish(alloc)?;
         Ok(CompiledTable::of(rests.finish(), rows, steps))
     }
@@ -101,7 +102,7 @@ impl TableBuilder {
         if number >= self.rows.len() {
             return false;
         }
-        match self.rows[number] {
+        match self.rows.at(number) {
             Ok(kept) => is_same_cfa(kept.cfa, *row.cfa())
                 && self.rests.is_of(kept.rest, row, facts),
             Err(_) => false,
@@ -145,7 +146,8 @@ impl TableBuilder {
 
     /// The number of a result, which is added if it isn't there.
     fn number_of(&mut self, answer: Result<KeptRow>) -> std::result::Result<usize, NoMemory>
-        requires { IfOk answer (λ row. row.rest < length self.old.lists.rests) }
+        requires names { IfOk answer (λ row. row.rest < length self.old.lists.rests) }
+        requires room { IfOk answer (λ row. row.rest + 1 < 2 ^ 64) }
         ensures same { OnOk result ((a : ℕ) → frame_at self.new a ≡ frame_at self.old a) }
         ensures free { OnOk result
             (free_from 0 (steps_of self.new) ≡ free_from 0 (steps_of self.old)) }
@@ -201,18 +203,19 @@ impl StepSink for TableBuilder {
 /// The number of a result: that of an equal one, else a new number, with which it is added. Of
 /// errors only `NoUnwindInfoForAddress` is looked for.
 fn number_of(
-    rows: &mut Vec<Result<KeptRow>>,
+    rows: &mut KeptResults,
     slots: &mut Slots,
     answer: Result<KeptRow>,
 ) -> std::result::Result<usize, NoMemory>
-    ensures added { IsAdded answer rows.old.items rows.new.items }
-    ensures number { IfOk result (λ number. number < length rows.new.items) }
+    requires { IfOk answer (λ row. row.rest + 1 < 2 ^ 64) }
+    ensures added { IsAdded answer rows.old rows.new }
+    ensures number { IfOk result (λ number. number < length rows.new) }
     ensures means { IfOk result (λ number.
-        (d : TheResult Kept TheError) → get_or rows.new.items number d ≡ answer) }
+        (d : TheResult Kept TheError) → get_or rows.new number d ≡ answer) }
 {
     let hash = hash_of_answer(&answer);
     let sought = Answer {
-        rows: rows.as_slice(),
+        rows: &*rows,
         answer,
     };
     if let Some(number) = slots.find(hash, &sought) {
@@ -237,7 +240,7 @@ fn is_sought(answer: &Result<KeptRow>) -> bool {
 /// A result that is looked for.
 #[derive(Drop)]
 struct Answer<'a> {
-    rows: &'a [Result<KeptRow>],
+    rows: &'a KeptResults,
     answer: Result<KeptRow>,
 }
 
@@ -247,6 +250,6 @@ impl<'a> Sought for Answer<'a> {
 
     #[inline(always)]
     fn is(&self, number: usize) -> bool {
-        number < self.rows.len() && is_same(self.rows[number], self.answer)
+        number < self.rows.len() && is_same(self.rows.at(number), self.answer)
     }
 }

@@ -16,6 +16,7 @@ mod hash;
 mod paged_steps;
 mod pieces;
 mod rests;
+mod results;
 mod row;
 mod same;
 mod slots;

@@ -1,5 +1,6 @@
 //! Whether what rows say is equal.
 ghost use Rattle.std.specs.Prelude.{◌≡◌, IsTrue};
+ghost use Rattle.gimli_cfi.specs.Words.{map_ok};
 
 use crate::facts::CieFacts;
 use crate::rests::KeptRow;
@@ -7,12 +8,12 @@ use gimli_cfi::{CfaRule, Error, Register, RegisterRule, Result};
 
 /// Whether two results are the same.
 #[inline(always)]
-pub(crate) fn is_same(a: Result<KeptRow>, b: Result<KeptRow>) -> bool
-    ensures { IsTrue result → a ≡ b }
+pub(crate) fn is_same(a: Result<&KeptRow>, b: Result<KeptRow>) -> bool
+    ensures { IsTrue result → map_ok (λ row. row.now) a.entry ≡ b }
 {
     match a {
         Ok(a) => match b {
-            Ok(b) => is_same_row(a, b),
+            Ok(b) => is_same_row(*a, b),
             Err(_) => false,
         },
         Err(a) => match b {

@@ -7,7 +7,8 @@ ghost use Rattle.cfi_compiled.specs.CompiledTables.{results_of, steps_of};
 ghost use Rattle.cfi_compiled.specs.KeptRows.{AreNamed, results_in};
 ghost use Rattle.cfi_compiled.specs.StepLists.{numbered};
 
-use crate::rests::{KeptRow, Rests};
+use crate::rests::Rests;
+use crate::results::KeptResults;
 use crate::row::CompiledRow;
 use crate::step_list::StepList;
 use gimli_cfi::{Error, Result};
@@ -39,7 +40,7 @@ use std::marker::Model;
 #[derive(Debug, Drop)]
 pub struct CompiledTable {
     rests: Rests,
-    rows: Vec<Result<KeptRow>>,
+    rows: KeptResults,
     pub(crate) steps: StepList,
 }
 
@@ -51,13 +52,13 @@ impl Model for CompiledTable {
 
     ghost view = { λ table. record {
       lists = table.rests;
-      rows = table.rows.items;
+      rows = table.rows;
       numbers = numbered table.steps;
     } };
 
     ghost invariant = { λ table. IsSound (record {
       lists = table.rests;
-      rows = table.rows.items;
+      rows = table.rows;
       numbers = numbered table.steps;
     }) };
 }
@@ -69,10 +70,10 @@ impl CompiledTable {
     ghost use Rattle.cfi_compiled.specs.StepLists.{numbered};
 
     /// The table of these steps, whose numbers are those of the rows.
-    pub(crate) fn of(rests: Rests, rows: Vec<Result<KeptRow>>, steps: StepList) -> Self
+    pub(crate) fn of(rests: Rests, rows: KeptResults, steps: StepList) -> Self
         requires { IsSound
-            (record { lists = rests; rows = rows.items; numbers = numbered steps }) }
-        ensures { result ≡ record { lists = rests; rows = rows.items; numbers = numbered steps } }
+            (record { lists = rests; rows = rows; numbers = numbered steps }) }
+        ensures { result ≡ record { lists = rests; rows = rows; numbers = numbered steps } }
     {
         CompiledTable { rests, rows, steps }
     }
@@ -87,13 +88,13 @@ impl CompiledTable {
         ensures distinct { IfOk result HasDistinctRegisters }
     {
         match self.steps.number_at(address) {
-            Some(number) => result_at(&self.rests, self.rows.as_slice(), number),
+            Some(number) => result_at(&self.rests, &self.rows, number),
             None => Err(Error::NoUnwindInfoForAddress),
         }
     }
 
-    /// The number of steps. Neighbours with equal rows are one step; those with equal errors may be
-    /// two.
+    /// The number of steps, in the same time for every table. Neighbours with equal rows are one
+    /// step; those with equal errors may be two.
     #[inline(always)]
     pub fn len(&self) -> usize
         ensures { result ≡ length (steps_of self.now) }
@@ -117,25 +118,23 @@ impl CompiledTable {
         ensures room { IfSome result (λ _. index + 1 < 2 ^ 64) }
     {
         let step = self.steps.get(index)?;
-        let result = result_at(&self.rests, self.rows.as_slice(), step.number);
+        let result = result_at(&self.rests, &self.rows, step.number);
         Some((step.start, result))
     }
 }
 
 /// The result with a number.
 #[inline(always)]
-fn result_at<'a>(
-    rests: &'a Rests,
-    rows: &'a [Result<KeptRow>],
-    number: usize,
-) -> Result<CompiledRow<'a>>
+fn result_at<'a>(rests: &'a Rests, rows: &'a KeptResults, number: usize) -> Result<CompiledRow<'a>>
     requires { AreNamed rests.now rows.now }
     ensures frames { frame_lent result ≡ frame_numbered (results_in rests.now rows.now) number }
     ensures distinct { IfOk result HasDistinctRegisters }
 {
-    match rows.get(number) {
-        Some(Ok(kept)) => Ok(rests.row(kept)),
-        Some(Err(error)) => Err(*error),
-        None => Err(Error::NoUnwindInfoForAddress),
+    if number >= rows.len() {
+        return Err(Error::NoUnwindInfoForAddress);
+    }
+    match rows.at(number) {
+        Ok(kept) => Ok(rests.row(kept)),
+        Err(error) => Err(error),
     }
 }

@@ -4,4 +4,4 @@ use Rattle.cfi_compiled.specs.StepLists.{numbered}
 use Rattle.cfi_compiled.proofs.builder.TableBuilder.finish.Goals as goal
 
 pub finish-requires : goal.finish-requires
-finish-requires c = ascends (results_in c.self.inside.rests c.self.inside.rows.items) (numbered c.self.inside.steps) 0 c.self.invariant.rise
+finish-requires c = ascends (results_in c.self.inside.rests c.self.inside.rows) (numbered c.self.inside.steps) 0 c.self.invariant.rise

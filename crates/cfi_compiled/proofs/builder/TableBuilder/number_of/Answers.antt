@@ -10,7 +10,7 @@ pub invariant_of-self : goal.invariant_of-self
 invariant_of-self c =
     let extends = added_extends c.self.inside.rests c.args.answer _ _ c.number_of.ensures.added in
     let kept = rise_kept _ _ extends _ c.self.invariant.rise c.self.invariant.numbers in
-    let names = subst (λ (t : TableContents). IfOk c.args.answer (λ row. row.rest < length t.lists.rests)) (sym c.self.view_is) c.requires in
+    let names = subst (λ (t : TableContents). IfOk c.args.answer (λ row. row.rest < length t.lists.rests)) (sym c.self.view_is) c.requires.names in
     record {
       rise = kept.0;
       numbers = kept.1;

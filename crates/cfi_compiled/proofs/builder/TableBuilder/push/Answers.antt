@@ -9,7 +9,7 @@ use Rattle.cfi_compiled.proofs.builder.TableBuilder.push.Goals as goal
 
 pub returns-then-ends_with-clause-after : goal.returns-then-ends_with-clause-after
 returns-then-ends_with-clause-after c a from =
-    let rows = c.self.inside.rows.items in
+    let rows = c.self.inside.rows in
     let results = results_in c.self.inside.rests rows in
     let free = subst (λ (f : TableContents). free_from 0 (steps_of f) ≤ c.args.from) (sym c.self.view_is) c.requires.free in
     let ends = c.ends_with.ensures c.if-ends_with.true in
@@ -19,7 +19,7 @@ returns-then-ends_with-clause-after c a from =
 
 pub push-requires : goal.push-requires
 push-requires c =
-    let rows = c.self.inside.rows.items in
+    let rows = c.self.inside.rows in
     let results = results_in c.self.inside.rests rows in
     let free = subst (λ (f : TableContents). free_from 0 (steps_of f) ≤ c.args.from) (sym c.self.view_is) c.requires.free in
     let within = subst (λ (f : TableContents). c.args.number < length (results_of f)) (sym c.self.view_is) c.requires.number in
@@ -28,7 +28,7 @@ push-requires c =
 
 pub invariant_of-self-in_err-push : goal.invariant_of-self-in_err-push
 invariant_of-self-in_err-push c =
-    let rows = c.self.inside.rows.items in
+    let rows = c.self.inside.rows in
     let results = results_in c.self.inside.rests rows in
     let free = subst (λ (f : TableContents). free_from 0 (steps_of f) ≤ c.args.from) (sym c.self.view_is) c.requires.free in
     let within = subst (λ (f : TableContents). c.args.number < length (results_of f)) (sym c.self.view_is) c.requires.number in
@@ -41,7 +41,7 @@ invariant_of-self-in_err-push c =
 
 pub invariant_of-self-2 : goal.invariant_of-self-2
 invariant_of-self-2 c =
-    let rows = c.self.inside.rows.items in
+    let rows = c.self.inside.rows in
     let results = results_in c.self.inside.rests rows in
     let free = subst (λ (f : TableContents). free_from 0 (steps_of f) ≤ c.args.from) (sym c.self.view_is) c.requires.free in
     let within = subst (λ (f : TableContents). c.args.number < length (results_of f)) (sym c.self.view_is) c.requires.number in
@@ -50,7 +50,7 @@ invariant_of-self-2 c =
 
 pub returns-clause-before : goal.returns-clause-before
 returns-clause-before c a below =
-    let rows = c.self.inside.rows.items in
+    let rows = c.self.inside.rows in
     let results = results_in c.self.inside.rests rows in
     let free = subst (λ (f : TableContents). free_from 0 (steps_of f) ≤ c.args.from) (sym c.self.view_is) c.requires.free in
     ap (λ (n : List NumberedStep). frame_at (record { lists = c.self.inside.rests; rows = rows; numbers = n }) a) c.in_ok-push.ensures.pushed
@@ -59,7 +59,7 @@ returns-clause-before c a below =
 
 pub returns-clause-after : goal.returns-clause-after
 returns-clause-after c a from =
-    let rows = c.self.inside.rows.items in
+    let rows = c.self.inside.rows in
     let results = results_in c.self.inside.rests rows in
     let free = subst (λ (f : TableContents). free_from 0 (steps_of f) ≤ c.args.from) (sym c.self.view_is) c.requires.free in
     ap (λ (n : List NumberedStep). frame_at (record { lists = c.self.inside.rests; rows = rows; numbers = n }) a) c.in_ok-push.ensures.pushed
@@ -68,7 +68,7 @@ returns-clause-after c a from =
 
 pub returns-clause-free : goal.returns-clause-free
 returns-clause-free c =
-    let rows = c.self.inside.rows.items in
+    let rows = c.self.inside.rows in
     let results = results_in c.self.inside.rests rows in
     let free = subst (λ (f : TableContents). free_from 0 (steps_of f) ≤ c.args.from) (sym c.self.view_is) c.requires.free in
     let is =

@@ -1,4 +1,4 @@
-use Rattle.std.proofs.Common.{◌≡◌, ◌<◌, List, [], ◌∷◌, ◌++◌, length, take, get_or, sym, ap, subst, ◌∙◌, arith}
+use Rattle.std.proofs.Common.{◌≡◌, ◌<◌, List, length, take, get_or, sym, ap, subst, ◌∙◌, arith}
 use Rattle.cfi_compiled.specs.declared.step_list.NumberedStep.{NumberedStep}
 use Rattle.cfi_compiled.proofs.PagedTables.{listed_more}
 use Rattle.cfi_compiled.proofs.paged_steps.PagedSteps.to_list.Goals as goal

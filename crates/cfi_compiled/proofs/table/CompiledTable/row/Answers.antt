@@ -10,12 +10,12 @@ use Rattle.cfi_compiled.proofs.table.CompiledTable.row.Goals as goal
 
 pub returns-in-Some-clause-frame : goal.returns-in-Some-clause-frame
 returns-in-Some-clause-frame c =
-    let results = results_in c.self.inside.rests c.self.inside.rows.items in
+    let results = results_in c.self.inside.rests c.self.inside.rows in
     let steps = numbered c.self.inside.steps in
     let none : NumberedStep = record { start = 0; number = 0 } in
     let found = c.in-Some.ensures in
     let split = found.1 in
-    let got = rw c.as_slice.ensures.value at c.result_at.ensures.frames in
+    let got = c.result_at.ensures.frames in
     got
     ∙ ap (frame_numbered results) (sym (found.2 none))
     ∙ found_at results steps c.args.address c.self.invariant.rise none found.0 (omega (arith, split.inside)) (split.from found.0 none refl) (λ j is more. split.up_to j none is more)
@@ -24,7 +24,7 @@ returns-in-Some-clause-frame c =
 pub returns-in-None-clause-frame : goal.returns-in-None-clause-frame
 returns-in-None-clause-frame c =
     let split = c.in-None.ensures in
-    found_before (results_in c.self.inside.rests c.self.inside.rows.items) (numbered c.self.inside.steps) c.args.address (λ d some. split.up_to 0 d refl some)
+    found_before (results_in c.self.inside.rests c.self.inside.rows) (numbered c.self.inside.steps) c.args.address (λ d some. split.up_to 0 d refl some)
     ∙ ap (λ (f : TableContents). frame_at f c.args.address) c.self.view_is
 
 pub returns-in-Some-clause-row : goal.returns-in-Some-clause-row
