@@ -51,23 +51,28 @@ pub fn push_decimal(text: &mut Text, number: u64) -> fmt::Result
     if number < 10 {
         return push_byte(text, b'0' + number as u8);
     }
+    if number < 100 {
+        return push_decimal_pair(text, number as u8);
+    }
     push_digits(text, number)
 }
 
-/// Appends the number, which has two decimal digits or more. Fails where there is no room for them.
+/// Appends the number, which has three decimal digits or more. Fails where there is no room for
+/// them.
 fn push_digits(text: &mut Text, number: u64) -> fmt::Result
-    requires { 10 ≤ number }
+    requires { 100 ≤ number }
     ensures { OnOk result (text.new.items ≡ text.old.items ++ decimal number) }
 {
-    if number >= 1000 {
+    if number >= 10_000 {
         push_digits(text, number / 100)?;
         return push_decimal_pair(text, (number % 100) as u8);
     }
-    if number >= 100 {
-        push_byte(text, b'0' + (number / 100) as u8)?;
+    if number >= 1000 {
+        push_decimal_pair(text, (number / 100) as u8)?;
         return push_decimal_pair(text, (number % 100) as u8);
     }
-    push_decimal_pair(text, number as u8)
+    push_byte(text, b'0' + (number / 100) as u8)?;
+    push_decimal_pair(text, (number % 100) as u8)
 }
 
 /// Appends the number in two decimal digits. Fails where there is no room for them.
@@ -108,7 +113,20 @@ fn push_hexadecimal(text: &mut Text, number: u64) -> fmt::Result
     if number < 0x1_0000 {
         return push_few(text, number as u16);
     }
+    if number < 0x1_0000_0000 {
+        return push_eight(text, number as u32);
+    }
     push_hexadecimal(text, number / 0x1_0000)?;
+    push_four(text, (number % 0x1_0000) as u16)
+}
+
+/// Appends the number in five to eight hexadecimal digits. Fails where there is no room for them.
+#[inline(always)]
+fn push_eight(text: &mut Text, number: u32) -> fmt::Result
+    requires { 65536 ≤ number }
+    ensures { OnOk result (text.new.items ≡ text.old.items ++ digits 16 false number) }
+{
+    push_few(text, (number / 0x1_0000) as u16)?;
     push_four(text, (number % 0x1_0000) as u16)
 }
 

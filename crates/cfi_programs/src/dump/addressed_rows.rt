@@ -156,7 +156,7 @@ fn write_addressed_rows<R: Reader<Offset = usize>, S: UnwindSection<R>, W: Write
         Writes (W.contents output.old) (W.contents output.new) result
         (addresses_line style.format (name_in functions.now) read ++ rows) }
 {
-    write_addresses(output, style.format, functions, fde)?;
+    write_addresses(output, &mut room.text, style.format, functions, fde)?;
     write_rows(output, room, style, section, bases, context, fde)
 }
 
@@ -164,6 +164,7 @@ fn write_addressed_rows<R: Reader<Offset = usize>, S: UnwindSection<R>, W: Write
 /// function that begins at the first.
 fn write_addresses<R: Reader<Offset = usize>, W: Write>(
     output: &mut W,
+    text: &mut Text,
     format: Format,
     functions: &FunctionNames<'_>,
     fde: &FrameDescriptionEntry<R>,
@@ -172,17 +173,23 @@ fn write_addresses<R: Reader<Offset = usize>, W: Write>(
         (addresses_line format (name_in functions.now) (fde_view R.position (λ n. n) fde.now)) }
 {
     let start = fde.initial_address();
-    write_range(output, format, start, fde.end_address())?;
+    write_range(output, text, format, start, fde.end_address())?;
     end_line(output, format, functions.name_at(start))
 }
 
 /// Writes the addresses, from the first up to the end.
-fn write_range<W: Write>(output: &mut W, format: Format, start: u64, end: u64) -> io::Result<()>
+fn write_range<W: Write>(
+    output: &mut W,
+    text: &mut Text,
+    format: Format,
+    start: u64,
+    end: u64,
+) -> io::Result<()>
     ensures { Writes (W.contents output.old) (W.contents output.new) result
         (addresses_in format start end) }
 {
-    let mut text = Text::new();
-    push_addresses(&mut text, format, start, end)?;
+    text.clear();
+    push_addresses(text, format, start, end)?;
     write_text(output, text.as_slice())
 }
 
