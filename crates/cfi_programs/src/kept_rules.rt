@@ -1,4 +1,4 @@
-//! The rules of rows in turn, which mostly are those of the row before.
+//! The rules of rows in turn, which mostly are those of the last row with as many rules.
 ghost use Rattle.std.specs.Prelude.{◌≡◌, ◌≤◌, ◌++◌, [], ◌∷◌, IfOk, OnOk, false, true};
 ghost use Rattle.std.specs.FinMap as map;
 ghost use Rattle.cfi_read_core.specs.ReaderCalls.{map_ok};
