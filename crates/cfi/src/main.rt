@@ -33,7 +33,7 @@ use system::{Host, System};
 use task::{Task, task_of};
 
 /// How many bytes of the output are held back before they are written.
-const OUTPUT: usize = 65_536;
+const OUTPUT: usize = 32_768;
 
 fn main(rt: HostRuntime) -> ExitCode {
     let Ok(mut output) = BufWriter::with_capacity(rt.alloc(), OUTPUT, rt.stdout()) else {

@@ -2,15 +2,14 @@
 use Rattle.std.proofs.Common.{◌≡◌, ℕ, zero, suc, ◌+◌, ◌/◌, ◌%◌, ◌^◌, ◌<◌, ◌≤◌, List, [], ◌∷◌, ◌++◌, refl, sym, ◌∙◌, ap, inl, inr, arith, append_assoc, false, true, cond, eqb}
 use Rattle.std.proofs.lemmas.Bool.{cases_lt}
 use Rattle.std.proofs.lemmas.Bool.Decides.{nat_tests}
-use Rattle.std.proofs.lemmas.Fmt.{decimal_digit, decimal_step, hex_two_digits}
+use Rattle.std.proofs.lemmas.Fmt.{decimal_digit, decimal_step, hex_one_digit, hex_two_digits}
 use Rattle.std.specs.Fmt.{decimal, digit_glyph, digits, digits_onto}
 
 -- ---- decimal
 
-pub decimal_two : (n : ℕ) → 10 ≤ n → n < 100 → decimal n ≡ (48 + n % 100 / 10) ∷ (48 + n % 100 % 10) ∷ []
+pub decimal_two : (n : ℕ) → 10 ≤ n → n < 100 → decimal n ≡ (48 + n / 10) ∷ (48 + n % 10) ∷ []
 decimal_two n low high =
-    let same : n % 100 ≡ n = omega arith in
-    rw (same, decimal_step n low (omega arith), decimal_digit (n / 10) (omega arith)) refl
+    rw (decimal_step n low (omega arith), decimal_digit (n / 10) (omega arith)) refl
 
 pub decimal_pair : (n : ℕ) → 100 ≤ n → n < 2 ^ 64 → decimal n ≡ decimal (n / 100) ++ (48 + n % 100 / 10) ∷ (48 + n % 100 % 10) ∷ []
 decimal_pair n low high =
@@ -75,17 +74,34 @@ hex_pair n low high =
 abbrev pair : ℕ → List ℕ
 pair n = digit_glyph false (n / 16) ∷ digit_glyph false (n % 16) ∷ []
 
--- behind what stands there
-pub hex_more : (old : List ℕ) (n : ℕ) → 256 ≤ n → n < 2 ^ 64 → (old ++ digits 16 false (n / 256)) ++ pair (n % 256) ≡ old ++ digits 16 false n
-hex_more old n low high =
-    append_assoc old (digits 16 false (n / 256)) (pair (n % 256)) ∙ ap (λ (xs : List ℕ). old ++ xs) (sym (hex_pair n low high))
+abbrev triple : ℕ → List ℕ
+triple n = digit_glyph false (n / 256) ∷ digit_glyph false (n / 16 % 16) ∷ digit_glyph false (n % 16) ∷ []
 
-pub hex_wide : (old : List ℕ) (n : ℕ) → 65536 ≤ n → n < 2 ^ 64 → ((old ++ digits 16 false (n / 65536)) ++ pair (n / 256 % 256)) ++ pair (n % 256) ≡ old ++ digits 16 false n
-hex_wide old n low high =
-    let front : n / 65536 ≡ n / 256 / 256 = omega arith in
-    ap (λ (k : ℕ). ((old ++ digits 16 false k) ++ pair (n / 256 % 256)) ++ pair (n % 256)) front
-    ∙ ap (λ (xs : List ℕ). xs ++ pair (n % 256)) (hex_more old (n / 256) (omega arith) (omega arith))
-    ∙ hex_more old n (omega arith) high
+abbrev quad : ℕ → List ℕ
+quad n = digit_glyph false (n / 4096) ∷ digit_glyph false (n / 256 % 16) ∷ digit_glyph false (n / 16 % 16) ∷ digit_glyph false (n % 16) ∷ []
 
 pub hex_two : (n : ℕ) → 16 ≤ n → n < 256 → digits 16 false n ≡ pair n
 hex_two n low high = hex_two_digits false n low high
+
+pub hex_three : (n : ℕ) → 256 ≤ n → n < 4096 → digits 16 false n ≡ triple n
+hex_three n low high =
+    let second : n % 256 / 16 ≡ n / 16 % 16 = omega arith in
+    let third : n % 256 % 16 ≡ n % 16 = omega arith in
+    rw (hex_pair n low (omega arith), hex_one_digit false (n / 256) (omega arith), second, third) refl
+
+pub hex_four : (n : ℕ) → 4096 ≤ n → n < 65536 → digits 16 false n ≡ quad n
+hex_four n low high =
+    let first : n / 256 / 16 ≡ n / 4096 = omega arith in
+    let third : n % 256 / 16 ≡ n / 16 % 16 = omega arith in
+    let fourth : n % 256 % 16 ≡ n % 16 = omega arith in
+    rw (hex_pair n (omega arith) (omega arith), hex_two (n / 256) (omega arith) (omega arith), first, third, fourth) refl
+
+-- behind what stands there
+pub hex_wide : (old : List ℕ) (n : ℕ) → 65536 ≤ n → n < 2 ^ 64 → (old ++ digits 16 false (n / 65536)) ++ quad (n % 65536) ≡ old ++ digits 16 false n
+hex_wide old n low high =
+    let front : n / 256 / 256 ≡ n / 65536 = omega arith in
+    let first : n / 256 % 256 / 16 ≡ n % 65536 / 4096 = omega arith in
+    let second : n / 256 % 256 % 16 ≡ n % 65536 / 256 % 16 = omega arith in
+    let third : n % 256 / 16 ≡ n % 65536 / 16 % 16 = omega arith in
+    let fourth : n % 256 % 16 ≡ n % 65536 % 16 = omega arith in
+    rw (append_assoc, ← first, ← second, ← third, ← fourth, ← front, hex_pair n (omega arith) high, hex_pair (n / 256) (omega arith) (omega arith), append_assoc) refl

@@ -1,18 +1,21 @@
-//! The rules of rows in turn, which mostly are those of the row before.
-ghost use Rattle.std.specs.Prelude.{◌≡◌, ◌≤◌, ◌++◌, [], ◌∷◌, OnOk, true};
+//! The rules of rows in turn, which mostly are those of the last row with as many rules.
+ghost use Rattle.std.specs.Prelude.{◌≡◌, ◌≤◌, ◌++◌, [], ◌∷◌, IfOk, OnOk, false, true};
 ghost use Rattle.std.specs.FinMap as map;
+ghost use Rattle.cfi_read_core.specs.ReaderCalls.{map_ok};
 ghost use Rattle.cfi_state.specs.RegisterRuleIters.{rules_left};
 ghost use Rattle.cfi_state.specs.RulePairs.{IsRising, rules_of};
+ghost use Rattle.cfi_programs.specs.AnswerLines.{answer_line, text_style};
 ghost use Rattle.cfi_programs.specs.KeptRules.{AreKept, kept_rules, kept_text};
 ghost use Rattle.cfi_programs.specs.RowLines.{ruled, rules_by};
 ghost use Rattle.cfi_programs.specs.declared.register_names.RegisterNames.{RegisterNames};
 
 use crate::register_names::RegisterNames;
-use crate::row_line::{is_rising, push_ruled};
+use crate::row_line::{is_rising, push_next, push_ruled};
 use crate::text::Text;
 use arrayvec::ArrayVec;
-use gimli_cfi::{Register, RegisterRule, RegisterRuleIter};
+use gimli_cfi::{ArrayLike, Error, Register, RegisterRule, RegisterRuleIter, UnwindTableRow};
 use std::fmt;
+use std::marker::Model;
 
 /// How many rules are kept at most.
 const MOST: usize = 16;
@@ -137,6 +140,95 @@ impl KeptRules {
         match self.rules.try_push((register, rule)) {
             Ok(()) => push_ruled(&mut self.text, names, register, rule),
             Err(_) => Err(fmt::Error),
+        }
+    }
+}
+
+/// The rules of the last rows, and their texts: by how many there are, since rows of as many rules
+/// mostly have the same.
+#[derive(Drop)]
+pub(crate) struct KeptRows {
+    names: RegisterNames,
+    rows: [KeptRules; 8],
+}
+
+impl Model for KeptRows {
+    ghost use Rattle.std.specs.List.{All};
+    ghost use Rattle.cfi_programs.specs.KeptRules.{AreKept};
+    ghost use Rattle.cfi_programs.specs.declared.register_names.RegisterNames.{RegisterNames};
+
+    ghost Value = { RegisterNames };
+
+    ghost view = { λ kept. kept.names };
+
+    ghost invariant = { λ kept. All (AreKept kept.names) kept.rows };
+}
+
+impl KeptRows {
+    /// Keeps no rules, for rows with these names of registers.
+    pub(crate) fn new(names: RegisterNames) -> KeptRows {
+        KeptRows {
+            names,
+            rows: [
+                KeptRules::new(),
+                KeptRules::new(),
+                KeptRules::new(),
+                KeptRules::new(),
+                KeptRules::new(),
+                KeptRules::new(),
+                KeptRules::new(),
+                KeptRules::new(),
+            ],
+        }
+    }
+
+    /// Appends the line of text of an answer as `row_line::push_next` does, and returns whether it
+    /// does.
+    #[inline]
+    pub(crate) fn push_next<A: ArrayLike<Item = (Register, RegisterRule<usize>)>>(
+        &mut self,
+        text: &mut Text,
+        names: RegisterNames,
+        answer: Result<&UnwindTableRow<usize, A>, Error>,
+    ) -> Result<bool, fmt::Error>
+        ensures pushed { IfOk result (λ pushed. pushed ≡ true → text.new.items ≡ text.old.items
+            ++ (answer_line (text_style names) (map_ok (λ row. row.now) answer.entry)).text) }
+        ensures left { IfOk result (λ pushed. pushed ≡ false → text.new.items ≡ text.old.items) }
+    {
+        if self.names != names {
+            return Ok(false);
+        }
+        let place = number_of_rules(answer) % 8;
+        push_next(text, names, &mut self.rows[place], answer)
+    }
+}
+
+/// Returns how many rules the row has; 0 where there is none.
+#[inline]
+fn number_of_rules<A: ArrayLike<Item = (Register, RegisterRule<usize>)>>(
+    answer: Result<&UnwindTableRow<usize, A>, Error>,
+) -> usize {
+    match answer {
+        Ok(row) => row.registers().count(),
+        Err(_) => 0,
+    }
+}
+
+/// What lines of text are put together in.
+#[derive(Drop)]
+pub(crate) struct LineRoom {
+    /// The text that is not written yet.
+    pub(crate) text: Text,
+    /// The rules of the last rows.
+    pub(crate) kept: KeptRows,
+}
+
+impl LineRoom {
+    /// Has no text and keeps no rules, for rows with these names of registers.
+    pub(crate) fn new(names: RegisterNames) -> LineRoom {
+        LineRoom {
+            text: Text::new(),
+            kept: KeptRows::new(names),
         }
     }
 }

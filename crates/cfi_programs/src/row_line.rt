@@ -12,6 +12,7 @@ ghost use Rattle.cfi_programs.specs.WriterOutput.{Prints, Writes, WritesBehind};
 ghost use Rattle.cfi_programs.specs.AnswerLines.{answer_line, row_in, text_style};
 ghost use Rattle.cfi_programs.specs.RowLines.{cfa_text, expression_text};
 ghost use Rattle.cfi_programs.specs.RegisterNames.{register_text};
+ghost use Rattle.cfi_programs.specs.declared.register_names.RegisterNames.TheVariants.{X86_64};
 ghost use Rattle.cfi_programs.specs.RowLines.{offset_text, parts_rules, row_head};
 ghost use Rattle.cfi_programs.specs.RowLines.{row_text, rule_text, ruled, rules_by};
 
@@ -52,6 +53,7 @@ pub(crate) fn push_register(
 }
 
 /// Appends an offset from a register, with its sign.
+#[inline]
 fn push_offset(text: &mut Text, offset: i64) -> fmt::Result
     ensures { OnOk result (text.new.items ≡ text.old.items ++ offset_text offset) }
 {
@@ -95,8 +97,53 @@ pub fn push_frame(
     ensures { OnOk result (text.new.items ≡ text.old.items
         ++ codes " cfa=" ++ cfa_text names cfa ++ codes " args=" ++ decimal args_size) }
 {
-    push(text, b" cfa=")?;
-    push_cfa(text, names, cfa)?;
+    push_named_cfa(text, names, cfa)?;
+    push_args_size(text, args_size)
+}
+
+/// Appends the rule of the canonical frame address after its name.
+#[inline]
+fn push_named_cfa(text: &mut Text, names: RegisterNames, cfa: CfaRule<usize>) -> fmt::Result
+    ensures { OnOk result (text.new.items
+        ≡ text.old.items ++ (codes " cfa=" ++ cfa_text names cfa)) }
+{
+    match cfa {
+        CfaRule::RegisterAndOffset { register, offset } => {
+            push_cfa_register(text, names, register)?;
+            push_offset(text, offset)
+        }
+        CfaRule::Expression(expression) => {
+            push(text, b" cfa=")?;
+            push_expression(text, expression)
+        }
+    }
+}
+
+/// Appends the register of the canonical frame address. Those of x86-64 mostly are two.
+#[inline]
+fn push_cfa_register(text: &mut Text, names: RegisterNames, register: Register) -> fmt::Result
+    ensures { OnOk result (text.new.items
+        ≡ text.old.items ++ (codes " cfa=" ++ register_text names register.0)) }
+{
+    match (names, register.0) {
+        (RegisterNames::X86_64, 6) => push(text, b" cfa=rbp"),
+        (RegisterNames::X86_64, 7) => push(text, b" cfa=rsp"),
+        _ => {
+            push(text, b" cfa=")?;
+            push_register(text, names, register)
+        }
+    }
+}
+
+/// Appends the argument size after its name. It mostly is 0.
+#[inline]
+fn push_args_size(text: &mut Text, args_size: u64) -> fmt::Result
+    ensures { OnOk result (text.new.items
+        ≡ text.old.items ++ (codes " args=" ++ decimal args_size)) }
+{
+    if args_size == 0 {
+        return push(text, b" args=0");
+    }
     push(text, b" args=")?;
     push_decimal(text, args_size)
 }
@@ -137,8 +184,12 @@ fn push_cfa_offset(text: &mut Text, offset: i64) -> fmt::Result
     ensures { OnOk result (text.new.items ≡ text.old.items
         ++ (codes "offset(" ++ signed_decimal offset ++ codes ")")) }
 {
-    push(text, b"offset(")?;
-    push_signed(text, offset)?;
+    if offset < 0 {
+        push(text, b"offset(-")?;
+    } else {
+        push(text, b"offset(")?;
+    }
+    push_decimal(text, offset.unsigned_abs())?;
     push(text, b")")
 }
 
@@ -153,10 +204,48 @@ pub fn push_ruled(
         ≡ text.old.items ++ ruled names register.0 rule) }
     ensures within { register.0 ≤ 65535 }
 {
+    push_rule_register(text, names, register)?;
+    push_rule(text, names, rule)
+}
+
+/// Appends the register of a rule, after a space, and an equals sign.
+#[inline]
+fn push_rule_register(text: &mut Text, names: RegisterNames, register: Register) -> fmt::Result
+    ensures text { OnOk result (text.new.items ≡ text.old.items
+        ++ (codes " " ++ register_text names register.0 ++ codes "=")) }
+    ensures within { register.0 ≤ 65535 }
+{
+    match names {
+        RegisterNames::X86_64 => push_saved_register(text, register),
+        _ => push_any_register(text, names, register),
+    }
+}
+
+/// The same for x86-64, where mostly a function's own registers and the return address are saved.
+fn push_saved_register(text: &mut Text, register: Register) -> fmt::Result
+    ensures { OnOk result (text.new.items ≡ text.old.items
+        ++ (codes " " ++ register_text X86_64 register.0 ++ codes "=")) }
+{
+    match register.0 {
+        3 => push(text, b" rbx="),
+        6 => push(text, b" rbp="),
+        12 => push(text, b" r12="),
+        13 => push(text, b" r13="),
+        14 => push(text, b" r14="),
+        15 => push(text, b" r15="),
+        16 => push(text, b" ra="),
+        _ => push_any_register(text, RegisterNames::X86_64, register),
+    }
+}
+
+/// The same for any register.
+fn push_any_register(text: &mut Text, names: RegisterNames, register: Register) -> fmt::Result
+    ensures { OnOk result (text.new.items ≡ text.old.items
+        ++ (codes " " ++ register_text names register.0 ++ codes "=")) }
+{
     push(text, b" ")?;
     push_register(text, names, register)?;
-    push(text, b"=")?;
-    push_rule(text, names, rule)
+    push(text, b"=")
 }
 
 /// Prints the line of an answer, and returns the status: 0 for a row, 1 for an error.

@@ -1,5 +1,5 @@
 //! The text of a line, put together before it is written.
-ghost use Rattle.std.specs.Prelude.{◌≡◌, ◌/◌, ◌%◌, ◌<◌, [], ◌∷◌, ◌++◌, OnOk};
+ghost use Rattle.std.specs.Prelude.{◌≡◌, ◌+◌, ◌/◌, ◌%◌, ◌<◌, ◌≤◌, [], ◌∷◌, ◌++◌, OnOk};
 ghost use Rattle.std.specs.Prelude.{false};
 ghost use Rattle.std.specs.Fmt.{decimal, digit_glyph, digits, signed_decimal};
 ghost use Rattle.cfi_programs.specs.Lines.{address_text};
@@ -10,7 +10,11 @@ use std::fmt;
 /// Text that is not written yet, of at most 1024 bytes.
 pub type Text = ArrayVec<u8, 1024>;
 
+/// The lower-case hexadecimal digits, by their values.
+const DIGITS: [u8; 16] = *b"0123456789abcdef";
+
 /// Appends the bytes. Fails where there is no room for them.
+#[inline(always)]
 pub fn push(text: &mut Text, bytes: &[u8]) -> fmt::Result
     ensures { OnOk result (text.new.items ≡ text.old.items ++ bytes.now) }
 {
@@ -36,31 +40,54 @@ fn push_byte(text: &mut Text, byte: u8) -> fmt::Result
 fn push_two(text: &mut Text, first: u8, second: u8) -> fmt::Result
     ensures { OnOk result (text.new.items ≡ text.old.items ++ first ∷ second ∷ []) }
 {
-    if text.remaining_capacity() < 2 {
-        return Err(fmt::Error);
-    }
-    // One at a time: a processor waits where bytes are written apart and then read together.
-    text.push(first);
-    text.push(second);
-    Ok(())
+    push(text, &[first, second])
 }
 
 /// Appends the number in decimal digits. Fails where there is no room for them.
+#[inline(always)]
 pub fn push_decimal(text: &mut Text, number: u64) -> fmt::Result
     ensures { OnOk result (text.new.items ≡ text.old.items ++ decimal number) }
 {
     if number < 10 {
         return push_byte(text, b'0' + number as u8);
     }
-    if number >= 100 {
-        push_decimal(text, number / 100)?;
+    if number < 100 {
+        return push_decimal_pair(text, number as u8);
     }
-    let pair = (number % 100) as u8;
-    push_two(text, b'0' + pair / 10, b'0' + pair % 10)
+    push_digits(text, number)
+}
+
+/// Appends the number, which has three decimal digits or more. Fails where there is no room for
+/// them.
+fn push_digits(text: &mut Text, number: u64) -> fmt::Result
+    requires { 100 ≤ number }
+    ensures { OnOk result (text.new.items ≡ text.old.items ++ decimal number) }
+{
+    if number >= 10_000 {
+        push_digits(text, number / 100)?;
+        return push_decimal_pair(text, (number % 100) as u8);
+    }
+    if number >= 1000 {
+        push_decimal_pair(text, (number / 100) as u8)?;
+        return push_decimal_pair(text, (number % 100) as u8);
+    }
+    push_byte(text, b'0' + (number / 100) as u8)?;
+    push_decimal_pair(text, (number % 100) as u8)
+}
+
+/// Appends the number in two decimal digits. Fails where there is no room for them.
+#[inline(always)]
+fn push_decimal_pair(text: &mut Text, number: u8) -> fmt::Result
+    requires { number < 100 }
+    ensures { OnOk result (text.new.items
+        ≡ text.old.items ++ (48 + number / 10) ∷ (48 + number % 10) ∷ []) }
+{
+    push_two(text, b'0' + number / 10, b'0' + number % 10)
 }
 
 /// Appends the number in decimal digits, after a minus sign where it is negative. Fails where there
 /// is no room for them.
+#[inline(always)]
 pub fn push_signed(text: &mut Text, number: i64) -> fmt::Result
     ensures { OnOk result (text.new.items ≡ text.old.items ++ signed_decimal number) }
 {
@@ -71,6 +98,7 @@ pub fn push_signed(text: &mut Text, number: i64) -> fmt::Result
 }
 
 /// Appends the address, as `0x` and lower-case digits. Fails where there is no room for them.
+#[inline(always)]
 pub fn push_address(text: &mut Text, address: u64) -> fmt::Result
     ensures { OnOk result (text.new.items ≡ text.old.items ++ address_text address) }
 {
@@ -82,27 +110,66 @@ pub fn push_address(text: &mut Text, address: u64) -> fmt::Result
 fn push_hexadecimal(text: &mut Text, number: u64) -> fmt::Result
     ensures { OnOk result (text.new.items ≡ text.old.items ++ digits 16 false number) }
 {
-    if number >= 0x1_0000 {
-        push_hexadecimal(text, number / 0x1_0000)?;
-        push_pair(text, (number / 0x100 % 0x100) as u8)?;
-        return push_pair(text, (number % 0x100) as u8);
+    if number < 0x1_0000 {
+        return push_few(text, number as u16);
     }
-    if number >= 0x100 {
-        push_first(text, (number / 0x100) as u8)?;
-        return push_pair(text, (number % 0x100) as u8);
+    if number < 0x1_0000_0000 {
+        return push_eight(text, number as u32);
     }
-    push_first(text, number as u8)
+    push_hexadecimal(text, number / 0x1_0000)?;
+    push_four(text, (number % 0x1_0000) as u16)
 }
 
-/// Appends the number in one hexadecimal digit or two. Fails where there is no room for them.
+/// Appends the number in five to eight hexadecimal digits. Fails where there is no room for them.
 #[inline(always)]
-fn push_first(text: &mut Text, number: u8) -> fmt::Result
+fn push_eight(text: &mut Text, number: u32) -> fmt::Result
+    requires { 65536 ≤ number }
     ensures { OnOk result (text.new.items ≡ text.old.items ++ digits 16 false number) }
 {
-    if number < 16 {
-        return push_byte(text, digit(number));
+    push_few(text, (number / 0x1_0000) as u16)?;
+    push_four(text, (number % 0x1_0000) as u16)
+}
+
+/// Appends the number in one to four hexadecimal digits. Fails where there is no room for them.
+#[inline(always)]
+fn push_few(text: &mut Text, number: u16) -> fmt::Result
+    ensures { OnOk result (text.new.items ≡ text.old.items ++ digits 16 false number) }
+{
+    if number >= 0x1000 {
+        push_four(text, number)
+    } else if number >= 0x100 {
+        push_three(text, number)
+    } else if number >= 16 {
+        push_pair(text, number as u8)
+    } else {
+        push_byte(text, digit(number as u8))
     }
-    push_pair(text, number)
+}
+
+/// Appends the number in four hexadecimal digits. Fails where there is no room for them.
+#[inline(always)]
+fn push_four(text: &mut Text, number: u16) -> fmt::Result
+    ensures { OnOk result (text.new.items ≡ text.old.items
+        ++ digit_glyph false (number / 4096) ∷ digit_glyph false (number / 256 % 16)
+        ∷ digit_glyph false (number / 16 % 16) ∷ digit_glyph false (number % 16) ∷ []) }
+{
+    let first = digit((number / 0x1000) as u8);
+    let second = digit((number / 0x100 % 16) as u8);
+    let third = digit((number / 16 % 16) as u8);
+    push(text, &[first, second, third, digit((number % 16) as u8)])
+}
+
+/// Appends the number in three hexadecimal digits. Fails where there is no room for them.
+#[inline(always)]
+fn push_three(text: &mut Text, number: u16) -> fmt::Result
+    requires { number < 4096 }
+    ensures { OnOk result (text.new.items ≡ text.old.items
+        ++ digit_glyph false (number / 256) ∷ digit_glyph false (number / 16 % 16)
+        ∷ digit_glyph false (number % 16) ∷ []) }
+{
+    let first = digit((number / 0x100) as u8);
+    let second = digit((number / 16 % 16) as u8);
+    push(text, &[first, second, digit((number % 16) as u8)])
 }
 
 /// Appends the number in two hexadecimal digits. Fails where there is no room for them.
@@ -115,13 +182,10 @@ fn push_pair(text: &mut Text, number: u8) -> fmt::Result
 }
 
 /// Returns the lower-case hexadecimal digit of the value.
+#[inline(always)]
 pub(crate) fn digit(value: u8) -> u8
     requires { value < 16 }
     ensures { result ≡ digit_glyph false value }
 {
-    if value < 10 {
-        b'0' + value
-    } else {
-        b'a' + (value - 10)
-    }
+    DIGITS[value as usize]
 }

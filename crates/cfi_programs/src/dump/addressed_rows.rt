@@ -19,6 +19,7 @@ ghost use Rattle.cfi_programs.specs.ReadingTexts.{item_text};
 use crate::dump::function_line::end_line;
 use crate::dump::printed::AskedRows;
 use crate::dump::section::{whole, write_refused, write_rows};
+use crate::kept_rules::LineRoom;
 use crate::lines::write_text;
 use crate::style::{Format, Style};
 use crate::text::{Text, push, push_address};
@@ -32,8 +33,9 @@ use std::{fmt, io};
 
 /// Writes the addresses and the rows of an entry that is an FDE, and contains the address where
 /// there is one; or the error in place of an entry. A CIE has no text.
-pub fn write_entry_rows<R: Reader<Offset = usize>, S: UnwindSection<R>, W: Write>(
+pub(crate) fn write_entry_rows<R: Reader<Offset = usize>, S: UnwindSection<R>, W: Write>(
     output: &mut W,
+    room: &mut LineRoom,
     style: Style,
     asked: AskedRows<'_>,
     section: &S,
@@ -53,7 +55,9 @@ pub fn write_entry_rows<R: Reader<Offset = usize>, S: UnwindSection<R>, W: Write
     match entry {
         Ok(CieOrFde::Cie(_)) => Ok(()),
         Ok(CieOrFde::Fde(partial)) => {
-            write_partial_rows(output, style, asked, section, bases, context, &partial)
+            write_partial_rows(
+                output, room, style, asked, section, bases, context, &partial,
+            )
         }
         Err(error) => write_refused(output, style.format, error),
     }
@@ -62,6 +66,7 @@ pub fn write_entry_rows<R: Reader<Offset = usize>, S: UnwindSection<R>, W: Write
 /// Writes the addresses and the rows of the FDE, if it is asked for; or why it can't be read whole.
 fn write_partial_rows<R: Reader<Offset = usize>, S: UnwindSection<R>, W: Write>(
     output: &mut W,
+    room: &mut LineRoom,
     style: Style,
     asked: AskedRows<'_>,
     section: &S,
@@ -78,7 +83,7 @@ fn write_partial_rows<R: Reader<Offset = usize>, S: UnwindSection<R>, W: Write>(
         (read_fde from found)) }
 {
     match whole(partial) {
-        Ok(fde) => write_if_asked_for(output, style, asked, section, bases, context, &fde),
+        Ok(fde) => write_if_asked_for(output, room, style, asked, section, bases, context, &fde),
         Err(error) => write_refused(output, style.format, error),
     }
 }
@@ -86,6 +91,7 @@ fn write_partial_rows<R: Reader<Offset = usize>, S: UnwindSection<R>, W: Write>(
 /// Writes the addresses and the rows of the FDE, if it is asked for.
 fn write_if_asked_for<R: Reader<Offset = usize>, S: UnwindSection<R>, W: Write>(
     output: &mut W,
+    room: &mut LineRoom,
     style: Style,
     asked: AskedRows<'_>,
     section: &S,
@@ -103,7 +109,16 @@ fn write_if_asked_for<R: Reader<Offset = usize>, S: UnwindSection<R>, W: Write>(
         then addresses_line style.format (name_in asked.entry.functions.now) read ++ rows else []) }
 {
     if is_asked_for(asked.address, fde) {
-        write_addressed_rows(output, style, asked.functions, section, bases, context, fde)
+        write_addressed_rows(
+            output,
+            room,
+            style,
+            asked.functions,
+            section,
+            bases,
+            context,
+            fde,
+        )
     } else {
         Ok(())
     }
@@ -125,6 +140,7 @@ fn is_asked_for<R: Reader<Offset = usize>>(
 /// Writes the line of the FDE's addresses, and the lines of its rows.
 fn write_addressed_rows<R: Reader<Offset = usize>, S: UnwindSection<R>, W: Write>(
     output: &mut W,
+    room: &mut LineRoom,
     style: Style,
     functions: &FunctionNames<'_>,
     section: &S,
@@ -140,14 +156,15 @@ fn write_addressed_rows<R: Reader<Offset = usize>, S: UnwindSection<R>, W: Write
         Writes (W.contents output.old) (W.contents output.new) result
         (addresses_line style.format (name_in functions.now) read ++ rows) }
 {
-    write_addresses(output, style.format, functions, fde)?;
-    write_rows(output, style, section, bases, context, fde)
+    write_addresses(output, &mut room.text, style.format, functions, fde)?;
+    write_rows(output, room, style, section, bases, context, fde)
 }
 
 /// Writes the line of the FDE's addresses, from the first up to the end, and of the name of the
 /// function that begins at the first.
 fn write_addresses<R: Reader<Offset = usize>, W: Write>(
     output: &mut W,
+    text: &mut Text,
     format: Format,
     functions: &FunctionNames<'_>,
     fde: &FrameDescriptionEntry<R>,
@@ -156,17 +173,23 @@ fn write_addresses<R: Reader<Offset = usize>, W: Write>(
         (addresses_line format (name_in functions.now) (fde_view R.position (λ n. n) fde.now)) }
 {
     let start = fde.initial_address();
-    write_range(output, format, start, fde.end_address())?;
+    write_range(output, text, format, start, fde.end_address())?;
     end_line(output, format, functions.name_at(start))
 }
 
 /// Writes the addresses, from the first up to the end.
-fn write_range<W: Write>(output: &mut W, format: Format, start: u64, end: u64) -> io::Result<()>
+fn write_range<W: Write>(
+    output: &mut W,
+    text: &mut Text,
+    format: Format,
+    start: u64,
+    end: u64,
+) -> io::Result<()>
     ensures { Writes (W.contents output.old) (W.contents output.new) result
         (addresses_in format start end) }
 {
-    let mut text = Text::new();
-    push_addresses(&mut text, format, start, end)?;
+    text.clear();
+    push_addresses(text, format, start, end)?;
     write_text(output, text.as_slice())
 }
 

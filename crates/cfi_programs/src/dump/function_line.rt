@@ -63,12 +63,11 @@ fn write_shown<W: Write>(output: &mut W, name: &[u8]) -> io::Result<()>
 fn is_shown_whole(name: &[u8]) -> bool
     ensures { result ≡ true → map shown name.now ≡ name.now }
 {
+    let mut is_whole = true;
     for byte in name {
-        if shown(*byte) != *byte {
-            return false;
-        }
+        is_whole = is_whole & (shown(*byte) == *byte);
     }
-    true
+    is_whole
 }
 
 /// Writes the name byte by byte.

@@ -28,10 +28,10 @@ use crate::dump::addressed_rows::write_entry_rows;
 use crate::dump::entry_line::{write_cie, write_fde, write_partial_fde};
 use crate::dump::instruction_line::write_instructions;
 use crate::dump::printed::AskedRows;
-use crate::kept_rules::KeptRules;
+use crate::kept_rules::{KeptRows, LineRoom};
 use crate::lines::{write_refusal_in, write_text};
 use crate::register_names::RegisterNames;
-use crate::row_line::{FULL_OF_LINES, push_next, write_answer, write_apart, write_out};
+use crate::row_line::{FULL_OF_LINES, write_answer, write_apart, write_out};
 use crate::style::{Format, Style};
 use crate::text::Text;
 use gimli_cfi::{
@@ -70,8 +70,11 @@ pub fn write_section<R: Reader<Offset = usize>, S: UnwindSection<R>, W: Write>(
     ensures { Writes (W.contents output.old) (W.contents output.new) result
         (listed_text names listed.entry (section_of (S.view section.now) bases.now)) }
 {
+    let mut room = LineRoom::new(names);
     for entry in section.entries(bases) {
-        write_listed(output, names, listed, section, bases, context, entry)?;
+        write_listed(
+            output, &mut room, names, listed, section, bases, context, entry,
+        )?;
     }
     Ok(())
 }
@@ -79,6 +82,7 @@ pub fn write_section<R: Reader<Offset = usize>, S: UnwindSection<R>, W: Write>(
 /// Writes what is listed of an entry, or of the error in its place.
 fn write_listed<R: Reader<Offset = usize>, S: UnwindSection<R>, W: Write>(
     output: &mut W,
+    room: &mut LineRoom,
     names: RegisterNames,
     listed: Listed<'_>,
     section: &S,
@@ -96,11 +100,11 @@ fn write_listed<R: Reader<Offset = usize>, S: UnwindSection<R>, W: Write>(
         (section_of (S.view section.now) bases.now) e) found) }
 {
     match listed {
-        Listed::Entries => write_entry(output, names, section, bases, context, entry),
+        Listed::Entries => write_entry(output, room, names, section, bases, context, entry),
         Listed::Rows(asked) => {
             let format = asked.format;
             let style = Style { names, format };
-            write_entry_rows(output, style, asked, section, bases, context, entry)
+            write_entry_rows(output, room, style, asked, section, bases, context, entry)
         }
     }
 }
@@ -108,6 +112,7 @@ fn write_listed<R: Reader<Offset = usize>, S: UnwindSection<R>, W: Write>(
 /// Writes the lines of an entry, or of the error in its place.
 fn write_entry<R: Reader<Offset = usize>, S: UnwindSection<R>, W: Write>(
     output: &mut W,
+    room: &mut LineRoom,
     names: RegisterNames,
     section: &S,
     bases: &BaseAddresses,
@@ -126,7 +131,7 @@ fn write_entry<R: Reader<Offset = usize>, S: UnwindSection<R>, W: Write>(
     match entry {
         Ok(CieOrFde::Cie(cie)) => write_whole_cie(output, names, section, bases, &cie),
         Ok(CieOrFde::Fde(partial)) => write_fde_and_rows(
-            output, names, section, bases, context, &partial,
+            output, room, names, section, bases, context, &partial,
         ),
         Err(error) => write_refused(output, Format::Text, error),
     }
@@ -162,6 +167,7 @@ fn write_whole_cie<R: Reader<Offset = usize>, S: UnwindSection<R>, W: Write>(
 /// whole, what is known of it and why.
 fn write_fde_and_rows<R: Reader<Offset = usize>, S: UnwindSection<R>, W: Write>(
     output: &mut W,
+    room: &mut LineRoom,
     names: RegisterNames,
     section: &S,
     bases: &BaseAddresses,
@@ -176,7 +182,7 @@ fn write_fde_and_rows<R: Reader<Offset = usize>, S: UnwindSection<R>, W: Write>(
         (fde_text names from found (read_fde from found)) }
 {
     match whole(partial) {
-        Ok(fde) => write_whole_fde(output, names, section, bases, context, &fde),
+        Ok(fde) => write_whole_fde(output, room, names, section, bases, context, &fde),
         Err(error) => write_refused_fde(output, partial.offset(), partial.entry_len(), error),
     }
 }
@@ -184,6 +190,7 @@ fn write_fde_and_rows<R: Reader<Offset = usize>, S: UnwindSection<R>, W: Write>(
 /// Writes the line of an FDE, those of its instructions and those of its rows.
 fn write_whole_fde<R: Reader<Offset = usize>, S: UnwindSection<R>, W: Write>(
     output: &mut W,
+    room: &mut LineRoom,
     names: RegisterNames,
     section: &S,
     bases: &BaseAddresses,
@@ -203,7 +210,7 @@ fn write_whole_fde<R: Reader<Offset = usize>, S: UnwindSection<R>, W: Write>(
     write_instructions(output, names, fde.instructions(section, bases))?;
     let format = Format::Text;
     let style = Style { names, format };
-    write_rows(output, style, section, bases, context, fde)
+    write_rows(output, room, style, section, bases, context, fde)
 }
 
 /// Writes what is known of an FDE that can't be read whole, and why it can't.
@@ -240,8 +247,9 @@ pub fn whole<R: Reader, S: UnwindSection<R>>(
 }
 
 /// Writes a line for each row of the FDE, and for each error among them.
-pub fn write_rows<R: Reader<Offset = usize>, S: UnwindSection<R>, W: Write>(
+pub(crate) fn write_rows<R: Reader<Offset = usize>, S: UnwindSection<R>, W: Write>(
     output: &mut W,
+    room: &mut LineRoom,
     style: Style,
     section: &S,
     bases: &BaseAddresses,
@@ -256,7 +264,7 @@ pub fn write_rows<R: Reader<Offset = usize>, S: UnwindSection<R>, W: Write>(
         (fde_view R.position (λ n. n) fde.now))) }
 {
     match fde.rows(section, bases, context) {
-        Ok(mut table) => write_table(output, style, &mut table),
+        Ok(mut table) => write_table(output, room, style, &mut table),
         Err(error) => write_refused(output, style.format, error),
     }
 }
@@ -264,6 +272,7 @@ pub fn write_rows<R: Reader<Offset = usize>, S: UnwindSection<R>, W: Write>(
 /// Writes a line for each row that is left in the table, and for each error among them.
 fn write_table<R: Reader<Offset = usize>, W: Write>(
     output: &mut W,
+    room: &mut LineRoom,
     style: Style,
     table: &mut UnwindTable<'_, '_, R>,
 ) -> io::Result<()>
@@ -274,15 +283,23 @@ fn write_table<R: Reader<Offset = usize>, W: Write>(
         (lines style (answers_to_come setting (at_program state program))) }
 {
     match style.format {
-        Format::Text => write_text_table(output, style.names, table),
+        Format::Text => write_text_table(
+            output,
+            &mut room.text,
+            &mut room.kept,
+            style.names,
+            table,
+        ),
         Format::Json => write_each(output, style, table),
     }
 }
 
 /// Writes the lines of text of what is left in the table. They are gathered before they are
-/// written, and rules that are those of the row before take their text from it.
+/// written, and rules that are those of the last row with as many take their text from it.
 fn write_text_table<R: Reader<Offset = usize>, W: Write>(
     output: &mut W,
+    text: &mut Text,
+    kept: &mut KeptRows,
     names: RegisterNames,
     table: &mut UnwindTable<'_, '_, R>,
 ) -> io::Result<()>
@@ -292,14 +309,13 @@ fn write_text_table<R: Reader<Offset = usize>, W: Write>(
         → Writes (W.contents output.old) (W.contents output.new) result
         (lines (text_style names) (answers_to_come setting (at_program state program))) }
 {
-    let mut kept = KeptRules::new();
-    let mut text = Text::new();
+    text.clear();
     while let Some(answer) = table.next_row().transpose() {
         if text.len() > FULL_OF_LINES {
-            write_out(output, &mut text)?;
+            write_out(output, text)?;
         }
-        if !push_next(&mut text, names, &mut kept, answer)? {
-            write_apart(output, &mut text, names, answer)?;
+        if !kept.push_next(text, names, answer)? {
+            write_apart(output, text, names, answer)?;
         }
     }
     write_text(output, text.as_slice())

@@ -7,7 +7,6 @@ use Rattle.cfi_state.specs.UnwindTableStates.{answers_to_come}
 use Rattle.cfi_unwind.specs.UnwindTableViews.{table_state}
 use Rattle.cfi_programs.specs.DumpSectionTexts.{lines}
 use Rattle.cfi_programs.specs.AnswerLines.{text_style}
-use Rattle.cfi_programs.specs.KeptRules.{AreKept}
 use Rattle.cfi_programs.proofs.DumpRowsWritten.{StandsAt, answers_left}
 use Rattle.cfi_programs.proofs.dump.section.write_text_table.Given as goal
 
@@ -16,8 +15,7 @@ abbrev pub invariant-loop-answer : goal.invariant-loop-answer
 invariant-loop-answer g l =
     let setting = setting_of l.initial.table.parameters (Some 192) (Some 4) in
     let first = table_state g.R.Reader.position (λ n. n) l.initial.table in
-    AreKept l.names l.kept
-    × (setting_of l.table.parameters (Some 192) (Some 4) ≡ setting)
+    (setting_of l.table.parameters (Some 192) (Some 4) ≡ setting)
     × ((program : Program ℕ) → IsStateAfter setting first.so_far program
     → StandsAt (text_style l.names) setting (table_state g.R.Reader.position (λ n. n) l.table) (g.W.Write.contents l.initial.output) (g.W.Write.contents l.output) l.text.items (lines (text_style l.names) (answers_to_come setting (at_program first program))))
 
