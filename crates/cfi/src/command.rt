@@ -207,7 +207,7 @@ fn top<'w>(alloc: Global) -> Result<clap::Command<'w>, AllocError>
     ensures { IfOk result (IsApp top_app) }
 {
     let command = clap::Command::new(alloc, "cfi")
-        .about("Prints and checks the call frames of programs and libraries: ELF files")
+        .about("Prints and checks the call frames of ELF files, and prints the stacks of profiles")
         .arg_required_else_help(true)
         .subcommand_required(true)
         .disable_help_subcommand(true);

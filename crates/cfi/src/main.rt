@@ -1,4 +1,4 @@
-//! Prints and checks the call frames of ELF files.
+//! Prints and checks the call frames of ELF files, and prints the stacks of profiles.
 #![tactic(auto)]
 
 ghost use Rattle.std.specs.Prelude.{◌≡◌, ℕ, List, Option, Some, map};
@@ -6,9 +6,8 @@ ghost use Rattle.std.specs.Io.KnownBytes.{Keeps};
 ghost use Rattle.clap.specs.Words.{kind_of};
 ghost use Rattle.cfi_files.specs.FileLines.{PrintsSome};
 ghost use Rattle.cfi.specs.CommandLine.{command_view};
-ghost use Rattle.cfi.specs.Process.{AreTallied, IsAnswer, IsPrint, AreStacks, IsStatusAfter};
-ghost use Rattle.cfi.specs.Process.{IsStatusOf};
-ghost use Rattle.cfi.specs.Process.{PrintsRun, disk_of};
+ghost use Rattle.cfi.specs.Process.{AreStacks, AreTallied, IsAnswer, IsPrint, IsStatusAfter};
+ghost use Rattle.cfi.specs.Process.{IsStatusOf, PrintsRun, disk_of};
 ghost use Rattle.cfi.specs.Tasks.{of_request, task_for};
 
 mod command;
