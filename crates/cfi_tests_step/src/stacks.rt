@@ -35,7 +35,7 @@ const FILE: &str = "\
     110000000300000000000000000000000000000000000000190200000000000046000000000000000000000000000000\
     01000000000000000000000000000000";
 
-/// `PERF_RECORD_MMAP2` of `/tmp/pushes` at 0x500000, between two samples that are later: in
+/// `PERF_RECORD_MMAP2` of `/usr/pushes` at 0x500000, between two samples that are later: in
 /// `pushes`, with a frame above it in the same function and then 0x9000, and in the kernel.
 const PROFILE: &str = "\
     50455246494c45326800000000000000700000000000000068000000000000007000000000000000d800000000000000\
@@ -46,7 +46,7 @@ const PROFILE: &str = "\
     d0d19a3b000000000000000000000000020000000000000000700000000000000070000000000000b400500000000000\
     28000000000000001070000000000000b500500000000000000000000000000000900000000000000000000000000000\
     28000000000000000a000000020068000700000007000000000050000000000000100000000000000000000000000000\
-    00000000000000000000000000000000000000000000000005000000020000002f746d702f7075736865730000000000\
+    00000000000000000000000000000000000000000000000005000000020000002f7573722f7075736865730000000000\
     0700000007000000f401000000000000090000000200380000000081ffffffff0700000007000000cfd19a3b00000000\
     00000000000000000000000000000000000000000000000008020000000000000c00000000000000080000007838365f\
     36340000";
@@ -55,8 +55,8 @@ const STACKS: &str = "7/7 1.000001:
 # NoRegisters
 
 7/8 1.000002:
-\t              b4 pushes+0x4 (/tmp/pushes)
-\t              b4 pushes+0x4 (/tmp/pushes)
+\t              b4 pushes+0x4 (/usr/pushes)
+\t              b4 pushes+0x4 (/usr/pushes)
 \t            8fff [unknown] ([unknown])
 # NoModule
 
@@ -67,7 +67,7 @@ const WITHOUT_FILE: &str = "7/7 1.000001:
 # NoRegisters
 
 7/8 1.000002:
-\t              b4 [unknown] (/tmp/pushes)
+\t              b4 [unknown] (/usr/pushes)
 # NoModule
 
 ";
@@ -119,7 +119,7 @@ fn prints(
 fn two_samples(rt: HostRuntime) -> Result<(), Fail> {
     let profile = bytes_of(rt.alloc(), PROFILE)?;
     let profile = profile.as_slice();
-    prints(&rt, profile, b"/tmp/pushes", STACKS, 0)?;
-    prints(&rt, profile, b"/tmp/others", WITHOUT_FILE, 0)?;
-    prints(&rt, b"PERFILE1", b"/tmp/pushes", "refused NotPerf\n", 1)
+    prints(&rt, profile, b"/usr/pushes", STACKS, 0)?;
+    prints(&rt, profile, b"/usr/others", WITHOUT_FILE, 0)?;
+    prints(&rt, b"PERFILE1", b"/usr/pushes", "refused NotPerf\n", 1)
 }
