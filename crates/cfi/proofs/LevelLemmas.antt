@@ -86,12 +86,11 @@ table_refuses false raw [] le = refl
 table_refuses false raw (f ∷ []) le = absurd (omega arith)
 table_refuses false raw (f ∷ x ∷ more) le = refl
 
-unwind_refuses : (a b : Bool) (arguments : List Text) → 2 ≤ length arguments → cond a None (cond b None (unwind_by arguments)) ≡ None
-unwind_refuses true b arguments le = refl
-unwind_refuses false true arguments le = refl
-unwind_refuses false false [] le = refl
-unwind_refuses false false (f ∷ []) le = absurd (omega arith)
-unwind_refuses false false (f ∷ x ∷ more) le = refl
+unwind_refuses : (b raw : Bool) (arguments : List Text) → 2 ≤ length arguments → cond b None (unwind_by raw arguments) ≡ None
+unwind_refuses true raw arguments le = refl
+unwind_refuses false raw [] le = refl
+unwind_refuses false raw (f ∷ []) le = absurd (omega arith)
+unwind_refuses false raw (f ∷ x ∷ more) le = refl
 
 module _ (names : Bor (List (Bor Text))) where
   -- ---- row
@@ -457,7 +456,7 @@ module _ (names : Bor (List (Bor Text))) where
     refl,
     λ word. (ap (next_position (single (codes "FILE") 1 true)) h.0, ap (λ (x : List Text). x ++ word ∷ []) h.1),
   )
-  unwind_place (f ∷ []) position now h = inl (ap (arg_by_index (leaf names unwind_app).rules) h.0, λ g le. unwind_refuses g.raw (is_some g.format) g.arguments le)
+  unwind_place (f ∷ []) position now h = inl (ap (arg_by_index (leaf names unwind_app).rules) h.0, λ g le. unwind_refuses (is_some g.format) g.raw g.arguments le)
   unwind_place (f ∷ x ∷ more) position now h = absurd h
 
   abbrev unwind_rules : List Rule
@@ -471,46 +470,43 @@ module _ (names : Bor (List (Bor Text))) where
       → (arg_by_long (leaf names unwind_app).rules (codes "raw") ≡ None → g.raw ≡ false) → (arg_by_long (leaf names unwind_app).rules (codes "format") ≡ None → g.format ≡ None)
       → Has rs now → Ends (leaf names unwind_app) (codes "unwind") rs (unwind_of g)
   unwind_ends g position rs now placed raw format no_raw no_format has =
-      subst (λ (b : Bool). Ends (leaf names unwind_app) (codes "unwind") rs (cond b None (cond (is_some g.format) None (unwind_by g.arguments)))) (sym (no_raw refl))
-      (subst (λ (o : Option Format). Ends (leaf names unwind_app) (codes "unwind") rs (cond (is_some o) None (unwind_by g.arguments))) (sym (no_format refl)) (go g.arguments placed))
+      subst (λ (o : Option Format). Ends (leaf names unwind_app) (codes "unwind") rs (cond (is_some o) None (unwind_by g.raw g.arguments))) (sym (no_format refl)) (go g.arguments placed)
     where
-      at_end : (id : Text) (values : List Text) → now id ≡ values → at_id id (fold with_default rs unwind_rules) ≡ line id values
-      at_end id values is = ap (at_id id) (skips unwind_rules rs unwind_plain) ∙ has id ∙ ap (line id) is
+      at_end : (id : Text) (values : List Text) → bytes_eq (codes "raw") id ≡ false → now id ≡ values → at_id id (fold with_default rs (raw_here ∷ unwind_rules)) ≡ line id values
+      at_end id values apart is = found_at id unwind_rules rs now values unwind_plain apart has is
 
       lacking : (file : List Text) → now (codes "FILE") ≡ file
-          → check_fault (leaf names unwind_app) (fold with_default rs unwind_rules) false ≡ missing (lacks (line (codes "FILE") file) || false)
-      lacking file e = ap (λ (x : Option Row). missing (lacks x || false)) (at_end (codes "FILE") file e)
+          → check_fault (leaf names unwind_app) (fold with_default rs (raw_here ∷ unwind_rules)) false ≡ missing (lacks (line (codes "FILE") file) || false)
+      lacking file e = ap (λ (x : Option Row). missing (lacks x || false)) (at_end (codes "FILE") file refl e)
 
-      asks : (f : Text) → now (codes "FILE") ≡ f ∷ [] → asked_of (codes "unwind", fold with_default rs unwind_rules) ≡ unwind f
-      asks f e = ap (λ (o : Option Row). unwind (unwrap_or (option_and_then (λ r. slice_get r.values 0) o) [])) (at_end (codes "FILE") (f ∷ []) e)
+      asks : (f : Text) → now (codes "FILE") ≡ f ∷ [] → asked_of (codes "unwind", fold with_default rs (raw_here ∷ unwind_rules)) ≡ unwind g.raw f
+      asks f e =
+          let end = fold with_default rs (raw_here ∷ unwind_rules) in
+          let is_raw : raw_in end ≡ g.raw = raw_is unwind_rules rs now g.raw unwind_plain has raw in
+          let is_file : file_in end ≡ f = ap (λ (o : Option Row). unwrap_or (option_and_then (λ r. slice_get r.values 0) o) []) (at_end (codes "FILE") (f ∷ []) refl e) in
+          λ i. unwind (is_raw i) (is_file i)
 
-      go : (arguments : List Text) → one_file arguments position (now (codes "FILE")) (now (codes "ADDRESS")) → Ends (leaf names unwind_app) (codes "unwind") rs (unwind_by arguments)
+      go : (arguments : List Text) → one_file arguments position (now (codes "FILE")) (now (codes "ADDRESS")) → Ends (leaf names unwind_app) (codes "unwind") rs (unwind_by g.raw arguments)
       go [] h =
-          fault_next (defaults_fault rs unwind_rules) (check_fault (leaf names unwind_app) (fold with_default rs unwind_rules) false) (subst IsFault (sym (lacking [] h.1)) (tt {0}))
-      go (f ∷ []) h = (ap₂ or_else (no_defaults unwind_rules rs unwind_plain) (lacking (f ∷ []) h.1), asks f h.1)
+          fault_next (defaults_fault rs (raw_here ∷ unwind_rules)) (check_fault (leaf names unwind_app) (fold with_default rs (raw_here ∷ unwind_rules)) false)
+          (subst IsFault (sym (lacking [] h.1)) (tt {0}))
+      go (f ∷ []) h = (ap₂ or_else (raw_defaults unwind_rules rs unwind_plain) (lacking (f ∷ []) h.1), asks f h.1)
       go (f ∷ x ∷ more) h = absurd h
 
   pub unwind_leaf : Leaf (leaf names unwind_app) (codes "unwind") names one_file unwind_of
   unwind_leaf = record {
     again = refl;
-    raw = inl (refl, without_raw);
+    raw = inr refl;
     format = inl (refl, without_format);
-    others = λ flag e d. help_by_name (bytes_eq (codes "help") flag);
+    others = λ flag e d. rw e (help_by_name (bytes_eq (codes "help") flag));
     short = λ x. help_by_name (nat_eq 104 x);
     apart = λ position a e. apart_of (arg_by_index (leaf names unwind_app).rules position) a e (one_apart (single (codes "FILE") 1 true) refl (nat_eq 1 position));
     place = unwind_place;
     ends = unwind_ends;
   }
     where
-      without_raw : (g : Given) → g.raw ≡ true → unwind_of g ≡ None
-      without_raw g h = ap (λ (b : Bool). cond b None (cond (is_some g.format) None (unwind_by g.arguments))) h
-
-      none_twice : (a b : Bool) (o : Option Asked) → b ≡ true → cond a None (cond b None o) ≡ None
-      none_twice true b o h = refl
-      none_twice false b o h = ap (λ (x : Bool). cond x None o) h
-
       without_format : (g : Given) → is_some g.format ≡ true → unwind_of g ≡ None
-      without_format g h = none_twice g.raw (is_some g.format) (unwind_by g.arguments) h
+      without_format g h = ap (λ (b : Bool). cond b None (unwind_by g.raw g.arguments)) h
 
   -- ---- all words of a command
 

@@ -1,5 +1,5 @@
 -- What was written by checks one after the other, and the end of a run.
-use Rattle.std.proofs.Common.{◌≡◌, ℕ, ◌+◌, ◌<◌, List, [], ◌∷◌, ◌++◌, Option, Some, None, Result, Ok, Err, Vec, IfOk, IsSome, suc, length, take, drop, get_or, add-one, drop-cons, refl, sym, ◌∙◌, ap, append_assoc, append-nil, subst, map, codes, inl, inr, unwrap_or}
+use Rattle.std.proofs.Common.{◌≡◌, ℕ, ◌+◌, ◌<◌, Bool, List, [], ◌∷◌, ◌++◌, Option, Some, None, Result, Ok, Err, Vec, IfOk, IsSome, suc, length, take, drop, get_or, add-one, drop-cons, refl, sym, ◌∙◌, ap, append_assoc, append-nil, subst, map, codes, inl, inr, unwrap_or}
 use Rattle.std.proofs.Math.Seq.{take-suc}
 use Rattle.std.proofs.lemmas.List.{map-append, take-append-drop}
 use Rattle.std.specs.Borrow.{Bor}
@@ -171,12 +171,12 @@ checked_of disk format name file old new r may (bytes, left, (finding, printed, 
 pub unreadable : (E : Type 0) (disk : Disk) (format : Format) (name : Text) (old : Option (List ℕ)) → disk.MayOpen name None → ChecksSome {E = E} (λ finding line. IsCheck disk format name finding line) old old (Ok Unreadable)
 unreadable E disk format name old may = (Unreadable, nothing, none_yet old, refl, (None, may, (refl, refl)))
 
-pub stacks_of : {E : Type 0} (disk : Disk) (name : Text) (file : disk.Handle) (old new : Option (List ℕ)) (r : Result ℕ E) → disk.MayOpen name (Some file) →
-    ((bytes : List ℕ) × AreLeft (disk.bytes_of file) bytes × PrintsSome (λ line. IsOwedOfProfile (MayOpenNamed disk) disk.bytes_of bytes line) old new r) → PrintsSome (λ line. AreStacks disk name line) old new r
-stacks_of disk name file old new r may (bytes, left, (printed, prints, owed)) = (printed, prints, (Some file, may, (bytes, left, owed)))
+pub stacks_of : {E : Type 0} (disk : Disk) (raw : Bool) (name : Text) (file : disk.Handle) (old new : Option (List ℕ)) (r : Result ℕ E) → disk.MayOpen name (Some file) →
+    ((bytes : List ℕ) × AreLeft (disk.bytes_of file) bytes × PrintsSome (λ line. IsOwedOfProfile raw (MayOpenNamed disk) disk.bytes_of bytes line) old new r) → PrintsSome (λ line. AreStacks disk raw name line) old new r
+stacks_of disk raw name file old new r may (bytes, left, (printed, prints, owed)) = (printed, prints, (Some file, may, (bytes, left, owed)))
 
-pub no_stacks : (E : Type 0) (disk : Disk) (name : Text) (old : Option (List ℕ)) → disk.MayOpen name None → PrintsSome {E = E} (λ line. AreStacks disk name line) old old (Ok 2)
-no_stacks E disk name old may = (nothing, (none_yet old, refl), (None, may, refl))
+pub no_stacks : (E : Type 0) (disk : Disk) (raw : Bool) (name : Text) (old : Option (List ℕ)) → disk.MayOpen name None → PrintsSome {E = E} (λ line. AreStacks disk raw name line) old old (Ok 2)
+no_stacks E disk raw name old may = (nothing, (none_yet old, refl), (None, may, refl))
 
 -- ---- the line that counts
 

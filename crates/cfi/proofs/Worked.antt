@@ -63,8 +63,11 @@ counted : tally_in form.Text 3 2 1 ≡ codes "3 files, 2 tables, 1 faithful"
 unfolding digits
 counted = refl
 
-a_profile : asked (codes "cfi" ∷ codes "unwind" ∷ codes "perf.data" ∷ []) ≡ Some (unwind (codes "perf.data"))
+a_profile : asked (codes "cfi" ∷ codes "unwind" ∷ codes "perf.data" ∷ []) ≡ Some (unwind false (codes "perf.data"))
 a_profile = refl
+
+a_raw_profile : asked (codes "cfi" ∷ codes "unwind" ∷ codes "--raw" ∷ codes "perf.data" ∷ []) ≡ Some (unwind true (codes "perf.data"))
+a_raw_profile = refl
 
 a_profile_has_no_format : asked (codes "cfi" ∷ codes "unwind" ∷ codes "--format=text" ∷ codes "perf.data" ∷ []) ≡ None
 a_profile_has_no_format = refl

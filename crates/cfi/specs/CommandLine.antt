@@ -22,14 +22,14 @@ use Rattle.cfi_programs.specs.declared.style.Format.TheVariants as form
 
 -- ---- the commands, with the bytes of their words
 
--- first whether registers are printed by number, and the form of what is printed
+-- first whether registers are printed by number, or stacks without functions, and the form of what is printed
 pub data Asked : Type 0 where
   row : Bool → Format → Text → List Text → Asked
   rows : Bool → Format → Text → Option Text → Asked
   dump : Bool → Text → Asked
   check : Format → List Text → Asked
   table : Bool → Text → Asked
-  unwind : Text → Asked
+  unwind : Bool → Text → Asked
 
 abbrev pub command_view : Command → Asked
 command_view (command.Row raw format file addresses) = row raw format file.now (map (λ address. address.now) addresses.items)
@@ -37,7 +37,7 @@ command_view (command.Rows raw format file address) = rows raw format file.now (
 command_view (command.Dump raw file) = dump raw file.now
 command_view (command.Check format files) = check format (map (λ file. file.now) files.items)
 command_view (command.Table raw file) = table raw file.now
-command_view (command.Unwind file) = unwind file.now
+command_view (command.Unwind raw file) = unwind raw file.now
 
 -- ---- the commands as clap is told of them
 
@@ -80,7 +80,7 @@ abbrev pub table_app : App
 table_app = with_rule (with_rule (new_app (codes "table")) raw_rule) file_rule
 
 abbrev pub unwind_app : App
-unwind_app = with_rule (new_app (codes "unwind")) file_rule
+unwind_app = with_rule (with_rule (new_app (codes "unwind")) raw_rule) file_rule
 
 -- one of the subcommands has to be asked for, and there is none that is called help
 abbrev pub top_app : App
@@ -130,7 +130,7 @@ asked_of named =
     else if bytes_eq named.0 (codes "dump") then dump raw (file_in named.1)
     else if bytes_eq named.0 (codes "check") then check format (values_in (codes "FILE") named.1)
     else if bytes_eq named.0 (codes "table") then table raw (file_in named.1)
-    else unwind (file_in named.1)
+    else unwind raw (file_in named.1)
 
 -- by the words
 abbrev pub asked_by : Bor (List (Bor Text)) → List Text → Option Asked

@@ -2,7 +2,7 @@
 --     IsAnswer disk task printed      the output of a task, by the bytes of the files that were opened
 --     IsOutput disk words printed      the output for the words of the process
 --     PrintsRun disk words old new status      what a run writes, and its status
-use Rattle.std.specs.Prelude.{◌≡◌, ◌⊎◌, ℕ, List, [], ◌∷◌, ◌++◌, length, Option, Some, None, Result, Vec, IsNone, MatchResult, IfOk, map}
+use Rattle.std.specs.Prelude.{◌≡◌, ◌⊎◌, ℕ, Bool, List, [], ◌∷◌, ◌++◌, length, Option, Some, None, Result, Vec, IsNone, MatchResult, IfOk, map}
 use Rattle.std.specs.Borrow.{Bor}
 use Rattle.std.specs.List.{count_by}
 use Rattle.std.specs.Io.KnownBytes.{Appends}
@@ -93,20 +93,20 @@ AreTallied disk format names printed = (checks : Checks) × AreChecks disk forma
 abbrev pub MayOpenNamed : (disk : Disk) → List ℕ → Option disk.Handle → Type 0
 MayOpenNamed disk name opened = IsNone opened ⊎ disk.MayOpen name opened
 
-abbrev pub AreStacksOf : (disk : Disk) → Option disk.Handle → Line → Type 0
-AreStacksOf disk None printed = printed ≡ nothing
-AreStacksOf disk (Some file) printed =
-    (bytes : List ℕ) × AreLeft (disk.bytes_of file) bytes × IsOwedOfProfile (MayOpenNamed disk) disk.bytes_of bytes printed
+abbrev pub AreStacksOf : (disk : Disk) → Bool → Option disk.Handle → Line → Type 0
+AreStacksOf disk raw None printed = printed ≡ nothing
+AreStacksOf disk raw (Some file) printed =
+    (bytes : List ℕ) × AreLeft (disk.bytes_of file) bytes × IsOwedOfProfile raw (MayOpenNamed disk) disk.bytes_of bytes printed
 
-abbrev pub AreStacks : Disk → Text → Line → Type 0
-AreStacks disk name printed = (opened : Option disk.Handle) × disk.MayOpen name opened × AreStacksOf disk opened printed
+abbrev pub AreStacks : Disk → Bool → Text → Line → Type 0
+AreStacks disk raw name printed = (opened : Option disk.Handle) × disk.MayOpen name opened × AreStacksOf disk raw opened printed
 
 -- ---- a run
 
 abbrev pub IsAnswer : Disk → Task → Line → Type 0
 IsAnswer disk (print name what) printed = IsPrint disk name what printed
 IsAnswer disk (check names format) printed = AreTallied disk format names printed
-IsAnswer disk (unwind name) printed = AreStacks disk name printed
+IsAnswer disk (unwind raw name) printed = AreStacks disk raw name printed
 
 -- the status after a text of clap's, which may be 0 after help; 2 where the text can't be written
 abbrev pub IsStatusAfter : ErrorKind → ℕ → Type 0

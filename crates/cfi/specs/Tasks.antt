@@ -34,16 +34,16 @@ asking raw what = record { what = what; raw = raw }
 abbrev pub of_request : Request → OfRequest
 of_request request = asking request.raw (of_file request.printed)
 
--- to print something of a file; to check files, in a format; or to print the stacks of a profile
+-- to print something of a file; to check files, in a format; or to print the stacks of a profile, raw or with functions
 pub data Task : Type 0 where
   print : Text → OfRequest → Task
   check : List Text → Format → Task
-  unwind : Text → Task
+  unwind : Bool → Text → Task
 
 abbrev pub task_view : TaskOfCode → Task
 task_view (Print file request) = print file.now (of_request request)
 task_view (Check files format) = check (map (λ file. file.now) files.now) format
-task_view (Unwind file) = unwind file.now
+task_view (Unwind file raw) = unwind raw file.now
 
 -- for what the words ask for
 abbrev pub task_for : Asked → Task
@@ -52,4 +52,4 @@ task_for (asked.rows raw format file address) = print file (asking raw (rows_of 
 task_for (asked.dump raw file) = print file (asking raw dump_of)
 task_for (asked.check format files) = check files format
 task_for (asked.table raw file) = print file (asking raw table_of)
-task_for (asked.unwind file) = unwind file
+task_for (asked.unwind raw file) = unwind raw file

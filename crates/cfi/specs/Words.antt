@@ -103,9 +103,9 @@ abbrev pub table_by : Bool → List Text → Option Asked
 table_by raw (file ∷ []) = Some (table raw file)
 table_by raw _ = None
 
-abbrev pub unwind_by : List Text → Option Asked
-unwind_by (file ∷ []) = Some (unwind file)
-unwind_by _ = None
+abbrev pub unwind_by : Bool → List Text → Option Asked
+unwind_by raw (file ∷ []) = Some (unwind raw file)
+unwind_by raw _ = None
 
 -- text, where no format was named
 abbrev pub format_given : Given → Format
@@ -127,7 +127,7 @@ abbrev pub table_of : Given → Option Asked
 table_of given = if is_some given.format then None else table_by given.raw given.arguments
 
 abbrev pub unwind_of : Given → Option Asked
-unwind_of given = if given.raw then None else if is_some given.format then None else unwind_by given.arguments
+unwind_of given = if is_some given.format then None else unwind_by given.raw given.arguments
 
 abbrev pub named : Text → Given → Option Asked
 named name given =

@@ -18,7 +18,7 @@ use std::alloc::{AllocError, Global};
 use std::convert::AsStr;
 
 /// What the words of a command line ask for. The texts are those of the words, and `raw` says that
-/// registers are printed by their numbers.
+/// registers are printed by their numbers, and stacks without functions.
 #[derive(Drop)]
 pub enum Command<'w> {
     /// `row FILE ADDRESS..`: the rows for addresses, of which there is one at least.
@@ -52,6 +52,7 @@ pub enum Command<'w> {
     },
     /// `unwind FILE`: the stack of each sample of a profile.
     Unwind {
+        raw: bool,
         file: &'w str,
     },
 }
@@ -128,12 +129,13 @@ fn named<'w>(
         })
     } else {
         Ok(Command::Unwind {
+            raw: raw_in(arguments),
             file: file_in(arguments),
         })
     }
 }
 
-/// Returns whether registers are printed by their numbers.
+/// Returns whether `--raw` was given.
 fn raw_in(arguments: &ArgMatches) -> bool
     ensures { result ≡ raw_in (rows_of (found_of arguments.now)) }
 {
@@ -268,6 +270,7 @@ fn unwind<'w>(alloc: Global) -> Result<clap::Command<'w>, AllocError>
 {
     clap::Command::new(alloc, "unwind")
         .about("Prints the stack of each sample of a profile: perf record --call-graph dwarf")
+        .arg(places_flag(alloc))?
         .arg(profile(alloc))
 }
 
@@ -277,6 +280,16 @@ fn raw_flag<'w>(alloc: Global) -> Arg<'w>
 {
     Arg::new(alloc, "raw")
         .help("Prints registers by their numbers, and not by the machine's names")
+        .long("raw")
+        .action(ArgAction::SetTrue)
+}
+
+fn places_flag<'w>(alloc: Global) -> Arg<'w>
+    ensures rule { rule_of result ≡ raw_rule }
+    ensures local { result.global ≡ false }
+{
+    Arg::new(alloc, "raw")
+        .help("Prints the place of each frame in its file, without the function")
         .long("raw")
         .action(ArgAction::SetTrue)
 }

@@ -97,7 +97,7 @@ fn run_command<S: System, W: Write>(system: &S, command: &Command, output: &mut 
     match task_of(command) {
         Task::Print(file, request) => print_file(system, file, request, output),
         Task::Check(files, format) => print_checks(system, format, files, output),
-        Task::Unwind(file) => print_stacks(system, file, output),
+        Task::Unwind(file, raw) => print_stacks(system, raw, file, output),
     }
 }
 
@@ -118,15 +118,20 @@ fn print_file<S: System, W: Write>(
     }
 }
 
-/// Opens the profile, and prints the stacks of its samples.
-fn print_stacks<S: System, W: Write>(system: &S, file: &str, output: &mut W) -> io::Result<u8>
+/// Opens the profile, and prints the stacks of its samples, without functions if they are `raw`.
+fn print_stacks<S: System, W: Write>(
+    system: &S,
+    raw: bool,
+    file: &str,
+    output: &mut W,
+) -> io::Result<u8>
     ensures { PrintsSome (λ line. AreStacks (disk_of (S.may_open system.now) S.File.remaining)
-        file.now line)
+        raw file.now line)
         (W.contents output.old) (W.contents output.new) result }
 {
     let opener = ProfileOpener { system };
     match system.open(file) {
-        Some(mut input) => unwind_profile(system.alloc(), &opener, &mut input, output),
+        Some(mut input) => unwind_profile(system.alloc(), raw, &opener, &mut input, output),
         None => Ok(WRONG),
     }
 }

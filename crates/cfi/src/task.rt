@@ -14,8 +14,8 @@ pub enum Task<'c> {
     Print(&'c str, Request<'c>),
     /// Check these files, and print what was found in a format.
     Check(&'c [&'c str], Format),
-    /// Print the stack of each sample of this profile.
-    Unwind(&'c str),
+    /// Print the stack of each sample of this profile; without functions if true.
+    Unwind(&'c str, bool),
 }
 
 /// Returns what the command is to do.
@@ -38,7 +38,7 @@ pub fn task_of<'c>(command: &'c Command<'c>) -> Task<'c>
         Command::Dump { raw, file } => printed_of(file, Printed::Dump, *raw),
         Command::Check { format, files } => Task::Check(files.as_slice(), *format),
         Command::Table { raw, file } => printed_of(file, Printed::Table, *raw),
-        Command::Unwind { file } => Task::Unwind(file),
+        Command::Unwind { raw, file } => Task::Unwind(file, *raw),
     }
 }
 

@@ -37,6 +37,9 @@ from_file site = file_text site.file ++ closing
 abbrev pub from_parenthesis : Site → List ℕ
 from_parenthesis site = codes " (" ++ from_file site
 
+abbrev pub from_opening : Site → List ℕ
+from_opening site = codes "(" ++ from_file site
+
 abbrev pub from_function : Site → List ℕ
 from_function site = function_text site.function ++ from_parenthesis site
 

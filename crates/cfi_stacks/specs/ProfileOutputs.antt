@@ -1,10 +1,10 @@
 -- Which output is right for a profile.
---     stack_text files list frames      the lines of frames, where this is mapped
---     IsStackText machine files list time sample text      the text of a sample's stack
---     AreStacks machine files before records text      the texts of the samples, in the order of the records
+--     stack_text raw files list frames      the lines of frames, where this is mapped
+--     IsStackText raw machine files list time sample text      the text of a sample's stack
+--     AreStacks raw machine files before records text      the texts of the samples, in the order of the records
 --     IsPrinted .. records error line      these, and then the error that ended the records; or a beginning of them, and that memory was refused
---     IsOutput may_open remaining bytes line      the output of a profile of these bytes, whose files may be opened so
-use Rattle.std.specs.Prelude.{◌≡◌, ◌⊎◌, ℕ, true, List, [], ◌∷◌, ◌++◌, Option, Some, None, Result, Ok, Err, codes, map, take}
+--     IsOutput raw may_open remaining bytes line      the output of a profile of these bytes, whose files may be opened so
+use Rattle.std.specs.Prelude.{◌≡◌, ◌⊎◌, ℕ, Bool, true, List, [], ◌∷◌, ◌++◌, Option, Some, None, Result, Ok, Err, codes, map, take}
 use Rattle.std.specs.List.{flat_map}
 use Rattle.std.specs.List.Sorted.{IsSortedByKey, IsStableByKey}
 use Rattle.std.specs.Ordering.{nat_cmp}
@@ -35,34 +35,34 @@ use Rattle.cfi_stacks.specs.Reasons.{reason_line, reason_of, reason_without}
 use Rattle.cfi_stacks.specs.Registers.{machine_named}
 use Rattle.cfi_stacks.specs.Replays.{after, names_of}
 use Rattle.cfi_stacks.specs.SampleStacks.{IsUnwound, Room}
-use Rattle.cfi_stacks.specs.StackTexts.{frame_line, head_line}
+use Rattle.cfi_stacks.specs.StackTexts.{head_line, site_line}
 
 -- ---- a sample
 
 -- a frame is looked up as its row is: a return address less one
-abbrev pub frame_text : List KnownFile → List MappedCode → StackFrame → List ℕ
-frame_text files list frame = frame_line (site_of files list (row_address frame.pc frame.is_interrupted))
+abbrev pub frame_text : Bool → List KnownFile → List MappedCode → StackFrame → List ℕ
+frame_text raw files list frame = site_line raw (site_of files list (row_address frame.pc frame.is_interrupted))
 
-abbrev pub stack_text : List KnownFile → List MappedCode → List StackFrame → List ℕ
-stack_text files list frames = flat_map (frame_text files list) frames
+abbrev pub stack_text : Bool → List KnownFile → List MappedCode → List StackFrame → List ℕ
+stack_text raw files list frames = flat_map (frame_text raw files list) frames
 
 -- the frames of a walk and why there are no more, or why there are none
-abbrev pub walk_text : List KnownFile → List MappedCode → Result Walk NoFrames → List StackFrame → List ℕ
-walk_text files list (Ok walk) room = stack_text files list (take walk.count room) ++ reason_line (reason_of walk.end)
-walk_text files list (Err why) room = reason_line (Some (reason_without why))
+abbrev pub walk_text : Bool → List KnownFile → List MappedCode → Result Walk NoFrames → List StackFrame → List ℕ
+walk_text raw files list (Ok walk) room = stack_text raw files list (take walk.count room) ++ reason_line (reason_of walk.end)
+walk_text raw files list (Err why) room = reason_line (Some (reason_without why))
 
 -- behind a line with the thread and the time, and before an empty line
-abbrev pub sample_text : List KnownFile → List MappedCode → ℕ → Sample → Result Walk NoFrames → List StackFrame → List ℕ
-sample_text files list time s result room = head_line s.pid s.tid time ++ (walk_text files list result room ++ 10 ∷ [])
+abbrev pub sample_text : Bool → List KnownFile → List MappedCode → ℕ → Sample → Result Walk NoFrames → List StackFrame → List ℕ
+sample_text raw files list time s result room = head_line s.pid s.tid time ++ (walk_text raw files list result room ++ 10 ∷ [])
 
-module _ (machine : SampleMachine) (files : List KnownFile) where
+module _ (raw : Bool) (machine : SampleMachine) (files : List KnownFile) where
   -- by the modules that are mapped, in a storage of 192 rules and 4 rows
   abbrev pub IsStackText : List MappedCode → ℕ → Sample → List ℕ → Type 0
   IsStackText list time s text =
       (modules : List (LoadedModule (EndianSlice RunTimeEndian))) × (old : Room) × (result : Result Walk NoFrames) × (new : Room)
       × (map module_view modules ≡ modules_in files list)
       × IsUnwound (slice_position is_big) (λ n. n) (Some 192) (Some 4) true modules machine s.user old result new
-      × (text ≡ sample_text files list time s result new.frames)
+      × (text ≡ sample_text raw files list time s result new.frames)
 
   abbrev pub IsTextOf : (ℕ → List MappedCode) → ℕ → Event → List ℕ → Type 0
   IsTextOf before time (SampleEvent s) text = IsStackText (before s.pid) time s text
@@ -87,10 +87,10 @@ ended text (Some error) = record { text = text ++ (perf_refusal error).text; sta
 abbrev pub nothing_mapped : ℕ → List MappedCode
 nothing_mapped pid = []
 
-abbrev pub IsPrinted : SampleMachine → List KnownFile → List Record → Option PerfError → Line → Type 0
-IsPrinted machine files records error printed =
-    ((text : List ℕ) × AreStacks machine files nothing_mapped records text × (printed ≡ ended text error))
-    ⊎ ((n : ℕ) × (text : List ℕ) × AreStacks machine files nothing_mapped (take n records) text × (printed ≡ record { text = text ++ out_of_memory.text; status = 1 }))
+abbrev pub IsPrinted : Bool → SampleMachine → List KnownFile → List Record → Option PerfError → Line → Type 0
+IsPrinted raw machine files records error printed =
+    ((text : List ℕ) × AreStacks raw machine files nothing_mapped records text × (printed ≡ ended text error))
+    ⊎ ((n : ℕ) × (text : List ℕ) × AreStacks raw machine files nothing_mapped (take n records) text × (printed ≡ record { text = text ++ out_of_memory.text; status = 1 }))
 
 -- ---- a profile
 
@@ -111,15 +111,15 @@ abbrev pub IsSortedOf : Records → List Record → Option PerfError → Type 0
 IsSortedOf found sorted error = AreInTimeOrder found.records sorted × (error ≡ found.error)
 
 -- by files that were opened
-abbrev pub IsOfOpened : SampleMachine → List Opened → List Record → Option PerfError → Line → Type 0
-IsOfOpened machine opened sorted error printed =
-    (files : List KnownFile) × AreFilesOf opened files × IsPrinted machine files sorted error printed
+abbrev pub IsOfOpened : Bool → SampleMachine → List Opened → List Record → Option PerfError → Line → Type 0
+IsOfOpened raw machine opened sorted error printed =
+    (files : List KnownFile) × AreFilesOf opened files × IsPrinted raw machine files sorted error printed
 
-module _ {Handle : Type 0} (may_open : List ℕ → Option Handle → Type 0) (remaining : Handle → Option (List ℕ)) where
+module _ (raw : Bool) {Handle : Type 0} (may_open : List ℕ → Option Handle → Type 0) (remaining : Handle → Option (List ℕ)) where
   -- by the files of these names
   abbrev pub IsOfNamed : SampleMachine → List (List ℕ) → List Record → Option PerfError → Line → Type 0
   IsOfNamed machine names sorted error printed =
-      (opened : List Opened) × AreOpened may_open remaining names opened × IsOfOpened machine opened sorted error printed
+      (opened : List Opened) × AreOpened may_open remaining names opened × IsOfOpened raw machine opened sorted error printed
 
   abbrev pub IsOfSorted : SampleMachine → List Record → Option PerfError → Line → Type 0
   IsOfSorted machine sorted error printed = IsOfNamed machine (names_of sorted) sorted error printed

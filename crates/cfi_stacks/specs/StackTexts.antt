@@ -1,8 +1,9 @@
 -- The text of a sample's stack.
 --     Site, site_view      where the code of a frame is, and that of the code
 --     head_line pid tid time      the line of the thread and the time
---     frame_line site      the line of a frame
-use Rattle.std.specs.Prelude.{ℕ, ◌-◌, ◌/◌, ◌%◌, ◌&&◌, Bool, nat_le, nat_lt, List, [], ◌∷◌, ◌++◌, Option, Some, None, codes, false, length, map, option_map, take}
+--     without_function site      the same, less its function
+--     site_line raw site      the line of a frame, raw or with its function
+use Rattle.std.specs.Prelude.{ℕ, ◌-◌, ◌/◌, ◌%◌, ◌&&◌, Bool, nat_le, nat_lt, List, [], ◌∷◌, ◌++◌, Option, Some, None, codes, false, length, map, option_map, take, if◌then◌else◌}
 use Rattle.std.specs.Fmt.{decimal, digits}
 use Rattle.cfi_elf.specs.FunctionPlaces.{Place, place_view}
 use Rattle.cfi_programs.specs.FunctionLines.{shown}
@@ -37,6 +38,9 @@ pub record Site : Type 0 where
 abbrev pub site_view : SiteOfCode → Site
 site_view site = record { place = site.place; function = option_map place_view site.function; file = option_map (λ name. name.now) site.file }
 
+abbrev pub without_function : Site → Site
+without_function site = record site { function = None }
+
 abbrev pub unknown : List ℕ
 unknown = codes "[unknown]"
 
@@ -52,5 +56,14 @@ file_text (Some name) = map shown name
 abbrev pub column_text : ℕ → List ℕ
 column_text place = codes "\t" ++ filled (codes "                ") (digits 16 false place) ++ codes " "
 
+-- the place, the function, and the file in parentheses
 abbrev pub frame_line : Site → List ℕ
 frame_line site = column_text site.place ++ (function_text site.function ++ (codes " (" ++ (file_text site.file ++ (codes ")" ++ 10 ∷ []))))
+
+-- the place, and the file in parentheses
+abbrev pub place_line : Site → List ℕ
+place_line site = column_text site.place ++ (codes "(" ++ (file_text site.file ++ (codes ")" ++ 10 ∷ [])))
+
+-- raw: the function is left out
+abbrev pub site_line : Bool → Site → List ℕ
+site_line raw site = if raw then place_line site else frame_line site

@@ -1,12 +1,12 @@
 //! The code of a process, as it is mapped.
-ghost use Rattle.std.specs.Prelude.{◌≡◌, ◌++◌, IfOk, OnOk, map, option_map, true};
+ghost use Rattle.std.specs.Prelude.{◌≡◌, ◌++◌, IfOk, OnOk, Some, map, option_map, true};
 ghost use Rattle.std.specs.Option.{option_and_then};
 ghost use Rattle.cfi_elf.specs.FunctionPlaces.{place_view};
 ghost use Rattle.cfi_stacks.specs.KnownFiles.{file_of, function_in, known_view, mapped_at};
 ghost use Rattle.cfi_stacks.specs.KnownFiles.{module_in, modules_in, nowhere, site_in, site_of};
 ghost use Rattle.cfi_stacks.specs.Mappings.{AreInOrder, has_byte_at};
 ghost use Rattle.cfi_stacks.specs.Modules.{module_view};
-ghost use Rattle.cfi_stacks.specs.StackTexts.{site_view};
+ghost use Rattle.cfi_stacks.specs.StackTexts.{site_view, without_function};
 
 use crate::mappings::MappedCode;
 use crate::profile_files::ProfileFile;
@@ -48,12 +48,32 @@ impl<'a, 'files, 'run> ProcessCode<'a, 'files, 'run> {
     {
         match self.file_of(mapped) {
             Some(file) => Site {
-                place: mapped
-                    .offset
-                    .wrapping_add(address.saturating_sub(mapped.start)),
                 function: function_in(file, mapped, address),
-                file: Some(file.name),
+                ..place_in(file, mapped, address)
             },
+            None => nowhere(address),
+        }
+    }
+
+    /// Where an address is: in which file, without the function.
+    pub fn place(&self, address: u64) -> Site<'run>
+        requires { AreInOrder 0 self.now.mappings.now }
+        ensures { site_view result ≡ without_function
+            (site_of (map known_view self.now.files.now) self.now.mappings.now address) }
+    {
+        match self.mapped_at(address) {
+            Some(mapped) => self.place_at(mapped, address),
+            None => nowhere(address),
+        }
+    }
+
+    /// Where an address is that is mapped here, without the function.
+    fn place_at(&self, mapped: &MappedCode, address: u64) -> Site<'run>
+        ensures { site_view result ≡ without_function (site_in mapped.now address
+            (file_of (map known_view self.now.files.now) mapped.now)) }
+    {
+        match self.file_of(mapped) {
+            Some(file) => place_in(file, mapped, address),
             None => nowhere(address),
         }
     }
@@ -117,6 +137,20 @@ fn nowhere<'run>(address: u64) -> Site<'run>
         place: address,
         function: None,
         file: None,
+    }
+}
+
+/// Where an address is that the file is mapped at, without the function.
+fn place_in<'run>(file: &ProfileFile<'run>, mapped: &MappedCode, address: u64) -> Site<'run>
+    ensures { site_view result
+        ≡ without_function (site_in mapped.now address (Some (known_view file.now))) }
+{
+    Site {
+        place: mapped
+            .offset
+            .wrapping_add(address.saturating_sub(mapped.start)),
+        function: None,
+        file: Some(file.name),
     }
 }
 

@@ -34,7 +34,9 @@ use std::io::{Read, Write};
 ///
 /// For each there is a line with the process, the thread and the time, a line for each frame, where
 /// there is a reason for which the last frame isn't the outermost one a line with it, and an empty
-/// line. The files of code are opened by the names that the profile has for them.
+/// line. The line of a frame has its place in a file, the function and the file; if it is `raw`, it
+/// has no function, and none is looked up. The files of code are opened by the names that the
+/// profile has for them.
 ///
 /// Status 0: all samples are printed. Status 1: the profile, or the rest of it, can't be read,
 /// which prints `refused` and the name of the error; it is of a machine whose registers aren't
@@ -46,16 +48,17 @@ use std::io::{Read, Write};
 /// allocate.
 pub fn unwind_profile<O: Opener, R: Read, W: Write>(
     alloc: Global,
+    raw: bool,
     opener: &O,
     input: &mut R,
     output: &mut W,
 ) -> io::Result<u8>
     ensures { (bytes : List ℕ) × AreLeft (R.remaining input.old) bytes
-        × PrintsSome (λ line. IsOwed (O.may_open opener.now) O.File.remaining bytes line)
+        × PrintsSome (λ line. IsOwed raw (O.may_open opener.now) O.File.remaining bytes line)
         (W.contents output.old) (W.contents output.new) result }
 {
     match read_all(alloc, input) {
-        Ok(bytes) => print_bytes(alloc, opener, bytes.as_slice(), output),
+        Ok(bytes) => print_bytes(alloc, raw, opener, bytes.as_slice(), output),
         Err(InputError::OutOfMemory) => write_refusal(output, Error::OutOfMemory),
         Err(_) => write_wrong_input(output),
     }
@@ -64,15 +67,17 @@ pub fn unwind_profile<O: Opener, R: Read, W: Write>(
 /// Prints the stacks of the profile that these bytes are.
 fn print_bytes<O: Opener, W: Write>(
     alloc: Global,
+    raw: bool,
     opener: &O,
     bytes: &[u8],
     output: &mut W,
 ) -> io::Result<u8>
-    ensures { PrintsSome (λ line. IsOutput (O.may_open opener.now) O.File.remaining bytes.now line)
+    ensures { PrintsSome (λ line. IsOutput raw (O.may_open opener.now) O.File.remaining
+        bytes.now line)
         (W.contents output.old) (W.contents output.new) result }
 {
     match Profile::parse(bytes) {
-        Ok(profile) => print_profile(alloc, opener, &profile, output),
+        Ok(profile) => print_profile(alloc, raw, opener, &profile, output),
         Err(error) => write_perf_refusal(output, error),
     }
 }
@@ -80,17 +85,18 @@ fn print_bytes<O: Opener, W: Write>(
 /// Prints the stacks of a profile.
 fn print_profile<O: Opener, W: Write>(
     alloc: Global,
+    raw: bool,
     opener: &O,
     profile: &Profile<'_>,
     output: &mut W,
 ) -> io::Result<u8>
-    ensures { PrintsSome (λ line. IsOfProfile (O.may_open opener.now) O.File.remaining
+    ensures { PrintsSome (λ line. IsOfProfile raw (O.may_open opener.now) O.File.remaining
         (Ok (profile_view profile.now)) line)
         (W.contents output.old) (W.contents output.new) result }
 {
     match profile.architecture() {
         Ok(Some(name)) => match SampleMachine::named(name) {
-            Some(machine) => print_records(alloc, opener, machine, profile.records(), output),
+            Some(machine) => print_records(alloc, raw, opener, machine, profile.records(), output),
             None => write_unknown_machine(output),
         },
         Ok(None) => write_unknown_machine(output),
@@ -101,18 +107,20 @@ fn print_profile<O: Opener, W: Write>(
 /// Prints the stacks that the records have, and then the error that ends them, if any.
 fn print_records<O: Opener, W: Write>(
     alloc: Global,
+    raw: bool,
     opener: &O,
     machine: SampleMachine,
     records: Records<'_>,
     output: &mut W,
 ) -> io::Result<u8>
-    ensures { PrintsSome (λ line. IsOfRecords (O.may_open opener.now) O.File.remaining machine
+    ensures { PrintsSome (λ line. IsOfRecords raw (O.may_open opener.now) O.File.remaining machine
         (records_left records.entry) line)
         (W.contents output.old) (W.contents output.new) result }
 {
     match sorted_records(alloc, records) {
         Ok(found) => print_sorted(
             alloc,
+            raw,
             opener,
             machine,
             found.list.as_slice(),
@@ -171,13 +179,14 @@ fn read_records<'run>(
 /// Opens the files of the records, and prints the stacks.
 fn print_sorted<O: Opener, W: Write>(
     alloc: Global,
+    raw: bool,
     opener: &O,
     machine: SampleMachine,
     records: &[Record<'_>],
     error: Option<PerfError>,
     output: &mut W,
 ) -> io::Result<u8>
-    ensures { PrintsSome (λ line. IsOfSorted (O.may_open opener.now) O.File.remaining machine
+    ensures { PrintsSome (λ line. IsOfSorted raw (O.may_open opener.now) O.File.remaining machine
         (map record_view records.now) error line ⊎ (line ≡ out_of_memory))
         (W.contents output.old) (W.contents output.new) result }
 {
@@ -185,6 +194,7 @@ fn print_sorted<O: Opener, W: Write>(
         Ok(names) => {
             print_named(
                 alloc,
+                raw,
                 opener,
                 machine,
                 names.as_slice(),
@@ -200,6 +210,7 @@ fn print_sorted<O: Opener, W: Write>(
 /// Opens the files of these names, and prints the stacks of the records.
 fn print_named<O: Opener, W: Write>(
     alloc: Global,
+    raw: bool,
     opener: &O,
     machine: SampleMachine,
     names: &[&[u8]],
@@ -207,12 +218,20 @@ fn print_named<O: Opener, W: Write>(
     error: Option<PerfError>,
     output: &mut W,
 ) -> io::Result<u8>
-    ensures { PrintsSome (λ line. IsOfNamed (O.may_open opener.now) O.File.remaining machine
+    ensures { PrintsSome (λ line. IsOfNamed raw (O.may_open opener.now) O.File.remaining machine
         (texts names.now) (map record_view records.now) error line ⊎ (line ≡ out_of_memory))
         (W.contents output.old) (W.contents output.new) result }
 {
     match read_files(alloc, opener, names) {
-        Ok(opened) => print_opened(alloc, machine, opened.as_slice(), records, error, output),
+        Ok(opened) => print_opened(
+            alloc,
+            raw,
+            machine,
+            opened.as_slice(),
+            records,
+            error,
+            output,
+        ),
         Err(_) => write_refusal(output, Error::OutOfMemory),
     }
 }
@@ -220,18 +239,27 @@ fn print_named<O: Opener, W: Write>(
 /// Prints the stacks of the records, by files that were opened.
 fn print_opened<W: Write>(
     alloc: Global,
+    raw: bool,
     machine: SampleMachine,
     opened: &[OpenedFile<'_>],
     records: &[Record<'_>],
     error: Option<PerfError>,
     output: &mut W,
 ) -> io::Result<u8>
-    ensures { PrintsSome (λ line. IsOfOpened machine (map opened_view opened.now)
+    ensures { PrintsSome (λ line. IsOfOpened raw machine (map opened_view opened.now)
         (map record_view records.now) error line ⊎ (line ≡ out_of_memory))
         (W.contents output.old) (W.contents output.new) result }
 {
     match profile_files(alloc, opened) {
-        Ok(files) => print_stacks(alloc, machine, files.as_slice(), records, error, output),
+        Ok(files) => print_stacks(
+            alloc,
+            raw,
+            machine,
+            files.as_slice(),
+            records,
+            error,
+            output,
+        ),
         Err(_) => write_refusal(output, Error::OutOfMemory),
     }
 }
@@ -239,18 +267,19 @@ fn print_opened<W: Write>(
 /// Prints the stacks of the records, by the files, and then the error that ended the records.
 fn print_stacks<W: Write>(
     alloc: Global,
+    raw: bool,
     machine: SampleMachine,
     files: &[ProfileFile<'_>],
     records: &[Record<'_>],
     error: Option<PerfError>,
     output: &mut W,
 ) -> io::Result<u8>
-    ensures { PrintsSome (λ line. IsPrinted machine (map known_view files.now)
+    ensures { PrintsSome (λ line. IsPrinted raw machine (map known_view files.now)
         (map record_view records.now) error line)
         (W.contents output.old) (W.contents output.new) result }
 {
     match Room::new(alloc) {
-        Ok(room) => print_in(alloc, room, machine, files, records, error, output),
+        Ok(room) => print_in(alloc, raw, room, machine, files, records, error, output),
         Err(_) => write_refusal(output, Error::OutOfMemory),
     }
 }
@@ -258,6 +287,7 @@ fn print_stacks<W: Write>(
 /// Prints the stacks of the records in this room, and then the error that ended the records.
 fn print_in<W: Write>(
     alloc: Global,
+    raw: bool,
     room: Room,
     machine: SampleMachine,
     files: &[ProfileFile<'_>],
@@ -265,7 +295,7 @@ fn print_in<W: Write>(
     error: Option<PerfError>,
     output: &mut W,
 ) -> io::Result<u8>
-    ensures { PrintsSome (λ line. IsPrinted machine (map known_view files.now)
+    ensures { PrintsSome (λ line. IsPrinted raw machine (map known_view files.now)
         (map record_view records.now) error line)
         (W.contents output.old) (W.contents output.new) result }
 {
@@ -273,7 +303,7 @@ fn print_in<W: Write>(
     let mut replay = Replay::new(alloc, files);
     for record in records {
         match replay.follow(record) {
-            Ok(()) => print_followed(machine, &replay, record, &mut room, output)?,
+            Ok(()) => print_followed(raw, machine, &replay, record, &mut room, output)?,
             Err(_) => return write_refusal(output, Error::OutOfMemory),
         }
     }
@@ -282,6 +312,7 @@ fn print_in<W: Write>(
 
 /// Prints the stack of a record that was followed last, if it is a sample.
 fn print_followed<W: Write>(
+    raw: bool,
     machine: SampleMachine,
     replay: &Replay<'_, '_>,
     record: &Record<'_>,
@@ -290,11 +321,12 @@ fn print_followed<W: Write>(
 ) -> io::Result<()>
     requires { AreModulesFor (record_view record.now).event replay.now }
     ensures { (text : List ℕ) × Writes (W.contents output.old) (W.contents output.new) result text
-        × IsTextOf machine (files_in replay.now) (replayed replay.now) record.now.time
+        × IsTextOf raw machine (files_in replay.now) (replayed replay.now) record.now.time
         (record_view record.now).event text }
 {
     match record.event {
         Event::Sample(sample) => print_sample(
+            raw,
             machine,
             &replay.code(sample.pid),
             replay.modules(),

@@ -2,16 +2,17 @@
 ghost use Rattle.std.specs.Prelude.{◌≡◌, ◌≤◌, ℕ, IfOk, List, length, map};
 ghost use Rattle.cfi_perf.specs.Samples.{sample_view};
 ghost use Rattle.cfi_programs.specs.WriterOutput.{Writes};
-ghost use Rattle.cfi_stacks.specs.KnownFiles.{known_view, modules_in};
+ghost use Rattle.cfi_stacks.specs.KnownFiles.{known_view, modules_in, site_of};
 ghost use Rattle.cfi_stacks.specs.Mappings.{AreInOrder};
 ghost use Rattle.cfi_stacks.specs.Modules.{module_view};
 ghost use Rattle.cfi_stacks.specs.ProfileOutputs.{IsStackText, sample_text, stack_text, walk_text};
+ghost use Rattle.cfi_stacks.specs.StackTexts.{site_line};
 
 use crate::process_code::{FileModule, ProcessCode};
 use crate::reasons::{reason_of, reason_without, write_reason};
 use crate::registers::SampleMachine;
 use crate::sample_stack::{NoFrames, unwind_sample};
-use crate::stack_lines::{write_frame_line, write_head};
+use crate::stack_lines::{write_frame_line, write_head, write_place_line};
 use cfi_perf::Sample;
 use cfi_programs::lines::write_text;
 use cfi_step::{Modules, StackFrame, Walk, row_address};
@@ -54,8 +55,10 @@ impl Room {
 /// Prints the stack of a sample: a line with its thread and time, a line for each frame, the reason
 /// why there are no more if the last one isn't the outermost, and an empty line.
 ///
-/// The modules are those of what is mapped. Does not allocate.
+/// If it is `raw`, the lines have no functions. The modules are those of what is mapped. Does not
+/// allocate.
 pub fn print_sample<W: Write>(
+    raw: bool,
     machine: SampleMachine,
     code: &ProcessCode<'_, '_, '_>,
     modules: &[FileModule<'_, '_>],
@@ -68,7 +71,7 @@ pub fn print_sample<W: Write>(
     requires modules { map module_view modules.now
         ≡ modules_in (map known_view code.now.files.now) code.now.mappings.now }
     ensures { (text : List ℕ) × Writes (W.contents output.old) (W.contents output.new) result text
-        × IsStackText machine (map known_view code.now.files.now) code.now.mappings.now time
+        × IsStackText raw machine (map known_view code.now.files.now) code.now.mappings.now time
         (sample_view sample.now) text }
 {
     let Ok(modules) = Modules::new(modules) else {
@@ -87,11 +90,12 @@ pub fn print_sample<W: Write>(
         &mut caller[..count],
         frames,
     );
-    print_found(code, time, sample, found, frames, output)
+    print_found(raw, code, time, sample, found, frames, output)
 }
 
 /// Prints what was found of a sample's stack.
 fn print_found<W: Write>(
+    raw: bool,
     code: &ProcessCode<'_, '_, '_>,
     time: u64,
     sample: &Sample<'_>,
@@ -102,16 +106,17 @@ fn print_found<W: Write>(
     requires order { AreInOrder 0 code.now.mappings.now }
     requires count { IfOk found (λ walk. walk.count ≤ length frames.now) }
     ensures { Writes (W.contents output.old) (W.contents output.new) result
-        (sample_text (map known_view code.now.files.now) code.now.mappings.now time
+        (sample_text raw (map known_view code.now.files.now) code.now.mappings.now time
         (sample_view sample.now) found frames.now) }
 {
     write_head(output, sample.pid, sample.tid, time)?;
-    print_walk(code, found, frames, output)?;
+    print_walk(raw, code, found, frames, output)?;
     write_text(output, b"\n")
 }
 
 /// Prints the frames of a walk and why there are no more, or why there are none.
 fn print_walk<W: Write>(
+    raw: bool,
     code: &ProcessCode<'_, '_, '_>,
     found: Result<Walk, NoFrames>,
     frames: &[StackFrame],
@@ -120,11 +125,11 @@ fn print_walk<W: Write>(
     requires order { AreInOrder 0 code.now.mappings.now }
     requires count { IfOk found (λ walk. walk.count ≤ length frames.now) }
     ensures { Writes (W.contents output.old) (W.contents output.new) result
-        (walk_text (map known_view code.now.files.now) code.now.mappings.now found frames.now) }
+        (walk_text raw (map known_view code.now.files.now) code.now.mappings.now found frames.now) }
 {
     match found {
         Ok(walk) => {
-            print_frames(code, &frames[..walk.count], output)?;
+            print_frames(raw, code, &frames[..walk.count], output)?;
             write_reason(output, reason_of(walk.end))
         }
         Err(why) => write_reason(output, Some(reason_without(why))),
@@ -133,17 +138,36 @@ fn print_walk<W: Write>(
 
 /// Prints a line for each frame.
 fn print_frames<W: Write>(
+    raw: bool,
     code: &ProcessCode<'_, '_, '_>,
     frames: &[StackFrame],
     output: &mut W,
 ) -> io::Result<()>
     requires { AreInOrder 0 code.now.mappings.now }
     ensures { Writes (W.contents output.old) (W.contents output.new) result
-        (stack_text (map known_view code.now.files.now) code.now.mappings.now frames.now) }
+        (stack_text raw (map known_view code.now.files.now) code.now.mappings.now frames.now) }
 {
     for frame in frames {
         let address = row_address(frame.pc, frame.is_interrupted);
-        write_frame_line(output, code.site(address))?;
+        print_site(raw, code, address, output)?;
     }
     Ok(())
+}
+
+/// Prints a line for the address.
+fn print_site<W: Write>(
+    raw: bool,
+    code: &ProcessCode<'_, '_, '_>,
+    address: u64,
+    output: &mut W,
+) -> io::Result<()>
+    requires { AreInOrder 0 code.now.mappings.now }
+    ensures { Writes (W.contents output.old) (W.contents output.new) result (site_line raw
+        (site_of (map known_view code.now.files.now) code.now.mappings.now address)) }
+{
+    if raw {
+        write_place_line(output, code.place(address))
+    } else {
+        write_frame_line(output, code.site(address))
+    }
 }

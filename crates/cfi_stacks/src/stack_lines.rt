@@ -4,7 +4,8 @@ ghost use Rattle.cfi_elf.specs.FunctionPlaces.{place_view};
 ghost use Rattle.cfi_programs.specs.Lines.{address_text};
 ghost use Rattle.cfi_programs.specs.WriterOutput.{Writes};
 ghost use Rattle.cfi_stacks.specs.StackTexts.{column_text, file_text, filled, frame_line};
-ghost use Rattle.cfi_stacks.specs.StackTexts.{function_text, head_line, seconds_text, site_view};
+ghost use Rattle.cfi_stacks.specs.StackTexts.{function_text, head_line, place_line, seconds_text};
+ghost use Rattle.cfi_stacks.specs.StackTexts.{site_view};
 
 use crate::names::write_name;
 use cfi_elf::FunctionPlace;
@@ -48,6 +49,18 @@ pub fn write_frame_line<W: Write>(output: &mut W, site: Site<'_>) -> io::Result<
     write_column(output, site.place)?;
     write_function(output, site.function)?;
     write_text(output, b" (")?;
+    write_file(output, site.file)?;
+    write_text(output, b")\n")
+}
+
+/// Writes the line of a frame without its function: a tab, the place in the file in sixteen
+/// columns, and the file in parentheses, as `write_frame_line` does.
+pub fn write_place_line<W: Write>(output: &mut W, site: Site<'_>) -> io::Result<()>
+    ensures { Writes (W.contents output.old) (W.contents output.new) result
+        (place_line (site_view site.entry)) }
+{
+    write_column(output, site.place)?;
+    write_text(output, b"(")?;
     write_file(output, site.file)?;
     write_text(output, b")\n")
 }

@@ -72,6 +72,18 @@ const WITHOUT_FILE: &str = "7/7 1.000001:
 
 ";
 
+/// The same by `--raw`: as perf without `sym,symoff`.
+const RAW: &str = "7/7 1.000001:
+# NoRegisters
+
+7/8 1.000002:
+\t              b4 (/usr/pushes)
+\t              b4 (/usr/pushes)
+\t            8fff ([unknown])
+# NoModule
+
+";
+
 /// Opens one file, by its name.
 #[derive(Drop)]
 struct OneFile<'a> {
@@ -96,6 +108,7 @@ impl<'a> Opener for OneFile<'a> {
 /// Compares what is printed of a profile, where the file has this name, and the status.
 fn prints(
     rt: &(impl Abort + AllocGlobal),
+    raw: bool,
     profile: &[u8],
     name: &[u8],
     text: &str,
@@ -107,7 +120,7 @@ fn prints(
         bytes: bytes.as_slice(),
     };
     let mut output = Vec::new(rt.alloc());
-    let printed = unwind_profile(rt.alloc(), &opener, &mut &*profile, &mut output)?;
+    let printed = unwind_profile(rt.alloc(), raw, &opener, &mut &*profile, &mut output)?;
     assert_eq!(rt;
         (str::from_utf8(output.as_slice()), printed),
         (Ok(text), status)
@@ -119,7 +132,15 @@ fn prints(
 fn two_samples(rt: HostRuntime) -> Result<(), Fail> {
     let profile = bytes_of(rt.alloc(), PROFILE)?;
     let profile = profile.as_slice();
-    prints(&rt, profile, b"/usr/pushes", STACKS, 0)?;
-    prints(&rt, profile, b"/usr/others", WITHOUT_FILE, 0)?;
-    prints(&rt, b"PERFILE1", b"/usr/pushes", "refused NotPerf\n", 1)
+    prints(&rt, false, profile, b"/usr/pushes", STACKS, 0)?;
+    prints(&rt, true, profile, b"/usr/pushes", RAW, 0)?;
+    prints(&rt, false, profile, b"/usr/others", WITHOUT_FILE, 0)?;
+    prints(
+        &rt,
+        false,
+        b"PERFILE1",
+        b"/usr/pushes",
+        "refused NotPerf\n",
+        1,
+    )
 }

@@ -5,9 +5,9 @@ use Rattle.cfi.proofs.print_stacks.Goals as goal
 
 pub returns-in-Some : goal.returns-in-Some
 returns-in-Some g c =
-    stacks_of (disk_of (g.S.System.may_open c.args.system.now) g.S.File.Read.remaining) c.args.file.now _ (g.W.Write.contents c.args.output.now) _ c.unwind_profile.result
+    stacks_of (disk_of (g.S.System.may_open c.args.system.now) g.S.File.Read.remaining) c.args.raw c.args.file.now _ (g.W.Write.contents c.args.output.now) _ c.unwind_profile.result
     c.in-Some.ensures c.unwind_profile.ensures
 
 pub returns-in-None : goal.returns-in-None
 returns-in-None g c =
-    no_stacks ℕ (disk_of (g.S.System.may_open c.args.system.now) g.S.File.Read.remaining) c.args.file.now (g.W.Write.contents c.args.output.now) c.in-None.ensures
+    no_stacks ℕ (disk_of (g.S.System.may_open c.args.system.now) g.S.File.Read.remaining) c.args.raw c.args.file.now (g.W.Write.contents c.args.output.now) c.in-None.ensures

@@ -8,15 +8,15 @@ use Rattle.cfi_stacks.proofs.run.print_in.Goals as goal
 
 pub loop-record-init : goal.loop-record-init
 loop-record-init g c =
-    (c.new-replay.ensures.files, none_followed c.args.machine (map known_view c.args.files.now) (replayed c.new-replay.result) (g.W.Write.contents c.args.output.now) c.new-replay.ensures.nothing)
+    (c.new-replay.ensures.files, none_followed c.args.raw c.args.machine (map known_view c.args.files.now) (replayed c.new-replay.result) (g.W.Write.contents c.args.output.now) c.new-replay.ensures.nothing)
 
 pub returns-in-Err : goal.returns-in-Err
 returns-in-Err g c =
-    refused c.args.machine (map known_view c.args.files.now) c.loop-record.record-index (map record_view c.args.records.now) _ _ _ _ c.args.error _ c.loop-record.invariant.1 c.write_refusal.ensures
+    refused c.args.raw c.args.machine (map known_view c.args.files.now) c.loop-record.record-index (map record_view c.args.records.now) _ _ _ _ c.args.error _ c.loop-record.invariant.1 c.write_refusal.ensures
 
 pub returns : goal.returns
 returns g c =
-    printed c.args.machine (map known_view c.args.files.now) _ (map record_view c.args.records.now) _ _ _ _ c.args.error _ (all_records c.args.records.now c.loop-record.record-index c.loop-record-test.false) c.loop-record.invariant.1 c.write_end.ensures
+    printed c.args.raw c.args.machine (map known_view c.args.files.now) _ (map record_view c.args.records.now) _ _ _ _ c.args.error _ (all_records c.args.records.now c.loop-record.record-index c.loop-record-test.false) c.loop-record.invariant.1 c.write_end.ensures
 
 pub returns-in_err-print_followed-in-Ok : goal.returns-in_err-print_followed-in-Ok
 returns-in_err-print_followed-in-Ok g c =
@@ -27,9 +27,9 @@ returns-in_err-print_followed-in-Ok g c =
     let (text, begun, is) = c.in_err-print_followed-in-Ok.ensures in
     let is_after : (pid : ℕ) → replayed c.follow.new.self pid ≡ after files (record_view r).event (replayed c.loop-record.replay) pid =
     subst (λ (known : List KnownFile). (pid : ℕ) → replayed c.follow.new.self pid ≡ after known (record_view r).event (replayed c.loop-record.replay) pid) c.loop-record.invariant.0 c.in-Ok.ensures.processes in
-    let is_text : IsTextOf c.args.machine files (replayed c.follow.new.self) r.time (record_view r).event text =
-    subst (λ (known : List KnownFile). IsTextOf c.args.machine known (replayed c.follow.new.self) r.time (record_view r).event text) (c.in-Ok.ensures.files ∙ c.loop-record.invariant.0) is in
-    broken c.args.machine files i records (record_view r) (replayed c.loop-record.replay) (replayed c.follow.new.self) _ _ _ c.args.error _ text c.from_residual.ensures.0
+    let is_text : IsTextOf c.args.raw c.args.machine files (replayed c.follow.new.self) r.time (record_view r).event text =
+    subst (λ (known : List KnownFile). IsTextOf c.args.raw c.args.machine known (replayed c.follow.new.self) r.time (record_view r).event text) (c.in-Ok.ensures.files ∙ c.loop-record.invariant.0) is in
+    broken c.args.raw c.args.machine files i records (record_view r) (replayed c.loop-record.replay) (replayed c.follow.new.self) _ _ _ c.args.error _ text c.from_residual.ensures.0
     (next_record c.args.records.now i r c.record-item.is c.loop-record-test.true) c.loop-record.invariant.1 is_after is_text begun
 
 pub loop-record-preserved : goal.loop-record-preserved
@@ -41,9 +41,9 @@ loop-record-preserved g c =
     let (text, written, is) = c.in_ok-print_followed-in-Ok.ensures in
     let is_after : (pid : ℕ) → replayed c.follow.new.self pid ≡ after files (record_view r).event (replayed c.loop-record.replay) pid =
     subst (λ (known : List KnownFile). (pid : ℕ) → replayed c.follow.new.self pid ≡ after known (record_view r).event (replayed c.loop-record.replay) pid) c.loop-record.invariant.0 c.in-Ok.ensures.processes in
-    let is_text : IsTextOf c.args.machine files (replayed c.follow.new.self) r.time (record_view r).event text =
-    subst (λ (known : List KnownFile). IsTextOf c.args.machine known (replayed c.follow.new.self) r.time (record_view r).event text) (c.in-Ok.ensures.files ∙ c.loop-record.invariant.0) is in (
+    let is_text : IsTextOf c.args.raw c.args.machine files (replayed c.follow.new.self) r.time (record_view r).event text =
+    subst (λ (known : List KnownFile). IsTextOf c.args.raw c.args.machine known (replayed c.follow.new.self) r.time (record_view r).event text) (c.in-Ok.ensures.files ∙ c.loop-record.invariant.0) is in (
       c.in-Ok.ensures.files ∙ c.loop-record.invariant.0,
-      one_followed c.args.machine files (take i records) (take (i + 1) records) (record_view r) (replayed c.loop-record.replay) (replayed c.follow.new.self) _ _ _ text
+      one_followed c.args.raw c.args.machine files (take i records) (take (i + 1) records) (record_view r) (replayed c.loop-record.replay) (replayed c.follow.new.self) _ _ _ text
           (next_record c.args.records.now i r c.record-item.is c.loop-record-test.true) c.loop-record.invariant.1 is_after is_text written,
     )

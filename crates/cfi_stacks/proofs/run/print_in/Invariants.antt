@@ -9,4 +9,4 @@ abbrev pub invariant-loop-record : goal.invariant-loop-record
 invariant-loop-record g l =
     let files = map known_view l.files in
     (files_in l.replay ≡ files)
-    × Followed l.machine files (take l.record-index (map record_view l.records)) (replayed l.replay) (g.W.Write.contents l.initial.output) (g.W.Write.contents l.output)
+    × Followed l.raw l.machine files (take l.record-index (map record_view l.records)) (replayed l.replay) (g.W.Write.contents l.initial.output) (g.W.Write.contents l.output)

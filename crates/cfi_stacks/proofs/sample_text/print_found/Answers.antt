@@ -7,17 +7,17 @@ use Rattle.cfi_stacks.proofs.sample_text.print_found.Goals as goal
 
 pub returns-in_err-write_head : goal.returns-in_err-write_head
 returns-in_err-write_head g c =
-    let walk = walk_text (map known_view c.args.code.now.files.now) c.args.code.now.mappings.now c.args.found c.args.frames.now in
+    let walk = walk_text c.args.raw (map known_view c.args.code.now.files.now) c.args.code.now.mappings.now c.args.found c.args.frames.now in
     first_refused _ _ _ (head_line c.args.sample.now.pid c.args.sample.now.tid c.args.time) (walk ++ 10 ∷ []) c.from_residual.ensures.0 c.in_err-write_head.ensures
 
 pub returns-in_err-print_walk : goal.returns-in_err-print_walk
 returns-in_err-print_walk g c =
-    let walk = walk_text (map known_view c.args.code.now.files.now) c.args.code.now.mappings.now c.args.found c.args.frames.now in
+    let walk = walk_text c.args.raw (map known_view c.args.code.now.files.now) c.args.code.now.mappings.now c.args.found c.args.frames.now in
     last_written _ _ _ _ (head_line c.args.sample.now.pid c.args.sample.now.tid c.args.time) (walk ++ 10 ∷ []) c.in_ok-write_head.ensures
     (first_refused _ _ _ walk (10 ∷ []) c.from_residual-in_err-print_walk.ensures.0 c.in_err-print_walk.ensures)
 
 pub returns : goal.returns
 returns g c =
-    let walk = walk_text (map known_view c.args.code.now.files.now) c.args.code.now.mappings.now c.args.found c.args.frames.now in
+    let walk = walk_text c.args.raw (map known_view c.args.code.now.files.now) c.args.code.now.mappings.now c.args.found c.args.frames.now in
     last_written _ _ _ _ (head_line c.args.sample.now.pid c.args.sample.now.tid c.args.time) (walk ++ 10 ∷ []) c.in_ok-write_head.ensures
     (last_written _ _ _ _ walk (10 ∷ []) c.in_ok-print_walk.ensures c.write_text.ensures)

@@ -8,4 +8,4 @@ abbrev pub invariant-loop-frame : goal.invariant-loop-frame
 invariant-loop-frame g l =
     let files = map known_view l.code.files.now in
     let list = l.code.mappings.now in
-    IsGiven (g.W.Write.contents l.initial.output) (g.W.Write.contents l.output) (stack_text files list (drop l.frame-index l.frames)) (stack_text files list l.frames)
+    IsGiven (g.W.Write.contents l.initial.output) (g.W.Write.contents l.output) (stack_text l.raw files list (drop l.frame-index l.frames)) (stack_text l.raw files list l.frames)

@@ -13,7 +13,7 @@ unreachable-requires g c =
 
 pub returns : goal.returns
 returns g c = (
-  sample_text (map known_view c.args.code.now.files.now) c.args.code.now.mappings.now c.args.time (sample_view c.args.sample.now) c.unwind_sample-found.result c.unwind_sample-found.new.frames,
+  sample_text c.args.raw (map known_view c.args.code.now.files.now) c.args.code.now.mappings.now c.args.time (sample_view c.args.sample.now) c.unwind_sample-found.result c.unwind_sample-found.new.frames,
   c.print_found.ensures,
   (module_list c.in-Ok.modules, _, c.unwind_sample-found.result, _, ap (map module_view) c.in-Ok.ensures.sorted.1 ∙ c.requires.modules, c.unwind_sample-found.ensures, refl),
 )
