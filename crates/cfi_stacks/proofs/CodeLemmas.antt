@@ -24,13 +24,13 @@ same_order low [] = refl
 same_order low (m ∷ ms) = ap (λ (b : Bool). begins_from low m && b) (same_order m.end ms)
 
 -- a module spans what is mapped
-spans_of : (mapped : MappedCode) (code : KnownCode) (bias : Option ℕ) (m : Module) → option_map (loaded_module code.object.frames (Some code.table) mapped) bias ≡ Some m → (m.start ≡ mapped.start) × (m.end ≡ mapped.end)
+spans_of : (mapped : MappedCode) (code : KnownCode) (bias : Option ℕ) (m : Module) → option_map (loaded_module code.object.frames code.table mapped) bias ≡ Some m → (m.start ≡ mapped.start) × (m.end ≡ mapped.end)
 spans_of mapped code None m e = cc
 spans_of mapped code (Some bias) m e =
-    let is : m ≡ loaded_module code.object.frames (Some code.table) mapped bias = cc in
+    let is : m ≡ loaded_module code.object.frames code.table mapped bias = cc in
     (ap (λ (x : Module). x.start) is, ap (λ (x : Module). x.end) is)
 
-spans_in : (mapped : MappedCode) (o : Option KnownCode) (m : Module) → option_and_then (λ code. module_of code.object (Some code.table) mapped) o ≡ Some m → (m.start ≡ mapped.start) × (m.end ≡ mapped.end)
+spans_in : (mapped : MappedCode) (o : Option KnownCode) (m : Module) → option_and_then (λ code. module_of code.object code.table mapped) o ≡ Some m → (m.start ≡ mapped.start) × (m.end ≡ mapped.end)
 spans_in mapped None m e = cc
 spans_in mapped (Some code) m e = spans_of mapped code (bias_of code.object mapped) m e
 

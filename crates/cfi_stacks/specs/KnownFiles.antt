@@ -1,5 +1,5 @@
 -- The files of a profile, as far as they can be read, and their code in a process.
---     KnownCode, code_view      a file's call frames and their compiled table, and those of the code
+--     KnownCode, code_view      a file's call frames and their compiled table, if it has one, and those of the code
 --     KnownFile, known_view      a file by its name and its code, and that of the code
 --     mapped_at list a      the mapping that has an address
 --     site_of files list a      where an address is: the place in the file, the function and the file's name
@@ -21,7 +21,7 @@ use Rattle.cfi_stacks.specs.StackTexts.{Site}
 
 pub record KnownCode : Type 0 where
   pub object : Object
-  pub table : TableContents
+  pub table : Option TableContents
 
 abbrev pub code_view : FileCode → KnownCode
 code_view code = record { object = object_view code.object; table = code.table }
@@ -65,7 +65,7 @@ site_of files list a = site_at files a (mapped_at list a)
 -- ---- modules
 
 abbrev pub module_in : MappedCode → KnownFile → Option Module
-module_in mapped file = option_and_then (λ code. module_of code.object (Some code.table) mapped) file.code
+module_in mapped file = option_and_then (λ code. module_of code.object code.table mapped) file.code
 
 abbrev pub modules_in : List KnownFile → List MappedCode → List Module
 modules_in files list = filter_map (λ mapped. option_and_then (module_in mapped) (file_of files mapped)) list

@@ -2,9 +2,10 @@
 --     Object, object_view      its segments and its call frames, and that of the code
 --     object_of bytes      the file of these bytes, if it has .eh_frame
 --     bias_of object mapped      how far its code is moved
---     module_of object table mapped      the module, with this compiled table
-use Rattle.std.specs.Prelude.{ℕ, List, Option, None, Result, Ok, Err, option_map}
-use Rattle.std.specs.Option.{option_and_then}
+--     has_table samples frames      whether a compiled table is made, in a profile of so many samples
+--     module_of object table mapped      the module, with this compiled table, if there is one
+use Rattle.std.specs.Prelude.{ℕ, ◌/◌, ◌||◌, Bool, nat_le, not, List, length, Option, None, Result, Ok, Err, option_map}
+use Rattle.std.specs.Option.{is_some, option_and_then}
 use Rattle.std.specs.Result.{result_ok}
 use Rattle.cfi_elf.specs.declared.error.ElfError.{ElfError}
 use Rattle.cfi_elf.specs.ElfFiles.{File, elf_file, file_view}
@@ -38,6 +39,10 @@ object_of bytes = option_and_then with_frames (result_ok (elf_file bytes))
 -- the byte at the first mapped address is that at the offset in the file, which has an address of the file's own
 abbrev pub bias_of : Object → MappedCode → Option ℕ
 bias_of object mapped = option_map (minus mapped.start) (there (address_of_offset object.file mapped.offset))
+
+-- where each row is else found by a scan, or where there is a sample for each 512 bytes of the section
+abbrev pub has_table : ℕ → Frames → Bool
+has_table samples frames = not (is_some frames.words.header) || nat_le (length frames.section / 512) samples
 
 abbrev pub module_of : Object → Option TableContents → MappedCode → Option Module
 module_of object table mapped = option_map (loaded_module object.frames table mapped) (bias_of object mapped)

@@ -3,16 +3,17 @@
 --     Opened, opened_view      a file by its name and its bytes, none where these can't be had, and that of the code
 --     IsContents may_open remaining name bytes      what was read of a file
 --     AreOpened .. names opened      the files of these names
---     AreFilesOf opened files      what they are as files of a profile
+--     AreFilesOf samples opened files      what they are as files of a profile of so many samples
 use Rattle.std.specs.Prelude.{◌≡◌, ◌⊎◌, ℕ, Bool, true, false, not, ◌&&◌, List, [], ◌∷◌, Option, Some, None, IfSome, Vec, codes, map, nat_eq, option_map}
 use Rattle.std.specs.Borrow.{Bor}
 use Rattle.std.specs.List.{starts_with}
 use Rattle.std.specs.Option.{option_and_then}
 use Rattle.cfi_compiled.specs.CompiledTables.{TableContents, IsCompiled}
+use Rattle.cfi_files.specs.CallFrames.{Frames}
 use Rattle.cfi_stacks.specs.declared.profile_files.OpenedFile.{OpenedFile}
 use Rattle.cfi_stacks.specs.KnownFiles.{KnownCode, KnownFile}
 use Rattle.cfi_stacks.specs.Modules.{file_section}
-use Rattle.cfi_stacks.specs.Objects.{Object, object_of}
+use Rattle.cfi_stacks.specs.Objects.{Object, has_table, object_of}
 
 -- the bytes of names of the code
 abbrev pub texts : List (Bor (List ℕ)) → List (List ℕ)
@@ -60,15 +61,20 @@ module _ {Handle : Type 0} (may_open : List ℕ → Option Handle → Type 0) (r
 
 -- ---- as files of a profile
 
--- with a compiled table of .eh_frame, in a storage of 192 rules and 4 rows
-abbrev pub IsCodeOf : Option Object → Option KnownCode → Type 0
-IsCodeOf None code = code ≡ None
-IsCodeOf (Some object) code =
-    (table : TableContents) × IsCompiled (Some 192) (Some 4) (file_section object.frames) table × (code ≡ Some (record { object = object; table = table }))
+-- a compiled table of .eh_frame, in a storage of 192 rules and 4 rows; or none
+abbrev pub IsTableIf : Bool → Frames → Option TableContents → Type 0
+IsTableIf true frames table = (made : TableContents) × IsCompiled (Some 192) (Some 4) (file_section frames) made × (table ≡ Some made)
+IsTableIf false frames table = table ≡ None
 
-abbrev pub IsFileOf : Opened → KnownFile → Type 0
-IsFileOf opened file = (file.name ≡ opened.name) × IsCodeOf (option_and_then object_of opened.bytes) file.code
+module _ (samples : ℕ) where
+  abbrev pub IsCodeOf : Option Object → Option KnownCode → Type 0
+  IsCodeOf None code = code ≡ None
+  IsCodeOf (Some object) code =
+      (table : Option TableContents) × IsTableIf (has_table samples object.frames) object.frames table × (code ≡ Some (record { object = object; table = table }))
 
-abbrev pub AreFilesOf : List Opened → List KnownFile → Type 0
-AreFilesOf [] files = files ≡ []
-AreFilesOf (one ∷ opened) files = (first : KnownFile) × (others : List KnownFile) × IsFileOf one first × AreFilesOf opened others × (files ≡ first ∷ others)
+  abbrev pub IsFileOf : Opened → KnownFile → Type 0
+  IsFileOf opened file = (file.name ≡ opened.name) × IsCodeOf (option_and_then object_of opened.bytes) file.code
+
+  abbrev pub AreFilesOf : List Opened → List KnownFile → Type 0
+  AreFilesOf [] files = files ≡ []
+  AreFilesOf (one ∷ opened) files = (first : KnownFile) × (others : List KnownFile) × IsFileOf one first × AreFilesOf opened others × (files ≡ first ∷ others)

@@ -10,12 +10,12 @@ use cfi_compiled::CompiledTable;
 use cfi_elf::{FunctionNames, FunctionPlace};
 use std::alloc::{AllocError, Global};
 
-/// The code of a file of a profile: its call frames with their compiled table, and the names of its
-/// functions.
+/// The code of a file of a profile: its call frames, with their compiled table where that pays, and
+/// the names of its functions.
 #[derive(Drop)]
 pub struct FileCode<'run> {
     object: Object<'run>,
-    table: CompiledTable,
+    table: Option<CompiledTable>,
     functions: FunctionNames<'run>,
     ghost named: { (address : ℕ)
         → place_in functions address ≡ function_place (object_view object).file address },
@@ -27,30 +27,32 @@ impl<'run> FileCode<'run> {
     ghost use Rattle.cfi_stacks.specs.KnownFiles.{code_view, function_in};
     ghost use Rattle.cfi_stacks.specs.Modules.{module_view};
     ghost use Rattle.cfi_stacks.specs.Objects.{module_of, object_view};
-    ghost use Rattle.cfi_stacks.specs.OpenedFiles.{IsCodeOf};
+    ghost use Rattle.cfi_stacks.specs.OpenedFiles.{IsCodeOf, IsTableIf};
 
-    /// The code of an object. Fails where memory is refused.
-    pub fn of(alloc: Global, object: Object<'run>) -> Result<FileCode<'run>, AllocError>
+    /// The code of an object, in a profile of so many samples. Fails where memory is refused.
+    pub fn of(
+        alloc: Global,
+        object: Object<'run>,
+        samples: usize,
+    ) -> Result<FileCode<'run>, AllocError>
         ensures { IfOk result (λ code.
-            IsCodeOf (Some (object_view object.entry)) (Some (code_view code))) }
+            IsCodeOf samples (Some (object_view object.entry)) (Some (code_view code))) }
     {
         let functions = FunctionNames::new(alloc, &object.file())?;
-        match object.compile(alloc) {
-            Ok(table) => Ok(FileCode {
-                object,
-                table,
-                functions,
-            }),
-            Err(_) => Err(AllocError),
-        }
+        let table = Self::table_if(alloc, &object, object.has_table(samples))?;
+        Ok(FileCode {
+            object,
+            table,
+            functions,
+        })
     }
 
     /// The module that the file is where it is mapped (`Object::module`).
     pub fn module<'a>(&'a self, mapped: &MappedCode) -> Option<FileModule<'a, 'run>>
         ensures { option_map module_view result ≡ module_of (code_view self.now).object
-            (Some (code_view self.now).table) mapped.now }
+            (code_view self.now).table mapped.now }
     {
-        self.object.module(Some(&self.table), mapped)
+        self.object.module(self.table.as_ref(), mapped)
     }
 
     /// The function that has an address of a process, where the file is mapped. Does not allocate.
@@ -60,5 +62,23 @@ impl<'run> FileCode<'run> {
     {
         let bias = self.object.bias(mapped)?;
         self.functions.place_at(address.wrapping_sub(bias))
+    }
+
+    /// The compiled table of an object, if it has one.
+    fn table_if(
+        alloc: Global,
+        object: &Object<'_>,
+        has_table: bool,
+    ) -> Result<Option<CompiledTable>, AllocError>
+        ensures { IfOk result (λ table.
+            IsTableIf has_table (object_view object.now).frames table) }
+    {
+        if !has_table {
+            return Ok(None);
+        }
+        match object.compile(alloc) {
+            Ok(table) => Ok(Some(table)),
+            Err(_) => Err(AllocError),
+        }
     }
 }

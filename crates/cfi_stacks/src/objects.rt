@@ -37,11 +37,13 @@ impl Clone for Object<'_> {
 impl Copy for Object<'_> {}
 
 impl<'file> Object<'file> {
-    ghost use Rattle.std.specs.Prelude.{◌≡◌, Some, IfOk, option_map};
+    ghost use Rattle.std.specs.Prelude.{◌≡◌, Some, IfErr, IfOk, option_map};
     ghost use Rattle.cfi_compiled.specs.CompiledTables.{IsCompiled};
     ghost use Rattle.cfi_elf.specs.ElfFiles.{file_view};
     ghost use Rattle.cfi_stacks.specs.Modules.{file_section, loaded_module, module_view};
-    ghost use Rattle.cfi_stacks.specs.Objects.{bias_of, module_of, object_of, object_view};
+    ghost use Rattle.cfi_stacks.specs.Objects.{bias_of, has_table, module_of};
+    ghost use Rattle.cfi_stacks.specs.Objects.{object_of, object_view};
+    ghost use Rattle.gimli_cfi.specs.Words.{OutOfMemory};
 
     /// The file that these bytes are. Returns `None` where they are no ELF file, and where the file
     /// has no `.eh_frame` or its headers can't be read (`cfi_elf::ElfFile::parse`,
@@ -81,11 +83,22 @@ impl<'file> Object<'file> {
         }
     }
 
+    /// Whether a compiled table of the file pays in a profile of so many samples: where the file
+    /// has no header, so that each frame would scan the section, or where there is a sample for
+    /// each 512 bytes of the section. To make a table takes about as long for 512 bytes as it saves
+    /// in the twenty frames of a sample. Does not allocate.
+    pub fn has_table(&self, samples: usize) -> bool
+        ensures { result ≡ has_table samples (object_view self.now).frames }
+    {
+        self.frames.words.header.is_none() || self.frames.section.len() / 512 <= samples
+    }
+
     /// Returns the compiled table of the file's `.eh_frame`, at the addresses that the file has.
-    /// Fails where memory is refused.
+    /// Fails with `OutOfMemory`, only where memory is refused.
     pub fn compile(&self, alloc: Global) -> Result<CompiledTable, Error>
-        ensures { IfOk result (IsCompiled (Some 192) (Some 4)
+        ensures table { IfOk result (IsCompiled (Some 192) (Some 4)
             (file_section (object_view self.now).frames)) }
+        ensures err { IfErr result (λ error. error ≡ OutOfMemory) }
     {
         let words = &self.frames.words;
         let mut frame = EhFrame::new(self.frames.section, words.endian);

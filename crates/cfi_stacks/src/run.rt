@@ -17,7 +17,7 @@ ghost use Rattle.cfi_stacks.specs.ProfileOutputs.{unknown_machine};
 ghost use Rattle.cfi_stacks.specs.Replays.{AreModulesFor, files_in, replayed};
 
 use crate::profile_files::{
-    OpenedFile, Opener, ProfileFile, mapped_names, profile_files, read_files,
+    OpenedFile, Opener, ProfileFile, mapped_names, profile_files, read_files, sample_count,
 };
 use crate::registers::SampleMachine;
 use crate::replay::Replay;
@@ -250,7 +250,7 @@ fn print_opened<W: Write>(
         (map record_view records.now) error line ⊎ (line ≡ out_of_memory))
         (W.contents output.old) (W.contents output.new) result }
 {
-    match profile_files(alloc, opened) {
+    match profile_files(alloc, opened, sample_count(records)) {
         Ok(files) => print_stacks(
             alloc,
             raw,
