@@ -1,13 +1,14 @@
 //! Names that are printed.
-ghost use Rattle.std.specs.Prelude.{◌≡◌, map};
+ghost use Rattle.std.specs.Prelude.{◌≡◌, ◌++◌, OnOk, map};
 ghost use Rattle.std.specs.List.{list_all};
 ghost use Rattle.cfi_programs.specs.FunctionLines.{shown};
 ghost use Rattle.cfi_programs.specs.WriterOutput.{Writes};
 ghost use Rattle.cfi_stacks.specs.StackTexts.{is_printable};
 
 use cfi_programs::lines::write_text;
-use std::io;
+use cfi_programs::text::{Text, push};
 use std::io::Write;
+use std::{fmt, io};
 
 /// Writes a name. A byte that isn't printable ASCII is written as a question mark, so that no file
 /// steers a terminal.
@@ -19,6 +20,18 @@ pub fn write_name<W: Write>(output: &mut W, name: &[u8]) -> io::Result<()>
         write_text(output, name)
     } else {
         write_shown(output, name)
+    }
+}
+
+/// Appends a name as `write_name` writes it. Fails where there is no room, and where a byte isn't
+/// printable ASCII.
+pub fn push_name(text: &mut Text, name: &[u8]) -> fmt::Result
+    ensures { OnOk result (text.new.items ≡ text.old.items ++ map shown name.now) }
+{
+    if is_plain(name) {
+        push(text, name)
+    } else {
+        Err(fmt::Error)
     }
 }
 

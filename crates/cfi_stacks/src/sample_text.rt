@@ -12,7 +12,7 @@ use crate::process_code::{FileModule, ProcessCode};
 use crate::reasons::{reason_of, reason_without, write_reason};
 use crate::registers::SampleMachine;
 use crate::sample_stack::{NoFrames, unwind_sample};
-use crate::stack_lines::{write_frame_line, write_head, write_place_line};
+use crate::stack_lines::{LineRoom, write_head, write_site_line};
 use cfi_perf::Sample;
 use cfi_programs::lines::write_text;
 use cfi_step::{Modules, StackFrame, Walk, row_address};
@@ -39,6 +39,7 @@ const NO_FRAME: StackFrame = StackFrame {
 pub struct Room {
     context: UnwindContext<usize>,
     frames: Vec<StackFrame>,
+    line: LineRoom,
 }
 
 impl Room {
@@ -46,7 +47,11 @@ impl Room {
     pub fn new(alloc: Global) -> Result<Room, Error> {
         let context = UnwindContext::<usize>::new(alloc)?;
         match vec![in alloc; NO_FRAME; FRAMES] {
-            Ok(frames) => Ok(Room { context, frames }),
+            Ok(frames) => Ok(Room {
+                context,
+                frames,
+                line: LineRoom::new(),
+            }),
             Err(_) => Err(Error::OutOfMemory),
         }
     }
@@ -90,7 +95,16 @@ pub fn print_sample<W: Write>(
         &mut caller[..count],
         frames,
     );
-    print_found(raw, code, time, sample, found, frames, output)
+    print_found(
+        raw,
+        code,
+        time,
+        sample,
+        found,
+        frames,
+        &mut room.line,
+        output,
+    )
 }
 
 /// Prints what was found of a sample's stack.
@@ -101,6 +115,7 @@ fn print_found<W: Write>(
     sample: &Sample<'_>,
     found: Result<Walk, NoFrames>,
     frames: &[StackFrame],
+    room: &mut LineRoom,
     output: &mut W,
 ) -> io::Result<()>
     requires order { AreInOrder 0 code.now.mappings.now }
@@ -110,7 +125,7 @@ fn print_found<W: Write>(
         (sample_view sample.now) found frames.now) }
 {
     write_head(output, sample.pid, sample.tid, time)?;
-    print_walk(raw, code, found, frames, output)?;
+    print_walk(raw, code, found, frames, room, output)?;
     write_text(output, b"\n")
 }
 
@@ -120,6 +135,7 @@ fn print_walk<W: Write>(
     code: &ProcessCode<'_, '_, '_>,
     found: Result<Walk, NoFrames>,
     frames: &[StackFrame],
+    room: &mut LineRoom,
     output: &mut W,
 ) -> io::Result<()>
     requires order { AreInOrder 0 code.now.mappings.now }
@@ -129,7 +145,7 @@ fn print_walk<W: Write>(
 {
     match found {
         Ok(walk) => {
-            print_frames(raw, code, &frames[..walk.count], output)?;
+            print_frames(raw, code, &frames[..walk.count], room, output)?;
             write_reason(output, reason_of(walk.end))
         }
         Err(why) => write_reason(output, Some(reason_without(why))),
@@ -141,6 +157,7 @@ fn print_frames<W: Write>(
     raw: bool,
     code: &ProcessCode<'_, '_, '_>,
     frames: &[StackFrame],
+    room: &mut LineRoom,
     output: &mut W,
 ) -> io::Result<()>
     requires { AreInOrder 0 code.now.mappings.now }
@@ -149,7 +166,7 @@ fn print_frames<W: Write>(
 {
     for frame in frames {
         let address = row_address(frame.pc, frame.is_interrupted);
-        print_site(raw, code, address, output)?;
+        print_site(raw, code, address, room, output)?;
     }
     Ok(())
 }
@@ -159,6 +176,7 @@ fn print_site<W: Write>(
     raw: bool,
     code: &ProcessCode<'_, '_, '_>,
     address: u64,
+    room: &mut LineRoom,
     output: &mut W,
 ) -> io::Result<()>
     requires { AreInOrder 0 code.now.mappings.now }
@@ -166,8 +184,8 @@ fn print_site<W: Write>(
         (site_of (map known_view code.now.files.now) code.now.mappings.now address)) }
 {
     if raw {
-        write_place_line(output, code.place(address))
+        write_site_line(output, raw, code.place(address), room)
     } else {
-        write_frame_line(output, code.site(address))
+        write_site_line(output, raw, code.site(address), room)
     }
 }

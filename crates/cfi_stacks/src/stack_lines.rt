@@ -5,9 +5,9 @@ ghost use Rattle.cfi_programs.specs.Lines.{address_text};
 ghost use Rattle.cfi_programs.specs.WriterOutput.{Writes};
 ghost use Rattle.cfi_stacks.specs.StackTexts.{column_text, file_text, filled, frame_line};
 ghost use Rattle.cfi_stacks.specs.StackTexts.{function_text, head_line, place_line, seconds_text};
-ghost use Rattle.cfi_stacks.specs.StackTexts.{site_view};
+ghost use Rattle.cfi_stacks.specs.StackTexts.{site_line, site_view};
 
-use crate::names::write_name;
+use crate::names::{push_name, write_name};
 use cfi_elf::FunctionPlace;
 use cfi_programs::lines::write_text;
 use cfi_programs::text::{Text, push, push_address, push_decimal};
@@ -28,6 +28,118 @@ pub struct Site<'run> {
     pub file: Option<&'run [u8]>,
 }
 
+/// Room for the line of a frame while it is put together, and for its number.
+#[derive(Drop)]
+pub struct LineRoom {
+    line: Text,
+    number: Text,
+}
+
+impl LineRoom {
+    /// Room for a line. Does not allocate.
+    pub fn new() -> LineRoom {
+        LineRoom {
+            line: Text::new(),
+            number: Text::new(),
+        }
+    }
+}
+
+/// Writes the line of a frame in one piece where there is room for it: with the function, as
+/// `write_frame_line`, or without if it is `raw`, as `write_place_line`.
+pub fn write_site_line<W: Write>(
+    output: &mut W,
+    raw: bool,
+    site: Site<'_>,
+    room: &mut LineRoom,
+) -> io::Result<()>
+    ensures { Writes (W.contents output.old) (W.contents output.new) result
+        (site_line raw (site_view site.entry)) }
+{
+    room.line.clear();
+    match push_site_line(&mut room.line, &mut room.number, raw, site) {
+        Ok(()) => write_text(output, room.line.as_slice()),
+        Err(_) => write_in_pieces(output, raw, site),
+    }
+}
+
+/// Writes the line of a frame part by part.
+fn write_in_pieces<W: Write>(output: &mut W, raw: bool, site: Site<'_>) -> io::Result<()>
+    ensures { Writes (W.contents output.old) (W.contents output.new) result
+        (site_line raw (site_view site.entry)) }
+{
+    if raw {
+        write_place_line(output, site)
+    } else {
+        write_frame_line(output, site)
+    }
+}
+
+/// Appends the line of a frame. Fails where there is no room, and where a name has a byte that
+/// isn't printable ASCII.
+fn push_site_line(text: &mut Text, number: &mut Text, raw: bool, site: Site<'_>) -> fmt::Result
+    ensures { OnOk result
+        (text.new.items ≡ text.old.items ++ site_line raw (site_view site.entry)) }
+{
+    if raw {
+        push_place_line(text, number, site)
+    } else {
+        push_frame_line(text, number, site)
+    }
+}
+
+/// Appends what `write_place_line` writes. Fails as `push_site_line`.
+fn push_place_line(text: &mut Text, number: &mut Text, site: Site<'_>) -> fmt::Result
+    ensures { OnOk result (text.new.items ≡ text.old.items ++ place_line (site_view site.entry)) }
+{
+    push_column(text, number, site.place)?;
+    push(text, b"(")?;
+    push_file(text, site.file)?;
+    push(text, b")\n")
+}
+
+/// Appends what `write_frame_line` writes. Fails as `push_site_line`.
+fn push_frame_line(text: &mut Text, number: &mut Text, site: Site<'_>) -> fmt::Result
+    ensures { OnOk result (text.new.items ≡ text.old.items ++ frame_line (site_view site.entry)) }
+{
+    push_column(text, number, site.place)?;
+    push_function(text, site.function)?;
+    push(text, b" (")?;
+    push_file(text, site.file)?;
+    push(text, b")\n")
+}
+
+/// Appends what `write_function` writes. Fails as `push_site_line`.
+fn push_function(text: &mut Text, place: Option<FunctionPlace<'_>>) -> fmt::Result
+    ensures { OnOk result (text.new.items
+        ≡ text.old.items ++ function_text (option_map place_view place.entry)) }
+{
+    match place {
+        None => push(text, b"[unknown]"),
+        Some(place) => push_place(text, place),
+    }
+}
+
+fn push_place(text: &mut Text, place: FunctionPlace<'_>) -> fmt::Result
+    ensures { OnOk result (text.new.items
+        ≡ text.old.items ++ function_text (Some (place_view place.entry))) }
+{
+    push_name(text, place.name)?;
+    push(text, b"+")?;
+    push_address(text, place.offset)
+}
+
+/// Appends what `write_file` writes. Fails as `push_site_line`.
+fn push_file(text: &mut Text, name: Option<&[u8]>) -> fmt::Result
+    ensures { OnOk result (text.new.items
+        ≡ text.old.items ++ file_text (option_map (λ name. name.now) name.entry)) }
+{
+    match name {
+        None => push(text, b"[unknown]"),
+        Some(name) => push_name(text, name),
+    }
+}
+
 /// Writes the line of a sample's thread and time, which is in nanoseconds: `PID/TID SECONDS:`, with
 /// six digits behind the point.
 pub fn write_head<W: Write>(output: &mut W, pid: u32, tid: u32, time: u64) -> io::Result<()>
@@ -39,10 +151,10 @@ pub fn write_head<W: Write>(output: &mut W, pid: u32, tid: u32, time: u64) -> io
     write_text(output, text.as_slice())
 }
 
-/// Writes the line of a frame: a tab, the place in the file in sixteen columns, the function and
+/// Writes the line of a frame part by part: a tab, the place in the file in sixteen columns, the function and
 /// how far into it the address is, and the file in parentheses. `[unknown]` stands for a function
 /// or a file that isn't known. Bytes of names that aren't printable ASCII are question marks.
-pub fn write_frame_line<W: Write>(output: &mut W, site: Site<'_>) -> io::Result<()>
+fn write_frame_line<W: Write>(output: &mut W, site: Site<'_>) -> io::Result<()>
     ensures { Writes (W.contents output.old) (W.contents output.new) result
         (frame_line (site_view site.entry)) }
 {
@@ -55,7 +167,7 @@ pub fn write_frame_line<W: Write>(output: &mut W, site: Site<'_>) -> io::Result<
 
 /// Writes the line of a frame without its function: a tab, the place in the file in sixteen
 /// columns, and the file in parentheses, as `write_frame_line` does.
-pub fn write_place_line<W: Write>(output: &mut W, site: Site<'_>) -> io::Result<()>
+fn write_place_line<W: Write>(output: &mut W, site: Site<'_>) -> io::Result<()>
     ensures { Writes (W.contents output.old) (W.contents output.new) result
         (place_line (site_view site.entry)) }
 {
@@ -102,17 +214,18 @@ fn write_column<W: Write>(output: &mut W, place: u64) -> io::Result<()>
         (column_text place) }
 {
     let mut text = Text::new();
-    push_column(&mut text, place)?;
+    push_column(&mut text, &mut Text::new(), place)?;
     write_text(output, text.as_slice())
 }
 
-/// Appends what `write_column` writes. Fails where there is no room.
-fn push_column(text: &mut Text, place: u64) -> fmt::Result
+/// Appends what `write_column` writes; `number` is room for its digits. Fails where there is no
+/// room.
+fn push_column(text: &mut Text, number: &mut Text, place: u64) -> fmt::Result
     ensures { OnOk result (text.new.items ≡ text.old.items ++ column_text place) }
 {
-    let mut shown = Text::new();
-    push_address(&mut shown, place)?;
-    let digits = &shown.as_slice()[PREFIX..];
+    number.clear();
+    push_address(number, place)?;
+    let digits = &number.as_slice()[PREFIX..];
     push(text, b"\t")?;
     push_filled(text, b"                ", digits)?;
     push(text, b" ")
