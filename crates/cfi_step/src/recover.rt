@@ -1,7 +1,8 @@
 //! The registers of a frame's caller (DWARF 5 section 6.4.1).
-ghost use Rattle.std.specs.Prelude.{◌≡◌, ◌≤◌, length, IfOk, OnErr};
+ghost use Rattle.std.specs.Prelude.{◌≡◌, ◌<◌, ◌≤◌, ℕ, None, length, slice_index_or, slice_set};
+ghost use Rattle.std.specs.Prelude.{IfOk, OnErr};
 ghost use Rattle.cfi_read_core.specs.MappedInstructions.{map_expression};
-ghost use Rattle.cfi_expression.specs.Frames.{frame_view};
+ghost use Rattle.cfi_expression.specs.Frames.{frame_view, known};
 ghost use Rattle.cfi_step.specs.Callers.{AreRecovered, by_rule, cfa_of, expression_value, given};
 ghost use Rattle.cfi_step.specs.Callers.{is_signed, recovered, return_address, saved_at};
 
@@ -65,9 +66,38 @@ pub(crate) fn write_registers<
         (Section.view section.now).position abi.now Rules.Offset.number (Rules.parts row.now) cfa
         (length caller.new) caller.new }
 {
-    for k in 0..caller.len() {
-        let found = recover_register(row, section, abi, frame, cfa, Register(k as u16));
-        caller[k] = where_found(found);
+    copy_known(frame.registers, caller);
+    write_register(caller, abi.stack_pointer, Some(cfa));
+    // from the last rule to the first, which is the one that holds if a register has two
+    let rules = row.register_rules();
+    for index in (0..rules.len()).rev() {
+        let (register, rule) = &rules[index];
+        if usize::from(register.0) < caller.len() {
+            let found = by_rule(rule, section, abi, frame, cfa, *register);
+            write_register(caller, *register, where_found(found));
+        }
+    }
+}
+
+/// Writes what is known of each register for which there is room.
+fn copy_known(registers: &[Option<u64>], caller: &mut [Option<u64>])
+    ensures { (k : ℕ) → k < length caller.new →
+        slice_index_or caller.new k None ≡ known registers.now k }
+{
+    let count = registers.len().min(caller.len());
+    caller[..count].copy_from_slice(&registers[..count]);
+    for k in count..caller.len() {
+        caller[k] = None;
+    }
+}
+
+/// Writes a register if there is room.
+fn write_register(caller: &mut [Option<u64>], register: Register, value: Option<u64>)
+    ensures { caller.new ≡ slice_set caller.old register.0 value }
+{
+    let index = usize::from(register.0);
+    if index < caller.len() {
+        caller[index] = value;
     }
 }
 

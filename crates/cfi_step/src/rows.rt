@@ -1,7 +1,7 @@
 //! Rows, of an unwind table or of a compiled one.
 ghost use Rattle.std.specs.Prelude.{◌≡◌, ℕ, Option};
 ghost use Rattle.std.specs.FinMap.{get};
-ghost use Rattle.gimli_cfi.specs.Words.{Parts};
+ghost use Rattle.gimli_cfi.specs.Words.{Parts, rules_of};
 
 use cfi_compiled::CompiledRow;
 use gimli_cfi::{ArrayLike, CfaRule, ReaderOffset, Register, RegisterRule, UnwindTableRow};
@@ -22,6 +22,11 @@ pub trait RowRules {
     /// The register's rule, `None` if it has none.
     fn register_rule(&self, register: Register) -> Option<RegisterRule<Self::Offset>>
         ensures { result ≡ get (parts self.now).rules register.0 };
+
+    /// The registers that have a rule, with their rules. The order is not specified. If a register
+    /// occurs twice, its first rule holds.
+    fn register_rules(&self) -> &[(Register, RegisterRule<Self::Offset>)]
+        ensures { rules_of result.now ≡ (parts self.now).rules };
 }
 
 impl<T: ReaderOffset, A: ArrayLike<Item = (Register, RegisterRule<T>)>> RowRules
@@ -38,6 +43,11 @@ impl<T: ReaderOffset, A: ArrayLike<Item = (Register, RegisterRule<T>)>> RowRules
     #[inline(always)]
     fn register_rule(&self, register: Register) -> Option<RegisterRule<T>> {
         self.register(register)
+    }
+
+    #[inline(always)]
+    fn register_rules(&self) -> &[(Register, RegisterRule<T>)] {
+        self.registers().as_slice()
     }
 }
 
@@ -56,5 +66,10 @@ impl RowRules for CompiledRow<'_> {
     #[inline(always)]
     fn register_rule(&self, register: Register) -> Option<RegisterRule<usize>> {
         self.register(register)
+    }
+
+    #[inline(always)]
+    fn register_rules(&self) -> &[(Register, RegisterRule<usize>)] {
+        self.registers()
     }
 }

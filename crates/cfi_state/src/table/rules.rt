@@ -283,6 +283,16 @@ pub struct RegisterRuleIter<'iter, T: ReaderOffset> {
     rules: &'iter [(Register, RegisterRule<T>)],
 }
 
+impl<'iter, T: ReaderOffset> RegisterRuleIter<'iter, T> {
+    /// The registers that are still to come, each once with its rule, as a slice.
+    #[inline(always)]
+    pub fn as_slice(&self) -> &'iter [(Register, RegisterRule<T>)]
+        ensures { result.now ≡ rules_left self.now }
+    {
+        self.rules
+    }
+}
+
 impl<'iter, T: ReaderOffset> Iterator for RegisterRuleIter<'iter, T> {
     type Item = &'iter (Register, RegisterRule<T>);
 
