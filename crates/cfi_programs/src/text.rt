@@ -102,8 +102,91 @@ pub fn push_signed(text: &mut Text, number: i64) -> fmt::Result
 pub fn push_address(text: &mut Text, address: u64) -> fmt::Result
     ensures { OnOk result (text.new.items ≡ text.old.items ++ address_text address) }
 {
+    // Addresses of code mostly have five to seven digits, which are appended in one copy.
+    if 0x1_0000 <= address && address < 0x1000_0000 {
+        return push_short_address(text, address as u32);
+    }
     push(text, b"0x")?;
     push_hexadecimal(text, address)
+}
+
+/// Appends an address of five to seven digits. Fails where there is no room for them.
+#[inline(always)]
+fn push_short_address(text: &mut Text, address: u32) -> fmt::Result
+    requires least { 65536 ≤ address }
+    requires most { address < 268435456 }
+    ensures { OnOk result (text.new.items ≡ text.old.items ++ address_text address) }
+{
+    if address >= 0x100_0000 {
+        push_seven(text, address)
+    } else if address >= 0x10_0000 {
+        push_six(text, address)
+    } else {
+        push_five(text, address)
+    }
+}
+
+/// Appends `0x` and the number in five digits. Fails where there is no room for them.
+#[inline(always)]
+fn push_five(text: &mut Text, number: u32) -> fmt::Result
+    requires { number < 1048576 }
+    ensures { OnOk result (text.new.items ≡ text.old.items ++ (48 ∷ 120
+        ∷ digit_glyph false (number / 65536) ∷ digit_glyph false (number / 4096 % 16)
+        ∷ digit_glyph false (number / 256 % 16) ∷ digit_glyph false (number / 16 % 16)
+        ∷ digit_glyph false (number % 16) ∷ [])) }
+{
+    let first = digit((number / 0x1_0000) as u8);
+    let second = digit((number / 0x1000 % 16) as u8);
+    let third = digit((number / 0x100 % 16) as u8);
+    let fourth = digit((number / 16 % 16) as u8);
+    let fifth = digit((number % 16) as u8);
+    push(text, &[b'0', b'x', first, second, third, fourth, fifth])
+}
+
+/// Appends `0x` and the number in six digits. Fails where there is no room for them.
+#[inline(always)]
+fn push_six(text: &mut Text, number: u32) -> fmt::Result
+    requires { number < 16777216 }
+    ensures { OnOk result (text.new.items ≡ text.old.items ++ (48 ∷ 120
+        ∷ digit_glyph false (number / 1048576) ∷ digit_glyph false (number / 65536 % 16)
+        ∷ digit_glyph false (number / 4096 % 16) ∷ digit_glyph false (number / 256 % 16)
+        ∷ digit_glyph false (number / 16 % 16) ∷ digit_glyph false (number % 16) ∷ [])) }
+{
+    let first = digit((number / 0x10_0000) as u8);
+    let second = digit((number / 0x1_0000 % 16) as u8);
+    let third = digit((number / 0x1000 % 16) as u8);
+    let fourth = digit((number / 0x100 % 16) as u8);
+    let fifth = digit((number / 16 % 16) as u8);
+    let sixth = digit((number % 16) as u8);
+    push(
+        text,
+        &[b'0', b'x', first, second, third, fourth, fifth, sixth],
+    )
+}
+
+/// Appends `0x` and the number in seven digits. Fails where there is no room for them.
+#[inline(always)]
+fn push_seven(text: &mut Text, number: u32) -> fmt::Result
+    requires { number < 268435456 }
+    ensures { OnOk result (text.new.items ≡ text.old.items ++ (48 ∷ 120
+        ∷ digit_glyph false (number / 16777216) ∷ digit_glyph false (number / 1048576 % 16)
+        ∷ digit_glyph false (number / 65536 % 16) ∷ digit_glyph false (number / 4096 % 16)
+        ∷ digit_glyph false (number / 256 % 16) ∷ digit_glyph false (number / 16 % 16)
+        ∷ digit_glyph false (number % 16) ∷ [])) }
+{
+    let first = digit((number / 0x100_0000) as u8);
+    let second = digit((number / 0x10_0000 % 16) as u8);
+    let third = digit((number / 0x1_0000 % 16) as u8);
+    let fourth = digit((number / 0x1000 % 16) as u8);
+    let fifth = digit((number / 0x100 % 16) as u8);
+    let sixth = digit((number / 16 % 16) as u8);
+    let seventh = digit((number % 16) as u8);
+    push(
+        text,
+        &[
+            b'0', b'x', first, second, third, fourth, fifth, sixth, seventh,
+        ],
+    )
 }
 
 /// Appends the number in lower-case hexadecimal digits. Fails where there is no room for them.
