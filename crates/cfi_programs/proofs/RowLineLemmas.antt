@@ -1,11 +1,13 @@
 -- The rules in turn.
-use Rattle.std.proofs.Common.{◌≡◌, ℕ, zero, suc, ◌+◌, ◌-◌, ◌<◌, ◌≤◌, List, [], ◌∷◌, ◌++◌, Option, Some, None, refl, sym, ◌∙◌, ap, inl, inr, arith, subst, false, true, map}
+use Rattle.std.proofs.Common.{Result, append_assoc, codes, ◌≡◌, ℕ, zero, suc, ◌+◌, ◌-◌, ◌<◌, ◌≤◌, List, [], ◌∷◌, ◌++◌, Option, Some, None, refl, sym, ◌∙◌, ap, inl, inr, arith, subst, false, true, map}
 use Rattle.std.proofs.lemmas.Bool.{cases_lt}
 use Rattle.std.proofs.lemmas.Bool.Decides.{nat_tests}
 use Rattle.std.proofs.lemmas.Map.Keys.{below_from_sorted, sorted_tail, IsStrictlyIncreasing-from_sorted, sorted_from_strictly_increasing}
 use Rattle.std.specs.List.Sorted.{IsStrictlyIncreasing, IsStrictlySortedBy}
 use Rattle.std.specs.Cmp.{nat_cmp_total, unsigned_ties}
-use Rattle.std.specs.Prelude.{⊤}
+use Rattle.std.specs.Prelude.{⊤, OnOk}
+use Rattle.std.specs.Fmt.{decimal}
+use Rattle.std.proofs.lemmas.Fmt.{decimal_digit}
 use Rattle.std.specs.FinMap.{get, get-from_entries}
 use Rattle.std.specs.Ordering.{nat_cmp, eq_by_cmp}
 use Rattle.cfi_read_core.specs.declared.common.Register.{Register}
@@ -143,3 +145,10 @@ rises_more first (pair ∷ pairs) from rising (suc k) h =
 pub rising_more : (pair : Register × RegisterRule ℕ) (pairs : List (Register × RegisterRule ℕ)) → StartsFrom (pair.0.0 + 1) pairs → IsRising pairs → IsRising (pair ∷ pairs)
 rising_more pair pairs from rising =
     sorted_from_strictly_increasing (pair.0.0 ∷ registers pairs) (rises_more pair.0.0 pairs from (IsStrictlyIncreasing-from_sorted (registers pairs) rising))
+
+-- ---- a frame above the stack pointer, at once
+
+pub stack_frame : {A E : Type 0} (r : Result A E) (old new cfa : List ℕ) (offset args : ℕ) → cfa ≡ codes "rsp+" ++ decimal offset → args ≡ 0
+    → OnOk r (new ≡ old ++ (codes " cfa=rsp+" ++ decimal offset ++ codes " args=0")) → OnOk r (new ≡ old ++ codes " cfa=" ++ cfa ++ codes " args=" ++ decimal args)
+stack_frame r old new cfa offset args is none written =
+    rw (is, none, decimal_digit 0 (omega arith), append_assoc, append_assoc, append_assoc) written

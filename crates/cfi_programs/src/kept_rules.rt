@@ -246,8 +246,11 @@ fn is_same(one: &(Register, RegisterRule<usize>), other: &(Register, RegisterRul
 fn is_same_rule(one: RegisterRule<usize>, other: RegisterRule<usize>) -> bool
     ensures { result ≡ true → one ≡ other }
 {
+    // Most rules are offsets.
+    if let (RegisterRule::Offset(one), RegisterRule::Offset(other)) = (one, other) {
+        return one == other;
+    }
     match (one, other) {
-        (RegisterRule::Offset(one), RegisterRule::Offset(other)) => one == other,
         (RegisterRule::Undefined, RegisterRule::Undefined) => true,
         (RegisterRule::SameValue, RegisterRule::SameValue) => true,
         (RegisterRule::Constant(one), RegisterRule::Constant(other)) => one == other,

@@ -1,6 +1,6 @@
 //! The line of a row.
 ghost use Rattle.std.specs.Prelude.{◌≡◌, ◌≤◌, ◌+◌, ◌++◌, ℕ, [], ◌∷◌, None, OnOk, codes};
-ghost use Rattle.std.specs.Prelude.{IfOk, false, true};
+ghost use Rattle.std.specs.Prelude.{◌<◌, IfOk, IfSome, false, true};
 ghost use Rattle.std.specs.FinMap as map;
 ghost use Rattle.std.specs.Fmt.{decimal, signed_decimal};
 ghost use Rattle.cfi_read_core.specs.ReaderCalls.{map_ok};
@@ -97,8 +97,72 @@ pub fn push_frame(
     ensures { OnOk result (text.new.items ≡ text.old.items
         ++ codes " cfa=" ++ cfa_text names cfa ++ codes " args=" ++ decimal args_size) }
 {
-    push_named_cfa(text, names, cfa)?;
-    push_args_size(text, args_size)
+    // Most rows of x86-64 have the CFA a little above the stack pointer.
+    match stack_offset(names, cfa, args_size) {
+        Some(offset) => push_stack_frame(text, offset),
+        None => {
+            push_named_cfa(text, names, cfa)?;
+            push_args_size(text, args_size)
+        }
+    }
+}
+
+/// Returns the offset of the CFA from the stack pointer of x86-64, if it has at most two digits and
+/// there are no arguments.
+#[inline(always)]
+fn stack_offset(names: RegisterNames, cfa: CfaRule<usize>, args_size: u64) -> Option<u8>
+    ensures { IfSome result (λ offset. (names ≡ X86_64) × (args_size ≡ 0) × (offset < 100)
+        × (cfa_text names cfa ≡ codes "rsp+" ++ decimal offset)) }
+{
+    let CfaRule::RegisterAndOffset { register, offset } = cfa else {
+        return None;
+    };
+    if names == RegisterNames::X86_64 && register.0 == 7 && args_size == 0 {
+        if 0 <= offset && offset < 100 {
+            return Some(offset as u8);
+        }
+    }
+    None
+}
+
+/// Appends an offset of the CFA from the stack pointer, and that there are no arguments. Fails where
+/// there is no room for them.
+#[inline(always)]
+fn push_stack_frame(text: &mut Text, offset: u8) -> fmt::Result
+    requires { offset < 100 }
+    ensures { OnOk result (text.new.items
+        ≡ text.old.items ++ (codes " cfa=rsp+" ++ decimal offset ++ codes " args=0")) }
+{
+    let tens = b'0' + offset / 10;
+    let ones = b'0' + offset % 10;
+    if offset < 10 {
+        push_with_digit(text, ones)
+    } else {
+        push_with_digits(text, tens, ones)
+    }
+}
+
+/// Appends the same with one digit.
+#[inline(always)]
+fn push_with_digit(text: &mut Text, ones: u8) -> fmt::Result
+    ensures { OnOk result (text.new.items
+        ≡ text.old.items ++ (codes " cfa=rsp+" ++ ones ∷ codes " args=0")) }
+{
+    let mut line = *b" cfa=rsp+_ args=0";
+    line[9] = ones;
+    push(text, &line)
+}
+
+/// Appends the same with two digits.
+#[inline(always)]
+fn push_with_digits(text: &mut Text, tens: u8, ones: u8) -> fmt::Result
+    ensures { OnOk result (text.new.items
+        ≡ text.old.items ++ (codes " cfa=rsp+" ++ tens ∷ ones ∷ codes " args=0")) }
+{
+    let mut line = *b" cfa=rsp+__ args=0";
+    line[9] = tens;
+    line[10] = ones;
+    push(text, &line)
 }
 
 /// Appends the rule of the canonical frame address after its name.
