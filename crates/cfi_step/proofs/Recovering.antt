@@ -1,5 +1,5 @@
 -- The registers of a caller, one rule after the other from the last to the first.
-use Rattle.std.proofs.Common.{◌≡◌, ◌≢◌, ◌<◌, ◌≤◌, ◌+◌, ◌∙◌, ℕ, List, [], ◌∷◌, length, map, drop, Option, Some, None, Result, true, false, refl, sym, ap, subst, inl, inr, get_or, arith, get_or-set_other, get_or-set_same}
+use Rattle.std.proofs.Common.{◌≡◌, ◌≢◌, ◌<◌, ◌≤◌, ◌+◌, ◌∙◌, ℕ, List, [], ◌∷◌, length, map, drop, Option, Some, None, true, false, refl, sym, ap, subst, inl, inr, get_or, arith, get_or-set_other, get_or-set_same}
 use Rattle.std.proofs.lemmas.Bool.{cases_eq, eq-eqb, ne_eqb}
 use Rattle.std.proofs.lemmas.Grind.{get_or-set_at}
 use Rattle.std.proofs.lemmas.List.{drop_more, length-set}
@@ -13,7 +13,6 @@ use Rattle.cfi_read_core.specs.ReadFunctions.{Position}
 use Rattle.cfi_state.specs.declared.table.rules.RegisterRule.{RegisterRule}
 use Rattle.cfi_state.specs.Machine.{Parts}
 use Rattle.cfi_state.specs.RulePairs.{numbered_pair, rules_of}
-use Rattle.cfi_expression.specs.declared.error.FrameError.{FrameError}
 use Rattle.cfi_expression.specs.Frames.{Frame, known}
 use Rattle.cfi_step.specs.declared.abi.Abi.{Abi}
 use Rattle.cfi_step.specs.Callers.{AreRecovered, by_rule, given, recovered, recovered_by}
@@ -67,13 +66,12 @@ module _ {T : Type 0} where
           so_far.each k h ∙ ap (λ rule. given (recovered_by frame section abi number the_cfa k rule)) (sym (get_apart pair pairs k other)) ∙ ap (value_by k) (sym whole)
 
       -- the rule holds in place of one of these
-      pub one_more : (found : Result (Option ℕ) FrameError) (value : Option ℕ) (written : List (Option ℕ)) → found ≡ by_rule frame section abi number the_cfa pair.0.0 pair.1 →
-          value ≡ given found → written ≡ slice_set caller pair.0.0 value → AreRecoveredBy all written
-      one_more found value written is_found is_given is =
+      pub one_more : (value : Option ℕ) (written : List (Option ℕ)) → value ≡ given (by_rule frame section abi number the_cfa pair.0.0 pair.1) → written ≡ slice_set caller pair.0.0 value → AreRecoveredBy all written
+      one_more value written is_given is =
           let same_length : length written ≡ length caller = ap length is ∙ length-set caller pair.0.0 value in
           let P : ℕ → Type 0 = λ k. value ≡ value_by k all in
           let first : P pair.0.0 =
-          is_given ∙ ap given is_found ∙ ap (λ rule. given (recovered_by frame section abi number the_cfa pair.0.0 rule)) (sym (get_first pair pairs)) ∙ ap (value_by pair.0.0) (sym whole) in
+          is_given ∙ ap (λ rule. given (recovered_by frame section abi number the_cfa pair.0.0 rule)) (sym (get_first pair pairs)) ∙ ap (value_by pair.0.0) (sym whole) in
           record {
             each = λ k h.
                 ap (λ l. get_or l k None) is ∙ elim (cases_eq k pair.0.0) [

@@ -4,7 +4,8 @@ ghost use Rattle.std.specs.Prelude.{IfOk, OnErr};
 ghost use Rattle.cfi_read_core.specs.MappedInstructions.{map_expression};
 ghost use Rattle.cfi_expression.specs.Frames.{frame_view, known};
 ghost use Rattle.cfi_step.specs.Callers.{AreRecovered, by_rule, cfa_of, expression_value, given};
-ghost use Rattle.cfi_step.specs.Callers.{is_signed, recovered, return_address, saved_at};
+ghost use Rattle.cfi_step.specs.Callers.{is_signed, recovered, recovered_by, return_address};
+ghost use Rattle.cfi_step.specs.Callers.{saved_at};
 
 use crate::abi::Abi;
 use crate::places::bytes_of;
@@ -73,8 +74,8 @@ pub(crate) fn write_registers<
     for index in (0..rules.len()).rev() {
         let (register, rule) = &rules[index];
         if usize::from(register.0) < caller.len() {
-            let found = by_rule(rule, section, abi, frame, cfa, *register);
-            write_register(caller, *register, where_found(found));
+            let value = value_by_rule(rule, section, abi, frame, cfa, *register);
+            write_register(caller, *register, value);
         }
     }
 }
@@ -101,13 +102,28 @@ fn write_register(caller: &mut [Option<u64>], register: Register, value: Option<
     }
 }
 
-/// The value, or `None` in place of an error.
-fn where_found(found: Result<Option<u64>, FrameError>) -> Option<u64>
-    ensures { result ≡ given found }
+/// The value that a register has in the caller, by its rule; `None` also in place of an error.
+fn value_by_rule<R: Reader, Section: _UnwindSectionPrivate<R>, T: ReaderOffset, M: Memory>(
+    rule: &RegisterRule<T>,
+    section: &Section,
+    abi: &Abi,
+    frame: &Frame<'_, M>,
+    cfa: u64,
+    register: Register,
+) -> Option<u64>
+    ensures { result ≡ given (by_rule (frame_view M.number_at frame.now)
+        (Section.view section.now).position abi.now T.number cfa register.0 rule.now) }
 {
-    match found {
-        Ok(value) => value,
-        Err(_error) => None,
+    match *rule {
+        // most rules: no error is made first
+        RegisterRule::Offset(offset) => {
+            let address = displaced(cfa, offset, frame.address_size);
+            frame.memory.read(address, frame.address_size.bytes())
+        }
+        _ => match by_rule(rule, section, abi, frame, cfa, register) {
+            Ok(value) => value,
+            Err(_error) => None,
+        },
     }
 }
 
@@ -128,7 +144,29 @@ pub fn recover_register<R: Reader, Section: _UnwindSectionPrivate<R>, Rules: Row
         (Section.view section.now).position abi.now Rules.Offset.number (Rules.parts row.now)
         cfa register.0 }
 {
-    match row.register_rule(register) {
+    recovered_by(
+        row.register_rule(register),
+        section,
+        abi,
+        frame,
+        cfa,
+        register,
+    )
+}
+
+/// The value that a register has in the caller, by its rule if it has one.
+fn recovered_by<R: Reader, Section: _UnwindSectionPrivate<R>, T: ReaderOffset, M: Memory>(
+    rule: Option<RegisterRule<T>>,
+    section: &Section,
+    abi: &Abi,
+    frame: &Frame<'_, M>,
+    cfa: u64,
+    register: Register,
+) -> Result<Option<u64>, FrameError>
+    ensures { result ≡ recovered_by (frame_view M.number_at frame.now)
+        (Section.view section.now).position abi.now T.number cfa register.0 rule }
+{
+    match rule {
         Some(rule) => by_rule(&rule, section, abi, frame, cfa, register),
         None => {
             if register.0 == abi.stack_pointer.0 {
@@ -162,10 +200,11 @@ pub fn recover_return_address<
         (Section.view section.now).position abi.now Rules.Offset.number (Rules.parts row.now)
         cfa register }
 {
-    if let Some(RegisterRule::Undefined) = row.register_rule(register) {
+    let rule = row.register_rule(register);
+    if let Some(RegisterRule::Undefined) = rule {
         return Ok(None);
     }
-    match recover_register(row, section, abi, frame, cfa, register)? {
+    match recovered_by(rule, section, abi, frame, cfa, register)? {
         None => Err(FrameError::UnknownRegister(register)),
         Some(address) => {
             if is_signed(row.register_rule(RA_SIGN_STATE)) {

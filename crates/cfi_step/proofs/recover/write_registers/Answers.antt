@@ -19,7 +19,7 @@ loop-index-preserved-then-from-caller g c =
     one_more (frame_view g.M.Memory.number_at c.args.frame.now) (g.Section._UnwindSectionPrivate.view c.args.section.now).position c.args.abi.now
     g.Rules.Offset.ReaderOffset.number (g.Rules.RowRules.parts c.args.row.now) c.args.cfa
     (drop (c.loop-index.index - 1) pairs) pair (drop c.loop-index.index pairs) here c.loop-index.caller c.loop-index.invariant
-    c.by_rule-found.result c.where_found.result c.write_register-then-from-caller.new.caller c.by_rule-found.ensures c.where_found.ensures c.write_register-then-from-caller.ensures
+    c.value_by_rule-value.result c.write_register-then-from-caller.new.caller c.value_by_rule-value.ensures c.write_register-then-from-caller.ensures
 
 pub loop-index-preserved : goal.loop-index-preserved
 loop-index-preserved g c =
