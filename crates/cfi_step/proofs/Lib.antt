@@ -1,4 +1,5 @@
 pub mod Recovering
+pub mod Signatures
 pub mod ByHeader
 pub mod AsScanned
 pub mod SortedModules

@@ -1,11 +1,12 @@
 //! The registers of a frame's caller (DWARF 5 section 6.4.1).
 ghost use Rattle.std.specs.Prelude.{◌≡◌, ◌<◌, ◌≤◌, ℕ, None, length, slice_index_or, slice_set};
 ghost use Rattle.std.specs.Prelude.{IfOk, OnErr};
+ghost use Rattle.std.specs.FinMap.{get};
 ghost use Rattle.cfi_read_core.specs.MappedInstructions.{map_expression};
 ghost use Rattle.cfi_expression.specs.Frames.{frame_view, known};
 ghost use Rattle.cfi_step.specs.Callers.{AreRecovered, by_rule, cfa_of, expression_value, given};
 ghost use Rattle.cfi_step.specs.Callers.{is_signed, recovered, recovered_by, return_address};
-ghost use Rattle.cfi_step.specs.Callers.{saved_at};
+ghost use Rattle.cfi_step.specs.Callers.{saved_at, unsigned};
 
 use crate::abi::Abi;
 use crate::places::bytes_of;
@@ -206,13 +207,21 @@ pub fn recover_return_address<
     }
     match recovered_by(rule, section, abi, frame, cfa, register)? {
         None => Err(FrameError::UnknownRegister(register)),
-        Some(address) => {
-            if is_signed(row.register_rule(RA_SIGN_STATE)) {
-                Ok(Some(address & !abi.signature_mask))
-            } else {
-                Ok(Some(address))
-            }
-        }
+        Some(address) => Ok(Some(without_signature(address, row, abi))),
+    }
+}
+
+/// An address without the bits of its signature, if the row says that it is signed.
+#[tactic(auto, using(crate::proofs::Signatures::no_bits))]
+fn without_signature<Rules: RowRules>(address: u64, row: &Rules, abi: &Abi) -> u64
+    ensures { result ≡ unsigned abi.now.signature_mask
+        (is_signed (get (Rules.parts row.now).rules 34)) address }
+{
+    // where no address is ever signed, the rule is not looked up
+    if abi.signature_mask != 0 && is_signed(row.register_rule(RA_SIGN_STATE)) {
+        address & !abi.signature_mask
+    } else {
+        address
     }
 }
 

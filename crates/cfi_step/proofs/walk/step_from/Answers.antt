@@ -1,4 +1,4 @@
-use Rattle.std.proofs.Common.{◌≡◌, ◌∙◌, ℕ, Some, None, Result, sym, ap, subst, rules}
+use Rattle.std.proofs.Common.{◌∙◌, ℕ, ap, subst, rules}
 use Rattle.cfi_step.specs.ModuleLists.{module_list}
 use Rattle.cfi_step.specs.Modules.{IsStepIn, first_module}
 use Rattle.cfi_step.specs.Walks.{State, IsStepInModule, address_of, frame_in}
