@@ -40,9 +40,9 @@ object_of bytes = option_and_then with_frames (result_ok (elf_file bytes))
 abbrev pub bias_of : Object → MappedCode → Option ℕ
 bias_of object mapped = option_map (minus mapped.start) (there (address_of_offset object.file mapped.offset))
 
--- where each row is else found by a scan, or where there is a sample for each 64 bytes of the section
+-- where each row is else found by a scan, or where there is a sample for each 512 bytes of the section
 abbrev pub has_table : ℕ → Frames → Bool
-has_table samples frames = not (is_some frames.words.header) || nat_le (length frames.section / 64) samples
+has_table samples frames = not (is_some frames.words.header) || nat_le (length frames.section / 512) samples
 
 abbrev pub module_of : Object → Option TableContents → MappedCode → Option Module
 module_of object table mapped = option_map (loaded_module object.frames table mapped) (bias_of object mapped)
