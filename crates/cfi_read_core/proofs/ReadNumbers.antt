@@ -1,5 +1,5 @@
 -- Reads of numbers that the calls of a reader are made of, over plain variables.
-use Rattle.std.proofs.Common.{rules, ◌≡◌, ◌≤◌, ◌<◌, ◌+◌, ◌-◌, ℕ, Bool, true, false, Option, Some, None, Ok, Err, Result, refl, sym, ap, ◌∙◌, arith, inl, inr}
+use Rattle.std.proofs.Common.{rules, ◌≡◌, ◌≤◌, ◌<◌, ◌+◌, ◌-◌, ℕ, Bool, true, false, Option, Some, Ok, Err, Result, refl, sym, ap, ◌∙◌, arith, inl, inr}
 use Rattle.std.proofs.lemmas.Bool.Decides.{nat_tests}
 use Rattle.std.specs.Prelude.{nat_le, nat_lt, ◌==◌, if◌then◌else◌}
 use Rattle.std.specs.Option.{SomeIff, option_map}
@@ -89,14 +89,6 @@ skips_all old new n answer ordered count read =
     let last : new.place ≡ old.source.last = omega arith in
     ap (λ (s : Source). let p : Position = record { source = s; place = new.place } in p) read.1
     ∙ ap (λ (k : ℕ). let p : Position = record { source = old.source; place = k } in p) last
-
-some_when : (b : Bool) (n m : ℕ) (o : Option ℕ) → o ≡ (if b then Some m else None) → Some n ≡ o → n ≡ m
-some_when true n m o is h = cc
-some_when false n m o is h = absurd (cc)
-
-pub difference_is : (n a b p q : ℕ) → Some n ≡ difference a b → a ≡ p → b ≡ q → n ≡ p - q
-difference_is n a b p q h first second =
-    let e = some_when (nat_le b a) n (a - b) (difference a b) refl h in omega (arith, e, first, second)
 
 pub subtracted : (r : Option ℕ) (a b : ℕ) → SomeIff r (b ≤ a) (a - b) → option_map (λ (n : ℕ). n) r ≡ difference a b
 subtracted r a b h = search (rules, nat_tests)

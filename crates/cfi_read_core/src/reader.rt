@@ -99,9 +99,10 @@ pub trait Reader: Copy + Debug + Eq {
         ensures { Self.Offset.number result
             ≡ (position self.now).place - (position base.now).place }
     {
-        match self.place().checked_sub(base.place()) {
-            Some(offset) => offset,
-            None => unreachable!(),
+        // By a subtraction of u64, which needs no test.
+        match Self::Offset::from_u64(self.place().into_u64() - base.place().into_u64()) {
+            Ok(offset) => offset,
+            Err(_) => unreachable!(),
         }
     }
 
