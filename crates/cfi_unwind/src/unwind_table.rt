@@ -89,6 +89,8 @@ impl<'a, 'ctx, R: Reader, S: UnwindContextStorage<R::Offset>> UnwindTable<'a, 'c
     }
 
     /// Makes the table of the instructions of an FDE and its CIE.
+    // Not inlined: it is called once for an FDE, from each place that goes over rows.
+    #[inline(never)]
     fn with_instructions(
         parameters: Parameters,
         cie_instructions: CallFrameInstructionIter<'_, R>,
