@@ -1,5 +1,6 @@
-//! The rules of rows in turn, which mostly are those of the last row with as many rules.
-ghost use Rattle.std.specs.Prelude.{◌≡◌, ◌≤◌, ◌++◌, [], ◌∷◌, IfOk, OnOk, false, true};
+//! The rules of rows in turn, which mostly are those of the last row with as many rules and the same
+//! first register.
+ghost use Rattle.std.specs.Prelude.{◌≡◌, ◌<◌, ◌≤◌, ◌++◌, [], ◌∷◌, IfOk, OnOk, false, true};
 ghost use Rattle.std.specs.FinMap as map;
 ghost use Rattle.cfi_read_core.specs.ReaderCalls.{map_ok};
 ghost use Rattle.cfi_state.specs.RegisterRuleIters.{rules_left};
@@ -144,12 +145,12 @@ impl KeptRules {
     }
 }
 
-/// The rules of the last rows, and their texts: by how many there are, since rows of as many rules
-/// mostly have the same.
+/// The rules of the last rows, and their texts: by how many there are and the first register, since
+/// rows with these in common mostly have the same.
 #[derive(Drop)]
 pub(crate) struct KeptRows {
     names: RegisterNames,
-    rows: [KeptRules; 8],
+    rows: [KeptRules; 16],
 }
 
 impl Model for KeptRows {
@@ -178,6 +179,14 @@ impl KeptRows {
                 KeptRules::new(),
                 KeptRules::new(),
                 KeptRules::new(),
+                KeptRules::new(),
+                KeptRules::new(),
+                KeptRules::new(),
+                KeptRules::new(),
+                KeptRules::new(),
+                KeptRules::new(),
+                KeptRules::new(),
+                KeptRules::new(),
             ],
         }
     }
@@ -198,20 +207,27 @@ impl KeptRows {
         if self.names != names {
             return Ok(false);
         }
-        let place = number_of_rules(answer) % 8;
+        let place = place_of(answer);
         push_next(text, names, &mut self.rows[place], answer)
     }
 }
 
-/// Returns how many rules the row has; 0 where there is none.
+/// Returns the place for the rules of the row; 0 where there is none. It depends on how many there
+/// are and on the first register, so that few sets of a program's functions share a place.
 #[inline]
-fn number_of_rules<A: ArrayLike<Item = (Register, RegisterRule<usize>)>>(
+fn place_of<A: ArrayLike<Item = (Register, RegisterRule<usize>)>>(
     answer: Result<&UnwindTableRow<usize, A>, Error>,
-) -> usize {
-    match answer {
-        Ok(row) => row.registers().count(),
-        Err(_) => 0,
-    }
+) -> usize
+    ensures { result < 16 }
+{
+    let Ok(row) = answer else {
+        return 0;
+    };
+    let first = match row.registers().next() {
+        Some((register, _)) => register.0 % 16,
+        None => 0,
+    };
+    (row.registers().count() % 16 + 3 * first as usize) % 16
 }
 
 /// What lines of text are put together in.
