@@ -2,15 +2,12 @@
 use Rattle.std.proofs.Common.{◌≡◌, ◌∙◌, ℕ, ◌+◌, ◌<◌, ◌≤◌, List, [], ◌∷◌, ◌++◌, length, get_or, drop, map, Option, Result, refl, sym, ap, subst, add-one}
 use Rattle.std.proofs.Math.Seq.{drop-cons}
 use Rattle.std.proofs.lemmas.List.{drop_all}
-use Rattle.std.specs.Io.KnownBytes.{Appends}
-use Rattle.std.specs.Result.{IsErr}
 use Rattle.cfi_entry.specs.Fdes.{Fde, end_of}
-use Rattle.cfi_programs.specs.WriterOutput.{IsBeginning, Writes}
+use Rattle.cfi_programs.specs.WriterOutput.{Writes}
 use Rattle.cfi_programs.specs.FunctionLines.{shown}
 use Rattle.cfi_programs.specs.DumpRowTexts.{addresses_in, addresses_line, function_in}
 use Rattle.cfi_programs.specs.declared.style.Format.{Format}
 use Rattle.cfi_programs.proofs.WrittenLemmas.{IsGiven}
-use Rattle.cfi_programs.proofs.DumpSectionWritten.{first_refused, last_written}
 
 -- ---- a name
 
@@ -36,16 +33,11 @@ whole_none name i h = rw drop_all refl
 
 -- ---- the line
 
-module _ {T E : Type 0} (old mid new : Option (List ℕ)) (r : Result T E) (format : Format) (function : ℕ → Option (List ℕ)) (fde : Fde) (start end : ℕ) (starts : start ≡ fde.initial) (ends : end ≡ end_of fde) where
+module _ {T E : Type 0} (old new : Option (List ℕ)) (r : Result T E) (format : Format) (function : ℕ → Option (List ℕ)) (fde : Fde) (start end : ℕ) (starts : start ≡ fde.initial) (ends : end ≡ end_of fde) where
   as_read : Writes old new r (addresses_in format start end ++ function_in format (function start)) → Writes old new r (addresses_line format function fde)
   as_read written =
       subst (λ (b : ℕ). Writes old new r (addresses_in format fde.initial b ++ function_in format (function fde.initial))) ends
       (subst (λ (a : ℕ). Writes old new r (addresses_in format a end ++ function_in format (function a))) starts written)
 
-  pub addresses_refused : IsErr r → ((front : List ℕ) × Appends old new front × IsBeginning front (addresses_in format start end)) → Writes old new r (addresses_line format function fde)
-  addresses_refused err begun = as_read (first_refused old new r (addresses_in format start end) (function_in format (function start)) err begun)
-
-  pub addresses_written : (found : Option (List ℕ)) → found ≡ function start → Appends old mid (addresses_in format start end) → Writes mid new r (function_in format found) → Writes old new r (addresses_line format function fde)
-  addresses_written found is written more =
-      as_read (last_written old mid new r (addresses_in format start end) (function_in format (function start)) written
-      (subst (λ (name : Option (List ℕ)). Writes mid new r (function_in format name)) is more))
+  pub line_written : (found : Option (List ℕ)) → found ≡ function start → Writes old new r (addresses_in format start end ++ function_in format found) → Writes old new r (addresses_line format function fde)
+  line_written found is written = as_read (subst (λ (name : Option (List ℕ)). Writes old new r (addresses_in format start end ++ function_in format name)) is written)

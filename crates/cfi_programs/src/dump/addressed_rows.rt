@@ -1,10 +1,11 @@
 //! The rows of each FDE, or of those that contain an address, after a line with its addresses and
 //! the name of the function that begins there.
-ghost use Rattle.std.specs.Prelude.{◌≡◌, ◌++◌, [], ⊤, IfOk, OnOk, if◌then◌else◌};
+ghost use Rattle.std.specs.Prelude.{◌≡◌, ◌++◌, option_map, [], ⊤, IfOk, OnOk, if◌then◌else◌};
 ghost use Rattle.cfi_read_core.specs.ReaderCalls.{map_ok};
 ghost use Rattle.cfi_read_core.specs.CallFrameSections.{IsOf};
 ghost use Rattle.cfi_entry.specs.EntryViews.{cie_view};
 ghost use Rattle.cfi_entry.specs.Sections.{section_of};
+ghost use Rattle.cfi_unwind.specs.CachedCie.{IsCacheOf};
 ghost use Rattle.cfi_unwind.specs.FdeViews.{fde_view};
 ghost use Rattle.cfi_unwind.specs.WalkViews.{OfEither, entry_view, partial_of};
 ghost use Rattle.cfi_unwind.specs.Scan.{read_fde};
@@ -13,10 +14,11 @@ ghost use Rattle.cfi_programs.specs.WriterOutput.{Writes};
 ghost use Rattle.cfi_programs.specs.DumpSectionTexts.{fde_rows, lines};
 ghost use Rattle.cfi_programs.specs.JsonLines.{json_addresses};
 ghost use Rattle.cfi_programs.specs.DumpRowTexts.{addresses_in, addresses_line, addresses_text};
+ghost use Rattle.cfi_programs.specs.DumpRowTexts.{function_in};
 ghost use Rattle.cfi_programs.specs.DumpRowTexts.{entry_rows_text, fde_rows_text, is_asked_for};
 ghost use Rattle.cfi_programs.specs.ReadingTexts.{item_text};
 
-use crate::dump::function_line::end_line;
+use crate::dump::function_line::{end_line, push_end};
 use crate::dump::printed::AskedRows;
 use crate::dump::section::{whole, write_refused, write_rows};
 use crate::kept_rules::LineRoom;
@@ -25,7 +27,7 @@ use crate::style::{Format, Style};
 use crate::text::{Text, push, push_address};
 use cfi_elf::FunctionNames;
 use gimli_cfi::{
-    _UnwindSectionPrivate, BaseAddresses, CieOrFde, FrameDescriptionEntry,
+    _UnwindSectionPrivate, BaseAddresses, CieCache, CieOrFde, FrameDescriptionEntry,
     PartialFrameDescriptionEntry, Reader, Result, UnwindContext, UnwindSection,
 };
 use std::io::Write;
@@ -36,6 +38,7 @@ use std::{fmt, io};
 pub(crate) fn write_entry_rows<R: Reader<Offset = usize>, S: UnwindSection<R>, W: Write>(
     output: &mut W,
     room: &mut LineRoom,
+    cies: &mut CieCache<R>,
     style: Style,
     asked: AskedRows<'_>,
     section: &S,
@@ -43,20 +46,22 @@ pub(crate) fn write_entry_rows<R: Reader<Offset = usize>, S: UnwindSection<R>, W
     context: &mut UnwindContext<usize>,
     entry: Result<CieOrFde<'_, S, R>>,
 ) -> io::Result<()>
-    requires { IfOk entry (OfEither (λ _. ⊤)
+    requires entry { IfOk entry (OfEither (λ _. ⊤)
         (λ p. (p.section ≡ section.now) × (p.bases.now ≡ bases.now))) }
-    ensures { let found = map_ok (entry_view (cie_view R.position (λ n. n))
+    requires cies { IsCacheOf R.position (λ n. n) (S.view section.now) bases.now cies.old }
+    ensures written { let found = map_ok (entry_view (cie_view R.position (λ n. n))
         (λ p. partial_of R.position (λ n. n) p.prefix p.cie_offset)) entry.entry in
         let function = name_in asked.entry.functions.now in
         Writes (W.contents output.old) (W.contents output.new) result
         (item_text style.format (λ e. entry_rows_text style function asked.entry.address
         (section_of (S.view section.now) bases.now) e) found) }
+    ensures cies { IsCacheOf R.position (λ n. n) (S.view section.now) bases.now cies.new }
 {
     match entry {
         Ok(CieOrFde::Cie(_)) => Ok(()),
         Ok(CieOrFde::Fde(partial)) => {
             write_partial_rows(
-                output, room, style, asked, section, bases, context, &partial,
+                output, room, cies, style, asked, section, bases, context, &partial,
             )
         }
         Err(error) => write_refused(output, style.format, error),
@@ -67,6 +72,7 @@ pub(crate) fn write_entry_rows<R: Reader<Offset = usize>, S: UnwindSection<R>, W
 fn write_partial_rows<R: Reader<Offset = usize>, S: UnwindSection<R>, W: Write>(
     output: &mut W,
     room: &mut LineRoom,
+    cies: &mut CieCache<R>,
     style: Style,
     asked: AskedRows<'_>,
     section: &S,
@@ -76,13 +82,15 @@ fn write_partial_rows<R: Reader<Offset = usize>, S: UnwindSection<R>, W: Write>(
 ) -> io::Result<()>
     requires section { partial.now.section ≡ section.now }
     requires bases { partial.now.bases.now ≡ bases.now }
-    ensures { let from = section_of (S.view section.now) bases.now in
+    requires cies { IsCacheOf R.position (λ n. n) (S.view section.now) bases.now cies.old }
+    ensures written { let from = section_of (S.view section.now) bases.now in
         let found = partial_of R.position (λ n. n) partial.now.prefix partial.now.cie_offset in
         Writes (W.contents output.old) (W.contents output.new) result
         (fde_rows_text style (name_in asked.entry.functions.now) asked.entry.address from
         (read_fde from found)) }
+    ensures cies { IsCacheOf R.position (λ n. n) (S.view section.now) bases.now cies.new }
 {
-    match whole(partial) {
+    match whole(cies, section, bases, partial) {
         Ok(fde) => write_if_asked_for(output, room, style, asked, section, bases, context, &fde),
         Err(error) => write_refused(output, style.format, error),
     }
@@ -173,24 +181,31 @@ fn write_addresses<R: Reader<Offset = usize>, W: Write>(
         (addresses_line format (name_in functions.now) (fde_view R.position (λ n. n) fde.now)) }
 {
     let start = fde.initial_address();
-    write_range(output, text, format, start, fde.end_address())?;
-    end_line(output, format, functions.name_at(start))
+    let name = functions.name_at(start);
+    write_line(output, text, format, start, fde.end_address(), name)
 }
 
-/// Writes the addresses, from the first up to the end.
-fn write_range<W: Write>(
+/// Writes the addresses, from the first up to the end, and the name: at once if the name is short.
+fn write_line<W: Write>(
     output: &mut W,
     text: &mut Text,
     format: Format,
     start: u64,
     end: u64,
+    name: Option<&[u8]>,
 ) -> io::Result<()>
     ensures { Writes (W.contents output.old) (W.contents output.new) result
-        (addresses_in format start end) }
+        (addresses_in format start end
+        ++ function_in format (option_map (λ name. name.now) name.entry)) }
 {
     text.clear();
     push_addresses(text, format, start, end)?;
-    write_text(output, text.as_slice())
+    let is_ended = push_end(text, format, name)?;
+    if is_ended {
+        return write_text(output, text.as_slice());
+    }
+    write_text(output, text.as_slice())?;
+    end_line(output, format, name)
 }
 
 /// Appends the addresses.

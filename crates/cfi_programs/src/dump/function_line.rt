@@ -1,5 +1,5 @@
 //! The end of the line of an FDE's addresses: the name of the function that begins there.
-ghost use Rattle.std.specs.Prelude.{◌≡◌, ◌++◌, [], ◌∷◌, Some, map, option_map, true};
+ghost use Rattle.std.specs.Prelude.{◌≡◌, ◌++◌, [], ◌∷◌, Some, map, option_map, true, false, IfOk, OnOk};
 ghost use Rattle.cfi_programs.specs.WriterOutput.{Writes};
 ghost use Rattle.cfi_programs.specs.FunctionLines.{function_text, shown};
 ghost use Rattle.cfi_programs.specs.JsonLines.{escaped, json_function};
@@ -8,8 +8,55 @@ ghost use Rattle.cfi_programs.specs.DumpRowTexts.{function_in};
 use crate::json::write_escape;
 use crate::lines::write_text;
 use crate::style::Format;
-use std::io;
+use crate::text::{Text, push};
 use std::io::Write;
+use std::{fmt, io};
+
+/// How long a name is at most that is put together with its line.
+const LONGEST: usize = 512;
+
+/// Appends the end of a line of text, after a space and the name where there is one, if the name is
+/// not long and each of its bytes is written as it is. Returns whether it does; not in JSON. Fails
+/// where there is no room for it.
+pub(crate) fn push_end(
+    text: &mut Text,
+    format: Format,
+    name: Option<&[u8]>,
+) -> Result<bool, fmt::Error>
+    ensures pushed { IfOk result (λ pushed. pushed ≡ true → text.new.items ≡ text.old.items
+        ++ function_in format (option_map (λ name. name.now) name.entry)) }
+    ensures left { IfOk result (λ pushed. pushed ≡ false → text.new.items ≡ text.old.items) }
+{
+    match (format, name) {
+        (Format::Text, None) => push_line_feed(text),
+        (Format::Text, Some(name)) => push_named_end(text, name),
+        (Format::Json, _) => Ok(false),
+    }
+}
+
+/// Appends the end of a line. Returns that it does. Fails where there is no room for it.
+fn push_line_feed(text: &mut Text) -> Result<bool, fmt::Error>
+    ensures pushed { OnOk result (text.new.items ≡ text.old.items ++ 10 ∷ []) }
+    ensures always { IfOk result (λ pushed. pushed ≡ true) }
+{
+    push(text, b"\n")?;
+    Ok(true)
+}
+
+/// Appends the end of a line of text, after a space and the name, as `push_end` does.
+fn push_named_end(text: &mut Text, name: &[u8]) -> Result<bool, fmt::Error>
+    ensures pushed { IfOk result (λ pushed. pushed ≡ true → text.new.items ≡ text.old.items
+        ++ ((32 ∷ map shown name.now) ++ 10 ∷ [])) }
+    ensures left { IfOk result (λ pushed. pushed ≡ false → text.new.items ≡ text.old.items) }
+{
+    if name.len() > LONGEST || !is_shown_whole(name) {
+        return Ok(false);
+    }
+    push(text, b" ")?;
+    push(text, name)?;
+    push(text, b"\n")?;
+    Ok(true)
+}
 
 /// Ends a line, after the name where there is one. A byte of the name that is not a printable
 /// character of ASCII is written as a question mark.

@@ -1,5 +1,5 @@
 //! The entries of a section in order, their instructions, and the rows of each FDE.
-ghost use Rattle.std.specs.Prelude.{◌≡◌, ◌++◌, ℕ, Some, IfOk};
+ghost use Rattle.std.specs.Prelude.{◌≡◌, ◌++◌, ℕ, Some, Ok, IfOk};
 ghost use Rattle.cfi_read_core.specs.ReaderCalls.{map_ok};
 ghost use Rattle.cfi_read_core.specs.CallFrameSections.{IsOf};
 ghost use Rattle.cfi_state.specs.ContextEffects.{setting_of};
@@ -10,8 +10,9 @@ ghost use Rattle.cfi_state.specs.UnwindTableStates.{answers_to_come};
 ghost use Rattle.cfi_entry.specs.EntryInstructions.{fde_instructions};
 ghost use Rattle.cfi_entry.specs.EntryViews.{cie_view};
 ghost use Rattle.cfi_entry.specs.Sections.{section_of};
+ghost use Rattle.cfi_unwind.specs.CachedCie.{IsCacheOf};
 ghost use Rattle.cfi_unwind.specs.FdeViews.{fde_view};
-ghost use Rattle.cfi_unwind.specs.WalkViews.{OfEither, entry_view, partial_of};
+ghost use Rattle.cfi_unwind.specs.WalkViews.{IsPartialOf, OfEither, entry_view, partial_of};
 ghost use Rattle.cfi_unwind.specs.Scan.{read_fde};
 ghost use Rattle.cfi_unwind.specs.UnwindTableViews.{table_state};
 ghost use Rattle.cfi_programs.specs.AnswerLines.{text_style};
@@ -35,7 +36,7 @@ use crate::row_line::{FULL_OF_LINES, write_answer, write_apart, write_out};
 use crate::style::{Format, Style};
 use crate::text::Text;
 use gimli_cfi::{
-    _UnwindSectionPrivate, BaseAddresses, CieOrFde, CommonInformationEntry, Error,
+    _UnwindSectionPrivate, BaseAddresses, CieCache, CieOrFde, CommonInformationEntry, Error,
     FrameDescriptionEntry, PartialFrameDescriptionEntry, Reader, Result, UnwindContext,
     UnwindSection, UnwindTable,
 };
@@ -71,9 +72,10 @@ pub fn write_section<R: Reader<Offset = usize>, S: UnwindSection<R>, W: Write>(
         (listed_text names listed.entry (section_of (S.view section.now) bases.now)) }
 {
     let mut room = LineRoom::new(names);
+    let mut cies: CieCache<R> = CieCache::new();
     for entry in section.entries(bases) {
         write_listed(
-            output, &mut room, names, listed, section, bases, context, entry,
+            output, &mut room, &mut cies, names, listed, section, bases, context, entry,
         )?;
     }
     Ok(())
@@ -83,6 +85,7 @@ pub fn write_section<R: Reader<Offset = usize>, S: UnwindSection<R>, W: Write>(
 fn write_listed<R: Reader<Offset = usize>, S: UnwindSection<R>, W: Write>(
     output: &mut W,
     room: &mut LineRoom,
+    cies: &mut CieCache<R>,
     names: RegisterNames,
     listed: Listed<'_>,
     section: &S,
@@ -90,21 +93,25 @@ fn write_listed<R: Reader<Offset = usize>, S: UnwindSection<R>, W: Write>(
     context: &mut UnwindContext<usize>,
     entry: Result<CieOrFde<'_, S, R>>,
 ) -> io::Result<()>
-    requires { IfOk entry (OfEither
+    requires entry { IfOk entry (OfEither
         (λ cie. IsOf (R.position cie.initial_instructions) (S.view section.now).position)
         (λ p. (p.section ≡ section.now) × (p.bases.now ≡ bases.now))) }
-    ensures { let found = map_ok (entry_view (cie_view R.position (λ n. n))
+    requires cies { IsCacheOf R.position (λ n. n) (S.view section.now) bases.now cies.old }
+    ensures written { let found = map_ok (entry_view (cie_view R.position (λ n. n))
         (λ p. partial_of R.position (λ n. n) p.prefix p.cie_offset)) entry.entry in
         Writes (W.contents output.old) (W.contents output.new) result
         (item_text (listed_format listed.entry) (λ e. listed_entry_text names listed.entry
         (section_of (S.view section.now) bases.now) e) found) }
+    ensures cies { IsCacheOf R.position (λ n. n) (S.view section.now) bases.now cies.new }
 {
     match listed {
-        Listed::Entries => write_entry(output, room, names, section, bases, context, entry),
+        Listed::Entries => write_entry(output, room, cies, names, section, bases, context, entry),
         Listed::Rows(asked) => {
             let format = asked.format;
             let style = Style { names, format };
-            write_entry_rows(output, room, style, asked, section, bases, context, entry)
+            write_entry_rows(
+                output, room, cies, style, asked, section, bases, context, entry,
+            )
         }
     }
 }
@@ -113,25 +120,28 @@ fn write_listed<R: Reader<Offset = usize>, S: UnwindSection<R>, W: Write>(
 fn write_entry<R: Reader<Offset = usize>, S: UnwindSection<R>, W: Write>(
     output: &mut W,
     room: &mut LineRoom,
+    cies: &mut CieCache<R>,
     names: RegisterNames,
     section: &S,
     bases: &BaseAddresses,
     context: &mut UnwindContext<usize>,
     entry: Result<CieOrFde<'_, S, R>>,
 ) -> io::Result<()>
-    requires { IfOk entry (OfEither
+    requires entry { IfOk entry (OfEither
         (λ cie. IsOf (R.position cie.initial_instructions) (S.view section.now).position)
         (λ p. (p.section ≡ section.now) × (p.bases.now ≡ bases.now))) }
-    ensures { let found = map_ok (entry_view (cie_view R.position (λ n. n))
+    requires cies { IsCacheOf R.position (λ n. n) (S.view section.now) bases.now cies.old }
+    ensures written { let found = map_ok (entry_view (cie_view R.position (λ n. n))
         (λ p. partial_of R.position (λ n. n) p.prefix p.cie_offset)) entry.entry in
         Writes (W.contents output.old) (W.contents output.new) result
         (item_text Format.Text
         (λ e. entry_text names (section_of (S.view section.now) bases.now) e) found) }
+    ensures cies { IsCacheOf R.position (λ n. n) (S.view section.now) bases.now cies.new }
 {
     match entry {
         Ok(CieOrFde::Cie(cie)) => write_whole_cie(output, names, section, bases, &cie),
         Ok(CieOrFde::Fde(partial)) => write_fde_and_rows(
-            output, room, names, section, bases, context, &partial,
+            output, room, cies, names, section, bases, context, &partial,
         ),
         Err(error) => write_refused(output, Format::Text, error),
     }
@@ -168,6 +178,7 @@ fn write_whole_cie<R: Reader<Offset = usize>, S: UnwindSection<R>, W: Write>(
 fn write_fde_and_rows<R: Reader<Offset = usize>, S: UnwindSection<R>, W: Write>(
     output: &mut W,
     room: &mut LineRoom,
+    cies: &mut CieCache<R>,
     names: RegisterNames,
     section: &S,
     bases: &BaseAddresses,
@@ -176,12 +187,14 @@ fn write_fde_and_rows<R: Reader<Offset = usize>, S: UnwindSection<R>, W: Write>(
 ) -> io::Result<()>
     requires section { partial.now.section ≡ section.now }
     requires bases { partial.now.bases.now ≡ bases.now }
-    ensures { let from = section_of (S.view section.now) bases.now in
+    requires cies { IsCacheOf R.position (λ n. n) (S.view section.now) bases.now cies.old }
+    ensures written { let from = section_of (S.view section.now) bases.now in
         let found = partial_of R.position (λ n. n) partial.now.prefix partial.now.cie_offset in
         Writes (W.contents output.old) (W.contents output.new) result
         (fde_text names from found (read_fde from found)) }
+    ensures cies { IsCacheOf R.position (λ n. n) (S.view section.now) bases.now cies.new }
 {
-    match whole(partial) {
+    match whole(cies, section, bases, partial) {
         Ok(fde) => write_whole_fde(output, room, names, section, bases, context, &fde),
         Err(error) => write_refused_fde(output, partial.offset(), partial.entry_len(), error),
     }
@@ -227,23 +240,31 @@ fn write_refused_fde<W: Write>(
     write_refused(output, Format::Text, error)
 }
 
-/// Returns the whole FDE, with its CIE in the section.
-pub fn whole<R: Reader, S: UnwindSection<R>>(
+/// Returns the whole FDE, with its CIE in the section. FDEs in a row mostly point to one CIE, which
+/// is then read once.
+pub(crate) fn whole<R: Reader, S: UnwindSection<R>>(
+    cies: &mut CieCache<R>,
+    section: &S,
+    bases: &BaseAddresses,
     partial: &PartialFrameDescriptionEntry<'_, S, R>,
 ) -> Result<FrameDescriptionEntry<R>>
+    requires of { IsPartialOf section.now bases.now partial.now }
+    requires cies { IsCacheOf R.position R.Offset.number (S.view section.now) bases.now cies.old }
     ensures read { map_ok (fde_view R.position R.Offset.number) result
-        ≡ read_fde (section_of (S.view partial.now.section) partial.now.bases.now)
+        ≡ read_fde (section_of (S.view section.now) bases.now)
         (partial_of R.position R.Offset.number partial.now.prefix partial.now.cie_offset) }
     ensures part { IfOk result (λ fde.
-        IsOf (R.position fde.instructions) (S.view partial.now.section).position) }
+        IsOf (R.position fde.instructions) (S.view section.now).position) }
     ensures cie_part { IfOk result (λ fde.
-        IsOf (R.position fde.cie.initial_instructions) (S.view partial.now.section).position) }
+        IsOf (R.position fde.cie.initial_instructions) (S.view section.now).position) }
+    ensures cies { IsCacheOf R.position R.Offset.number (S.view section.now) bases.now cies.new }
 {
-    let reader = partial.offset();
-    partial.parse(|from: &S, bases: &BaseAddresses, offset: S::Offset| {
-        let _reader = reader;
-        from.cie_from_offset(bases, offset)
-    })
+    let cie = cies.get(section, bases, partial.cie_offset())?;
+    partial.parse(
+        |_from: &S, _bases: &BaseAddresses, _offset: S::Offset|
+            ensures { result ≡ Ok cie }
+        { Ok(cie) },
+    )
 }
 
 /// Writes a line for each row of the FDE, and for each error among them.

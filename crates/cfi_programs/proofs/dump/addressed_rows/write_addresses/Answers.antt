@@ -1,17 +1,11 @@
 use Rattle.std.proofs.Common.{Bor, List, ℕ, option_map}
 use Rattle.cfi_unwind.specs.FdeViews.{fde_view}
 use Rattle.cfi_elf.specs.FunctionNames.{name_in}
-use Rattle.cfi_programs.proofs.FunctionLineLemmas.{addresses_refused, addresses_written}
+use Rattle.cfi_programs.proofs.FunctionLineLemmas.{line_written}
 use Rattle.cfi_programs.proofs.dump.addressed_rows.write_addresses.Goals as goal
-
-pub returns-in_err-write_range : goal.returns-in_err-write_range
-returns-in_err-write_range g c =
-    let fde = fde_view g.R.Reader.position (λ n. n) c.args.fde.now in
-    addresses_refused _ (g.W.Write.contents c.args.output.now) _ _ c.args.format (name_in c.args.functions.now) fde c.initial_address-start.result c.end_address.result c.initial_address-start.ensures c.end_address.ensures
-    c.from_residual.ensures.0 c.in_err-write_range.ensures
 
 pub returns : goal.returns
 returns g c =
     let fde = fde_view g.R.Reader.position (λ n. n) c.args.fde.now in
-    addresses_written _ _ _ _ c.args.format (name_in c.args.functions.now) fde c.initial_address-start.result c.end_address.result c.initial_address-start.ensures c.end_address.ensures
-    (option_map (λ (name : Bor (List ℕ)). name.now) c.name_at.result) c.name_at.ensures c.in_ok-write_range.ensures c.end_line.ensures
+    line_written _ _ _ c.args.format (name_in c.args.functions.now) fde c.initial_address-start.result c.end_address.result c.initial_address-start.ensures c.end_address.ensures
+    (option_map (λ (name : Bor (List ℕ)). name.now) c.name_at-name.result) c.name_at-name.ensures c.write_line.ensures

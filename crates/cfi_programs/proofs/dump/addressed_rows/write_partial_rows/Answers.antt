@@ -7,16 +7,16 @@ use Rattle.cfi_entry.specs.Sections.{section_of}
 use Rattle.cfi_programs.proofs.DumpSectionWritten.{rows_as_read}
 use Rattle.cfi_programs.proofs.dump.addressed_rows.write_partial_rows.Goals as goal
 
-pub returns-in-Ok : goal.returns-in-Ok
-returns-in-Ok g c =
+pub returns-in-Ok-clause-written : goal.returns-in-Ok-clause-written
+returns-in-Ok-clause-written g c =
     let section = section_of (g.S._UnwindSectionPrivate.view c.args.section.now) c.args.bases.now in
     let found = partial_of g.R.Reader.position (λ n. n) c.args.partial.now.prefix c.args.partial.now.cie_offset in
-    let read : Ok (fde_view g.R.Reader.position (λ n. n) c.in-Ok.fde) ≡ read_fde section found = rw (c.requires.section, c.requires.bases) at c.in-Ok.ensures.read in
+    let read : Ok (fde_view g.R.Reader.position (λ n. n) c.in-Ok.fde) ≡ read_fde section found = c.in-Ok.ensures.read in
     rows_as_read _ _ _ c.args.style (name_in c.args.asked.functions.now) c.args.asked.address section found _ read c.write_if_asked_for.ensures
 
-pub returns-in-Err : goal.returns-in-Err
-returns-in-Err g c =
+pub returns-in-Err-clause-written : goal.returns-in-Err-clause-written
+returns-in-Err-clause-written g c =
     let section = section_of (g.S._UnwindSectionPrivate.view c.args.section.now) c.args.bases.now in
     let found = partial_of g.R.Reader.position (λ n. n) c.args.partial.now.prefix c.args.partial.now.cie_offset in
-    let read : Err c.in-Err.error ≡ read_fde section found = rw (c.requires.section, c.requires.bases) at c.in-Err.ensures.read in
+    let read : Err c.in-Err.error ≡ read_fde section found = c.in-Err.ensures.read in
     rows_as_read _ _ _ c.args.style (name_in c.args.asked.functions.now) c.args.asked.address section found _ read c.write_refused.ensures

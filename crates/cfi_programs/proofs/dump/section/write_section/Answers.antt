@@ -24,17 +24,18 @@ loop-entry-init g c =
       same_section = ap (λ it. it.section) is ∙ c.entries-entry-items.ensures.section;
       same_bases = ap (λ it. it.bases.now) is ∙ c.entries-entry-items.ensures.bases;
       given = subst (λ (place : ℕ). IsGiven old old (readings_text (listed_format listed) (λ entry. listed_entry_text names listed section entry) (entries_left section place)) (listed_text names listed section)) (sym at) (given_first old (listed_text names listed section));
+      cached = c.new-cies.ensures (g.S._UnwindSectionPrivate.view c.args.section.now) c.args.bases.now;
     }
 
-pub write_listed-requires : goal.write_listed-requires
-write_listed-requires g c =
+pub write_listed-requires-clause-entry : goal.write_listed-requires-clause-entry
+write_listed-requires-clause-entry g c =
     of_section (λ section cie. IsCieOf g.R.Reader.position (g.S._UnwindSectionPrivate.view section).position cie) (λ p. p.section) (λ p. p.bases.now) _ _ _ _ c.in-Some.entry c.loop-entry.invariant.same_section c.loop-entry.invariant.same_bases c.in-Some.ensures.steps.2
 
 pub returns-in_err-write_listed : goal.returns-in_err-write_listed
 returns-in_err-write_listed g c =
     let steps = c.in-Some.ensures.steps in
     let left = to_write g.S._UnwindSectionPrivate.view _ _ _ _ _ _ _ _ _ _ _ _ _ _ c.loop-entry.invariant.same_section c.loop-entry.invariant.same_bases steps.1.0 steps.1.1 steps.0 c.loop-entry.invariant.given in
-    writes_refused _ _ _ _ c.from_residual.ensures.0 (beginning_then _ _ _ _ _ _ left c.in_err-write_listed.ensures)
+    writes_refused _ _ _ _ c.from_residual.ensures.0 (beginning_then _ _ _ _ _ _ left c.in_err-write_listed.ensures.written)
 
 pub loop-entry-preserved : goal.loop-entry-preserved
 loop-entry-preserved g c =
@@ -45,7 +46,8 @@ loop-entry-preserved g c =
       is_finite = tt;
       same_section = steps.1.0 ∙ c.loop-entry.invariant.same_section;
       same_bases = steps.1.1 ∙ c.loop-entry.invariant.same_bases;
-      given = given_then _ _ _ _ _ _ left c.in_ok-write_listed.ensures;
+      given = given_then _ _ _ _ _ _ left c.in_ok-write_listed.ensures.written;
+      cached = c.in_ok-write_listed.ensures.cies;
     }
 
 pub returns : goal.returns

@@ -1,4 +1,5 @@
-use Rattle.std.proofs.Common.{◌≡◌}
+use Rattle.std.proofs.Common.{◌≡◌, ℕ}
+use Rattle.cfi_unwind.specs.CachedCie.{IsCacheOf}
 use Rattle.cfi_entry.specs.Entries.{entries_left}
 use Rattle.cfi_entry.specs.Sections.{section_of}
 use Rattle.cfi_programs.proofs.WrittenLemmas.{IsGiven}
@@ -17,4 +18,5 @@ invariant-loop-entry g l =
       same_bases : l.entry-iterator.bases.now ≡ l.bases;
       given : IsGiven (g.W.Write.contents l.initial.output) (g.W.Write.contents l.output)
           (readings_text (listed_format l.listed) (λ entry. listed_entry_text l.names l.listed section entry) (entries_left section (g.R.Reader.position l.entry-iterator.input).place)) (listed_text l.names l.listed section);
+      cached : IsCacheOf g.R.Reader.position (λ (n : ℕ). n) (g.S._UnwindSectionPrivate.view l.section) l.bases l.cies;
     }
