@@ -100,11 +100,10 @@ fn entries<R: Reader<Offset = usize>, S: UnwindSection<R>>(
 ) -> Result<Done> {
     let mut done = Done::none();
     let mut entries = section.entries(bases);
-    for _ in 0..u64::MAX {
-        match entries.next()? {
-            None => break,
-            Some(CieOrFde::Cie(cie)) => done.take(cie.offset() as u64),
-            Some(CieOrFde::Fde(partial)) => done.take(partial.offset() as u64),
+    while let Some(entry) = entries.next()? {
+        match entry {
+            CieOrFde::Cie(cie) => done.take(cie.offset() as u64),
+            CieOrFde::Fde(partial) => done.take(partial.offset() as u64),
         }
     }
     Ok(done)
