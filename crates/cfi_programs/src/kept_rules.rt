@@ -1,5 +1,5 @@
-//! The rules of rows in turn, which mostly are those of the last row with as many rules and the same
-//! first register.
+//! The rules of rows in turn, which mostly are those of the last row with as many rules and the
+//! same first register.
 ghost use Rattle.std.specs.Prelude.{◌≡◌, ◌<◌, ◌≤◌, ◌++◌, [], ◌∷◌, IfOk, OnOk, false, true};
 ghost use Rattle.std.specs.FinMap as map;
 ghost use Rattle.cfi_read_core.specs.ReaderCalls.{map_ok};

@@ -125,8 +125,8 @@ fn stack_offset(names: RegisterNames, cfa: CfaRule<usize>, args_size: u64) -> Op
     None
 }
 
-/// Appends an offset of the CFA from the stack pointer, and that there are no arguments. Fails where
-/// there is no room for them.
+/// Appends an offset of the CFA from the stack pointer, and that there are no arguments. Fails
+/// where there is no room for them.
 #[inline(always)]
 fn push_stack_frame(text: &mut Text, offset: u8) -> fmt::Result
     requires { offset < 100 }

@@ -1,5 +1,6 @@
 //! The end of the line of an FDE's addresses: the name of the function that begins there.
-ghost use Rattle.std.specs.Prelude.{◌≡◌, ◌++◌, [], ◌∷◌, Some, map, option_map, true, false, IfOk, OnOk};
+ghost use Rattle.std.specs.Prelude.{◌≡◌, ◌++◌, [], ◌∷◌, Some, map, option_map, true, false};
+ghost use Rattle.std.specs.Prelude.{IfOk, OnOk};
 ghost use Rattle.cfi_programs.specs.WriterOutput.{Writes};
 ghost use Rattle.cfi_programs.specs.FunctionLines.{function_text, shown};
 ghost use Rattle.cfi_programs.specs.JsonLines.{escaped, json_function};

@@ -316,7 +316,7 @@ fn write_table<R: Reader<Offset = usize>, W: Write>(
 }
 
 /// Writes the lines of text of what is left in the table. They are gathered before they are
-/// written, and rules that are those of the last row with as many take their text from it.
+/// written, and rules that are those of an earlier row mostly take their text from it.
 fn write_text_table<R: Reader<Offset = usize>, W: Write>(
     output: &mut W,
     text: &mut Text,
