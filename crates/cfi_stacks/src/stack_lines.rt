@@ -151,9 +151,10 @@ pub fn write_head<W: Write>(output: &mut W, pid: u32, tid: u32, time: u64) -> io
     write_text(output, text.as_slice())
 }
 
-/// Writes the line of a frame part by part: a tab, the place in the file in sixteen columns, the function and
-/// how far into it the address is, and the file in parentheses. `[unknown]` stands for a function
-/// or a file that isn't known. Bytes of names that aren't printable ASCII are question marks.
+/// Writes the line of a frame part by part: a tab, the place in the file in sixteen columns, the
+/// function and how far into it the address is, and the file in parentheses. `[unknown]` stands for
+/// a function or a file that isn't known. Bytes of names that aren't printable ASCII are question
+/// marks.
 fn write_frame_line<W: Write>(output: &mut W, site: Site<'_>) -> io::Result<()>
     ensures { Writes (W.contents output.old) (W.contents output.new) result
         (frame_line (site_view site.entry)) }
