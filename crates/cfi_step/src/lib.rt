@@ -2,10 +2,14 @@
 //!
 //! `recover` and `step_by_row` take a row, the other steps find it: by an FDE, by a scan of a
 //! section, by the table of a header, or by a compiled table. `Modules` finds the module of an
-//! address, and `unwind` writes the frames of a stack. Nothing allocates over a fixed storage.
+//! address, and `unwind` writes the frames of a stack; `unwind_cached` does with a cache of rows.
+//! Nothing allocates over a fixed storage.
 #![tactic(auto)]
 
 pub mod abi;
+pub mod cached_rows;
+mod cached_steps;
+pub mod cached_walk;
 pub mod compiled;
 pub mod module;
 pub mod modules;
@@ -16,6 +20,8 @@ pub mod step;
 pub mod walk;
 
 pub use abi::Abi;
+pub use cached_rows::{CachedRow, clear_rows};
+pub use cached_walk::unwind_cached;
 pub use cfi_expression::{AddressSize, Frame, FrameError, Memory, Window};
 pub use compiled::{LoadedTable, step_by_compiled};
 pub use module::{LoadedModule, fde_by_header, fde_in_module, step_in_module};

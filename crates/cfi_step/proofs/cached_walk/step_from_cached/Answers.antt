@@ -1,0 +1,35 @@
+use Rattle.std.proofs.Common.{◌∙◌, ℕ, ap, subst, rules}
+use Rattle.cfi_step.specs.ModuleLists.{module_list}
+use Rattle.cfi_step.specs.Modules.{IsStepIn, first_module}
+use Rattle.cfi_step.specs.Walks.{State, IsStepInModule, address_of, frame_in}
+use Rattle.cfi_read_core.specs.AddressSizes.{size_in_bytes}
+use Rattle.cfi_step.proofs.KeptRows.{kept_for_all}
+use Rattle.cfi_step.proofs.Walking.{in_module, in_no_module}
+use Rattle.cfi_step.proofs.cached_walk.step_from_cached.Goals as goal
+
+pub returns-in-None-clause-step : goal.returns-in-None-clause-step
+returns-in-None-clause-step g c =
+    let s : State = record { at = c.args.at.now; registers = c.args.registers.now; caller = c.args.caller.now } in
+    in_no_module (IsStepInModule g.R.Reader.position (λ (n : ℕ). n) g.M.Memory.number_at g.S.Rules.ArrayLike.limit g.S-Stack-ArrayLike.limit g.S.Rules.CopyList.copies_free c.args.process.now) s (first_module (module_list c.args.process.now.modules) (address_of s))
+    (c.in-None.ensures.module ∙ ap (first_module (module_list c.args.process.now.modules)) c.row_address-address.ensures)
+
+pub returns-in-Some-clause-step : goal.returns-in-Some-clause-step
+returns-in-Some-clause-step g c =
+    let s : State = record { at = c.args.at.now; registers = c.args.registers.now; caller = c.args.caller.now } in
+    let p = c.args.process.now in
+    in_module (IsStepInModule g.R.Reader.position (λ (n : ℕ). n) g.M.Memory.number_at g.S.Rules.ArrayLike.limit g.S-Stack-ArrayLike.limit g.S.Rules.CopyList.copies_free p) s (first_module (module_list p.modules) (address_of s))
+    c.in-Some.loaded.now c.step_in_cached-step.result c.checked.result c.step_in_cached-step.new.caller
+    (c.in-Some.ensures.module ∙ ap (first_module (module_list p.modules)) c.row_address-address.ensures)
+    (subst (λ (n : ℕ). IsStepIn g.R.Reader.position (λ (n : ℕ). n) (frame_in g.R.Reader.position (λ (n : ℕ). n) g.M.Memory.number_at g.S.Rules.ArrayLike.limit g.S-Stack-ArrayLike.limit g.S.Rules.CopyList.copies_free p s) p.abi g.S.Rules.ArrayLike.limit g.S-Stack-ArrayLike.limit g.S.Rules.CopyList.copies_free c.in-Some.loaded.now n c.step_in_cached-step.result c.step_in_cached-step.new.caller)
+    c.row_address-address.ensures c.step_in_cached-step.ensures.step)
+    (search rules) c.step_in_cached-step.ensures.unwritten c.checked.ensures
+
+pub returns-in-Some-clause-cached : goal.returns-in-Some-clause-cached
+returns-in-Some-clause-cached g c =
+    let modules = module_list c.args.process.now.modules in
+    let address = c.row_address-address.result in
+    kept_for_all g.R.Reader.position (size_in_bytes c.args.process.now.address_size) g.S.Rules.ArrayLike.limit g.S-Stack-ArrayLike.limit g.S.Rules.CopyList.copies_free
+    modules c.in-Some.loaded.now address c.args.cache.now c.step_in_cached-step.new.cache c.in-Some.ensures.module c.step_in_cached-step.ensures.kept c.requires.cached
+
+pub step_in_cached-step-requires-clause-cached : goal.step_in_cached-step-requires-clause-cached
+step_in_cached-step-requires-clause-cached g c = c.requires.cached c.row_address-address.result c.in-Some.loaded.now c.in-Some.ensures.module
