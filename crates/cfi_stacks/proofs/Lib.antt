@@ -8,6 +8,7 @@ mod Unwinding
 mod WorkedSamples
 mod CodeLemmas
 mod FileLemmas
+mod RoomLemmas
 mod RunLemmas
 mod StackLemmas
 mod ReadLemmas

@@ -10,4 +10,5 @@ pub mod Reasons
 pub mod KnownFiles
 pub mod OpenedFiles
 pub mod Replays
+pub mod Rooms
 pub mod ProfileOutputs

@@ -25,7 +25,7 @@ pub struct Replay<'a, 'run> {
 }
 
 impl<'a, 'run> Replay<'a, 'run> {
-    ghost use Rattle.std.specs.Prelude.{◌≡◌, ℕ, [], OnOk, map};
+    ghost use Rattle.std.specs.Prelude.{◌≡◌, ℕ, [], IfOk, OnOk, false, map};
     ghost use Rattle.cfi_perf.specs.Events.{ForkEvent, MappingEvent, ProgramEvent};
     ghost use Rattle.cfi_perf.specs.Events.{mapping_view, program_view, record_view};
     ghost use Rattle.cfi_stacks.specs.KnownFiles.{known_view, modules_in};
@@ -47,25 +47,33 @@ impl<'a, 'run> Replay<'a, 'run> {
         }
     }
 
-    /// Follows a record. Before a sample, the modules are made those of its process.
+    /// Follows a record. Before a sample, the modules are made those of its process. Returns
+    /// whether they were made anew; else they are those of before.
     ///
     /// Fails where memory is refused.
-    pub fn follow(&mut self, record: &Record<'_>) -> Result<(), AllocError>
+    pub fn follow(&mut self, record: &Record<'_>) -> Result<bool, AllocError>
         ensures processes { OnOk result ((pid : ℕ) → replayed self.new pid
             ≡ after (files_in self.old) (record_view record.now).event (replayed self.old) pid) }
         ensures modules { OnOk result
             (AreModulesFor (record_view record.now).event self.new) }
+        ensures same { IfOk result (λ anew. anew ≡ false → self.new.modules ≡ self.old.modules) }
         ensures files { files_in self.new ≡ files_in self.old }
     {
         match record.event {
-            Event::Mapping(mapping) => self.map(&mapping),
+            Event::Mapping(mapping) => {
+                self.map(&mapping)?;
+                Ok(false)
+            }
             Event::Program(program) => {
                 self.run(&program);
-                Ok(())
+                Ok(false)
             }
-            Event::Fork(fork) => self.fork(&fork),
+            Event::Fork(fork) => {
+                self.fork(&fork)?;
+                Ok(false)
+            }
             Event::Sample(sample) => self.load(sample.pid),
-            Event::Other => Ok(()),
+            Event::Other => Ok(false),
         }
     }
 
@@ -93,6 +101,7 @@ impl<'a, 'run> Replay<'a, 'run> {
         ensures processes { OnOk result ((pid : ℕ) → replayed self.new pid
             ≡ after (files_in self.old) (MappingEvent (mapping_view mapping.now))
             (replayed self.old) pid) }
+        ensures same { self.new.modules ≡ self.old.modules }
         ensures files { files_in self.new ≡ files_in self.old }
     {
         self.pid = None;
@@ -105,6 +114,7 @@ impl<'a, 'run> Replay<'a, 'run> {
         ensures processes { (pid : ℕ) → replayed self.new pid
             ≡ after (files_in self.old) (ProgramEvent (program_view program.now))
             (replayed self.old) pid }
+        ensures same { self.new.modules ≡ self.old.modules }
         ensures files { files_in self.new ≡ files_in self.old }
     {
         if program.is_exec {
@@ -117,6 +127,7 @@ impl<'a, 'run> Replay<'a, 'run> {
     fn fork(&mut self, fork: &Fork) -> Result<(), AllocError>
         ensures processes { OnOk result ((pid : ℕ) → replayed self.new pid
             ≡ after (files_in self.old) (ForkEvent fork.now) (replayed self.old) pid) }
+        ensures same { self.new.modules ≡ self.old.modules }
         ensures files { files_in self.new ≡ files_in self.old }
     {
         self.pid = None;
@@ -146,15 +157,16 @@ impl<'a, 'run> Replay<'a, 'run> {
         }
     }
 
-    /// Makes the modules of a process, unless they are here.
-    fn load(&mut self, pid: u32) -> Result<(), AllocError>
+    /// Makes the modules of a process, unless they are here. Returns whether it made them.
+    fn load(&mut self, pid: u32) -> Result<bool, AllocError>
         ensures modules { OnOk result (map module_view self.new.modules.items
             ≡ modules_in (files_in self.new) (replayed self.new pid)) }
+        ensures same { IfOk result (λ anew. anew ≡ false → self.new.modules ≡ self.old.modules) }
         ensures processes { self.new.processes ≡ self.old.processes }
         ensures files { files_in self.new ≡ files_in self.old }
     {
         if self.pid == Some(pid) {
-            return Ok(());
+            return Ok(false);
         }
         self.pid = None;
         self.modules.clear();
@@ -164,6 +176,6 @@ impl<'a, 'run> Replay<'a, 'run> {
         };
         code.push_modules(&mut self.modules)?;
         self.pid = Some(pid);
-        Ok(())
+        Ok(true)
     }
 }

@@ -15,6 +15,7 @@ ghost use Rattle.cfi_stacks.specs.ProfileOutputs.{IsOutput, IsOwed, IsPrinted, I
 ghost use Rattle.cfi_stacks.specs.ProfileOutputs.{IsTextOf, ended, perf_refusal};
 ghost use Rattle.cfi_stacks.specs.ProfileOutputs.{unknown_machine};
 ghost use Rattle.cfi_stacks.specs.Replays.{AreModulesFor, files_in, replayed};
+ghost use Rattle.cfi_stacks.specs.Rooms.{IsRoomFor, KeepsNoRows};
 
 use crate::profile_files::{
     OpenedFile, Opener, ProfileFile, mapped_names, profile_files, read_files, sample_count,
@@ -295,6 +296,7 @@ fn print_in<W: Write>(
     error: Option<PerfError>,
     output: &mut W,
 ) -> io::Result<u8>
+    requires { KeepsNoRows room }
     ensures { PrintsSome (λ line. IsPrinted raw machine (map known_view files.now)
         (map record_view records.now) error line)
         (W.contents output.old) (W.contents output.new) result }
@@ -303,7 +305,10 @@ fn print_in<W: Write>(
     let mut replay = Replay::new(alloc, files);
     for record in records {
         match replay.follow(record) {
-            Ok(()) => print_followed(raw, machine, &replay, record, &mut room, output)?,
+            Ok(has_new_modules) => {
+                room.renew(has_new_modules);
+                print_followed(raw, machine, &replay, record, &mut room, output)?;
+            }
             Err(_) => return write_refusal(output, Error::OutOfMemory),
         }
     }
@@ -319,10 +324,13 @@ fn print_followed<W: Write>(
     room: &mut Room,
     output: &mut W,
 ) -> io::Result<()>
-    requires { AreModulesFor (record_view record.now).event replay.now }
-    ensures { (text : List ℕ) × Writes (W.contents output.old) (W.contents output.new) result text
+    requires modules { AreModulesFor (record_view record.now).event replay.now }
+    requires cached { IsRoomFor replay.now.modules.items room.old }
+    ensures printed { (text : List ℕ)
+        × Writes (W.contents output.old) (W.contents output.new) result text
         × IsTextOf raw machine (files_in replay.now) (replayed replay.now) record.now.time
         (record_view record.now).event text }
+    ensures cached { IsRoomFor replay.now.modules.items room.new }
 {
     match record.event {
         Event::Sample(sample) => print_sample(

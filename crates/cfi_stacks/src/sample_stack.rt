@@ -1,6 +1,7 @@
 //! The frames of a sample, from its copy of the stack.
 ghost use Rattle.std.specs.Prelude.{◌≡◌, ◌≤◌, None, drop, length, take, true};
 ghost use Rattle.cfi_read_core.specs.ReaderCalls.{map_ok};
+ghost use Rattle.cfi_step.specs.CachedRows.{AreCachedFor};
 ghost use Rattle.cfi_step.specs.ModuleLists.{module_list};
 ghost use Rattle.cfi_stacks.specs.Registers.{register_count};
 ghost use Rattle.cfi_stacks.specs.SampleStacks.{IsUnwound, IsWalkFrom, innermost_of};
@@ -10,7 +11,9 @@ ghost use Rattle.cfi_perf.specs.Samples.{registers_view, user_view};
 
 use crate::registers::SampleMachine;
 use cfi_perf::{UserRegisters, UserState};
-use cfi_step::{AddressSize, End, Modules, Process, StackFrame, Walk, Window, unwind};
+use cfi_step::{
+    AddressSize, CachedRow, End, Modules, Process, StackFrame, Walk, Window, unwind_cached,
+};
 use gimli_cfi::{EndianSlice, Reader, RunTimeEndian, UnwindContext, UnwindContextStorage};
 
 /// `PERF_SAMPLE_REGS_ABI_64`: the registers are those of a 64-bit program.
@@ -44,49 +47,59 @@ pub struct Innermost {
 /// `registers` and `caller` have room for `machine.register_count()` registers, and may hold what
 /// the last sample left there. The registers of the innermost frame are the sample's, under DWARF's
 /// numbers; its memory is the sample's copy of the stack, which begins at the stack pointer.
-/// Everything else is as in `cfi_step::unwind`. A row's expression may do 1000 operations.
+/// Everything else is as in `cfi_step::unwind_cached`, by whose condition the rows in the cache are
+/// those of these modules. A row's expression may do 1000 operations.
 ///
 /// Fails with the reason why there are no frames, and then writes nothing. Over a fixed storage it
 /// does not allocate.
-pub fn unwind_sample<R: Reader, S: UnwindContextStorage<R::Offset>>(
+pub fn unwind_sample<R: Reader<Offset = usize>, S: UnwindContextStorage<usize>>(
     modules: Modules<'_, R>,
     machine: SampleMachine,
     user: &UserState<'_>,
-    ctx: &mut UnwindContext<R::Offset, S>,
+    cache: &mut [CachedRow],
+    ctx: &mut UnwindContext<usize, S>,
     registers: &mut [Option<u64>],
     caller: &mut [Option<u64>],
     frames: &mut [StackFrame],
 ) -> Result<Walk, NoFrames>
     requires room { length registers.old ≡ register_count machine }
     requires same_room { length caller.old ≡ register_count machine }
-    ensures { IsUnwound R.position R.Offset.number S.Rules.limit S.Stack.limit S.Rules.copies_free
+    requires cached { AreCachedFor R.position 8 S.Rules.limit S.Stack.limit S.Rules.copies_free
+        (module_list modules) cache.old }
+    ensures unwound { IsUnwound R.position (λ n. n)
+        S.Rules.limit S.Stack.limit S.Rules.copies_free
         (module_list modules.entry) machine (user_view user.now)
         (record { registers = registers.old; caller = caller.old; frames = frames.old })
         result
         (record { registers = registers.new; caller = caller.new; frames = frames.new }) }
+    ensures cached { AreCachedFor R.position 8 S.Rules.limit S.Stack.limit S.Rules.copies_free
+        (module_list modules.entry) cache.new }
 {
     let sampled = sampled(user)?;
     let innermost = innermost_of(machine, &sampled)?;
     write_registers(machine, &sampled, registers);
     Ok(walk_from(
-        modules, machine, innermost, user.stack, ctx, registers, caller, frames,
+        modules, machine, innermost, user.stack, cache, ctx, registers, caller, frames,
     ))
 }
 
 /// Writes the frames from the innermost one on, whose registers are these.
-fn walk_from<R: Reader, S: UnwindContextStorage<R::Offset>>(
+fn walk_from<R: Reader<Offset = usize>, S: UnwindContextStorage<usize>>(
     modules: Modules<'_, R>,
     machine: SampleMachine,
     innermost: Innermost,
     stack: &[u8],
-    ctx: &mut UnwindContext<R::Offset, S>,
+    cache: &mut [CachedRow],
+    ctx: &mut UnwindContext<usize, S>,
     registers: &mut [Option<u64>],
     caller: &mut [Option<u64>],
     frames: &mut [StackFrame],
 ) -> Walk
     requires room { length registers.old ≡ register_count machine }
     requires same_room { length caller.old ≡ register_count machine }
-    ensures walk { IsWalkFrom R.position R.Offset.number
+    requires cached { AreCachedFor R.position 8 S.Rules.limit S.Stack.limit S.Rules.copies_free
+        (module_list modules) cache.old }
+    ensures walk { IsWalkFrom R.position (λ n. n)
         S.Rules.limit S.Stack.limit S.Rules.copies_free (module_list modules.entry) machine
         (memory_of stack.now innermost.stack_pointer)
         (record {
@@ -98,6 +111,8 @@ fn walk_from<R: Reader, S: UnwindContextStorage<R::Offset>>(
     ensures rest { drop result.count frames.new ≡ drop result.count frames.old }
     ensures count { result.count ≤ length frames.new }
     ensures full { result.end ≡ End.NoRoom → result.count ≡ length frames.new }
+    ensures cached { AreCachedFor R.position 8 S.Rules.limit S.Stack.limit S.Rules.copies_free
+        (module_list modules.entry) cache.new }
 {
     let memory = Window {
         base: innermost.stack_pointer,
@@ -109,7 +124,15 @@ fn walk_from<R: Reader, S: UnwindContextStorage<R::Offset>>(
         address_size: AddressSize::new(8),
         abi: machine.abi(),
     };
-    unwind(&process, ctx, innermost.pc, registers, caller, frames)
+    unwind_cached(
+        &process,
+        cache,
+        ctx,
+        innermost.pc,
+        registers,
+        caller,
+        frames,
+    )
 }
 
 /// The registers of user space, if they are those of a 64-bit program.

@@ -1,8 +1,7 @@
 -- Rows that are kept for the next walk.
-use Rattle.std.proofs.Common.{◌≡◌, ◌<◌, ◌∙◌, ℕ, Bool, true, false, List, length, Option, Some, Result, Ok, IfOk, refl, sym, ap, subst, inl, inr, get_or, true≢false}
-use Rattle.std.specs.Prelude.{◌⊎◌, slice_set}
+use Rattle.std.proofs.Common.{◌≡◌, ◌∙◌, ℕ, Bool, true, false, List, length, Option, Some, Result, Ok, IfOk, sym, ap, subst, inl, inr, get_or, true≢false}
 use Rattle.std.specs.List.{All, Contains}
-use Rattle.std.proofs.lemmas.List.Elements.{All-get_or, All-set, All-from_get_or}
+use Rattle.std.proofs.lemmas.List.Elements.{All-get_or, All-set}
 use Rattle.cfi_read_core.specs.declared.common.Register.{Register}
 use Rattle.cfi_read_core.specs.declared.error.Error.{Error}
 use Rattle.cfi_read_core.specs.ReadFunctions.{Position}
@@ -31,8 +30,8 @@ use Rattle.cfi_step.specs.Steps.{IsStepBy, caller_by}
 all_has : {X : Type 0} (P : X → Type 0) (xs : List X) (x : X) → Contains xs x → All P xs → P x
 all_has P xs x has all = subst P has.2 (All-get_or P xs has.0 x has.1 all)
 
-all_for : {X : Type 0} (P Q : X → Type 0) (xs : List X) (d : X) → ((x : X) → P x → Q x) → All P xs → All Q xs
-all_for P Q xs d then all = All-from_get_or Q xs d (λ i inside. then (get_or xs i d) (All-get_or P xs i d inside all))
+all_for : {X : Type 0} (P Q : X → Type 0) (xs : List X) → ((x : X) → P x → Q x) → All P xs → All Q xs
+all_for P Q xs then all k d inside = then (get_or xs k d) (all k d inside)
 
 -- ---- a row that was found
 
@@ -83,10 +82,10 @@ module _ {R : Type 0} (position : R → Position) (size : ℕ) (rule_limit stack
       keeps b other (λ at. same_module loaded other (first_module modules b) is (there ∙ ap (first_module modules) (sym at))) (before b other is)
 
   -- an empty cache is right for any modules
-  pub empty_for_all : (modules : List (LoadedModule R)) (d : CachedRow) (cache : List CachedRow) → AreEmpty cache →
+  pub empty_for_all : (modules : List (LoadedModule R)) (cache : List CachedRow) → AreEmpty cache →
       AreCachedFor position size rule_limit stack_limit copies_free modules cache
-  empty_for_all modules d cache empty a loaded is =
-      all_for (λ slot. holds_row slot ≡ false) (IsCachedIn position size rule_limit stack_limit copies_free loaded a) cache d
+  empty_for_all modules cache empty a loaded is =
+      all_for (λ slot. holds_row slot ≡ false) (IsCachedIn position size rule_limit stack_limit copies_free loaded a) cache
       (λ slot none holds. absurd (true≢false (sym holds.0 ∙ none))) empty
 
 -- ---- a step by a slot

@@ -81,7 +81,8 @@ fn step_by_cached<R: Reader<Offset = usize>, S: UnwindContextStorage<usize>, M: 
     }
 }
 
-/// The caller of a frame of a module's code, by the FDE that `fde_in_module` finds. Its row is kept.
+/// The caller of a frame of a module's code, by the FDE that `fde_in_module` finds. The row is
+/// kept.
 fn step_by_found<R: Reader<Offset = usize>, S: UnwindContextStorage<usize>, M: Memory>(
     loaded: &LoadedModule<'_, R>,
     cache: &mut [CachedRow],

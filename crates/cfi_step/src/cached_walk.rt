@@ -14,11 +14,12 @@ use gimli_cfi::{Reader, UnwindContext, UnwindContextStorage};
 
 /// Writes the frames of a stack as `unwind`, with a cache of rows.
 ///
-/// The cache has any number of slots, which are empty or were filled by walks with the same modules
-/// and the same type of context. Empty it, by `clear_rows`, before it is used for others. In a
-/// module without a compiled table, a row that the cache holds for an address is taken as it is;
-/// else it is found as by `step_in_module`, and kept if it has at most 8 rules of registers. What is
-/// returned and written is the same without a cache. Over a fixed storage it does not allocate.
+/// The cache has any number of slots, which are empty or were filled by walks with the same
+/// modules, size of an address and type of context. Empty it, by `clear_rows`, before it is used
+/// for others. In a module without a compiled table, the row that the cache holds for an address is
+/// taken as it is; else the row is found as by `step_in_module`, and kept if it has at most 8 rules
+/// of registers. What is returned and written is the same without a cache. Over a fixed storage it
+/// does not allocate.
 pub fn unwind_cached<R: Reader<Offset = usize>, S: UnwindContextStorage<usize>, M: Memory>(
     process: &Process<'_, R, M>,
     cache: &mut [CachedRow],

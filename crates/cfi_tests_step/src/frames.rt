@@ -1,10 +1,14 @@
 //! Stacks that are walked, with registers and memory made by hand.
 use cfi_compiled::CompiledTable;
-use cfi_expression::{AddressSize, FrameError, Window};
-use cfi_step::{Abi, End, LoadedModule, LoadedTable, Modules, Process, StackFrame, Walk, unwind};
+use cfi_expression::{AddressSize, FrameError, Memory, Window};
+use cfi_step::{
+    Abi, CachedRow, End, LoadedModule, LoadedTable, Modules, Process, StackFrame, Walk, clear_rows,
+    unwind, unwind_cached,
+};
 use cfi_tests_bytes::bytes_of;
 use gimli_cfi::{
-    BaseAddresses, EhFrame, EndianSlice, Error, LittleEndian, Register, UnwindContext, Vendor,
+    BaseAddresses, EhFrame, EndianSlice, Error, LittleEndian, Reader, Register, UnwindContext,
+    Vendor,
 };
 use std::alloc::Global;
 use std::process::Abort;
@@ -157,10 +161,12 @@ const CASES: [Case; 9] = [
 ];
 
 /// Walks from a pc: r6 is 0x7100, r7 the stack pointer 0x7000, and r16 the pc. The module has a
-/// compiled table if there is a bias, at which it is then loaded.
+/// compiled table if there is a bias, at which it is then loaded. With a cache, it is the second
+/// walk.
 fn walked(
     alloc: Global,
     bias: Option<u64>,
+    is_cached: bool,
     pc: u64,
     memory: &[u8],
     frames: &mut [StackFrame],
@@ -199,24 +205,53 @@ fn walked(
     registers[16] = Some(pc);
     let mut caller = [None; 17];
     let mut ctx = UnwindContext::<usize>::new(alloc)?;
-    let walk = unwind(&process, &mut ctx, pc, &mut registers, &mut caller, frames);
+    let ctx = &mut ctx;
+    let walk = if is_cached {
+        walked_again(&process, ctx, pc, &mut registers, &mut caller, frames)
+    } else {
+        unwind(&process, ctx, pc, &mut registers, &mut caller, frames)
+    };
     Ok((walk, [three(&registers), three(&caller)]))
 }
 
-/// By a scan of the section, and by its compiled table.
-#[test]
-fn walks(rt: HostRuntime) -> Result<(), Fail> {
-    check_walks(&rt, rt.alloc(), None)?;
-    check_walks(&rt, rt.alloc(), Some(0))
+/// Walks twice with one cache of rows, and returns what the second walk does.
+fn walked_again<R: Reader<Offset = usize>, M: Memory>(
+    process: &Process<'_, R, M>,
+    ctx: &mut UnwindContext<usize>,
+    pc: u64,
+    registers: &mut [Option<u64>; 17],
+    caller: &mut [Option<u64>; 17],
+    frames: &mut [StackFrame],
+) -> Walk {
+    let mut rows = [CachedRow::new(), CachedRow::new(), CachedRow::new()];
+    clear_rows(&mut rows);
+    let mut first = *registers;
+    let mut found = *caller;
+    unwind_cached(process, &mut rows, ctx, pc, &mut first, &mut found, frames);
+    unwind_cached(process, &mut rows, ctx, pc, registers, caller, frames)
 }
 
-fn check_walks(rt: &impl Abort, alloc: Global, bias: Option<u64>) -> Result<(), Fail> {
+/// By a scan of the section, by rows that a first walk kept, and by its compiled table.
+#[test]
+fn walks(rt: HostRuntime) -> Result<(), Fail> {
+    check_walks(&rt, rt.alloc(), None, false)?;
+    check_walks(&rt, rt.alloc(), None, true)?;
+    check_walks(&rt, rt.alloc(), Some(0), false)
+}
+
+fn check_walks(
+    rt: &impl Abort,
+    alloc: Global,
+    bias: Option<u64>,
+    is_cached: bool,
+) -> Result<(), Fail> {
     for (pc, room, text, written, count, end, left) in &CASES {
         let memory = bytes_of(alloc, text)?;
         let mut frames = [NOTHING, NOTHING];
         let walk = walked(
             alloc,
             bias,
+            is_cached,
             *pc,
             memory.as_slice(),
             &mut frames[..(*room).min(2)],
@@ -239,6 +274,7 @@ fn loaded_at_a_bias(rt: HostRuntime) -> Result<(), Fail> {
     let (walk, _left) = walked(
         rt.alloc(),
         Some(0x4000_0000),
+        false,
         0x4000_1001,
         memory.as_slice(),
         &mut frames,
@@ -260,7 +296,7 @@ fn memory_cut_at_every_length(rt: HostRuntime) -> Result<(), Fail> {
         let mut frames = [NOTHING, NOTHING];
         let whole = memory.as_slice();
         let cut = &whole[..length.min(whole.len())];
-        let (walk, _left) = walked(rt.alloc(), None, 0x1001, cut, &mut frames)?;
+        let (walk, _left) = walked(rt.alloc(), None, false, 0x1001, cut, &mut frames)?;
         let refused = End::Failed(FrameError::UnreadableMemory(0x7008));
         assert_eq!(rt; (walk.count, walk.end), (1, refused), "{length}");
     }

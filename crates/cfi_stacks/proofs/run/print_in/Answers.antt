@@ -1,14 +1,15 @@
-use Rattle.std.proofs.Common.{◌≡◌, ◌∙◌, ℕ, ◌+◌, List, map, subst, take}
+use Rattle.std.proofs.Common.{◌≡◌, ◌∙◌, ℕ, ◌+◌, List, ap, map, subst, take}
 use Rattle.cfi_perf.specs.Events.{record_view}
 use Rattle.cfi_stacks.specs.KnownFiles.{KnownFile, known_view}
 use Rattle.cfi_stacks.specs.ProfileOutputs.{IsTextOf}
 use Rattle.cfi_stacks.specs.Replays.{after, replayed}
+use Rattle.cfi_stacks.proofs.RoomLemmas.{renewed, room_for_all}
 use Rattle.cfi_stacks.proofs.RunLemmas.{all_records, broken, next_record, none_followed, one_followed, printed, refused}
 use Rattle.cfi_stacks.proofs.run.print_in.Goals as goal
 
 pub loop-record-init : goal.loop-record-init
 loop-record-init g c =
-    (c.new-replay.ensures.files, none_followed c.args.raw c.args.machine (map known_view c.args.files.now) (replayed c.new-replay.result) (g.W.Write.contents c.args.output.now) c.new-replay.ensures.nothing)
+    (c.new-replay.ensures.files, none_followed c.args.raw c.args.machine (map known_view c.args.files.now) (replayed c.new-replay.result) (g.W.Write.contents c.args.output.now) c.new-replay.ensures.nothing, room_for_all c.new-replay.result.modules.items c.args.room c.requires)
 
 pub returns-in-Err : goal.returns-in-Err
 returns-in-Err g c =
@@ -24,7 +25,7 @@ returns-in_err-print_followed-in-Ok g c =
     let records = map record_view c.args.records.now in
     let i = c.loop-record.record-index in
     let r = c.record-item.result in
-    let (text, begun, is) = c.in_err-print_followed-in-Ok.ensures in
+    let (text, begun, is) = c.in_err-print_followed-in-Ok.ensures.printed in
     let is_after : (pid : ℕ) → replayed c.follow.new.self pid ≡ after files (record_view r).event (replayed c.loop-record.replay) pid =
     subst (λ (known : List KnownFile). (pid : ℕ) → replayed c.follow.new.self pid ≡ after known (record_view r).event (replayed c.loop-record.replay) pid) c.loop-record.invariant.0 c.in-Ok.ensures.processes in
     let is_text : IsTextOf c.args.raw c.args.machine files (replayed c.follow.new.self) r.time (record_view r).event text =
@@ -38,7 +39,7 @@ loop-record-preserved g c =
     let records = map record_view c.args.records.now in
     let i = c.loop-record.record-index in
     let r = c.record-item.result in
-    let (text, written, is) = c.in_ok-print_followed-in-Ok.ensures in
+    let (text, written, is) = c.in_ok-print_followed-in-Ok.ensures.printed in
     let is_after : (pid : ℕ) → replayed c.follow.new.self pid ≡ after files (record_view r).event (replayed c.loop-record.replay) pid =
     subst (λ (known : List KnownFile). (pid : ℕ) → replayed c.follow.new.self pid ≡ after known (record_view r).event (replayed c.loop-record.replay) pid) c.loop-record.invariant.0 c.in-Ok.ensures.processes in
     let is_text : IsTextOf c.args.raw c.args.machine files (replayed c.follow.new.self) r.time (record_view r).event text =
@@ -46,4 +47,10 @@ loop-record-preserved g c =
       c.in-Ok.ensures.files ∙ c.loop-record.invariant.0,
       one_followed c.args.raw c.args.machine files (take i records) (take (i + 1) records) (record_view r) (replayed c.loop-record.replay) (replayed c.follow.new.self) _ _ _ text
           (next_record c.args.records.now i r c.record-item.is c.loop-record-test.true) c.loop-record.invariant.1 is_after is_text written,
+      c.in_ok-print_followed-in-Ok.ensures.cached,
     )
+
+pub print_followed-requires-clause-cached : goal.print_followed-requires-clause-cached
+print_followed-requires-clause-cached g c =
+    renewed c.loop-record.replay.modules.items c.follow.new.self.modules.items c.loop-record.room c.renew.new.self c.in-Ok.has_new_modules
+    (λ none. ap (λ list. list.items) (c.in-Ok.ensures.same none)) c.renew.ensures.renewed c.renew.ensures.same c.loop-record.invariant.2

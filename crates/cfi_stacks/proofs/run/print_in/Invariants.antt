@@ -2,6 +2,7 @@ use Rattle.std.proofs.Common.{◌≡◌, map, take}
 use Rattle.cfi_perf.specs.Events.{record_view}
 use Rattle.cfi_stacks.specs.KnownFiles.{known_view}
 use Rattle.cfi_stacks.specs.Replays.{files_in, replayed}
+use Rattle.cfi_stacks.specs.Rooms.{IsRoomFor}
 use Rattle.cfi_stacks.proofs.RunLemmas.{Followed}
 use Rattle.cfi_stacks.proofs.run.print_in.Given as goal
 
@@ -10,3 +11,4 @@ invariant-loop-record g l =
     let files = map known_view l.files in
     (files_in l.replay ≡ files)
     × Followed l.raw l.machine files (take l.record-index (map record_view l.records)) (replayed l.replay) (g.W.Write.contents l.initial.output) (g.W.Write.contents l.output)
+    × IsRoomFor l.replay.modules.items l.room

@@ -1,4 +1,4 @@
-use Rattle.std.proofs.Common.{ℕ, Ok, Err, refl, subst, sym}
+use Rattle.std.proofs.Common.{ℕ, Ok, Err, refl, subst}
 use Rattle.cfi_read_core.specs.AddressSizes.{size_in_bytes}
 use Rattle.cfi_unwind.specs.FdeViews.{fde_view}
 use Rattle.cfi_step.specs.Modules.{IsFoundIn}
