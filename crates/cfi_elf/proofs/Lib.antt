@@ -7,4 +7,5 @@ mod FileKinds
 pub mod Laws
 pub mod NameSteps
 mod NearestFunctions
+mod Parts
 mod Worked

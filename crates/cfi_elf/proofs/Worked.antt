@@ -1,17 +1,18 @@
 -- A file of 32 bits, the most significant byte first, by computation; headers and symbols of 64 bits.
 use Rattle.std.proofs.Common.{◌≡◌, ℕ, ◌+◌, ◌-◌, ◌*◌, List, [], ◌∷◌, codes, false, Option, Some, None, Result, Ok, Err, refl, ap, ◌∙◌}
-use Rattle.std.specs.Prelude.{nat_lt, if◌then◌else◌, take}
+use Rattle.std.specs.Prelude.{nat_lt, if◌then◌else◌, take, drop}
 use Rattle.cfi_read_core.specs.declared.endianity.RunTimeEndian.TheVariants.{Big}
 use Rattle.cfi_read_core.specs.Numbers.{unsigned}
 use Rattle.cfi_elf.specs.declared.error.ElfError.{ElfError}
-use Rattle.cfi_elf.specs.declared.error.ElfError.TheVariants.{NotElf, HeaderCut, SectionTableOutOfBounds, NameOutOfBounds, NameNotTerminated}
+use Rattle.cfi_elf.specs.declared.error.ElfError.TheVariants.{NotElf, HeaderCut, NotRead, SectionTableOutOfBounds, NameOutOfBounds, NameNotTerminated}
 use Rattle.cfi_elf.specs.declared.file_header.Class.TheVariants.{Elf32, Elf64}
 use Rattle.cfi_elf.specs.FileHeaders.{identification, object_kind, table_offsets, table_sizes, file_header}
 use Rattle.cfi_elf.specs.Results.{and_then, entries, read_from}
 use Rattle.cfi_elf.specs.SectionHeaders.{section_identity, section_place, section_header}
 use Rattle.cfi_elf.specs.ProgramHeaders.{segment_place, program_header}
-use Rattle.cfi_elf.specs.ElfFiles.{File, elf_file}
-use Rattle.cfi_elf.specs.Sections.{first_section_header, section_count, section_table, contents, name_at, name_section, names_at, section_names, is_named, header_named, section_named, debug_frame}
+use Rattle.cfi_elf.specs.ElfFiles.{File, elf_file, elf_file_of, file_by, header_bytes}
+use Rattle.cfi_elf.specs.Images.{Image, Part, bytes_at, table_at, whole}
+use Rattle.cfi_elf.specs.Sections.{first_section_header, section_count, section_table, contents, name_at, name_section, names_at, section_names, is_named, header_named, section_named, address_of, section_address, debug_frame}
 use Rattle.cfi_elf.specs.Segments.{segment_count, program_table, wanted_segment, loaded_bytes, eh_frame_hdr_segment, address_of_offset}
 use Rattle.cfi_elf.specs.Symbols.{symbol_64}
 use Rattle.cfi_elf.specs.SymbolTables.{Function}
@@ -19,7 +20,7 @@ use Rattle.cfi_elf.specs.FunctionNames.{first_name, named_function, place_among}
 
 -- to name it on an `unfolding` line is to open all these
 unfoldable computing : ℕ
-unfolding unsigned identification object_kind table_offsets table_sizes file_header entries section_identity section_place section_header segment_place program_header elf_file first_section_header section_count section_table contents name_at name_section names_at section_names is_named header_named section_named debug_frame segment_count program_table wanted_segment loaded_bytes eh_frame_hdr_segment address_of_offset symbol_64
+unfolding unsigned bytes_at table_at header_bytes file_by identification object_kind table_offsets table_sizes file_header entries section_identity section_place section_header segment_place program_header elf_file_of first_section_header section_count section_table contents name_at name_section names_at section_names is_named header_named section_named address_of section_address debug_frame segment_count program_table wanted_segment loaded_bytes eh_frame_hdr_segment address_of_offset symbol_64
 computing = 0
 
 -- the bytes of hexadecimal text, whose letters are small
@@ -32,8 +33,8 @@ bytes_behind None (c ∷ cs) = bytes_behind (Some (digit_of c)) cs
 bytes_behind (Some high) (c ∷ cs) = (16 * high + digit_of c) ∷ bytes_behind None cs
 
 -- ELFCLASS32, ELFDATA2MSB, ET_EXEC, EM_MIPS: the header, a segment of type PT_LOAD, four bytes, the names, three section headers
-abbrev header_bytes : List ℕ
-header_bytes = bytes_behind None (codes "7f454c46010201000000000000000000000200080000000100001054000000340000006600000000003400200001002800030002")
+abbrev worked_header : List ℕ
+worked_header = bytes_behind None (codes "7f454c46010201000000000000000000000200080000000100001054000000340000006600000000003400200001002800030002")
 
 abbrev worked : List ℕ
 worked = bytes_behind None (codes "7f454c460102010000000000000000000002000800000001000010540000003400000066000000000034002000010028000300020000000100000054000010540000105400000004000000080000000500000001909192c3002e74657874002e6e616d657300000000000000000000000000000000000000000000000000000000000000000000000001000000000000000100000001000000060000105400000054000000040000000000000000000000010000000000000007000000030000000000000000000000580000000e00000000000000000000000100000000")
@@ -59,7 +60,7 @@ same_bytes = refl
 
 abbrev worked_file : File
 worked_file = record {
-  bytes = worked_bytes;
+  image = whole worked_bytes;
   identification = record { class = Elf32; «data» = Big };
   header = record {
     kind = record { e_type = 2; e_machine = 8; e_version = 1 };
@@ -127,17 +128,46 @@ not_with_the_segment = says (λ file. address_of_offset file 0x58) ∙ refl
 
 -- ---- cut, and changed
 
-a_header_less_a_byte : elf_file (take 51 header_bytes) ≡ Err HeaderCut
+a_header_less_a_byte : elf_file (take 51 worked_header) ≡ Err HeaderCut
 unfolding computing
 a_header_less_a_byte = refl
 
-no_section_headers_there : and_then (elf_file header_bytes) (λ file. section_named file (codes ".text")) ≡ Err SectionTableOutOfBounds
+no_section_headers_there : and_then (elf_file worked_header) (λ file. section_named file (codes ".text")) ≡ Err SectionTableOutOfBounds
 unfolding computing
 no_section_headers_there = refl
 
 empty_file : elf_file [] ≡ Err NotElf
 unfolding computing
 empty_file = refl
+
+-- ---- read by parts: the header and what follows to 64, the four bytes of .text, and from the names of sections on
+
+abbrev worked_part : Part
+worked_part = record { offset = 0x54; bytes = 0x90 ∷ 0x91 ∷ 0x92 ∷ 0xc3 ∷ [] }
+
+abbrev worked_image : List Part → Image
+worked_image parts = record { length = 222; first = take 64 worked_bytes; parts = parts }
+
+abbrev tables_part : Part
+tables_part = record { offset = 0x58; bytes = drop 0x58 worked_bytes }
+
+text_by_parts : and_then (elf_file_of (worked_image (tables_part ∷ worked_part ∷ []))) (λ file. section_named file (codes ".text"))
+    ≡ Ok (Some (record { address = 0x1054; bytes = 0x90 ∷ 0x91 ∷ 0x92 ∷ 0xc3 ∷ [] }))
+unfolding computing
+text_by_parts = refl
+
+text_not_read : and_then (elf_file_of (worked_image (tables_part ∷ []))) (λ file. section_named file (codes ".text")) ≡ Err (NotRead 0x54 4)
+unfolding computing
+text_not_read = refl
+
+address_without_the_text : and_then (elf_file_of (worked_image (tables_part ∷ []))) (λ file. section_address file (codes ".text")) ≡ Ok (Some 0x1054)
+unfolding computing
+address_without_the_text = refl
+
+-- the header needs 64 bytes of a file that has as many
+header_not_read : elf_file_of (record { length = 222; first = take 63 worked_bytes; parts = [] }) ≡ Err (NotRead 0 64)
+unfolding computing
+header_not_read = refl
 
 -- ---- names
 

@@ -1,5 +1,5 @@
 -- An ELF file: its header, and what the header says of the whole file (System V ABI chapter 4, "ELF Header").
-use Rattle.std.specs.Prelude.{ℕ, Bool, not, List, Result, Ok, Err, drop, ◌==◌, if◌then◌else◌}
+use Rattle.std.specs.Prelude.{ℕ, Bool, not, List, Result, Ok, Err, drop, min, ◌==◌, if◌then◌else◌}
 use Rattle.cfi_read_core.specs.declared.common.Vendor.{Vendor}
 use Rattle.cfi_read_core.specs.declared.common.Vendor.TheVariants.{Default, AArch64}
 use Rattle.cfi_read_core.specs.ByteOrder.{is_big}
@@ -11,16 +11,17 @@ use Rattle.cfi_elf.specs.declared.file_header.Identification.{Identification}
 use Rattle.cfi_elf.specs.declared.file_header.FileHeader.{FileHeader}
 use Rattle.cfi_elf.specs.declared.elf_file.ElfFile.{ElfFile}
 use Rattle.cfi_elf.specs.FileHeaders.{identification, file_header}
+use Rattle.cfi_elf.specs.Images.{Image, bytes_at, image_view, whole}
 use Rattle.cfi_elf.specs.Results.{and_then, or_error, read_from}
 
 pub record File : Type 0 where
-  pub bytes : List ℕ
+  pub image : Image
   pub identification : Identification
   pub header : FileHeader
 
 -- what an `ElfFile` of the code is
 abbrev pub file_view : ElfFile → File
-file_view file = record { bytes = file.bytes.now; identification = file.identification; header = file.header }
+file_view file = record { image = image_view file.image; identification = file.identification; header = file.header }
 
 abbrev pub class_of_file : File → Class
 class_of_file file = file.identification.class
@@ -38,12 +39,24 @@ with_addresses file =
     else if kind.e_type == 4 then Err Core
     else Ok file
 
--- the file of these bytes, or the first error
-unfoldable pub elf_file : List ℕ → Result File ElfError
-elf_file bytes =
+-- the bytes that the header is read of: the longest one has 64
+unfoldable pub header_bytes : Image → Result (List ℕ) ElfError
+header_bytes image = bytes_at image 0 (min image.length 64) HeaderCut
+
+-- the file of an image by these bytes, or the first error
+unfoldable pub file_by : Image → List ℕ → Result File ElfError
+file_by image bytes =
     and_then (identification bytes) (λ ident.
     and_then (or_error HeaderCut (read_from (is_big ident.«data») (drop 16 bytes) (file_header ident.class))) (λ header.
-    with_addresses (record { bytes = bytes; identification = ident; header = header })))
+    with_addresses (record { image = image; identification = ident; header = header })))
+
+-- the file of an image
+unfoldable pub elf_file_of : Image → Result File ElfError
+elf_file_of image = and_then (header_bytes image) (file_by image)
+
+-- the file of these bytes
+abbrev pub elf_file : List ℕ → Result File ElfError
+elf_file bytes = elf_file_of (whole bytes)
 
 -- ---- what the header says for call frames
 

@@ -1,7 +1,7 @@
 -- The names of the errors, without what they carry.
 use Rattle.std.specs.Prelude.{ℕ, List, codes}
 use Rattle.cfi_elf.specs.declared.error.ElfError.{ElfError}
-use Rattle.cfi_elf.specs.declared.error.ElfError.TheVariants.{NotElf, HeaderCut, UnknownClass, UnknownDataEncoding, UnknownVersion, Relocatable, Core, SectionEntrySize, SectionTableOutOfBounds, NoNameSection, SectionOutOfBounds, Compressed, NameOutOfBounds, NameNotTerminated, ProgramEntrySize, ProgramTableOutOfBounds, SegmentOutOfBounds}
+use Rattle.cfi_elf.specs.declared.error.ElfError.TheVariants.{NotElf, HeaderCut, UnknownClass, UnknownDataEncoding, UnknownVersion, Relocatable, Core, SectionEntrySize, SectionTableOutOfBounds, NoNameSection, SectionOutOfBounds, Compressed, NameOutOfBounds, NameNotTerminated, ProgramEntrySize, ProgramTableOutOfBounds, SegmentOutOfBounds, NotRead}
 
 abbrev pub name_of_elf : ElfError → List ℕ
 name_of_elf NotElf = codes "NotElf"
@@ -21,3 +21,4 @@ name_of_elf NameNotTerminated = codes "NameNotTerminated"
 name_of_elf (ProgramEntrySize size) = codes "ProgramEntrySize"
 name_of_elf ProgramTableOutOfBounds = codes "ProgramTableOutOfBounds"
 name_of_elf SegmentOutOfBounds = codes "SegmentOutOfBounds"
+name_of_elf (NotRead offset size) = codes "NotRead"

@@ -1,5 +1,6 @@
 pub mod ErrorNames
 pub mod Results
+pub mod Images
 pub mod FileHeaders
 pub mod SectionHeaders
 pub mod ProgramHeaders

@@ -1,5 +1,5 @@
 -- Results one after the other, and what is read of a list of bytes.
-use Rattle.std.specs.Prelude.{ℕ, ◌+◌, ◌*◌, Bool, true, false, zero, suc, List, [], ◌∷◌, length, Option, Some, None, Result, Ok, Err, option_map, nat_le, slice_range, if◌then◌else◌}
+use Rattle.std.specs.Prelude.{ℕ, ◌+◌, Bool, true, false, zero, suc, List, [], ◌∷◌, length, Option, Some, None, Result, Ok, Err, nat_le, slice_range, if◌then◌else◌}
 use Rattle.cfi_read_core.specs.declared.error.Error.{Error}
 use Rattle.cfi_read_core.specs.ReadFunctions.{Read, Source}
 use Rattle.cfi_read_core.specs.ReaderCalls.{read_at}
@@ -21,6 +21,11 @@ or_error error (Err e) = Err error
 abbrev pub or_missing : {A : Type 0} → ElfError → Option A → Result A ElfError
 or_missing error (Some x) = Ok x
 or_missing error None = Err error
+
+-- the first that there is
+abbrev pub or_else : {A : Type 0} → Option A → Option A → Option A
+or_else (Some x) other = Some x
+or_else None other = other
 
 -- size bytes from the offset on, if there are so many
 abbrev pub part : List ℕ → ℕ → ℕ → Option (List ℕ)
@@ -61,10 +66,6 @@ if_passed (Err e) x others = Err e
 abbrev pub first_by : {A : Type 0} → (A → Result Bool ElfError) → List A → Result (Option A) ElfError
 first_by test [] = Ok None
 first_by test (x ∷ xs) = if_passed (test x) x (first_by test xs)
-
--- count entries of one size at an offset of the bytes
-abbrev pub table_of : List ℕ → ℕ → ℕ → ℕ → Option Table
-table_of bytes offset count size = option_map (λ entries'. record { count = count; bytes = entries' }) (part bytes offset (count * size))
 
 abbrev pub no_entries : Table
 no_entries = record { count = 0; bytes = [] }

@@ -1,11 +1,12 @@
 -- The sections of a file, by their names (System V ABI chapter 4, "Sections", "String Table").
-use Rattle.std.specs.Prelude.{ℕ, ◌*◌, Bool, false, not, List, [], Option, Some, None, Result, Ok, Err, length, take, drop, option_map, position, codes, nat_le, nat_eq, ◌==◌, bit_and, if◌then◌else◌}
+use Rattle.std.specs.Prelude.{ℕ, ◌+◌, ◌*◌, Bool, false, not, List, [], Option, Some, None, Result, Ok, Err, length, take, drop, option_map, position, codes, nat_le, nat_eq, ◌==◌, bit_and, if◌then◌else◌}
 use Rattle.std.specs.Cmp.Lexicographic.{pointwise}
 use Rattle.cfi_elf.specs.declared.error.ElfError.{ElfError}
 use Rattle.cfi_elf.specs.declared.error.ElfError.TheVariants.{SectionEntrySize, SectionTableOutOfBounds, NoNameSection, SectionOutOfBounds, Compressed, NameOutOfBounds, NameNotTerminated}
 use Rattle.cfi_elf.specs.declared.section_header.SectionHeader.{SectionHeader}
 use Rattle.cfi_elf.specs.declared.elf_file.Section.{Section as SectionOfCode}
-use Rattle.cfi_elf.specs.Results.{Table, and_then, or_error, or_missing, part, read_from, entries_of, first_by, table_of, no_entries}
+use Rattle.cfi_elf.specs.Results.{Table, and_then, or_error, or_missing, read_from, entries_of, first_by, no_entries}
+use Rattle.cfi_elf.specs.Images.{bytes_at, table_at}
 use Rattle.cfi_elf.specs.SectionHeaders.{section_header, section_header_size}
 use Rattle.cfi_elf.specs.ElfFiles.{File, class_of_file, is_big_file}
 
@@ -18,7 +19,9 @@ section_header_at file bytes offset =
 
 -- section 0, which has the numbers that the file header has no room for
 unfoldable pub first_section_header : File → Result SectionHeader ElfError
-first_section_header file = section_header_at file file.bytes file.header.offsets.e_shoff
+first_section_header file =
+    and_then (bytes_at file.image file.header.offsets.e_shoff (section_header_size (class_of_file file)) SectionTableOutOfBounds) (λ bytes.
+    section_header_at file bytes 0)
 
 -- e_shnum, or where it is 0 sh_size of section 0
 unfoldable pub section_count : File → Result ℕ ElfError
@@ -34,7 +37,7 @@ section_table file =
     let size = section_header_size (class_of_file file) in
     if offset == 0 then Ok no_entries
     else if not (file.header.sizes.e_shentsize == size) then Err (SectionEntrySize file.header.sizes.e_shentsize)
-    else and_then (section_count file) (λ count. or_missing SectionTableOutOfBounds (table_of file.bytes offset count size))
+    else and_then (section_count file) (λ count. table_at file.image offset count size SectionTableOutOfBounds)
 
 -- the section headers of a table, in their order
 abbrev pub section_headers : File → Table → List SectionHeader
@@ -47,7 +50,7 @@ unfoldable pub contents : File → SectionHeader → Result (List ℕ) ElfError
 contents file header =
     if header.identity.sh_type == 8 then Ok []
     else if not (bit_and header.identity.sh_flags 0x800 == 0) then Err Compressed
-    else or_missing SectionOutOfBounds (part file.bytes header.place.sh_offset header.place.sh_size)
+    else bytes_at file.image header.place.sh_offset header.place.sh_size SectionOutOfBounds
 
 -- ---- names
 
@@ -115,6 +118,22 @@ section_of file (Some header) =
 -- the section of this name
 unfoldable pub section_named : File → List ℕ → Result (Option Section) ElfError
 section_named file name = and_then (header_named file name) (section_of file)
+
+-- the address of a section, whose bytes need not be read, if it has them in the file
+unfoldable pub address_of : File → SectionHeader → Result ℕ ElfError
+address_of file header =
+    if header.identity.sh_type == 8 then Ok header.identity.sh_addr
+    else if not (bit_and header.identity.sh_flags 0x800 == 0) then Err Compressed
+    else if nat_le (header.place.sh_offset + header.place.sh_size) file.image.length then Ok header.identity.sh_addr
+    else Err SectionOutOfBounds
+
+abbrev pub address_of_found : File → Option SectionHeader → Result (Option ℕ) ElfError
+address_of_found file None = Ok None
+address_of_found file (Some header) = and_then (address_of file header) (λ address. Ok (Some address))
+
+-- the address of the section of this name
+unfoldable pub section_address : File → List ℕ → Result (Option ℕ) ElfError
+section_address file name = and_then (header_named file name) (address_of_found file)
 
 -- a section that was found, or an error if there is a compressed one in its place
 abbrev pub if_none : Option SectionHeader → Result (Option Section) ElfError

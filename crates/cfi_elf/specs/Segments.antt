@@ -5,7 +5,8 @@ use Rattle.cfi_elf.specs.declared.error.ElfError.TheVariants.{ProgramEntrySize, 
 use Rattle.cfi_elf.specs.declared.program_header.ProgramHeader.{ProgramHeader}
 use Rattle.cfi_elf.specs.declared.segments.Wanted.{Wanted}
 use Rattle.cfi_elf.specs.declared.segments.Wanted.TheVariants.{OfType, LoadedAt, CodeAt}
-use Rattle.cfi_elf.specs.Results.{Table, and_then, or_missing, part, entries_of, table_of, no_entries}
+use Rattle.cfi_elf.specs.Images.{bytes_at, table_at}
+use Rattle.cfi_elf.specs.Results.{Table, and_then, entries_of, no_entries}
 use Rattle.cfi_elf.specs.ProgramHeaders.{program_header, program_header_size}
 use Rattle.cfi_elf.specs.ElfFiles.{File, class_of_file, is_big_file}
 use Rattle.cfi_elf.specs.Sections.{Section, first_section_header}
@@ -26,7 +27,7 @@ program_table file =
     let size = program_header_size (class_of_file file) in
     if offset == 0 then Ok no_entries
     else if not (file.header.sizes.e_phentsize == size) then Err (ProgramEntrySize file.header.sizes.e_phentsize)
-    else and_then (segment_count file) (λ count. or_missing ProgramTableOutOfBounds (table_of file.bytes offset count size))
+    else and_then (segment_count file) (λ count. table_at file.image offset count size ProgramTableOutOfBounds)
 
 -- the program headers of a table, in their order
 abbrev pub program_headers : File → Table → List ProgramHeader
@@ -60,7 +61,7 @@ wanted_segment file wanted = and_then (program_table file) (λ table. Ok (find (
 
 -- the bytes of a segment in the file
 abbrev pub segment_bytes : File → ProgramHeader → Result (List ℕ) ElfError
-segment_bytes file header = or_missing SegmentOutOfBounds (part file.bytes header.place.p_offset header.place.p_filesz)
+segment_bytes file header = bytes_at file.image header.place.p_offset header.place.p_filesz SegmentOutOfBounds
 
 -- a segment's address and bytes
 abbrev pub segment_of : File → Option ProgramHeader → Result (Option Section) ElfError

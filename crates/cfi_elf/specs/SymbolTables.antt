@@ -6,7 +6,7 @@ use Rattle.cfi_elf.specs.declared.section_header.SectionHeader.{SectionHeader}
 use Rattle.cfi_elf.specs.declared.symbol.Symbol.{Symbol}
 use Rattle.cfi_elf.specs.declared.symbols.Function.{Function as FunctionOfCode}
 use Rattle.cfi_elf.specs.declared.symbols.SymbolTable.{SymbolTable as SymbolTableOfCode}
-use Rattle.cfi_elf.specs.Results.{Table, and_then, entries_of, first_by, no_entries, table_view}
+use Rattle.cfi_elf.specs.Results.{Table, and_then, entries_of, first_by, no_entries, or_else, table_view}
 use Rattle.cfi_elf.specs.ElfFiles.{File, class_of_file, is_big_file}
 use Rattle.cfi_elf.specs.Sections.{contents, name_at, names_at, section_headers, section_table}
 use Rattle.cfi_elf.specs.Symbols.{symbol, symbol_size, is_function_at}
@@ -24,10 +24,6 @@ symbol_table_view table = record { entries = table_view table.entries; names = t
 
 abbrev pub is_of_type : ℕ → SectionHeader → Bool
 is_of_type sh_type header = header.identity.sh_type == sh_type
-
-abbrev pub or_else : {A : Type 0} → Option A → Option A → Option A
-or_else (Some x) other = Some x
-or_else None other = other
 
 abbrev pub symbol_section : File → Table → Option SectionHeader
 symbol_section file table =

@@ -1,16 +1,21 @@
 //! An ELF file, by its header.
 ghost use Rattle.std.specs.Prelude.{◌≡◌};
 ghost use Rattle.cfi_read_core.specs.ReaderCalls.{map_ok};
-ghost use Rattle.cfi_elf.specs.ElfFiles.{address_size_of, class_of_file, elf_file, file_view};
-ghost use Rattle.cfi_elf.specs.ElfFiles.{vendor_of, with_addresses};
+ghost use Rattle.cfi_elf.specs.ElfFiles.{address_size_of, class_of_file, elf_file, elf_file_of};
+ghost use Rattle.cfi_elf.specs.ElfFiles.{file_by, file_view, header_bytes, vendor_of, with_addresses};
+ghost use Rattle.cfi_elf.specs.Images.{image_view};
 
 use crate::error::ElfError;
 use crate::file_header::{
     Class, EI_NIDENT, FileHeader, Identification, read_file_header, read_identification,
 };
+use crate::image::Image;
 use cfi_read_core::{EndianSlice, RunTimeEndian, Vendor};
 
 const EV_CURRENT: u32 = 1;
+
+/// The bytes of the header of a 64-bit file.
+const LONGEST_HEADER: u64 = 64;
 
 const ET_REL: u16 = 1;
 
@@ -19,10 +24,11 @@ const ET_CORE: u16 = 4;
 const EM_AARCH64: u16 = 183;
 
 /// A program or library in the ELF format, of 32 or 64 bits, in either byte order. The bytes are
-/// borrowed, not copied.
+/// borrowed, not copied. Where only parts of the file were read (`of_image`), each call that needs
+/// other bytes fails with `NotRead`, and otherwise returns what it returns for the whole file.
 #[derive(Clone, Copy, Debug)]
 pub struct ElfFile<'input> {
-    pub(crate) bytes: &'input [u8],
+    pub(crate) image: Image<'input>,
     pub(crate) identification: Identification,
     pub(crate) header: FileHeader,
 }
@@ -34,28 +40,30 @@ impl<'input> ElfFile<'input> {
     /// Fails with `NotElf`, `HeaderCut`, `UnknownClass`, `UnknownDataEncoding` or `UnknownVersion`,
     /// and with `Relocatable` or `Core` for a file of such a type. Does not allocate (System V ABI
     /// chapter 4, "ELF Header").
-    #[tactic(auto, unfolding(crate::specs::ElfFiles::elf_file))]
     pub fn parse(bytes: &'input [u8]) -> Result<ElfFile<'input>, ElfError>
         ensures { map_ok file_view result ≡ elf_file bytes.now }
     {
-        let identification = read_identification(bytes)?;
-        let mut fields = EndianSlice::new(&bytes[EI_NIDENT..], identification.data);
-        let Ok(header) = read_file_header(identification.class, &mut fields) else {
-            return Err(ElfError::HeaderCut);
-        };
-        with_addresses(ElfFile {
-            bytes,
-            identification,
-            header,
-        })
+        ElfFile::of_image(Image::whole(bytes))
     }
 
-    /// The whole file.
-    #[inline(always)]
-    pub fn bytes(&self) -> &'input [u8]
-        ensures { result.now ≡ (file_view self.now).bytes }
+    /// Reads the header of a file of which parts were read. Of the file it needs the first 64
+    /// bytes, or all where it has fewer.
+    ///
+    /// Fails as `parse`, and with `NotRead`. Does not allocate.
+    #[tactic(auto, unfolding(crate::specs::ElfFiles::elf_file_of))]
+    pub fn of_image(image: Image<'input>) -> Result<ElfFile<'input>, ElfError>
+        ensures { map_ok file_view result ≡ elf_file_of (image_view image.entry) }
     {
-        self.bytes
+        let bytes = header_bytes(&image)?;
+        file_by(image, bytes)
+    }
+
+    /// What was read of the file.
+    #[inline(always)]
+    pub fn image(&self) -> Image<'input>
+        ensures { image_view result ≡ (file_view self.now).image }
+    {
+        self.image
     }
 
     /// Whether the file has 32-bit or 64-bit objects (`EI_CLASS`).
@@ -105,6 +113,31 @@ impl<'input> ElfFile<'input> {
             Vendor::Default
         }
     }
+}
+
+/// The bytes that the header is read of: the longest one has 64.
+#[tactic(auto, unfolding(crate::specs::ElfFiles::header_bytes))]
+fn header_bytes<'input>(image: &Image<'input>) -> Result<&'input [u8], ElfError>
+    ensures { map_ok (λ bytes. bytes.now) result ≡ header_bytes (image_view image.now) }
+{
+    image.bytes_at(0, image.length.min(LONGEST_HEADER), ElfError::HeaderCut)
+}
+
+/// The file of an image, by the bytes of its header.
+#[tactic(auto, unfolding(crate::specs::ElfFiles::file_by))]
+fn file_by<'input>(image: Image<'input>, bytes: &[u8]) -> Result<ElfFile<'input>, ElfError>
+    ensures { map_ok file_view result ≡ file_by (image_view image.entry) bytes.now }
+{
+    let identification = read_identification(bytes)?;
+    let mut fields = EndianSlice::new(&bytes[EI_NIDENT..], identification.data);
+    let Ok(header) = read_file_header(identification.class, &mut fields) else {
+        return Err(ElfError::HeaderCut);
+    };
+    with_addresses(ElfFile {
+        image,
+        identification,
+        header,
+    })
 }
 
 /// The file, if its header is of the known version and its sections have addresses.

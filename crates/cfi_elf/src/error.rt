@@ -42,6 +42,9 @@ pub enum ElfError {
     ProgramTableOutOfBounds,
     /// The file's bytes of a segment go past the end of the file.
     SegmentOutOfBounds,
+    /// Bytes are needed that no part of the image has. Carries where in the file they begin, and
+    /// how many they are.
+    NotRead { offset: u64, size: u64 },
 }
 
 impl fmt::Display for ElfError {
@@ -79,6 +82,7 @@ impl ElfError {
             ElfError::ProgramEntrySize(_) => "ProgramEntrySize",
             ElfError::ProgramTableOutOfBounds => "ProgramTableOutOfBounds",
             ElfError::SegmentOutOfBounds => "SegmentOutOfBounds",
+            ElfError::NotRead { .. } => "NotRead",
         }
     }
 
@@ -118,6 +122,7 @@ impl ElfError {
             ElfError::ProgramTableOutOfBounds =>
                 "the program header table goes past the file's end",
             ElfError::SegmentOutOfBounds => "a segment goes past the file's end",
+            ElfError::NotRead { .. } => "bytes of the file have not been read",
         }
     }
 }

@@ -2,7 +2,7 @@
 //! ELF files: the sections, segments and symbols that call frames need of a program or library
 //! (System V ABI, chapter 4 "Object Files" and chapter 5 "Program Loading and Dynamic Linking").
 //!
-//! `elf_file` reads the file header, `sections` finds sections by name, `segments` what is loaded
+//! `image` is a file that may be read by parts, `elf_file` reads the file header, `sections` finds sections by name, `segments` what is loaded
 //! at an address, `symbols` addresses by name and functions by address. Nothing is copied, and only
 //! the lists of functions are allocated.
 
@@ -13,6 +13,7 @@ pub mod file_header;
 mod function_names;
 mod function_place;
 mod functions;
+pub mod image;
 mod program_header;
 mod section_header;
 mod sections;
@@ -26,4 +27,5 @@ pub use error::ElfError;
 pub use file_header::{Class, FileHeader};
 pub use function_names::FunctionNames;
 pub use function_place::FunctionPlace;
+pub use image::{FilePart, Image};
 pub use symbols::Function;

@@ -4,17 +4,18 @@ ghost use Rattle.cfi_read_core.specs.ReaderCalls.{map_ok};
 ghost use Rattle.cfi_elf.specs.Results.{entries, table_view};
 ghost use Rattle.cfi_elf.specs.ElfFiles.{file_view};
 ghost use Rattle.cfi_elf.specs.SectionHeaders.{section_header, section_header_size};
-ghost use Rattle.cfi_elf.specs.Sections.{before_zero, contents, debug_frame, first_named};
+ghost use Rattle.cfi_elf.specs.Sections.{address_of, before_zero, contents, debug_frame, first_named};
 ghost use Rattle.cfi_elf.specs.Sections.{first_section_header, header_named, is_named, name_at};
 ghost use Rattle.cfi_elf.specs.Sections.{name_section, names_at, section_count, section_header_at};
-ghost use Rattle.cfi_elf.specs.Sections.{section_named, section_names, section_table, section_view};
+ghost use Rattle.cfi_elf.specs.Sections.{section_address, section_named, section_names};
+ghost use Rattle.cfi_elf.specs.Sections.{section_table, section_view};
 
-use crate::bytes::{bytes_from, part};
+use crate::bytes::bytes_from;
 use crate::elf_file::{ElfFile, Section};
 use crate::error::ElfError;
 use crate::file_header::Class;
 use crate::section_header::{SectionHeader, read_section_header, section_header_size};
-use crate::table::{Table, table_of};
+use crate::table::{Table, table_at};
 use cfi_read_core::{EndianSlice, Reader};
 
 const SHN_UNDEF: u32 = 0;
@@ -50,6 +51,21 @@ impl<'input> ElfFile<'input> {
             address: header.identity.sh_addr,
             bytes,
         }))
+    }
+
+    /// The address of the section of this name. Returns `None` where no section has the name, or
+    /// the file has no section headers. The section's bytes need not have been read.
+    ///
+    /// Fails as `section`: also with `Compressed` or `SectionOutOfBounds` for the section itself.
+    /// Does not allocate.
+    #[tactic(auto, unfolding(crate::specs::Sections::section_address))]
+    pub fn section_address(&self, name: &[u8]) -> Result<Option<u64>, ElfError>
+        ensures { result ≡ section_address (file_view self.now) name.now }
+    {
+        match self.header_named(name)? {
+            Some(header) => Ok(Some(self.address_of(&header)?)),
+            None => Ok(None),
+        }
     }
 
     /// The section `.debug_frame`, as `section` returns it.
@@ -96,10 +112,13 @@ impl<'input> ElfFile<'input> {
             return Err(ElfError::SectionEntrySize(self.header.sizes.e_shentsize));
         }
         let count = self.section_count()?;
-        match table_of(self.bytes, offset, count, size) {
-            Some(table) => Ok(table),
-            None => Err(ElfError::SectionTableOutOfBounds),
-        }
+        table_at(
+            &self.image,
+            offset,
+            count,
+            size,
+            ElfError::SectionTableOutOfBounds,
+        )
     }
 
     #[tactic(auto, unfolding(crate::specs::Sections::section_count))]
@@ -117,7 +136,12 @@ impl<'input> ElfFile<'input> {
     pub(crate) fn first_section_header(&self) -> Result<SectionHeader, ElfError>
         ensures { result ≡ first_section_header (file_view self.now) }
     {
-        self.section_header_at(self.bytes, self.header.offsets.e_shoff)
+        let offset = self.header.offsets.e_shoff;
+        let size = section_header_size(self.identification.class);
+        let bytes = self
+            .image
+            .bytes_at(offset, size, ElfError::SectionTableOutOfBounds)?;
+        self.section_header_at(bytes, 0)
     }
 
     /// The section header at an offset of these bytes.
@@ -175,6 +199,24 @@ impl<'input> ElfFile<'input> {
         self.contents(&header)
     }
 
+    /// The address of a section, if the file has its bytes.
+    #[tactic(auto, unfolding(crate::specs::Sections::address_of))]
+    fn address_of(&self, header: &SectionHeader) -> Result<u64, ElfError>
+        ensures { result ≡ address_of (file_view self.now) header.now }
+    {
+        if header.identity.sh_type == SHT_NOBITS {
+            return Ok(header.identity.sh_addr);
+        }
+        if header.identity.sh_flags & SHF_COMPRESSED != 0 {
+            return Err(ElfError::Compressed);
+        }
+        if self.image.has(header.place.sh_offset, header.place.sh_size) {
+            Ok(header.identity.sh_addr)
+        } else {
+            Err(ElfError::SectionOutOfBounds)
+        }
+    }
+
     /// The bytes of a section.
     #[tactic(auto, unfolding(crate::specs::Sections::contents))]
     pub(crate) fn contents(&self, header: &SectionHeader) -> Result<&'input [u8], ElfError>
@@ -187,10 +229,8 @@ impl<'input> ElfFile<'input> {
         if header.identity.sh_flags & SHF_COMPRESSED != 0 {
             return Err(ElfError::Compressed);
         }
-        match part(self.bytes, header.place.sh_offset, header.place.sh_size) {
-            Some(bytes) => Ok(bytes),
-            None => Err(ElfError::SectionOutOfBounds),
-        }
+        let place = &header.place;
+        self.image.bytes_at(place.sh_offset, place.sh_size, ElfError::SectionOutOfBounds)
     }
 }
 

@@ -11,12 +11,12 @@ ghost use Rattle.cfi_elf.specs.Segments.{is_loaded_at, is_wanted, loaded_address
 ghost use Rattle.cfi_elf.specs.Segments.{page_offset, program_table, segment_bytes};
 ghost use Rattle.cfi_elf.specs.Segments.{segment_count, wanted_segment};
 
-use crate::bytes::{bytes_from, part};
+use crate::bytes::bytes_from;
 use crate::elf_file::{ElfFile, Section};
 use crate::error::ElfError;
 use crate::file_header::Class;
 use crate::program_header::{ProgramHeader, program_header_size, read_program_header};
-use crate::table::{Table, table_of};
+use crate::table::{Table, table_at};
 use cfi_read_core::{EndianSlice, Reader};
 
 const PN_XNUM: u16 = 0xffff;
@@ -130,10 +130,8 @@ impl<'input> ElfFile<'input> {
             return Err(ElfError::ProgramEntrySize(self.header.sizes.e_phentsize));
         }
         let count = self.segment_count()?;
-        match table_of(self.bytes, offset, u64::from(count), size) {
-            Some(table) => Ok(table),
-            None => Err(ElfError::ProgramTableOutOfBounds),
-        }
+        let error = ElfError::ProgramTableOutOfBounds;
+        table_at(&self.image, offset, u64::from(count), size, error)
     }
 
     #[tactic(auto, unfolding(crate::specs::Segments::segment_count))]
@@ -151,10 +149,8 @@ impl<'input> ElfFile<'input> {
         ensures { map_ok (λ bytes. bytes.now) result
             ≡ segment_bytes (file_view self.now) header.now }
     {
-        match part(self.bytes, header.place.p_offset, header.place.p_filesz) {
-            Some(bytes) => Ok(bytes),
-            None => Err(ElfError::SegmentOutOfBounds),
-        }
+        let place = &header.place;
+        self.image.bytes_at(place.p_offset, place.p_filesz, ElfError::SegmentOutOfBounds)
     }
 }
 

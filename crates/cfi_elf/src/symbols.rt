@@ -1,5 +1,6 @@
 //! The symbols of a file, by their names and addresses (System V ABI chapter 4, "Symbol Table").
-ghost use Rattle.std.specs.Prelude.{◌≡◌, find, option_map};
+ghost use Rattle.std.specs.Prelude.{◌≡◌, Err, IfErr, OnOk, find, option_map};
+ghost use Rattle.cfi_elf.specs.Images.{IsNotRead, IsRead};
 ghost use Rattle.cfi_read_core.specs.ReaderCalls.{map_ok};
 ghost use Rattle.cfi_elf.specs.Results.{entries, first_by, table_view};
 ghost use Rattle.cfi_elf.specs.ElfFiles.{file_view};
@@ -85,6 +86,22 @@ impl<'input> ElfFile<'input> {
             address: symbol.st_value,
             size: symbol.st_size,
         }))
+    }
+
+    /// Whether all was read that `symbol_address` and `functions` need of the file. `functions`
+    /// itself returns none where it was not.
+    ///
+    /// Fails with `NotRead` where section headers, the symbols or their names have not been read,
+    /// and with nothing else. Does not allocate.
+    pub fn symbols_read(&self) -> Result<(), ElfError>
+        ensures ok { OnOk result (IsRead (symbol_table (file_view self.now))) }
+        ensures err { IfErr result (λ e. symbol_table (file_view self.now) ≡ Err e) }
+        ensures unread { IfErr result (λ e. IsNotRead e) }
+    {
+        match self.symbol_table() {
+            Err(ElfError::NotRead { offset, size }) => Err(ElfError::NotRead { offset, size }),
+            _ => Ok(()),
+        }
     }
 
     #[tactic(auto, unfolding(crate::specs::SymbolTables::symbol_table))]

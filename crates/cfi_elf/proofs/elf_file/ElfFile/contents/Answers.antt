@@ -1,7 +1,5 @@
-use Rattle.std.proofs.Common.{refl, sym, ap, ◌∙◌}
-use Rattle.cfi_elf.specs.declared.error.ElfError.TheVariants.{SectionOutOfBounds}
+use Rattle.std.proofs.Common.{refl, sym, ◌∙◌}
 use Rattle.cfi_elf.specs.ElfFiles.{file_view}
-use Rattle.cfi_elf.specs.Results.{or_missing}
 use Rattle.cfi_elf.specs.Sections.{contents}
 use Rattle.cfi_elf.proofs.Contents.{compressed, uncompressed}
 use Rattle.cfi_elf.proofs.elf_file.ElfFile.contents.Goals as goal
@@ -13,10 +11,5 @@ returns-then-header-eq-SHT_NOBITS c = rw c.if-header-eq-SHT_NOBITS.true refl
 pub returns-then-header-ne0 : goal.returns-then-header-ne0
 returns-then-header-ne0 c = sym (compressed (file_view c.args.self.now) c.args.header.now c.if-header-eq-SHT_NOBITS.false c.if-header-ne0.true)
 
-pub returns-in-Some : goal.returns-in-Some
-returns-in-Some c =
-    ap (or_missing SectionOutOfBounds) c.in-Some.ensures ∙ sym (uncompressed (file_view c.args.self.now) c.args.header.now c.if-header-eq-SHT_NOBITS.false c.if-header-ne0.false)
-
-pub returns-in-None : goal.returns-in-None
-returns-in-None c =
-    ap (or_missing SectionOutOfBounds) c.in-None.ensures ∙ sym (uncompressed (file_view c.args.self.now) c.args.header.now c.if-header-eq-SHT_NOBITS.false c.if-header-ne0.false)
+pub returns : goal.returns
+returns c = c.bytes_at.ensures ∙ sym (uncompressed (file_view c.args.self.now) c.args.header.now c.if-header-eq-SHT_NOBITS.false c.if-header-ne0.false)
