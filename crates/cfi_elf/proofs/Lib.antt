@@ -2,6 +2,10 @@ pub mod Cases
 pub mod Chains
 mod Contents
 pub mod EntrySteps
+pub mod SameResults
+pub mod ImageParts
+pub mod Images
+pub mod FileImages
 mod FunctionLists
 mod FileKinds
 pub mod Laws
