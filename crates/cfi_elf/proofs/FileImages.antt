@@ -5,16 +5,15 @@ use Rattle.std.specs.List.{starts_with}
 use Rattle.cfi_read_core.specs.ByteOrder.{is_big}
 use Rattle.cfi_elf.specs.declared.error.ElfError.{ElfError}
 use Rattle.cfi_elf.specs.declared.error.ElfError.TheVariants.{NotElf, HeaderCut, UnknownClass, UnknownDataEncoding, UnknownVersion, Relocatable, Core, SectionOutOfBounds, Compressed}
-use Rattle.cfi_elf.specs.declared.file_header.Class.{Class}
 use Rattle.cfi_elf.specs.declared.file_header.Identification.{Identification}
 use Rattle.cfi_elf.specs.declared.file_header.FileHeader.{FileHeader}
 use Rattle.cfi_elf.specs.declared.section_header.SectionHeader.{SectionHeader}
-use Rattle.cfi_elf.specs.FileHeaders.{class_of, data_of, file_header, identification, magic, with_version}
+use Rattle.cfi_elf.specs.FileHeaders.{class_of, data_of, file_header, identification, magic}
 use Rattle.cfi_elf.specs.Images.{Image, IsImageOf, IsRead, bytes_at, if_read, whole}
 use Rattle.cfi_elf.specs.Results.{and_then, or_else, or_error, or_missing, read_from}
 use Rattle.cfi_elf.specs.ElfFiles.{File, elf_file, elf_file_of, file_by, header_bytes, with_addresses}
 use Rattle.cfi_elf.specs.Sections.{Section, address_of, address_of_found, contents, header_named, section_address, section_named, section_of}
-use Rattle.cfi_elf.proofs.SameResults.{Same, ok_read, same_err, same_if, same_ok, same_or_error, same_self, same_then, then_read}
+use Rattle.cfi_elf.proofs.SameResults.{Same, ok_read, same_err, same_if, same_ok, same_or_error, same_then, then_read}
 use Rattle.cfi_elf.proofs.Images.{in_whole, same_bytes_at}
 
 -- ---- results one after the other

@@ -1,12 +1,11 @@
 -- What a part of a file has is what the whole file has there.
-use Rattle.std.proofs.Common.{◌≡◌, ◌∙◌, ◌+◌, ◌-◌, ◌≤◌, Bool, true, false, ℕ, List, [], ◌∷◌, length, take, drop, Option, Some, None, Result, Ok, Err, refl, sym, ap, arith}
-use Rattle.std.specs.Prelude.{nat_le, min, slice_range, if◌then◌else◌}
+use Rattle.std.proofs.Common.{◌≡◌, ◌∙◌, ◌+◌, ◌-◌, ◌≤◌, Bool, true, false, ℕ, List, [], ◌∷◌, length, take, drop, Option, Some, None, Ok, refl, sym, ap, arith}
+use Rattle.std.specs.Prelude.{nat_le, slice_range, if◌then◌else◌}
 use Rattle.std.proofs.lemmas.Bool.{le-leb, leb-true}
 use Rattle.std.proofs.lemmas.List.{drop-drop, drop-take, take-take}
-use Rattle.cfi_elf.specs.declared.error.ElfError.{ElfError}
-use Rattle.cfi_elf.specs.Images.{ArePartsOf, Image, IsImageOf, IsPartOf, IsRead, Part, bytes_at, if_read, in_part, in_parts, part_of, table_at, whole}
+use Rattle.cfi_elf.specs.Images.{ArePartsOf, Image, IsImageOf, IsPartOf, IsRead, Part, if_read, in_part, in_parts, part_of, whole}
 use Rattle.cfi_elf.specs.Results.{or_else, part}
-use Rattle.cfi_elf.proofs.SameResults.{Same, ok_read, same_ok, same_or_missing, same_then}
+use Rattle.cfi_elf.proofs.SameResults.{Same, ok_read}
 
 -- ---- of a list of bytes
 

@@ -1,6 +1,6 @@
 -- What is read of a file by parts is what is read of the whole file, unless it needs bytes that were not read; and of a
 -- whole file all is read.
-use Rattle.std.proofs.Common.{◌≡◌, ◌∙◌, ◌+◌, ◌*◌, Bool, false, ℕ, List, [], length, drop, Option, Some, None, Result, Ok, Err, refl, ap, subst}
+use Rattle.std.proofs.Common.{◌≡◌, ◌∙◌, ◌+◌, ◌*◌, false, ℕ, List, [], length, drop, Option, Some, None, Result, Ok, Err, refl, ap, subst}
 use Rattle.std.specs.Prelude.{not, nat_le, find, ◌==◌, ◌&&◌, bit_and, codes, if◌then◌else◌}
 use Rattle.cfi_elf.specs.declared.error.ElfError.{ElfError}
 use Rattle.cfi_elf.specs.declared.error.ElfError.TheVariants.{SectionEntrySize, SectionTableOutOfBounds, NoNameSection, SectionOutOfBounds, Compressed, NameOutOfBounds, NameNotTerminated, ProgramEntrySize, ProgramTableOutOfBounds, SegmentOutOfBounds}
