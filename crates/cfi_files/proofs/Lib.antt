@@ -3,3 +3,8 @@ pub mod Joined
 pub mod FoundParts
 pub mod WordLines
 pub mod CompiledWritten
+pub mod Splices
+pub mod ReadParts
+pub mod SameOutputs
+pub mod SameFrames
+pub mod WholeOutputs

@@ -7,14 +7,14 @@ use Rattle.cfi_elf.specs.declared.file_header.Class.{Class}
 use Rattle.cfi_elf.specs.declared.file_header.Class.TheVariants.{Elf32, Elf64}
 use Rattle.cfi_elf.specs.ElfFiles.{File, address_size_of, class_of_file}
 use Rattle.cfi_elf.specs.Results.{and_then}
-use Rattle.cfi_elf.specs.Sections.{Section, section_named}
+use Rattle.cfi_elf.specs.Sections.{Section, section_address, section_named}
 use Rattle.cfi_elf.specs.Segments.{eh_frame_hdr_segment, loaded_bytes}
 use Rattle.cfi_programs.specs.declared.words.Kind.{Kind}
 use Rattle.cfi_programs.specs.declared.words.Kind.TheVariants.{EhFrame}
 use Rattle.cfi_programs.specs.declared.words.SectionWords.{SectionWords}
 use Rattle.cfi_programs.specs.Words.{AreRead}
 use Rattle.cfi_files.specs.declared.call_frames.CallFrames.{CallFrames}
-use Rattle.cfi_files.specs.CallFrames.{Frames, address_named, data_base, eh_frame_address, eh_frame_words, frames_by_header, frames_by_segment, frames_view, if_there, loaded_frames, named_frames, with_header, words_of}
+use Rattle.cfi_files.specs.CallFrames.{Frames, data_base, eh_frame_address, eh_frame_words, frames_by_header, frames_by_segment, frames_view, if_there, loaded_frames, named_frames, with_header, words_of}
 
 abbrev pub HasRead : Frames → Type 0
 HasRead frames = AreRead frames.words
@@ -64,7 +64,7 @@ with_text file section text base = and_then (section_named file (codes ".eh_fram
 pub named_read : (file : File) (section : Section) → IfOk (named_frames file section) HasRead
 unfolding named_frames
 named_read file section =
-    bound HasRead (address_named file (codes ".text")) (λ text. and_then (data_base file) (with_text file section text)) (λ text.
+    bound HasRead (section_address file (codes ".text")) (λ text. and_then (data_base file) (with_text file section text)) (λ text.
     bound HasRead (data_base file) (with_text file section text) (λ base.
     bound HasRead (section_named file (codes ".eh_frame_hdr")) (with_bases file section text base) (λ header.
     headed (eh_frame_words file section.address text base) section.bytes header (sized_words file EhFrame) refl)))

@@ -10,7 +10,7 @@ use Rattle.gimli_cfi.specs.EhFrameHdr.{Header, header_of}
 use Rattle.cfi_elf.specs.declared.error.ElfError.{ElfError}
 use Rattle.cfi_elf.specs.Results.{and_then}
 use Rattle.cfi_elf.specs.ElfFiles.{File, address_size_of, class_of_file, vendor_of}
-use Rattle.cfi_elf.specs.Sections.{Section, debug_frame, section_named}
+use Rattle.cfi_elf.specs.Sections.{Section, debug_frame, section_address, section_named}
 use Rattle.cfi_elf.specs.Segments.{eh_frame_hdr_segment, loaded_bytes}
 use Rattle.cfi_programs.specs.declared.words.Kind.{Kind}
 use Rattle.cfi_programs.specs.declared.words.Kind.TheVariants.{DebugFrame, EhFrame}
@@ -61,12 +61,6 @@ with_header words bytes (Some header) = record { words = record words { header =
 
 -- ---- .eh_frame by its name
 
--- the address of the section of this name, if there is one
-unfoldable pub address_named : File → List ℕ → Result (Option ℕ) ElfError
-address_named file name = do
-  found ← section_named file name
-  Ok (option_map (λ section. section.address) found)
-
 -- the first of two addresses that is there
 abbrev pub or_else : Option ℕ → Result (Option ℕ) ElfError → Result (Option ℕ) ElfError
 or_else (Some address) other = Ok (Some address)
@@ -75,12 +69,12 @@ or_else None other = other
 -- the base of data
 unfoldable pub data_base : File → Result (Option ℕ) ElfError
 data_base file = do
-  address ← address_named file (codes ".got.plt")
-  or_else address (address_named file (codes ".got"))
+  address ← section_address file (codes ".got.plt")
+  or_else address (section_address file (codes ".got"))
 
 unfoldable pub named_frames : File → Section → Result Frames ElfError
 named_frames file section = do
-  text ← address_named file (codes ".text")
+  text ← section_address file (codes ".text")
   base ← data_base file
   header ← section_named file (codes ".eh_frame_hdr")
   Ok (with_header (eh_frame_words file section.address text base) section.bytes header)

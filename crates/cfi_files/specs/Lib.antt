@@ -7,3 +7,4 @@ pub mod RowOutputs
 pub mod Findings
 pub mod CompiledTexts
 pub mod FileOutputs
+pub mod FileParts

@@ -5,7 +5,7 @@ ghost use Rattle.cfi_read_core.specs.ReaderCalls.{map_ok};
 ghost use Rattle.cfi_elf.specs.ElfFiles.{file_view};
 ghost use Rattle.cfi_elf.specs.Sections.{section_view};
 ghost use Rattle.cfi_programs.specs.Words.{AreRead};
-ghost use Rattle.cfi_files.specs.CallFrames.{address_named, data_base, debug_frame_of};
+ghost use Rattle.cfi_files.specs.CallFrames.{data_base, debug_frame_of};
 ghost use Rattle.cfi_files.specs.CallFrames.{eh_frame_address, eh_frame_of, eh_frame_words};
 ghost use Rattle.cfi_files.specs.CallFrames.{frames_by_header, frames_by_segment};
 ghost use Rattle.cfi_files.specs.CallFrames.{frames_view, named_frames, with_header, words_of};
@@ -112,7 +112,7 @@ fn named_frames<'file>(
     ensures { map_ok frames_view result
         ≡ named_frames (file_view file.now) (section_view section.entry) }
 {
-    let text = address_named(file, b".text")?;
+    let text = file.section_address(b".text")?;
     let data_base = data_base(file)?;
     let header = file.section(b".eh_frame_hdr")?;
     let words = eh_frame_words(file, section.address, text, data_base);
@@ -124,20 +124,9 @@ fn named_frames<'file>(
 fn data_base(file: &ElfFile<'_>) -> Result<Option<u64>, ElfError>
     ensures { result ≡ data_base (file_view file.now) }
 {
-    match address_named(file, b".got.plt")? {
+    match file.section_address(b".got.plt")? {
         Some(address) => Ok(Some(address)),
-        None => address_named(file, b".got"),
-    }
-}
-
-/// The address of the section of this name, if there is one.
-#[tactic(auto, unfolding(crate::specs::CallFrames::address_named))]
-fn address_named(file: &ElfFile<'_>, name: &[u8]) -> Result<Option<u64>, ElfError>
-    ensures { result ≡ address_named (file_view file.now) name.now }
-{
-    match file.section(name)? {
-        Some(section) => Ok(Some(section.address)),
-        None => Ok(None),
+        None => file.section_address(b".got"),
     }
 }
 

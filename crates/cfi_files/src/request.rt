@@ -1,6 +1,7 @@
 //! What is printed of a file.
 ghost use Rattle.std.specs.Prelude.{◌≡◌};
 ghost use Rattle.cfi_files.specs.FileOutputs.{format_for};
+ghost use Rattle.cfi_files.specs.FileParts.{needs_symbols};
 
 use cfi_programs::style::Format;
 
@@ -37,6 +38,19 @@ impl Printed<'_> {
             Printed::Rows(_, format) => format,
             Printed::Dump => Format::Text,
             Printed::Table => Format::Text,
+        }
+    }
+
+    /// Returns whether the symbols of the file are needed: the rows have the names of functions,
+    /// and words name symbols.
+    pub fn needs_symbols(self) -> bool
+        ensures { result ≡ needs_symbols self.entry }
+    {
+        match self {
+            Printed::Row(_, _) => true,
+            Printed::Rows(_, _) => true,
+            Printed::Dump => false,
+            Printed::Table => false,
         }
     }
 }

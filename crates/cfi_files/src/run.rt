@@ -1,69 +1,73 @@
-//! What is printed of a file that a reader gives.
-ghost use Rattle.cfi_elf.specs.ElfFiles.{elf_file, file_view};
+//! What is printed of a file.
+ghost use Rattle.cfi_elf.specs.ElfFiles.{elf_file_of, file_view};
+ghost use Rattle.cfi_elf.specs.Images.{image_view};
 ghost use Rattle.cfi_programs.specs.WriterOutput.{Writes};
 ghost use Rattle.cfi_files.specs.FileLines.{PrintsSome, file_label};
 ghost use Rattle.cfi_files.specs.FileOutputs.{ChecksInput, ChecksNamed, IsCheckOfParsed};
-ghost use Rattle.cfi_files.specs.FileOutputs.{IsOfFile, IsOutput, PrintsOwed};
+ghost use Rattle.cfi_files.specs.FileOutputs.{IsOfFile, IsOfParsed, PrintsOwed};
 ghost use Rattle.cfi_files.specs.Findings.{ChecksSome};
 
 use crate::finding::{Finding, write_found};
+use crate::input::FileInput;
 use crate::lines::{write_elf_refusal, write_wrong_input};
 use crate::machine_names::names_in;
+use crate::parts::read_parts;
 use crate::request::{Printed, Request};
 use crate::row::print_words;
 use crate::sections::{SectionPrinted, print_rows, print_sections};
 use crate::table_check::check_table;
-use cfi_elf::ElfFile;
+use cfi_elf::{ElfFile, Image};
 use cfi_programs::dump::Printed as Listed;
-use cfi_programs::input::{InputError, read_all};
+use cfi_programs::input::InputError;
 use cfi_programs::json::write_escaped;
 use cfi_programs::lines::{write_between, write_refusal_in, write_text};
 use cfi_programs::style::{Format, Style};
 use gimli_cfi::Error;
 use std::alloc::Global;
 use std::io;
-use std::io::{Read, Write};
+use std::io::Write;
 
-/// Reads the input to its end, prints what is asked for of the ELF file that it is, and returns the
+/// Reads the parts of an ELF file that are needed, prints what is asked for of it, and returns the
 /// status.
 ///
 /// Status 0: it is printed. Status 1: the file or a part of it can't be read, which prints
 /// `refused` and the name of the error; it has no call frames, which prints `no call frames`; a
 /// word names no address, which prints `no address`; there is no row; or memory is refused.
-/// Status 2: the input can't be read, which prints `wrong input`. In JSON each of these is the
+/// Status 2: the file can't be read, which prints `wrong input`. In JSON each of these is the
 /// `error` of an object, without the word `refused`. Fails where the output can't be written: then
 /// a beginning has been written.
 ///
-/// Allocates for the input, for contexts, for the names of functions and for compiled tables.
+/// Allocates for the parts, for contexts, for the names of functions and for compiled tables.
 /// Printing does not allocate.
-pub fn run_on_file<R: Read, W: Write>(
+pub fn run_on_file<I: FileInput, W: Write>(
     alloc: Global,
     request: Request<'_>,
-    input: &mut R,
+    input: &mut I,
     output: &mut W,
 ) -> io::Result<u8>
-    ensures { PrintsOwed request.entry (R.remaining input.old) (W.contents output.old)
+    ensures { PrintsOwed request.entry (I.bytes input.old) (W.contents output.old)
         (W.contents output.new) result }
 {
     let format = request.printed.format();
-    match read_all(alloc, input) {
-        Ok(bytes) => print_bytes(alloc, request, bytes.as_slice(), output),
+    match read_parts(alloc, request.printed.needs_symbols(), input) {
+        Ok(parts) => print_image(alloc, request, parts.image(), output),
         Err(InputError::OutOfMemory) => write_refusal_in(output, format, Error::OutOfMemory),
         Err(_) => write_wrong_input(output, format),
     }
 }
 
-/// Prints what is asked for of the file that these bytes are.
-fn print_bytes<W: Write>(
+/// Prints what is asked for of the file with these parts.
+fn print_image<W: Write>(
     alloc: Global,
     request: Request<'_>,
-    bytes: &[u8],
+    image: Image<'_>,
     output: &mut W,
 ) -> io::Result<u8>
-    ensures { PrintsSome (λ line. IsOutput request.entry bytes.now line)
+    ensures { PrintsSome (λ line.
+        IsOfParsed request.entry (elf_file_of (image_view image.entry)) line)
         (W.contents output.old) (W.contents output.new) result }
 {
-    match ElfFile::parse(bytes) {
+    match ElfFile::of_image(image) {
         Ok(file) => print_file(alloc, request, &file, output),
         Err(error) => write_elf_refusal(output, request.printed.format(), error),
     }
@@ -95,23 +99,23 @@ fn print_file<W: Write>(
     }
 }
 
-/// Reads the input to its end, prints a line with the name and whether the table of the ELF file
-/// lists its FDEs faithfully, and returns what was found.
+/// Reads the parts of an ELF file that are needed, prints a line with the name and whether the table
+/// of the file lists its FDEs faithfully, and returns what was found.
 ///
 /// The line has after the name and `: ` the verdict on the table, as `write_verdict` of
 /// `cfi_programs` prints it; `no call frames` or `no header` where the file has no `.eh_frame` or
-/// no header; `refused` and the name of an error; or `wrong input` where the input can't be read.
+/// no header; `refused` and the name of an error; or `wrong input` where the file can't be read.
 /// In JSON it is an object with the name as `file`, what was found as `result`, and the number of
 /// rows of a faithful table as `rows` or else that text as `reason`. Fails where the output can't
-/// be written: then a beginning has been written. Allocates for the input.
-pub fn check_file<R: Read, W: Write>(
+/// be written: then a beginning has been written. Allocates for the parts.
+pub fn check_file<I: FileInput, W: Write>(
     alloc: Global,
     format: Format,
     name: &str,
-    input: &mut R,
+    input: &mut I,
     output: &mut W,
 ) -> io::Result<Finding>
-    ensures { ChecksNamed format name.now (R.remaining input.old) (W.contents output.old)
+    ensures { ChecksNamed format name.now (I.bytes input.old) (W.contents output.old)
         (W.contents output.new) result }
 {
     write_name(format, name, output)?;
@@ -139,18 +143,18 @@ fn write_name_member<W: Write>(name: &str, output: &mut W) -> io::Result<()>
     write_text(output, b"\",")
 }
 
-/// Reads the input to its end, and checks the file that it is.
-fn check_input<R: Read, W: Write>(
+/// Reads the parts of the file that are needed, and checks it.
+fn check_input<I: FileInput, W: Write>(
     alloc: Global,
     format: Format,
-    input: &mut R,
+    input: &mut I,
     output: &mut W,
 ) -> io::Result<Finding>
-    ensures { ChecksInput format (R.remaining input.old) (W.contents output.old)
+    ensures { ChecksInput format (I.bytes input.old) (W.contents output.old)
         (W.contents output.new) result }
 {
-    match read_all(alloc, input) {
-        Ok(bytes) => check_bytes(bytes.as_slice(), format, output),
+    match read_parts(alloc, false, input) {
+        Ok(parts) => check_image(parts.image(), format, output),
         Err(InputError::OutOfMemory) => {
             let name = Error::OutOfMemory.name();
             write_found(output, format, Finding::NoTable, "refused ", name)
@@ -159,13 +163,14 @@ fn check_input<R: Read, W: Write>(
     }
 }
 
-/// Checks the file that these bytes are.
-fn check_bytes<W: Write>(bytes: &[u8], format: Format, output: &mut W) -> io::Result<Finding>
+/// Checks the file with these parts.
+fn check_image<W: Write>(image: Image<'_>, format: Format, output: &mut W) -> io::Result<Finding>
     ensures { ChecksSome
-        (λ finding line. IsCheckOfParsed format (elf_file bytes.now) finding line)
+        (λ finding line.
+        IsCheckOfParsed format (elf_file_of (image_view image.entry)) finding line)
         (W.contents output.old) (W.contents output.new) result }
 {
-    match ElfFile::parse(bytes) {
+    match ElfFile::of_image(image) {
         Ok(file) => check_table(&file, format, output),
         Err(error) => { write_found(output, format, Finding::NoTable, "refused ", error.name()) }
     }

@@ -9,7 +9,7 @@ use Rattle.cfi_files.proofs.run.check_file.Goals as goal
 pub returns-in_err-write_name : goal.returns-in_err-write_name
 returns-in_err-write_name g c =
     let format = c.args.format in
-    for_input (g.R.Read.remaining c.args.input.now) _ (λ bytes.
+    for_input (g.I.FileInput.bytes c.args.input.now) _ (λ bytes.
     checks_under_refused (IsCheckOfInput format bytes) (file_label format c.args.name.now) _ _ c.from_residual.result (Unreadable, found_line format Unreadable (codes "wrong input"), inr (inr (refl, refl))) c.from_residual.ensures.0 c.in_err-write_name.ensures)
 
 pub returns : goal.returns

@@ -1,0 +1,123 @@
+-- What is right for a file is right for one of which as much is the same.
+use Rattle.std.proofs.Common.{◌≡◌, ◌⊎◌, ◌∙◌, inl, inr, ℕ, List, [], ◌∷◌, true, Option, Some, None, Result, Ok, Err, refl, ap, subst, length, ◌==◌, if◌then◌else◌}
+use Rattle.std.specs.List.{after_first, before_first, position_or_len}
+use Rattle.std.specs.Borrow.{Bor}
+use Rattle.std.specs.Result.{result_transpose}
+use Rattle.cfi_elf.specs.declared.error.ElfError.{ElfError}
+use Rattle.cfi_elf.specs.ElfFiles.{File}
+use Rattle.cfi_elf.specs.FunctionNames.{functions_in, first_name, named_functions}
+use Rattle.cfi_elf.specs.Images.{Image}
+use Rattle.cfi_elf.specs.Results.{and_then, first_by}
+use Rattle.cfi_elf.specs.SymbolTables.{SymbolTable, is_symbol_named, symbol_address, symbol_table, symbols, value_of}
+use Rattle.cfi_programs.specs.Lines.{Line}
+use Rattle.cfi_programs.specs.Words.{number, texts}
+use Rattle.cfi_programs.specs.declared.register_names.RegisterNames.{RegisterNames}
+use Rattle.cfi_programs.specs.declared.style.Style.{Style}
+use Rattle.cfi_files.specs.declared.request.Printed.{Printed}
+use Rattle.cfi_files.specs.declared.request.Printed.TheVariants.{Row, Rows, Dump, Table}
+use Rattle.cfi_files.specs.declared.sections.SectionPrinted.{SectionPrinted}
+use Rattle.cfi_files.specs.declared.sections.SectionPrinted.TheVariants.{Compiled, Listed}
+use Rattle.cfi_programs.specs.declared.dump.printed.Printed.TheVariants.{Entries, Rows as AllRows}
+use Rattle.cfi_files.specs.CallFrames.{Frames, debug_frame_of, eh_frame_of}
+use Rattle.cfi_files.specs.FileLines.{out_of_memory}
+use Rattle.cfi_files.specs.FileParts.{needs_symbols}
+use Rattle.cfi_files.specs.FileOutputs.{AreFdeRows, AreParts, AreRows, AreRowsAt, AreSections, IsNamed, styled}
+use Rattle.cfi_files.specs.RowOutputs.{AreWordLines, IsRowLine, IsRowOfFile, IsWordLine}
+use Rattle.cfi_files.specs.Targets.{address_by_symbol, behind_symbol, is_plus, sum_of, number_or_symbol, symbol_named, target_address}
+
+module _ (file : File) (image : Image) where
+  -- the other file
+  abbrev other : File
+  other = record file { image = image }
+
+  abbrev pub HasSameFrames : Type 0
+  HasSameFrames = (eh_frame_of file ≡ eh_frame_of other) × (debug_frame_of file ≡ debug_frame_of other)
+
+  abbrev pub HasSameSymbols : Type 0
+  HasSameSymbols = symbol_table file ≡ symbol_table other
+
+  pub same_sections : HasSameFrames → (names : RegisterNames) (what : SectionPrinted) (line : Line) → AreSections names what file line → AreSections names what other line
+  same_sections (eh, debug) names what line are =
+      subst (λ (d : Result (Option Frames) ElfError). AreParts names what (result_transpose (eh_frame_of other)) (result_transpose d) line) debug
+      (subst (λ (e : Result (Option Frames) ElfError). AreParts names what (result_transpose e) (result_transpose (debug_frame_of file)) line) eh are)
+
+  -- ---- symbols
+
+  same_functions : HasSameSymbols → named_functions file ≡ named_functions other
+  unfolding named_functions
+  same_functions e = ap (functions_in file) e
+
+  -- the value of a symbol among those of a table
+  abbrev address_in : List ℕ → SymbolTable → Result (Option ℕ) ElfError
+  address_in name table = and_then (first_by (is_symbol_named table.names name) (symbols file table)) (λ found. Ok (value_of found))
+
+  same_address : HasSameSymbols → (name : List ℕ) → symbol_address file name ≡ symbol_address other name
+  unfolding symbol_address
+  same_address e name = ap (λ table. and_then table (address_in name)) e
+
+  same_named : HasSameSymbols → (name : List ℕ) → symbol_named file name ≡ symbol_named other name
+  same_named e name = ap (λ found. if length name == 0 then Ok None else found) (same_address e name)
+
+  same_behind : HasSameSymbols → (name : List ℕ) (count : Option ℕ) → behind_symbol file name count ≡ behind_symbol other name count
+  unfolding behind_symbol
+  same_behind e name count = ap (λ found. and_then found (λ address. Ok (sum_of address count))) (same_named e name)
+
+  same_symbol : HasSameSymbols → (word : List ℕ) → address_by_symbol file word ≡ address_by_symbol other word
+  same_symbol e word = λ i.
+      if position_or_len is_plus word == length word
+      then same_named e word i
+      else same_behind e (before_first is_plus word) (number (after_first is_plus word)) i
+
+  same_number : HasSameSymbols → (word : List ℕ) (found : Option ℕ) → number_or_symbol file word found ≡ number_or_symbol other word found
+  same_number e word (Some address) = refl
+  same_number e word None = same_symbol e word
+
+  same_target : HasSameSymbols → (word : List ℕ) → target_address file word ≡ target_address other word
+  same_target e word = same_number e word (number word)
+
+  -- ---- rows
+
+  same_fde_rows : HasSameFrames → HasSameSymbols → (style : Style) (address : Option ℕ) (line : Line) → AreFdeRows style file address line → AreFdeRows style other address line
+  same_fde_rows frames e style address line (inl (functions, names, are)) =
+      inl (functions, (λ at. names at ∙ ap (λ fs. first_name fs at) (same_functions e)), same_sections frames style.names (Listed (AllRows (record { address = address; functions = functions; format = style.format }))) line are)
+  same_fde_rows frames e style address line (inr refused) = inr refused
+
+  same_rows_at : HasSameFrames → HasSameSymbols → (style : Style) (target : Result (Option ℕ) ElfError) (line : Line) → AreRowsAt style file target line → AreRowsAt style other target line
+  same_rows_at frames e style (Ok (Some address)) line are = same_fde_rows frames e style (Some address) line are
+  same_rows_at frames e style (Ok None) line are = are
+  same_rows_at frames e style (Err error) line are = are
+
+  same_rows : HasSameFrames → HasSameSymbols → (style : Style) (word : Option (Bor (List ℕ))) (line : Line) → AreRows style file word line → AreRows style other word line
+  same_rows frames e style None line are = same_fde_rows frames e style None line are
+  same_rows frames e style (Some word) line are =
+      subst (λ (target : Result (Option ℕ) ElfError). AreRowsAt style other target line) (same_target e word.now) (same_rows_at frames e style (target_address file word.now) line are)
+
+  -- ---- rows of words
+
+  same_row : HasSameFrames → (style : Style) (address : ℕ) (line : Line) → IsRowOfFile style file address line → IsRowOfFile style other address line
+  same_row (eh, debug) style address line is =
+      subst (λ (d : Result (Option Frames) ElfError). IsRowLine style (result_transpose (eh_frame_of other)) (result_transpose d) address line ⊎ (line ≡ out_of_memory style.format)) debug
+      (subst (λ (e : Result (Option Frames) ElfError). IsRowLine style (result_transpose e) (result_transpose (debug_frame_of file)) address line ⊎ (line ≡ out_of_memory style.format)) eh is)
+
+  same_word : HasSameFrames → (style : Style) (target : Result (Option ℕ) ElfError) (line : Line) → IsWordLine style file target line → IsWordLine style other target line
+  same_word frames style (Ok (Some address)) line is = same_row frames style address line is
+  same_word frames style (Ok None) line is = is
+  same_word frames style (Err error) line is = is
+
+  same_words : HasSameFrames → HasSameSymbols → (style : Style) (words : List (List ℕ)) (line : Line) → AreWordLines style file words line → AreWordLines style other words line
+  same_words frames e style [] line are = are
+  same_words frames e style (word ∷ words) line (first, second, is, are, whole) = (
+    first,
+    second,
+    subst (λ (target : Result (Option ℕ) ElfError). IsWordLine style other target first) (same_target e word) (same_word frames style (target_address file word) first is),
+    same_words frames e style words second are,
+    whole,
+  )
+
+  -- ---- all that is printed of a file
+
+  pub same_output : HasSameFrames → (names : RegisterNames) (printed : Printed) → (needs_symbols printed ≡ true → HasSameSymbols) → (line : Line) → IsNamed names printed file line → IsNamed names printed other line
+  same_output frames names (Row words format) symbols line is = same_words frames (symbols refl) (styled names format) (texts words.now) line is
+  same_output frames names (Rows word format) symbols line is = same_rows frames (symbols refl) (styled names format) word line is
+  same_output frames names Dump symbols line is = same_sections frames names (Listed Entries) line is
+  same_output frames names Table symbols line is = same_sections frames names Compiled line is

@@ -1,0 +1,54 @@
+-- What is right for the parts of a file that are needed is right for the whole file.
+use Rattle.std.proofs.Common.{◌≡◌, inl, ℕ, Bool, false, List, Option, Result, Ok, Err, IfOk, refl, sym, subst}
+use Rattle.std.specs.Result.{result_transpose}
+use Rattle.cfi_elf.specs.declared.error.ElfError.{ElfError}
+use Rattle.cfi_elf.specs.ElfFiles.{File, elf_file, elf_file_of}
+use Rattle.cfi_elf.specs.Images.{Image, IsImageOf, IsRead, whole}
+use Rattle.cfi_elf.proofs.FileImages.{file_found, file_refused}
+use Rattle.cfi_elf.proofs.Images.{in_whole, same_symbol_table}
+use Rattle.cfi_programs.specs.Lines.{Line}
+use Rattle.cfi_programs.specs.declared.style.Format.{Format}
+use Rattle.cfi_files.specs.declared.finding.Finding.{Finding}
+use Rattle.cfi_files.specs.declared.request.Request.{Request}
+use Rattle.cfi_files.specs.CallFrames.{Frames}
+use Rattle.cfi_files.specs.FileLines.{PrintsSome}
+use Rattle.cfi_files.specs.FileOutputs.{ChecksInput, IsCheck, IsCheckOfParsed, IsOfParsed, PrintsOwed}
+use Rattle.cfi_files.specs.FileParts.{HasAll, IsEnoughOf, needs_symbols}
+use Rattle.cfi_files.specs.Findings.{ChecksSome}
+use Rattle.cfi_files.specs.MachineNames.{names_in}
+use Rattle.cfi_files.proofs.SameFrames.{same_debug, same_eh_frame}
+use Rattle.cfi_files.proofs.SameOutputs.{same_output}
+
+output_of : (request : Request) (bytes : List ℕ) (file : File) → IsImageOf file.image bytes → HasAll (needs_symbols request.printed) file → (line : Line) → IsOfParsed request (Ok file) line → IsOfParsed request (Ok (in_whole bytes file)) line
+output_of request bytes file of (eh, debug, symbols) line is =
+    same_output file (whole bytes) ((same_eh_frame file bytes of).same eh, (same_debug file bytes of).same debug) (names_in file request.raw) request.printed (λ needed. (same_symbol_table file of).same (symbols needed)) line is
+
+check_of : (format : Format) (bytes : List ℕ) (file : File) (symbols : Bool) → IsImageOf file.image bytes → HasAll symbols file → (finding : Finding) (line : Line) → IsCheckOfParsed format (Ok file) finding line → IsCheckOfParsed format (Ok (in_whole bytes file)) finding line
+check_of format bytes file symbols of (eh, debug, others) finding line is =
+    subst (λ (found : Result (Option Frames) ElfError). IsCheck format (result_transpose found) finding line) ((same_eh_frame file bytes of).same eh) is
+
+output_by : (request : Request) (image : Image) (bytes : List ℕ) → IsImageOf image bytes → IsRead (elf_file_of image) → (r : Result File ElfError) → elf_file_of image ≡ r → IfOk r (HasAll (needs_symbols request.printed)) → (line : Line) →
+    IsOfParsed request r line → IsOfParsed request (elf_file bytes) line
+output_by request image bytes of read (Ok file) is enough line right =
+    let (same, kept) = file_found of file is in
+    subst (λ (r : Result File ElfError). IsOfParsed request r line) (sym same) (output_of request bytes file kept enough line right)
+output_by request image bytes of read (Err e) is enough line right =
+    subst (λ (r : Result File ElfError). IsOfParsed request r line) (sym (file_refused of e is read)) right
+
+check_by : (format : Format) (image : Image) (bytes : List ℕ) → IsImageOf image bytes → IsRead (elf_file_of image) → (symbols : Bool) (r : Result File ElfError) → elf_file_of image ≡ r → IfOk r (HasAll symbols) → (finding : Finding) (line : Line) →
+    IsCheckOfParsed format r finding line → IsCheckOfParsed format (elf_file bytes) finding line
+check_by format image bytes of read symbols (Ok file) is enough finding line right =
+    let (same, kept) = file_found of file is in
+    subst (λ (r : Result File ElfError). IsCheckOfParsed format r finding line) (sym same) (check_of format bytes file symbols kept enough finding line right)
+check_by format image bytes of read symbols (Err e) is enough finding line right =
+    subst (λ (r : Result File ElfError). IsCheckOfParsed format r finding line) (sym (file_refused of e is read)) right
+
+pub printed_parts : {E : Type 0} (request : Request) (known : Option (List ℕ)) (image : Image) (old new : Option (List ℕ)) (r : Result ℕ E) → IsEnoughOf known (needs_symbols request.printed) image →
+    PrintsSome (λ line. IsOfParsed request (elf_file_of image) line) old new r → PrintsOwed request known old new r
+printed_parts request known image old new r ((bytes, left, of), (read, enough)) (line, prints, is) =
+    (bytes, left, (line, prints, inl (output_by request image bytes of read (elf_file_of image) refl enough line is)))
+
+pub checked_parts : {E : Type 0} (format : Format) (known : Option (List ℕ)) (image : Image) (old new : Option (List ℕ)) (r : Result Finding E) → IsEnoughOf known false image →
+    ChecksSome (λ finding line. IsCheckOfParsed format (elf_file_of image) finding line) old new r → ChecksInput format known old new r
+checked_parts format known image old new r ((bytes, left, of), (read, enough)) (finding, line, writes, found, is) =
+    (bytes, left, (finding, line, writes, found, inl (check_by format image bytes of read false (elf_file_of image) refl enough finding line is)))

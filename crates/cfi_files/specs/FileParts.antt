@@ -1,0 +1,79 @@
+-- Files of which the parts are read that are needed.
+--     IsPartRead known offset size part      what a read of a part gives
+--     AreOfInput known image      the parts are of the bytes of a file, which are the known ones where these are known
+--     AreEnough symbols image      they have all that the call frames of the file need, and the symbols where these are needed
+--     IsEnoughOf known symbols image      both
+use Rattle.std.specs.Prelude.{◌≡◌, ◌+◌, ℕ, Bool, true, false, ◌&&◌, ◌||◌, List, [], ◌∷◌, length, Option, Some, IfOk, IfSome, nat_le}
+use Rattle.cfi_elf.specs.declared.error.ElfError.{ElfError}
+use Rattle.cfi_elf.specs.ElfFiles.{File, elf_file_of}
+use Rattle.cfi_elf.specs.Images.{Image, IsImageOf, IsNotRead, IsRead, Part, parts_view}
+use Rattle.cfi_elf.specs.Results.{part}
+use Rattle.cfi_elf.specs.SymbolTables.{symbol_table}
+use Rattle.cfi_files.specs.declared.parts.FileParts.{FileParts}
+use Rattle.cfi_files.specs.declared.request.Printed.{Printed}
+use Rattle.cfi_files.specs.declared.request.Printed.TheVariants.{Row, Rows, Dump, Table}
+use Rattle.cfi_files.specs.CallFrames.{debug_frame_of, eh_frame_of}
+use Rattle.cfi_files.specs.FileOutputs.{AreLeft}
+
+-- ---- a file that is read
+
+-- how many bytes it has
+abbrev pub IsLength : Option (List ℕ) → ℕ → Type 0
+IsLength known n = IfSome known (λ all. n ≡ length all)
+
+-- size bytes, which are those from the offset on where the bytes of the file are known
+abbrev pub IsPartRead : Option (List ℕ) → ℕ → ℕ → List ℕ → Type 0
+IsPartRead known offset size read = (length read ≡ size) × IfSome known (λ all. part all offset size ≡ Some read)
+
+-- ---- what was read of it
+
+abbrev pub image_of : FileParts → Image
+image_of parts = record { length = parts.length; first = parts.first.items; parts = parts_view parts.parts.items }
+
+-- that some bytes have all parts: the known ones, where these are known
+abbrev pub AreOfInput : Option (List ℕ) → Image → Type 0
+AreOfInput known image = (bytes : List ℕ) × AreLeft known bytes × IsImageOf image bytes
+
+-- whether a part has no byte between two offsets
+abbrev pub is_apart : ℕ → ℕ → Part → Bool
+is_apart start end read = nat_le end read.offset || nat_le (read.offset + length read.bytes) start
+
+abbrev pub are_apart : ℕ → ℕ → List Part → Bool
+are_apart start end [] = true
+are_apart start end (read ∷ parts) = is_apart start end read && are_apart start end parts
+
+-- whether the bytes between two offsets are in the file, and none of them was read
+abbrev pub is_free : Image → ℕ → ℕ → Bool
+is_free image start end = nat_le start end && (nat_le end image.length && (nat_le (length image.first) start && are_apart start end image.parts))
+
+-- ---- what is needed of it
+
+-- that an error is another one than that bytes were not read
+abbrev pub IsOther : ElfError → Type 0
+IsOther e = IsNotRead e → ⊥
+
+abbrev pub HasEhFrame : File → Type 0
+HasEhFrame file = IsRead (eh_frame_of file)
+
+abbrev pub HasDebugFrame : File → Type 0
+HasDebugFrame file = IsRead (debug_frame_of file)
+
+-- where they are needed
+abbrev pub HasSymbols : Bool → File → Type 0
+HasSymbols symbols file = symbols ≡ true → IsRead (symbol_table file)
+
+abbrev pub HasAll : Bool → File → Type 0
+HasAll symbols file = HasEhFrame file × HasDebugFrame file × HasSymbols symbols file
+
+abbrev pub AreEnough : Bool → Image → Type 0
+AreEnough symbols image = IsRead (elf_file_of image) × IfOk (elf_file_of image) (λ file. HasAll symbols file)
+
+abbrev pub IsEnoughOf : Option (List ℕ) → Bool → Image → Type 0
+IsEnoughOf known symbols image = AreOfInput known image × AreEnough symbols image
+
+-- whether the symbols of the file are needed: the rows have the names of functions, and words name symbols
+abbrev pub needs_symbols : Printed → Bool
+needs_symbols (Row words format) = true
+needs_symbols (Rows word format) = true
+needs_symbols Dump = false
+needs_symbols Table = false

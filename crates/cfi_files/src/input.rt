@@ -1,0 +1,64 @@
+//! Files whose bytes are read where they are needed.
+ghost use Rattle.std.specs.Prelude.{◌≡◌, ℕ, List, Option, IfOk, Some};
+ghost use Rattle.cfi_files.specs.FileParts.{IsLength, IsPartRead};
+
+use cfi_programs::input::InputError;
+use std::alloc::Global;
+
+/// A file whose bytes are read where they are needed.
+pub trait FileInput {
+    /// All bytes of the file, where they are known.
+    ghost bytes: { Self → Option (List ℕ) };
+
+    /// Returns how many bytes the file has.
+    ///
+    /// Fails with `Unreadable` where that can't be told, and with `OutOfMemory`. May allocate where
+    /// the file has to be read for it.
+    fn length(&mut self, alloc: Global) -> Result<u64, InputError>
+        ensures length { IfOk result (λ length. IsLength (bytes self.old) length) }
+        ensures same { bytes self.new ≡ bytes self.old };
+
+    /// Reads `size` bytes from the offset on.
+    ///
+    /// Fails with `Unreadable` where a read fails or the file has fewer bytes, and with
+    /// `OutOfMemory`. Allocates for the bytes.
+    fn read_part(&mut self, alloc: Global, offset: u64, size: u64) -> Result<Vec<u8>, InputError>
+        ensures read { IfOk result (λ part. IsPartRead (bytes self.old) offset size part.items) }
+        ensures same { bytes self.new ≡ bytes self.old };
+}
+
+/// A file in memory.
+impl FileInput for &[u8] {
+    ghost bytes = { λ file. Some file.now };
+
+    fn length(&mut self, _alloc: Global) -> Result<u64, InputError> {
+        Ok(self.len() as u64)
+    }
+
+    fn read_part(&mut self, alloc: Global, offset: u64, size: u64) -> Result<Vec<u8>, InputError> {
+        copy_part(alloc, self, offset, size)
+    }
+}
+
+/// Returns a copy of the `size` bytes from the offset on. Fails with `Unreadable` where there are
+/// fewer, and with `OutOfMemory`.
+pub fn copy_part(alloc: Global, bytes: &[u8], offset: u64, size: u64) -> Result<Vec<u8>, InputError>
+    ensures { IfOk result (λ part. IsPartRead (Some bytes.now) offset size part.items) }
+{
+    match offset.checked_add(size) {
+        Some(end) if end <= bytes.len() as u64 => {
+            copy_of(alloc, &bytes[offset as usize..end as usize])
+        }
+        _ => Err(InputError::Unreadable),
+    }
+}
+
+/// Returns a copy of the bytes.
+fn copy_of(alloc: Global, bytes: &[u8]) -> Result<Vec<u8>, InputError>
+    ensures { IfOk result (λ copy. copy.items ≡ bytes.now) }
+{
+    match bytes.to_vec(alloc) {
+        Ok(copy) => Ok(copy),
+        Err(_) => Err(InputError::OutOfMemory),
+    }
+}
