@@ -25,7 +25,7 @@ use Rattle.cfi.specs.Findings.{greatest_status, tally_in}
 use Rattle.cfi.specs.Words.{asked}
 use Rattle.cfi_programs.specs.declared.style.Format.{Format}
 use Rattle.cfi.specs.Tasks.{of_request, task_for}
-use Rattle.cfi.specs.Process.{AreChecks, AreStacks, AreTallied, Checks, Disk, Ends, IsAnswer, IsAnswerTo, IsCheck, IsCheckOf, IsPrint, IsStatusAfter, IsStatusOf, MayOpenNamed, PrintsRun, WritesChecks, no_checks, nothing, tallied, tally_line, with_check}
+use Rattle.cfi.specs.Process.{AreChecks, AreStacks, AreTallied, Checks, Disk, Ends, IsAnswer, IsAnswerTo, IsCheck, IsCheckOf, IsPrint, IsStatusAfter, IsStatusOf, MayOpenNamed, PrintsRun, WritesChecks, disk_of, no_checks, nothing, tallied, tally_line, with_check}
 
 -- ---- checks one after the other
 
@@ -244,3 +244,9 @@ refused disk words error old status kinds memory after = explained disk words (a
 
 pub wordless : (disk : Disk) (old : Option (List ℕ)) → PrintsRun disk None old old 2
 wordless disk old = (nothing, refl, ([], none_yet old, inl (refl, refl)))
+
+-- what is right by the bytes that are left of each file is right by its bytes
+pub same_stacks : {Handle E : Type 0} (may_open : Text → Option Handle → Type 0) (left known : Handle → Option (List ℕ)) → ((file : Handle) → left file ≡ known file) → (raw : Bool) (name : Text) (old new : Option (List ℕ)) (r : Result ℕ E) →
+    PrintsSome (λ line. AreStacks (disk_of may_open left) raw name line) old new r → PrintsSome (λ line. AreStacks (disk_of may_open known) raw name line) old new r
+same_stacks {Handle = Handle} may_open left known same raw name old new r =
+    subst (λ (bytes_of : Handle → Option (List ℕ)). PrintsSome (λ line. AreStacks (disk_of may_open bytes_of) raw name line) old new r) (λ i file. same file i)

@@ -31,7 +31,7 @@ pub fn check_files<S: System, W: Write>(
     files: &[&str],
     output: &mut W,
 ) -> io::Result<Vec<Finding>>
-    ensures { WritesChecks (disk_of (S.may_open system.now) S.File.remaining) format
+    ensures { WritesChecks (disk_of (S.may_open system.now) S.File.bytes) format
         (map (λ file. file.now) files.now) (W.contents output.old) (W.contents output.new)
         result }
 {
@@ -58,7 +58,7 @@ fn check_one<S: System, W: Write>(
     output: &mut W,
 ) -> io::Result<Finding>
     ensures { ChecksSome
-        (λ finding line. IsCheck (disk_of (S.may_open system.now) S.File.remaining) format
+        (λ finding line. IsCheck (disk_of (S.may_open system.now) S.File.bytes) format
         file.now finding line)
         (W.contents output.old) (W.contents output.new) result }
 {

@@ -45,7 +45,7 @@ fn main(rt: HostRuntime) -> ExitCode {
 /// Runs the program by the words of the process, and returns the status with which it ends.
 fn run<S: System, W: Write>(system: &S, output: &mut W) -> u8
     ensures { (words : Option (List (List ℕ))) × S.has_words system.now words
-        × PrintsRun (disk_of (S.may_open system.now) S.File.remaining) words
+        × PrintsRun (disk_of (S.may_open system.now) S.File.bytes) words
         (W.contents output.old) (W.contents output.new) result }
 {
     match system.words() {
@@ -56,7 +56,7 @@ fn run<S: System, W: Write>(system: &S, output: &mut W) -> u8
 
 /// Runs the program by these words, of which the first is its name, and returns the status.
 fn run_words<S: System, T: AsStr, W: Write>(system: &S, words: &[T], output: &mut W) -> u8
-    ensures { PrintsRun (disk_of (S.may_open system.now) S.File.remaining)
+    ensures { PrintsRun (disk_of (S.may_open system.now) S.File.bytes)
         (Some (map T.text words.entry.now)) (W.contents output.old) (W.contents output.new)
         result }
 {
@@ -90,7 +90,7 @@ fn finish<W: Write>(printed: io::Result<u8>, output: &mut W) -> u8
 
 /// Does what the command says, and returns the status.
 fn run_command<S: System, W: Write>(system: &S, command: &Command, output: &mut W) -> io::Result<u8>
-    ensures { PrintsSome (λ line. IsAnswer (disk_of (S.may_open system.now) S.File.remaining)
+    ensures { PrintsSome (λ line. IsAnswer (disk_of (S.may_open system.now) S.File.bytes)
         (task_for (command_view command.now)) line)
         (W.contents output.old) (W.contents output.new) result }
 {
@@ -108,7 +108,7 @@ fn print_file<S: System, W: Write>(
     request: Request,
     output: &mut W,
 ) -> io::Result<u8>
-    ensures { PrintsSome (λ line. IsPrint (disk_of (S.may_open system.now) S.File.remaining)
+    ensures { PrintsSome (λ line. IsPrint (disk_of (S.may_open system.now) S.File.bytes)
         file.now (of_request request.entry) line)
         (W.contents output.old) (W.contents output.new) result }
 {
@@ -125,7 +125,7 @@ fn print_stacks<S: System, W: Write>(
     file: &str,
     output: &mut W,
 ) -> io::Result<u8>
-    ensures { PrintsSome (λ line. AreStacks (disk_of (S.may_open system.now) S.File.remaining)
+    ensures { PrintsSome (λ line. AreStacks (disk_of (S.may_open system.now) S.File.bytes)
         raw file.now line)
         (W.contents output.old) (W.contents output.new) result }
 {
@@ -143,7 +143,7 @@ fn print_checks<S: System, W: Write>(
     files: &[&str],
     output: &mut W,
 ) -> io::Result<u8>
-    ensures { PrintsSome (λ line. AreTallied (disk_of (S.may_open system.now) S.File.remaining)
+    ensures { PrintsSome (λ line. AreTallied (disk_of (S.may_open system.now) S.File.bytes)
         format (map (λ file. file.now) files.now) line)
         (W.contents output.old) (W.contents output.new) result }
 {

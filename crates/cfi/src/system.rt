@@ -1,17 +1,22 @@
 //! What a run has of the system: its words, the files that they name, and standard error.
-ghost use Rattle.std.specs.Prelude.{ℕ, ⊤, List, Option, None, map, option_map, string_bytes};
+ghost use Rattle.std.specs.Prelude.{◌≡◌, ℕ, ⊤, List, Option, None, IfOk, length, map};
+ghost use Rattle.std.specs.Prelude.{option_map, refl, string_bytes};
 
+use cfi_files::FileInput;
+use cfi_files::input::copy_part;
+use cfi_programs::input::{InputError, read_all};
 use clap::Error;
 use std::alloc::{AllocGlobal, Global};
 use std::fs::File;
-use std::io::Read;
+use std::io::{Read, Seek, SeekFrom};
 use std::rt::{Env, Files};
 use std::{env, fs, io};
 
 /// What a run has of the system. Whatever it gives, `run` prints what is right for it.
 pub trait System {
-    /// An open file.
-    type File: Read + Drop;
+    /// An open file. A profile is read from its beginning to its end, and of an ELF file what is
+    /// needed.
+    type File: FileInput + Read + Drop;
 
     /// What the words of the process may be, the program's name among them; none where they can't
     /// be had.
@@ -51,6 +56,9 @@ pub trait System {
     /// Whatever the path, there is something that it may be opened to.
     ghost opens: { (system : Self) (path : List ℕ)
         → (opened : Option Self.File) × may_open system path opened };
+
+    /// Where the bytes of a file are known, a reader has these left when it is opened.
+    ghost same_bytes: { (file : Self.File) → Self.File.remaining file ≡ Self.File.bytes file };
 }
 
 /// The system of a runtime. std says nothing of the words of a process, nor of which file is opened
@@ -70,7 +78,7 @@ impl<'rt, P> Host<'rt, P> {
 }
 
 impl<P: Env + Files + Print + Eprint + AllocGlobal> System for Host<'_, P> {
-    type File = P::File;
+    type File = HostFile<P::File>;
 
     ghost has_words = { λ _ _. ⊤ };
 
@@ -84,9 +92,9 @@ impl<P: Env + Files + Print + Eprint + AllocGlobal> System for Host<'_, P> {
         env::args(self.rt).ok()?.collect(self.rt.alloc()).ok()
     }
 
-    fn open(&self, path: &str) -> Option<P::File> {
+    fn open(&self, path: &str) -> Option<HostFile<P::File>> {
         match File::open(self.rt, path) {
-            Ok(file) => Some(file),
+            Ok(file) => Some(HostFile { file, bytes: None }),
             Err(error) => {
                 self.clear_progress();
                 // There is no other place to say that standard error can't be written.
@@ -96,7 +104,7 @@ impl<P: Env + Files + Print + Eprint + AllocGlobal> System for Host<'_, P> {
         }
     }
 
-    fn open_regular(&self, path: &str) -> Option<P::File> {
+    fn open_regular(&self, path: &str) -> Option<HostFile<P::File>> {
         // Opening a pipe would wait for another process.
         match fs::metadata(self.rt, path) {
             Ok(metadata) if !metadata.is_file() => None,
@@ -122,4 +130,78 @@ impl<P: Env + Files + Print + Eprint + AllocGlobal> System for Host<'_, P> {
     }
 
     ghost opens = { λ _ _. (None, tt) };
+
+    ghost same_bytes = { λ _. refl };
+}
+
+/// An open file of a runtime. std says nothing of what is in it.
+#[derive(Drop)]
+pub struct HostFile<F> {
+    file: F,
+    /// All bytes, where it can't be read by parts, as a pipe.
+    bytes: Option<Vec<u8>>,
+}
+
+impl<F: Read> Read for HostFile<F> {
+    fn read(&mut self, buf: &mut [u8]) -> io::Result<usize> {
+        self.file.read(buf)
+    }
+}
+
+impl<F: Read + Seek> FileInput for HostFile<F> {
+    ghost bytes = { λ _. None };
+
+    fn length(&mut self, alloc: Global) -> Result<u64, InputError> {
+        match self.file.seek(SeekFrom::End(0)) {
+            Ok(length) if length > 0 => Ok(length),
+            // A pipe has no end to seek, and files that the system makes up have none to tell.
+            _ => self.read_whole(alloc),
+        }
+    }
+
+    fn read_part(&mut self, alloc: Global, offset: u64, size: u64) -> Result<Vec<u8>, InputError> {
+        match &self.bytes {
+            Some(bytes) => copy_part(alloc, bytes.as_slice(), offset, size),
+            None => read_at(alloc, &mut self.file, offset, size),
+        }
+    }
+}
+
+impl<F: Read> HostFile<F> {
+    /// Reads the file to its end, and returns how many bytes it has.
+    fn read_whole(&mut self, alloc: Global) -> Result<u64, InputError> {
+        let bytes = read_all(alloc, &mut self.file)?;
+        let length = bytes.len() as u64;
+        self.bytes = Some(bytes);
+        Ok(length)
+    }
+}
+
+/// Reads `size` bytes from the offset on.
+fn read_at<F: Read + Seek>(
+    alloc: Global,
+    file: &mut F,
+    offset: u64,
+    size: u64,
+) -> Result<Vec<u8>, InputError>
+    ensures { IfOk result (λ part. length part.items ≡ size) }
+{
+    let mut part = zeros(alloc, size)?;
+    if file.seek(SeekFrom::Start(offset)).is_err() {
+        return Err(InputError::Unreadable);
+    }
+    match file.read_exact(part.as_mut_slice()) {
+        Ok(()) => Ok(part),
+        Err(_) => Err(InputError::Unreadable),
+    }
+}
+
+/// Returns so many zeros.
+fn zeros(alloc: Global, size: u64) -> Result<Vec<u8>, InputError>
+    ensures { IfOk result (λ zeros. length zeros.items ≡ size) }
+{
+    match vec![in alloc; 0u8; size as usize] {
+        Ok(zeros) => Ok(zeros),
+        Err(_) => Err(InputError::OutOfMemory),
+    }
 }

@@ -5,4 +5,4 @@ use Rattle.cfi.proofs.print_file.Goals as goal
 
 pub returns-in-None : goal.returns-in-None
 returns-in-None g c =
-    nothing_printed ℕ (disk_of (g.S.System.may_open c.args.system.now) g.S.File.Read.remaining) c.args.file.now c.args.request (g.W.Write.contents c.args.output.now) c.in-None.ensures
+    nothing_printed ℕ (disk_of (g.S.System.may_open c.args.system.now) g.S.File.FileInput.bytes) c.args.file.now c.args.request (g.W.Write.contents c.args.output.now) c.in-None.ensures

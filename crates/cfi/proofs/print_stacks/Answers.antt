@@ -1,13 +1,17 @@
 use Rattle.std.proofs.Common.{ℕ}
 use Rattle.cfi.specs.Process.{disk_of}
-use Rattle.cfi.proofs.ProcessLemmas.{no_stacks, stacks_of}
+use Rattle.cfi.proofs.ProcessLemmas.{no_stacks, same_stacks, stacks_of}
 use Rattle.cfi.proofs.print_stacks.Goals as goal
 
 pub returns-in-Some : goal.returns-in-Some
 returns-in-Some g c =
-    stacks_of (disk_of (g.S.System.may_open c.args.system.now) g.S.File.Read.remaining) c.args.raw c.args.file.now _ (g.W.Write.contents c.args.output.now) _ c.unwind_profile.result
-    c.in-Some.ensures c.unwind_profile.ensures
+    let may_open = g.S.System.may_open c.args.system.now in
+    let left = g.S.File.Read.remaining in
+    let old = g.W.Write.contents c.args.output.now in
+    same_stacks may_open left g.S.File.FileInput.bytes g.met.S.System.same_bytes c.args.raw c.args.file.now old _ c.unwind_profile.result
+    (stacks_of (disk_of may_open left) c.args.raw c.args.file.now _ old _ c.unwind_profile.result
+    c.in-Some.ensures c.unwind_profile.ensures)
 
 pub returns-in-None : goal.returns-in-None
 returns-in-None g c =
-    no_stacks ℕ (disk_of (g.S.System.may_open c.args.system.now) g.S.File.Read.remaining) c.args.raw c.args.file.now (g.W.Write.contents c.args.output.now) c.in-None.ensures
+    no_stacks ℕ (disk_of (g.S.System.may_open c.args.system.now) g.S.File.FileInput.bytes) c.args.raw c.args.file.now (g.W.Write.contents c.args.output.now) c.in-None.ensures

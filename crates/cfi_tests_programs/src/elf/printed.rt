@@ -1,17 +1,22 @@
 //! What is printed of a file with a function in each of `.eh_frame` and `.debug_frame`. The
 //! expected rows and instructions are readelf's.
+ghost use Rattle.std.specs.Prelude.{None};
+
 use super::bytes::{LITTLE_64, changed};
-use cfi_files::{Finding, Printed, Request, check_file, run_on_file};
+use cfi_files::input::copy_part;
+use cfi_files::{FileInput, Finding, Printed, Request, check_file, run_on_file};
+use cfi_programs::input::InputError;
 use cfi_programs::style::Format;
 use cfi_tests_bytes::bytes_of;
+use std::alloc::Global;
 use std::io;
-use std::io::{ErrorKind, Read, Write};
+use std::io::{ErrorKind, Write};
 use std::process::Abort;
 use std::test::Fail;
 
 /// For x86-64, linked. `pushes`, from 0x4000b0 on, has its call frames in `.eh_frame`, and `waits`,
 /// from 0x4000b6 on, in `.debug_frame`.
-const FILE: &str = "\
+pub(crate) const FILE: &str = "\
     7f454c4602010100000000000000000002003e0001000000b00040000000000040000000000000006002000000000000\
     000000004000380002004000080007000100000007000000b000000000000000b000400000000000b000400000000000\
     58000000000000005800000000000000080000000000000050e5746404000000b800000000000000b800400000000000\
@@ -37,7 +42,7 @@ const FILE: &str = "\
     110000000300000000000000000000000000000000000000190200000000000046000000000000000000000000000000\
     01000000000000000000000000000000";
 
-const ALL_ROWS: &str = ".eh_frame
+pub(crate) const ALL_ROWS: &str = ".eh_frame
 fde 0x4000b0 0x4000b6 pushes
 0x4000b0 0x4000b1 cfa=rsp+8 args=0 ra=offset(-8)
 0x4000b1 0x4000b4 cfa=rsp+16 args=0 rbp=offset(-16) ra=offset(-8)
@@ -54,7 +59,7 @@ fde 0x4000b6 0x4000b8 waits
 0x4000b6 0x4000b8 cfa=rsp+8 args=0 ra=offset(-8)
 ";
 
-const DUMP: &str = ".eh_frame
+pub(crate) const DUMP: &str = ".eh_frame
 cie 0x0 length=20 version=1 size=8 code=1 data=-8 return=ra addresses=0x1b
   DW_CFA_def_cfa register=rsp offset=8
   DW_CFA_offset register=ra factored_offset=1
@@ -153,18 +158,47 @@ const TABLE: &str = ".eh_frame
 0x4000b8 refused NoUnwindInfoForAddress
 ";
 
-/// Gives the bytes one at a time, and then fails.
+/// Gives so many parts of a file, and then fails.
 #[derive(Drop)]
-struct FailsAfter<'a>(&'a [u8]);
+pub(crate) struct FailsAfter<'a> {
+    pub(crate) bytes: &'a [u8],
+    pub(crate) left: usize,
+}
 
-impl Read for FailsAfter<'_> {
-    fn read(&mut self, buf: &mut [u8]) -> io::Result<usize> {
-        if self.0.is_empty() || buf.is_empty() {
-            return Err(ErrorKind::TimedOut.into());
+impl FileInput for FailsAfter<'_> {
+    ghost bytes = { λ _. None };
+
+    fn length(&mut self, _alloc: Global) -> Result<u64, InputError> {
+        Ok(self.bytes.len() as u64)
+    }
+
+    fn read_part(&mut self, alloc: Global, offset: u64, size: u64) -> Result<Vec<u8>, InputError> {
+        if self.left == 0 {
+            return Err(InputError::Unreadable);
         }
-        buf[0] = self.0[0];
-        self.0 = &self.0[1..];
-        Ok(1)
+        self.left -= 1;
+        copy_part(alloc, self.bytes, offset, size)
+    }
+}
+
+/// A file whose length can't be told.
+#[derive(Drop)]
+struct Endless;
+
+impl FileInput for Endless {
+    ghost bytes = { λ _. None };
+
+    fn length(&mut self, _alloc: Global) -> Result<u64, InputError> {
+        Err(InputError::Unreadable)
+    }
+
+    fn read_part(
+        &mut self,
+        _alloc: Global,
+        _offset: u64,
+        _size: u64,
+    ) -> Result<Vec<u8>, InputError> {
+        Err(InputError::Unreadable)
     }
 }
 
@@ -189,10 +223,10 @@ impl Write for Takes {
 }
 
 /// Compares what is printed of the input with the names of registers, and the status.
-fn prints<R: Read>(
+pub(crate) fn prints<I: FileInput>(
     rt: &(impl Abort + AllocGlobal),
     printed: Printed<'_>,
-    input: &mut R,
+    input: &mut I,
     text: &str,
     status: u8,
 ) -> Result<(), Fail> {
@@ -201,10 +235,10 @@ fn prints<R: Read>(
 }
 
 /// Compares what is printed for a request, and the status.
-fn answers<R: Read>(
+fn answers<I: FileInput>(
     rt: &(impl Abort + AllocGlobal),
     request: Request<'_>,
-    input: &mut R,
+    input: &mut I,
     text: &str,
     status: u8,
 ) -> Result<(), Fail> {
@@ -218,10 +252,10 @@ fn answers<R: Read>(
 }
 
 /// Compares what is printed of the check of the input, and what was found.
-fn finds<R: Read>(
+fn finds<I: FileInput>(
     rt: &(impl Abort + AllocGlobal),
     format: Format,
-    input: &mut R,
+    input: &mut I,
     text: &str,
     finding: Finding,
 ) -> Result<(), Fail> {
@@ -328,9 +362,8 @@ fn checks(rt: HostRuntime) -> Result<(), Fail> {
         "a file: refused HeaderCut\n",
         Finding::NoTable,
     )?;
-    let failing = &mut FailsAfter(bytes.as_slice());
     let line = "a file: wrong input\n";
-    finds(&rt, text, failing, line, Finding::Unreadable)
+    finds(&rt, text, &mut Endless, line, Finding::Unreadable)
 }
 
 const FAITHFUL_JSON: &str = "{\"file\":\"a file\",\"result\":\"faithful\",\"rows\":1}
@@ -359,7 +392,7 @@ fn checks_in_json(rt: HostRuntime) -> Result<(), Fail> {
     finds(&rt, json, &mut changed.as_slice(), NO_ROW_JSON, unfaithful)?;
     let cut = bytes.get(..63).unwrap_or_default();
     finds(&rt, json, &mut &*cut, CUT_JSON, Finding::NoTable)?;
-    let failing = &mut FailsAfter(bytes);
+    let failing = &mut FailsAfter { bytes, left: 0 };
     finds(&rt, json, failing, WRONG_INPUT_JSON, Finding::Unreadable)
 }
 
@@ -373,15 +406,13 @@ fn rows_in_json(rt: HostRuntime) -> Result<(), Fail> {
     prints(&rt, all, &mut &*bytes, ALL_ROWS_JSON, 0)?;
     let cut = bytes.get(..3).unwrap_or_default();
     prints(&rt, all, &mut &*cut, "{\"error\":\"NotElf\"}\n", 1)?;
-    let failing = &mut FailsAfter(bytes);
+    let failing = &mut FailsAfter { bytes, left: 0 };
     prints(&rt, all, failing, "{\"error\":\"wrong input\"}\n", 2)
 }
 
 #[test]
 fn files_that_cannot_be_read(rt: HostRuntime) -> Result<(), Fail> {
-    let bytes = bytes_of(rt.alloc(), FILE)?;
-    let failing = &mut FailsAfter(bytes.as_slice());
-    prints(&rt, Printed::Dump, failing, "wrong input\n", 2)?;
+    prints(&rt, Printed::Dump, &mut Endless, "wrong input\n", 2)?;
     let empty: &[u8] = &[];
     prints(&rt, Printed::Dump, &mut &*empty, "refused NotElf\n", 1)?;
     let without = changed(rt.alloc(), LITTLE_64, &[])?;

@@ -10,7 +10,7 @@ no_file = record { ref_ptr = (0, 0); now = [] }
 pub returns-in_err-finding : goal.returns-in_err-finding
 unfolding no_file
 returns-in_err-finding g c =
-    let disk = disk_of (g.S.System.may_open c.args.system.now) g.S.File.Read.remaining in
+    let disk = disk_of (g.S.System.may_open c.args.system.now) g.S.File.FileInput.bytes in
     let files = c.args.files.now in
     let i = c.loop-file.file-index in
     let old = g.W.Write.contents c.args.output.now in
@@ -23,7 +23,7 @@ returns-in_err-finding g c =
 pub returns-in_err-push : goal.returns-in_err-push
 unfolding no_file
 returns-in_err-push g c =
-    let disk = disk_of (g.S.System.may_open c.args.system.now) g.S.File.Read.remaining in
+    let disk = disk_of (g.S.System.may_open c.args.system.now) g.S.File.FileInput.bytes in
     let files = c.args.files.now in
     let i = c.loop-file.file-index in
     let old = g.W.Write.contents c.args.output.now in
@@ -40,7 +40,7 @@ returns-in_err-push g c =
 pub loop-file-preserved : goal.loop-file-preserved
 unfolding no_file
 loop-file-preserved g c =
-    let disk = disk_of (g.S.System.may_open c.args.system.now) g.S.File.Read.remaining in
+    let disk = disk_of (g.S.System.may_open c.args.system.now) g.S.File.FileInput.bytes in
     let files = c.args.files.now in
     let i = c.loop-file.file-index in
     let old = g.W.Write.contents c.args.output.now in
