@@ -1,7 +1,7 @@
 #![tactic(auto)]
 //! What is printed of the call frames of an ELF file: its sections of call frames with their
 //! addresses (`call_frames`), their compiled tables (`compiled`), the addresses that words name in
-//! it (`target`), the parts that are read of it (`input`, `parts`), and the output for a file (`run`).
+//! it (`target`), the parts that are read of it (`input`, `parts`), and the output for it (`run`).
 
 pub mod call_frames;
 pub mod compiled;

@@ -99,8 +99,8 @@ fn print_file<W: Write>(
     }
 }
 
-/// Reads the parts of an ELF file that are needed, prints a line with the name and whether the table
-/// of the file lists its FDEs faithfully, and returns what was found.
+/// Reads the parts of an ELF file that are needed, prints a line with the name and whether the
+/// table of the file lists its FDEs faithfully, and returns what was found.
 ///
 /// The line has after the name and `: ` the verdict on the table, as `write_verdict` of
 /// `cfi_programs` prints it; `no call frames` or `no header` where the file has no `.eh_frame` or

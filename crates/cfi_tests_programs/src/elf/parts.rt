@@ -58,8 +58,8 @@ fn prints_after(
     prints(rt, printed, &mut FailsAfter { bytes, left: reads }, text, 0)
 }
 
-/// The first 4,096 bytes, the section headers, their names, `.eh_frame`, its header, `.debug_frame`,
-/// and for rows the symbols and their names.
+/// The first 4,096 bytes, the section headers, their names, `.eh_frame`, its header,
+/// `.debug_frame`, and for rows the symbols and their names.
 #[test]
 fn parts(rt: HostRuntime) -> Result<(), Fail> {
     let bytes = spread(rt.alloc(), 0x20)?;
