@@ -2,7 +2,8 @@
 ghost use Rattle.std.specs.Prelude.{◌≡◌};
 ghost use Rattle.cfi_read_core.specs.ReaderCalls.{map_ok};
 ghost use Rattle.cfi_elf.specs.ElfFiles.{address_size_of, class_of_file, elf_file, elf_file_of};
-ghost use Rattle.cfi_elf.specs.ElfFiles.{file_by, file_view, header_bytes, vendor_of, with_addresses};
+ghost use Rattle.cfi_elf.specs.ElfFiles.{file_by, file_view, header_bytes, vendor_of};
+ghost use Rattle.cfi_elf.specs.ElfFiles.{with_addresses};
 ghost use Rattle.cfi_elf.specs.Images.{image_view};
 
 use crate::error::ElfError;

@@ -2,9 +2,9 @@
 //! ELF files: the sections, segments and symbols that call frames need of a program or library
 //! (System V ABI, chapter 4 "Object Files" and chapter 5 "Program Loading and Dynamic Linking").
 //!
-//! `image` is a file that may be read by parts, `elf_file` reads the file header, `sections` finds sections by name, `segments` what is loaded
-//! at an address, `symbols` addresses by name and functions by address. Nothing is copied, and only
-//! the lists of functions are allocated.
+//! `image` is a file that may be read by parts. `elf_file` reads the file header, `sections` finds
+//! sections by name, `segments` what is loaded at an address, `symbols` addresses by name and
+//! functions by address. Nothing is copied, and only the lists of functions are allocated.
 
 mod bytes;
 pub mod elf_file;
