@@ -4,11 +4,12 @@ ghost use Rattle.cfi_read_core.specs.ReaderCalls.{map_ok};
 ghost use Rattle.cfi_elf.specs.Results.{entries, table_view};
 ghost use Rattle.cfi_elf.specs.ElfFiles.{file_view};
 ghost use Rattle.cfi_elf.specs.SectionHeaders.{section_header, section_header_size};
-ghost use Rattle.cfi_elf.specs.Sections.{address_of, before_zero, contents, debug_frame, first_named};
-ghost use Rattle.cfi_elf.specs.Sections.{first_section_header, header_named, is_named, name_at};
-ghost use Rattle.cfi_elf.specs.Sections.{name_section, names_at, section_count, section_header_at};
-ghost use Rattle.cfi_elf.specs.Sections.{section_address, section_named, section_names};
-ghost use Rattle.cfi_elf.specs.Sections.{section_table, section_view};
+ghost use Rattle.cfi_elf.specs.Sections.{address_of, before_zero, contents, debug_frame};
+ghost use Rattle.cfi_elf.specs.Sections.{first_named, first_section_header, header_named};
+ghost use Rattle.cfi_elf.specs.Sections.{is_named, name_at, name_section, names_at};
+ghost use Rattle.cfi_elf.specs.Sections.{section_address, section_count, section_header_at};
+ghost use Rattle.cfi_elf.specs.Sections.{section_named, section_names, section_table};
+ghost use Rattle.cfi_elf.specs.Sections.{section_view};
 
 use crate::bytes::bytes_from;
 use crate::elf_file::{ElfFile, Section};
