@@ -9,7 +9,8 @@ use crate::rows::RowRules;
 use arrayvec::ArrayVec;
 use gimli_cfi::{ArrayLike, CfaRule, Register, RegisterRule, UnwindTableRow};
 
-/// How many rules of registers a row has at most that is kept.
+/// The most rules of registers that a row may have that is kept. Rows of x86-64 mostly have 7 at
+/// most; one of AArch64 has more if it saves x19 to x30.
 const RULES: usize = 8;
 
 /// 2 ^ 64 divided by the golden ratio: what addresses are multiplied with to be spread.
@@ -165,7 +166,8 @@ pub(crate) fn held(cache: &[CachedRow], address: u64) -> Option<&CachedRow>
     }
 }
 
-/// Keeps the row of the address in its slot, in place of the one there, if it has few rules.
+/// Keeps the row of the address in its slot, in place of the one there. If it has too many rules,
+/// the slot is empty afterwards.
 pub(crate) fn keep_row<A: ArrayLike<Item = (Register, RegisterRule<usize>)>>(
     cache: &mut [CachedRow],
     address: u64,

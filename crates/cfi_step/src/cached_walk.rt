@@ -18,8 +18,8 @@ use gimli_cfi::{Reader, UnwindContext, UnwindContextStorage};
 /// modules, size of an address and type of context. Empty it, by `clear_rows`, before it is used
 /// for others. In a module without a compiled table, the row that the cache holds for an address is
 /// taken as it is; else the row is found as by `step_in_module`, and kept if it has at most 8 rules
-/// of registers. What is returned and written is the same without a cache. Over a fixed storage it
-/// does not allocate.
+/// of registers. What is promised of the frames is what `unwind` promises. Over a fixed storage it
+/// does not allocate; a row that is held needs no memory over any storage.
 pub fn unwind_cached<R: Reader<Offset = usize>, S: UnwindContextStorage<usize>, M: Memory>(
     process: &Process<'_, R, M>,
     cache: &mut [CachedRow],

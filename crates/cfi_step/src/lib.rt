@@ -2,8 +2,8 @@
 //!
 //! `recover` and `step_by_row` take a row, the other steps find it: by an FDE, by a scan of a
 //! section, by the table of a header, or by a compiled table. `Modules` finds the module of an
-//! address, and `unwind` writes the frames of a stack; `unwind_cached` does with a cache of rows.
-//! Nothing allocates over a fixed storage.
+//! address, and `unwind` writes the frames of a stack; `unwind_cached` does so with a cache of
+//! rows. Nothing allocates over a fixed storage.
 #![tactic(auto)]
 
 pub mod abi;
