@@ -34,7 +34,7 @@ use Rattle.cfi_stacks.specs.OpenedFiles.{AreFilesOf, AreOpened, Opened}
 use Rattle.cfi_stacks.specs.Reasons.{reason_line, reason_of, reason_without}
 use Rattle.cfi_stacks.specs.Registers.{machine_named}
 use Rattle.cfi_stacks.specs.Replays.{after, names_of, sample_count}
-use Rattle.cfi_stacks.specs.SampleStacks.{IsUnwound, Room}
+use Rattle.cfi_stacks.specs.SampleStacks.{HasRoom, IsUnwound, Room}
 use Rattle.cfi_stacks.specs.StackTexts.{head_line, site_line}
 
 -- ---- a sample
@@ -56,11 +56,11 @@ abbrev pub sample_text : Bool → List KnownFile → List MappedCode → ℕ →
 sample_text raw files list time s result room = head_line s.pid s.tid time ++ (walk_text raw files list result room ++ 10 ∷ [])
 
 module _ (raw : Bool) (machine : SampleMachine) (files : List KnownFile) where
-  -- by the modules that are mapped, in a storage of 192 rules and 4 rows
+  -- by the modules that are mapped, in a room for 4096 frames and a storage of 192 rules and 4 rows
   abbrev pub IsStackText : List MappedCode → ℕ → Sample → List ℕ → Type 0
   IsStackText list time s text =
       (modules : List (LoadedModule (EndianSlice RunTimeEndian))) × (old : Room) × (result : Result Walk NoFrames) × (new : Room)
-      × (map module_view modules ≡ modules_in files list)
+      × (map module_view modules ≡ modules_in files list) × HasRoom old.frames
       × IsUnwound (slice_position is_big) (λ n. n) (Some 192) (Some 4) true modules machine s.user old result new
       × (text ≡ sample_text raw files list time s result new.frames)
 

@@ -4,6 +4,7 @@
 --     known_registers machine registers      the registers under DWARF's numbers
 --     start_of machine user      the innermost frame of a sample, or why it has none
 --     IsUnwound .. modules machine user old result new      what is returned and written
+--     HasRoom frames      there is room for as many frames as a stack may have
 use Rattle.std.specs.Prelude.{◌≡◌, ℕ, ◌≤◌, Bool, true, false, List, length, drop, take, map, Option, Some, None, Result, Ok, Err, ok_or, ◌==◌, if◌then◌else◌}
 use Rattle.std.specs.List.{range_with_len}
 use Rattle.std.specs.Option.{option_and_then}
@@ -68,6 +69,13 @@ beginning_of machine user = and_then (of_64_bits user.registers) (beginning_by m
 -- the numbers that can be read: the bytes of the stack from the stack pointer on, the least significant byte first
 abbrev pub memory_of : List ℕ → ℕ → ℕ → ℕ → Option ℕ
 memory_of stack stack_pointer = number_in (slice_over stack false) stack_pointer
+
+-- how many frames a stack may have
+abbrev pub most_frames : ℕ
+most_frames = 4096
+
+abbrev pub HasRoom : List StackFrame → Type 0
+HasRoom frames = length frames ≡ most_frames
 
 -- What a walk reads and writes.
 pub record Room : Type 0 where

@@ -89,10 +89,10 @@ fn push_name<'run>(names: &mut Vec<&'run [u8]>, name: Option<&'run [u8]>) -> Res
 }
 
 /// The name of the file that a record says is mapped as code.
-fn code_name<'run>(record: &Record<'run>) -> Option<&'run [u8]>
-    ensures { option_map (λ name. name.now) result ≡ code_name (record_view record.now).event }
+fn code_name<'run>(item: &Record<'run>) -> Option<&'run [u8]>
+    ensures { option_map (λ name. name.now) result ≡ code_name (record_view item.now).event }
 {
-    match record.event {
+    match item.event {
         Event::Mapping(mapping) if mapping.is_executable => Some(mapping.name),
         _ => None,
     }

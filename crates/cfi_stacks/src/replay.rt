@@ -51,15 +51,15 @@ impl<'a, 'run> Replay<'a, 'run> {
     /// whether they were made anew; else they are those of before.
     ///
     /// Fails where memory is refused.
-    pub fn follow(&mut self, record: &Record<'_>) -> Result<bool, AllocError>
+    pub fn follow(&mut self, item: &Record<'_>) -> Result<bool, AllocError>
         ensures processes { OnOk result ((pid : ℕ) → replayed self.new pid
-            ≡ after (files_in self.old) (record_view record.now).event (replayed self.old) pid) }
+            ≡ after (files_in self.old) (record_view item.now).event (replayed self.old) pid) }
         ensures modules { OnOk result
-            (AreModulesFor (record_view record.now).event self.new) }
+            (AreModulesFor (record_view item.now).event self.new) }
         ensures same { IfOk result (λ anew. anew ≡ false → self.new.modules ≡ self.old.modules) }
         ensures files { files_in self.new ≡ files_in self.old }
     {
-        match record.event {
+        match item.event {
             Event::Mapping(mapping) => {
                 self.map(&mapping)?;
                 Ok(false)

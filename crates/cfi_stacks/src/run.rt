@@ -16,6 +16,7 @@ ghost use Rattle.cfi_stacks.specs.ProfileOutputs.{IsTextOf, ended, perf_refusal}
 ghost use Rattle.cfi_stacks.specs.ProfileOutputs.{unknown_machine};
 ghost use Rattle.cfi_stacks.specs.Replays.{AreModulesFor, files_in, replayed};
 ghost use Rattle.cfi_stacks.specs.Rooms.{IsRoomFor, KeepsNoRows};
+ghost use Rattle.cfi_stacks.specs.SampleStacks.{HasRoom};
 
 use crate::profile_files::{
     OpenedFile, Opener, ProfileFile, mapped_names, profile_files, read_files, sample_count,
@@ -296,7 +297,8 @@ fn print_in<W: Write>(
     error: Option<PerfError>,
     output: &mut W,
 ) -> io::Result<u8>
-    requires { KeepsNoRows room }
+    requires rows { KeepsNoRows room }
+    requires frames { HasRoom room.frames.items }
     ensures { PrintsSome (λ line. IsPrinted raw machine (map known_view files.now)
         (map record_view records.now) error line)
         (W.contents output.old) (W.contents output.new) result }
@@ -306,7 +308,9 @@ fn print_in<W: Write>(
     for record in records {
         match replay.follow(record) {
             Ok(has_new_modules) => {
-                room.renew(has_new_modules);
+                if has_new_modules {
+                    room.forget_rows();
+                }
                 print_followed(raw, machine, &replay, record, &mut room, output)?;
             }
             Err(_) => return write_refusal(output, Error::OutOfMemory),
@@ -320,25 +324,25 @@ fn print_followed<W: Write>(
     raw: bool,
     machine: SampleMachine,
     replay: &Replay<'_, '_>,
-    record: &Record<'_>,
+    item: &Record<'_>,
     room: &mut Room,
     output: &mut W,
 ) -> io::Result<()>
-    requires modules { AreModulesFor (record_view record.now).event replay.now }
+    requires modules { AreModulesFor (record_view item.now).event replay.now }
     requires cached { IsRoomFor replay.now.modules.items room.old }
     ensures printed { (text : List ℕ)
         × Writes (W.contents output.old) (W.contents output.new) result text
-        × IsTextOf raw machine (files_in replay.now) (replayed replay.now) record.now.time
-        (record_view record.now).event text }
+        × IsTextOf raw machine (files_in replay.now) (replayed replay.now) item.now.time
+        (record_view item.now).event text }
     ensures cached { IsRoomFor replay.now.modules.items room.new }
 {
-    match record.event {
+    match item.event {
         Event::Sample(sample) => print_sample(
             raw,
             machine,
             &replay.code(sample.pid),
             replay.modules(),
-            record.time,
+            item.time,
             &sample,
             room,
             output,

@@ -48,7 +48,8 @@ pub struct Innermost {
 /// the last sample left there. The registers of the innermost frame are the sample's, under DWARF's
 /// numbers; its memory is the sample's copy of the stack, which begins at the stack pointer.
 /// Everything else is as in `cfi_step::unwind_cached`, by whose condition the rows in the cache are
-/// those of these modules. A row's expression may do 1000 operations.
+/// those of these modules; an empty slice is right for any modules. A row's expression may do 1000
+/// operations.
 ///
 /// Fails with the reason why there are no frames, and then writes nothing. Over a fixed storage it
 /// does not allocate.

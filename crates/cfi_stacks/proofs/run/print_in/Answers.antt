@@ -3,13 +3,14 @@ use Rattle.cfi_perf.specs.Events.{record_view}
 use Rattle.cfi_stacks.specs.KnownFiles.{KnownFile, known_view}
 use Rattle.cfi_stacks.specs.ProfileOutputs.{IsTextOf}
 use Rattle.cfi_stacks.specs.Replays.{after, replayed}
-use Rattle.cfi_stacks.proofs.RoomLemmas.{renewed, room_for_all}
+use Rattle.cfi_stacks.proofs.RoomLemmas.{room_for_all, room_for_new, room_for_same}
 use Rattle.cfi_stacks.proofs.RunLemmas.{all_records, broken, next_record, none_followed, one_followed, printed, refused}
+use Rattle.cfi_stacks.proofs.run.print_in.Goals.{then-has_new_modules, else-has_new_modules}
 use Rattle.cfi_stacks.proofs.run.print_in.Goals as goal
 
 pub loop-record-init : goal.loop-record-init
 loop-record-init g c =
-    (c.new-replay.ensures.files, none_followed c.args.raw c.args.machine (map known_view c.args.files.now) (replayed c.new-replay.result) (g.W.Write.contents c.args.output.now) c.new-replay.ensures.nothing, room_for_all c.new-replay.result.modules.items c.args.room c.requires)
+    (c.new-replay.ensures.files, none_followed c.args.raw c.args.machine (map known_view c.args.files.now) (replayed c.new-replay.result) (g.W.Write.contents c.args.output.now) c.new-replay.ensures.nothing, room_for_all c.new-replay.result.modules.items c.args.room c.requires.frames c.requires.rows)
 
 pub returns-in-Err : goal.returns-in-Err
 returns-in-Err g c =
@@ -52,5 +53,10 @@ loop-record-preserved g c =
 
 pub print_followed-requires-clause-cached : goal.print_followed-requires-clause-cached
 print_followed-requires-clause-cached g c =
-    renewed c.loop-record.replay.modules.items c.follow.new.self.modules.items c.loop-record.room c.renew.new.self c.in-Ok.has_new_modules
-    (λ none. ap (λ list. list.items) (c.in-Ok.ensures.same none)) c.renew.ensures.renewed c.renew.ensures.same c.loop-record.invariant.2
+    let before = c.loop-record.replay.modules.items in
+    let now = c.follow.new.self.modules.items in
+    let room = c.if-has_new_modules.room in
+    elim c.if-has_new_modules.branch [
+      | then-has_new_modules w ↦ room_for_new now c.loop-record.room w.forget_rows.new.self room w.room-is w.forget_rows.ensures.frames w.forget_rows.ensures.rows c.loop-record.invariant.2.0
+      | else-has_new_modules w ↦ room_for_same before now c.loop-record.room room (ap (λ list. list.items) (c.in-Ok.ensures.same w.if-has_new_modules.false)) w.room-is c.loop-record.invariant.2
+    ]

@@ -1,11 +1,11 @@
-use Rattle.std.proofs.Common.{◌∙◌, ap, map, refl, rules}
+use Rattle.std.proofs.Common.{◌∙◌, ap, length, map, refl, rules}
 use Rattle.cfi_perf.specs.Samples.{sample_view}
 use Rattle.cfi_step.specs.ModuleLists.{module_list}
 use Rattle.cfi_stacks.specs.KnownFiles.{known_view}
 use Rattle.cfi_stacks.specs.Modules.{module_view}
 use Rattle.cfi_stacks.specs.ProfileOutputs.{sample_text}
 use Rattle.cfi_stacks.proofs.CodeLemmas.{modules_sorted}
-use Rattle.cfi_stacks.proofs.RoomLemmas.{rows_after, rows_before}
+use Rattle.cfi_stacks.proofs.RoomLemmas.{room_after, rows_after, rows_before}
 use Rattle.cfi_stacks.proofs.sample_text.print_sample.Goals as goal
 
 pub unreachable-requires : goal.unreachable-requires
@@ -16,14 +16,25 @@ pub returns-clause-printed : goal.returns-clause-printed
 returns-clause-printed g c = (
   sample_text c.args.raw (map known_view c.args.code.now.files.now) c.args.code.now.mappings.now c.args.time (sample_view c.args.sample.now) c.unwind_sample-found.result c.unwind_sample-found.new.frames,
   c.print_found.ensures,
-  (module_list c.in-Ok.modules, _, c.unwind_sample-found.result, _, ap (map module_view) c.in-Ok.ensures.sorted.1 ∙ c.requires.modules, c.unwind_sample-found.ensures.unwound, refl),
+  (
+    module_list c.in-Ok.modules,
+    _,
+    c.unwind_sample-found.result,
+    _,
+    ap (map module_view) c.in-Ok.ensures.sorted.1 ∙ c.requires.modules,
+    ap length c.as_mut_slice-frames.ensures.value ∙ c.requires.cached.0,
+    c.unwind_sample-found.ensures.unwound,
+    refl,
+  ),
 )
 
 pub unwind_sample-found-requires-clause-cached : goal.unwind_sample-found-requires-clause-cached
 unwind_sample-found-requires-clause-cached g c =
-    rows_before c.args.modules.now (module_list c.in-Ok.modules) c.args.room.now.cache.items c.as_mut_slice.result.now c.in-Ok.ensures.sorted.1 c.as_mut_slice.ensures.value c.requires.cached
+    rows_before c.args.modules.now (module_list c.in-Ok.modules) c.args.room.now.cache.items c.as_mut_slice.result.now c.in-Ok.ensures.sorted.1 c.as_mut_slice.ensures.value c.requires.cached.1
 
 pub returns-clause-cached : goal.returns-clause-cached
-returns-clause-cached g c =
-    rows_after c.args.modules.now (module_list c.in-Ok.modules) c.args.room.now.cache.len c.args.room.now.cache.items c.unwind_sample-found.new.cache (search rules) c.in-Ok.ensures.sorted.1
-    c.unwind_sample-found.ensures.cached
+returns-clause-cached g c = (
+  room_after c.args.room.now.frames.len c.args.room.now.frames.items c.unwind_sample-found.new.frames (search rules) c.requires.cached.0,
+  rows_after c.args.modules.now (module_list c.in-Ok.modules) c.args.room.now.cache.len c.args.room.now.cache.items c.unwind_sample-found.new.cache (search rules) c.in-Ok.ensures.sorted.1
+      c.unwind_sample-found.ensures.cached,
+)
