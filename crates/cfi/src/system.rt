@@ -1,5 +1,5 @@
 //! What a run has of the system: its words, the files that they name, and standard error.
-ghost use Rattle.std.specs.Prelude.{◌≡◌, ℕ, ⊤, List, Option, None, IfOk, length, map};
+ghost use Rattle.std.specs.Prelude.{◌≡◌, ◌≢◌, ℕ, ⊤, List, Option, None, IfErr, IfOk, length, map};
 ghost use Rattle.std.specs.Prelude.{option_map, refl, string_bytes};
 
 use cfi_files::FileInput;
@@ -57,7 +57,8 @@ pub trait System {
     ghost opens: { (system : Self) (path : List ℕ)
         → (opened : Option Self.File) × may_open system path opened };
 
-    /// Where the bytes of a file are known, a reader has these left when it is opened.
+    /// Of each file, and at any time, the bytes that it has left as a reader are those that it has
+    /// by parts. Of a file whose reads move on neither may be known.
     ghost same_bytes: { (file : Self.File) → Self.File.remaining file ≡ Self.File.bytes file };
 }
 
@@ -152,9 +153,14 @@ impl<F: Read + Seek> FileInput for HostFile<F> {
     ghost bytes = { λ _. None };
 
     fn length(&mut self, alloc: Global) -> Result<u64, InputError> {
+        if let Some(bytes) = &self.bytes {
+            return Ok(bytes.len() as u64);
+        }
         match self.file.seek(SeekFrom::End(0)) {
+            // Some files that the system makes up tell more than they have, as 4,096: then a part
+            // is too short, and can't be read.
             Ok(length) if length > 0 => Ok(length),
-            // A pipe has no end to seek, and files that the system makes up have none to tell.
+            // A pipe has no end to seek, and other files that the system makes up tell 0.
             _ => self.read_whole(alloc),
         }
     }
@@ -169,7 +175,9 @@ impl<F: Read + Seek> FileInput for HostFile<F> {
 
 impl<F: Read> HostFile<F> {
     /// Reads the file to its end, and returns how many bytes it has.
-    fn read_whole(&mut self, alloc: Global) -> Result<u64, InputError> {
+    fn read_whole(&mut self, alloc: Global) -> Result<u64, InputError>
+        ensures { IfErr result (λ e. e ≢ InputError.NotHexadecimal) }
+    {
         let bytes = read_all(alloc, &mut self.file)?;
         let length = bytes.len() as u64;
         self.bytes = Some(bytes);
@@ -184,7 +192,8 @@ fn read_at<F: Read + Seek>(
     offset: u64,
     size: u64,
 ) -> Result<Vec<u8>, InputError>
-    ensures { IfOk result (λ part. length part.items ≡ size) }
+    ensures read { IfOk result (λ part. length part.items ≡ size) }
+    ensures refused { IfErr result (λ e. e ≢ InputError.NotHexadecimal) }
 {
     let mut part = zeros(alloc, size)?;
     if file.seek(SeekFrom::Start(offset)).is_err() {
@@ -198,7 +207,8 @@ fn read_at<F: Read + Seek>(
 
 /// Returns so many zeros.
 fn zeros(alloc: Global, size: u64) -> Result<Vec<u8>, InputError>
-    ensures { IfOk result (λ zeros. length zeros.items ≡ size) }
+    ensures zeros { IfOk result (λ zeros. length zeros.items ≡ size) }
+    ensures refused { IfErr result (λ e. e ≢ InputError.NotHexadecimal) }
 {
     match vec![in alloc; 0u8; size as usize] {
         Ok(zeros) => Ok(zeros),

@@ -1,14 +1,17 @@
 -- Files of which the parts are read that are needed.
 --     IsPartRead known offset size part      what a read of a part gives
+--     IsPartRefused all offset size error      why a part of these bytes is not copied
 --     AreOfInput known image      the parts are of the bytes of a file, which are the known ones where these are known
 --     AreEnough symbols image      they have all that the call frames of the file need, and the symbols where these are needed
 --     IsEnoughOf known symbols image      both
-use Rattle.std.specs.Prelude.{◌≡◌, ◌+◌, ℕ, Bool, true, false, ◌&&◌, ◌||◌, List, [], ◌∷◌, length, Option, Some, IfOk, IfSome, nat_le}
+use Rattle.std.specs.Prelude.{◌≡◌, ◌<◌, ◌+◌, ◌⊎◌, ℕ, Bool, true, false, ◌&&◌, ◌||◌, List, [], ◌∷◌, length, Option, Some, IfOk, IfSome, nat_le}
 use Rattle.cfi_elf.specs.declared.error.ElfError.{ElfError}
 use Rattle.cfi_elf.specs.ElfFiles.{File, elf_file_of}
 use Rattle.cfi_elf.specs.Images.{Image, IsImageOf, IsNotRead, IsRead, Part, parts_view}
 use Rattle.cfi_elf.specs.Results.{part}
 use Rattle.cfi_elf.specs.SymbolTables.{symbol_table}
+use Rattle.cfi_programs.specs.declared.input.InputError.{InputError}
+use Rattle.cfi_programs.specs.declared.input.InputError.TheVariants.{Unreadable, OutOfMemory}
 use Rattle.cfi_files.specs.declared.parts.FileParts.{FileParts}
 use Rattle.cfi_files.specs.declared.request.Printed.{Printed}
 use Rattle.cfi_files.specs.declared.request.Printed.TheVariants.{Row, Rows, Dump, Table}
@@ -24,6 +27,10 @@ IsLength known n = IfSome known (λ all. n ≡ length all)
 -- size bytes, which are those from the offset on where the bytes of the file are known
 abbrev pub IsPartRead : Option (List ℕ) → ℕ → ℕ → List ℕ → Type 0
 IsPartRead known offset size read = (length read ≡ size) × IfSome known (λ all. part all offset size ≡ Some read)
+
+-- there is no memory for it, or the bytes end before it does
+abbrev pub IsPartRefused : List ℕ → ℕ → ℕ → InputError → Type 0
+IsPartRefused all offset size e = (e ≡ OutOfMemory) ⊎ ((e ≡ Unreadable) × (length all < offset + size))
 
 -- ---- what was read of it
 

@@ -1,11 +1,12 @@
 //! Files whose bytes are read where they are needed.
-ghost use Rattle.std.specs.Prelude.{◌≡◌, ℕ, List, Option, IfOk, Some};
-ghost use Rattle.cfi_files.specs.FileParts.{IsLength, IsPartRead};
+ghost use Rattle.std.specs.Prelude.{◌≡◌, ◌≢◌, ℕ, List, Option, IfErr, IfOk, Some};
+ghost use Rattle.cfi_files.specs.FileParts.{IsLength, IsPartRead, IsPartRefused};
 
 use cfi_programs::input::InputError;
 use std::alloc::Global;
 
-/// A file whose bytes are read where they are needed.
+/// A file whose bytes are read where they are needed. Its length is asked first: a file that can't
+/// be read by parts, as a pipe, is read for it.
 pub trait FileInput {
     /// All bytes of the file, where they are known.
     ghost bytes: { Self → Option (List ℕ) };
@@ -16,6 +17,7 @@ pub trait FileInput {
     /// the file has to be read for it.
     fn length(&mut self, alloc: Global) -> Result<u64, InputError>
         ensures length { IfOk result (λ length. IsLength (bytes self.old) length) }
+        ensures refused { IfErr result (λ e. e ≢ InputError.NotHexadecimal) }
         ensures same { bytes self.new ≡ bytes self.old };
 
     /// Reads `size` bytes from the offset on.
@@ -24,6 +26,7 @@ pub trait FileInput {
     /// `OutOfMemory`. Allocates for the bytes.
     fn read_part(&mut self, alloc: Global, offset: u64, size: u64) -> Result<Vec<u8>, InputError>
         ensures read { IfOk result (λ part. IsPartRead (bytes self.old) offset size part.items) }
+        ensures refused { IfErr result (λ e. e ≢ InputError.NotHexadecimal) }
         ensures same { bytes self.new ≡ bytes self.old };
 }
 
@@ -43,7 +46,8 @@ impl FileInput for &[u8] {
 /// Returns a copy of the `size` bytes from the offset on. Fails with `Unreadable` where there are
 /// fewer, and with `OutOfMemory`.
 pub fn copy_part(alloc: Global, bytes: &[u8], offset: u64, size: u64) -> Result<Vec<u8>, InputError>
-    ensures { IfOk result (λ part. IsPartRead (Some bytes.now) offset size part.items) }
+    ensures read { IfOk result (λ part. IsPartRead (Some bytes.now) offset size part.items) }
+    ensures refused { IfErr result (λ e. IsPartRefused bytes.now offset size e) }
 {
     match offset.checked_add(size) {
         Some(end) if end <= bytes.len() as u64 => {
@@ -55,7 +59,8 @@ pub fn copy_part(alloc: Global, bytes: &[u8], offset: u64, size: u64) -> Result<
 
 /// Returns a copy of the bytes.
 fn copy_of(alloc: Global, bytes: &[u8]) -> Result<Vec<u8>, InputError>
-    ensures { IfOk result (λ copy. copy.items ≡ bytes.now) }
+    ensures copied { IfOk result (λ copy. copy.items ≡ bytes.now) }
+    ensures refused { IfErr result (λ e. e ≡ InputError.OutOfMemory) }
 {
     match bytes.to_vec(alloc) {
         Ok(copy) => Ok(copy),

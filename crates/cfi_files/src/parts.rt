@@ -13,10 +13,10 @@ use cfi_programs::input::InputError;
 use std::alloc::Global;
 
 /// How many bytes are read at first: mostly they have the header and the program headers.
-const FIRST: u64 = 4096;
+const FIRST_SIZE: u64 = 4096;
 
 /// How many parts are read before the whole file is.
-const MANY: usize = 32;
+const MOST_PARTS: usize = 32;
 
 /// The parts of a file that were read.
 #[derive(Drop)]
@@ -72,9 +72,9 @@ fn is_apart(part: &FilePart, start: u64, end: u64) -> bool
 /// Reads the parts of a file that are needed for its sections of call frames, and if asked for
 /// those of its symbols.
 ///
-/// The first is the beginning of the file. Then what lacks is read, one part after the other; the
-/// whole file where a part has bytes that were read, or there are too many. Fails with `Unreadable`
-/// where a read fails, and with `OutOfMemory`. Allocates for the parts.
+/// The first is the beginning of the file. Then each missing part is read; the whole file where a
+/// part has bytes that were read, or there are too many. Fails with `Unreadable` where a read
+/// fails, and with `OutOfMemory`. Allocates for the parts.
 pub fn read_parts<I: FileInput>(
     alloc: Global,
     symbols: bool,
@@ -83,7 +83,7 @@ pub fn read_parts<I: FileInput>(
     ensures { IfOk result (λ parts. IsEnoughOf (I.bytes input.old) symbols (image_of parts)) }
 {
     let mut parts = begin(alloc, input)?;
-    for turn in 0..MANY {
+    for _ in 0..MOST_PARTS {
         match unread(parts.image(), symbols) {
             Some((offset, size)) => parts = with_part(alloc, parts, offset, size, input)?,
             None => return Ok(parts),
@@ -92,7 +92,8 @@ pub fn read_parts<I: FileInput>(
     read_rest(alloc, symbols, parts, input)
 }
 
-/// Reads the whole file.
+/// Reads the whole file. This is a guard that ends the reading of parts: some ten are asked for at
+/// most.
 fn read_rest<I: FileInput>(
     alloc: Global,
     symbols: bool,
@@ -115,7 +116,7 @@ fn begin<I: FileInput>(alloc: Global, input: &mut I) -> Result<FileParts, InputE
     ensures same { I.bytes input.new ≡ I.bytes input.old }
 {
     let length = input.length(alloc)?;
-    first_part(alloc, length, length.min(FIRST), input)
+    first_part(alloc, length, length.min(FIRST_SIZE), input)
 }
 
 /// Reads the first `size` bytes of a file of this length.
@@ -220,11 +221,14 @@ fn unread_in(file: &ElfFile<'_>, symbols: bool) -> Option<(u64, u64)>
     ensures debug_frame { IfNone result (HasDebugFrame (file_view file.now)) }
     ensures symbols { IfNone result (HasSymbols symbols (file_view file.now)) }
 {
-    match (unread_eh_frame(file), unread_debug_frame(file)) {
-        (None, None) => unread_symbols(file, symbols),
-        (Some(place), _) => Some(place),
-        (None, Some(place)) => Some(place),
+    // Each is a search by name, so the next is asked only where this one lacks nothing.
+    if let Some(place) = unread_eh_frame(file) {
+        return Some(place);
     }
+    if let Some(place) = unread_debug_frame(file) {
+        return Some(place);
+    }
+    unread_symbols(file, symbols)
 }
 
 /// Returns the same for `.eh_frame` and what belongs to it.
