@@ -31,6 +31,7 @@ impl<R: Reader> Memory for Window<R> {
     ghost number_at = { λ window address size.
         number_in (R.position window.bytes) window.base address size };
 
+    #[inline(always)]
     fn read(&self, address: u64, size: u8) -> Option<u64> {
         if address < self.base {
             return None;
@@ -44,9 +45,15 @@ impl<R: Reader> Memory for Window<R> {
 }
 
 /// Skips so many bytes, and reads a number.
+#[tactic(auto, unfolding(cfi_read_core::specs::Addresses::address))]
+#[inline(always)]
 fn number_behind<R: Reader>(input: &mut R, distance: u64, size: u8) -> cfi_read_core::Result<u64>
     ensures { ReadsValue R.position (behind distance size) input.old result input.new }
 {
     input.skip(R::Offset::from_u64(distance)?)?;
+    // Most programs have addresses of eight bytes.
+    if size == 8 {
+        return input.read_u64();
+    }
     input.read_address(size)
 }
