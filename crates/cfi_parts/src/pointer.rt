@@ -202,11 +202,7 @@ pub fn parse_encoded_value<R: Reader>(
 // Not inlined, since pointers are read in many places.
 #[tactic(auto, unfolding(crate::specs::Pointers::encoded_value))]
 #[inline(never)]
-fn parse_rare_value<R: Reader>(
-    encoding: DwEhPe,
-    address_size: u8,
-    input: &mut R,
-) -> Result<u64>
+fn parse_rare_value<R: Reader>(encoding: DwEhPe, address_size: u8, input: &mut R) -> Result<u64>
     requires { IsRareFormat encoding.0 }
     ensures { ReadsValue R.position (encoded_value encoding.0 address_size)
         input.old result input.new }
@@ -256,11 +252,7 @@ fn pointer_base<R: Reader>(
 // Not inlined, since pointers are read in many places.
 #[tactic(auto, unfolding(crate::specs::Pointers::base_of))]
 #[inline(never)]
-fn rare_base(
-    encoding: DwEhPe,
-    bases: &SectionBaseAddresses,
-    func_base: Option<u64>,
-) -> Result<u64>
+fn rare_base(encoding: DwEhPe, bases: &SectionBaseAddresses, func_base: Option<u64>) -> Result<u64>
     requires { IsRareApplication encoding.0 }
     ensures { (context : PointerContext) → context.bases ≡ bases.now →
         context.function ≡ func_base → IsBase encoding.0 context result }

@@ -11,10 +11,10 @@ loop-len-preserved g c =
     let upper = upper_is c.in_ok-start.field-0 c.args.address c.from-is_upper.result c.from-is_upper.ensures in
     record {
       narrowed = narrowed_half _ _ _ _ _ _ _ _ c.loop-len.invariant.narrowed (omega arith) (omega arith) halves
-      (answered_there _ _ _ _ _ c.loop-len.invariant.answers c.start.ensures.answered c.in_ok-start.was) upper;
+          (answered_there _ _ _ _ _ c.loop-len.invariant.answers c.start.ensures.answered c.in_ok-start.was) upper;
       answers = c.start.ensures.same ∙ c.loop-len.invariant.answers;
       calls = steps_halved _ _ _ _ _ _ c.loop-len.invariant.calls c.loop-len-test.true c.start.ensures.counted
-      (half_at_most _ _ _ _ _ halves upper);
+          (half_at_most _ _ _ _ _ halves upper);
     }
 
 pub returns-clause-found : goal.returns-clause-found
