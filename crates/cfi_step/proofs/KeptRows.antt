@@ -7,7 +7,6 @@ use Rattle.std.specs.Prelude.{is_some}
 use Rattle.std.proofs.lemmas.Option.{get_or_from_slice_get, slice_get_within}
 use Rattle.std.proofs.lemmas.List.Elements.{All-get_or, All-set}
 use Rattle.cfi_read_core.specs.declared.common.Register.{Register}
-use Rattle.cfi_read_core.specs.declared.error.Error.{Error}
 use Rattle.cfi_read_core.specs.ReadFunctions.{Position}
 use Rattle.cfi_state.specs.Machine.{Parts}
 use Rattle.cfi_state.specs.MappedStates.{map_row}

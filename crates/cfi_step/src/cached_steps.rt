@@ -133,11 +133,12 @@ fn step_by_kept<R: Reader<Offset = usize>, S: UnwindContextStorage<usize>, M: Me
         (section_view R.position loaded.now.frame loaded.now.bases) address
         (fde_view R.position (λ n. n) fde.now) loaded.now.file cache.old cache.new }
 {
+    let file = loaded.file;
     let is_trampoline = fde.is_signal_trampoline();
     let return_address = fde.cie().return_address_register();
     match fde.unwind_info_for_address(&loaded.frame, &loaded.bases, ctx, address) {
         Ok(row) => {
-            keep_row(cache, loaded.file, address, row, return_address, is_trampoline);
+            keep_row(cache, file, address, row, return_address, is_trampoline);
             step_by_row(
                 row,
                 &loaded.frame,

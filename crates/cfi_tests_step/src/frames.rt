@@ -210,7 +210,7 @@ pub fn module_at<'a>(
     bases: BaseAddresses,
 ) -> LoadedModule<'a, EndianSlice<'a, LittleEndian>>
     ensures file { result.file ≡ file }
-    ensures frame { result.frame ≡ frame }
+    ensures frame { result.frame ≡ frame.entry }
     ensures header { result.header ≡ None }
     ensures bases { result.bases ≡ bases }
 {
@@ -334,7 +334,11 @@ fn check_at_a_bias(rt: &impl Abort, alloc: Global, way: Way) -> Result<(), Fail>
         (0x4000_2008, false, Some(0x7018)),
     ];
     let all = [shown(&frames[0]), shown(&frames[1])];
-    assert_eq!(rt; (all, walk.count, walk.end), (written, 2, End::Outermost), "{way:?}");
+    assert_eq!(rt;
+        (all, walk.count, walk.end),
+        (written, 2, End::Outermost),
+        "{way:?}"
+    );
     Ok(())
 }
 
