@@ -1,5 +1,5 @@
 -- Rows that are kept for the next walk.
-use Rattle.std.proofs.Common.{◌≡◌, ◌∙◌, ℕ, Bool, true, false, List, length, Option, Some, None, Result, Ok, IfOk, sym, ap, subst, inl, inr, get_or, true≢false}
+use Rattle.std.proofs.Common.{◌≡◌, ◌∙◌, ℕ, Bool, false, List, length, Option, Some, None, Result, Ok, IfOk, sym, ap, subst, inl, inr, get_or, true≢false}
 use Rattle.std.specs.Borrow.{Bor}
 use Rattle.std.specs.List.{All, Contains, position, slice_get}
 use Rattle.std.specs.Option.{option_and_then}
