@@ -1,6 +1,8 @@
 -- A step in a module that C passes is one in the module that is made of it.
-use Rattle.std.proofs.Common.{◌≡◌, ◌∙◌, ℕ, true, List, Option, Some, None, Result, subst, ap}
+use Rattle.std.proofs.Common.{◌≡◌, ◌∙◌, ◌<◌, ◌^◌, ℕ, true, List, Option, Some, None, Result, subst, ap}
+use Rattle.std.specs.Borrow.{Bor}
 use Rattle.std.specs.Option.{option_map}
+use Rattle.std.proofs.Math.Nat.{add-mod_right, mod-eq_of_lt}
 use Rattle.cfi_read_core.specs.declared.error.Error.{Error}
 use Rattle.cfi_read_core.specs.ReadFunctions.{Position}
 use Rattle.cfi_read_core.specs.Windows.{slice_over}
@@ -15,9 +17,10 @@ use Rattle.gimli_cfi.specs.RowsByHeader.{FoundByHeader}
 use Rattle.cfi_expression.specs.declared.error.FrameError.{FrameError}
 use Rattle.cfi_expression.specs.Frames.{Frame}
 use Rattle.cfi_step.specs.declared.abi.Abi.{Abi}
-use Rattle.cfi_step.specs.declared.compiled.LoadedTable.{LoadedTable}
 use Rattle.cfi_step.specs.declared.module.LoadedModule.{LoadedModule}
 use Rattle.cfi_step.specs.declared.step.Caller.{Caller}
+use Rattle.cfi_compiled.specs.CompiledTables.{TableContents}
+use Rattle.cfi_step.specs.CompiledSteps.{address_in_file}
 use Rattle.cfi_step.specs.Modules.{IsFoundBy, IsStepByFound, IsStepIn, IsStepVia}
 use Rattle.cfi_step.specs.Steps.{IsStepBy}
 use Rattle.cfi_step.specs.Walks.{State, address_of}
@@ -40,17 +43,23 @@ module _ {R : Type 0} (position : R → Position) (size : ℕ) (loaded : LoadedM
       subst (λ (h : HeaderSection). FoundByHeader (eh_frame_of bases bytes) a h (parsed h) found) same_header
       (subst (λ (s : Section). FoundByHeader s a (unparsed_view position header size loaded.bases) (parsed (unparsed_view position header size loaded.bases)) found) same is)
 
+-- a file that isn't moved has the addresses of the process
+not_moved : (bias a : ℕ) → bias ≡ 0 → a < 2 ^ 64 → address_in_file bias a ≡ a
+not_moved bias a none fits = ap (λ (n : ℕ). address_in_file n a) none ∙ (add-mod_right a (2 ^ 64) ∙ mod-eq_of_lt fits)
+
 module _ {R : Type 0} (position : R → Position) (stack : CfiStack) (passed : CfiModule) (loaded : LoadedModule R) where
   pub as_passed : (s : State) (frame : Frame) (abi : Abi) (a : ℕ) (result : Result Caller FrameError) (caller : List (Option ℕ))
       → frame ≡ frame_of stack s → abi ≡ abi_of stack → a ≡ address_of s
       → (eh_frame_view position loaded.frame).position ≡ slice_over passed.section.now passed.bases.big_endian
       → section_view position loaded.frame loaded.bases ≡ eh_frame_of (sized stack.address_size passed.bases) passed.section.now
       → option_map (λ header. unparsed_view position header stack.address_size loaded.bases) loaded.header ≡ option_map (header_of (sized stack.address_size passed.bases)) (header_in passed.header.now)
-      → loaded.compiled ≡ None → IsStepIn position (λ (n : ℕ). n) frame abi (Some 192) (Some 4) true loaded a result caller
+      → loaded.compiled ≡ None → loaded.bias ≡ 0 → a < 2 ^ 64 → IsStepIn position (λ (n : ℕ). n) frame abi (Some 192) (Some 4) true loaded a result caller
       → IsStepInModule stack passed s result caller
-  as_passed s frame abi a result caller frames abis addresses bytes sections headers none is =
+  as_passed s frame abi a result caller frames abis addresses bytes sections headers none unmoved fits is =
+      let at : IsStepVia position (λ (n : ℕ). n) frame abi (Some 192) (Some 4) true loaded.compiled loaded a result caller =
+      subst (λ (n : ℕ). IsStepVia position (λ (n : ℕ). n) frame abi (Some 192) (Some 4) true loaded.compiled loaded n result caller) (not_moved loaded.bias a unmoved fits) is in
       let found : IsStepByFound position (λ (n : ℕ). n) frame abi (Some 192) (Some 4) true loaded a result caller =
-      subst (λ (o : Option LoadedTable). IsStepVia position (λ (n : ℕ). n) frame abi (Some 192) (Some 4) true o loaded a result caller) none is in
+      subst (λ (o : Option (Bor TableContents)). IsStepVia position (λ (n : ℕ). n) frame abi (Some 192) (Some 4) true o loaded a result caller) none at in
       let framed : IsStepByFound position (λ (n : ℕ). n) (frame_of stack s) abi (Some 192) (Some 4) true loaded a result caller =
       subst (λ (f : Frame). IsStepByFound position (λ (n : ℕ). n) f abi (Some 192) (Some 4) true loaded a result caller) frames found in
       let ruled : IsStepByFound position (λ (n : ℕ). n) (frame_of stack s) (abi_of stack) (Some 192) (Some 4) true loaded a result caller =

@@ -109,7 +109,8 @@ fn memory_of<'a>(stack: &CfiStack<'a>) -> Window<EndianSlice<'a, RunTimeEndian>>
     }
 }
 
-/// The module with its sections, whose addresses have this size.
+/// The module with its sections, whose addresses have this size. They are given at the addresses of
+/// the process, so there is no bias.
 fn loaded_of<'a>(
     module: &CfiModule<'a>,
     size: u8,
@@ -123,6 +124,7 @@ fn loaded_of<'a>(
         (λ header. unparsed_view (slice_position is_big) header size result.bases) result.header
         ≡ option_map (header_of (sized size module.now.bases)) (header_in module.now.header.now) }
     ensures compiled { result.compiled ≡ None }
+    ensures bias { result.bias ≡ 0 }
 {
     let bases = &module.bases;
     let mut frame = EhFrame::new(module.section, endian_of(bases));
@@ -131,6 +133,8 @@ fn loaded_of<'a>(
     LoadedModule {
         start: module.start,
         end: module.end,
+        bias: 0,
+        file: 0,
         frame,
         header: header_of(module),
         bases: bases_of(bases),

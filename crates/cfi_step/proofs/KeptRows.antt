@@ -1,9 +1,12 @@
 -- Rows that are kept for the next walk.
-use Rattle.std.proofs.Common.{◌≡◌, ◌∙◌, ℕ, Bool, true, false, List, length, Option, Some, Result, Ok, IfOk, sym, ap, subst, inl, inr, get_or, true≢false}
-use Rattle.std.specs.List.{All, Contains}
+use Rattle.std.proofs.Common.{◌≡◌, ◌∙◌, ℕ, Bool, false, List, length, Option, Some, None, Result, Ok, IfOk, sym, ap, subst, inl, inr, get_or, true≢false}
+use Rattle.std.specs.Borrow.{Bor}
+use Rattle.std.specs.List.{All, Contains, position, slice_get}
+use Rattle.std.specs.Option.{option_and_then}
+use Rattle.std.specs.Prelude.{is_some}
+use Rattle.std.proofs.lemmas.Option.{get_or_from_slice_get, slice_get_within}
 use Rattle.std.proofs.lemmas.List.Elements.{All-get_or, All-set}
 use Rattle.cfi_read_core.specs.declared.common.Register.{Register}
-use Rattle.cfi_read_core.specs.declared.error.Error.{Error}
 use Rattle.cfi_read_core.specs.ReadFunctions.{Position}
 use Rattle.cfi_state.specs.Machine.{Parts}
 use Rattle.cfi_state.specs.MappedStates.{map_row}
@@ -14,6 +17,7 @@ use Rattle.cfi_entry.specs.Fdes.{Covers, Fde}
 use Rattle.cfi_entry.specs.Sections.{Section}
 use Rattle.cfi_entry.specs.SectionViews.{eh_frame_view}
 use Rattle.cfi_unwind.specs.AddressRow.{IsRowOfFde}
+use Rattle.cfi_compiled.specs.CompiledTables.{TableContents}
 use Rattle.cfi_expression.specs.declared.error.FrameError.{FrameError}
 use Rattle.cfi_expression.specs.Frames.{Frame}
 use Rattle.cfi_step.specs.declared.abi.Abi.{Abi}
@@ -21,9 +25,10 @@ use Rattle.cfi_step.specs.declared.cached_rows.CachedRow.{CachedRow}
 use Rattle.cfi_step.specs.declared.module.LoadedModule.{LoadedModule}
 use Rattle.cfi_step.specs.declared.step.Caller.{Caller}
 use Rattle.cfi_step.specs.Callers.{AreRecovered}
-use Rattle.cfi_step.specs.CachedRows.{AreCachedFor, AreCachedIn, AreEmpty, HoldsRowOf, IsCachedIn, KeepsFor, KeepsRow, KeepsRowOf, Says, SaysRowOf, holds_row, parts_cached}
-use Rattle.cfi_step.specs.Modules.{IsFoundIn, IsStepByFound, first_module, module_section}
-use Rattle.cfi_step.specs.Steps.{IsStepBy, caller_by}
+use Rattle.cfi_step.specs.CachedRows.{AreAlike, AreCachedFor, AreCachedIn, AreEmpty, AreNumbered, HoldsRowOf, IsCachedIn, KeepsFor, KeepsIn, KeepsRow, KeepsRowOf, SaysRowOf, holds_row, parts_cached}
+use Rattle.cfi_step.specs.CompiledSteps.{address_in_file}
+use Rattle.cfi_step.specs.Modules.{IsFoundIn, IsStepByFound, IsStepIn, IsStepVia, first_module, has_code, module_section}
+use Rattle.cfi_step.specs.Steps.{caller_by}
 
 -- ---- a slot of a cache
 
@@ -33,16 +38,27 @@ all_has P xs x has all = subst P has.2 (All-get_or P xs has.0 x has.1 all)
 all_for : {X : Type 0} (P Q : X → Type 0) (xs : List X) → ((x : X) → P x → Q x) → All P xs → All Q xs
 all_for P Q xs then all k d inside = then (get_or xs k d) (all k d inside)
 
+-- ---- a module of several
+
+module _ {A : Type 0} (P : A → Type 0) (xs : List A) (all : All P xs) (x : A) where
+  has_at : (o : Option ℕ) → Some x ≡ option_and_then (slice_get xs) o → P x
+  has_at None is = absurd (cc)
+  has_at (Some k) is = subst P (get_or_from_slice_get xs k x x (sym is)) (all k x (slice_get_within xs k x (sym is)))
+
+pub module_has : {R : Type 0} (P : LoadedModule R → Type 0) (modules : List (LoadedModule R)) (loaded : LoadedModule R) (a : ℕ) →
+    Some loaded ≡ first_module modules a → All P modules → P loaded
+module_has P modules loaded a is all = has_at P modules all loaded (position (λ m. has_code m a) modules) is
+
 -- ---- a row that was found
 
 module _ (rule_limit stack_limit : Option ℕ) (copies_free : Bool) (section : Section) (a : ℕ) (fde : Fde) where
-  pub keeps_row : (row : Row ℕ) (ra : Register) (trampoline : Bool) (old new : List CachedRow) →
+  pub keeps_row : (file : ℕ) (row : Row ℕ) (ra : Register) (trampoline : Bool) (old new : List CachedRow) →
       IsRowOfFde rule_limit stack_limit copies_free section a fde (Ok (map_row (λ (n : ℕ). n) row)) →
-      ra ≡ fde.cie.return_address_register → trampoline ≡ is_trampoline fde.cie.augmentation → KeepsRow a row.parts ra trampoline old new →
-      KeepsRowOf rule_limit stack_limit copies_free section a fde old new
-  keeps_row row ra trampoline old new is_row is_ra is_tr (inl same) = inl same
-  keeps_row row ra trampoline old new is_row is_ra is_tr (inr (k, slot, written, holds)) =
-      inr (k, slot, written, λ b h. let (at, says) = holds b h in (at, (row, subst (λ (r : Row ℕ). IsRowOfFde rule_limit stack_limit copies_free section a fde (Ok r)) (same_row row) is_row, (says.0, says.1 ∙ is_ra, says.2 ∙ is_tr))))
+      ra ≡ fde.cie.return_address_register → trampoline ≡ is_trampoline fde.cie.augmentation → KeepsRow file a row.parts ra trampoline old new →
+      KeepsRowOf rule_limit stack_limit copies_free section a fde file old new
+  keeps_row file row ra trampoline old new is_row is_ra is_tr (inl same) = inl same
+  keeps_row file row ra trampoline old new is_row is_ra is_tr (inr (k, slot, written, holds)) =
+      inr (k, slot, written, λ other b h. let (of, at, says) = holds other b h in (of, at, (row, subst (λ (r : Row ℕ). IsRowOfFde rule_limit stack_limit copies_free section a fde (Ok r)) (same_row row) is_row, (says.0, says.1 ∙ is_ra, says.2 ∙ is_tr))))
 
 -- ---- a cache
 
@@ -51,42 +67,52 @@ module _ {R : Type 0} (position : R → Position) (size : ℕ) (rule_limit stack
   InCache loaded a slot =
       (fde : Fde) × IsFoundIn position size loaded a (Ok fde) × Covers fde a × SaysRowOf rule_limit stack_limit copies_free (module_section position size loaded) a fde slot
 
-  pub is_in_cache : (loaded : LoadedModule R) (a : ℕ) (cache : List CachedRow) (slot : CachedRow) → Contains cache slot → HoldsRowOf a slot →
-      AreCachedIn position size rule_limit stack_limit copies_free loaded a cache → InCache loaded a slot
-  is_in_cache loaded a cache slot has holds all = all_has (IsCachedIn position size rule_limit stack_limit copies_free loaded a) cache slot has all holds
+  pub is_in_cache : (loaded : LoadedModule R) (a : ℕ) (cache : List CachedRow) (slot : CachedRow) → Contains cache slot → HoldsRowOf loaded.file a slot →
+      AreCachedIn position size rule_limit stack_limit copies_free loaded cache → InCache loaded a slot
+  is_in_cache loaded a cache slot has holds all = all_has (IsCachedIn position size rule_limit stack_limit copies_free loaded) cache slot has all a holds
 
-  in_other : (loaded other : LoadedModule R) (a b : ℕ) (slot : CachedRow) → b ≡ a → other ≡ loaded → InCache loaded a slot → InCache other b slot
+  -- a row of a module is that of each with the same call frames
+  in_other : (loaded other : LoadedModule R) (a b : ℕ) (slot : CachedRow) → b ≡ a →
+      (loaded.frame ≡ other.frame) × (loaded.header ≡ other.header) × (loaded.bases ≡ other.bases) → InCache loaded a slot → InCache other b slot
   in_other loaded other a b slot at same is =
-      subst (λ (m : LoadedModule R). InCache m b slot) (sym same) (subst (λ (n : ℕ). InCache loaded n slot) (sym at) is)
+      let with_frames : loaded ≡ record loaded { frame = other.frame; header = other.header; bases = other.bases } =
+      λ i. record loaded { frame = same.0 i; header = same.1 i; bases = same.2 i } in
+      subst (λ (m : LoadedModule R). InCache m b slot) with_frames (subst (λ (n : ℕ). InCache loaded n slot) (sym at) is)
 
-  pub keeps_for : (loaded : LoadedModule R) (a : ℕ) (fde : Fde) (old new : List CachedRow) → IsFoundIn position size loaded a (Ok fde) → Covers fde a →
-      KeepsRowOf rule_limit stack_limit copies_free (module_section position size loaded) a fde old new →
-      KeepsFor position size rule_limit stack_limit copies_free loaded a old new
-  keeps_for loaded a fde old new found covers (inl same) b other one all =
-      subst (AreCachedIn position size rule_limit stack_limit copies_free other b) (sym same) all
-  keeps_for loaded a fde old new found covers (inr (k, slot, written, holds)) b other one all =
-      subst (AreCachedIn position size rule_limit stack_limit copies_free other b) (sym written)
-      (All-set (IsCachedIn position size rule_limit stack_limit copies_free other b) old k slot
-      (λ h. in_other loaded other a b slot (holds b h).0 (one (holds b h).0) (fde, found, covers, (holds b h).1)) all)
+  pub keeps_in : (loaded : LoadedModule R) (a : ℕ) (fde : Fde) (old new : List CachedRow) → IsFoundIn position size loaded a (Ok fde) → Covers fde a →
+      KeepsRowOf rule_limit stack_limit copies_free (module_section position size loaded) a fde loaded.file old new →
+      KeepsIn position size rule_limit stack_limit copies_free loaded old new
+  keeps_in loaded a fde old new found covers (inl same) other alike all =
+      subst (AreCachedIn position size rule_limit stack_limit copies_free other) (sym same) all
+  keeps_in loaded a fde old new found covers (inr (k, slot, written, holds)) other alike all =
+      subst (AreCachedIn position size rule_limit stack_limit copies_free other) (sym written)
+      (All-set (IsCachedIn position size rule_limit stack_limit copies_free other) old k slot
+      (λ b h. let (of, at, says) = holds other.file b h in in_other loaded other a b slot at (alike (sym of)) (fde, found, covers, says)) all)
 
-  pub same_kept : (loaded : LoadedModule R) (a : ℕ) (old new : List CachedRow) → new ≡ old → KeepsFor position size rule_limit stack_limit copies_free loaded a old new
-  same_kept loaded a old new same b other one all = subst (AreCachedIn position size rule_limit stack_limit copies_free other b) (sym same) all
+  -- what a walk in one module keeps, by the modules of the process
+  pub kept_in_all : (modules : List (LoadedModule R)) (loaded : LoadedModule R) (a : ℕ) (old new : List CachedRow) → Some loaded ≡ first_module modules a →
+      KeepsIn position size rule_limit stack_limit copies_free loaded old new → KeepsFor position size rule_limit stack_limit copies_free modules old new
+  kept_in_all modules loaded a old new there keeps other alike all =
+      keeps other (module_has (λ m. AreAlike m other) modules loaded a there alike) all
 
-  same_module : (loaded other : LoadedModule R) (found : Option (LoadedModule R)) → Some other ≡ found → Some loaded ≡ found → other ≡ loaded
-  same_module loaded other found e f = cc
+  pub kept_then : (modules : List (LoadedModule R)) (old next new : List CachedRow) → KeepsFor position size rule_limit stack_limit copies_free modules old next →
+      KeepsFor position size rule_limit stack_limit copies_free modules next new → KeepsFor position size rule_limit stack_limit copies_free modules old new
+  kept_then modules old next new first then other alike all = then other alike (first other alike all)
 
-  pub kept_for_all : (modules : List (LoadedModule R)) (loaded : LoadedModule R) (a : ℕ) (old new : List CachedRow) → Some loaded ≡ first_module modules a →
-      KeepsFor position size rule_limit stack_limit copies_free loaded a old new →
-      AreCachedFor position size rule_limit stack_limit copies_free modules old → AreCachedFor position size rule_limit stack_limit copies_free modules new
-  kept_for_all modules loaded a old new there keeps before b other is =
-      keeps b other (λ at. same_module loaded other (first_module modules b) is (there ∙ ap (first_module modules) (sym at))) (before b other is)
+  pub kept_for_numbered : (modules : List (LoadedModule R)) (old new : List CachedRow) → AreNumbered modules →
+      KeepsFor position size rule_limit stack_limit copies_free modules old new → AreCachedFor position size rule_limit stack_limit copies_free modules old →
+      AreCachedFor position size rule_limit stack_limit copies_free modules new
+  kept_for_numbered modules old new numbered keeps before k d inside = keeps (get_or modules k d) (numbered k d inside) (before k d inside)
 
   -- an empty cache is right for any modules
+  empty_in : (loaded : LoadedModule R) (cache : List CachedRow) → AreEmpty cache → AreCachedIn position size rule_limit stack_limit copies_free loaded cache
+  empty_in loaded cache empty =
+      all_for (λ slot. holds_row slot ≡ false) (IsCachedIn position size rule_limit stack_limit copies_free loaded) cache
+      (λ slot none a holds. absurd (true≢false (sym holds.0 ∙ none))) empty
+
   pub empty_for_all : (modules : List (LoadedModule R)) (cache : List CachedRow) → AreEmpty cache →
       AreCachedFor position size rule_limit stack_limit copies_free modules cache
-  empty_for_all modules cache empty a loaded is =
-      all_for (λ slot. holds_row slot ≡ false) (IsCachedIn position size rule_limit stack_limit copies_free loaded a) cache
-      (λ slot none holds. absurd (true≢false (sym holds.0 ∙ none))) empty
+  empty_for_all modules cache empty k d inside = empty_in (get_or modules k d) cache empty
 
 -- ---- a step by a slot
 
@@ -117,3 +143,17 @@ module _ {R : Type 0} (position : R → Position) (frame : Frame) (abi : Abi) (r
           ),
         ),
       )
+
+  -- ---- a step without a compiled table
+
+  by_found_alone : (o : Option (Bor TableContents)) → is_some o ≡ false → IsStepByFound position (λ (n : ℕ). n) frame abi rule_limit stack_limit copies_free loaded a result caller →
+      IsStepVia position (λ (n : ℕ). n) frame abi rule_limit stack_limit copies_free o loaded a result caller
+  by_found_alone None none is = is
+  by_found_alone (Some table) none is = absurd (true≢false none)
+
+  pub step_without_table : (b : ℕ) → is_some loaded.compiled ≡ false → a ≡ address_in_file loaded.bias b →
+      IsStepByFound position (λ (n : ℕ). n) frame abi rule_limit stack_limit copies_free loaded a result caller →
+      IsStepIn position (λ (n : ℕ). n) frame abi rule_limit stack_limit copies_free loaded b result caller
+  step_without_table b none at is =
+      subst (λ (n : ℕ). IsStepVia position (λ (n : ℕ). n) frame abi rule_limit stack_limit copies_free loaded.compiled loaded n result caller) at
+      (by_found_alone loaded.compiled none is)

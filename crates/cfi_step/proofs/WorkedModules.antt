@@ -16,7 +16,7 @@ below_its_own = refl
 
 module _ {R : Type 0} (frame : EhFrame R) (bases : BaseAddresses) where
   abbrev code : ℕ → ℕ → LoadedModule R
-  code start end = record { start = start; end = end; frame = frame; header = None; bases = bases; compiled = None }
+  code start end = record { start = start; end = end; bias = 0; file = 0; frame = frame; header = None; bases = bases; compiled = None }
 
   abbrev in_order : List (LoadedModule R)
   in_order = code 1 5 ∷ code 5 5 ∷ code 5 9 ∷ code 12 13 ∷ []

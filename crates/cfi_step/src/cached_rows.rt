@@ -1,4 +1,4 @@
-//! A cache of rows by their addresses, for walks of many stacks of one process.
+//! A cache of rows by their files and addresses, for walks of many stacks.
 ghost use Rattle.std.specs.Prelude.{◌≡◌, IfSome};
 ghost use Rattle.std.specs.FinMap.{get};
 ghost use Rattle.std.specs.List.{Contains};
@@ -16,10 +16,11 @@ const RULES: usize = 8;
 /// 2 ^ 64 divided by the golden ratio: what addresses are multiplied with to be spread.
 const SPREAD: u64 = 0x9e37_79b9_7f4a_7c15;
 
-/// A slot of a cache of rows. It is empty, or holds the row of an address (DWARF 5 section 6.4.1)
-/// with what its CIE says of the return.
+/// A slot of a cache of rows. It is empty, or holds the row of an address of a file (DWARF 5 section
+/// 6.4.1) with what its CIE says of the return.
 #[derive(Drop)]
 pub struct CachedRow {
+    file: usize,
     address: u64,
     is_kept: bool,
     is_signal_trampoline: bool,
@@ -38,6 +39,7 @@ impl CachedRow {
         ensures { holds_row result ≡ false }
     {
         CachedRow {
+            file: 0,
             address: 0,
             is_kept: false,
             is_signal_trampoline: false,
@@ -56,12 +58,12 @@ impl CachedRow {
         self.is_kept = false;
     }
 
-    /// Whether it holds the row of the address.
+    /// Whether it holds the row of the address of the file.
     #[inline(always)]
-    fn is_of(&self, address: u64) -> bool
-        ensures { result ≡ true → HoldsRowOf address self.now }
+    fn is_of(&self, file: usize, address: u64) -> bool
+        ensures { result ≡ true → HoldsRowOf file address self.now }
     {
-        self.is_kept && self.address == address
+        self.is_kept && self.file == file && self.address == address
     }
 
     /// The register that holds the return address.
@@ -80,20 +82,23 @@ impl CachedRow {
         self.is_signal_trampoline
     }
 
-    /// Holds the row of the address, if it has few rules, and else nothing.
+    /// Holds the row of the address of the file, if it has few rules, and else nothing.
     fn keep<A: ArrayLike<Item = (Register, RegisterRule<usize>)>>(
         &mut self,
+        file: usize,
         address: u64,
         row: &UnwindTableRow<usize, A>,
         return_address: Register,
         is_signal_trampoline: bool,
     )
-        ensures { HoldsAtMost address row.now.parts return_address is_signal_trampoline self.new }
+        ensures { HoldsAtMost file address row.now.parts return_address is_signal_trampoline
+            self.new }
     {
         self.is_kept = false;
         self.rules.clear();
         let rules = row.registers().as_slice();
         if self.rules.try_extend_from_slice(rules).is_ok() {
+            self.file = file;
             self.address = address;
             self.cfa = *row.cfa();
             self.saved_args_size = row.saved_args_size();
@@ -143,7 +148,8 @@ fn rule_in(
     None
 }
 
-/// Empties a cache: what has to be done before it is used for other modules. Does not allocate.
+/// Empties a cache: what has to be done before a number means another file, or the size of an
+/// address or the type of the context is another one. Does not allocate.
 pub fn clear_rows(cache: &mut [CachedRow])
     ensures { AreEmpty cache.new }
 {
@@ -152,41 +158,43 @@ pub fn clear_rows(cache: &mut [CachedRow])
     }
 }
 
-/// The slot that holds the row of the address, if any.
+/// The slot that holds the row of the address of the file, if any.
 #[inline]
-pub(crate) fn held(cache: &[CachedRow], address: u64) -> Option<&CachedRow>
+pub(crate) fn held(cache: &[CachedRow], file: usize, address: u64) -> Option<&CachedRow>
     ensures { IfSome result (λ slot.
-        HoldsRowOf address slot.now × Contains cache.now slot.now) }
+        HoldsRowOf file address slot.now × Contains cache.now slot.now) }
 {
-    let index = index_of(address, cache.len());
-    if index < cache.len() && cache[index].is_of(address) {
+    let index = index_of(file, address, cache.len());
+    if index < cache.len() && cache[index].is_of(file, address) {
         Some(&cache[index])
     } else {
         None
     }
 }
 
-/// Keeps the row of the address in its slot, in place of the one there. If it has too many rules,
-/// the slot is empty afterwards.
+/// Keeps the row of the address of the file in its slot, in place of the one there. If it has too
+/// many rules, the slot is empty afterwards.
 pub(crate) fn keep_row<A: ArrayLike<Item = (Register, RegisterRule<usize>)>>(
     cache: &mut [CachedRow],
+    file: usize,
     address: u64,
     row: &UnwindTableRow<usize, A>,
     return_address: Register,
     is_signal_trampoline: bool,
 )
-    ensures { KeepsRow address row.now.parts return_address is_signal_trampoline
+    ensures { KeepsRow file address row.now.parts return_address is_signal_trampoline
         cache.old cache.new }
 {
-    let index = index_of(address, cache.len());
+    let index = index_of(file, address, cache.len());
     if index < cache.len() {
-        cache[index].keep(address, row, return_address, is_signal_trampoline);
+        cache[index].keep(file, address, row, return_address, is_signal_trampoline);
     }
 }
 
-/// The index of the slot for an address. Each slot holds its address, so any would do.
+/// The index of the slot for an address of a file. Each slot holds both, so any would do.
 #[inline]
-fn index_of(address: u64, count: usize) -> usize {
-    let spread = address.wrapping_mul(SPREAD) >> 32;
+fn index_of(file: usize, address: u64, count: usize) -> usize {
+    let mixed = address.wrapping_add((file as u64).wrapping_mul(SPREAD));
+    let spread = mixed.wrapping_mul(SPREAD) >> 32;
     (spread.wrapping_mul(count as u64) >> 32) as usize
 }

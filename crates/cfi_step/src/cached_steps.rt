@@ -4,7 +4,7 @@ ghost use Rattle.cfi_entry.specs.SectionViews.{eh_frame_view};
 ghost use Rattle.cfi_unwind.specs.FdeViews.{HasCieOf, IsFdeOf, fde_view};
 ghost use Rattle.gimli_cfi.specs.HeaderViews.{section_view};
 ghost use Rattle.cfi_expression.specs.Frames.{frame_view};
-ghost use Rattle.cfi_step.specs.CachedRows.{AreCachedIn, KeepsFor, KeepsRowOf};
+ghost use Rattle.cfi_step.specs.CachedRows.{AreCachedIn, KeepsIn, KeepsRowOf};
 ghost use Rattle.cfi_step.specs.Modules.{IsStepByFound, IsStepIn};
 ghost use Rattle.cfi_step.specs.Steps.{IsStepBy};
 
@@ -16,7 +16,8 @@ use cfi_expression::{Frame, FrameError, Memory};
 use gimli_cfi::{FrameDescriptionEntry, Reader, UnwindContext, UnwindContextStorage};
 
 /// The caller of a frame of a module's code, as `step_in_module`. If the module has no compiled
-/// table, by the row that the cache holds for the address, if it does; else that row is kept.
+/// table, by the row that the cache holds for the address in the file, if it does; else that row is
+/// kept.
 pub(crate) fn step_in_cached<R: Reader<Offset = usize>, S: UnwindContextStorage<usize>, M: Memory>(
     loaded: &LoadedModule<'_, R>,
     cache: &mut [CachedRow],
@@ -28,24 +29,24 @@ pub(crate) fn step_in_cached<R: Reader<Offset = usize>, S: UnwindContextStorage<
 ) -> Result<Caller, FrameError>
     requires room { length caller.old ≤ 0x10000 }
     requires cached { AreCachedIn R.position (frame_view M.number_at frame.now).size
-        S.Rules.limit S.Stack.limit S.Rules.copies_free loaded.now address cache.old }
+        S.Rules.limit S.Stack.limit S.Rules.copies_free loaded.now cache.old }
     ensures step { IsStepIn R.position (λ n. n) (frame_view M.number_at frame.now)
         abi.now S.Rules.limit S.Stack.limit S.Rules.copies_free
         loaded.now address result caller.new }
     ensures unwritten { OnErr result (caller.new ≡ caller.old) }
-    ensures kept { KeepsFor R.position (frame_view M.number_at frame.now).size
-        S.Rules.limit S.Stack.limit S.Rules.copies_free
-        loaded.now address cache.old cache.new }
+    ensures kept { KeepsIn R.position (frame_view M.number_at frame.now).size
+        S.Rules.limit S.Stack.limit S.Rules.copies_free loaded.now cache.old cache.new }
 {
     if loaded.compiled.is_some() {
         step_in_module(loaded, ctx, address, abi, frame, caller)
     } else {
+        let address = loaded.address_in_file(address);
         step_by_cached(loaded, cache, ctx, address, abi, frame, caller)
     }
 }
 
-/// The caller of a frame of a module's code, by the row that the cache holds for the address, or as
-/// `step_by_found`.
+/// The caller of a frame of a module's code, by the row that the cache holds for the address of the
+/// file, or as `step_by_found`.
 #[inline]
 fn step_by_cached<R: Reader<Offset = usize>, S: UnwindContextStorage<usize>, M: Memory>(
     loaded: &LoadedModule<'_, R>,
@@ -58,16 +59,15 @@ fn step_by_cached<R: Reader<Offset = usize>, S: UnwindContextStorage<usize>, M: 
 ) -> Result<Caller, FrameError>
     requires room { length caller.old ≤ 0x10000 }
     requires cached { AreCachedIn R.position (frame_view M.number_at frame.now).size
-        S.Rules.limit S.Stack.limit S.Rules.copies_free loaded.now address cache.old }
+        S.Rules.limit S.Stack.limit S.Rules.copies_free loaded.now cache.old }
     ensures step { IsStepByFound R.position (λ n. n) (frame_view M.number_at frame.now)
         abi.now S.Rules.limit S.Stack.limit S.Rules.copies_free
         loaded.now address result caller.new }
     ensures unwritten { OnErr result (caller.new ≡ caller.old) }
-    ensures kept { KeepsFor R.position (frame_view M.number_at frame.now).size
-        S.Rules.limit S.Stack.limit S.Rules.copies_free
-        loaded.now address cache.old cache.new }
+    ensures kept { KeepsIn R.position (frame_view M.number_at frame.now).size
+        S.Rules.limit S.Stack.limit S.Rules.copies_free loaded.now cache.old cache.new }
 {
-    match held(cache, address) {
+    match held(cache, loaded.file, address) {
         Some(row) => step_by_row(
             row,
             &loaded.frame,
@@ -97,9 +97,8 @@ fn step_by_found<R: Reader<Offset = usize>, S: UnwindContextStorage<usize>, M: M
         abi.now S.Rules.limit S.Stack.limit S.Rules.copies_free
         loaded.now address result caller.new }
     ensures unwritten { OnErr result (caller.new ≡ caller.old) }
-    ensures kept { KeepsFor R.position (frame_view M.number_at frame.now).size
-        S.Rules.limit S.Stack.limit S.Rules.copies_free
-        loaded.now address cache.old cache.new }
+    ensures kept { KeepsIn R.position (frame_view M.number_at frame.now).size
+        S.Rules.limit S.Stack.limit S.Rules.copies_free loaded.now cache.old cache.new }
 {
     match fde_in_module(loaded, frame.address_size.bytes(), address) {
         Ok(fde) => step_by_kept(&fde, loaded, cache, ctx, address, abi, frame, caller),
@@ -132,13 +131,14 @@ fn step_by_kept<R: Reader<Offset = usize>, S: UnwindContextStorage<usize>, M: Me
     ensures unwritten { OnErr result (caller.new ≡ caller.old) }
     ensures kept { KeepsRowOf S.Rules.limit S.Stack.limit S.Rules.copies_free
         (section_view R.position loaded.now.frame loaded.now.bases) address
-        (fde_view R.position (λ n. n) fde.now) cache.old cache.new }
+        (fde_view R.position (λ n. n) fde.now) loaded.now.file cache.old cache.new }
 {
+    let file = loaded.file;
     let is_trampoline = fde.is_signal_trampoline();
     let return_address = fde.cie().return_address_register();
     match fde.unwind_info_for_address(&loaded.frame, &loaded.bases, ctx, address) {
         Ok(row) => {
-            keep_row(cache, address, row, return_address, is_trampoline);
+            keep_row(cache, file, address, row, return_address, is_trampoline);
             step_by_row(
                 row,
                 &loaded.frame,

@@ -2,35 +2,13 @@
 ghost use Rattle.std.specs.Prelude.{◌≡◌, ◌≤◌, length, OnErr};
 ghost use Rattle.cfi_compiled.specs.CompiledTables.{frame_at};
 ghost use Rattle.cfi_expression.specs.Frames.{frame_view};
-ghost use Rattle.cfi_step.specs.CompiledSteps.{IsStepAsScanned, IsStepByFrame, address_in_file};
+ghost use Rattle.cfi_step.specs.CompiledSteps.{IsStepAsScanned, IsStepByFrame};
 
 use crate::abi::Abi;
 use crate::step::{Caller, step_by_row};
 use cfi_compiled::CompiledTable;
 use cfi_expression::{Frame, FrameError, Memory};
 use gimli_cfi::{_UnwindSectionPrivate, Reader};
-
-/// The compiled table of a file, and where the file is loaded.
-///
-/// The table is of the file's section, with the addresses that the file has. So one table serves a
-/// file in all processes, wherever each has loaded it.
-#[derive(Clone, Copy, Debug)]
-pub struct LoadedTable<'a> {
-    /// The rows of the file's `.eh_frame`.
-    pub rows: &'a CompiledTable,
-    /// An address of the process less that of the file, modulo 2^64.
-    pub bias: u64,
-}
-
-impl LoadedTable<'_> {
-    /// The address that the file has for an address of the process: it is less by the bias, modulo
-    /// 2^64.
-    pub fn address_in_file(&self, address: u64) -> u64
-        ensures { result ≡ address_in_file self.now.bias address }
-    {
-        address.wrapping_sub(self.bias)
-    }
-}
 
 /// The caller of a frame, by the row that a compiled table has for an address: `row_address` of the
 /// frame, as the table's section has it.

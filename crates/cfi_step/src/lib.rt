@@ -23,7 +23,7 @@ pub use abi::Abi;
 pub use cached_rows::{CachedRow, clear_rows};
 pub use cached_walk::unwind_cached;
 pub use cfi_expression::{AddressSize, Frame, FrameError, Memory, Window};
-pub use compiled::{LoadedTable, step_by_compiled};
+pub use compiled::step_by_compiled;
 pub use module::{LoadedModule, fde_by_header, fde_in_module, step_in_module};
 pub use modules::{Modules, OutOfOrder};
 pub use rows::RowRules;

@@ -15,8 +15,9 @@ ghost use Rattle.cfi_step.specs.Modules.{IsFoundIn, IsStepByFound, IsStepIn};
 ghost use Rattle.cfi_step.specs.Modules.{begins_from, has_code};
 
 use crate::abi::Abi;
-use crate::compiled::{LoadedTable, step_by_compiled};
+use crate::compiled::step_by_compiled;
 use crate::step::{Caller, step_by_fde};
+use cfi_compiled::CompiledTable;
 use cfi_expression::{Frame, FrameError, Memory};
 use gimli_cfi::{
     BaseAddresses, EhFrame, EhFrameHdr, EhFrameOffset, EhHdrTable, FrameDescriptionEntry, Reader,
@@ -24,20 +25,30 @@ use gimli_cfi::{
 };
 
 /// A module as it is loaded: its code, and its call frames.
+///
+/// The code is at the addresses of the process. The sections are at those that the file has, so
+/// that all processes share what is made of them, wherever each has loaded the file. A module whose
+/// sections are given at the addresses of the process has a bias of 0.
 #[derive(Clone, Copy, Debug)]
 pub struct LoadedModule<'a, R> {
     /// The first address of its code.
     pub start: u64,
     /// The first address after its code.
     pub end: u64,
+    /// How far the file is moved: an address of the file plus the bias, modulo 2^64, is that of the
+    /// process.
+    pub bias: u64,
+    /// A number that the modules of one file share. Only a cache of rows goes by it
+    /// (`unwind_cached`).
+    pub file: usize,
     /// `.eh_frame`.
     pub frame: EhFrame<R>,
     /// `.eh_frame_hdr`, if there is one.
     pub header: Option<EhFrameHdr<R>>,
-    /// Where the sections are loaded.
+    /// Where the sections are in the file's addresses.
     pub bases: BaseAddresses,
     /// The compiled table of the file's `.eh_frame`, if there is one. Then the header isn't asked.
-    pub compiled: Option<LoadedTable<'a>>,
+    pub compiled: Option<&'a CompiledTable>,
 }
 
 impl<R> LoadedModule<'_, R> {
@@ -48,6 +59,14 @@ impl<R> LoadedModule<'_, R> {
         self.start <= address && address < self.end
     }
 
+    /// The address that the file has for an address of the process: it is less by the bias, modulo
+    /// 2^64.
+    pub fn address_in_file(&self, address: u64) -> u64
+        ensures { result ≡ address_in_file self.now.bias address }
+    {
+        address.wrapping_sub(self.bias)
+    }
+
     /// Whether its code begins at or after an address, and does not end before it begins.
     pub(crate) fn begins_from(&self, low: u64) -> bool
         ensures { result ≡ begins_from low self.now }
@@ -56,9 +75,9 @@ impl<R> LoadedModule<'_, R> {
     }
 }
 
-/// The FDE of a module for an address, by the table of its header; by a scan of its section if it
-/// has no header, or one without a table. The address size is 1, 2, 4 or 8. A compiled table has no
-/// FDEs, so it isn't asked.
+/// The FDE of a module for an address of its file (`address_in_file`), by the table of its header;
+/// by a scan of its section if it has no header, or one without a table. The address size is 1, 2,
+/// 4 or 8. A compiled table has no FDEs, so it isn't asked.
 ///
 /// The FDE contains the address. Fails as `EhFrameHdr::parse` and `EhHdrTable::fde_for_address`, or
 /// as `scan_for_fde`. Does not allocate.
@@ -135,7 +154,7 @@ fn fde_by_table<R: Reader>(
 
 /// The caller of a frame of a module's code, by its address (`row_address`).
 ///
-/// If the module has a compiled table, by what that has for the address less the bias, as
+/// The address less the bias is looked up. If the module has a compiled table, by that, as
 /// `step_by_compiled`: then neither an FDE nor an instruction is read, and nothing allocates. Else
 /// by the FDE that `fde_in_module` finds. Fails with `FrameError::NoRow` as that, then as
 /// `step_by_fde`, which says what is written. Over a fixed storage it does not allocate.
@@ -153,19 +172,18 @@ pub fn step_in_module<R: Reader, S: UnwindContextStorage<R::Offset>, M: Memory>(
         loaded.now address result caller.new }
     ensures scan { IfSome loaded.now.compiled (λ table. IsStepAsScanned
         (frame_view M.number_at frame.now) (eh_frame_view R.position loaded.now.frame).position
-        abi.now table.rows.now (address_in_file table.bias address) result caller.new) }
+        abi.now table.now (address_in_file loaded.now.bias address) result caller.new) }
     ensures unwritten { OnErr result (caller.new ≡ caller.old) }
 {
-    match &loaded.compiled {
-        Some(table) => {
-            let address = table.address_in_file(address);
-            step_by_compiled(table.rows, &loaded.frame, address, abi, frame, caller)
-        }
+    let address = loaded.address_in_file(address);
+    match loaded.compiled {
+        Some(table) => step_by_compiled(table, &loaded.frame, address, abi, frame, caller),
         None => step_by_found(loaded, ctx, address, abi, frame, caller),
     }
 }
 
-/// The caller of a frame of a module's code, by the FDE that `fde_in_module` finds.
+/// The caller of a frame of a module's code, by the FDE that `fde_in_module` finds for an address
+/// of the file.
 fn step_by_found<R: Reader, S: UnwindContextStorage<R::Offset>, M: Memory>(
     loaded: &LoadedModule<'_, R>,
     ctx: &mut UnwindContext<R::Offset, S>,

@@ -1,9 +1,13 @@
 //! Stacks that are walked, with registers and memory made by hand.
+ghost use Rattle.std.specs.Prelude.{◌≡◌, None};
+ghost use Rattle.cfi_step.specs.CachedRows.{AreNumbered};
+ghost use Rattle.cfi_step.specs.ModuleLists.{module_list};
+
 use cfi_compiled::CompiledTable;
 use cfi_expression::{AddressSize, FrameError, Memory, Window};
 use cfi_step::{
-    Abi, CachedRow, End, LoadedModule, LoadedTable, Modules, Process, StackFrame, Walk, clear_rows,
-    unwind, unwind_cached,
+    Abi, CachedRow, End, LoadedModule, Modules, Process, StackFrame, Walk, clear_rows, unwind,
+    unwind_cached,
 };
 use cfi_tests_bytes::bytes_of;
 use gimli_cfi::{
@@ -17,7 +21,7 @@ use std::test::Fail;
 /// Two CIEs (CFA r7+8, r16 saved at CFA-8), of which the second is of signal trampolines; and FDEs:
 /// 0x1000 pushes r6; 0x2000 is the outermost frame; 0x3000 is its own caller; 0x4000 signs its
 /// return address; 0x5000 is a signal trampoline; 0x2100 is an outermost frame whose CFA is r7.
-const SECTION: &str = "10000000 00000000 01 00 01 78 10 0c0708 9001 0000 \
+pub const SECTION: &str = "10000000 00000000 01 00 01 78 10 0c0708 9001 0000 \
      1c000000 18000000 0010000000000000 2000000000000000 410e108602 000000 \
      18000000 38000000 0020000000000000 1000000000000000 0710 0000 \
      1c000000 54000000 0030000000000000 1000000000000000 0c0600 0810 000000 \
@@ -26,21 +30,21 @@ const SECTION: &str = "10000000 00000000 01 00 01 78 10 0c0708 9001 0000 \
      18000000 1c000000 0050000000000000 1000000000000000 00 000000 \
      1c000000 c4000000 0021000000000000 1000000000000000 0c0700 0710 000000";
 
-const NOTHING: StackFrame = StackFrame {
+pub const NOTHING: StackFrame = StackFrame {
     pc: 0,
     is_interrupted: false,
     cfa: None,
 };
 
 /// A frame's pc, whether it was interrupted, and its CFA.
-type Shown = (u64, bool, Option<u64>);
+pub type Shown = (u64, bool, Option<u64>);
 
-fn shown(frame: &StackFrame) -> Shown {
+pub fn shown(frame: &StackFrame) -> Shown {
     (frame.pc, frame.is_interrupted, frame.cfa)
 }
 
 /// The registers of a frame: r6, the stack pointer r7, and r16 for the return address.
-type Registers = (Option<u64>, Option<u64>, Option<u64>);
+pub type Registers = (Option<u64>, Option<u64>, Option<u64>);
 
 fn three(registers: &[Option<u64>; 17]) -> Registers {
     (registers[6], registers[7], registers[16])
@@ -160,37 +164,86 @@ const CASES: [Case; 9] = [
     ),
 ];
 
-/// Walks from a pc: r6 is 0x7100, r7 the stack pointer 0x7000, and r16 the pc. The module has a
-/// compiled table if there is a bias, at which it is then loaded. With a cache, it is the second
-/// walk.
+/// How the rows of a module are found.
+#[derive(Clone, Copy, Debug, PartialEq, Eq)]
+enum Way {
+    /// By a scan of its section.
+    Scan,
+    /// In a cache, where a first walk has kept those of such a scan.
+    Cache,
+    /// By a compiled table.
+    Table,
+}
+
+/// Walks from a pc, in one module that is loaded at a bias. The registers are as in `walked_in`.
 fn walked(
     alloc: Global,
-    bias: Option<u64>,
-    is_cached: bool,
+    way: Way,
+    bias: u64,
     pc: u64,
     memory: &[u8],
     frames: &mut [StackFrame],
 ) -> Result<(Walk, [Registers; 2]), Fail> {
     let bytes = bytes_of(alloc, SECTION)?;
-    let mut section = EhFrame::new(bytes.as_slice(), LittleEndian);
-    section.set_vendor(Vendor::AArch64);
+    let section = section_of(bytes.as_slice());
     let bases = BaseAddresses::default();
     let table = CompiledTable::new(alloc, &section, &bases)?;
-    let rows = &table;
-    let modules = [LoadedModule {
-        start: bias.unwrap_or(0).wrapping_add(0x1000),
-        end: bias.unwrap_or(0).wrapping_add(0x6000),
-        frame: section,
+    let mut module = module_at(bias, 0, section, bases);
+    if way == Way::Table {
+        module.compiled = Some(&table);
+    }
+    walked_in(alloc, &[module], way == Way::Cache, pc, memory, frames)
+}
+
+/// `.eh_frame` of AArch64, so that a return address may be signed.
+pub fn section_of(bytes: &[u8]) -> EhFrame<EndianSlice<'_, LittleEndian>> {
+    let mut section = EhFrame::new(bytes, LittleEndian);
+    section.set_vendor(Vendor::AArch64);
+    section
+}
+
+/// A module whose file has its code from 0x1000 up to 0x6000, without a compiled table.
+pub fn module_at<'a>(
+    bias: u64,
+    file: usize,
+    frame: EhFrame<EndianSlice<'a, LittleEndian>>,
+    bases: BaseAddresses,
+) -> LoadedModule<'a, EndianSlice<'a, LittleEndian>>
+    ensures file { result.file ≡ file }
+    ensures frame { result.frame ≡ frame.entry }
+    ensures header { result.header ≡ None }
+    ensures bases { result.bases ≡ bases }
+{
+    LoadedModule {
+        start: bias.wrapping_add(0x1000),
+        end: bias.wrapping_add(0x6000),
+        bias,
+        file,
+        frame,
         header: None,
         bases,
-        compiled: bias.map(|bias| LoadedTable { rows, bias }),
-    }];
+        compiled: None,
+    }
+}
+
+/// Walks from a pc: r6 is 0x7100, r7 the stack pointer 0x7000, and r16 the pc; the memory is that
+/// from 0x7000 on. With a cache, it is the second walk.
+pub fn walked_in(
+    alloc: Global,
+    modules: &[LoadedModule<'_, EndianSlice<'_, LittleEndian>>],
+    is_cached: bool,
+    pc: u64,
+    memory: &[u8],
+    frames: &mut [StackFrame],
+) -> Result<(Walk, [Registers; 2]), Fail>
+    requires { AreNumbered modules.now }
+{
     let memory = Window {
         base: 0x7000,
         bytes: EndianSlice::new(memory, LittleEndian),
     };
     let process = Process {
-        modules: Modules::new(&modules)?,
+        modules: Modules::new(modules)?,
         memory: &memory,
         address_size: AddressSize::new(8),
         abi: Abi {
@@ -222,7 +275,9 @@ fn walked_again<R: Reader<Offset = usize>, M: Memory>(
     registers: &mut [Option<u64>; 17],
     caller: &mut [Option<u64>; 17],
     frames: &mut [StackFrame],
-) -> Walk {
+) -> Walk
+    requires { AreNumbered (module_list process.now.modules) }
+{
     let mut rows = [CachedRow::new(), CachedRow::new(), CachedRow::new()];
     clear_rows(&mut rows);
     let mut first = *registers;
@@ -234,24 +289,19 @@ fn walked_again<R: Reader<Offset = usize>, M: Memory>(
 /// By a scan of the section, by rows that a first walk kept, and by its compiled table.
 #[test]
 fn walks(rt: HostRuntime) -> Result<(), Fail> {
-    check_walks(&rt, rt.alloc(), None, false)?;
-    check_walks(&rt, rt.alloc(), None, true)?;
-    check_walks(&rt, rt.alloc(), Some(0), false)
+    check_walks(&rt, rt.alloc(), Way::Scan)?;
+    check_walks(&rt, rt.alloc(), Way::Cache)?;
+    check_walks(&rt, rt.alloc(), Way::Table)
 }
 
-fn check_walks(
-    rt: &impl Abort,
-    alloc: Global,
-    bias: Option<u64>,
-    is_cached: bool,
-) -> Result<(), Fail> {
+fn check_walks(rt: &impl Abort, alloc: Global, way: Way) -> Result<(), Fail> {
     for (pc, room, text, written, count, end, left) in &CASES {
         let memory = bytes_of(alloc, text)?;
         let mut frames = [NOTHING, NOTHING];
         let walk = walked(
             alloc,
-            bias,
-            is_cached,
+            way,
+            0,
             *pc,
             memory.as_slice(),
             &mut frames[..(*room).min(2)],
@@ -266,25 +316,29 @@ fn check_walks(
     Ok(())
 }
 
-/// A file that is loaded elsewhere, by the table of its own addresses.
+/// A file that is loaded elsewhere, with its own addresses.
 #[test]
 fn loaded_at_a_bias(rt: HostRuntime) -> Result<(), Fail> {
-    let memory = bytes_of(rt.alloc(), "6600000000000000 0820004000000000")?;
+    check_at_a_bias(&rt, rt.alloc(), Way::Scan)?;
+    check_at_a_bias(&rt, rt.alloc(), Way::Cache)?;
+    check_at_a_bias(&rt, rt.alloc(), Way::Table)
+}
+
+fn check_at_a_bias(rt: &impl Abort, alloc: Global, way: Way) -> Result<(), Fail> {
+    let memory = bytes_of(alloc, "6600000000000000 0820004000000000")?;
+    let memory = memory.as_slice();
     let mut frames = [NOTHING, NOTHING];
-    let (walk, _left) = walked(
-        rt.alloc(),
-        Some(0x4000_0000),
-        false,
-        0x4000_1001,
-        memory.as_slice(),
-        &mut frames,
-    )?;
+    let (walk, _left) = walked(alloc, way, 0x4000_0000, 0x4000_1001, memory, &mut frames)?;
     let written = [
         (0x4000_1001, true, Some(0x7010)),
         (0x4000_2008, false, Some(0x7018)),
     ];
     let all = [shown(&frames[0]), shown(&frames[1])];
-    assert_eq!(rt; (all, walk.count, walk.end), (written, 2, End::Outermost));
+    assert_eq!(rt;
+        (all, walk.count, walk.end),
+        (written, 2, End::Outermost),
+        "{way:?}"
+    );
     Ok(())
 }
 
@@ -296,7 +350,7 @@ fn memory_cut_at_every_length(rt: HostRuntime) -> Result<(), Fail> {
         let mut frames = [NOTHING, NOTHING];
         let whole = memory.as_slice();
         let cut = &whole[..length.min(whole.len())];
-        let (walk, _left) = walked(rt.alloc(), None, false, 0x1001, cut, &mut frames)?;
+        let (walk, _left) = walked(rt.alloc(), Way::Scan, 0, 0x1001, cut, &mut frames)?;
         let refused = End::Failed(FrameError::UnreadableMemory(0x7008));
         assert_eq!(rt; (walk.count, walk.end), (1, refused), "{length}");
     }

@@ -6,6 +6,8 @@
 #[cfg(test)]
 mod expressions;
 #[cfg(test)]
+mod files;
+#[cfg(test)]
 mod frames;
 #[cfg(test)]
 mod mappings;

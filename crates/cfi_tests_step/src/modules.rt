@@ -12,6 +12,8 @@ fn module(code: Code) -> Module {
     LoadedModule {
         start: code.0,
         end: code.1,
+        bias: 0,
+        file: 0,
         frame: EhFrame::new(&[], LittleEndian),
         header: None,
         bases: BaseAddresses::default(),

@@ -1,3 +1,4 @@
+use Rattle.std.proofs.Common.{arith}
 use Rattle.cfi_read_core.specs.AddressSizes.{size_in_bytes}
 use Rattle.cfi_read_core.specs.ByteOrder.{is_big}
 use Rattle.cfi_read_core.specs.Windows.{slice_position}
@@ -16,4 +17,5 @@ returns-clause-step c =
     })
     c.abi_of.result c.row_address-address.result c.step_in_module.result c.step_in_module.new.caller
     (λ i. record { registers = c.args.registers.now; memory = number_in (c.memory_of-memory.ensures.bytes i) (c.memory_of-memory.ensures.base i); size = c.new.ensures i })
-    c.abi_of.ensures c.row_address-address.ensures c.loaded_of-loaded.ensures.bytes c.loaded_of-loaded.ensures.section c.loaded_of-loaded.ensures.header c.loaded_of-loaded.ensures.compiled c.step_in_module.ensures.step
+    c.abi_of.ensures c.row_address-address.ensures c.loaded_of-loaded.ensures.bytes c.loaded_of-loaded.ensures.section c.loaded_of-loaded.ensures.header c.loaded_of-loaded.ensures.compiled
+    c.loaded_of-loaded.ensures.bias (omega arith) c.step_in_module.ensures.step

@@ -21,7 +21,7 @@ returns-in-Err-clause-step g c = (Err c.in-Err.error, c.in-Err.ensures.row, refl
 pub returns-in-Ok-clause-kept : goal.returns-in-Ok-clause-kept
 returns-in-Ok-clause-kept g c =
     keeps_row g.S.Rules.ArrayLike.limit g.S-Stack-ArrayLike.limit g.S.Rules.CopyList.copies_free (section_view g.R.Reader.position c.args.loaded.now.frame c.args.loaded.now.bases)
-    c.args.address (fde_view g.R.Reader.position (λ (n : ℕ). n) c.args.fde.now) c.in-Ok.row.now c.return_address_register-return_address.result
+    c.args.address (fde_view g.R.Reader.position (λ (n : ℕ). n) c.args.fde.now) c.args.loaded.now.file c.in-Ok.row.now c.return_address_register-return_address.result
     c.is_signal_trampoline-is_trampoline.result c.args.cache.now c.keep_row.new.cache c.in-Ok.ensures.row
     (c.return_address_register-return_address.ensures ∙ ap (λ cie. cie.return_address_register) c.cie.ensures)
     c.is_signal_trampoline-is_trampoline.ensures c.keep_row.ensures

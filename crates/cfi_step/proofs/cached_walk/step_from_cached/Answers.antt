@@ -1,9 +1,10 @@
 use Rattle.std.proofs.Common.{◌∙◌, ℕ, ap, subst, rules}
+use Rattle.cfi_step.specs.CachedRows.{AreCachedIn}
 use Rattle.cfi_step.specs.ModuleLists.{module_list}
 use Rattle.cfi_step.specs.Modules.{IsStepIn, first_module}
 use Rattle.cfi_step.specs.Walks.{State, IsStepInModule, address_of, frame_in}
 use Rattle.cfi_read_core.specs.AddressSizes.{size_in_bytes}
-use Rattle.cfi_step.proofs.KeptRows.{kept_for_all}
+use Rattle.cfi_step.proofs.KeptRows.{kept_in_all, module_has}
 use Rattle.cfi_step.proofs.Walking.{in_module, in_no_module}
 use Rattle.cfi_step.proofs.cached_walk.step_from_cached.Goals as goal
 
@@ -24,12 +25,13 @@ returns-in-Some-clause-step g c =
     c.row_address-address.ensures c.step_in_cached-step.ensures.step)
     (search rules) c.step_in_cached-step.ensures.unwritten c.checked.ensures
 
-pub returns-in-Some-clause-cached : goal.returns-in-Some-clause-cached
-returns-in-Some-clause-cached g c =
-    let modules = module_list c.args.process.now.modules in
-    let address = c.row_address-address.result in
-    kept_for_all g.R.Reader.position (size_in_bytes c.args.process.now.address_size) g.S.Rules.ArrayLike.limit g.S-Stack-ArrayLike.limit g.S.Rules.CopyList.copies_free
-    modules c.in-Some.loaded.now address c.args.cache.now c.step_in_cached-step.new.cache c.in-Some.ensures.module c.step_in_cached-step.ensures.kept c.requires.cached
+pub returns-in-Some-clause-kept : goal.returns-in-Some-clause-kept
+returns-in-Some-clause-kept g c =
+    kept_in_all g.R.Reader.position (size_in_bytes c.args.process.now.address_size) g.S.Rules.ArrayLike.limit g.S-Stack-ArrayLike.limit g.S.Rules.CopyList.copies_free
+    (module_list c.args.process.now.modules) c.in-Some.loaded.now c.row_address-address.result c.args.cache.now c.step_in_cached-step.new.cache
+    c.in-Some.ensures.module c.step_in_cached-step.ensures.kept
 
 pub step_in_cached-step-requires-clause-cached : goal.step_in_cached-step-requires-clause-cached
-step_in_cached-step-requires-clause-cached g c = c.requires.cached c.row_address-address.result c.in-Some.loaded.now c.in-Some.ensures.module
+step_in_cached-step-requires-clause-cached g c =
+    module_has (λ m. AreCachedIn g.R.Reader.position (size_in_bytes c.args.process.now.address_size) g.S.Rules.ArrayLike.limit g.S-Stack-ArrayLike.limit g.S.Rules.CopyList.copies_free m c.args.cache.now)
+    (module_list c.args.process.now.modules) c.in-Some.loaded.now c.row_address-address.result c.in-Some.ensures.module c.requires.cached
