@@ -32,7 +32,7 @@ pub record KnownFile : Type 0 where
   pub code : Option KnownCode
 
 abbrev pub known_view : ProfileFile → KnownFile
-known_view file = record { name = file.name.now; code = option_map code_view file.code }
+known_view file = record { name = file.name.bytes.now; code = option_map code_view file.code }
 
 -- ---- what is mapped at an address
 

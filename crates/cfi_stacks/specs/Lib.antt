@@ -5,6 +5,7 @@ pub mod Registers
 pub mod Modules
 pub mod Objects
 pub mod SampleStacks
+pub mod Names
 pub mod StackTexts
 pub mod Reasons
 pub mod KnownFiles

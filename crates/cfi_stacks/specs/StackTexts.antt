@@ -3,7 +3,7 @@
 --     head_line pid tid time      the line of the thread and the time
 --     without_function site      the same, less its function
 --     site_line raw site      the line of a frame, raw or with its function
-use Rattle.std.specs.Prelude.{ℕ, ◌-◌, ◌/◌, ◌%◌, ◌&&◌, Bool, nat_le, nat_lt, List, [], ◌∷◌, ◌++◌, Option, Some, None, codes, false, length, map, option_map, take, if◌then◌else◌}
+use Rattle.std.specs.Prelude.{ℕ, ◌-◌, ◌/◌, ◌%◌, Bool, List, [], ◌∷◌, ◌++◌, Option, Some, None, codes, false, length, map, option_map, take, if◌then◌else◌}
 use Rattle.std.specs.Fmt.{decimal, digits}
 use Rattle.cfi_elf.specs.FunctionPlaces.{Place, place_view}
 use Rattle.cfi_programs.specs.FunctionLines.{shown}
@@ -13,10 +13,6 @@ use Rattle.cfi_stacks.specs.declared.stack_lines.Site.{Site as SiteOfCode}
 -- behind as much of the fill as makes it as long
 abbrev pub filled : List ℕ → List ℕ → List ℕ
 filled fill text = take (length fill - length text) fill ++ text
-
--- whether a byte of a name is shown as it is
-abbrev pub is_printable : ℕ → Bool
-is_printable c = nat_le 0x20 c && nat_lt c 0x7f
 
 -- ---- the line before the frames
 
@@ -36,7 +32,7 @@ pub record Site : Type 0 where
   pub file : Option (List ℕ)
 
 abbrev pub site_view : SiteOfCode → Site
-site_view site = record { place = site.place; function = option_map place_view site.function; file = option_map (λ name. name.now) site.file }
+site_view site = record { place = site.place; function = option_map place_view site.function; file = option_map (λ name. name.bytes.now) site.file }
 
 abbrev pub without_function : Site → Site
 without_function site = record site { function = None }

@@ -21,6 +21,7 @@ mod sample_text;
 pub mod stack_lines;
 
 pub use mappings::{MappedCode, Mappings};
+pub use names::Name;
 pub use objects::Object;
 pub use processes::Processes;
 pub use profile_files::Opener;

@@ -3,12 +3,40 @@ ghost use Rattle.std.specs.Prelude.{◌≡◌, ◌++◌, OnOk, map};
 ghost use Rattle.std.specs.List.{list_all};
 ghost use Rattle.cfi_programs.specs.FunctionLines.{shown};
 ghost use Rattle.cfi_programs.specs.WriterOutput.{Writes};
-ghost use Rattle.cfi_stacks.specs.StackTexts.{is_printable};
+ghost use Rattle.cfi_stacks.specs.Names.{is_printable};
 
 use cfi_programs::lines::write_text;
 use cfi_programs::text::{Text, push};
 use std::io::Write;
 use std::{fmt, io};
+
+/// A name, and whether each of its bytes is printable ASCII, which is looked at once.
+#[derive(Clone, Copy, Debug)]
+pub struct Name<'run> {
+    bytes: &'run [u8],
+    is_plain: bool,
+    ghost checked: { is_plain ≡ list_all is_printable bytes.now },
+}
+
+impl<'run> Name<'run> {
+    /// The name of these bytes, each of which is looked at. Does not allocate.
+    pub fn new(bytes: &'run [u8]) -> Name<'run>
+        ensures { result.bytes ≡ bytes.entry }
+    {
+        Name {
+            bytes,
+            is_plain: is_plain(bytes),
+        }
+    }
+
+    /// The bytes of the name.
+    #[inline(always)]
+    pub fn bytes(&self) -> &'run [u8]
+        ensures { result ≡ self.now.bytes }
+    {
+        self.bytes
+    }
+}
 
 /// Writes a name. A byte that isn't printable ASCII is written as a question mark, so that no file
 /// steers a terminal.
@@ -16,10 +44,18 @@ pub fn write_name<W: Write>(output: &mut W, name: &[u8]) -> io::Result<()>
     ensures { Writes (W.contents output.old) (W.contents output.new) result
         (map shown name.now) }
 {
-    if is_plain(name) {
-        write_text(output, name)
+    write_known_name(output, Name::new(name))
+}
+
+/// Writes a name as `write_name` does, without a look at each byte where all are printable ASCII.
+pub fn write_known_name<W: Write>(output: &mut W, name: Name<'_>) -> io::Result<()>
+    ensures { Writes (W.contents output.old) (W.contents output.new) result
+        (map shown name.entry.bytes.now) }
+{
+    if name.is_plain {
+        write_text(output, name.bytes)
     } else {
-        write_shown(output, name)
+        write_shown(output, name.bytes)
     }
 }
 
@@ -28,8 +64,16 @@ pub fn write_name<W: Write>(output: &mut W, name: &[u8]) -> io::Result<()>
 pub fn push_name(text: &mut Text, name: &[u8]) -> fmt::Result
     ensures { OnOk result (text.new.items ≡ text.old.items ++ map shown name.now) }
 {
-    if is_plain(name) {
-        push(text, name)
+    push_known_name(text, Name::new(name))
+}
+
+/// Appends a name as `push_name` does, without a look at each byte. Fails as `push_name`.
+#[inline(always)]
+pub fn push_known_name(text: &mut Text, name: Name<'_>) -> fmt::Result
+    ensures { OnOk result (text.new.items ≡ text.old.items ++ map shown name.entry.bytes.now) }
+{
+    if name.is_plain {
+        push(text, name.bytes)
     } else {
         Err(fmt::Error)
     }

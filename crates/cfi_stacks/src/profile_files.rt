@@ -10,6 +10,7 @@ ghost use Rattle.cfi_stacks.specs.Replays.{code_name, is_among, names_of};
 ghost use Rattle.cfi_stacks.specs.Replays.{sample_count, with_name};
 
 use crate::file_code::FileCode;
+use crate::names::Name;
 use crate::objects::Object;
 use cfi_perf::{Event, Record};
 use cfi_programs::input::{InputError, read_all};
@@ -42,7 +43,7 @@ pub struct OpenedFile<'run> {
 #[derive(Drop)]
 pub struct ProfileFile<'run> {
     /// The name, as the mappings have it.
-    pub name: &'run [u8],
+    pub name: Name<'run>,
     /// Its code; `None` where it can't be opened or read, is no ELF file, or has no `.eh_frame`.
     pub code: Option<FileCode<'run>>,
 }
@@ -193,7 +194,7 @@ fn profile_file<'opened>(
         None => None,
     };
     Ok(ProfileFile {
-        name: opened.name,
+        name: Name::new(opened.name),
         code,
     })
 }

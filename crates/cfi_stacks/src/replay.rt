@@ -151,7 +151,9 @@ impl<'a, 'run> Replay<'a, 'run> {
         ensures { result ≡ object_of (files_in self.now) (mapping_view mapping.now) }
     {
         if mapping.is_executable {
-            self.files.iter().position(|file| file.name == mapping.name)
+            self.files
+                .iter()
+                .position(|file| file.name.bytes() == mapping.name)
         } else {
             None
         }

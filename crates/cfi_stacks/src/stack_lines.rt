@@ -7,7 +7,7 @@ ghost use Rattle.cfi_stacks.specs.StackTexts.{column_text, file_text, filled, fr
 ghost use Rattle.cfi_stacks.specs.StackTexts.{function_text, head_line, place_line, seconds_text};
 ghost use Rattle.cfi_stacks.specs.StackTexts.{site_line, site_view};
 
-use crate::names::{push_name, write_name};
+use crate::names::{Name, push_known_name, push_name, write_known_name, write_name};
 use cfi_elf::FunctionPlace;
 use cfi_programs::lines::write_text;
 use cfi_programs::text::{Text, push, push_address, push_decimal};
@@ -25,7 +25,7 @@ pub struct Site<'run> {
     /// The function whose bytes have the address.
     pub function: Option<FunctionPlace<'run>>,
     /// The name of the file that is mapped there.
-    pub file: Option<&'run [u8]>,
+    pub file: Option<Name<'run>>,
 }
 
 /// Room for the line of a frame while it is put together, and for its number.
@@ -89,6 +89,7 @@ fn push_site_line(text: &mut Text, number: &mut Text, raw: bool, site: Site<'_>)
 }
 
 /// Appends what `write_place_line` writes. Fails as `push_site_line`.
+#[inline]
 fn push_place_line(text: &mut Text, number: &mut Text, site: Site<'_>) -> fmt::Result
     ensures { OnOk result (text.new.items ≡ text.old.items ++ place_line (site_view site.entry)) }
 {
@@ -99,6 +100,7 @@ fn push_place_line(text: &mut Text, number: &mut Text, site: Site<'_>) -> fmt::R
 }
 
 /// Appends what `write_frame_line` writes. Fails as `push_site_line`.
+#[inline]
 fn push_frame_line(text: &mut Text, number: &mut Text, site: Site<'_>) -> fmt::Result
     ensures { OnOk result (text.new.items ≡ text.old.items ++ frame_line (site_view site.entry)) }
 {
@@ -110,6 +112,7 @@ fn push_frame_line(text: &mut Text, number: &mut Text, site: Site<'_>) -> fmt::R
 }
 
 /// Appends what `write_function` writes. Fails as `push_site_line`.
+#[inline]
 fn push_function(text: &mut Text, place: Option<FunctionPlace<'_>>) -> fmt::Result
     ensures { OnOk result (text.new.items
         ≡ text.old.items ++ function_text (option_map place_view place.entry)) }
@@ -120,6 +123,7 @@ fn push_function(text: &mut Text, place: Option<FunctionPlace<'_>>) -> fmt::Resu
     }
 }
 
+#[inline]
 fn push_place(text: &mut Text, place: FunctionPlace<'_>) -> fmt::Result
     ensures { OnOk result (text.new.items
         ≡ text.old.items ++ function_text (Some (place_view place.entry))) }
@@ -130,13 +134,14 @@ fn push_place(text: &mut Text, place: FunctionPlace<'_>) -> fmt::Result
 }
 
 /// Appends what `write_file` writes. Fails as `push_site_line`.
-fn push_file(text: &mut Text, name: Option<&[u8]>) -> fmt::Result
+#[inline(always)]
+fn push_file(text: &mut Text, name: Option<Name<'_>>) -> fmt::Result
     ensures { OnOk result (text.new.items
-        ≡ text.old.items ++ file_text (option_map (λ name. name.now) name.entry)) }
+        ≡ text.old.items ++ file_text (option_map (λ name. name.bytes.now) name.entry)) }
 {
     match name {
         None => push(text, b"[unknown]"),
-        Some(name) => push_name(text, name),
+        Some(name) => push_known_name(text, name),
     }
 }
 
@@ -202,6 +207,7 @@ fn push_seconds(text: &mut Text, time: u64) -> fmt::Result
 }
 
 /// Appends a text behind as much of the fill as makes it as long. Fails where there is no room.
+#[inline(always)]
 fn push_filled(text: &mut Text, fill: &[u8], shown: &[u8]) -> fmt::Result
     ensures { OnOk result (text.new.items ≡ text.old.items ++ filled fill.now shown.now) }
 {
@@ -221,6 +227,7 @@ fn write_column<W: Write>(output: &mut W, place: u64) -> io::Result<()>
 
 /// Appends what `write_column` writes; `number` is room for its digits. Fails where there is no
 /// room.
+#[inline]
 fn push_column(text: &mut Text, number: &mut Text, place: u64) -> fmt::Result
     ensures { OnOk result (text.new.items ≡ text.old.items ++ column_text place) }
 {
@@ -262,12 +269,12 @@ fn write_offset<W: Write>(output: &mut W, offset: u64) -> io::Result<()>
 }
 
 /// Writes the name of a file.
-fn write_file<W: Write>(output: &mut W, name: Option<&[u8]>) -> io::Result<()>
+fn write_file<W: Write>(output: &mut W, name: Option<Name<'_>>) -> io::Result<()>
     ensures { Writes (W.contents output.old) (W.contents output.new) result
-        (file_text (option_map (λ name. name.now) name.entry)) }
+        (file_text (option_map (λ name. name.bytes.now) name.entry)) }
 {
     match name {
         None => write_text(output, b"[unknown]"),
-        Some(name) => write_name(output, name),
+        Some(name) => write_known_name(output, name),
     }
 }

@@ -13,6 +13,6 @@ pub returns-then-mapping : goal.returns-then-mapping
 returns-then-mapping c =
     let files = c.args.self.now.files.now in
     let name = c.args.mapping.now.name.now in
-    let found = position_from_yields_List (λ (file : ProfileFile). bytes_eq file.name.now name) _ _ c.position.result c.position.ensures.ran (YieldsList-from_slice files cc) (λ x b q k. search (rules, tests)) in
+    let found = position_from_yields_List (λ (file : ProfileFile). bytes_eq file.name.bytes.now name) _ _ c.position.result c.position.ensures.ran (YieldsList-from_slice files cc) (λ x b q k. search (rules, tests)) in
     let there = ap₂ (λ (n m : ℕ). cond (nat_lt n m) (Some n) None) (place_mapped known_view (λ (file : KnownFile). bytes_eq file.name name) files) (sym (length-map files known_view)) in
     rw (c.if-mapping.true) (found ∙ there)
