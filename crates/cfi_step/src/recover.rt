@@ -104,6 +104,7 @@ fn write_register(caller: &mut [Option<u64>], register: Register, value: Option<
 }
 
 /// The value that a register has in the caller, by its rule; `None` also in place of an error.
+#[inline(always)]
 fn value_by_rule<R: Reader, Section: _UnwindSectionPrivate<R>, T: ReaderOffset, M: Memory>(
     rule: &RegisterRule<T>,
     section: &Section,
