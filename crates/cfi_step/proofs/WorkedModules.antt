@@ -1,8 +1,9 @@
--- Modules in order and out of order, and addresses in a file, worked out from the definitions alone.
-use Rattle.std.proofs.Common.{◌≡◌, ◌-◌, ◌^◌, ℕ, true, List, [], ◌∷◌, Some, None, refl}
+-- Modules in order and out of order, addresses in a file, and the numbers of files, worked out from the definitions alone.
+use Rattle.std.proofs.Common.{◌≡◌, ◌-◌, ◌^◌, ℕ, true, List, [], ◌∷◌, Some, None, refl, arith}
 use Rattle.cfi_parts.specs.declared.pointer.BaseAddresses.{BaseAddresses}
 use Rattle.cfi_entry.specs.declared.eh_frame.EhFrame.{EhFrame}
 use Rattle.cfi_step.specs.declared.module.LoadedModule.{LoadedModule}
+use Rattle.cfi_step.specs.CachedRows.{AreAlike}
 use Rattle.cfi_step.specs.CompiledSteps.{address_in_file}
 use Rattle.cfi_step.specs.Modules.{IsOutOfOrder, are_sorted, first_module}
 
@@ -46,3 +47,21 @@ module _ {R : Type 0} (frame : EhFrame R) (bases : BaseAddresses) where
 
   swapped : IsOutOfOrder (code 5 9 ∷ code 1 5 ∷ []) 1
   swapped = (refl, refl)
+
+  -- ---- numbers of files
+
+  abbrev loaded : ℕ → ℕ → EhFrame R → LoadedModule R
+  loaded bias file entries = record { start = 1; end = 5; bias = bias; file = file; frame = entries; header = None; bases = bases; compiled = None }
+
+  -- modules of one file, wherever it is loaded
+  one_file : AreAlike (loaded 4096 7 frame) (loaded 8192 7 frame)
+  one_file same = (refl, refl, refl)
+
+  module _ (other : EhFrame R) where
+    -- files with two numbers may have any sections
+    two_files : AreAlike (loaded 0 7 frame) (loaded 0 8 other)
+    two_files same = absurd (omega (arith, same))
+
+    -- one number for two sections
+    one_number_for_two : (frame ≡ other → ⊥) → AreAlike (loaded 0 7 frame) (loaded 0 7 other) → ⊥
+    one_number_for_two apart alike = apart (alike refl).0

@@ -16,8 +16,8 @@ const RULES: usize = 8;
 /// 2 ^ 64 divided by the golden ratio: what addresses are multiplied with to be spread.
 const SPREAD: u64 = 0x9e37_79b9_7f4a_7c15;
 
-/// A slot of a cache of rows. It is empty, or holds the row of an address of a file (DWARF 5 section
-/// 6.4.1) with what its CIE says of the return.
+/// A slot of a cache of rows. It is empty, or holds the row of an address of a file (DWARF 5
+/// section 6.4.1) with what its CIE says of the return.
 #[derive(Drop)]
 pub struct CachedRow {
     file: usize,

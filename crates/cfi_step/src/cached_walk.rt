@@ -15,9 +15,9 @@ use gimli_cfi::{Reader, UnwindContext, UnwindContextStorage};
 /// Writes the frames of a stack as `unwind`, with a cache of rows.
 ///
 /// The cache has any number of slots, which are empty or were filled by such walks. In a module
-/// without a compiled table, the row that the cache holds for the module's file and an address of it
-/// is taken as it is; else the row is found as by `step_in_module`, and kept if it has at most 8
-/// rules of registers. What is promised of the frames is what `unwind` promises.
+/// without a compiled table, the row that the cache holds for the file and an address of it is
+/// taken as it is; else the row is found as by `step_in_module`, and kept if it has at most 8 rules
+/// of registers. What is promised of the frames is what `unwind` promises.
 ///
 /// Modules with one number of a file have the same sections and bases, here and in all walks with
 /// the cache. So it may be kept while modules come and go, and for several processes. The size of

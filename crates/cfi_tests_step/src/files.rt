@@ -10,8 +10,8 @@ const OTHER: &str = "10000000 00000000 01 00 01 78 10 0c0708 9001 0000 \
      18000000 18000000 0010000000000000 2000000000000000 0710 0000";
 
 /// The innermost frame was called by another module of its file, and that by a module of another
-/// file. All three have one address in their file, 0x1005; so the second frame's row is the one that
-/// was kept for the first, and the third's isn't.
+/// file. All three have one address in their file, 0x1005. So the second frame's row is the one
+/// that was kept for the first, and the third's isn't.
 #[test]
 fn one_file_twice_and_another(rt: HostRuntime) -> Result<(), Fail> {
     let first = bytes_of(rt.alloc(), SECTION)?;
