@@ -8,6 +8,7 @@ pub mod SampleStacks
 pub mod StackTexts
 pub mod Reasons
 pub mod KnownFiles
+pub mod FileModules
 pub mod OpenedFiles
 pub mod Replays
 pub mod Rooms

@@ -22,11 +22,11 @@ pub struct FileCode<'run> {
 }
 
 impl<'run> FileCode<'run> {
-    ghost use Rattle.std.specs.Prelude.{◌≡◌, Some, IfOk, option_map};
+    ghost use Rattle.std.specs.Prelude.{◌≡◌, Some, IfOk, IfSome, option_map};
     ghost use Rattle.cfi_elf.specs.FunctionPlaces.{place_view};
     ghost use Rattle.cfi_stacks.specs.KnownFiles.{code_view, function_in};
     ghost use Rattle.cfi_stacks.specs.Modules.{module_view};
-    ghost use Rattle.cfi_stacks.specs.Objects.{module_of, object_view};
+    ghost use Rattle.cfi_stacks.specs.Objects.{HasFramesOf, module_of, object_view};
     ghost use Rattle.cfi_stacks.specs.OpenedFiles.{IsCodeOf, IsTableIf};
 
     /// The code of an object, in a profile of so many samples. Fails where memory is refused.
@@ -47,12 +47,14 @@ impl<'run> FileCode<'run> {
         })
     }
 
-    /// The module that the file is where it is mapped (`Object::module`).
-    pub fn module<'a>(&'a self, mapped: &MappedCode) -> Option<FileModule<'a, 'run>>
-        ensures { option_map module_view result ≡ module_of (code_view self.now).object
-            (code_view self.now).table mapped.now }
+    /// The module that the file is where it is mapped, with the file's number
+    /// (`Object::module`).
+    pub fn module<'a>(&'a self, number: usize, mapped: &MappedCode) -> Option<FileModule<'a, 'run>>
+        ensures module { option_map module_view result ≡ module_of number
+            (code_view self.now).object (code_view self.now).table mapped.now }
+        ensures frames { IfSome result (HasFramesOf number self.now.object) }
     {
-        self.object.module(self.table.as_ref(), mapped)
+        self.object.module(number, self.table.as_ref(), mapped)
     }
 
     /// The function that has an address of a process, where the file is mapped. Does not allocate.

@@ -307,12 +307,7 @@ fn print_in<W: Write>(
     let mut replay = Replay::new(alloc, files);
     for record in records {
         match replay.follow(record) {
-            Ok(has_new_modules) => {
-                if has_new_modules {
-                    room.forget_rows();
-                }
-                print_followed(raw, machine, &replay, record, &mut room, output)?;
-            }
+            Ok(()) => print_followed(raw, machine, &replay, record, &mut room, output)?,
             Err(_) => return write_refusal(output, Error::OutOfMemory),
         }
     }
@@ -329,12 +324,12 @@ fn print_followed<W: Write>(
     output: &mut W,
 ) -> io::Result<()>
     requires modules { AreModulesFor (record_view item.now).event replay.now }
-    requires cached { IsRoomFor replay.now.modules.items room.old }
+    requires cached { IsRoomFor replay.now.files.now room.old }
     ensures printed { (text : List ℕ)
         × Writes (W.contents output.old) (W.contents output.new) result text
         × IsTextOf raw machine (files_in replay.now) (replayed replay.now) item.now.time
         (record_view item.now).event text }
-    ensures cached { IsRoomFor replay.now.modules.items room.new }
+    ensures cached { IsRoomFor replay.now.files.now room.new }
 {
     match item.event {
         Event::Sample(sample) => print_sample(
