@@ -1,7 +1,6 @@
 -- The module that call frames of a file are where the file is mapped (LSB Core, "Exception Frames"; System V ABI
 -- chapter 5, "Program Loading").
 --     Module, module_view      a module by its code and its sections, and that of the code
---     header_view frame header bases      the header of a section of the code, if it has one
 --     file_section frames, file_header frames      .eh_frame and its header, at the addresses that the file has
 --     loaded_module number frames table mapped bias      the module, with the file's number and this compiled table
 use Rattle.std.specs.Prelude.{ℕ, Option, option_map}
@@ -10,11 +9,8 @@ use Rattle.cfi_read_core.specs.declared.endianity.RunTimeEndian.{RunTimeEndian}
 use Rattle.cfi_read_core.specs.AddressSizes.{size_in_bytes}
 use Rattle.cfi_read_core.specs.ByteOrder.{is_big}
 use Rattle.cfi_read_core.specs.Windows.{slice_position}
-use Rattle.cfi_parts.specs.declared.pointer.BaseAddresses.{BaseAddresses}
-use Rattle.cfi_entry.specs.declared.eh_frame.EhFrame.{EhFrame as EhFrameOfCode}
 use Rattle.cfi_entry.specs.Sections.{Section}
 use Rattle.cfi_entry.specs.SectionViews.{eh_frame_address_size}
-use Rattle.gimli_cfi.specs.declared.hdr.header.EhFrameHdr.{EhFrameHdr}
 use Rattle.gimli_cfi.specs.EhFrameHdr.{HeaderSection}
 use Rattle.gimli_cfi.specs.HeaderViews.{section_view, unparsed_view}
 use Rattle.cfi_programs.specs.declared.words.Kind.TheVariants.{EhFrame}
@@ -34,21 +30,19 @@ pub record Module : Type 0 where
   pub header : Option HeaderSection  -- .eh_frame_hdr
   pub compiled : Option TableContents  -- the table that is asked in place of both
 
--- if addresses have the size of its section
-abbrev pub header_view : EhFrameOfCode (EndianSlice RunTimeEndian) → Option (EhFrameHdr (EndianSlice RunTimeEndian)) → BaseAddresses → Option HeaderSection
-header_view frame header bases = option_map (λ header. unparsed_view (slice_position is_big) header (size_in_bytes (eh_frame_address_size frame)) bases) header
-
--- what a module of the code is
+-- what a module of the code is, if addresses have the size of its section
 abbrev pub module_view : LoadedModule (EndianSlice RunTimeEndian) → Module
-module_view loaded = record {
-  start = loaded.start;
-  end = loaded.end;
-  bias = loaded.bias;
-  file = loaded.file;
-  section = section_view (slice_position is_big) loaded.frame loaded.bases;
-  header = header_view loaded.frame loaded.header loaded.bases;
-  compiled = option_map (λ table. table.now) loaded.compiled;
-}
+module_view loaded =
+    let size = size_in_bytes (eh_frame_address_size loaded.frame) in
+    record {
+      start = loaded.start;
+      end = loaded.end;
+      bias = loaded.bias;
+      file = loaded.file;
+      section = section_view (slice_position is_big) loaded.frame loaded.bases;
+      header = option_map (λ header. unparsed_view (slice_position is_big) header size loaded.bases) loaded.header;
+      compiled = option_map (λ table. table.now) loaded.compiled;
+    }
 
 -- .eh_frame as it lies in the file
 abbrev pub file_section : Frames → Section

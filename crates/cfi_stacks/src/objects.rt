@@ -1,10 +1,12 @@
 //! Files of a profile as modules: their call frames, where a process has mapped them.
 ghost use Rattle.std.specs.Prelude.{◌≡◌, ⊤, option_map};
+ghost use Rattle.cfi_read_core.specs.AddressSizes.{size_in_bytes};
 ghost use Rattle.cfi_read_core.specs.ByteOrder.{is_big};
 ghost use Rattle.cfi_read_core.specs.Windows.{slice_over, slice_position};
+ghost use Rattle.cfi_entry.specs.SectionViews.{eh_frame_address_size};
 ghost use Rattle.cfi_files.specs.CallFrames.{frames_view};
-ghost use Rattle.gimli_cfi.specs.HeaderViews.{header_reader, section_view};
-ghost use Rattle.cfi_stacks.specs.Modules.{file_header, file_section, header_view};
+ghost use Rattle.gimli_cfi.specs.HeaderViews.{header_reader, section_view, unparsed_view};
+ghost use Rattle.cfi_stacks.specs.Modules.{file_header, file_section};
 
 use crate::mappings::MappedCode;
 use cfi_compiled::CompiledTable;
@@ -27,7 +29,9 @@ pub struct Object<'file> {
     bases: BaseAddresses,
     ghost section: { section_view (slice_position is_big) frame bases
         ≡ file_section (frames_view frames) },
-    ghost headed: { header_view frame header bases ≡ file_header (frames_view frames) },
+    ghost headed: { option_map (λ header. unparsed_view (slice_position is_big) header
+        (size_in_bytes (eh_frame_address_size frame)) bases) header
+        ≡ file_header (frames_view frames) },
 }
 
 impl Clone for Object<'_> {
@@ -72,7 +76,7 @@ impl<'file> Object<'file> {
     fn with_frames(file: ElfFile<'file>, frames: CallFrames<'file>) -> Object<'file>
         requires { is_sized frames.words.address_size ≡ true }
         ensures { object_view result
-            ≡ record { file = file_view file; frames = frames_view frames } }
+            ≡ record { file = file_view file.entry; frames = frames_view frames.entry } }
     {
         let words = &frames.words;
         let mut frame = EhFrame::new(frames.section, words.endian);

@@ -1,7 +1,6 @@
 //! What the records of a profile say, one after the other.
 ghost use Rattle.std.specs.Prelude.{◌≡◌, map};
 ghost use Rattle.std.specs.Option.{ForSome};
-ghost use Rattle.cfi_stacks.specs.FileModules.{AreOfFiles};
 ghost use Rattle.cfi_stacks.specs.KnownFiles.{known_view, modules_in};
 ghost use Rattle.cfi_stacks.specs.Modules.{module_view};
 ghost use Rattle.cfi_stacks.specs.Processes.{mappings_of};
@@ -23,7 +22,6 @@ pub struct Replay<'a, 'run> {
     pid: Option<u32>,
     ghost loaded: { ForSome pid (λ pid. map module_view modules.items
         ≡ modules_in (map known_view files.now) (mappings_of processes pid)) },
-    ghost of_files: { AreOfFiles files.now modules.items },
 }
 
 impl<'a, 'run> Replay<'a, 'run> {
@@ -33,13 +31,14 @@ impl<'a, 'run> Replay<'a, 'run> {
     ghost use Rattle.cfi_stacks.specs.KnownFiles.{known_view, modules_in};
     ghost use Rattle.cfi_stacks.specs.Modules.{module_view};
     ghost use Rattle.cfi_stacks.specs.Mappings.{AreInOrder};
-    ghost use Rattle.cfi_stacks.specs.Replays.{AreModulesFor, after, files_in, mapped_code};
-    ghost use Rattle.cfi_stacks.specs.Replays.{object_of, replayed};
+    ghost use Rattle.cfi_stacks.specs.Replays.{AreModulesFor, HasOwnModules, after, files_in};
+    ghost use Rattle.cfi_stacks.specs.Replays.{mapped_code, object_of, replayed};
 
     /// No process has anything mapped. Does not allocate.
     pub fn new(alloc: Global, files: &'a [ProfileFile<'run>]) -> Replay<'a, 'run>
         ensures nothing { (pid : ℕ) → replayed result pid ≡ [] }
         ensures files { result.files.now ≡ files.now }
+        ensures own { HasOwnModules result }
     {
         Replay {
             files,
@@ -56,6 +55,7 @@ impl<'a, 'run> Replay<'a, 'run> {
             ≡ after (files_in self.old) (record_view item.now).event (replayed self.old) pid) }
         ensures modules { OnOk result
             (AreModulesFor (record_view item.now).event self.new) }
+        ensures own { HasOwnModules self.old → HasOwnModules self.new }
         ensures files { self.new.files.now ≡ self.old.files.now }
     {
         match item.event {
@@ -94,6 +94,7 @@ impl<'a, 'run> Replay<'a, 'run> {
         ensures processes { OnOk result ((pid : ℕ) → replayed self.new pid
             ≡ after (files_in self.old) (MappingEvent (mapping_view mapping.now))
             (replayed self.old) pid) }
+        ensures same { self.new.modules ≡ self.old.modules }
         ensures files { self.new.files.now ≡ self.old.files.now }
     {
         self.pid = None;
@@ -106,6 +107,7 @@ impl<'a, 'run> Replay<'a, 'run> {
         ensures processes { (pid : ℕ) → replayed self.new pid
             ≡ after (files_in self.old) (ProgramEvent (program_view program.now))
             (replayed self.old) pid }
+        ensures same { self.new.modules ≡ self.old.modules }
         ensures files { self.new.files.now ≡ self.old.files.now }
     {
         if program.is_exec {
@@ -118,6 +120,7 @@ impl<'a, 'run> Replay<'a, 'run> {
     fn fork(&mut self, fork: &Fork) -> Result<(), AllocError>
         ensures processes { OnOk result ((pid : ℕ) → replayed self.new pid
             ≡ after (files_in self.old) (ForkEvent fork.now) (replayed self.old) pid) }
+        ensures same { self.new.modules ≡ self.old.modules }
         ensures files { self.new.files.now ≡ self.old.files.now }
     {
         self.pid = None;
@@ -151,6 +154,7 @@ impl<'a, 'run> Replay<'a, 'run> {
     fn load(&mut self, pid: u32) -> Result<(), AllocError>
         ensures modules { OnOk result (map module_view self.new.modules.items
             ≡ modules_in (files_in self.new) (replayed self.new pid)) }
+        ensures own { HasOwnModules self.old → HasOwnModules self.new }
         ensures processes { self.new.processes ≡ self.old.processes }
         ensures files { self.new.files.now ≡ self.old.files.now }
     {

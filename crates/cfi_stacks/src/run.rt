@@ -14,7 +14,7 @@ ghost use Rattle.cfi_stacks.specs.ProfileOutputs.{IsOfRecords, IsOfSorted};
 ghost use Rattle.cfi_stacks.specs.ProfileOutputs.{IsOutput, IsOwed, IsPrinted, IsSortedOf};
 ghost use Rattle.cfi_stacks.specs.ProfileOutputs.{IsTextOf, ended, perf_refusal};
 ghost use Rattle.cfi_stacks.specs.ProfileOutputs.{unknown_machine};
-ghost use Rattle.cfi_stacks.specs.Replays.{AreModulesFor, files_in, replayed};
+ghost use Rattle.cfi_stacks.specs.Replays.{AreModulesFor, HasOwnModules, files_in, replayed};
 ghost use Rattle.cfi_stacks.specs.Rooms.{IsRoomFor, KeepsNoRows};
 ghost use Rattle.cfi_stacks.specs.SampleStacks.{HasRoom};
 
@@ -324,6 +324,7 @@ fn print_followed<W: Write>(
     output: &mut W,
 ) -> io::Result<()>
     requires modules { AreModulesFor (record_view item.now).event replay.now }
+    requires own { HasOwnModules replay.now }
     requires cached { IsRoomFor replay.now.files.now room.old }
     ensures printed { (text : List ℕ)
         × Writes (W.contents output.old) (W.contents output.new) result text
