@@ -10,8 +10,8 @@ use cfi_compiled::CompiledTable;
 use cfi_elf::{FunctionNames, FunctionPlace};
 use std::alloc::{AllocError, Global};
 
-/// The code of a file of a profile: its call frames, with their compiled table where that pays, and
-/// the names of its functions.
+/// The code of a file of a profile: its call frames, with their compiled table where they have no
+/// header (`Object::has_table`), and the names of its functions.
 #[derive(Drop)]
 pub struct FileCode<'run> {
     object: Object<'run>,
@@ -29,17 +29,13 @@ impl<'run> FileCode<'run> {
     ghost use Rattle.cfi_stacks.specs.Objects.{HasFramesOf, module_of, object_view};
     ghost use Rattle.cfi_stacks.specs.OpenedFiles.{IsCodeOf, IsTableIf};
 
-    /// The code of an object, in a profile of so many samples. Fails where memory is refused.
-    pub fn of(
-        alloc: Global,
-        object: Object<'run>,
-        samples: usize,
-    ) -> Result<FileCode<'run>, AllocError>
+    /// The code of an object. Fails where memory is refused.
+    pub fn of(alloc: Global, object: Object<'run>) -> Result<FileCode<'run>, AllocError>
         ensures { IfOk result (λ code.
-            IsCodeOf samples (Some (object_view object.entry)) (Some (code_view code))) }
+            IsCodeOf (Some (object_view object.entry)) (Some (code_view code))) }
     {
         let functions = FunctionNames::new(alloc, &object.file())?;
-        let table = Self::table_if(alloc, &object, object.has_table(samples))?;
+        let table = Self::table_if(alloc, &object, object.has_table())?;
         Ok(FileCode {
             object,
             table,

@@ -114,14 +114,12 @@ impl<'file> Object<'file> {
         }
     }
 
-    /// Whether the file has a compiled table in a profile of so many samples: where it has no
-    /// header, so that each frame would scan the section, or where there is a sample for each 512
-    /// bytes of the section. To make a table takes about as long for 512 bytes as it saves in the
-    /// twenty frames of a sample. Does not allocate.
-    pub fn has_table(&self, samples: usize) -> bool
-        ensures { result ≡ has_table samples (object_view self.now).frames }
+    /// Whether the file has a compiled table: where it has no header, so that each row that isn't
+    /// kept would be found by a scan of the section. Does not allocate.
+    pub fn has_table(&self) -> bool
+        ensures { result ≡ has_table (object_view self.now).frames }
     {
-        self.frames.words.header.is_none() || self.frames.section.len() / 512 <= samples
+        self.frames.words.header.is_none()
     }
 
     /// Returns the compiled table of the file's `.eh_frame`, at the addresses that the file has.

@@ -19,7 +19,7 @@ ghost use Rattle.cfi_stacks.specs.Rooms.{IsRoomFor, KeepsNoRows};
 ghost use Rattle.cfi_stacks.specs.SampleStacks.{HasRoom};
 
 use crate::profile_files::{
-    OpenedFile, Opener, ProfileFile, mapped_names, profile_files, read_files, sample_count,
+    OpenedFile, Opener, ProfileFile, mapped_names, profile_files, read_files,
 };
 use crate::registers::SampleMachine;
 use crate::replay::Replay;
@@ -252,7 +252,7 @@ fn print_opened<W: Write>(
         (map record_view records.now) error line ⊎ (line ≡ out_of_memory))
         (W.contents output.old) (W.contents output.new) result }
 {
-    match profile_files(alloc, opened, sample_count(records)) {
+    match profile_files(alloc, opened) {
         Ok(files) => print_stacks(
             alloc,
             raw,

@@ -47,9 +47,9 @@ pub struct Innermost {
 /// `registers` and `caller` have room for `machine.register_count()` registers, and may hold what
 /// the last sample left there. The registers of the innermost frame are the sample's, under DWARF's
 /// numbers; its memory is the sample's copy of the stack, which begins at the stack pointer.
-/// Everything else is as in `cfi_step::unwind_cached`, by whose conditions modules with one number of
-/// a file have the same call frames, and the rows in the cache are those of these modules; an empty
-/// slice is right for any. A row's expression may do 1000 operations.
+/// Everything else is as in `cfi_step::unwind_cached`, by whose conditions modules with one number
+/// of a file have the same call frames, and the rows in the cache are those of these modules; an
+/// empty slice is right for any modules. A row's expression may do 1000 operations.
 ///
 /// Fails with the reason why there are no frames, and then writes nothing. Over a fixed storage it
 /// does not allocate.

@@ -31,9 +31,9 @@ const FRAMES: usize = 4096;
 /// As many registers as the machine with most of them has.
 const REGISTERS: usize = 33;
 
-/// How many rows are kept. In recorded profiles of x86-64 programs the rows of 80 to 99 of 100
-/// frames were in a cache of 2,048.
-const ROWS: usize = 2048;
+/// How many rows are kept. In most recorded profiles of x86-64 programs the rows of 80 to 100 of
+/// 100 frames are held by half as many slots that are emptied when the process changes.
+const ROWS: usize = 4096;
 
 const NO_FRAME: StackFrame = StackFrame {
     pc: 0,
@@ -91,7 +91,7 @@ fn empty_rows(alloc: Global) -> Result<Vec<CachedRow>, AllocError>
 /// why there are no more if the last one isn't the outermost, and an empty line.
 ///
 /// If it is `raw`, the lines have no functions. The modules are those of what is mapped. The rows
-/// that the room keeps are those of the files, for whatever processes they were found. There is room
+/// that the room keeps are those of the files, in whichever process they were found. There is room
 /// for `FRAMES` frames. Does not allocate.
 pub fn print_sample<W: Write>(
     raw: bool,

@@ -16,15 +16,15 @@ loop-mapped-preserved c =
     let after = c.match-module_at.modules.items in
     elim c.match-module_at.branch [
       | in-Some+in_ok-push w ↦
-        let appended = ap (λ list. list.items) w.modules-is ∙ w.in_ok-push.ensures.items in (
-          module_appended (map known_view files) c.args.self.now.mappings.now c.loop-mapped.mapped-index _ c.loop-mapped-test.true before after _ w.in-Some.module c.module_at.result appended w.in-Some.is
-              c.module_at.ensures.module c.loop-mapped.invariant.0,
-          λ are. one_more_module files before after w.in-Some.module c.module_at.result appended w.in-Some.is c.module_at.ensures.file (c.loop-mapped.invariant.1 are),
-        )
+          let appended = ap (λ list. list.items) w.modules-is ∙ w.in_ok-push.ensures.items in (
+            module_appended (map known_view files) c.args.self.now.mappings.now c.loop-mapped.mapped-index _ c.loop-mapped-test.true before after _ w.in-Some.module c.module_at.result appended w.in-Some.is
+                c.module_at.ensures.module c.loop-mapped.invariant.0,
+            λ are. one_more_module files before after w.in-Some.module c.module_at.result appended w.in-Some.is c.module_at.ensures.file (c.loop-mapped.invariant.1 are),
+          )
       | in_default w ↦
-        let same = ap (λ list. list.items) w.modules-is in (
-          no_module (map known_view files) c.args.self.now.mappings.now c.loop-mapped.mapped-index _ c.loop-mapped-test.true before after _ c.module_at.result same w.in_default.is
-              c.module_at.ensures.module c.loop-mapped.invariant.0,
-          λ are. subst (AreOfFiles files) (sym same) (c.loop-mapped.invariant.1 are),
-        )
+          let same = ap (λ list. list.items) w.modules-is in (
+            no_module (map known_view files) c.args.self.now.mappings.now c.loop-mapped.mapped-index _ c.loop-mapped-test.true before after _ c.module_at.result same w.in_default.is
+                c.module_at.ensures.module c.loop-mapped.invariant.0,
+            λ are. subst (AreOfFiles files) (sym same) (c.loop-mapped.invariant.1 are),
+          )
     ]
