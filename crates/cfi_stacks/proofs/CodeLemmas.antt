@@ -1,6 +1,6 @@
 -- The code of a process: the mapping of an address, found by halving, and the order of its modules.
 use Rattle.std.proofs.Common.{◌≡◌, ◌∙◌, ℕ, zero, suc, ◌<◌, ◌≤◌, ◌&&◌, Bool, true, false, List, [], ◌∷◌, length, get_or, map, cond, nat_le, nat_lt, Option, Some, None, refl, sym, ap, subst, arith}
-use Rattle.std.specs.List.{cons_option}
+use Rattle.std.specs.List.{cons_option, slice_get}
 use Rattle.std.specs.Option.{option_and_then, option_map}
 use Rattle.std.proofs.lemmas.Bool.{le-leb, lt-ltb, le-ltb, lt-leb}
 use Rattle.cfi_read_core.specs.declared.endian_slice.EndianSlice.{EndianSlice}
@@ -8,7 +8,7 @@ use Rattle.cfi_read_core.specs.declared.endianity.RunTimeEndian.{RunTimeEndian}
 use Rattle.cfi_step.specs.declared.module.LoadedModule.{LoadedModule}
 use Rattle.cfi_step.specs.Modules.{are_sorted, begins_from}
 use Rattle.cfi_stacks.specs.declared.mappings.MappedCode.{MappedCode}
-use Rattle.cfi_stacks.specs.KnownFiles.{KnownCode, KnownFile, file_of, mapped_at, module_in, modules_in}
+use Rattle.cfi_stacks.specs.KnownFiles.{KnownCode, KnownFile, mapped_at, module_at, module_in, modules_in}
 use Rattle.cfi_stacks.specs.Mappings.{AreInOrder, has_byte_at}
 use Rattle.cfi_stacks.specs.Modules.{Module, loaded_module, module_view}
 use Rattle.cfi_stacks.specs.Objects.{bias_of, module_of}
@@ -24,19 +24,30 @@ same_order low [] = refl
 same_order low (m ∷ ms) = ap (λ (b : Bool). begins_from low m && b) (same_order m.end ms)
 
 -- a module spans what is mapped
-spans_of : (mapped : MappedCode) (code : KnownCode) (bias : Option ℕ) (m : Module) → option_map (loaded_module code.object.frames code.table mapped) bias ≡ Some m → (m.start ≡ mapped.start) × (m.end ≡ mapped.end)
-spans_of mapped code None m e = cc
-spans_of mapped code (Some bias) m e =
-    let is : m ≡ loaded_module code.object.frames code.table mapped bias = cc in
+abbrev Spans : MappedCode → Module → Type 0
+Spans mapped m = (m.start ≡ mapped.start) × (m.end ≡ mapped.end)
+
+spans_of : (mapped : MappedCode) (number : ℕ) (code : KnownCode) (bias : Option ℕ) (m : Module) → option_map (loaded_module number code.object.frames code.table mapped) bias ≡ Some m → Spans mapped m
+spans_of mapped number code None m e = cc
+spans_of mapped number code (Some bias) m e =
+    let is : m ≡ loaded_module number code.object.frames code.table mapped bias = cc in
     (ap (λ (x : Module). x.start) is, ap (λ (x : Module). x.end) is)
 
-spans_in : (mapped : MappedCode) (o : Option KnownCode) (m : Module) → option_and_then (λ code. module_of code.object code.table mapped) o ≡ Some m → (m.start ≡ mapped.start) × (m.end ≡ mapped.end)
-spans_in mapped None m e = cc
-spans_in mapped (Some code) m e = spans_of mapped code (bias_of code.object mapped) m e
+spans_in : (mapped : MappedCode) (number : ℕ) (o : Option KnownCode) (m : Module) → option_and_then (λ code. module_of number code.object code.table mapped) o ≡ Some m → Spans mapped m
+spans_in mapped number None m e = cc
+spans_in mapped number (Some code) m e = spans_of mapped number code (bias_of code.object mapped) m e
 
-spans : (mapped : MappedCode) (file : Option KnownFile) (m : Module) → option_and_then (module_in mapped) file ≡ Some m → (m.start ≡ mapped.start) × (m.end ≡ mapped.end)
-spans mapped None m e = cc
-spans mapped (Some file) m e = spans_in mapped file.code m e
+spans_by : (mapped : MappedCode) (number : ℕ) (file : Option KnownFile) (m : Module) → option_and_then (module_in mapped number) file ≡ Some m → Spans mapped m
+spans_by mapped number None m e = cc
+spans_by mapped number (Some file) m e = spans_in mapped number file.code m e
+
+spans_numbered : (files : List KnownFile) (mapped : MappedCode) (object : Option ℕ) (m : Module)
+    → option_and_then (λ number. option_and_then (module_in mapped number) (slice_get files number)) object ≡ Some m → Spans mapped m
+spans_numbered files mapped None m e = cc
+spans_numbered files mapped (Some number) m e = spans_by mapped number (slice_get files number) m e
+
+spans : (files : List KnownFile) (mapped : MappedCode) (m : Module) → module_at files mapped ≡ Some m → Spans mapped m
+spans files mapped m e = spans_numbered files mapped mapped.object m e
 
 lower : (list : List MappedCode) (low high : ℕ) → low ≤ high → AreInOrder high list → AreInOrder low list
 lower [] low high le ordered = tt
@@ -46,12 +57,12 @@ module _ (files : List KnownFile) where
   code_in_order : (list : List MappedCode) (low : ℕ) → AreInOrder low list → in_order low (modules_in files list) ≡ true
   code_in_order [] low ordered = refl
   code_in_order (mapped ∷ list) low (from, some, rest) =
-      by (option_and_then (module_in mapped) (file_of files mapped)) refl (λ l h. code_in_order list l h)
+      by (module_at files mapped) refl (λ l h. code_in_order list l h)
     where
-      by : (m : Option Module) → option_and_then (module_in mapped) (file_of files mapped) ≡ m → ((l : ℕ) → AreInOrder l list → in_order l (modules_in files list) ≡ true) → in_order low (cons_option m (modules_in files list)) ≡ true
+      by : (m : Option Module) → module_at files mapped ≡ m → ((l : ℕ) → AreInOrder l list → in_order l (modules_in files list) ≡ true) → in_order low (cons_option m (modules_in files list)) ≡ true
       by None e others = others low (lower list low mapped.end (omega (arith, from, some)) rest)
       by (Some m) e others =
-          let (starts, ends) = spans mapped (file_of files mapped) m e in
+          let (starts, ends) = spans files mapped m e in
           let first : nat_le low m.start ≡ true = le-leb low m.start (omega (arith, from, starts)) in
           let span : nat_le m.start m.end ≡ true = le-leb m.start m.end (omega (arith, some, starts, ends)) in
           let after : in_order m.end (modules_in files list) ≡ true = others m.end (subst (λ (l : ℕ). AreInOrder l list) (sym ends) rest) in

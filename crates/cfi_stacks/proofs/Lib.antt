@@ -7,6 +7,7 @@ mod RegisterTables
 mod Unwinding
 mod WorkedSamples
 mod CodeLemmas
+mod ModuleLemmas
 mod FileLemmas
 mod RoomLemmas
 mod RunLemmas

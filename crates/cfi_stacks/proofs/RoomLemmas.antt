@@ -1,6 +1,6 @@
--- The rows that are kept for the samples of one process.
-use Rattle.std.proofs.Common.{◌≡◌, ◌∙◌, ◌++◌, ℕ, true, List, Some, length, take, drop, ap, sym, subst, true≢false}
-use Rattle.std.specs.List.{length_refill, refill}
+-- The rows that are kept for the files of a profile.
+use Rattle.std.proofs.Common.{◌≡◌, ◌∙◌, ◌++◌, ◌<◌, ℕ, true, List, Option, Some, length, get_or, take, drop, ap, sym, subst, true≢false}
+use Rattle.std.specs.List.{length_refill, refill, slice_get}
 use Rattle.std.proofs.Math.Seq.{take-append_seam}
 use Rattle.cfi_read_core.specs.declared.endian_slice.EndianSlice.{EndianSlice}
 use Rattle.cfi_read_core.specs.declared.endianity.RunTimeEndian.{RunTimeEndian}
@@ -9,26 +9,52 @@ use Rattle.cfi_read_core.specs.ByteOrder.{is_big}
 use Rattle.cfi_read_core.specs.Windows.{slice_position}
 use Rattle.cfi_step.specs.declared.cached_rows.CachedRow.{CachedRow}
 use Rattle.cfi_step.specs.declared.walk.StackFrame.{StackFrame}
-use Rattle.cfi_step.specs.CachedRows.{AreCachedFor}
+use Rattle.cfi_step.specs.CachedRows.{AreAlike, AreCachedFor, AreNumbered, KeepsFor}
+use Rattle.cfi_stacks.specs.declared.file_code.FileCode.{FileCode}
+use Rattle.cfi_stacks.specs.declared.profile_files.ProfileFile.{ProfileFile}
 use Rattle.cfi_stacks.specs.declared.sample_text.Room.{Room}
-use Rattle.cfi_stacks.specs.Rooms.{IsRoomFor, KeepsNoRows}
+use Rattle.cfi_stacks.specs.FileModules.{AreOfFiles, IsOfFiles}
+use Rattle.cfi_stacks.specs.Rooms.{AreKeptFor, IsRoomFor, KeepsNoRows}
 use Rattle.cfi_stacks.specs.SampleStacks.{HasRoom}
 
--- a room without rows is one for any modules
-pub room_for_all : (modules : List (LoadedModule (EndianSlice RunTimeEndian))) (room : Room) → HasRoom room.frames.items → KeepsNoRows room → IsRoomFor modules room
-room_for_all modules room long empty = (long, λ a loaded is k d inside holds. absurd (true≢false (sym holds.0 ∙ empty k d inside)))
+-- a room without rows is one for any files
+pub room_for_all : (files : List ProfileFile) (room : Room) → HasRoom room.frames.items → KeepsNoRows room → IsRoomFor files room
+room_for_all files room long empty = (long, λ loaded is k d inside a holds. absurd (true≢false (sym holds.0 ∙ empty k d inside)))
 
--- the rows were forgotten
-pub room_for_new : (modules : List (LoadedModule (EndianSlice RunTimeEndian))) (before forgotten after : Room) → after ≡ forgotten →
-    forgotten.frames ≡ before.frames → KeepsNoRows forgotten → HasRoom before.frames.items → IsRoomFor modules after
-room_for_new modules before forgotten after is same_frames empty long =
-    subst (IsRoomFor modules) (sym is) (room_for_all modules forgotten (ap (λ frames. length frames.items) same_frames ∙ long) empty)
+-- ---- modules of the files
 
--- the modules are the same and so is the room
-pub room_for_same : (old new : List (LoadedModule (EndianSlice RunTimeEndian))) (before after : Room) → new ≡ old → after ≡ before → IsRoomFor old before → IsRoomFor new after
-room_for_same old new before after same_modules same_room is =
-    subst (λ (modules : List (LoadedModule (EndianSlice RunTimeEndian))). IsRoomFor modules after) (sym same_modules)
-    (subst (IsRoomFor old) (sym same_room) is)
+abbrev pub Modules : Type 0
+Modules = List (LoadedModule (EndianSlice RunTimeEndian))
+
+abbrev pub AreRowsFor : Modules → List CachedRow → Type 0
+AreRowsFor modules rows = AreCachedFor (slice_position is_big) 8 (Some 192) (Some 4) true modules rows
+
+abbrev pub KeepsRowsFor : Modules → List CachedRow → List CachedRow → Type 0
+KeepsRowsFor modules old new = KeepsFor (slice_position is_big) 8 (Some 192) (Some 4) true modules old new
+
+-- an option has one value
+one_value : {A : Type 0} {x y : A} (o : Option A) → o ≡ Some x → o ≡ Some y → x ≡ y
+one_value {A} {x} {y} o is also = let same : Some x ≡ Some y = sym is ∙ also in cc
+
+module _ (files : List ProfileFile) where
+  -- a number has one file
+  alike : (m n : LoadedModule (EndianSlice RunTimeEndian)) → IsOfFiles files m → IsOfFiles files n → AreAlike m n
+  alike m n is_m is_n same =
+      let one_file : is_m.0 ≡ is_n.0 = one_value (slice_get files m.file) is_m.1 (ap (slice_get files) same ∙ is_n.1) in
+      let one_code : is_m.2.0 ≡ is_n.2.0 = one_value is_m.0.code is_m.2.1 (ap (λ (file : ProfileFile). file.code) one_file ∙ is_n.2.1) in (
+        is_m.2.2.1 ∙ (ap (λ (code : FileCode). code.object.frame) one_code ∙ sym is_n.2.2.1),
+        is_m.2.2.2 ∙ (ap (λ (code : FileCode). code.object.header) one_code ∙ sym is_n.2.2.2),
+        is_m.2.2.3 ∙ (ap (λ (code : FileCode). code.object.bases) one_code ∙ sym is_n.2.2.3),
+      )
+
+  numbered : (modules : Modules) → AreOfFiles files modules → AreNumbered modules
+  numbered modules are i d inside j e within = alike (get_or modules j e) (get_or modules i d) (are j e within) (are i d inside)
+
+  rows_of_files : (modules : Modules) (rows : List CachedRow) → AreOfFiles files modules → AreKeptFor files rows → AreRowsFor modules rows
+  rows_of_files modules rows are kept i d inside = kept (get_or modules i d) (are i d inside)
+
+  kept_for_files : (modules : Modules) (old new : List CachedRow) → AreOfFiles files modules → KeepsRowsFor modules old new → AreKeptFor files old → AreKeptFor files new
+  kept_for_files modules old new are keeps kept loaded is = keeps loaded (λ j e within. alike (get_or modules j e) loaded (are j e within) is) (kept loaded is)
 
 -- ---- a walk of a sample
 
@@ -39,17 +65,18 @@ room_after n before frames long has = sym (length_refill n before frames long) �
 refill-same : (n : ℕ) (before rows : List CachedRow) → n ≡ length rows → refill n before rows ≡ rows
 refill-same n before rows same = ap (λ k. take k (rows ++ drop (length rows) before)) same ∙ take-append_seam rows _
 
-abbrev pub AreRowsFor : List (LoadedModule (EndianSlice RunTimeEndian)) → List CachedRow → Type 0
-AreRowsFor modules rows = AreCachedFor (slice_position is_big) 8 (Some 192) (Some 4) true modules rows
-
 -- the modules are those that were checked, and the rows those that are lent
-pub rows_before : (modules checked : List (LoadedModule (EndianSlice RunTimeEndian))) (rows lent : List CachedRow) → checked ≡ modules → lent ≡ rows →
-    AreRowsFor modules rows → AreRowsFor checked lent
-rows_before modules checked rows lent same same_rows is =
-    subst (AreRowsFor checked) (sym same_rows) (subst (λ (list : List (LoadedModule (EndianSlice RunTimeEndian))). AreRowsFor list rows) (sym same) is)
+module _ (files : List ProfileFile) (modules checked : Modules) (same : checked ≡ modules) (are : AreOfFiles files modules) where
+  are_checked : AreOfFiles files checked
+  are_checked = subst (AreOfFiles files) (sym same) are
 
-pub rows_after : (modules checked : List (LoadedModule (EndianSlice RunTimeEndian))) (n : ℕ) (before rows : List CachedRow) → n ≡ length rows → checked ≡ modules →
-    AreRowsFor checked rows → AreRowsFor modules (refill n before rows)
-rows_after modules checked n before rows long same is =
-    subst (AreRowsFor modules) (sym (refill-same n before rows long))
-    (subst (λ (list : List (LoadedModule (EndianSlice RunTimeEndian))). AreRowsFor list rows) same is)
+  pub numbered_before : AreNumbered checked
+  numbered_before = numbered files checked are_checked
+
+  pub rows_before : (rows lent : List CachedRow) → lent ≡ rows → AreKeptFor files rows → AreRowsFor checked lent
+  rows_before rows lent same_rows kept = rows_of_files files checked lent are_checked (subst (AreKeptFor files) (sym same_rows) kept)
+
+  pub rows_after : (n : ℕ) (rows lent new : List CachedRow) → n ≡ length new → lent ≡ rows → AreKeptFor files rows → KeepsRowsFor checked lent new → AreKeptFor files (refill n rows new)
+  rows_after n rows lent new long same_rows kept keeps =
+      subst (AreKeptFor files) (sym (refill-same n rows new long))
+      (kept_for_files files checked lent new are_checked keeps (subst (AreKeptFor files) (sym same_rows) kept))

@@ -5,8 +5,9 @@ use Rattle.std.specs.Option.{option_map}
 use Rattle.cfi_read_core.specs.declared.common.Vendor.TheVariants.{Default}
 use Rattle.cfi_read_core.specs.declared.endianity.RunTimeEndian.TheVariants.{Little}
 use Rattle.cfi_read_core.specs.Numbers.{unsigned}
-use Rattle.cfi_elf.specs.Segments.{minus, plus}
+use Rattle.cfi_elf.specs.Segments.{minus}
 use Rattle.cfi_programs.specs.declared.words.Kind.TheVariants.{EhFrame}
+use Rattle.cfi_step.specs.CompiledSteps.{address_in_file}
 use Rattle.cfi_stacks.specs.declared.registers.SampleMachine.TheVariants.{X86_64, AArch64}
 use Rattle.cfi_stacks.specs.declared.sample_stack.NoFrames.{NoFrames}
 use Rattle.cfi_stacks.specs.declared.sample_stack.NoFrames.TheVariants.{NoRegisters, OtherAbi, NoProgramCounter, NoStackPointer}
@@ -32,10 +33,10 @@ names = refl
 
 -- ---- modules
 
--- .eh_frame at 0x2040 with its header at 0x2010, .text at 0x1000; mapped 0x7f0000000000 higher
+-- file 3, with .eh_frame at 0x2040, its header at 0x2010 and .text at 0x1000; mapped 0x7f0000000000 higher
 abbrev mapped_higher : Module
 mapped_higher =
-    loaded_module
+    loaded_module 3
     (record {
       words = record {
         kind = EhFrame;
@@ -51,20 +52,24 @@ mapped_higher =
       header = 3 ∷ [];
     })
     None
-    (record { start = 0x7f0000001000; end = 0x7f0000002000; offset = 0x1000; object = Some 0 }) 0x7f0000000000
+    (record { start = 0x7f0000001000; end = 0x7f0000002000; offset = 0x1000; object = Some 3 }) 0x7f0000000000
 
-its_bases : mapped_higher.section.bases ≡ record { section = Some 0x7f0000002040; text = Some 0x7f0000001000; data_base = None }
+its_bases : mapped_higher.section.bases ≡ record { section = Some 0x2040; text = Some 0x1000; data_base = None }
 its_bases = refl
 
 bases_of_its_header : option_map (λ header. header.bases) mapped_higher.header
-    ≡ Some (record { section = Some 0x7f0000002010; text = Some 0x7f0000001000; data_base = Some 0x7f0000002010 })
+    ≡ Some (record { section = Some 0x2010; text = Some 0x1000; data_base = Some 0x2010 })
 bases_of_its_header = refl
 
 its_code : (mapped_higher.start ≡ 0x7f0000001000) × (mapped_higher.end ≡ 0x7f0000002000)
 its_code = (refl, refl)
 
+-- an address of its code, and that which the file has for it
+in_its_file : (mapped_higher.file ≡ 3) × (address_in_file mapped_higher.bias 0x7f0000001234 ≡ 0x1234)
+in_its_file = (refl, refl)
+
 -- mapped below the address that the file has
-mapped_lower : plus (minus 0x1000 0x401000) 0x401234 ≡ 0x1234
+mapped_lower : address_in_file (minus 0x1000 0x401000) 0x1234 ≡ 0x401234
 mapped_lower = refl
 
 -- ---- the innermost frame

@@ -3,7 +3,7 @@
 --     KnownFile, known_view      a file by its name and its code, and that of the code
 --     mapped_at list a      the mapping that has an address
 --     site_of files list a      where an address is: the place in the file, the function and the file's name
---     modules_in files list      the modules of what is mapped
+--     modules_in files list      the modules of what is mapped, each with the number of its file
 use Rattle.std.specs.Prelude.{ℕ, List, Option, Some, None, find, option_map, slice_get}
 use Rattle.std.specs.List.{filter_map}
 use Rattle.std.specs.Option.{option_and_then}
@@ -64,8 +64,12 @@ site_of files list a = site_at files a (mapped_at list a)
 
 -- ---- modules
 
-abbrev pub module_in : MappedCode → KnownFile → Option Module
-module_in mapped file = option_and_then (λ code. module_of code.object code.table mapped) file.code
+abbrev pub module_in : MappedCode → ℕ → KnownFile → Option Module
+module_in mapped number file = option_and_then (λ code. module_of number code.object code.table mapped) file.code
+
+-- the number of a file is its place among those of the profile
+abbrev pub module_at : List KnownFile → MappedCode → Option Module
+module_at files mapped = option_and_then (λ number. option_and_then (module_in mapped number) (slice_get files number)) mapped.object
 
 abbrev pub modules_in : List KnownFile → List MappedCode → List Module
-modules_in files list = filter_map (λ mapped. option_and_then (module_in mapped) (file_of files mapped)) list
+modules_in files list = filter_map (module_at files) list

@@ -9,6 +9,7 @@ pub mod Names
 pub mod StackTexts
 pub mod Reasons
 pub mod KnownFiles
+pub mod FileModules
 pub mod OpenedFiles
 pub mod Replays
 pub mod Rooms

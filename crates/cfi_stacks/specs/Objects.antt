@@ -2,16 +2,20 @@
 --     Object, object_view      its segments and its call frames, and that of the code
 --     object_of bytes      the file of these bytes, if it has .eh_frame
 --     bias_of object mapped      how far its code is moved
---     has_table samples frames      whether a compiled table is made, in a profile of so many samples
---     module_of object table mapped      the module, with this compiled table, if there is one
-use Rattle.std.specs.Prelude.{ℕ, ◌/◌, ◌||◌, Bool, nat_le, not, List, length, Option, None, Result, Ok, Err, option_map}
+--     has_table frames      whether a compiled table is made
+--     module_of number object table mapped      the module, with the file's number and this compiled table, if there is one
+--     HasFramesOf number object loaded      a module of the code has the file's number and its call frames
+use Rattle.std.specs.Prelude.{◌≡◌, ℕ, Bool, not, List, Option, None, Result, Ok, Err, option_map}
 use Rattle.std.specs.Option.{is_some, option_and_then}
 use Rattle.std.specs.Result.{result_ok}
+use Rattle.cfi_read_core.specs.declared.endian_slice.EndianSlice.{EndianSlice}
+use Rattle.cfi_read_core.specs.declared.endianity.RunTimeEndian.{RunTimeEndian}
 use Rattle.cfi_elf.specs.declared.error.ElfError.{ElfError}
 use Rattle.cfi_elf.specs.ElfFiles.{File, elf_file, file_view}
 use Rattle.cfi_compiled.specs.CompiledTables.{TableContents}
 use Rattle.cfi_elf.specs.Segments.{address_of_offset, minus}
 use Rattle.cfi_files.specs.CallFrames.{Frames, eh_frame_of, frames_view}
+use Rattle.cfi_step.specs.declared.module.LoadedModule.{LoadedModule}
 use Rattle.cfi_stacks.specs.declared.mappings.MappedCode.{MappedCode}
 use Rattle.cfi_stacks.specs.declared.objects.Object.{Object as ObjectOfCode}
 use Rattle.cfi_stacks.specs.Modules.{Module, loaded_module}
@@ -40,9 +44,14 @@ object_of bytes = option_and_then with_frames (result_ok (elf_file bytes))
 abbrev pub bias_of : Object → MappedCode → Option ℕ
 bias_of object mapped = option_map (minus mapped.start) (there (address_of_offset object.file mapped.offset))
 
--- where each row is else found by a scan, or where there is a sample for each 512 bytes of the section
-abbrev pub has_table : ℕ → Frames → Bool
-has_table samples frames = not (is_some frames.words.header) || nat_le (length frames.section / 512) samples
+-- where each row is else found by a scan
+abbrev pub has_table : Frames → Bool
+has_table frames = not (is_some frames.words.header)
 
-abbrev pub module_of : Object → Option TableContents → MappedCode → Option Module
-module_of object table mapped = option_map (loaded_module object.frames table mapped) (bias_of object mapped)
+abbrev pub module_of : ℕ → Object → Option TableContents → MappedCode → Option Module
+module_of number object table mapped = option_map (loaded_module number object.frames table mapped) (bias_of object mapped)
+
+-- wherever the file is mapped
+abbrev pub HasFramesOf : ℕ → ObjectOfCode → LoadedModule (EndianSlice RunTimeEndian) → Type 0
+HasFramesOf number object loaded =
+    (loaded.file ≡ number) × (loaded.frame ≡ object.frame) × (loaded.header ≡ object.header) × (loaded.bases ≡ object.bases)

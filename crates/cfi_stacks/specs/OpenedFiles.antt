@@ -3,7 +3,7 @@
 --     Opened, opened_view      a file by its name and its bytes, none where these can't be had, and that of the code
 --     IsContents may_open remaining name bytes      what was read of a file
 --     AreOpened .. names opened      the files of these names
---     AreFilesOf samples opened files      what they are as files of a profile of so many samples
+--     AreFilesOf opened files      what they are as files of a profile
 use Rattle.std.specs.Prelude.{◌≡◌, ◌⊎◌, ℕ, Bool, true, false, not, ◌&&◌, List, [], ◌∷◌, Option, Some, None, IfSome, Vec, codes, map, nat_eq, option_map}
 use Rattle.std.specs.Borrow.{Bor}
 use Rattle.std.specs.List.{starts_with}
@@ -66,15 +66,14 @@ abbrev pub IsTableIf : Bool → Frames → Option TableContents → Type 0
 IsTableIf true frames table = (made : TableContents) × IsCompiled (Some 192) (Some 4) (file_section frames) made × (table ≡ Some made)
 IsTableIf false frames table = table ≡ None
 
-module _ (samples : ℕ) where
-  abbrev pub IsCodeOf : Option Object → Option KnownCode → Type 0
-  IsCodeOf None code = code ≡ None
-  IsCodeOf (Some object) code =
-      (table : Option TableContents) × IsTableIf (has_table samples object.frames) object.frames table × (code ≡ Some (record { object = object; table = table }))
+abbrev pub IsCodeOf : Option Object → Option KnownCode → Type 0
+IsCodeOf None code = code ≡ None
+IsCodeOf (Some object) code =
+    (table : Option TableContents) × IsTableIf (has_table object.frames) object.frames table × (code ≡ Some (record { object = object; table = table }))
 
-  abbrev pub IsFileOf : Opened → KnownFile → Type 0
-  IsFileOf opened file = (file.name ≡ opened.name) × IsCodeOf (option_and_then object_of opened.bytes) file.code
+abbrev pub IsFileOf : Opened → KnownFile → Type 0
+IsFileOf opened file = (file.name ≡ opened.name) × IsCodeOf (option_and_then object_of opened.bytes) file.code
 
-  abbrev pub AreFilesOf : List Opened → List KnownFile → Type 0
-  AreFilesOf [] files = files ≡ []
-  AreFilesOf (one ∷ opened) files = (first : KnownFile) × (others : List KnownFile) × IsFileOf one first × AreFilesOf opened others × (files ≡ first ∷ others)
+abbrev pub AreFilesOf : List Opened → List KnownFile → Type 0
+AreFilesOf [] files = files ≡ []
+AreFilesOf (one ∷ opened) files = (first : KnownFile) × (others : List KnownFile) × IsFileOf one first × AreFilesOf opened others × (files ≡ first ∷ others)

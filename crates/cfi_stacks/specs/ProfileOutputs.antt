@@ -33,7 +33,7 @@ use Rattle.cfi_stacks.specs.Modules.{module_view}
 use Rattle.cfi_stacks.specs.OpenedFiles.{AreFilesOf, AreOpened, Opened}
 use Rattle.cfi_stacks.specs.Reasons.{reason_line, reason_of, reason_without}
 use Rattle.cfi_stacks.specs.Registers.{machine_named}
-use Rattle.cfi_stacks.specs.Replays.{after, names_of, sample_count}
+use Rattle.cfi_stacks.specs.Replays.{after, names_of}
 use Rattle.cfi_stacks.specs.SampleStacks.{HasRoom, IsUnwound, Room}
 use Rattle.cfi_stacks.specs.StackTexts.{head_line, site_line}
 
@@ -113,7 +113,7 @@ IsSortedOf found sorted error = AreInTimeOrder found.records sorted × (error �
 -- by files that were opened
 abbrev pub IsOfOpened : Bool → SampleMachine → List Opened → List Record → Option PerfError → Line → Type 0
 IsOfOpened raw machine opened sorted error printed =
-    (files : List KnownFile) × AreFilesOf (sample_count sorted) opened files × IsPrinted raw machine files sorted error printed
+    (files : List KnownFile) × AreFilesOf opened files × IsPrinted raw machine files sorted error printed
 
 module _ (raw : Bool) {Handle : Type 0} (may_open : List ℕ → Option Handle → Type 0) (remaining : Handle → Option (List ℕ)) where
   -- by the files of these names

@@ -1,27 +1,19 @@
 -- What the records of a profile say of processes, one after the other.
---     sample_count records      how many of them are samples
 --     names_of records      the names that executable mappings have, each once, in the order of the records
 --     after files event before      what is mapped in each process after a record
 --     replayed replay      what is mapped in each process, for a replay of the code
-use Rattle.std.specs.Prelude.{◌≡◌, ℕ, ◌+◌, ◌-◌, ◌^◌, Bool, true, false, List, [], ◌∷◌, ◌++◌, Option, Some, None, fold, map, min, position, ⊤, if◌then◌else◌}
-use Rattle.std.specs.List.{count_by, list_any}
+--     HasOwnModules replay      its modules are of its files
+use Rattle.std.specs.Prelude.{◌≡◌, ℕ, ◌+◌, ◌-◌, ◌^◌, Bool, List, [], ◌∷◌, ◌++◌, Option, Some, None, fold, map, min, position, ⊤, if◌then◌else◌}
+use Rattle.std.specs.List.{list_any}
 use Rattle.std.specs.Str.{bytes_eq}
 use Rattle.cfi_perf.specs.Events.{Event, Mapping, Record, ForkEvent, MappingEvent, OtherEvent, ProgramEvent, SampleEvent}
 use Rattle.cfi_stacks.specs.declared.mappings.MappedCode.{MappedCode}
 use Rattle.cfi_stacks.specs.declared.replay.Replay.{Replay}
 use Rattle.cfi_stacks.specs.Histories.{Change, executed, forked, mapped, mappings_after}
+use Rattle.cfi_stacks.specs.FileModules.{AreOfFiles}
 use Rattle.cfi_stacks.specs.KnownFiles.{KnownFile, known_view, modules_in}
 use Rattle.cfi_stacks.specs.Modules.{module_view}
 use Rattle.cfi_stacks.specs.Processes.{mappings_of}
-
--- ---- how many samples
-
-abbrev pub is_sample : Event → Bool
-is_sample (SampleEvent s) = true
-is_sample _ = false
-
-abbrev pub sample_count : List Record → ℕ
-sample_count records = count_by (λ r. is_sample r.event) records
 
 -- ---- the files
 
@@ -79,3 +71,6 @@ files_in replay = map known_view replay.files.now
 abbrev pub AreModulesFor : Event → Replay → Type 0
 AreModulesFor (SampleEvent s) replay = map module_view replay.modules.items ≡ modules_in (files_in replay) (replayed replay s.pid)
 AreModulesFor _ replay = ⊤
+
+abbrev pub HasOwnModules : Replay → Type 0
+HasOwnModules replay = AreOfFiles replay.files.now replay.modules.items

@@ -1,19 +1,31 @@
--- The room that samples are unwound in.
+-- The room that samples are unwound in, and the rows that it keeps of the files of a profile.
 --     KeepsNoRows room      no row is kept
---     IsRoomFor modules room      there is room for all frames of a stack, and the rows that are kept are those of these modules
+--     AreRowsOf loaded cache      the rows of its file are those of this module
+--     AreKeptFor files cache      they are those of any module that one of the files is, wherever it is mapped
+--     IsRoomFor files room      there is room for all frames of a stack, and the rows that are kept are right for the files
 use Rattle.std.specs.Prelude.{List, Some, true}
 use Rattle.cfi_read_core.specs.declared.endian_slice.EndianSlice.{EndianSlice}
 use Rattle.cfi_read_core.specs.declared.endianity.RunTimeEndian.{RunTimeEndian}
 use Rattle.cfi_read_core.specs.ByteOrder.{is_big}
 use Rattle.cfi_read_core.specs.Windows.{slice_position}
+use Rattle.cfi_step.specs.declared.cached_rows.CachedRow.{CachedRow}
 use Rattle.cfi_step.specs.declared.module.LoadedModule.{LoadedModule}
-use Rattle.cfi_step.specs.CachedRows.{AreCachedFor, AreEmpty}
+use Rattle.cfi_step.specs.CachedRows.{AreCachedIn, AreEmpty}
+use Rattle.cfi_stacks.specs.declared.profile_files.ProfileFile.{ProfileFile}
 use Rattle.cfi_stacks.specs.declared.sample_text.Room.{Room}
+use Rattle.cfi_stacks.specs.FileModules.{IsOfFiles}
 use Rattle.cfi_stacks.specs.SampleStacks.{HasRoom}
 
 abbrev pub KeepsNoRows : Room → Type 0
 KeepsNoRows room = AreEmpty room.cache.items
 
 -- for addresses of 8 bytes, in a storage of 192 rules and 4 rows
-abbrev pub IsRoomFor : List (LoadedModule (EndianSlice RunTimeEndian)) → Room → Type 0
-IsRoomFor modules room = HasRoom room.frames.items × AreCachedFor (slice_position is_big) 8 (Some 192) (Some 4) true modules room.cache.items
+abbrev pub AreRowsOf : LoadedModule (EndianSlice RunTimeEndian) → List CachedRow → Type 0
+AreRowsOf loaded cache = AreCachedIn (slice_position is_big) 8 (Some 192) (Some 4) true loaded cache
+
+-- in any process, and at any bias
+abbrev pub AreKeptFor : List ProfileFile → List CachedRow → Type 0
+AreKeptFor files cache = (loaded : LoadedModule (EndianSlice RunTimeEndian)) → IsOfFiles files loaded → AreRowsOf loaded cache
+
+abbrev pub IsRoomFor : List ProfileFile → Room → Type 0
+IsRoomFor files room = HasRoom room.frames.items × AreKeptFor files room.cache.items

@@ -10,8 +10,8 @@ use cfi_compiled::CompiledTable;
 use cfi_elf::{FunctionNames, FunctionPlace};
 use std::alloc::{AllocError, Global};
 
-/// The code of a file of a profile: its call frames, with their compiled table where that pays, and
-/// the names of its functions.
+/// The code of a file of a profile: its call frames, with their compiled table where they have no
+/// header (`Object::has_table`), and the names of its functions.
 #[derive(Drop)]
 pub struct FileCode<'run> {
     object: Object<'run>,
@@ -22,24 +22,20 @@ pub struct FileCode<'run> {
 }
 
 impl<'run> FileCode<'run> {
-    ghost use Rattle.std.specs.Prelude.{◌≡◌, Some, IfOk, option_map};
+    ghost use Rattle.std.specs.Prelude.{◌≡◌, Some, IfOk, IfSome, option_map};
     ghost use Rattle.cfi_elf.specs.FunctionPlaces.{place_view};
     ghost use Rattle.cfi_stacks.specs.KnownFiles.{code_view, function_in};
     ghost use Rattle.cfi_stacks.specs.Modules.{module_view};
-    ghost use Rattle.cfi_stacks.specs.Objects.{module_of, object_view};
+    ghost use Rattle.cfi_stacks.specs.Objects.{HasFramesOf, module_of, object_view};
     ghost use Rattle.cfi_stacks.specs.OpenedFiles.{IsCodeOf, IsTableIf};
 
-    /// The code of an object, in a profile of so many samples. Fails where memory is refused.
-    pub fn of(
-        alloc: Global,
-        object: Object<'run>,
-        samples: usize,
-    ) -> Result<FileCode<'run>, AllocError>
+    /// The code of an object. Fails where memory is refused.
+    pub fn of(alloc: Global, object: Object<'run>) -> Result<FileCode<'run>, AllocError>
         ensures { IfOk result (λ code.
-            IsCodeOf samples (Some (object_view object.entry)) (Some (code_view code))) }
+            IsCodeOf (Some (object_view object.entry)) (Some (code_view code))) }
     {
         let functions = FunctionNames::new(alloc, &object.file())?;
-        let table = Self::table_if(alloc, &object, object.has_table(samples))?;
+        let table = Self::table_if(alloc, &object, object.has_table())?;
         Ok(FileCode {
             object,
             table,
@@ -47,12 +43,14 @@ impl<'run> FileCode<'run> {
         })
     }
 
-    /// The module that the file is where it is mapped (`Object::module`).
-    pub fn module<'a>(&'a self, mapped: &MappedCode) -> Option<FileModule<'a, 'run>>
-        ensures { option_map module_view result ≡ module_of (code_view self.now).object
-            (code_view self.now).table mapped.now }
+    /// The module that the file is where it is mapped, with the file's number
+    /// (`Object::module`).
+    pub fn module<'a>(&'a self, number: usize, mapped: &MappedCode) -> Option<FileModule<'a, 'run>>
+        ensures module { option_map module_view result ≡ module_of number
+            (code_view self.now).object (code_view self.now).table mapped.now }
+        ensures frames { IfSome result (HasFramesOf number self.now.object) }
     {
-        self.object.module(self.table.as_ref(), mapped)
+        self.object.module(number, self.table.as_ref(), mapped)
     }
 
     /// The function that has an address of a process, where the file is mapped. Does not allocate.

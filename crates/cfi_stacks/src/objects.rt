@@ -1,27 +1,37 @@
 //! Files of a profile as modules: their call frames, where a process has mapped them.
-ghost use Rattle.std.specs.Prelude.{◌≡◌, ⊤, option_map, true};
-ghost use Rattle.cfi_read_core.specs.Addresses.{is_sized};
+ghost use Rattle.std.specs.Prelude.{◌≡◌, ⊤, option_map};
+ghost use Rattle.cfi_read_core.specs.AddressSizes.{size_in_bytes};
 ghost use Rattle.cfi_read_core.specs.ByteOrder.{is_big};
 ghost use Rattle.cfi_read_core.specs.Windows.{slice_over, slice_position};
-ghost use Rattle.cfi_elf.specs.ElfFiles.{file_view};
-ghost use Rattle.cfi_elf.specs.Segments.{plus};
-ghost use Rattle.gimli_cfi.specs.HeaderViews.{header_reader};
-ghost use Rattle.cfi_stacks.specs.Modules.{Module, module_view, moved_words, table_at, table_view};
+ghost use Rattle.cfi_entry.specs.SectionViews.{eh_frame_address_size};
+ghost use Rattle.cfi_files.specs.CallFrames.{frames_view};
+ghost use Rattle.gimli_cfi.specs.HeaderViews.{header_reader, section_view, unparsed_view};
+ghost use Rattle.cfi_stacks.specs.Modules.{file_header, file_section};
 
 use crate::mappings::MappedCode;
 use cfi_compiled::CompiledTable;
 use cfi_elf::ElfFile;
 use cfi_files::{CallFrames, eh_frame};
 use cfi_programs::words::SectionWords;
-use cfi_step::{LoadedModule, LoadedTable};
-use gimli_cfi::{EhFrame, EhFrameHdr, EndianSlice, Error, RunTimeEndian};
+use cfi_step::LoadedModule;
+use gimli_cfi::{BaseAddresses, EhFrame, EhFrameHdr, EndianSlice, Error, RunTimeEndian};
 use std::alloc::{AllocError, Global};
 
 /// A file of a profile: its segments and its call frames. The bytes are borrowed, not copied.
 pub struct Object<'file> {
     file: ElfFile<'file>,
     frames: CallFrames<'file>,
-    ghost sized: { is_sized frames.words.address_size ≡ true },
+    /// `.eh_frame`.
+    frame: EhFrame<EndianSlice<'file, RunTimeEndian>>,
+    /// `.eh_frame_hdr`, if there is one.
+    header: Option<EhFrameHdr<EndianSlice<'file, RunTimeEndian>>>,
+    /// Where both are in the file's addresses.
+    bases: BaseAddresses,
+    ghost section: { section_view (slice_position is_big) frame bases
+        ≡ file_section (frames_view frames) },
+    ghost headed: { option_map (λ header. unparsed_view (slice_position is_big) header
+        (size_in_bytes (eh_frame_address_size frame)) bases) header
+        ≡ file_header (frames_view frames) },
 }
 
 impl Clone for Object<'_> {
@@ -37,11 +47,13 @@ impl Clone for Object<'_> {
 impl Copy for Object<'_> {}
 
 impl<'file> Object<'file> {
-    ghost use Rattle.std.specs.Prelude.{◌≡◌, Some, IfErr, IfOk, option_map};
+    ghost use Rattle.std.specs.Prelude.{◌≡◌, Some, IfErr, IfOk, IfSome, option_map, true};
+    ghost use Rattle.cfi_read_core.specs.Addresses.{is_sized};
     ghost use Rattle.cfi_compiled.specs.CompiledTables.{IsCompiled};
     ghost use Rattle.cfi_elf.specs.ElfFiles.{file_view};
+    ghost use Rattle.cfi_files.specs.CallFrames.{frames_view};
     ghost use Rattle.cfi_stacks.specs.Modules.{file_section, loaded_module, module_view};
-    ghost use Rattle.cfi_stacks.specs.Objects.{bias_of, has_table, module_of};
+    ghost use Rattle.cfi_stacks.specs.Objects.{HasFramesOf, bias_of, has_table, module_of};
     ghost use Rattle.cfi_stacks.specs.Objects.{object_of, object_view};
     ghost use Rattle.gimli_cfi.specs.Words.{OutOfMemory};
 
@@ -55,8 +67,27 @@ impl<'file> Object<'file> {
             return None;
         };
         match eh_frame(&file) {
-            Ok(Some(frames)) => Some(Object { file, frames }),
+            Ok(Some(frames)) => Some(Self::with_frames(file, frames)),
             _ => None,
+        }
+    }
+
+    /// The file with these call frames.
+    fn with_frames(file: ElfFile<'file>, frames: CallFrames<'file>) -> Object<'file>
+        requires { is_sized frames.words.address_size ≡ true }
+        ensures { object_view result
+            ≡ record { file = file_view file.entry; frames = frames_view frames.entry } }
+    {
+        let words = &frames.words;
+        let mut frame = EhFrame::new(frames.section, words.endian);
+        frame.set_address_size(words.address_size);
+        frame.set_vendor(words.vendor);
+        Object {
+            file,
+            frames,
+            frame,
+            header: header_of(words, frames.header),
+            bases: words.bases(),
         }
     }
 
@@ -83,14 +114,12 @@ impl<'file> Object<'file> {
         }
     }
 
-    /// Whether the file has a compiled table in a profile of so many samples: where it has no
-    /// header, so that each frame would scan the section, or where there is a sample for each 512
-    /// bytes of the section. To make a table takes about as long for 512 bytes as it saves in the
-    /// twenty frames of a sample. Does not allocate.
-    pub fn has_table(&self, samples: usize) -> bool
-        ensures { result ≡ has_table samples (object_view self.now).frames }
+    /// Whether the file has a compiled table: where it has no header, so that each row that isn't
+    /// kept would be found by a scan of the section. Does not allocate.
+    pub fn has_table(&self) -> bool
+        ensures { result ≡ has_table (object_view self.now).frames }
     {
-        self.frames.words.header.is_none() || self.frames.section.len() / 512 <= samples
+        self.frames.words.header.is_none()
     }
 
     /// Returns the compiled table of the file's `.eh_frame`, at the addresses that the file has.
@@ -100,61 +129,49 @@ impl<'file> Object<'file> {
             (file_section (object_view self.now).frames)) }
         ensures err { IfErr result (λ error. error ≡ OutOfMemory) }
     {
-        let words = &self.frames.words;
-        let mut frame = EhFrame::new(self.frames.section, words.endian);
-        frame.set_address_size(words.address_size);
-        frame.set_vendor(words.vendor);
-        CompiledTable::new(alloc, &frame, &words.bases())
+        CompiledTable::new(alloc, &self.frame, &self.bases)
     }
 
-    /// The module that the file is where it is mapped, with this compiled table of it: its code is
-    /// that between the two addresses, and its sections and their bases are moved by the bias.
-    /// Returns `None` where there is no bias. Does not allocate.
+    /// The module that the file is where it is mapped, with the file's number among those of the
+    /// profile and this compiled table of it: its code is that between the two addresses, and its
+    /// sections are at the addresses of the file. Returns `None` where there is no bias. Does not
+    /// allocate.
     pub fn module<'a>(
         &self,
+        number: usize,
         table: Option<&'a CompiledTable>,
         mapped: &MappedCode,
     ) -> Option<LoadedModule<'a, EndianSlice<'file, RunTimeEndian>>>
-        ensures { option_map module_view result ≡ module_of (object_view self.now)
+        ensures module { option_map module_view result ≡ module_of number (object_view self.now)
             (option_map (λ table. table.now) table.entry) mapped.now }
+        ensures frames { IfSome result (HasFramesOf number self.now) }
     {
         let bias = self.bias(mapped)?;
-        Some(self.module_with(bias, table, mapped))
+        Some(self.module_with(bias, number, table, mapped))
     }
 
     /// The module, with this bias.
     fn module_with<'a>(
         &self,
         bias: u64,
+        number: usize,
         table: Option<&'a CompiledTable>,
         mapped: &MappedCode,
     ) -> LoadedModule<'a, EndianSlice<'file, RunTimeEndian>>
-        ensures { module_view result ≡ loaded_module (object_view self.now).frames
+        ensures module { module_view result ≡ loaded_module number (object_view self.now).frames
             (option_map (λ table. table.now) table.entry) mapped.now bias }
+        ensures frames { HasFramesOf number self.now result }
     {
-        let words = moved_words(&self.frames.words, bias);
-        let mut frame = EhFrame::new(self.frames.section, words.endian);
-        frame.set_address_size(words.address_size);
-        frame.set_vendor(words.vendor);
         LoadedModule {
             start: mapped.start,
             end: mapped.end,
-            frame,
-            header: header_of(&words, self.frames.header),
-            bases: words.bases(),
-            compiled: loaded_table(table, bias),
+            bias,
+            file: number,
+            frame: self.frame,
+            header: self.header,
+            bases: self.bases,
+            compiled: table,
         }
-    }
-}
-
-/// A compiled table, if there is one, of a file that is loaded with a bias.
-fn loaded_table(table: Option<&CompiledTable>, bias: u64) -> Option<LoadedTable<'_>>
-    ensures { option_map table_view result
-        ≡ option_map (λ table. table_at bias table.now) table.entry }
-{
-    match table {
-        Some(rows) => Some(LoadedTable { rows, bias }),
-        None => None,
     }
 }
 
@@ -168,29 +185,6 @@ fn header_of<'file>(
 {
     match words.header {
         Some(_) => Some(EhFrameHdr::new(bytes, words.endian)),
-        None => None,
-    }
-}
-
-/// The words of a section that is moved by a bias.
-fn moved_words(words: &SectionWords, bias: u64) -> SectionWords
-    ensures { result ≡ moved_words bias words.now }
-{
-    SectionWords {
-        section: moved(words.section, bias),
-        text: moved(words.text, bias),
-        data_base: moved(words.data_base, bias),
-        header: moved(words.header, bias),
-        ..*words
-    }
-}
-
-/// An address that is moved by a bias, where there is one.
-fn moved(address: Option<u64>, bias: u64) -> Option<u64>
-    ensures { result ≡ option_map (plus bias) address }
-{
-    match address {
-        Some(address) => Some(bias.wrapping_add(address)),
         None => None,
     }
 }

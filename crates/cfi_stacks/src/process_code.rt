@@ -1,9 +1,11 @@
 //! The code of a process, as it is mapped.
-ghost use Rattle.std.specs.Prelude.{◌≡◌, ◌++◌, IfOk, OnOk, Some, map, option_map, true};
+ghost use Rattle.std.specs.Prelude.{◌≡◌, ◌++◌, IfOk, IfSome, OnOk, Some, map, option_map, true};
 ghost use Rattle.std.specs.Option.{option_and_then};
 ghost use Rattle.cfi_elf.specs.FunctionPlaces.{place_view};
 ghost use Rattle.cfi_stacks.specs.KnownFiles.{file_of, function_in, known_view, mapped_at};
-ghost use Rattle.cfi_stacks.specs.KnownFiles.{module_in, modules_in, nowhere, site_in, site_of};
+ghost use Rattle.cfi_stacks.specs.KnownFiles.{module_at, module_in, modules_in};
+ghost use Rattle.cfi_stacks.specs.KnownFiles.{nowhere, site_in, site_of};
+ghost use Rattle.cfi_stacks.specs.FileModules.{AreOfFiles, IsOfFile, IsOfFiles};
 ghost use Rattle.cfi_stacks.specs.Mappings.{AreInOrder, has_byte_at};
 ghost use Rattle.cfi_stacks.specs.Modules.{module_view};
 ghost use Rattle.cfi_stacks.specs.StackTexts.{site_view, without_function};
@@ -108,9 +110,11 @@ impl<'a, 'files, 'run> ProcessCode<'a, 'files, 'run> {
         &self,
         modules: &mut Vec<FileModule<'files, 'run>>,
     ) -> Result<(), AllocError>
-        ensures { OnOk result (map module_view modules.new.items
+        ensures appended { OnOk result (map module_view modules.new.items
             ≡ map module_view modules.old.items
             ++ modules_in (map known_view self.now.files.now) self.now.mappings.now) }
+        ensures files { AreOfFiles self.now.files.now modules.old.items
+            → AreOfFiles self.now.files.now modules.new.items }
     {
         for mapped in self.mappings {
             if let Some(module) = self.module_at(mapped) {
@@ -122,10 +126,12 @@ impl<'a, 'files, 'run> ProcessCode<'a, 'files, 'run> {
 
     /// The module that is mapped.
     fn module_at(&self, mapped: &MappedCode) -> Option<FileModule<'files, 'run>>
-        ensures { option_map module_view result ≡ option_and_then (module_in mapped.now)
-            (file_of (map known_view self.now.files.now) mapped.now) }
+        ensures module { option_map module_view result
+            ≡ module_at (map known_view self.now.files.now) mapped.now }
+        ensures file { IfSome result (IsOfFiles self.now.files.now) }
     {
-        module_in(self.file_of(mapped)?, mapped)
+        let number = mapped.object?;
+        module_in(self.files.get(number)?, number, mapped)
     }
 }
 
@@ -169,15 +175,18 @@ fn function_in<'run>(
     }
 }
 
-/// The module that a file is where it is mapped.
+/// The module that a file with this number is where it is mapped.
 fn module_in<'a, 'run>(
     file: &'a ProfileFile<'run>,
+    number: usize,
     mapped: &MappedCode,
 ) -> Option<FileModule<'a, 'run>>
-    ensures { option_map module_view result ≡ module_in mapped.now (known_view file.now) }
+    ensures module { option_map module_view result
+        ≡ module_in mapped.now number (known_view file.now) }
+    ensures file { IfSome result (IsOfFile number file.now) }
 {
     match &file.code {
-        Some(code) => code.module(mapped),
+        Some(code) => code.module(number, mapped),
         None => None,
     }
 }

@@ -6,8 +6,7 @@ ghost use Rattle.cfi_stacks.specs.Objects.{object_of};
 ghost use Rattle.cfi_stacks.specs.OpenedFiles.{AreFilesOf, AreOpened, IsCodeOf, IsContents};
 ghost use Rattle.cfi_stacks.specs.OpenedFiles.{IsFileOf, IsReading, bytes_view, is_file_name};
 ghost use Rattle.cfi_stacks.specs.OpenedFiles.{opened_view, texts};
-ghost use Rattle.cfi_stacks.specs.Replays.{code_name, is_among, names_of};
-ghost use Rattle.cfi_stacks.specs.Replays.{sample_count, with_name};
+ghost use Rattle.cfi_stacks.specs.Replays.{code_name, is_among, names_of, with_name};
 
 use crate::file_code::FileCode;
 use crate::names::Name;
@@ -46,16 +45,6 @@ pub struct ProfileFile<'run> {
     pub name: Name<'run>,
     /// Its code; `None` where it can't be opened or read, is no ELF file, or has no `.eh_frame`.
     pub code: Option<FileCode<'run>>,
-}
-
-/// How many of the records are samples.
-pub fn sample_count(records: &[Record<'_>]) -> usize
-    ensures { result ≡ sample_count (map record_view records.now) }
-{
-    records
-        .iter()
-        .filter(|record| matches!(record.event, Event::Sample(_)))
-        .count()
 }
 
 /// The names that the executable mappings among the records have, each once, in the order of the
@@ -165,18 +154,17 @@ fn is_file_name(name: &[u8]) -> bool
         && !name.starts_with(b"/anon_hugepage")
 }
 
-/// The files that were opened, in a profile of so many samples. Fails where memory is refused.
+/// The files that were opened. Fails where memory is refused.
 pub fn profile_files<'opened>(
     alloc: Global,
     opened: &'opened [OpenedFile<'_>],
-    samples: usize,
 ) -> Result<Vec<ProfileFile<'opened>>, AllocError>
-    ensures { IfOk result (λ files. AreFilesOf samples (map opened_view opened.now)
-        (map known_view files.items)) }
+    ensures { IfOk result (λ files.
+        AreFilesOf (map opened_view opened.now) (map known_view files.items)) }
 {
     let mut files = Vec::new(alloc);
     for file in opened {
-        files.push(profile_file(alloc, file, samples)?)?;
+        files.push(profile_file(alloc, file)?)?;
     }
     Ok(files)
 }
@@ -185,12 +173,11 @@ pub fn profile_files<'opened>(
 fn profile_file<'opened>(
     alloc: Global,
     opened: &'opened OpenedFile<'_>,
-    samples: usize,
 ) -> Result<ProfileFile<'opened>, AllocError>
-    ensures { IfOk result (λ file. IsFileOf samples (opened_view opened.now) (known_view file)) }
+    ensures { IfOk result (λ file. IsFileOf (opened_view opened.now) (known_view file)) }
 {
     let code = match &opened.bytes {
-        Some(bytes) => code_of(alloc, bytes.as_slice(), samples)?,
+        Some(bytes) => code_of(alloc, bytes.as_slice())?,
         None => None,
     };
     Ok(ProfileFile {
@@ -200,16 +187,12 @@ fn profile_file<'opened>(
 }
 
 /// The code of the file that these bytes are.
-fn code_of<'run>(
-    alloc: Global,
-    bytes: &'run [u8],
-    samples: usize,
-) -> Result<Option<FileCode<'run>>, AllocError>
+fn code_of<'run>(alloc: Global, bytes: &'run [u8]) -> Result<Option<FileCode<'run>>, AllocError>
     ensures { IfOk result (λ code.
-        IsCodeOf samples (object_of bytes.now) (option_map code_view code)) }
+        IsCodeOf (object_of bytes.now) (option_map code_view code)) }
 {
     match Object::of(bytes) {
-        Some(object) => Ok(Some(FileCode::of(alloc, object, samples)?)),
+        Some(object) => Ok(Some(FileCode::of(alloc, object)?)),
         None => Ok(None),
     }
 }

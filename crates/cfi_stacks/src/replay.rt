@@ -25,19 +25,20 @@ pub struct Replay<'a, 'run> {
 }
 
 impl<'a, 'run> Replay<'a, 'run> {
-    ghost use Rattle.std.specs.Prelude.{◌≡◌, ℕ, [], IfOk, OnOk, false, map};
+    ghost use Rattle.std.specs.Prelude.{◌≡◌, ℕ, [], OnOk, map};
     ghost use Rattle.cfi_perf.specs.Events.{ForkEvent, MappingEvent, ProgramEvent};
     ghost use Rattle.cfi_perf.specs.Events.{mapping_view, program_view, record_view};
     ghost use Rattle.cfi_stacks.specs.KnownFiles.{known_view, modules_in};
     ghost use Rattle.cfi_stacks.specs.Modules.{module_view};
     ghost use Rattle.cfi_stacks.specs.Mappings.{AreInOrder};
-    ghost use Rattle.cfi_stacks.specs.Replays.{AreModulesFor, after, files_in, mapped_code};
-    ghost use Rattle.cfi_stacks.specs.Replays.{object_of, replayed};
+    ghost use Rattle.cfi_stacks.specs.Replays.{AreModulesFor, HasOwnModules, after, files_in};
+    ghost use Rattle.cfi_stacks.specs.Replays.{mapped_code, object_of, replayed};
 
     /// No process has anything mapped. Does not allocate.
     pub fn new(alloc: Global, files: &'a [ProfileFile<'run>]) -> Replay<'a, 'run>
         ensures nothing { (pid : ℕ) → replayed result pid ≡ [] }
-        ensures files { files_in result ≡ map known_view files.now }
+        ensures files { result.files.now ≡ files.now }
+        ensures own { HasOwnModules result }
     {
         Replay {
             files,
@@ -47,33 +48,25 @@ impl<'a, 'run> Replay<'a, 'run> {
         }
     }
 
-    /// Follows a record. Before a sample, the modules are made those of its process. Returns
-    /// whether they were made anew; else they are those of before.
-    ///
-    /// Fails where memory is refused.
-    pub fn follow(&mut self, item: &Record<'_>) -> Result<bool, AllocError>
+    /// Follows a record. Before a sample, the modules are made those of its process. Fails where
+    /// memory is refused.
+    pub fn follow(&mut self, item: &Record<'_>) -> Result<(), AllocError>
         ensures processes { OnOk result ((pid : ℕ) → replayed self.new pid
             ≡ after (files_in self.old) (record_view item.now).event (replayed self.old) pid) }
         ensures modules { OnOk result
             (AreModulesFor (record_view item.now).event self.new) }
-        ensures same { IfOk result (λ anew. anew ≡ false → self.new.modules ≡ self.old.modules) }
-        ensures files { files_in self.new ≡ files_in self.old }
+        ensures own { HasOwnModules self.old → HasOwnModules self.new }
+        ensures files { self.new.files.now ≡ self.old.files.now }
     {
         match item.event {
-            Event::Mapping(mapping) => {
-                self.map(&mapping)?;
-                Ok(false)
-            }
+            Event::Mapping(mapping) => self.map(&mapping),
             Event::Program(program) => {
                 self.run(&program);
-                Ok(false)
+                Ok(())
             }
-            Event::Fork(fork) => {
-                self.fork(&fork)?;
-                Ok(false)
-            }
+            Event::Fork(fork) => self.fork(&fork),
             Event::Sample(sample) => self.load(sample.pid),
-            Event::Other => Ok(false),
+            Event::Other => Ok(()),
         }
     }
 
@@ -81,7 +74,7 @@ impl<'a, 'run> Replay<'a, 'run> {
     pub fn code(&self, pid: u32) -> ProcessCode<'_, 'a, 'run>
         ensures mappings { result.mappings.now ≡ replayed self.now pid }
         ensures order { AreInOrder 0 result.mappings.now }
-        ensures files { map known_view result.files.now ≡ files_in self.now }
+        ensures files { result.files.now ≡ self.now.files.now }
     {
         ProcessCode {
             mappings: self.processes.mappings(pid),
@@ -102,7 +95,7 @@ impl<'a, 'run> Replay<'a, 'run> {
             ≡ after (files_in self.old) (MappingEvent (mapping_view mapping.now))
             (replayed self.old) pid) }
         ensures same { self.new.modules ≡ self.old.modules }
-        ensures files { files_in self.new ≡ files_in self.old }
+        ensures files { self.new.files.now ≡ self.old.files.now }
     {
         self.pid = None;
         let new = self.mapped(mapping);
@@ -115,7 +108,7 @@ impl<'a, 'run> Replay<'a, 'run> {
             ≡ after (files_in self.old) (ProgramEvent (program_view program.now))
             (replayed self.old) pid }
         ensures same { self.new.modules ≡ self.old.modules }
-        ensures files { files_in self.new ≡ files_in self.old }
+        ensures files { self.new.files.now ≡ self.old.files.now }
     {
         if program.is_exec {
             self.pid = None;
@@ -128,7 +121,7 @@ impl<'a, 'run> Replay<'a, 'run> {
         ensures processes { OnOk result ((pid : ℕ) → replayed self.new pid
             ≡ after (files_in self.old) (ForkEvent fork.now) (replayed self.old) pid) }
         ensures same { self.new.modules ≡ self.old.modules }
-        ensures files { files_in self.new ≡ files_in self.old }
+        ensures files { self.new.files.now ≡ self.old.files.now }
     {
         self.pid = None;
         self.processes.fork(fork.pid, fork.parent)
@@ -159,16 +152,16 @@ impl<'a, 'run> Replay<'a, 'run> {
         }
     }
 
-    /// Makes the modules of a process, unless they are here. Returns whether it made them.
-    fn load(&mut self, pid: u32) -> Result<bool, AllocError>
+    /// Makes the modules of a process, unless they are here.
+    fn load(&mut self, pid: u32) -> Result<(), AllocError>
         ensures modules { OnOk result (map module_view self.new.modules.items
             ≡ modules_in (files_in self.new) (replayed self.new pid)) }
-        ensures same { IfOk result (λ anew. anew ≡ false → self.new.modules ≡ self.old.modules) }
+        ensures own { HasOwnModules self.old → HasOwnModules self.new }
         ensures processes { self.new.processes ≡ self.old.processes }
-        ensures files { files_in self.new ≡ files_in self.old }
+        ensures files { self.new.files.now ≡ self.old.files.now }
     {
         if self.pid == Some(pid) {
-            return Ok(false);
+            return Ok(());
         }
         self.pid = None;
         self.modules.clear();
@@ -178,6 +171,6 @@ impl<'a, 'run> Replay<'a, 'run> {
         };
         code.push_modules(&mut self.modules)?;
         self.pid = Some(pid);
-        Ok(true)
+        Ok(())
     }
 }

@@ -14,12 +14,12 @@ ghost use Rattle.cfi_stacks.specs.ProfileOutputs.{IsOfRecords, IsOfSorted};
 ghost use Rattle.cfi_stacks.specs.ProfileOutputs.{IsOutput, IsOwed, IsPrinted, IsSortedOf};
 ghost use Rattle.cfi_stacks.specs.ProfileOutputs.{IsTextOf, ended, perf_refusal};
 ghost use Rattle.cfi_stacks.specs.ProfileOutputs.{unknown_machine};
-ghost use Rattle.cfi_stacks.specs.Replays.{AreModulesFor, files_in, replayed};
+ghost use Rattle.cfi_stacks.specs.Replays.{AreModulesFor, HasOwnModules, files_in, replayed};
 ghost use Rattle.cfi_stacks.specs.Rooms.{IsRoomFor, KeepsNoRows};
 ghost use Rattle.cfi_stacks.specs.SampleStacks.{HasRoom};
 
 use crate::profile_files::{
-    OpenedFile, Opener, ProfileFile, mapped_names, profile_files, read_files, sample_count,
+    OpenedFile, Opener, ProfileFile, mapped_names, profile_files, read_files,
 };
 use crate::registers::SampleMachine;
 use crate::replay::Replay;
@@ -252,7 +252,7 @@ fn print_opened<W: Write>(
         (map record_view records.now) error line ⊎ (line ≡ out_of_memory))
         (W.contents output.old) (W.contents output.new) result }
 {
-    match profile_files(alloc, opened, sample_count(records)) {
+    match profile_files(alloc, opened) {
         Ok(files) => print_stacks(
             alloc,
             raw,
@@ -307,12 +307,7 @@ fn print_in<W: Write>(
     let mut replay = Replay::new(alloc, files);
     for record in records {
         match replay.follow(record) {
-            Ok(has_new_modules) => {
-                if has_new_modules {
-                    room.forget_rows();
-                }
-                print_followed(raw, machine, &replay, record, &mut room, output)?;
-            }
+            Ok(()) => print_followed(raw, machine, &replay, record, &mut room, output)?,
             Err(_) => return write_refusal(output, Error::OutOfMemory),
         }
     }
@@ -329,12 +324,13 @@ fn print_followed<W: Write>(
     output: &mut W,
 ) -> io::Result<()>
     requires modules { AreModulesFor (record_view item.now).event replay.now }
-    requires cached { IsRoomFor replay.now.modules.items room.old }
+    requires own { HasOwnModules replay.now }
+    requires cached { IsRoomFor replay.now.files.now room.old }
     ensures printed { (text : List ℕ)
         × Writes (W.contents output.old) (W.contents output.new) result text
         × IsTextOf raw machine (files_in replay.now) (replayed replay.now) item.now.time
         (record_view item.now).event text }
-    ensures cached { IsRoomFor replay.now.modules.items room.new }
+    ensures cached { IsRoomFor replay.now.files.now room.new }
 {
     match item.event {
         Event::Sample(sample) => print_sample(

@@ -1,7 +1,7 @@
 //! The frames of a sample, from its copy of the stack.
 ghost use Rattle.std.specs.Prelude.{◌≡◌, ◌≤◌, None, drop, length, take, true};
 ghost use Rattle.cfi_read_core.specs.ReaderCalls.{map_ok};
-ghost use Rattle.cfi_step.specs.CachedRows.{AreCachedFor};
+ghost use Rattle.cfi_step.specs.CachedRows.{AreCachedFor, AreNumbered, KeepsFor};
 ghost use Rattle.cfi_step.specs.ModuleLists.{module_list};
 ghost use Rattle.cfi_stacks.specs.Registers.{register_count};
 ghost use Rattle.cfi_stacks.specs.SampleStacks.{IsUnwound, IsWalkFrom, innermost_of};
@@ -47,9 +47,9 @@ pub struct Innermost {
 /// `registers` and `caller` have room for `machine.register_count()` registers, and may hold what
 /// the last sample left there. The registers of the innermost frame are the sample's, under DWARF's
 /// numbers; its memory is the sample's copy of the stack, which begins at the stack pointer.
-/// Everything else is as in `cfi_step::unwind_cached`, by whose condition the rows in the cache are
-/// those of these modules; an empty slice is right for any modules. A row's expression may do 1000
-/// operations.
+/// Everything else is as in `cfi_step::unwind_cached`, by whose conditions modules with one number
+/// of a file have the same call frames, and the rows in the cache are those of these modules; an
+/// empty slice is right for any modules. A row's expression may do 1000 operations.
 ///
 /// Fails with the reason why there are no frames, and then writes nothing. Over a fixed storage it
 /// does not allocate.
@@ -65,6 +65,7 @@ pub fn unwind_sample<R: Reader<Offset = usize>, S: UnwindContextStorage<usize>>(
 ) -> Result<Walk, NoFrames>
     requires room { length registers.old ≡ register_count machine }
     requires same_room { length caller.old ≡ register_count machine }
+    requires numbered { AreNumbered (module_list modules) }
     requires cached { AreCachedFor R.position 8 S.Rules.limit S.Stack.limit S.Rules.copies_free
         (module_list modules) cache.old }
     ensures unwound { IsUnwound R.position (λ n. n)
@@ -73,6 +74,8 @@ pub fn unwind_sample<R: Reader<Offset = usize>, S: UnwindContextStorage<usize>>(
         (record { registers = registers.old; caller = caller.old; frames = frames.old })
         result
         (record { registers = registers.new; caller = caller.new; frames = frames.new }) }
+    ensures kept { KeepsFor R.position 8 S.Rules.limit S.Stack.limit S.Rules.copies_free
+        (module_list modules.entry) cache.old cache.new }
     ensures cached { AreCachedFor R.position 8 S.Rules.limit S.Stack.limit S.Rules.copies_free
         (module_list modules.entry) cache.new }
 {
@@ -98,6 +101,7 @@ fn walk_from<R: Reader<Offset = usize>, S: UnwindContextStorage<usize>>(
 ) -> Walk
     requires room { length registers.old ≡ register_count machine }
     requires same_room { length caller.old ≡ register_count machine }
+    requires numbered { AreNumbered (module_list modules) }
     requires cached { AreCachedFor R.position 8 S.Rules.limit S.Stack.limit S.Rules.copies_free
         (module_list modules) cache.old }
     ensures walk { IsWalkFrom R.position (λ n. n)
@@ -112,6 +116,8 @@ fn walk_from<R: Reader<Offset = usize>, S: UnwindContextStorage<usize>>(
     ensures rest { drop result.count frames.new ≡ drop result.count frames.old }
     ensures count { result.count ≤ length frames.new }
     ensures full { result.end ≡ End.NoRoom → result.count ≡ length frames.new }
+    ensures kept { KeepsFor R.position 8 S.Rules.limit S.Stack.limit S.Rules.copies_free
+        (module_list modules.entry) cache.old cache.new }
     ensures cached { AreCachedFor R.position 8 S.Rules.limit S.Stack.limit S.Rules.copies_free
         (module_list modules.entry) cache.new }
 {

@@ -3,6 +3,7 @@ ghost use Rattle.std.specs.Prelude.{◌≡◌, ◌≤◌, ℕ, IfOk, List, lengt
 ghost use Rattle.cfi_perf.specs.Samples.{sample_view};
 ghost use Rattle.cfi_programs.specs.WriterOutput.{Writes};
 ghost use Rattle.cfi_step.specs.CachedRows.{AreEmpty};
+ghost use Rattle.cfi_stacks.specs.FileModules.{AreOfFiles};
 ghost use Rattle.cfi_stacks.specs.KnownFiles.{known_view, modules_in, site_of};
 ghost use Rattle.cfi_stacks.specs.Mappings.{AreInOrder};
 ghost use Rattle.cfi_stacks.specs.Modules.{module_view};
@@ -17,7 +18,7 @@ use crate::sample_stack::{NoFrames, unwind_sample};
 use crate::stack_lines::{LineRoom, write_head, write_site_line};
 use cfi_perf::Sample;
 use cfi_programs::lines::write_text;
-use cfi_step::{CachedRow, Modules, StackFrame, Walk, clear_rows, row_address};
+use cfi_step::{CachedRow, Modules, StackFrame, Walk, row_address};
 use gimli_cfi::{Error, UnwindContext};
 use std::alloc::{AllocError, Global};
 use std::io;
@@ -30,9 +31,9 @@ const FRAMES: usize = 4096;
 /// As many registers as the machine with most of them has.
 const REGISTERS: usize = 33;
 
-/// How many rows are kept. In recorded profiles of x86-64 programs the rows of 80 to 99 of 100
-/// frames were in a cache of 2,048.
-const ROWS: usize = 2048;
+/// How many rows are kept. In most recorded profiles of x86-64 programs the rows of 80 to 100 of
+/// 100 frames are held by half as many slots that are emptied when the process changes.
+const ROWS: usize = 4096;
 
 const NO_FRAME: StackFrame = StackFrame {
     pc: 0,
@@ -73,14 +74,6 @@ impl Room {
             Err(_) => Err(Error::OutOfMemory),
         }
     }
-
-    /// Keeps no row any more: what has to be done before a sample of other modules is unwound.
-    pub fn forget_rows(&mut self)
-        ensures rows { KeepsNoRows self.new }
-        ensures frames { self.new.frames ≡ self.old.frames }
-    {
-        clear_rows(self.cache.as_mut_slice());
-    }
 }
 
 /// A cache of rows without a row.
@@ -97,8 +90,9 @@ fn empty_rows(alloc: Global) -> Result<Vec<CachedRow>, AllocError>
 /// Prints the stack of a sample: a line with its thread and time, a line for each frame, the reason
 /// why there are no more if the last one isn't the outermost, and an empty line.
 ///
-/// If it is `raw`, the lines have no functions. The modules are those of what is mapped, and the
-/// rows that the room keeps are theirs. There is room for `FRAMES` frames. Does not allocate.
+/// If it is `raw`, the lines have no functions. The modules are those of what is mapped. The rows
+/// that the room keeps are those of the files, in whichever process they were found. There is room
+/// for `FRAMES` frames. Does not allocate.
 pub fn print_sample<W: Write>(
     raw: bool,
     machine: SampleMachine,
@@ -112,12 +106,13 @@ pub fn print_sample<W: Write>(
     requires order { AreInOrder 0 code.now.mappings.now }
     requires modules { map module_view modules.now
         ≡ modules_in (map known_view code.now.files.now) code.now.mappings.now }
-    requires cached { IsRoomFor modules.now room.old }
+    requires files { AreOfFiles code.now.files.now modules.now }
+    requires cached { IsRoomFor code.now.files.now room.old }
     ensures printed { (text : List ℕ)
         × Writes (W.contents output.old) (W.contents output.new) result text
         × IsStackText raw machine (map known_view code.now.files.now) code.now.mappings.now time
         (sample_view sample.now) text }
-    ensures cached { IsRoomFor modules.now room.new }
+    ensures cached { IsRoomFor code.now.files.now room.new }
 {
     let Ok(modules) = Modules::new(modules) else {
         unreachable!()

@@ -4,7 +4,7 @@ use Rattle.cfi_read_core.specs.AddressSizes.{size_in_bytes}
 use Rattle.cfi_read_core.specs.ByteOrder.{is_big}
 use Rattle.cfi_read_core.specs.Windows.{slice_position}
 use Rattle.cfi_expression.specs.Windows.{number_in}
-use Rattle.cfi_step.specs.CachedRows.{AreCachedFor}
+use Rattle.cfi_step.specs.CachedRows.{AreCachedFor, KeepsFor}
 use Rattle.cfi_step.specs.ModuleLists.{module_list}
 use Rattle.cfi_stacks.specs.SampleStacks.{memory_of}
 use Rattle.cfi_stacks.proofs.Unwinding.{as_sampled}
@@ -32,3 +32,8 @@ pub returns-clause-cached : goal.returns-clause-cached
 returns-clause-cached g c =
     subst (λ (n : ℕ). AreCachedFor g.R.Reader.position n g.S.Rules.ArrayLike.limit g.S-Stack-ArrayLike.limit g.S.Rules.CopyList.copies_free (module_list c.args.modules) c.unwind_cached.new.cache)
     c.new-2.ensures c.unwind_cached.ensures.cached
+
+pub returns-clause-kept : goal.returns-clause-kept
+returns-clause-kept g c =
+    subst (λ (n : ℕ). KeepsFor g.R.Reader.position n g.S.Rules.ArrayLike.limit g.S-Stack-ArrayLike.limit g.S.Rules.CopyList.copies_free (module_list c.args.modules) c.args.cache.now c.unwind_cached.new.cache)
+    c.new-2.ensures c.unwind_cached.ensures.kept

@@ -5,7 +5,7 @@ use Rattle.cfi_stacks.specs.KnownFiles.{known_view}
 use Rattle.cfi_stacks.specs.Modules.{module_view}
 use Rattle.cfi_stacks.specs.ProfileOutputs.{sample_text}
 use Rattle.cfi_stacks.proofs.CodeLemmas.{modules_sorted}
-use Rattle.cfi_stacks.proofs.RoomLemmas.{room_after, rows_after, rows_before}
+use Rattle.cfi_stacks.proofs.RoomLemmas.{numbered_before, room_after, rows_after, rows_before}
 use Rattle.cfi_stacks.proofs.sample_text.print_sample.Goals as goal
 
 pub unreachable-requires : goal.unreachable-requires
@@ -28,13 +28,19 @@ returns-clause-printed g c = (
   ),
 )
 
+pub unwind_sample-found-requires-clause-numbered : goal.unwind_sample-found-requires-clause-numbered
+unwind_sample-found-requires-clause-numbered g c =
+    numbered_before c.args.code.now.files.now c.args.modules.now (module_list c.in-Ok.modules) c.in-Ok.ensures.sorted.1 c.requires.files
+
 pub unwind_sample-found-requires-clause-cached : goal.unwind_sample-found-requires-clause-cached
 unwind_sample-found-requires-clause-cached g c =
-    rows_before c.args.modules.now (module_list c.in-Ok.modules) c.args.room.now.cache.items c.as_mut_slice.result.now c.in-Ok.ensures.sorted.1 c.as_mut_slice.ensures.value c.requires.cached.1
+    rows_before c.args.code.now.files.now c.args.modules.now (module_list c.in-Ok.modules) c.in-Ok.ensures.sorted.1 c.requires.files
+    c.args.room.now.cache.items c.as_mut_slice.result.now c.as_mut_slice.ensures.value c.requires.cached.1
 
 pub returns-clause-cached : goal.returns-clause-cached
 returns-clause-cached g c = (
   room_after c.args.room.now.frames.len c.args.room.now.frames.items c.unwind_sample-found.new.frames (search rules) c.requires.cached.0,
-  rows_after c.args.modules.now (module_list c.in-Ok.modules) c.args.room.now.cache.len c.args.room.now.cache.items c.unwind_sample-found.new.cache (search rules) c.in-Ok.ensures.sorted.1
-      c.unwind_sample-found.ensures.cached,
+  rows_after c.args.code.now.files.now c.args.modules.now (module_list c.in-Ok.modules) c.in-Ok.ensures.sorted.1 c.requires.files
+      c.args.room.now.cache.len c.args.room.now.cache.items c.as_mut_slice.result.now c.unwind_sample-found.new.cache (search rules) c.as_mut_slice.ensures.value c.requires.cached.1
+      c.unwind_sample-found.ensures.kept,
 )
