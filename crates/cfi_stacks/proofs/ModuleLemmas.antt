@@ -1,5 +1,5 @@
 -- The files that modules are of.
-use Rattle.std.proofs.Common.{◌≡◌, ◌∙◌, ◌<◌, ◌+◌, ℕ, List, [], ◌∷◌, ◌++◌, Option, Some, None, IfSome, length, get_or, drop, map, option_map, refl, sym, ap, subst, add-one, append_assoc}
+use Rattle.std.proofs.Common.{arith, ◌≡◌, ◌∙◌, ◌<◌, ◌+◌, ℕ, List, [], ◌∷◌, ◌++◌, Option, Some, None, IfSome, length, get_or, drop, map, option_map, refl, sym, ap, subst, add-one, append_assoc}
 use Rattle.std.proofs.Math.Seq.{drop-cons}
 use Rattle.std.specs.List.{cons_option, slice_get}
 use Rattle.std.proofs.lemmas.List.Elements.{All-push}
@@ -29,6 +29,10 @@ one_of_files files number file loaded at (code, is, (same, frame, header, bases)
 pub of_files : (files : List ProfileFile) (number : ℕ) (file : ProfileFile) (o : Option Loaded) → slice_get files number ≡ Some file → IfSome o (IsOfFile number file) → IfSome o (IsOfFiles files)
 of_files files number file None at is = tt
 of_files files number file (Some loaded) at is = one_of_files files number file loaded at is
+
+-- there is none
+pub none_of_files : (files : List ProfileFile) (list : List Loaded) → list ≡ [] → AreOfFiles files list
+none_of_files files list is = subst (AreOfFiles files) (sym is) (λ k d less. absurd (omega (arith, less)))
 
 -- nothing has changed
 pub still_of_files : (files now : List ProfileFile) (before after : List Loaded) → now ≡ files → after ≡ before → AreOfFiles files before → AreOfFiles now after

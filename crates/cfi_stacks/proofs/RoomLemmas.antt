@@ -80,3 +80,7 @@ module _ (files : List ProfileFile) (modules checked : Modules) (same : checked 
   rows_after n rows lent new long same_rows kept keeps =
       subst (AreKeptFor files) (sym (refill-same n rows new long))
       (kept_for_files files checked lent new are_checked keeps (subst (AreKeptFor files) (sym same_rows) kept))
+
+-- the files are the same
+pub still_room_for : (files now : List ProfileFile) (room : Room) → now ≡ files → IsRoomFor files room → IsRoomFor now room
+still_room_for files now room same is = subst (λ (known : List ProfileFile). IsRoomFor known room) (sym same) is

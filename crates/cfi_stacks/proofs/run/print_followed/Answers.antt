@@ -1,6 +1,14 @@
+use Rattle.std.proofs.Common.{sym}
 use Rattle.cfi_stacks.proofs.ModuleLemmas.{still_of_files}
+use Rattle.cfi_stacks.proofs.RoomLemmas.{still_room_for}
 use Rattle.cfi_stacks.proofs.run.print_followed.Goals as goal
 
 pub print_sample-requires-clause-files : goal.print_sample-requires-clause-files
 print_sample-requires-clause-files g c =
     still_of_files c.args.replay.now.files.now c.code.result.files.now c.args.replay.now.modules.items c.modules.result.now c.code.ensures.files c.modules.ensures c.requires.own
+
+pub print_sample-requires-clause-cached : goal.print_sample-requires-clause-cached
+print_sample-requires-clause-cached g c = still_room_for c.args.replay.now.files.now c.code.result.files.now c.args.room.now c.code.ensures.files c.requires.cached
+
+pub returns-in-Sample-clause-cached : goal.returns-in-Sample-clause-cached
+returns-in-Sample-clause-cached g c = still_room_for c.code.result.files.now c.args.replay.now.files.now c.print_sample.new.room (sym c.code.ensures.files) c.print_sample.ensures.cached
