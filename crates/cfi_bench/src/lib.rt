@@ -15,7 +15,7 @@ mod sums;
 mod tests;
 
 use compiled::of_compiled;
-use gimli_cfi::{BigEndian, LittleEndian, RunTimeEndian};
+use gimli_cfi::{BigEndian, LittleEndian};
 use passes::{of_header, of_section};
 use std::alloc::Global;
 
@@ -128,8 +128,15 @@ pub extern "C" fn cfi_bench_compiled_le(
     passes: u64,
     count: &mut u64,
 ) -> u64 {
-    let endian = RunTimeEndian::Little;
-    let done = of_compiled(alloc, measure, section, endian, base, addresses, passes);
+    let done = of_compiled(
+        alloc,
+        measure,
+        section,
+        LittleEndian,
+        base,
+        addresses,
+        passes,
+    );
     *count = done.count;
     done.sum
 }
@@ -145,8 +152,7 @@ pub extern "C" fn cfi_bench_compiled_be(
     passes: u64,
     count: &mut u64,
 ) -> u64 {
-    let endian = RunTimeEndian::Big;
-    let done = of_compiled(alloc, measure, section, endian, base, addresses, passes);
+    let done = of_compiled(alloc, measure, section, BigEndian, base, addresses, passes);
     *count = done.count;
     done.sum
 }
