@@ -10,14 +10,13 @@ ghost use Rattle.cfi_parts.specs.InstructionVisits.{VisitsNext};
 ghost use Rattle.cfi_parts.specs.ReadingParameters.{NotBeforeSection, reader_at};
 
 mod parse;
-pub mod visitor;
 
 use crate::pointer::PointerEncodingParameters;
-pub use cfi_read_core::instruction::{CallFrameInstruction, UnwindExpression};
+use cfi_read_core::instruction::visitor::{InstructionValue, InstructionVisitor};
+pub use cfi_read_core::instruction::{CallFrameInstruction, UnwindExpression, visitor};
 use cfi_read_core::{DwEhPe, Reader, Result, Vendor};
 use parse::{InstructionParameters, visit_instruction};
 use std::alloc::AllocError;
-use visitor::{InstructionValue, InstructionVisitor};
 
 /// An iterator over the instructions of an entry (DWARF 5 sections 6.4.2 and 7.24).
 ///

@@ -7,6 +7,8 @@ ghost use Rattle.cfi_read_core.specs.ExpressionPlaces.{LiesIn, expression_bytes,
 ghost use Rattle.cfi_read_core.specs.ExpressionPlaces.{place_in};
 ghost use Rattle.cfi_read_core.specs.MappedInstructions.{map_expression};
 
+pub mod visitor;
+
 use crate::dwarf_section::Expression;
 use crate::section_properties::_UnwindSectionPrivate;
 use crate::{Reader, Register, Result};

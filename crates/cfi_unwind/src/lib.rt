@@ -7,6 +7,5 @@
 pub mod cie_cache;
 pub mod entry;
 mod fde_rows;
-mod runner;
 pub mod unwind_section;
 pub mod unwind_table;

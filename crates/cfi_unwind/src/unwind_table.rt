@@ -20,14 +20,15 @@ ghost use Rattle.cfi_unwind.specs.UnwindTableCalls.{AcceptsCieProgram, LendsNext
 ghost use Rattle.cfi_unwind.specs.UnwindTableCalls.{row_given, state_after, state_in_numbers};
 
 use crate::entry::FrameDescriptionEntry;
-use crate::runner::InstructionRunner;
 use crate::unwind_section::UnwindSection;
 use cfi_parts::instruction::CallFrameInstructionIter;
 use cfi_parts::pointer::BaseAddresses;
 use cfi_read_core::{Error, Reader, Result, StoreOnHeap};
 use cfi_state::storage::UnwindContextStorage;
 use cfi_state::table::context::UnwindContext;
-use cfi_state::table::machine::{Parameters, current_row, end_cie, reset, set_addresses};
+use cfi_state::table::machine::{
+    InstructionRunner, Parameters, current_row, end_cie, reset, set_addresses,
+};
 use cfi_state::table::row::UnwindTableRow;
 
 /// The rows of an FDE, in order (DWARF 5 section 6.4.1).

@@ -8,7 +8,6 @@ ghost use Rattle.cfi_parts.specs.InstructionVisits.{VisitsRead};
 ghost use Rattle.cfi_parts.specs.ReadingParameters.{NotBeforeSection, instruction_context};
 ghost use Rattle.cfi_parts.specs.ReadingParameters.{pointer_context};
 
-use crate::instruction::visitor::InstructionVisitor;
 use crate::instruction::{CallFrameInstruction, UnwindExpression};
 use crate::pointer::{PointerEncodingParameters, parse_encoded_pointer};
 use cfi_read_core::constants::{
@@ -21,6 +20,7 @@ use cfi_read_core::constants::{
     DW_CFA_set_loc, DW_CFA_undefined, DW_CFA_val_expression, DW_CFA_val_offset,
     DW_CFA_val_offset_sf,
 };
+use cfi_read_core::instruction::visitor::InstructionVisitor;
 use cfi_read_core::reader::{read_offset, read_register};
 use cfi_read_core::{DwCfa, DwEhPe, Error, Reader, ReaderOffset, Register, Result, Vendor};
 use std::alloc::AllocError;
@@ -156,11 +156,29 @@ fn visit_extended<R: Reader, C, V: InstructionVisitor<R::Offset, C>>(
         DW_CFA_nop => Ok(visitor.nop(target)),
         DW_CFA_remember_state => Ok(visitor.remember_state(target)),
         DW_CFA_restore_state => Ok(visitor.restore_state(target)),
-        _ => {
-            let instruction = parse_rare(opcode, parameters, input)?;
-            Ok(visitor.other(target, instruction))
-        }
+        _ => visit_rare(opcode, parameters, input, visitor, target),
     }
+}
+
+/// Reads the operands of one of the other opcodes whose two high bits are 0, and visits the
+/// instruction.
+#[inline(always)]
+fn visit_rare<R: Reader, C, V: InstructionVisitor<R::Offset, C>>(
+    opcode: DwCfa,
+    parameters: &InstructionParameters<'_, R>,
+    input: &mut R,
+    visitor: &V,
+    target: &mut C,
+) -> Result<V::Answer>
+    requires rare { IsRare opcode.0 }
+    requires behind { NotBeforeSection R.position parameters.now.pointers input.old }
+    ensures { VisitsRead R.Offset.number (V.visits visitor.now)
+        (by_extended_opcode (instruction_context R.position parameters.now) opcode.0)
+        (R.position input.old) (R.position input.new) target.old target.new result }
+{
+    let instruction = parse_rare(opcode, parameters, input)?;
+    let answer = visitor.other(target, instruction);
+    Ok(answer)
 }
 
 /// Reads the operands of one of the other opcodes whose two high bits are 0.

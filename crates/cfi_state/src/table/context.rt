@@ -199,6 +199,7 @@ impl<T: ReaderOffset, S: UnwindContextStorage<T>> UnwindContext<T, S> {
 
     /// Remembers the current row (DWARF 5 section 6.4.2.4). Fails with `StackFull` if there is no
     /// room, and with `OutOfMemory` if a copy cannot be allocated.
+    #[inline(never)]
     pub(crate) fn remember(&mut self) -> Result<()>
         ensures { Performs (AddsRow S.Stack.limit S.Rules.copies_free)
             (context_remember S.Stack.limit self.old) self.old self.new result }
@@ -212,6 +213,7 @@ impl<T: ReaderOffset, S: UnwindContextStorage<T>> UnwindContext<T, S> {
 
     /// Restores the last remembered row, except for its addresses (DWARF 5 section 6.4.2.4). Fails
     /// with `PopWithEmptyStack` if none is remembered. Does not allocate.
+    #[inline(never)]
     pub(crate) fn restore(&mut self) -> Result<()>
         ensures { Performs ⊥ (context_restore self.old) self.old self.new result }
     {

@@ -1,13 +1,12 @@
 //! The machine of call frame instructions (DWARF 5 section 6.4.2): one step for each instruction.
 //!
-//! What the crates above this one do to a context is here, as free functions. They are not methods,
-//! so users of an unwind context do not see them.
+//! What the crates above this one do to a context is here, and not among its methods, so users of
+//! an unwind context do not see it.
 ghost use Rattle.std.specs.Prelude.{◌≡◌, ℕ, None, IfOk, is_some, true, false};
 ghost use Rattle.std.specs.Int.{w64, cast_signed, int_wrapping_mul};
 ghost use Rattle.cfi_state.specs.MachineSettings.{Setting, is_move};
 ghost use Rattle.cfi_read_core.specs.declared.instruction.CallFrameInstruction.TheVariants
     as instruction;
-ghost use Rattle.cfi_read_core.specs.ReaderCalls.{map_ok};
 ghost use Rattle.cfi_state.specs.Row.{at_addresses};
 ghost use Rattle.cfi_state.specs.declared.table.rules.CfaRule.TheVariants as cfa_rule;
 ghost use Rattle.cfi_state.specs.declared.table.rules.RegisterRule.TheVariants as rule;
@@ -23,6 +22,7 @@ use super::rules::{CfaRule, RA_SIGN_STATE, RegisterRule};
 use crate::storage::UnwindContextStorage;
 use cfi_read_core::address::AddressSize;
 use cfi_read_core::instruction::CallFrameInstruction;
+use cfi_read_core::instruction::visitor::InstructionVisitor;
 use cfi_read_core::{Error, ReaderAddress, ReaderOffset, Register, Result};
 
 /// What stays fixed while the programs of a CIE and an FDE run.
@@ -81,119 +81,123 @@ pub fn set_addresses<T: ReaderOffset, S: UnwindContextStorage<T>>(
     context.set_addresses(start, end);
 }
 
-/// Moves the location by `DW_CFA_advance_loc` (DWARF 5 section 6.4.2.1). Returns the new one. Fails
-/// with `AddressOverflow` if that does not fit the address size.
+/// Runs an instruction at a location. A visit returns what `evaluate` returns.
+// The result of a call that is not inlined is taken apart in the method that calls, so that its
+// room is of that method alone.
+#[derive(Clone, Copy, Debug)]
+pub struct InstructionRunner<'a> {
+    /// What stays fixed while the programs run.
+    pub parameters: &'a Parameters,
+    /// Where the program is.
+    pub location: u64,
+}
+
+impl<T: ReaderOffset, S: UnwindContextStorage<T>> InstructionVisitor<T, UnwindContext<T, S>>
+    for InstructionRunner<'_> {
+    type Answer = Result<Option<u64>>;
+
+    ghost visits = { λ runner instruction old new answer.
+        Runs (setting_of runner.parameters.now S.Rules.limit S.Stack.limit) S.Rules.copies_free
+        runner.location instruction old new answer };
+
+    #[inline(always)]
+    fn advance(&self, _context: &mut UnwindContext<T, S>, delta: u32) -> Result<Option<u64>> {
+        advance(self.parameters, self.location, delta)
+    }
+
+    #[inline(always)]
+    fn offset(
+        &self,
+        context: &mut UnwindContext<T, S>,
+        register: Register,
+        factored_offset: u64,
+    ) -> Result<Option<u64>> {
+        context.set_rule(register, at_offset(self.parameters, factored_offset))?;
+        Ok(None)
+    }
+
+    #[inline(always)]
+    fn restore(
+        &self,
+        context: &mut UnwindContext<T, S>,
+        register: Register,
+    ) -> Result<Option<u64>> {
+        restore_rule(context, register)?;
+        Ok(None)
+    }
+
+    #[inline(always)]
+    fn def_cfa(
+        &self,
+        context: &mut UnwindContext<T, S>,
+        register: Register,
+        offset: u64,
+    ) -> Result<Option<u64>> {
+        context.set_cfa(defined(register, offset));
+        Ok(None)
+    }
+
+    #[inline(always)]
+    fn def_cfa_register(
+        &self,
+        context: &mut UnwindContext<T, S>,
+        register: Register,
+    ) -> Result<Option<u64>> {
+        if let Some(cfa) = with_register(*context.row().cfa(), register)? {
+            context.set_cfa(cfa);
+        }
+        Ok(None)
+    }
+
+    #[inline(always)]
+    fn def_cfa_offset(
+        &self,
+        context: &mut UnwindContext<T, S>,
+        offset: u64,
+    ) -> Result<Option<u64>> {
+        if let Some(cfa) = with_unfactored_offset(*context.row().cfa(), offset)? {
+            context.set_cfa(cfa);
+        }
+        Ok(None)
+    }
+
+    #[inline(always)]
+    fn remember_state(&self, context: &mut UnwindContext<T, S>) -> Result<Option<u64>> {
+        context.remember()?;
+        Ok(None)
+    }
+
+    #[inline(always)]
+    fn restore_state(&self, context: &mut UnwindContext<T, S>) -> Result<Option<u64>> {
+        context.restore()?;
+        Ok(None)
+    }
+
+    #[inline(always)]
+    fn nop(&self, _context: &mut UnwindContext<T, S>) -> Result<Option<u64>> {
+        Ok(None)
+    }
+
+    #[inline(always)]
+    fn other(
+        &self,
+        context: &mut UnwindContext<T, S>,
+        instruction: CallFrameInstruction<T>,
+    ) -> Result<Option<u64>> {
+        let moved = evaluate(context, self.parameters, self.location, instruction)?;
+        Ok(moved)
+    }
+}
+
+/// The location moved by `DW_CFA_advance_loc` (DWARF 5 section 6.4.2.1). Fails with
+/// `AddressOverflow` if it does not fit the address size.
 #[inline(always)]
-pub fn advance(parameters: &Parameters, location: u64, delta: u32) -> Result<Option<u64>>
+fn advance(parameters: &Parameters, location: u64, delta: u32) -> Result<Option<u64>>
     ensures { result ≡ effects.advanced (setting_of parameters.now None None) location delta }
 {
     let distance = u64::from(delta).wrapping_mul(parameters.code_alignment_factor);
     let address = location.add_sized(distance, parameters.address_size.bytes())?;
     Ok(Some(address))
-}
-
-/// Runs `DW_CFA_offset`. Returns `None`, and fails as `evaluate` does.
-#[inline(always)]
-pub fn give_offset<T: ReaderOffset, S: UnwindContextStorage<T>>(
-    context: &mut UnwindContext<T, S>,
-    parameters: &Parameters,
-    register: Register,
-    factored_offset: u64,
-) -> Result<Option<u64>>
-    ensures { (location : ℕ) → Runs (setting_of parameters.now S.Rules.limit S.Stack.limit)
-        S.Rules.copies_free location (instruction.Offset register factored_offset)
-        context.old context.new result }
-{
-    unmoved(context.set_rule(register, at_offset(parameters, factored_offset)))
-}
-
-/// Runs `DW_CFA_restore`. Returns `None`, and fails as `evaluate` does.
-pub fn restore_initial<T: ReaderOffset, S: UnwindContextStorage<T>>(
-    context: &mut UnwindContext<T, S>,
-    register: Register,
-) -> Result<Option<u64>>
-    ensures { (parameters : Parameters) (location : ℕ) →
-        Runs (setting_of parameters S.Rules.limit S.Stack.limit) S.Rules.copies_free
-        location (instruction.Restore register) context.old context.new result }
-{
-    unmoved(restore_rule(context, register))
-}
-
-/// Runs `DW_CFA_def_cfa`. Returns `None`.
-#[inline(always)]
-pub fn define_cfa<T: ReaderOffset, S: UnwindContextStorage<T>>(
-    context: &mut UnwindContext<T, S>,
-    register: Register,
-    offset: u64,
-) -> Result<Option<u64>>
-    ensures { (parameters : Parameters) (location : ℕ) →
-        Runs (setting_of parameters S.Rules.limit S.Stack.limit) S.Rules.copies_free
-        location (instruction.DefCfa register offset) context.old context.new result }
-{
-    context.set_cfa(defined(register, offset));
-    Ok(None)
-}
-
-/// Runs `DW_CFA_def_cfa_register`. Returns `None`, and fails as `evaluate` does.
-pub fn define_cfa_register<T: ReaderOffset, S: UnwindContextStorage<T>>(
-    context: &mut UnwindContext<T, S>,
-    register: Register,
-) -> Result<Option<u64>>
-    ensures { (parameters : Parameters) (location : ℕ) →
-        Runs (setting_of parameters S.Rules.limit S.Stack.limit) S.Rules.copies_free
-        location (instruction.DefCfaRegister register) context.old context.new result }
-{
-    if let Some(cfa) = with_register(*context.row().cfa(), register)? {
-        context.set_cfa(cfa);
-    }
-    Ok(None)
-}
-
-/// Runs `DW_CFA_def_cfa_offset`. Returns `None`, and fails as `evaluate` does.
-#[inline(always)]
-pub fn define_cfa_offset<T: ReaderOffset, S: UnwindContextStorage<T>>(
-    context: &mut UnwindContext<T, S>,
-    offset: u64,
-) -> Result<Option<u64>>
-    ensures { (parameters : Parameters) (location : ℕ) →
-        Runs (setting_of parameters S.Rules.limit S.Stack.limit) S.Rules.copies_free
-        location (instruction.DefCfaOffset offset) context.old context.new result }
-{
-    if let Some(cfa) = with_unfactored_offset(*context.row().cfa(), offset)? {
-        context.set_cfa(cfa);
-    }
-    Ok(None)
-}
-
-/// Runs `DW_CFA_remember_state`. Returns `None`, and fails as `evaluate` does.
-pub fn remember_state<T: ReaderOffset, S: UnwindContextStorage<T>>(
-    context: &mut UnwindContext<T, S>,
-) -> Result<Option<u64>>
-    ensures { (parameters : Parameters) (location : ℕ) →
-        Runs (setting_of parameters S.Rules.limit S.Stack.limit) S.Rules.copies_free
-        location instruction.RememberState context.old context.new result }
-{
-    unmoved(context.remember())
-}
-
-/// Runs `DW_CFA_restore_state`. Returns `None`, and fails as `evaluate` does.
-pub fn restore_state<T: ReaderOffset, S: UnwindContextStorage<T>>(
-    context: &mut UnwindContext<T, S>,
-) -> Result<Option<u64>>
-    ensures { (parameters : Parameters) (location : ℕ) →
-        Runs (setting_of parameters S.Rules.limit S.Stack.limit) S.Rules.copies_free
-        location instruction.RestoreState context.old context.new result }
-{
-    unmoved(context.restore())
-}
-
-/// What an instruction that is not a move returns.
-#[inline(always)]
-fn unmoved(changed: Result<()>) -> Result<Option<u64>>
-    ensures { result ≡ map_ok (λ _. None) changed }
-{
-    changed?;
-    Ok(None)
 }
 
 /// The CFA at an offset from a register.
@@ -227,6 +231,7 @@ fn at_offset<T: ReaderOffset>(parameters: &Parameters, factored_offset: u64) -> 
 /// - `TooManyRegisterRules`, `StackFull`: the storage's rules or rows are at their limit.
 /// - `PopWithEmptyStack`: no row is remembered.
 /// - `OutOfMemory`: a list without a limit grows, or a row is remembered whose copy allocates.
+#[inline(never)]
 pub fn evaluate<T: ReaderOffset, S: UnwindContextStorage<T>>(
     context: &mut UnwindContext<T, S>,
     parameters: &Parameters,
@@ -462,6 +467,7 @@ fn rule_given<T: ReaderOffset>(
 
 /// Gives the register the rule that it had when the CIE's initial instructions ended, which may be
 /// none (DWARF 5 section 6.4.2.3).
+#[inline(never)]
 fn restore_rule<T: ReaderOffset, S: UnwindContextStorage<T>>(
     context: &mut UnwindContext<T, S>,
     register: Register,
