@@ -116,7 +116,9 @@ impl<T: Copy> InstructionVisitor<T, ()> for InstructionValue {
         &self,
         _target: &mut (),
         instruction: CallFrameInstruction<T>,
-    ) -> CallFrameInstruction<T> {
+    ) -> CallFrameInstruction<T>
+        ensures { result ≡ instruction }
+    {
         instruction
     }
 }

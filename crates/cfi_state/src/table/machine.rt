@@ -183,7 +183,10 @@ impl<T: ReaderOffset, S: UnwindContextStorage<T>> InstructionVisitor<T, UnwindCo
         &self,
         context: &mut UnwindContext<T, S>,
         instruction: CallFrameInstruction<T>,
-    ) -> Result<Option<u64>> {
+    ) -> Result<Option<u64>>
+        ensures { Runs (setting_of self.now.parameters.now S.Rules.limit S.Stack.limit)
+            S.Rules.copies_free self.now.location instruction context.old context.new result }
+    {
         let moved = evaluate(context, self.parameters, self.location, instruction)?;
         Ok(moved)
     }
