@@ -1,22 +1,14 @@
--- The running of an instruction, by what it changes.
+-- The running of a move.
 use Rattle.std.proofs.Common.{◌≡◌, ℕ, Bool, true, false, cond, Option, Some, None, Result, Ok, Err, refl, sym, subst, inl}
-use Rattle.cfi_read_core.specs.ReaderCalls.{map_ok}
 use Rattle.cfi_read_core.specs.declared.error.Error.{Error}
 use Rattle.cfi_read_core.specs.declared.error.Error.TheVariants.{AddressOverflow}
-use Rattle.cfi_read_core.specs.declared.instruction.CallFrameInstruction.{CallFrameInstruction}
 use Rattle.cfi_read_core.specs.declared.instruction.CallFrameInstruction.TheVariants.{AdvanceLoc}
 use Rattle.cfi_state.specs.declared.table.machine.Parameters.{Parameters}
-use Rattle.cfi_state.specs.MachineSettings.{Setting, advanced_location, fits_address, is_move}
+use Rattle.cfi_state.specs.MachineSettings.{advanced_location, fits_address}
 use Rattle.cfi_state.specs.Machine.{step}
 use Rattle.cfi_state.specs.UnwindContexts.{ContextState, machine_state}
 use Rattle.cfi_state.specs.ActionEffects.{advanced}
-use Rattle.cfi_state.specs.ContextEffects.{setting_of, Changes, Runs}
-
--- an instruction that is not a move
-pub runs-unmoved : {T : Type 0} (s : Setting) (copies_free : Bool) (location : ℕ) (i : CallFrameInstruction T) (old new : ContextState T) (changed : Result (Unit {0}) Error) (result : Result (Option ℕ) Error)
-    → result ≡ map_ok (λ _. None) changed → false ≡ is_move i → Changes s copies_free location i old new changed → Runs s copies_free location i old new result
-runs-unmoved s copies_free location i old new (Ok _) result is still changes = subst (λ r. Runs s copies_free location i old new r) (sym is) (changes, still)
-runs-unmoved s copies_free location i old new (Err e) result is still changes = subst (λ r. Runs s copies_free location i old new r) (sym is) (changes, tt)
+use Rattle.cfi_state.specs.ContextEffects.{setting_of, Runs}
 
 module _ {T : Type 0} (p : Parameters) (rule_limit stack_limit : Option ℕ) (copies_free : Bool) (location : ℕ) (context : ContextState T) where
   by_fit : (delta : ℕ) (b : Bool) (n : ℕ) (result : Result (Option ℕ) Error) → result ≡ cond b (Ok (Some n)) (Err AddressOverflow)

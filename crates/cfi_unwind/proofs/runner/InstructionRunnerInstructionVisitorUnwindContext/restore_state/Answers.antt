@@ -1,4 +1,0 @@
-use Rattle.cfi_unwind.proofs.runner.InstructionRunnerInstructionVisitorUnwindContext.restore_state.Goals as goal
-
-pub returns : goal.returns
-returns g c = c.restore_state.ensures c.args.self.now.parameters.now c.args.self.now.location
