@@ -82,8 +82,6 @@ pub fn set_addresses<T: ReaderOffset, S: UnwindContextStorage<T>>(
 }
 
 /// Runs an instruction at a location. A visit returns what `evaluate` returns.
-// The result of a call that is not inlined is taken apart in the method that calls, so that its
-// room is of that method alone.
 #[derive(Clone, Copy, Debug)]
 pub struct InstructionRunner<'a> {
     /// What stays fixed while the programs run.
@@ -187,6 +185,8 @@ impl<T: ReaderOffset, S: UnwindContextStorage<T>> InstructionVisitor<T, UnwindCo
         ensures { Runs (setting_of self.now.parameters.now S.Rules.limit S.Stack.limit)
             S.Rules.copies_free self.now.location instruction context.old context.new result }
     {
+        // As in the methods above, what a call returns is taken apart here, so that the room for it
+        // is of this method alone.
         let moved = evaluate(context, self.parameters, self.location, instruction)?;
         Ok(moved)
     }
