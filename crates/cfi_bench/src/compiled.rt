@@ -1,16 +1,17 @@
 //! Passes by a compiled table.
 use crate::sums::{Done, FAILED, cfa_sum, compiled_sum};
 use cfi_compiled::{CompiledRow, CompiledTable};
-use gimli_cfi::{BaseAddresses, EhFrame, Endianity};
+use gimli_cfi::{BaseAddresses, EhFrame, RunTimeEndian};
 use std::alloc::Global;
 
 /// Makes the table of a section of 8-byte addresses at `base`, and looks up all addresses in it,
-/// `passes` times. The measure is 8 for the CFA of each row, 9 for all that it says.
-pub fn of_compiled<E: Endianity>(
+/// `passes` times. The measure is 8 for the CFA of each row, 9 for all that it says. One code makes
+/// the tables of both byte orders, as for programs that read files of either.
+pub fn of_compiled(
     alloc: Global,
     measure: u32,
     bytes: &[u8],
-    endian: E,
+    endian: RunTimeEndian,
     base: u64,
     addresses: &[u64],
     passes: u64,

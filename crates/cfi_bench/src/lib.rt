@@ -15,7 +15,7 @@ mod sums;
 mod tests;
 
 use compiled::of_compiled;
-use gimli_cfi::{BigEndian, LittleEndian};
+use gimli_cfi::{BigEndian, LittleEndian, RunTimeEndian};
 use passes::{of_header, of_section};
 use std::alloc::Global;
 
@@ -128,15 +128,8 @@ pub extern "C" fn cfi_bench_compiled_le(
     passes: u64,
     count: &mut u64,
 ) -> u64 {
-    let done = of_compiled(
-        alloc,
-        measure,
-        section,
-        LittleEndian,
-        base,
-        addresses,
-        passes,
-    );
+    let endian = RunTimeEndian::Little;
+    let done = of_compiled(alloc, measure, section, endian, base, addresses, passes);
     *count = done.count;
     done.sum
 }
@@ -152,7 +145,8 @@ pub extern "C" fn cfi_bench_compiled_be(
     passes: u64,
     count: &mut u64,
 ) -> u64 {
-    let done = of_compiled(alloc, measure, section, BigEndian, base, addresses, passes);
+    let endian = RunTimeEndian::Big;
+    let done = of_compiled(alloc, measure, section, endian, base, addresses, passes);
     *count = done.count;
     done.sum
 }

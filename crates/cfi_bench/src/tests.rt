@@ -2,7 +2,7 @@
 //! checksum.
 use crate::compiled::of_compiled;
 use crate::passes::{of_header, of_section};
-use gimli_cfi::{BigEndian, LittleEndian};
+use gimli_cfi::{BigEndian, LittleEndian, RunTimeEndian};
 use std::test::Fail;
 
 /// A CIE, an FDE of 16 addresses from 0x1000 with two rows, and the end; the section lies at
@@ -73,12 +73,20 @@ fn counts_of_a_compiled_table(rt: HostRuntime) -> Result<(), Fail> {
             alloc,
             measure,
             &SECTION,
-            LittleEndian,
+            RunTimeEndian::Little,
             0x2000,
             &ADDRESSES,
             passes,
         );
-        let big = of_compiled(alloc, measure, &BIG, BigEndian, 0x2000, &ADDRESSES, passes);
+        let big = of_compiled(
+            alloc,
+            measure,
+            &BIG,
+            RunTimeEndian::Big,
+            0x2000,
+            &ADDRESSES,
+            passes,
+        );
         assert_eq!(rt;
             (little.count, big.count, big.sum),
             (count, count, little.sum)

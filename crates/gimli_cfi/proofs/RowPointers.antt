@@ -1,28 +1,16 @@
 -- The ways in which the pointers in rows are read are those of the encoding.
 use Rattle.std.proofs.Common.{◌≡◌, ℕ, false, refl, inl, inr, ne_eqb}
 use Rattle.cfi_read_core.specs.ReadFunctions.{Read, give}
-use Rattle.std.specs.Int.{w32, w64}
-use Rattle.cfi_read_core.specs.Numbers.{signed, unsigned}
+use Rattle.std.specs.Int.{w32}
+use Rattle.cfi_read_core.specs.Numbers.{signed}
 use Rattle.cfi_read_core.specs.PointerEncodings.{format_of, is_indirect, is_omitted}
 use Rattle.cfi_parts.specs.Pointers.{PointerContext, base_of, encoded_value, in_64_bits, pointer}
 use Rattle.gimli_cfi.specs.RowReadings.{HasBase, added_to}
 
 -- the value is read by the format alone
-pub unsigned_4 : (encoding size : ℕ) → format_of encoding ≡ 0x03 → encoded_value encoding size ≡ unsigned w32
-unfolding encoded_value
-unsigned_4 encoding size is = rw is refl
-
 pub signed_4 : (encoding size : ℕ) → format_of encoding ≡ 0x0b → encoded_value encoding size ≡ in_64_bits (signed w32)
 unfolding encoded_value
 signed_4 encoding size is = rw is refl
-
-pub unsigned_8 : (encoding size : ℕ) → format_of encoding ≡ 0x04 → encoded_value encoding size ≡ unsigned w64
-unfolding encoded_value
-unsigned_8 encoding size is = rw is refl
-
-pub signed_8 : (encoding size : ℕ) → format_of encoding ≡ 0x0c → encoded_value encoding size ≡ in_64_bits (signed w64)
-unfolding encoded_value
-signed_8 encoding size is = rw is refl
 
 module _ (encoding base : ℕ) (context : PointerContext) where
   base_given : HasBase encoding context.bases base → base_of encoding context ≡ give base

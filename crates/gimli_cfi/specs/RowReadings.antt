@@ -2,10 +2,10 @@
 --     read_by, ReadsPointers, ReadsRows      a way to read them, and that it is the encoding's
 --     HasBase      what is added to each value
 use Rattle.std.specs.Prelude.{◌≡◌, ◌⊎◌, ℕ, Some}
-use Rattle.std.specs.Int.{w32, w64}
+use Rattle.std.specs.Int.{w32}
 use Rattle.cfi_read_core.specs.Addresses.{wrap}
 use Rattle.cfi_read_core.specs.AddressSizes.{size_in_bytes}
-use Rattle.cfi_read_core.specs.Numbers.{signed, unsigned}
+use Rattle.cfi_read_core.specs.Numbers.{signed}
 use Rattle.cfi_read_core.specs.PointerEncodings.{application_of}
 use Rattle.cfi_read_core.specs.ReadFunctions.{Position, Read, ◌>>=◌, give}
 use Rattle.cfi_parts.specs.declared.pointer.BaseAddresses.{BaseAddresses}
@@ -22,12 +22,9 @@ use Rattle.gimli_cfi.specs.declared.hdr.row_fields.RowReading.TheVariants as rea
 abbrev pub added_to : ℕ → Read ℕ → Read Pointer
 added_to base read = read >>= λ value. give (Direct (wrap base value 8))
 
--- udata4, sdata4, udata8, sdata8
+-- sdata4, or any encoding
 abbrev pub read_by : RowReading → ℕ → PointerContext → Read Pointer
-read_by (reading.Unsigned4 base) encoding context = added_to base (unsigned w32)
 read_by (reading.Signed4 base) encoding context = added_to base (in_64_bits (signed w32))
-read_by (reading.Unsigned8 base) encoding context = added_to base (unsigned w64)
-read_by (reading.Signed8 base) encoding context = added_to base (in_64_bits (signed w64))
 read_by reading.ByEncoding encoding context = pointer encoding context
 
 -- pointers of this encoding are read so

@@ -1,12 +1,10 @@
 //! The start and the target of a row, each read where it is in the table.
 ghost use Rattle.std.specs.Prelude.{◌≡◌, ◌≤◌, IfSome, Some};
-ghost use Rattle.std.specs.Int.{w32, w64};
-ghost use Rattle.cfi_read_core.specs.Addresses.{wrap};
-ghost use Rattle.cfi_read_core.specs.Numbers.{signed, unsigned};
+ghost use Rattle.std.specs.Int.{w32};
+ghost use Rattle.cfi_read_core.specs.Numbers.{signed};
 ghost use Rattle.cfi_read_core.specs.ReadFunctions.{skip};
 ghost use Rattle.cfi_read_core.specs.ReaderCalls.{ReadsValue};
 ghost use Rattle.cfi_parts.specs.Pointers.{in_64_bits, pointer};
-ghost use Rattle.cfi_parts.specs.declared.pointer.Pointer.TheVariants.{Direct};
 ghost use Rattle.cfi_parts.specs.ReadingParameters.{pointer_context};
 ghost use Rattle.gimli_cfi.specs.EhFrameHdr.{header_context, row_field, rows_passed};
 ghost use Rattle.gimli_cfi.specs.EhFrameHdr.{searched_size, value_size};
@@ -69,21 +67,15 @@ fn pass_value<R: Reader>(input: &mut R, size: u64) -> Result<()>
 /// How the pointers in the rows of a table are read, chosen once for all of them.
 #[derive(Clone, Copy, Debug)]
 pub(crate) enum RowReading {
-    /// Four bytes, which are added to this base.
-    Unsigned4(u64),
-    /// Four bytes with a sign, which are added to this base.
+    /// Four bytes with a sign, which are added to this base, as linkers write them.
     Signed4(u64),
-    /// Eight bytes, which are added to this base.
-    Unsigned8(u64),
-    /// Eight bytes with a sign, which are added to this base.
-    Signed8(u64),
     /// As the table's encoding says.
     ByEncoding,
 }
 
 impl RowReading {
     /// How the pointers in the rows of this header are read. Addresses of eight bytes and one base
-    /// for all rows have their own ways.
+    /// for all rows have a way of their own.
     #[inline(always)]
     pub(crate) fn of<R: Reader>(hdr: &ParsedEhFrameHdr<R>, bases: &BaseAddresses) -> Self
         ensures { ReadsRows R.position result hdr.now bases.now }
@@ -96,10 +88,7 @@ impl RowReading {
             return RowReading::ByEncoding;
         }
         match encoding.format() {
-            DW_EH_PE_udata4 => RowReading::Unsigned4(base),
             DW_EH_PE_sdata4 => RowReading::Signed4(base),
-            DW_EH_PE_udata8 => RowReading::Unsigned8(base),
-            DW_EH_PE_sdata8 => RowReading::Signed8(base),
             _ => RowReading::ByEncoding,
         }
     }
@@ -151,20 +140,9 @@ pub(crate) fn read_pointer<R: Reader>(
         input.old result input.new }
 {
     match reading {
-        RowReading::Unsigned4(base) => read_unsigned_4(base, input),
         RowReading::Signed4(base) => read_signed_4(base, input),
-        RowReading::Unsigned8(base) => read_unsigned_8(base, input),
-        RowReading::Signed8(base) => read_signed_8(base, input),
         RowReading::ByEncoding => read_by_encoding(hdr, bases, input),
     }
-}
-
-/// Reads four bytes, and adds them to the base.
-#[inline(always)]
-fn read_unsigned_4<R: Reader>(base: u64, input: &mut R) -> Result<Pointer>
-    ensures { ReadsValue R.position (added_to base (unsigned w32)) input.old result input.new }
-{
-    Ok(sum(base, u64::from(input.read_u32()?)))
 }
 
 /// Reads four bytes with a sign, and adds them to the base.
@@ -173,32 +151,8 @@ fn read_signed_4<R: Reader>(base: u64, input: &mut R) -> Result<Pointer>
     ensures { ReadsValue R.position (added_to base (in_64_bits (signed w32)))
         input.old result input.new }
 {
-    Ok(sum(base, i64::from(input.read_i32()?).cast_unsigned()))
-}
-
-/// Reads eight bytes, and adds them to the base.
-#[inline(always)]
-fn read_unsigned_8<R: Reader>(base: u64, input: &mut R) -> Result<Pointer>
-    ensures { ReadsValue R.position (added_to base (unsigned w64)) input.old result input.new }
-{
-    Ok(sum(base, input.read_u64()?))
-}
-
-/// Reads eight bytes with a sign, and adds them to the base.
-#[inline(always)]
-fn read_signed_8<R: Reader>(base: u64, input: &mut R) -> Result<Pointer>
-    ensures { ReadsValue R.position (added_to base (in_64_bits (signed w64)))
-        input.old result input.new }
-{
-    Ok(sum(base, input.read_i64()?.cast_unsigned()))
-}
-
-/// The sum of a base and a value.
-#[inline(always)]
-fn sum(base: u64, value: u64) -> Pointer
-    ensures { result ≡ Direct (wrap base value 8) }
-{
-    Pointer::Direct(base.wrapping_add_sized(value, 8))
+    let value = i64::from(input.read_i32()?).cast_unsigned();
+    Ok(Pointer::Direct(base.wrapping_add_sized(value, 8)))
 }
 
 /// Reads a pointer of a row by the table's encoding.

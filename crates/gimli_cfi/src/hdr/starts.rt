@@ -113,17 +113,10 @@ pub fn search_starts<S: StartSource>(source: &mut S, count: u64, address: u64) -
     let mut len = count;
     while len > 1 {
         let half = len / 2;
-        let middle = first + half;
-        let start = source.start(middle)?;
-        if start == address {
-            return Ok(middle);
-        }
-        if start < address {
-            first = middle;
-            len -= half;
-        } else {
-            len = half;
-        }
+        // Which half is left is a number, and no branch, which would often be mispredicted.
+        let is_upper = u64::from(source.start(first + half)? <= address);
+        first += half * is_upper;
+        len = half + len % 2 * is_upper;
     }
     Ok(first)
 }
