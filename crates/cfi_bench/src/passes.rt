@@ -5,7 +5,7 @@
 ghost use Rattle.std.specs.Prelude.{◌≡◌, IfOk};
 ghost use Rattle.cfi_read_core.specs.CallFrameSections.{IsOf};
 
-use crate::sums::{Done, FAILED, REFUSED, RowSums, RulesSums, SumOfRow, row_sum};
+use crate::sums::{Done, FAILED, REFUSED, Summed, row_sum};
 use gimli_cfi::{
     BaseAddresses, CieOrFde, EhFrame, EhFrameHdr, EhHdrTable, Endianity, FrameDescriptionEntry,
     PartialFrameDescriptionEntry, Reader, Result, StoreOnHeap, TableStarts, UnwindContext,
@@ -36,10 +36,10 @@ fn over_section<R: Reader<Offset = usize>, S: UnwindSection<R>>(
 ) -> Result<Done> {
     match measure {
         0 => entries(section, bases),
-        1 => fdes(section, bases),
-        2 => walk::<R, S, RowSums>(alloc, section, bases),
+        1 => walk(alloc, section, bases, Summed::Fde),
+        2 => walk(alloc, section, bases, Summed::Row),
         3 => scans(alloc, section, bases, addresses),
-        7 => walk::<R, S, RulesSums>(alloc, section, bases),
+        7 => walk(alloc, section, bases, Summed::Rules),
         _ => Ok(FAILED),
     }
 }
@@ -125,40 +125,18 @@ fn whole<R: Reader, S: UnwindSection<R>>(
     })
 }
 
-fn fdes<R: Reader, S: UnwindSection<R>>(section: &S, bases: &BaseAddresses) -> Result<Done> {
-    let mut done = Done::none();
-    let mut entries = section.entries(bases);
-    for _ in 0..u64::MAX {
-        match entries.next()? {
-            None => break,
-            Some(CieOrFde::Cie(_)) => {}
-            Some(CieOrFde::Fde(partial)) => take_fde(&partial, &mut done)?,
-        }
-    }
-    Ok(done)
-}
-
-fn take_fde<R: Reader, S: UnwindSection<R>>(
-    partial: &PartialFrameDescriptionEntry<'_, S, R>,
-    done: &mut Done,
-) -> Result<()> {
-    let fde = whole(partial)?;
-    done.take(fde.initial_address() ^ fde.len());
-    Ok(())
-}
-
 /// The rows of an FDE, each by its sum.
 fn walk_fde<
     'x,
     R: Reader<Offset = usize>,
     Section: UnwindSection<R>,
     S: UnwindContextStorage<usize>,
-    Sum: SumOfRow,
 >(
     section: &'x Section,
     bases: &'x BaseAddresses,
     fde: &FrameDescriptionEntry<R>,
     context: &mut UnwindContext<usize, S>,
+    summed: Summed,
     done: &mut Done,
 )
     requires own { IsOf (R.position fde.now.instructions) (Section.view section.now).position }
@@ -171,48 +149,52 @@ fn walk_fde<
     for _ in 0..u64::MAX {
         match table.next_row() {
             Ok(None) => break,
-            Ok(Some(row)) => done.take(Sum::of::<S>(row)),
+            Ok(Some(row)) => done.take(summed.of::<S>(row)),
             Err(_) => done.take(REFUSED),
         }
     }
 }
 
-/// The rows of an FDE that is read with its CIE.
+/// An FDE that is read with its CIE, or its rows.
 fn walk_partial<
     'x,
     R: Reader<Offset = usize>,
     Section: UnwindSection<R>,
     S: UnwindContextStorage<usize>,
-    Sum: SumOfRow,
 >(
     section: &'x Section,
     bases: &'x BaseAddresses,
     partial: &PartialFrameDescriptionEntry<'_, Section, R>,
     context: &mut UnwindContext<usize, S>,
+    summed: Summed,
     done: &mut Done,
 ) -> Result<()>
     requires { partial.now.section ≡ section.now }
 {
     let fde = whole(partial)?;
-    walk_fde::<R, Section, S, Sum>(section, bases, &fde, context, done);
+    match summed {
+        Summed::Fde => done.take(fde.initial_address() ^ fde.len()),
+        _ => walk_fde(section, bases, &fde, context, summed, done),
+    }
     Ok(())
 }
 
-fn walk<R: Reader<Offset = usize>, S: UnwindSection<R>, Sum: SumOfRow>(
+fn walk<R: Reader<Offset = usize>, S: UnwindSection<R>>(
     alloc: Global,
     section: &S,
     bases: &BaseAddresses,
+    summed: Summed,
 ) -> Result<Done> {
     let mut context = UnwindContext::<usize>::new(alloc)?;
-    walk_in::<R, S, StoreOnHeap, Sum>(section, bases, &mut context)
+    walk_in::<R, S, StoreOnHeap>(section, bases, &mut context, summed)
 }
 
-fn walk_in<
-    R: Reader<Offset = usize>,
-    Section: UnwindSection<R>,
-    S: UnwindContextStorage<usize>,
-    Sum: SumOfRow,
->(section: &Section, bases: &BaseAddresses, context: &mut UnwindContext<usize, S>) -> Result<Done> {
+fn walk_in<R: Reader<Offset = usize>, Section: UnwindSection<R>, S: UnwindContextStorage<usize>>(
+    section: &Section,
+    bases: &BaseAddresses,
+    context: &mut UnwindContext<usize, S>,
+    summed: Summed,
+) -> Result<Done> {
     let mut done = Done::none();
     let mut entries = section.entries(bases);
     for _ in 0..u64::MAX {
@@ -220,7 +202,7 @@ fn walk_in<
             break;
         };
         if let CieOrFde::Fde(partial) = entry {
-            walk_partial::<R, Section, S, Sum>(section, bases, &partial, context, &mut done)?;
+            walk_partial(section, bases, &partial, context, summed, &mut done)?;
         }
     }
     Ok(done)

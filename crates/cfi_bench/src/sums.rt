@@ -38,28 +38,25 @@ fn mix(sum: u64, number: u64) -> u64 {
     sum.rotate_left(5) ^ number
 }
 
-/// What a walk sums of each row.
-pub trait SumOfRow {
-    fn of<S: UnwindContextStorage<usize>>(row: &UnwindTableRow<usize, S::Rules>) -> u64;
+/// What a walk over the FDEs of a section sums.
+#[derive(Clone, Copy)]
+pub enum Summed {
+    /// Initial address and length of each FDE.
+    Fde,
+    /// Addresses and CFA of each row.
+    Row,
+    /// Every rule of each row.
+    Rules,
 }
 
-/// `row_sum` of each row.
-pub struct RowSums;
-
-impl SumOfRow for RowSums {
+impl Summed {
+    /// What is summed of a row.
     #[inline(always)]
-    fn of<S: UnwindContextStorage<usize>>(row: &UnwindTableRow<usize, S::Rules>) -> u64 {
-        row_sum::<S>(row)
-    }
-}
-
-/// `rules_sum` of each row.
-pub struct RulesSums;
-
-impl SumOfRow for RulesSums {
-    #[inline(always)]
-    fn of<S: UnwindContextStorage<usize>>(row: &UnwindTableRow<usize, S::Rules>) -> u64 {
-        rules_sum::<S>(row)
+    pub fn of<S: UnwindContextStorage<usize>>(self, row: &UnwindTableRow<usize, S::Rules>) -> u64 {
+        match self {
+            Summed::Rules => rules_sum::<S>(row),
+            _ => row_sum::<S>(row),
+        }
     }
 }
 

@@ -114,7 +114,8 @@ fn read_letters_with_data<R: Reader, S: _UnwindSectionPrivate<R>>(
 ///
 /// Fails with `UnknownAugmentation` for an unknown letter, or one that needs data where no `z`
 /// announces any, and with the error of the first part of the data that can't be read.
-#[inline(always)]
+// Not inlined: with it the functions around would get so large that their hints are dropped.
+#[inline(never)]
 pub fn read_augmentation<R: Reader, S: _UnwindSectionPrivate<R>>(
     at: &InSection<'_, S>,
     address_size: AddressSize,

@@ -1,8 +1,8 @@
 //! Encoded pointers (LSB Core, "DWARF Exception Header Encoding").
 ghost use Rattle.std.specs.Prelude.{◌≡◌, ◌≤◌, ℕ, ⊤};
-ghost use Rattle.cfi_read_core.specs.Numbers.{unsigned_leb128};
 ghost use Rattle.cfi_read_core.specs.ReaderCalls.{ReadsBy, ReadsValue};
 ghost use Rattle.cfi_parts.specs.ReadingParameters.{NotBeforeSection, pointer_context};
+ghost use Rattle.cfi_parts.specs.Pointers.{IsBase, IsRareApplication, IsRareFormat, PointerContext};
 ghost use Rattle.cfi_parts.specs.Pointers.{base_of, direct, encoding_byte, encoded_value};
 ghost use Rattle.cfi_parts.specs.Pointers.{pointer_value, pointer};
 
@@ -188,27 +188,36 @@ pub fn parse_encoded_value<R: Reader>(
     ensures { ReadsValue R.position (encoded_value encoding.0 address_size)
         input.old result input.new }
 {
+    if encoding.format() == DW_EH_PE_sdata4 {
+        return Ok(i64::from(input.read_i32()?).cast_unsigned());
+    }
+    // A copy is lent to the call, so that only it has to be in memory.
+    let mut apart = *input;
+    let found = parse_rare_value(encoding, address_size, &mut apart);
+    *input = apart;
+    found
+}
+
+/// Reads a value of another format than `DW_EH_PE_sdata4`, in which linkers write most pointers.
+// Not inlined, since pointers are read in many places.
+#[tactic(auto, unfolding(crate::specs::Pointers::encoded_value))]
+#[inline(never)]
+fn parse_rare_value<R: Reader>(encoding: DwEhPe, address_size: u8, input: &mut R) -> Result<u64>
+    requires { IsRareFormat encoding.0 }
+    ensures { ReadsValue R.position (encoded_value encoding.0 address_size)
+        input.old result input.new }
+{
     match encoding.format() {
         DW_EH_PE_absptr => input.read_address(address_size),
-        DW_EH_PE_uleb128 => read_uleb128_apart(input),
+        DW_EH_PE_uleb128 => input.read_uleb128(),
         DW_EH_PE_udata2 => Ok(u64::from(input.read_u16()?)),
         DW_EH_PE_udata4 => Ok(u64::from(input.read_u32()?)),
         DW_EH_PE_udata8 => input.read_u64(),
         DW_EH_PE_sleb128 => Ok(input.read_sleb128()?.cast_unsigned()),
         DW_EH_PE_sdata2 => Ok(i64::from(input.read_i16()?).cast_unsigned()),
-        DW_EH_PE_sdata4 => Ok(i64::from(input.read_i32()?).cast_unsigned()),
         DW_EH_PE_sdata8 => Ok(input.read_i64()?.cast_unsigned()),
         _ => Err(Error::UnknownPointerEncoding(encoding)),
     }
-}
-
-/// Reads an unsigned LEB128 number.
-// Not inlined: few pointers are LEB128 numbers.
-#[inline(never)]
-fn read_uleb128_apart<R: Reader>(input: &mut R) -> Result<u64>
-    ensures { ReadsValue R.position unsigned_leb128 input.old result input.new }
-{
-    input.read_uleb128()
 }
 
 /// The base that is added to a value at the place of the input.
@@ -234,15 +243,28 @@ fn pointer_base<R: Reader>(
             let place = input.offset_from(parameters.section).into_u64();
             Ok(base.wrapping_add_sized(place, parameters.address_size.bytes()))
         }
+        _ => rare_base(encoding, bases, parameters.func_base),
+    }
+}
+
+/// The base that is added to a value by another application than `DW_EH_PE_absptr` and
+/// `DW_EH_PE_pcrel`, which most pointers have.
+// Not inlined, since pointers are read in many places.
+#[tactic(auto, unfolding(crate::specs::Pointers::base_of))]
+#[inline(never)]
+fn rare_base(encoding: DwEhPe, bases: &SectionBaseAddresses, func_base: Option<u64>) -> Result<u64>
+    requires { IsRareApplication encoding.0 }
+    ensures { (context : PointerContext) → context.bases ≡ bases.now →
+        context.function ≡ func_base → IsBase encoding.0 context result }
+{
+    match encoding.application() {
         DW_EH_PE_textrel => bases
             .text
             .ok_or(Error::TextRelativePointerButTextBaseIsUndefined),
         DW_EH_PE_datarel => bases
             .data_base
             .ok_or(Error::DataRelativePointerButDataBaseIsUndefined),
-        DW_EH_PE_funcrel => parameters
-            .func_base
-            .ok_or(Error::FuncRelativePointerInBadContext),
+        DW_EH_PE_funcrel => func_base.ok_or(Error::FuncRelativePointerInBadContext),
         DW_EH_PE_aligned => Err(Error::UnsupportedPointerEncoding(encoding)),
         _ => Err(Error::UnknownPointerEncoding(encoding)),
     }

@@ -49,7 +49,7 @@ impl<R: Copy> Clone for InstructionParameters<'_, R> {
 
 /// Skips an expression, and returns its place in the section.
 #[tactic(auto, unfolding(crate::specs::Instructions::expression))]
-#[inline(always)]
+#[inline(never)]
 fn parse_expression<R: Reader>(
     pointers: &PointerEncodingParameters<'_, R>,
     input: &mut R,

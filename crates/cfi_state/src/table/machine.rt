@@ -99,7 +99,7 @@ impl<T: ReaderOffset, S: UnwindContextStorage<T>> InstructionVisitor<T, UnwindCo
         runner.location instruction old new answer };
 
     #[inline(always)]
-    fn advance(&self, _context: &mut UnwindContext<T, S>, delta: u32) -> Result<Option<u64>> {
+    fn advance(&self, _context: &mut UnwindContext<T, S>, delta: u32) -> Self::Answer {
         advance(self.parameters, self.location, delta)
     }
 
@@ -109,17 +109,13 @@ impl<T: ReaderOffset, S: UnwindContextStorage<T>> InstructionVisitor<T, UnwindCo
         context: &mut UnwindContext<T, S>,
         register: Register,
         factored_offset: u64,
-    ) -> Result<Option<u64>> {
+    ) -> Self::Answer {
         context.set_rule(register, at_offset(self.parameters, factored_offset))?;
         Ok(None)
     }
 
     #[inline(always)]
-    fn restore(
-        &self,
-        context: &mut UnwindContext<T, S>,
-        register: Register,
-    ) -> Result<Option<u64>> {
+    fn restore(&self, context: &mut UnwindContext<T, S>, register: Register) -> Self::Answer {
         restore_rule(context, register)?;
         Ok(None)
     }
@@ -130,7 +126,7 @@ impl<T: ReaderOffset, S: UnwindContextStorage<T>> InstructionVisitor<T, UnwindCo
         context: &mut UnwindContext<T, S>,
         register: Register,
         offset: u64,
-    ) -> Result<Option<u64>> {
+    ) -> Self::Answer {
         context.set_cfa(defined(register, offset));
         Ok(None)
     }
@@ -140,7 +136,7 @@ impl<T: ReaderOffset, S: UnwindContextStorage<T>> InstructionVisitor<T, UnwindCo
         &self,
         context: &mut UnwindContext<T, S>,
         register: Register,
-    ) -> Result<Option<u64>> {
+    ) -> Self::Answer {
         if let Some(cfa) = with_register(*context.row().cfa(), register)? {
             context.set_cfa(cfa);
         }
@@ -148,11 +144,7 @@ impl<T: ReaderOffset, S: UnwindContextStorage<T>> InstructionVisitor<T, UnwindCo
     }
 
     #[inline(always)]
-    fn def_cfa_offset(
-        &self,
-        context: &mut UnwindContext<T, S>,
-        offset: u64,
-    ) -> Result<Option<u64>> {
+    fn def_cfa_offset(&self, context: &mut UnwindContext<T, S>, offset: u64) -> Self::Answer {
         if let Some(cfa) = with_unfactored_offset(*context.row().cfa(), offset)? {
             context.set_cfa(cfa);
         }
@@ -160,19 +152,19 @@ impl<T: ReaderOffset, S: UnwindContextStorage<T>> InstructionVisitor<T, UnwindCo
     }
 
     #[inline(always)]
-    fn remember_state(&self, context: &mut UnwindContext<T, S>) -> Result<Option<u64>> {
+    fn remember_state(&self, context: &mut UnwindContext<T, S>) -> Self::Answer {
         context.remember()?;
         Ok(None)
     }
 
     #[inline(always)]
-    fn restore_state(&self, context: &mut UnwindContext<T, S>) -> Result<Option<u64>> {
+    fn restore_state(&self, context: &mut UnwindContext<T, S>) -> Self::Answer {
         context.restore()?;
         Ok(None)
     }
 
     #[inline(always)]
-    fn nop(&self, _context: &mut UnwindContext<T, S>) -> Result<Option<u64>> {
+    fn nop(&self, _context: &mut UnwindContext<T, S>) -> Self::Answer {
         Ok(None)
     }
 
@@ -181,7 +173,7 @@ impl<T: ReaderOffset, S: UnwindContextStorage<T>> InstructionVisitor<T, UnwindCo
         &self,
         context: &mut UnwindContext<T, S>,
         instruction: CallFrameInstruction<T>,
-    ) -> Result<Option<u64>>
+    ) -> Self::Answer
         ensures { Runs (setting_of self.now.parameters.now S.Rules.limit S.Stack.limit)
             S.Rules.copies_free self.now.location instruction context.old context.new result }
     {
