@@ -145,7 +145,7 @@ pub trait Reader: Copy + Debug + Eq {
         if first < 128 {
             return Ok(u64::from(first));
         }
-        rest_of_uleb128(self, first)
+        longer_uleb128(self, first)
     }
 
     /// Reads a signed LEB128 number of at most ten bytes (DWARF 5 section 7.6). Accepts padding.
@@ -261,13 +261,35 @@ pub fn read_offset<R: Reader>(input: &mut R) -> Result<R::Offset>
 
 /// Reads a LEB128 number as a register. Returns `Error::UnsupportedRegister` if it is above 65535;
 /// the reader is then after the number.
-#[tactic(auto, unfolding(crate::specs::Numbers::register_leb128))]
-// Not inlined: most registers are part of their opcode.
-#[inline(never)]
+#[inline(always)]
 pub fn read_register<R: Reader>(input: &mut R) -> Result<Register>
     ensures { ReadsValue R.position register_leb128 input.old result input.new }
 {
+    // Room for the result of a call is cleared at the beginning of the function that makes it.
+    let register = register_apart(input)?;
+    Ok(register)
+}
+
+#[tactic(auto, unfolding(crate::specs::Numbers::register_leb128))]
+// Not inlined: most registers are part of their opcode.
+#[inline(never)]
+fn register_apart<R: Reader>(input: &mut R) -> Result<Register>
+    ensures { ReadsValue R.position register_leb128 input.old result input.new }
+{
     Register::from_u64(input.read_uleb128()?)
+}
+
+/// The same as `rest_of_uleb128`, with the room for its result, which is cleared where it begins.
+#[inline(always)]
+fn longer_uleb128<R: Reader>(input: &mut R, first: u8) -> Result<u64>
+    requires goes_on { 128 ≤ first }
+    requires first { Reads (λ x. x) (unsigned w8)
+        (one_back (R.position input.old)) (Ok first) (R.position input.old) }
+    ensures { Reads (λ x. x) unsigned_leb128
+        (one_back (R.position input.old)) result (R.position input.new) }
+{
+    let number = rest_of_uleb128(input, first)?;
+    Ok(number)
 }
 
 /// The unsigned LEB128 number of two bytes or more whose first byte was just read.

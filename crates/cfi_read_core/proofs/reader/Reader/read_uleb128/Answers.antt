@@ -15,8 +15,8 @@ pub returns-then-first-lt128 : goal.returns-then-first-lt128
 returns-then-first-lt128 g c =
     reads_one (g.Self.Reader.position c.args.self.now) (g.met.Self.Reader.sound c.args.self.now) c.in_ok-first.first c.from.result _ c.in_ok-first.ensures c.if-first-lt128.true c.from.ensures
 
-pub rest_of_uleb128-requires-clause-first : goal.rest_of_uleb128-requires-clause-first
-rest_of_uleb128-requires-clause-first g c =
+pub longer_uleb128-requires-clause-first : goal.longer_uleb128-requires-clause-first
+longer_uleb128-requires-clause-first g c =
     let old = g.Self.Reader.position c.args.self.now in
     let new = g.Self.Reader.position c.read_u8.new.self in
     let sound = g.met.Self.Reader.sound c.args.self.now in
@@ -29,4 +29,4 @@ returns g c =
     let new = g.Self.Reader.position c.read_u8.new.self in
     let sound = g.met.Self.Reader.sound c.args.self.now in
     let back = one_back_from old new c.in_ok-first.first sound.within c.in_ok-first.ensures in
-    subst (λ p. Reads (λ x. x) unsigned_leb128 p c.rest_of_uleb128.result (g.Self.Reader.position c.rest_of_uleb128.new.input)) back c.rest_of_uleb128.ensures
+    subst (λ p. Reads (λ x. x) unsigned_leb128 p c.longer_uleb128.result (g.Self.Reader.position c.longer_uleb128.new.input)) back c.longer_uleb128.ensures
