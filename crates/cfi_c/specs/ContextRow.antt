@@ -7,7 +7,7 @@ use Rattle.arrayvec.specs.contracts.array_vec.ArrayVec
 use Rattle.cfi_lists.specs.contracts.array_like.ArrayVecArrayLike.TheImpl as list
 use Rattle.cfi_lists.specs.contracts.array_like.ArrayVecCopyList.TheImpl as copies
 use Rattle.cfi_lists.specs.contracts.array_like.BoxArrayVecArrayLike.TheImpl as boxed-list
-use Rattle.cfi_state.specs.contracts.table.row.UnwindTableRowArrayVecTuple2RegisterRegisterRuleDefault.TheImpl as row-default
+use Rattle.cfi_state.specs.contracts.table.row.UnwindTableRowArrayVecPairDefault.TheImpl as row-default
 use Rattle.cfi_state.specs.contracts.table.rules.RegisterRuleClone.TheImpl as rule-clone
 use Rattle.cfi_state.specs.contracts.table.rules.RegisterRuleDefault.TheImpl as rule-default
 use Rattle.gimli_cfi.specs.contracts.table.RegisterRule

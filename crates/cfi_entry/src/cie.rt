@@ -258,10 +258,7 @@ impl<R: Reader> CommonInformationEntry<R> {
         ensures { option_map (λ e. e.0) result
             ≡ lsda_encoding_of (cie_view R.position R.Offset.number self.now).augmentation }
     {
-        match self.augmentation() {
-            Some(known) => known.lsda_encoding,
-            None => None,
-        }
+        self.augmentation()?.lsda_encoding
     }
 
     /// Returns the pointer to the personality routine, with its encoding.
@@ -282,10 +279,8 @@ impl<R: Reader> CommonInformationEntry<R> {
             ≡ option_map (λ p. p.1) (personality_of
             (cie_view R.position R.Offset.number self.now).augmentation) }
     {
-        match self.personality_with_encoding() {
-            Some((_, personality)) => Some(personality),
-            None => None,
-        }
+        let (_, personality) = self.personality_with_encoding()?;
+        Some(personality)
     }
 
     /// Returns the encoding of the FDEs' addresses, or `None` where they are plain.
@@ -294,10 +289,7 @@ impl<R: Reader> CommonInformationEntry<R> {
         ensures { option_map (λ e. e.0) result
             ≡ address_encoding_of (cie_view R.position R.Offset.number self.now).augmentation }
     {
-        match self.augmentation() {
-            Some(known) => known.fde_address_encoding,
-            None => None,
-        }
+        self.augmentation()?.fde_address_encoding
     }
 
     /// Returns whether the FDEs are signal trampolines.
@@ -306,10 +298,7 @@ impl<R: Reader> CommonInformationEntry<R> {
         ensures { result
             ≡ is_trampoline (cie_view R.position R.Offset.number self.now).augmentation }
     {
-        match self.augmentation() {
-            Some(known) => known.is_signal_trampoline,
-            None => false,
-        }
+        self.augmentation.has_letters && self.augmentation.is_signal_trampoline
     }
 
     /// Returns whether the return address is signed with the B key ("DWARF for the Arm 64-bit
@@ -318,10 +307,7 @@ impl<R: Reader> CommonInformationEntry<R> {
     pub fn uses_b_key(&self) -> bool
         ensures { result ≡ has_b_key (cie_view R.position R.Offset.number self.now).augmentation }
     {
-        match self.augmentation() {
-            Some(known) => known.uses_b_key,
-            None => false,
-        }
+        self.augmentation.has_letters && self.augmentation.uses_b_key
     }
 
     /// Returns the code alignment factor, by which the deltas of advances are multiplied.

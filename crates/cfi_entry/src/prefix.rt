@@ -1,6 +1,6 @@
 //! What each entry begins with: its length, which gives the format and the extent, and its id
 //! (DWARF 5 section 6.4.1).
-ghost use Rattle.std.specs.Prelude.{◌≡◌, ◌≢◌, IfOk, IfSome, MatchOption, Ok, ⊤};
+ghost use Rattle.std.specs.Prelude.{◌≡◌, ◌≢◌, IfOk, IfSome, MatchOption, Ok};
 ghost use Rattle.std.specs.Option.{option_map};
 ghost use Rattle.cfi_read_core.specs.Numbers.{initial_length, unsigned};
 ghost use Rattle.cfi_read_core.specs.declared.common.Format.TheVariants.{Dwarf32};
@@ -13,10 +13,9 @@ ghost use Rattle.cfi_entry.specs.EntryViews.{IsPrefixOf, position_in, prefix_vie
 use crate::in_section::InSection;
 use cfi_read_core::section_properties::{_UnwindSectionPrivate, CieOffsetEncoding};
 use cfi_read_core::{Error, Format, Reader, ReaderOffset, Result};
-use std::alloc::AllocError;
 
 /// The prefix of an entry, and the rest of the entry after its id.
-#[derive(Copy, Debug, PartialEq, Eq)]
+#[derive(Clone, Copy, Debug, PartialEq, Eq)]
 pub struct EntryPrefix<R, O> {
     /// Where the entry begins in its section.
     pub offset: O,
@@ -28,17 +27,6 @@ pub struct EntryPrefix<R, O> {
     pub id_offset: O,
     /// The entry after its id.
     pub rest: R,
-}
-
-impl<R: Copy, O: Copy> Clone for EntryPrefix<R, O> {
-    ghost is_clone = { λ x y. y ≡ x };
-
-    ghost is_infallible = { λ _. ⊤ };
-
-    #[inline(always)]
-    fn clone(&self) -> std::result::Result<Self, AllocError> {
-        Ok(*self)
-    }
 }
 
 /// Reads an id of this width.

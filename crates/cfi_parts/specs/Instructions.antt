@@ -1,6 +1,6 @@
 -- Call frame instructions (DWARF 5 sections 6.4.2 and 7.24).
-use Rattle.std.specs.Prelude.{◌≢◌, ℕ, ◌-◌, ◌%◌, Option, Some, None, List, [], ◌∷◌, ◌++◌}
-use Rattle.std.specs.Int.{w8, w16, w32}
+use Rattle.std.specs.Prelude.{◌≢◌, ◌==◌, if◌then◌else◌, ℕ, ◌-◌, ◌%◌, Option, Some, None, List, [], ◌∷◌, ◌++◌}
+use Rattle.std.specs.Int.{Width, w8, w16, w32}
 use Rattle.cfi_read_core.specs.declared.common.Register.{Register as RegisterNumber}
 use Rattle.cfi_read_core.specs.declared.common.Vendor.{Vendor}
 use Rattle.cfi_read_core.specs.declared.common.Vendor.TheVariants as vendors
@@ -57,6 +57,10 @@ register_and operand made = do
   r ← register_leb128
   n ← operand
   give (made r n)
+
+-- the width of the operand of DW_CFA_advance_loc1, DW_CFA_advance_loc2 and DW_CFA_advance_loc4
+abbrev pub delta_width : ℕ → Width
+delta_width opcode = if opcode == 0x02 then w8 else if opcode == 0x03 then w16 else w32
 
 -- row creation (DWARF 5 section 6.4.2.1)
 abbrev pub row_creation : InstructionContext → List (ℕ × Read Instruction)

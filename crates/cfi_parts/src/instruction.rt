@@ -122,7 +122,16 @@ impl<'a, R: Reader> CallFrameInstructionIter<'a, R> {
         ensures within { StaysWithin
             (instruction_reader R.position self.old) (instruction_reader R.position self.new) }
     {
-        visit_next_instruction(&self.parameters, &mut self.input, visitor, target)
+        if self.input.is_empty() {
+            return Ok(None);
+        }
+        match visit_instruction(&self.parameters, &mut self.input, visitor, target) {
+            Ok(answer) => Ok(Some(answer)),
+            Err(refusal) => {
+                self.input.empty();
+                Err(refusal)
+            }
+        }
     }
 }
 
@@ -140,32 +149,5 @@ impl<R: Reader> Iterator for CallFrameInstructionIter<'_, R> {
     #[inline(always)]
     fn next(&mut self) -> Option<Result<CallFrameInstruction<R::Offset>>> {
         CallFrameInstructionIter::next(self).transpose()
-    }
-}
-
-/// Reads the next instruction of the input and visits it. After an error the input is empty.
-#[inline(always)]
-fn visit_next_instruction<R: Reader, C, V: InstructionVisitor<R::Offset, C>>(
-    parameters: &InstructionParameters<'_, R>,
-    input: &mut R,
-    visitor: &V,
-    target: &mut C,
-) -> Result<Option<V::Answer>>
-    requires { NotBeforeSection R.position parameters.now.pointers input.old }
-    ensures visits { VisitsNext R.Offset.number (V.visits visitor.now)
-        (reader_at R.position parameters.now input.old)
-        (reader_at R.position parameters.now input.new) target.old target.new result }
-    ensures source { (R.position input.new).source ≡ (R.position input.old).source }
-    ensures behind { NotBeforeSection R.position parameters.now.pointers input.new }
-{
-    if input.is_empty() {
-        return Ok(None);
-    }
-    match visit_instruction(parameters, input, visitor, target) {
-        Ok(answer) => Ok(Some(answer)),
-        Err(refusal) => {
-            input.empty();
-            Err(refusal)
-        }
     }
 }

@@ -1,5 +1,5 @@
 //! Encoded pointers (LSB Core, "DWARF Exception Header Encoding").
-ghost use Rattle.std.specs.Prelude.{◌≡◌, ◌≤◌, ℕ, ⊤};
+ghost use Rattle.std.specs.Prelude.{◌≡◌, ◌≤◌, ℕ};
 ghost use Rattle.cfi_read_core.specs.ReaderCalls.{ReadsBy, ReadsValue};
 ghost use Rattle.cfi_parts.specs.ReadingParameters.{NotBeforeSection, pointer_context};
 ghost use Rattle.cfi_parts.specs.Pointers.{IsBase, IsRareApplication, IsRareFormat, PointerContext};
@@ -13,7 +13,6 @@ use cfi_read_core::constants::{
     DW_EH_PE_textrel, DW_EH_PE_udata2, DW_EH_PE_udata4, DW_EH_PE_udata8, DW_EH_PE_uleb128,
 };
 use cfi_read_core::{DwEhPe, Error, Reader, ReaderAddress, ReaderOffset, Result};
-use std::alloc::AllocError;
 
 /// A decoded pointer: a value, or the address at which the value is stored.
 #[derive(Clone, Copy, Debug, PartialEq, Eq)]
@@ -134,7 +133,7 @@ impl BaseAddresses {
 }
 
 /// The parameters for reading the pointers of a section.
-#[derive(Copy, Debug)]
+#[derive(Clone, Copy, Debug)]
 pub struct PointerEncodingParameters<'a, R> {
     /// The bases of the section.
     pub bases: &'a SectionBaseAddresses,
@@ -144,17 +143,6 @@ pub struct PointerEncodingParameters<'a, R> {
     pub address_size: AddressSize,
     /// The section. `DW_EH_PE_pcrel` adds the distance from its start.
     pub section: &'a R,
-}
-
-impl<R: Copy> Clone for PointerEncodingParameters<'_, R> {
-    ghost is_clone = { λ x y. y ≡ x };
-
-    ghost is_infallible = { λ _. ⊤ };
-
-    #[inline(always)]
-    fn clone(&self) -> std::result::Result<Self, AllocError> {
-        Ok(*self)
-    }
 }
 
 /// Reads a byte that is a pointer encoding. Returns `Error::UnknownPointerEncoding` for another

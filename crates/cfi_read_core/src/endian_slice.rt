@@ -91,9 +91,8 @@ impl<'input, E: Endianity> Reader for EndianSlice<'input, E> {
 
     #[inline(always)]
     fn split(&mut self, len: usize) -> Result<Self> {
-        let window = self.window.split(len)?;
         Ok(EndianSlice {
-            window,
+            window: self.window.split(len)?,
             endian: self.endian,
         })
     }
@@ -105,20 +104,17 @@ impl<'input, E: Endianity> Reader for EndianSlice<'input, E> {
 
     #[inline(always)]
     fn read_u16(&mut self) -> Result<u16> {
-        let big_endian = self.endian.is_big_endian();
-        self.window.read_u16(big_endian)
+        self.window.read_u16(self.endian.is_big_endian())
     }
 
     #[inline(always)]
     fn read_u32(&mut self) -> Result<u32> {
-        let big_endian = self.endian.is_big_endian();
-        self.window.read_u32(big_endian)
+        self.window.read_u32(self.endian.is_big_endian())
     }
 
     #[inline(always)]
     fn read_u64(&mut self) -> Result<u64> {
-        let big_endian = self.endian.is_big_endian();
-        self.window.read_u64(big_endian)
+        self.window.read_u64(self.endian.is_big_endian())
     }
 
     ghost sound = { λ r. record {

@@ -98,9 +98,8 @@ impl<'input, E: Endianity> Reader for NarrowSlice<'input, E> {
 
     #[inline(always)]
     fn split(&mut self, len: u32) -> Result<Self> {
-        let window = self.window.split(len as usize)?;
         Ok(NarrowSlice {
-            window,
+            window: self.window.split(len as usize)?,
             endian: self.endian,
         })
     }
@@ -112,20 +111,17 @@ impl<'input, E: Endianity> Reader for NarrowSlice<'input, E> {
 
     #[inline(always)]
     fn read_u16(&mut self) -> Result<u16> {
-        let big_endian = self.endian.is_big_endian();
-        self.window.read_u16(big_endian)
+        self.window.read_u16(self.endian.is_big_endian())
     }
 
     #[inline(always)]
     fn read_u32(&mut self) -> Result<u32> {
-        let big_endian = self.endian.is_big_endian();
-        self.window.read_u32(big_endian)
+        self.window.read_u32(self.endian.is_big_endian())
     }
 
     #[inline(always)]
     fn read_u64(&mut self) -> Result<u64> {
-        let big_endian = self.endian.is_big_endian();
-        self.window.read_u64(big_endian)
+        self.window.read_u64(self.endian.is_big_endian())
     }
 
     ghost sound = { λ r. record {

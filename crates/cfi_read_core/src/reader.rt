@@ -265,9 +265,11 @@ pub fn read_offset<R: Reader>(input: &mut R) -> Result<R::Offset>
 pub fn read_register<R: Reader>(input: &mut R) -> Result<Register>
     ensures { ReadsValue R.position register_leb128 input.old result input.new }
 {
-    // Room for the result of a call is cleared at the beginning of the function that makes it.
-    let register = register_apart(input)?;
-    Ok(register)
+    // A copy is lent to the call, so that only it has to be in memory.
+    let mut apart = *input;
+    let register = register_apart(&mut apart);
+    *input = apart;
+    Ok(register?)
 }
 
 #[tactic(auto, unfolding(crate::specs::Numbers::register_leb128))]
@@ -288,8 +290,11 @@ fn longer_uleb128<R: Reader>(input: &mut R, first: u8) -> Result<u64>
     ensures { Reads (λ x. x) unsigned_leb128
         (one_back (R.position input.old)) result (R.position input.new) }
 {
-    let number = rest_of_uleb128(input, first)?;
-    Ok(number)
+    // A copy is lent to the call, so that only it has to be in memory.
+    let mut apart = *input;
+    let number = rest_of_uleb128(&mut apart, first);
+    *input = apart;
+    Ok(number?)
 }
 
 /// The unsigned LEB128 number of two bytes or more whose first byte was just read.

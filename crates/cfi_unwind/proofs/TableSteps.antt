@@ -13,14 +13,14 @@ use Rattle.cfi_parts.specs.Instructions.{Instruction}
 use Rattle.cfi_parts.specs.InstructionReaders.{InstructionReader, Meets, instructions_left}
 use Rattle.cfi_parts.specs.InstructionVisits.{VisitsNext}
 use Rattle.cfi_read_core.specs.MappedInstructions.{map_instruction}
-use Rattle.cfi_state.specs.Row.{Row, at_addresses}
+use Rattle.cfi_state.specs.Row.{Row}
 use Rattle.cfi_state.specs.MachineSettings.{Setting, is_move}
 use Rattle.cfi_state.specs.Machine.{State, fresh_state, step}
-use Rattle.cfi_state.specs.UnwindContexts.{ContextState, machine_state, with_row, empty_context}
+use Rattle.cfi_state.specs.UnwindContexts.{ContextState, machine_state, empty_context}
 use Rattle.cfi_state.specs.ContextEffects.{Evaluates, EndsCie, Runs}
 use Rattle.cfi_state.specs.MappedStates.{map_row}
 use Rattle.cfi_state.specs.UnwindTableStates.{TableState, before_last_row, after_last_row}
-use Rattle.cfi_state.specs.MachineRuns.{MayAllocate, may_allocate, current_row, NextAnswer, passes, ends_row, refuses, cannot_read, last_row, no_row, RunsInitialInstructions, FindsRow, contains_it, goes_on, is_refused, comes_to_end, AnswersFde, by_cie, by_rows}
+use Rattle.cfi_state.specs.MachineRuns.{MayAllocate, may_allocate, NextAnswer, passes, ends_row, refuses, cannot_read, last_row, no_row, RunsInitialInstructions, FindsRow, contains_it, goes_on, is_refused, comes_to_end, AnswersFde, by_cie, by_rows}
 use Rattle.cfi_state.specs.FdeAnswers.{row_contains}
 use Rattle.cfi_state.proofs.MappedRuns.{step_ok-mapped, end_ok-mapped, step_refusal-mapped, end_refusal-mapped}
 use Rattle.cfi_state.proofs.MappedSteps.{is_move-mapped, fresh-mapped}
@@ -264,21 +264,6 @@ module _ (allocates : MayAllocate ℕ) (s : Setting) where
     pub table-refuses : (e : Error) → answer ≡ Err e → NextAnswer allocates s before (Err e) (record { so_far = state_in_numbers number location after; left = rest; has_ended = has_ended })
     table-refuses e is =
         subst (λ b. NextAnswer allocates s before (Err e) (record { so_far = state_in_numbers number location after; left = rest; has_ended = b })) (sym runs) (from_before (Err e) is)
-
-    row_is : (final : ContextState T) (end : ℕ) → final ≡ with_row after (at_addresses after.row location end) → current_row (state_in_numbers number location after) end ≡ map_row number final.row
-    row_is final end ends = ap (λ c. map_row number c.row) (sym ends)
-
-    pub table-row : (final : ContextState T) (address : ℕ) → answer ≡ Ok (Some address) → final ≡ with_row after (at_addresses after.row location address)
-        → NextAnswer allocates s before (Ok (Some (map_row number final.row))) (record { so_far = state_in_numbers number address final; left = rest; has_ended = has_ended })
-    table-row final address is ends =
-        subst (λ row. NextAnswer allocates s before (Ok (Some row)) (record { so_far = state_in_numbers number address final; left = rest; has_ended = has_ended })) (row_is final address ends)
-        (subst (λ p. NextAnswer allocates s before (Ok (Some (current_row (state_in_numbers number location after) address))) p) (λ k. record { so_far = state_in_numbers number address (sym ends k); left = rest; has_ended = sym runs k }) (from_before (Ok (Some address)) is))
-
-    pub table-last : (final : ContextState T) → answer ≡ Ok None → final ≡ with_row after (at_addresses after.row location s.end_address)
-        → NextAnswer allocates s before (Ok (Some (map_row number final.row))) (record { so_far = state_in_numbers number location final; left = rest; has_ended = true })
-    table-last final is ends =
-        subst (λ row. NextAnswer allocates s before (Ok (Some row)) (after_last_row (state_in_numbers number location final) rest)) (row_is final s.end_address ends)
-        (subst (λ p. NextAnswer allocates s before (Ok (Some (current_row (state_in_numbers number location after) s.end_address))) p) (λ k. after_last_row (state_in_numbers number location (sym ends k)) rest) (from_before (Ok None) is))
 
 -- how many answers a table still has at most
 abbrev pub answers_left : TableState (State ℕ) ℕ → ℕ

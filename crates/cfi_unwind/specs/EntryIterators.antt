@@ -4,7 +4,7 @@
 --     IsAtStart view position walk      it is at the beginning of its section
 --     IsSameWalk new old      the two have the same section and bases
 --     IsShorter position new old      the new one has fewer bytes left
-use Rattle.std.specs.Prelude.{◌≡◌, ◌<◌, ℕ}
+use Rattle.std.specs.Prelude.{◌≡◌, ◌<◌}
 use Rattle.cfi_read_core.specs.ReadFunctions.{Position, Readings}
 use Rattle.cfi_read_core.specs.ReaderCalls.{remaining}
 use Rattle.cfi_read_core.specs.CallFrameSections.{SectionView}

@@ -72,11 +72,8 @@ pub trait UnwindSection<R: Reader>: Copy + Debug + _UnwindSectionPrivate<R> {
             (R.Offset.number (Self.Offset.offset offset)) }
         ensures part { IfOk result (IsCieOf R.position (Self.view self.now).position) }
     {
-        let context = InSection {
-            section: *self,
-            bases,
-        };
-        cie_at(&context, UnwindOffset::into(offset))
+        let section = *self;
+        cie_at(&InSection { section, bases }, UnwindOffset::into(offset))
     }
 
     /// Reads the FDE at an offset of the section, as far as the offset of its CIE.
@@ -95,11 +92,8 @@ pub trait UnwindSection<R: Reader>: Copy + Debug + _UnwindSectionPrivate<R> {
             (R.Offset.number (Self.Offset.offset offset)) }
         ensures same_section_and_bases { IfOk result (IsPartialOf self.now bases.now) }
     {
-        let context = InSection {
-            section: *self,
-            bases,
-        };
-        partial_fde_at(&context, UnwindOffset::into(offset))
+        let section = *self;
+        partial_fde_at(&InSection { section, bases }, UnwindOffset::into(offset))
     }
 
     /// Reads the FDE at an offset of the section, with the CIE that `get_cie` returns for the

@@ -163,20 +163,16 @@ impl<'a, 'ctx, R: Reader, S: UnwindContextStorage<R::Offset>> UnwindTable<'a, 'c
             start,
             &mut self.instructions,
         )?;
-        match moved {
-            Some(address) => {
-                set_addresses(self.context, start, address);
-                self.next_start_address = address;
-                self.holds_row = true;
-                Ok(true)
-            }
-            None => {
-                set_addresses(self.context, start, self.parameters.end_address);
-                self.has_ended = true;
-                self.holds_row = true;
-                Ok(true)
-            }
+        let mut end = self.parameters.end_address;
+        if let Some(address) = moved {
+            self.next_start_address = address;
+            end = address;
+        } else {
+            self.has_ended = true;
         }
+        set_addresses(self.context, start, end);
+        self.holds_row = true;
+        Ok(true)
     }
 
     /// Returns the next row, borrowed from the context, or `None` after the last one.

@@ -1,7 +1,7 @@
 -- How the pointers in the rows of a header's table are read.
 --     read_by, ReadsPointers, ReadsRows      a way to read them, and that it is the encoding's
 --     HasBase      what is added to each value
-use Rattle.std.specs.Prelude.{◌≡◌, ◌⊎◌, ℕ, Some}
+use Rattle.std.specs.Prelude.{◌≡◌, ◌⊎◌, ℕ, Option, Some, None}
 use Rattle.std.specs.Int.{w32}
 use Rattle.cfi_read_core.specs.Addresses.{wrap}
 use Rattle.cfi_read_core.specs.AddressSizes.{size_in_bytes}
@@ -15,21 +15,19 @@ use Rattle.cfi_parts.specs.declared.pointer.SectionBaseAddresses.{SectionBaseAdd
 use Rattle.cfi_parts.specs.Pointers.{PointerContext, in_64_bits, pointer}
 use Rattle.gimli_cfi.specs.EhFrameHdr.{header_context, header_section}
 use Rattle.gimli_cfi.specs.declared.hdr.header.ParsedEhFrameHdr.{ParsedEhFrameHdr}
-use Rattle.gimli_cfi.specs.declared.hdr.row_fields.RowReading.{RowReading}
-use Rattle.gimli_cfi.specs.declared.hdr.row_fields.RowReading.TheVariants as reading
 
 -- a value, added to a base
 abbrev pub added_to : ℕ → Read ℕ → Read Pointer
 added_to base read = read >>= λ value. give (Direct (wrap base value 8))
 
--- sdata4, or any encoding
-abbrev pub read_by : RowReading → ℕ → PointerContext → Read Pointer
-read_by (reading.Signed4 base) encoding context = added_to base (in_64_bits (signed w32))
-read_by reading.ByEncoding encoding context = pointer encoding context
+-- sdata4 with this base, or any encoding
+abbrev pub read_by : Option ℕ → ℕ → PointerContext → Read Pointer
+read_by (Some base) encoding context = added_to base (in_64_bits (signed w32))
+read_by None encoding context = pointer encoding context
 
 -- pointers of this encoding are read so
-abbrev pub ReadsPointers : RowReading → ℕ → PointerContext → Type 0
-ReadsPointers reading encoding context = read_by reading encoding context ≡ pointer encoding context
+abbrev pub ReadsPointers : Option ℕ → ℕ → PointerContext → Type 0
+ReadsPointers base encoding context = read_by base encoding context ≡ pointer encoding context
 
 -- what is added is this base: 0 for absptr, the data base for datarel
 abbrev pub HasBase : ℕ → SectionBaseAddresses → ℕ → Type 0
@@ -40,6 +38,6 @@ HasBase encoding bases base =
 -- traits of the three say.
 module _ {R O E : Type 0} {a : _} {b : _} {c : _} {d : _} {e : _} {f : _} {g : _} {h : _} {i : _} {j : _} {k : _} where
   -- the pointers in the rows of this header are read so, with these bases
-  abbrev pub ReadsRows : (R → Position) → RowReading → ParsedEhFrameHdr R O E a b c d e f g h i j k → BaseAddresses → Type 0
-  ReadsRows position reading header bases =
-      ReadsPointers reading header.table_enc.0 (header_context (header_section (position header.section) (size_in_bytes header.address_size) bases.eh_frame_hdr))
+  abbrev pub ReadsRows : (R → Position) → Option ℕ → ParsedEhFrameHdr R O E a b c d e f g h i j k → BaseAddresses → Type 0
+  ReadsRows position base header bases =
+      ReadsPointers base header.table_enc.0 (header_context (header_section (position header.section) (size_in_bytes header.address_size) bases.eh_frame_hdr))

@@ -1,9 +1,11 @@
 //! Reading one call frame instruction (DWARF 5 sections 6.4.2 and 7.24).
-ghost use Rattle.std.specs.Prelude.{◌≡◌, ⊤};
+ghost use Rattle.std.specs.Prelude.{◌≡◌};
 ghost use Rattle.cfi_read_core.specs.MappedInstructions.{map_expression, map_instruction};
+ghost use Rattle.cfi_read_core.specs.Numbers.{unsigned};
 ghost use Rattle.cfi_read_core.specs.ReaderCalls.{ReadsBy, ReadsValue};
 ghost use Rattle.cfi_parts.specs.Instructions.{IsRare, by_extended_opcode, by_register_rules};
-ghost use Rattle.cfi_parts.specs.Instructions.{by_rules, expression, instruction, set_location};
+ghost use Rattle.cfi_parts.specs.Instructions.{by_rules, delta_width, expression, instruction};
+ghost use Rattle.cfi_parts.specs.Instructions.{set_location};
 ghost use Rattle.cfi_parts.specs.InstructionVisits.{VisitsRead};
 ghost use Rattle.cfi_parts.specs.ReadingParameters.{NotBeforeSection, instruction_context};
 ghost use Rattle.cfi_parts.specs.ReadingParameters.{pointer_context};
@@ -23,10 +25,9 @@ use cfi_read_core::constants::{
 use cfi_read_core::instruction::visitor::InstructionVisitor;
 use cfi_read_core::reader::{read_offset, read_register};
 use cfi_read_core::{DwCfa, DwEhPe, Error, Reader, ReaderOffset, Register, Result, Vendor};
-use std::alloc::AllocError;
 
 /// The parameters for reading the instructions of an entry.
-#[derive(Copy, Debug)]
+#[derive(Clone, Copy, Debug)]
 pub struct InstructionParameters<'a, R> {
     /// The pointer encoding of the address of `DW_CFA_set_loc`; a plain address if there is none.
     pub address_encoding: Option<DwEhPe>,
@@ -34,17 +35,6 @@ pub struct InstructionParameters<'a, R> {
     pub pointers: PointerEncodingParameters<'a, R>,
     /// Which vendor opcodes are known.
     pub vendor: Vendor,
-}
-
-impl<R: Copy> Clone for InstructionParameters<'_, R> {
-    ghost is_clone = { λ x y. y ≡ x };
-
-    ghost is_infallible = { λ _. ⊤ };
-
-    #[inline(always)]
-    fn clone(&self) -> std::result::Result<Self, AllocError> {
-        Ok(*self)
-    }
 }
 
 /// Skips an expression, and returns its place in the section.
@@ -126,17 +116,8 @@ fn visit_extended<R: Reader, C, V: InstructionVisitor<R::Offset, C>>(
 {
     match opcode {
         // Row creation (section 6.4.2.1).
-        DW_CFA_advance_loc1 => {
-            let delta = input.read_u8()?;
-            Ok(visitor.advance(target, u32::from(delta)))
-        }
-        DW_CFA_advance_loc2 => {
-            let delta = input.read_u16()?;
-            Ok(visitor.advance(target, u32::from(delta)))
-        }
-        DW_CFA_advance_loc4 => {
-            let delta = input.read_u32()?;
-            Ok(visitor.advance(target, delta))
+        DW_CFA_advance_loc1 | DW_CFA_advance_loc2 | DW_CFA_advance_loc4 => {
+            Ok(visitor.advance(target, parse_delta(opcode, input)?))
         }
         // The definition of the CFA (section 6.4.2.2).
         DW_CFA_def_cfa => {
@@ -144,19 +125,25 @@ fn visit_extended<R: Reader, C, V: InstructionVisitor<R::Offset, C>>(
             let offset = input.read_uleb128()?;
             Ok(visitor.def_cfa(target, register, offset))
         }
-        DW_CFA_def_cfa_register => {
-            let register = read_register(input)?;
-            Ok(visitor.def_cfa_register(target, register))
-        }
-        DW_CFA_def_cfa_offset => {
-            let offset = input.read_uleb128()?;
-            Ok(visitor.def_cfa_offset(target, offset))
-        }
+        DW_CFA_def_cfa_register => Ok(visitor.def_cfa_register(target, read_register(input)?)),
+        DW_CFA_def_cfa_offset => Ok(visitor.def_cfa_offset(target, input.read_uleb128()?)),
         // Row state (section 6.4.2.4), and padding.
         DW_CFA_nop => Ok(visitor.nop(target)),
         DW_CFA_remember_state => Ok(visitor.remember_state(target)),
         DW_CFA_restore_state => Ok(visitor.restore_state(target)),
         _ => visit_rare(opcode, parameters, input, visitor, target),
+    }
+}
+
+/// Reads the operand of `DW_CFA_advance_loc1`, `DW_CFA_advance_loc2` or `DW_CFA_advance_loc4`.
+#[inline(always)]
+fn parse_delta<R: Reader>(opcode: DwCfa, input: &mut R) -> Result<u32>
+    ensures { ReadsValue R.position (unsigned (delta_width opcode.0)) input.old result input.new }
+{
+    match opcode {
+        DW_CFA_advance_loc1 => Ok(u32::from(input.read_u8()?)),
+        DW_CFA_advance_loc2 => Ok(u32::from(input.read_u16()?)),
+        _ => input.read_u32(),
     }
 }
 
@@ -176,9 +163,11 @@ fn visit_rare<R: Reader, C, V: InstructionVisitor<R::Offset, C>>(
         (by_extended_opcode (instruction_context R.position parameters.now) opcode.0)
         (R.position input.old) (R.position input.new) target.old target.new result }
 {
-    let instruction = parse_rare(opcode, parameters, input)?;
-    let answer = visitor.other(target, instruction);
-    Ok(answer)
+    // A copy is lent to the call, so that only it has to be in memory.
+    let mut apart = *input;
+    let instruction = parse_rare(opcode, parameters, &mut apart);
+    *input = apart;
+    Ok(visitor.other(target, instruction?))
 }
 
 /// Reads the operands of one of the other opcodes whose two high bits are 0.

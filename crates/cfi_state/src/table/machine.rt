@@ -3,12 +3,11 @@
 //! What the crates above this one do to a context is here, and not among its methods, so users of
 //! an unwind context do not see it.
 ghost use Rattle.std.specs.Prelude.{◌≡◌, ℕ, None, IfOk, is_some, true, false};
-ghost use Rattle.std.specs.Int.{w64, cast_signed, int_wrapping_mul};
+ghost use Rattle.std.specs.Int.{w64, int_wrapping_mul};
 ghost use Rattle.cfi_state.specs.MachineSettings.{Setting, is_move};
 ghost use Rattle.cfi_read_core.specs.declared.instruction.CallFrameInstruction.TheVariants
     as instruction;
 ghost use Rattle.cfi_state.specs.Row.{at_addresses};
-ghost use Rattle.cfi_state.specs.declared.table.rules.CfaRule.TheVariants as cfa_rule;
 ghost use Rattle.cfi_state.specs.declared.table.rules.RegisterRule.TheVariants as rule;
 ghost use Rattle.cfi_state.specs.UnwindContexts.{empty_context, machine_state, with_row};
 ghost use Rattle.cfi_state.specs.declared.table.machine.Parameters.{Parameters};
@@ -127,7 +126,8 @@ impl<T: ReaderOffset, S: UnwindContextStorage<T>> InstructionVisitor<T, UnwindCo
         register: Register,
         offset: u64,
     ) -> Self::Answer {
-        context.set_cfa(defined(register, offset));
+        let offset = offset.cast_signed();
+        context.set_cfa(CfaRule::RegisterAndOffset { register, offset });
         Ok(None)
     }
 
@@ -145,7 +145,7 @@ impl<T: ReaderOffset, S: UnwindContextStorage<T>> InstructionVisitor<T, UnwindCo
 
     #[inline(always)]
     fn def_cfa_offset(&self, context: &mut UnwindContext<T, S>, offset: u64) -> Self::Answer {
-        if let Some(cfa) = with_unfactored_offset(*context.row().cfa(), offset)? {
+        if let Some(cfa) = with_offset(*context.row().cfa(), offset.cast_signed())? {
             context.set_cfa(cfa);
         }
         Ok(None)
@@ -193,15 +193,6 @@ fn advance(parameters: &Parameters, location: u64, delta: u32) -> Result<Option<
     let distance = u64::from(delta).wrapping_mul(parameters.code_alignment_factor);
     let address = location.add_sized(distance, parameters.address_size.bytes())?;
     Ok(Some(address))
-}
-
-/// The CFA at an offset from a register.
-#[inline(always)]
-fn defined<T: ReaderOffset>(register: Register, offset: u64) -> CfaRule<T>
-    ensures { result ≡ cfa_rule.RegisterAndOffset register (cast_signed w64 offset) }
-{
-    let offset = offset.cast_signed();
-    CfaRule::RegisterAndOffset { register, offset }
 }
 
 /// The rule of a register that is saved at an offset from the CFA.
@@ -343,7 +334,10 @@ fn cfa_given<T: ReaderOffset>(
         ≡ effects.cfa_given (setting_of parameters.now None None) old (action instruction) }
 {
     match instruction {
-        CallFrameInstruction::DefCfa { register, offset } => Ok(Some(defined(register, offset))),
+        CallFrameInstruction::DefCfa { register, offset } => {
+            let offset = offset.cast_signed();
+            Ok(Some(CfaRule::RegisterAndOffset { register, offset }))
+        }
         CallFrameInstruction::DefCfaSf {
             register,
             factored_offset,
@@ -352,7 +346,7 @@ fn cfa_given<T: ReaderOffset>(
             Ok(Some(CfaRule::RegisterAndOffset { register, offset }))
         }
         CallFrameInstruction::DefCfaRegister { register } => with_register(old, register),
-        CallFrameInstruction::DefCfaOffset { offset } => with_unfactored_offset(old, offset),
+        CallFrameInstruction::DefCfaOffset { offset } => with_offset(old, offset.cast_signed()),
         CallFrameInstruction::DefCfaOffsetSf { factored_offset } => {
             with_offset(old, parameters.factored(factored_offset))
         }
@@ -387,17 +381,6 @@ fn with_offset<T: ReaderOffset>(old: CfaRule<T>, offset: i64) -> Result<Option<C
         }
         CfaRule::Expression(_) => Err(Error::CfiInstructionInInvalidContext),
     }
-}
-
-/// The CFA with another offset, which is the operand itself, and the same register.
-#[inline(always)]
-fn with_unfactored_offset<T: ReaderOffset>(
-    old: CfaRule<T>,
-    offset: u64,
-) -> Result<Option<CfaRule<T>>>
-    ensures { result ≡ effects.with_offset old (cast_signed w64 offset) }
-{
-    with_offset(old, offset.cast_signed())
 }
 
 /// The register that the instruction gives a rule, and the rule (DWARF 5 section 6.4.2.3).

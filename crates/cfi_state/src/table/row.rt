@@ -4,7 +4,7 @@ ghost use Rattle.std.specs.Cmp.{partial_equiv_from_equiv};
 ghost use Rattle.cfi_read_core.specs.ReaderCalls.{map_ok};
 ghost use Rattle.cfi_state.specs.RegisterRuleIters.{rules_left};
 
-use super::rules::{CfaRule, RegisterRule, RegisterRuleIter, RegisterRuleMap};
+use super::rules::{CfaRule, Pair, RegisterRule, RegisterRuleIter, RegisterRuleMap};
 use crate::storage::{ArrayLike, CopyList};
 use arrayvec::ArrayVec;
 use cfi_read_core::{Error, ReaderOffset, Register, Result};
@@ -14,7 +14,7 @@ use std::marker::Model;
 /// How to unwind the code between two addresses (DWARF 5 section 6.4.1).
 #[derive(Drop)]
 #[derive_where(Debug)]
-pub struct UnwindTableRow<T: ReaderOffset, A: ArrayLike<Item = (Register, RegisterRule<T>)>> {
+pub struct UnwindTableRow<T: ReaderOffset, A: ArrayLike<Item = Pair<T>>> {
     start_address: u64,
     end_address: u64,
     saved_args_size: u64,
@@ -22,8 +22,7 @@ pub struct UnwindTableRow<T: ReaderOffset, A: ArrayLike<Item = (Register, Regist
     registers: RegisterRuleMap<T, A>,
 }
 
-impl<T: ReaderOffset, A: ArrayLike<Item = (Register, RegisterRule<T>)>> Model
-    for UnwindTableRow<T, A> {
+impl<T: ReaderOffset, A: ArrayLike<Item = Pair<T>>> Model for UnwindTableRow<T, A> {
     ghost use Rattle.std.specs.FinMap as map;
     ghost use Rattle.std.specs.Coded.{codes};
     ghost use Rattle.cfi_state.specs.Row.{Row};
@@ -39,7 +38,7 @@ impl<T: ReaderOffset, A: ArrayLike<Item = (Register, RegisterRule<T>)>> Model
     } };
 }
 
-impl<T: ReaderOffset, A: ArrayLike<Item = (Register, RegisterRule<T>)>> UnwindTableRow<T, A> {
+impl<T: ReaderOffset, A: ArrayLike<Item = Pair<T>>> UnwindTableRow<T, A> {
     ghost use Rattle.std.specs.FinMap as map;
     ghost use Rattle.cfi_state.specs.AllocatingOperations.{Performs};
     ghost use Rattle.cfi_state.specs.RulePairs.{rules_of, IsDistinctRegisters};
@@ -193,8 +192,7 @@ impl<T: ReaderOffset, A: ArrayLike<Item = (Register, RegisterRule<T>)>> UnwindTa
 }
 
 /// Rows are equal if their addresses, argument sizes, CFAs and rules are.
-impl<T: ReaderOffset, A: ArrayLike<Item = (Register, RegisterRule<T>)>> PartialEq
-    for UnwindTableRow<T, A> {
+impl<T: ReaderOffset, A: ArrayLike<Item = Pair<T>>> PartialEq for UnwindTableRow<T, A> {
     ghost use Rattle.cfi_state.specs.Equality.{row_eq};
     ghost use Rattle.cfi_state.specs.EqualityLaws.{row_equiv};
 
@@ -212,17 +210,13 @@ impl<T: ReaderOffset, A: ArrayLike<Item = (Register, RegisterRule<T>)>> PartialE
     }
 }
 
-impl<T: ReaderOffset, A: ArrayLike<Item = (Register, RegisterRule<T>)>> Eq
-    for UnwindTableRow<T, A> {
+impl<T: ReaderOffset, A: ArrayLike<Item = Pair<T>>> Eq for UnwindTableRow<T, A> {
     ghost use Rattle.cfi_state.specs.EqualityLaws.{row_equiv};
 
     ghost laws = { row_equiv T.Eq.laws };
 }
 
-impl<T: ReaderOffset, A: ArrayLike<Item = (Register, RegisterRule<T>)> + CopyList> UnwindTableRow<
-    T,
-    A,
-> {
+impl<T: ReaderOffset, A: ArrayLike<Item = Pair<T>> + CopyList> UnwindTableRow<T, A> {
     /// An equal row. Fails with `OutOfMemory` only if a copy of the rules allocates.
     pub fn try_clone(&self) -> Result<Self>
         ensures ok { IfOk result (λ row. row ≡ self.now) }
@@ -255,8 +249,7 @@ impl<T: ReaderOffset, A: ArrayLike<Item = (Register, RegisterRule<T>)> + CopyLis
 }
 
 /// What fills the unused part of an `ArrayVec` of rows.
-impl<T: ReaderOffset, const N: usize> Default
-    for UnwindTableRow<T, ArrayVec<(Register, RegisterRule<T>), N>> {
+impl<T: ReaderOffset, const N: usize> Default for UnwindTableRow<T, ArrayVec<Pair<T>, N>> {
     ghost use Rattle.cfi_state.specs.Row.{empty_row};
 
     ghost is_default = { λ row. row ≡ empty_row };

@@ -96,24 +96,22 @@ impl<T> Default for RegisterRule<T> {
     }
 }
 
+/// A register with its rule.
+pub(crate) type Pair<T> = (Register, RegisterRule<T>);
+
 /// The registers that have a rule, each once, the lowest first.
 #[derive(Drop)]
-pub(crate) struct RegisterRuleMap<
-    T: ReaderOffset,
-    A: ArrayLike<Item = (Register, RegisterRule<T>)>,
-> {
+pub(crate) struct RegisterRuleMap<T: ReaderOffset, A: ArrayLike<Item = Pair<T>>> {
     pairs: A,
 }
 
-impl<T: ReaderOffset, A: ArrayLike<Item = (Register, RegisterRule<T>)>> Debug
-    for RegisterRuleMap<T, A> {
+impl<T: ReaderOffset, A: ArrayLike<Item = Pair<T>>> Debug for RegisterRuleMap<T, A> {
     fn fmt<W: Write>(&self, f: &mut Formatter<W>) -> std::fmt::Result {
         f.debug_list().entries(self.pairs()).finish()
     }
 }
 
-impl<T: ReaderOffset, A: ArrayLike<Item = (Register, RegisterRule<T>)>> Model
-    for RegisterRuleMap<T, A> {
+impl<T: ReaderOffset, A: ArrayLike<Item = Pair<T>>> Model for RegisterRuleMap<T, A> {
     ghost use Rattle.std.specs.FinMap as map;
     ghost use Rattle.std.specs.Coded.{codes};
     ghost use Rattle.cfi_state.specs.Machine.{Rules};
@@ -128,7 +126,7 @@ impl<T: ReaderOffset, A: ArrayLike<Item = (Register, RegisterRule<T>)>> Model
     ghost invariant = { λ map. IsRising (A.items map.pairs) };
 }
 
-impl<T: ReaderOffset, A: ArrayLike<Item = (Register, RegisterRule<T>)>> RegisterRuleMap<T, A> {
+impl<T: ReaderOffset, A: ArrayLike<Item = Pair<T>>> RegisterRuleMap<T, A> {
     ghost use Rattle.std.specs.FinMap as map;
     ghost use Rattle.cfi_state.specs.AllocatingOperations.{Performs};
     ghost use Rattle.cfi_state.specs.RulePairs.{rules_of, IsDistinctRegisters, IsRising};
@@ -146,7 +144,7 @@ impl<T: ReaderOffset, A: ArrayLike<Item = (Register, RegisterRule<T>)>> Register
 
     /// The registers with their rules, each once, the lowest register first.
     #[inline(always)]
-    pub(crate) fn pairs(&self) -> &[(Register, RegisterRule<T>)]
+    pub(crate) fn pairs(&self) -> &[Pair<T>]
         ensures rules { rules_of result.now ≡ self.now }
         ensures distinct { IsDistinctRegisters result.now }
         ensures rising { IsRising result.now }
@@ -222,10 +220,7 @@ impl<T: ReaderOffset, A: ArrayLike<Item = (Register, RegisterRule<T>)>> Register
     }
 }
 
-impl<T: ReaderOffset, A: ArrayLike<Item = (Register, RegisterRule<T>)> + CopyList> RegisterRuleMap<
-    T,
-    A,
-> {
+impl<T: ReaderOffset, A: ArrayLike<Item = Pair<T>> + CopyList> RegisterRuleMap<T, A> {
     /// An equal map. Fails with `OutOfMemory` only if a copy of the list allocates.
     pub(crate) fn copy(&self) -> Result<Self>
         ensures ok { IfOk result (λ rules. rules ≡ self.now) }
@@ -254,9 +249,9 @@ impl<T: ReaderOffset, A: ArrayLike<Item = (Register, RegisterRule<T>)> + CopyLis
 }
 
 /// Makes the list hold these pairs. An error leaves it empty.
-fn fill<T: ReaderOffset, A: ArrayLike<Item = (Register, RegisterRule<T>)>>(
+fn fill<T: ReaderOffset, A: ArrayLike<Item = Pair<T>>>(
     list: &mut A,
-    pairs: &[(Register, RegisterRule<T>)],
+    pairs: &[Pair<T>],
 ) -> Result<()>
     requires { IsWithinLimit A.limit pairs.now }
     ensures ok { OnOk result (A.items list.new ≡ pairs.now) }
@@ -280,7 +275,7 @@ fn fill<T: ReaderOffset, A: ArrayLike<Item = (Register, RegisterRule<T>)>>(
 /// specified.
 #[derive(Clone, Copy, Debug)]
 pub struct RegisterRuleIter<'iter, T: ReaderOffset> {
-    rules: &'iter [(Register, RegisterRule<T>)],
+    rules: &'iter [Pair<T>],
 }
 
 impl<'iter, T: ReaderOffset> RegisterRuleIter<'iter, T> {
@@ -308,8 +303,7 @@ impl<'iter, T: ReaderOffset> Iterator for RegisterRuleIter<'iter, T> {
     }
 }
 
-impl<T: ReaderOffset, A: ArrayLike<Item = (Register, RegisterRule<T>)>> PartialEq
-    for RegisterRuleMap<T, A> {
+impl<T: ReaderOffset, A: ArrayLike<Item = Pair<T>>> PartialEq for RegisterRuleMap<T, A> {
     ghost eq = { rules_eq T.eq };
 
     ghost laws = { partial_equiv_from_equiv (rules_equiv T.Eq.laws) };
@@ -320,17 +314,13 @@ impl<T: ReaderOffset, A: ArrayLike<Item = (Register, RegisterRule<T>)>> PartialE
     }
 }
 
-impl<T: ReaderOffset, A: ArrayLike<Item = (Register, RegisterRule<T>)>> Eq
-    for RegisterRuleMap<T, A> {
+impl<T: ReaderOffset, A: ArrayLike<Item = Pair<T>>> Eq for RegisterRuleMap<T, A> {
     ghost laws = { rules_equiv T.Eq.laws };
 }
 
 /// Whether two lists are of equal maps.
 #[inline(always)]
-pub(crate) fn is_same_rules<T: ReaderOffset>(
-    a: &[(Register, RegisterRule<T>)],
-    b: &[(Register, RegisterRule<T>)],
-) -> bool
+pub(crate) fn is_same_rules<T: ReaderOffset>(a: &[Pair<T>], b: &[Pair<T>]) -> bool
     requires a { IsRising a.now }
     requires b { IsRising b.now }
     ensures { result ≡ rules_eq T.eq (rules_of a.now) (rules_of b.now) }
@@ -340,10 +330,7 @@ pub(crate) fn is_same_rules<T: ReaderOffset>(
 
 /// Whether each register of `pairs` has an equal rule in `others`.
 #[inline(always)]
-fn has_same_rules<T: ReaderOffset>(
-    pairs: &[(Register, RegisterRule<T>)],
-    others: &[(Register, RegisterRule<T>)],
-) -> bool
+fn has_same_rules<T: ReaderOffset>(pairs: &[Pair<T>], others: &[Pair<T>]) -> bool
     requires pairs { IsRising pairs.now }
     requires others { IsRising others.now }
     ensures { result ≡ is_within (rule_eq T.eq) (rules_of pairs.now) (rules_of others.now) }
@@ -362,7 +349,7 @@ fn has_same_rules<T: ReaderOffset>(
 /// The rule of the register in a list of pairs, `None` if it has none.
 #[inline(always)]
 pub(crate) fn rule_of<T: ReaderOffset>(
-    pairs: &[(Register, RegisterRule<T>)],
+    pairs: &[Pair<T>],
     register: Register,
 ) -> Option<RegisterRule<T>>
     requires { IsRising pairs.now }
@@ -378,7 +365,7 @@ pub(crate) fn rule_of<T: ReaderOffset>(
 /// which it belongs.
 #[inline(always)]
 fn index_of<T: ReaderOffset>(
-    pairs: &[(Register, RegisterRule<T>)],
+    pairs: &[Pair<T>],
     register: Register,
 ) -> std::result::Result<usize, usize>
     requires { IsRising pairs.now }
@@ -415,8 +402,7 @@ pub(crate) fn refusal_of<T: Drop>(refused: Refused<T>, full: Error) -> Error
     }
 }
 
-impl<T: ReaderOffset, const N: usize> Default
-    for RegisterRuleMap<T, ArrayVec<(Register, RegisterRule<T>), N>> {
+impl<T: ReaderOffset, const N: usize> Default for RegisterRuleMap<T, ArrayVec<Pair<T>, N>> {
     ghost use Rattle.std.specs.FinMap as map;
 
     ghost is_default = { λ rules. rules ≡ map.empty };

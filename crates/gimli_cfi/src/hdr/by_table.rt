@@ -28,6 +28,9 @@ use cfi_state::table::row::UnwindTableRow;
 use cfi_unwind::entry::{CommonInformationEntry, FrameDescriptionEntry};
 use cfi_unwind::unwind_section::{EhFrame, UnwindSection};
 
+/// An offset in `.eh_frame`, as this reader counts.
+type Offset<R> = EhFrameOffset<<R as Reader>::Offset>;
+
 /// The unwind row of the address in the section, borrowed from the context, by a header's table.
 ///
 /// It is the row of the FDE at the target of a boundary row for the address, by the answers of the
@@ -109,7 +112,7 @@ fn table_fde<R: Reader, St: StartSource>(
         frame,
         bases,
         address,
-        &mut |from: &EhFrame<R>, bases: &BaseAddresses, offset: EhFrameOffset<R::Offset>| {
+        &mut |from: &EhFrame<R>, bases: &BaseAddresses, offset: Offset<R>| {
             // The checker takes the closure only if it captures a value of the reader's type.
             let _reader = reader;
             from.cie_from_offset(bases, offset)
@@ -129,11 +132,7 @@ fn fde_at_target<R: Reader, F>(
     get_cie: &mut F,
 ) -> Result<FrameDescriptionEntry<R>>
 where
-    F: FnMut(
-        &EhFrame<R>,
-        &BaseAddresses,
-        EhFrameOffset<R::Offset>,
-    ) -> Result<CommonInformationEntry<R>>,
+    F: FnMut(&EhFrame<R>, &BaseAddresses, Offset<R>) -> Result<CommonInformationEntry<R>>,
     requires { F.IsAlwaysCallable get_cie.old }
     ensures read { ReadsAt
         (AsksForCie F.FnMut R.position R.Offset.number (λ o. o.0) frame.now bases.now)
@@ -172,11 +171,7 @@ impl<R: Reader> EhHdrTable<'_, R> {
         mut get_cie: F,
     ) -> Result<FrameDescriptionEntry<R>>
     where
-        F: FnMut(
-            &EhFrame<R>,
-            &BaseAddresses,
-            EhFrameOffset<R::Offset>,
-        ) -> Result<CommonInformationEntry<R>>,
+        F: FnMut(&EhFrame<R>, &BaseAddresses, Offset<R>) -> Result<CommonInformationEntry<R>>,
         requires { F.IsAlwaysCallable get_cie }
         ensures found { (last : F) × FindsFde
             (AsksForCie F.FnMut R.position R.Offset.number (λ o. o.0) frame.now bases.now)
@@ -205,11 +200,7 @@ impl<R: Reader> EhHdrTable<'_, R> {
         get_cie: &mut F,
     ) -> Result<FrameDescriptionEntry<R>>
     where
-        F: FnMut(
-            &EhFrame<R>,
-            &BaseAddresses,
-            EhFrameOffset<R::Offset>,
-        ) -> Result<CommonInformationEntry<R>>,
+        F: FnMut(&EhFrame<R>, &BaseAddresses, Offset<R>) -> Result<CommonInformationEntry<R>>,
         requires { F.IsAlwaysCallable get_cie.old }
         ensures found { FindsFde
             (AsksForCie F.FnMut R.position R.Offset.number (λ o. o.0) frame.now bases.now)
@@ -241,11 +232,7 @@ impl<R: Reader> EhHdrTable<'_, R> {
     ) -> Result<&'ctx UnwindTableRow<R::Offset, S::Rules>>
     where
         S: UnwindContextStorage<R::Offset>,
-        F: FnMut(
-            &EhFrame<R>,
-            &BaseAddresses,
-            EhFrameOffset<R::Offset>,
-        ) -> Result<CommonInformationEntry<R>>,
+        F: FnMut(&EhFrame<R>, &BaseAddresses, Offset<R>) -> Result<CommonInformationEntry<R>>,
         requires callable { F.IsAlwaysCallable get_cie }
         requires of_section { GivesCiesOf F.FnMut R.position
             (eh_frame_view R.position frame.now).position frame.now bases.now get_cie }
@@ -276,11 +263,7 @@ impl<R: Reader> EhHdrTable<'_, R> {
     ) -> Result<&'ctx UnwindTableRow<R::Offset, S::Rules>>
     where
         S: UnwindContextStorage<R::Offset>,
-        F: FnMut(
-            &EhFrame<R>,
-            &BaseAddresses,
-            EhFrameOffset<R::Offset>,
-        ) -> Result<CommonInformationEntry<R>>,
+        F: FnMut(&EhFrame<R>, &BaseAddresses, Offset<R>) -> Result<CommonInformationEntry<R>>,
         requires callable { F.IsAlwaysCallable get_cie.old }
         requires of_section { GivesCiesOf F.FnMut R.position
             (eh_frame_view R.position frame.now).position frame.now bases.now get_cie.old }

@@ -67,10 +67,7 @@ fn in_header(value: cfi_read_core::Result<u64>) -> Result<u64, Unfaithful>
     ensures given { IfOk result (λ number. value ≡ Ok number) }
     ensures refused { IfErr result (IsRefusalOfHeader value) }
 {
-    match value {
-        Ok(number) => Ok(number),
-        Err(refusal) => Err(Unfaithful::Header(refusal)),
-    }
+    value.map_err(|refusal| Unfaithful::Header(refusal))
 }
 
 /// The start of a row, or the reason why it can't be had.
@@ -81,10 +78,9 @@ fn start_at<St: StartSource>(starts: &mut St, row: u64) -> Result<u64, Unfaithfu
     ensures calls { St.calls starts.new ≡ St.calls starts.old + 1 }
     ensures same { St.answer starts.new ≡ St.answer starts.old }
 {
-    match starts.start(row) {
-        Ok(start) => Ok(start),
-        Err(refusal) => Err(Unfaithful::Row { row, refusal }),
-    }
+    starts
+        .start(row)
+        .map_err(|refusal| Unfaithful::Row { row, refusal })
 }
 
 /// The target of a row, or the reason why it can't be had.
@@ -101,10 +97,7 @@ fn target_at<R: Reader>(
     ensures refused { IfErr result
         (IsRefusalIn (table_targets R.position table.now bases.now row) row) }
 {
-    match target_of_row(table.hdr, bases, size, row) {
-        Ok(target) => Ok(target),
-        Err(refusal) => Err(Unfaithful::Row { row, refusal }),
-    }
+    target_of_row(table.hdr, bases, size, row).map_err(|refusal| Unfaithful::Row { row, refusal })
 }
 
 /// Checks that each row has a start, above that of the row before it.

@@ -13,7 +13,7 @@ ghost use Rattle.gimli_cfi.specs.PassedRows.{MeetsAfter, walk_past};
 ghost use Rattle.gimli_cfi.specs.RowReadings.{ReadsRows};
 
 use crate::hdr::header::ParsedEhFrameHdr;
-use crate::hdr::row_fields::{RowReading, pass_rows, read_pointer, searchable_size};
+use crate::hdr::row_fields::{base_of_rows, pass_rows, read_pointer, searchable_size};
 use cfi_parts::pointer::{BaseAddresses, Pointer};
 use cfi_read_core::{Reader, Result};
 
@@ -25,9 +25,9 @@ pub struct EhHdrTableIter<'a, 'bases, R: Reader> {
     hdr: &'a ParsedEhFrameHdr<R>,
     table: R,
     bases: &'bases BaseAddresses,
-    reading: RowReading,
+    base: Option<u64>,
     remain: u64,
-    ghost chosen: { ReadsRows R.position reading hdr.now bases.now },
+    ghost chosen: { ReadsRows R.position base hdr.now bases.now },
     ghost of_section: { IsOf (R.position table)
         (R.position hdr.now.section) } by { IsOf_prop (R.position table)
             (R.position hdr.now.section) },
@@ -48,7 +48,7 @@ impl<'a, 'bases, R: Reader> EhHdrTableIter<'a, 'bases, R> {
             hdr,
             table: hdr.table,
             bases,
-            reading: RowReading::of(hdr, bases),
+            base: base_of_rows(hdr, bases),
             remain: hdr.fde_count,
         }
     }
@@ -74,7 +74,7 @@ impl<'a, 'bases, R: Reader> EhHdrTableIter<'a, 'bases, R> {
         }
         self.remain -= 1;
         let mut rows = self.table;
-        let found = read_row(self.hdr, self.bases, self.reading, &mut rows);
+        let found = read_row(self.hdr, self.bases, self.base, &mut rows);
         self.table = rows;
         Ok(Some(found?))
     }
@@ -146,16 +146,16 @@ impl<R: Reader> Iterator for EhHdrTableIter<'_, '_, R> {
 fn read_row<R: Reader>(
     hdr: &ParsedEhFrameHdr<R>,
     bases: &BaseAddresses,
-    reading: RowReading,
+    base: Option<u64>,
     input: &mut R,
 ) -> Result<(Pointer, Pointer)>
-    requires chosen { ReadsRows R.position reading hdr.now bases.now }
+    requires chosen { ReadsRows R.position base hdr.now bases.now }
     requires behind { (R.position hdr.now.section).place ≤ (R.position input.old).place }
     ensures { let section = header_section (R.position hdr.now.section)
         (size_in_bytes hdr.now.address_size) bases.now.eh_frame_hdr in
         ReadsValue R.position (row section hdr.now.table_enc.0) input.old result input.new }
 {
-    let start = read_pointer(hdr, bases, reading, input)?;
-    let target = read_pointer(hdr, bases, reading, input)?;
+    let start = read_pointer(hdr, bases, base, input)?;
+    let target = read_pointer(hdr, bases, base, input)?;
     Ok((start, target))
 }

@@ -1,20 +1,18 @@
 //! The start and the target of a row, each read where it is in the table.
-ghost use Rattle.std.specs.Prelude.{◌≡◌, ◌≤◌, IfSome, Some};
-ghost use Rattle.std.specs.Int.{w32};
-ghost use Rattle.cfi_read_core.specs.Numbers.{signed};
+ghost use Rattle.std.specs.Prelude.{◌≡◌, ◌≤◌, Some};
 ghost use Rattle.cfi_read_core.specs.ReadFunctions.{skip};
 ghost use Rattle.cfi_read_core.specs.ReaderCalls.{ReadsValue};
-ghost use Rattle.cfi_parts.specs.Pointers.{in_64_bits, pointer};
+ghost use Rattle.cfi_parts.specs.Pointers.{pointer};
 ghost use Rattle.cfi_parts.specs.ReadingParameters.{pointer_context};
 ghost use Rattle.gimli_cfi.specs.EhFrameHdr.{header_context, row_field, rows_passed};
 ghost use Rattle.gimli_cfi.specs.EhFrameHdr.{searched_size, value_size};
 ghost use Rattle.gimli_cfi.specs.HeaderViews.{header_section_view, rows_view, starts_view};
 ghost use Rattle.gimli_cfi.specs.HeaderViews.{targets_view};
-ghost use Rattle.gimli_cfi.specs.RowReadings.{HasBase, ReadsRows, added_to};
+ghost use Rattle.gimli_cfi.specs.RowReadings.{ReadsRows};
 
 use crate::hdr::header::ParsedEhFrameHdr;
 use cfi_parts::pointer::{
-    BaseAddresses, Pointer, PointerEncodingParameters, SectionBaseAddresses, parse_encoded_pointer,
+    BaseAddresses, Pointer, PointerEncodingParameters, parse_encoded_pointer,
 };
 use cfi_read_core::constants::{
     DW_EH_PE_absptr, DW_EH_PE_datarel, DW_EH_PE_sdata2, DW_EH_PE_sdata4, DW_EH_PE_sdata8,
@@ -29,12 +27,9 @@ pub(crate) fn searchable_size(encoding: DwEhPe) -> Result<u64>
     ensures { result ≡ searched_size encoding.0 }
 {
     match encoding.format() {
-        DW_EH_PE_udata2 => Ok(2),
-        DW_EH_PE_sdata2 => Ok(2),
-        DW_EH_PE_udata4 => Ok(4),
-        DW_EH_PE_sdata4 => Ok(4),
-        DW_EH_PE_udata8 => Ok(8),
-        DW_EH_PE_sdata8 => Ok(8),
+        DW_EH_PE_udata2 | DW_EH_PE_sdata2 => Ok(2),
+        DW_EH_PE_udata4 | DW_EH_PE_sdata4 => Ok(4),
+        DW_EH_PE_udata8 | DW_EH_PE_sdata8 => Ok(8),
         _ => Err(Error::UnsupportedPointerEncoding(encoding)),
     }
 }
@@ -64,44 +59,24 @@ fn pass_value<R: Reader>(input: &mut R, size: u64) -> Result<()>
     }
 }
 
-/// How the pointers in the rows of a table are read, chosen once for all of them.
-#[derive(Clone, Copy, Debug)]
-pub(crate) enum RowReading {
-    /// Four bytes with a sign, which are added to this base, as linkers write them.
-    Signed4(u64),
-    /// As the table's encoding says.
-    ByEncoding,
-}
-
-impl RowReading {
-    /// How the pointers in the rows of this header are read. Addresses of eight bytes and one base
-    /// for all rows have a way of their own.
-    #[inline(always)]
-    pub(crate) fn of<R: Reader>(hdr: &ParsedEhFrameHdr<R>, bases: &BaseAddresses) -> Self
-        ensures { ReadsRows R.position result hdr.now bases.now }
-    {
-        let encoding = hdr.table_enc;
-        let Some(base) = base_of_rows(encoding, &bases.eh_frame_hdr) else {
-            return RowReading::ByEncoding;
-        };
-        if encoding.is_indirect() || hdr.address_size.bytes() != 8 {
-            return RowReading::ByEncoding;
-        }
-        match encoding.format() {
-            DW_EH_PE_sdata4 => RowReading::Signed4(base),
-            _ => RowReading::ByEncoding,
-        }
-    }
-}
-
-/// The base of the pointers in the rows, if it is set and the same in each row.
+/// The base to which the pointers in the rows are added, if each of them is four bytes with a sign,
+/// as linkers write them, and addresses have eight bytes. `None` if they are read by the table's
+/// encoding.
 #[inline(always)]
-fn base_of_rows(encoding: DwEhPe, bases: &SectionBaseAddresses) -> Option<u64>
-    ensures { IfSome result (λ base. HasBase encoding.0 bases.now base) }
+pub(crate) fn base_of_rows<R: Reader>(
+    hdr: &ParsedEhFrameHdr<R>,
+    bases: &BaseAddresses,
+) -> Option<u64>
+    ensures { ReadsRows R.position result hdr.now bases.now }
 {
+    let encoding = hdr.table_enc;
+    let is_signed_4 = encoding.format() == DW_EH_PE_sdata4 && !encoding.is_indirect();
+    if !is_signed_4 || hdr.address_size.bytes() != 8 {
+        return None;
+    }
     match encoding.application() {
         DW_EH_PE_absptr => Some(0),
-        DW_EH_PE_datarel => bases.data_base,
+        DW_EH_PE_datarel => bases.eh_frame_hdr.data_base,
         _ => None,
     }
 }
@@ -124,62 +99,38 @@ fn row_parameters<'a, R: Reader>(
     }
 }
 
-/// Reads a pointer of a row. The reader is at the first row or past it.
+/// Reads a pointer of a row, where the rows have this base. The reader is at the first row or past
+/// it.
 #[inline(always)]
 pub(crate) fn read_pointer<R: Reader>(
     hdr: &ParsedEhFrameHdr<R>,
     bases: &BaseAddresses,
-    reading: RowReading,
+    base: Option<u64>,
     input: &mut R,
 ) -> Result<Pointer>
-    requires chosen { ReadsRows R.position reading hdr.now bases.now }
+    requires chosen { ReadsRows R.position base hdr.now bases.now }
     requires behind { (R.position hdr.now.section).place ≤ (R.position input.old).place }
     ensures { ReadsValue R.position
         (pointer hdr.now.table_enc.0
         (header_context (header_section_view R.position hdr.now bases.now)))
         input.old result input.new }
 {
-    match reading {
-        RowReading::Signed4(base) => read_signed_4(base, input),
-        RowReading::ByEncoding => read_by_encoding(hdr, bases, input),
+    if let Some(base) = base {
+        let value = i64::from(input.read_i32()?).cast_unsigned();
+        return Ok(Pointer::Direct(base.wrapping_add_sized(value, 8)));
     }
-}
-
-/// Reads four bytes with a sign, and adds them to the base.
-#[inline(always)]
-fn read_signed_4<R: Reader>(base: u64, input: &mut R) -> Result<Pointer>
-    ensures { ReadsValue R.position (added_to base (in_64_bits (signed w32)))
-        input.old result input.new }
-{
-    let value = i64::from(input.read_i32()?).cast_unsigned();
-    Ok(Pointer::Direct(base.wrapping_add_sized(value, 8)))
-}
-
-/// Reads a pointer of a row by the table's encoding.
-#[inline(always)]
-fn read_by_encoding<R: Reader>(
-    hdr: &ParsedEhFrameHdr<R>,
-    bases: &BaseAddresses,
-    input: &mut R,
-) -> Result<Pointer>
-    requires { (R.position hdr.now.section).place ≤ (R.position input.old).place }
-    ensures { ReadsValue R.position
-        (pointer hdr.now.table_enc.0
-        (header_context (header_section_view R.position hdr.now bases.now)))
-        input.old result input.new }
-{
     // A copy is lent to the call, so that only it has to be in memory.
     let mut apart = *input;
-    let found = read_apart(hdr, bases, &mut apart);
+    let found = read_by_encoding(hdr, bases, &mut apart);
     *input = apart;
     found
 }
 
-/// The same by a call.
+/// Reads a pointer of a row by the table's encoding.
 // Not inlined: linkers write four bytes with a sign. With this read the functions around would get
 // so large that their own hints are dropped.
 #[inline(never)]
-fn read_apart<R: Reader>(
+fn read_by_encoding<R: Reader>(
     hdr: &ParsedEhFrameHdr<R>,
     bases: &BaseAddresses,
     input: &mut R,
@@ -200,13 +151,13 @@ fn read_apart<R: Reader>(
 fn read_field<R: Reader>(
     hdr: &ParsedEhFrameHdr<R>,
     bases: &BaseAddresses,
-    reading: RowReading,
+    base: Option<u64>,
     size: u64,
     index: u64,
     before: u64,
     input: &mut R,
 ) -> Result<Pointer>
-    requires chosen { ReadsRows R.position reading hdr.now bases.now }
+    requires chosen { ReadsRows R.position base hdr.now bases.now }
     requires small { size ≤ 8 }
     requires behind { (R.position hdr.now.section).place ≤ (R.position input.old).place }
     ensures { let header = header_section_view R.position hdr.now bases.now in
@@ -215,7 +166,7 @@ fn read_field<R: Reader>(
 {
     pass_rows(input, size, index)?;
     pass_value(input, before)?;
-    read_pointer(hdr, bases, reading, input)
+    read_pointer(hdr, bases, base, input)
 }
 
 /// The start of a row, which has to be direct.
@@ -223,16 +174,16 @@ fn read_field<R: Reader>(
 pub(crate) fn start_of_row<R: Reader>(
     hdr: &ParsedEhFrameHdr<R>,
     bases: &BaseAddresses,
-    reading: RowReading,
+    base: Option<u64>,
     size: u64,
     index: u64,
 ) -> Result<u64>
-    requires chosen { ReadsRows R.position reading hdr.now bases.now }
+    requires chosen { ReadsRows R.position base hdr.now bases.now }
     requires searchable { value_size hdr.now.table_enc.0 ≡ Some size }
     ensures { result ≡ starts_view R.position hdr.now bases.now index }
 {
     let mut rows = hdr.table;
-    read_field(hdr, bases, reading, size, index, 0, &mut rows)?.direct()
+    read_field(hdr, bases, base, size, index, 0, &mut rows)?.direct()
 }
 
 /// The target of a row.
@@ -246,7 +197,7 @@ pub(crate) fn target_of_row<R: Reader>(
     requires { value_size hdr.now.table_enc.0 ≡ Some size }
     ensures { result ≡ targets_view R.position hdr.now bases.now index }
 {
-    let reading = RowReading::of(hdr, bases);
+    let base = base_of_rows(hdr, bases);
     let mut rows = hdr.table;
-    read_field(hdr, bases, reading, size, index, size, &mut rows)
+    read_field(hdr, bases, base, size, index, size, &mut rows)
 }

@@ -9,7 +9,7 @@ ghost use Rattle.gimli_cfi.specs.RowReadings.{ReadsRows};
 
 use crate::call_count::CallCount;
 use crate::hdr::header::ParsedEhFrameHdr;
-use crate::hdr::row_fields::{RowReading, searchable_size, start_of_row};
+use crate::hdr::row_fields::{base_of_rows, searchable_size, start_of_row};
 use crate::hdr::table::EhHdrTable;
 use cfi_parts::pointer::BaseAddresses;
 use cfi_read_core::{Reader, Result};
@@ -44,10 +44,10 @@ pub struct TableStarts<'a, 'bases, R: Reader> {
     hdr: &'a ParsedEhFrameHdr<R>,
     bases: &'bases BaseAddresses,
     size: u64,
-    reading: RowReading,
+    base: Option<u64>,
     calls: CallCount,
     ghost searchable: { value_size hdr.now.table_enc.0 ≡ Some size },
-    ghost chosen: { ReadsRows R.position reading hdr.now bases.now },
+    ghost chosen: { ReadsRows R.position base hdr.now bases.now },
 }
 
 impl<'a, 'bases, R: Reader> TableStarts<'a, 'bases, R> {
@@ -72,7 +72,7 @@ impl<'a, 'bases, R: Reader> TableStarts<'a, 'bases, R> {
             hdr: table.hdr,
             bases,
             size,
-            reading: RowReading::of(table.hdr, bases),
+            base: base_of_rows(table.hdr, bases),
             calls: CallCount::none(),
         })
     }
@@ -88,7 +88,7 @@ impl<R: Reader> StartSource for TableStarts<'_, '_, R> {
     #[inline(always)]
     fn start(&mut self, index: u64) -> Result<u64> {
         self.calls = self.calls.next();
-        start_of_row(self.hdr, self.bases, self.reading, self.size, index)
+        start_of_row(self.hdr, self.bases, self.base, self.size, index)
     }
 }
 
