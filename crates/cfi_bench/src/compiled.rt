@@ -1,7 +1,10 @@
 //! Passes by a compiled table.
 use crate::sums::{Done, FAILED, cfa_sum, compiled_sum};
 use cfi_compiled::{CompiledRow, CompiledTable};
-use gimli_cfi::{BaseAddresses, EhFrame, RunTimeEndian};
+use gimli_cfi::{
+    BaseAddresses, EhFrame, Reader, Result, RunTimeEndian, StoreOnHeap, UnwindContext,
+    UnwindContextStorage, UnwindSection,
+};
 use std::alloc::Global;
 
 /// Makes the table of a section of 8-byte addresses at `base`, and looks up all addresses in it,
@@ -18,7 +21,7 @@ pub fn of_compiled(
 ) -> Done {
     let bases = BaseAddresses::default().set_eh_frame(base);
     let frame = EhFrame::new(bytes, endian);
-    let Ok(table) = CompiledTable::new(alloc, &frame, &bases) else {
+    let Ok(table) = table_of::<_, _, StoreOnHeap>(alloc, &frame, &bases) else {
         return FAILED;
     };
     let mut done = Done {
@@ -33,6 +36,17 @@ pub fn of_compiled(
         };
     }
     done
+}
+
+/// The table of a section. The storage is a parameter, as in the other passes, so that they share
+/// the code that runs instructions.
+fn table_of<R: Reader<Offset = usize>, Section: UnwindSection<R>, S: UnwindContextStorage<usize>>(
+    alloc: Global,
+    section: &Section,
+    bases: &BaseAddresses,
+) -> Result<CompiledTable> {
+    let mut context = UnwindContext::<usize, S>::new_in(alloc)?;
+    CompiledTable::with_context(alloc, section, bases, &mut context)
 }
 
 /// What a pass sums of each row.

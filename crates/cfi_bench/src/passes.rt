@@ -165,16 +165,16 @@ fn walk_partial<
     section: &'x Section,
     bases: &'x BaseAddresses,
     partial: &PartialFrameDescriptionEntry<'_, Section, R>,
-    context: &mut UnwindContext<usize, S>,
+    context: &mut Option<UnwindContext<usize, S>>,
     summed: Summed,
     done: &mut Done,
 ) -> Result<()>
     requires { partial.now.section ≡ section.now }
 {
     let fde = whole(partial)?;
-    match summed {
-        Summed::Fde => done.take(fde.initial_address() ^ fde.len()),
-        _ => walk_fde(section, bases, &fde, context, summed, done),
+    match context {
+        Some(context) => walk_fde(section, bases, &fde, context, summed, done),
+        None => done.take(fde.initial_address() ^ fde.len()),
     }
     Ok(())
 }
@@ -185,14 +185,17 @@ fn walk<R: Reader<Offset = usize>, S: UnwindSection<R>>(
     bases: &BaseAddresses,
     summed: Summed,
 ) -> Result<Done> {
-    let mut context = UnwindContext::<usize>::new(alloc)?;
+    let mut context = match summed {
+        Summed::Fde => None,
+        _ => Some(UnwindContext::<usize>::new(alloc)?),
+    };
     walk_in::<R, S, StoreOnHeap>(section, bases, &mut context, summed)
 }
 
 fn walk_in<R: Reader<Offset = usize>, Section: UnwindSection<R>, S: UnwindContextStorage<usize>>(
     section: &Section,
     bases: &BaseAddresses,
-    context: &mut UnwindContext<usize, S>,
+    context: &mut Option<UnwindContext<usize, S>>,
     summed: Summed,
 ) -> Result<Done> {
     let mut done = Done::none();

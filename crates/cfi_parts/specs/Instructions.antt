@@ -58,9 +58,9 @@ register_and operand made = do
   n ← operand
   give (made r n)
 
--- the width of the operand of DW_CFA_advance_loc1, DW_CFA_advance_loc2 and DW_CFA_advance_loc4
+-- the width of the operand of DW_CFA_advance_loc1 and DW_CFA_advance_loc2
 abbrev pub delta_width : ℕ → Width
-delta_width opcode = if opcode == 0x02 then w8 else if opcode == 0x03 then w16 else w32
+delta_width opcode = if opcode == 0x02 then w8 else w16
 
 -- row creation (DWARF 5 section 6.4.2.1)
 abbrev pub row_creation : InstructionContext → List (ℕ × Read Instruction)
@@ -123,7 +123,7 @@ by_extended_opcode c opcode = chosen_from opcode (extended_opcodes c) (unknown_o
 -- and the state of a row.
 abbrev pub IsRare : ℕ → Type 0
 IsRare opcode =
-    (opcode ≢ 0x00) × (opcode ≢ 0x02) × (opcode ≢ 0x03) × (opcode ≢ 0x04) × (opcode ≢ 0x0a) × (opcode ≢ 0x0b)
+    (opcode ≢ 0x00) × (opcode ≢ 0x02) × (opcode ≢ 0x03) × (opcode ≢ 0x0a) × (opcode ≢ 0x0b)
     × (opcode ≢ 0x0c) × (opcode ≢ 0x0d) × (opcode ≢ 0x0e)
 
 -- the end of the table, the rules of registers, and of these the ones without an offset

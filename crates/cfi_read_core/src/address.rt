@@ -1,6 +1,6 @@
 //! Addresses of 1, 2, 4 or 8 bytes, and their sums.
 ghost use Rattle.std.specs.Prelude.{◌≡◌, ⊤, ℕ, true};
-ghost use Rattle.cfi_read_core.specs.Addresses.{IsAddressSize, is_sized, wrap, checked_sum};
+ghost use Rattle.cfi_read_core.specs.Addresses.{IsAddressSize, checked_sum, fits, is_sized, wrap};
 ghost use Rattle.cfi_read_core.specs.ReaderCalls.{map_ok};
 
 use crate::error::{Error, Result};
@@ -69,19 +69,10 @@ impl ReaderAddress for u64 {
 
     #[inline(always)]
     fn add_sized(self, length: u64, size: u8) -> Result<u64> {
-        let Some(sum) = self.checked_add(length) else {
-            return Err(Error::AddressOverflow);
-        };
-        let fits = match size {
-            1 => sum <= 0xff,
-            2 => sum <= 0xffff,
-            4 => sum <= 0xffff_ffff,
-            _ => true,
-        };
-        if fits {
-            Ok(sum)
-        } else {
-            Err(Error::AddressOverflow)
+        match self.checked_add(length) {
+            // Most addresses have eight bytes.
+            Some(sum) if size == 8 || fits(sum, size) => Ok(sum),
+            _ => Err(Error::AddressOverflow),
         }
     }
 
@@ -94,5 +85,20 @@ impl ReaderAddress for u64 {
             4 => sum % 0x1_0000_0000,
             _ => sum,
         }
+    }
+}
+
+/// Whether the sum is an address of `size` bytes.
+// Not inlined, so that its tests aren't made for addresses of eight bytes.
+#[inline(never)]
+fn fits(sum: u64, size: u8) -> bool
+    requires { IsAddressSize size }
+    ensures { result ≡ fits size sum }
+{
+    match size {
+        1 => sum <= 0xff,
+        2 => sum <= 0xffff,
+        4 => sum <= 0xffff_ffff,
+        _ => true,
     }
 }

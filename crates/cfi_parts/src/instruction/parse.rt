@@ -90,8 +90,7 @@ pub fn visit_instruction<R: Reader, C, V: InstructionVisitor<R::Offset, C>>(
     match DwCfa(opcode - low) {
         DW_CFA_advance_loc => Ok(visitor.advance(target, u32::from(low))),
         DW_CFA_offset => {
-            let factored_offset = input.read_uleb128()?;
-            Ok(visitor.offset(target, Register(u16::from(low)), factored_offset))
+            Ok(visitor.offset(target, Register(u16::from(low)), input.read_uleb128()?))
         }
         DW_CFA_restore => Ok(visitor.restore(target, Register(u16::from(low)))),
         _ => visit_extended(DwCfa(opcode), parameters, input, visitor, target),
@@ -116,14 +115,12 @@ fn visit_extended<R: Reader, C, V: InstructionVisitor<R::Offset, C>>(
 {
     match opcode {
         // Row creation (section 6.4.2.1).
-        DW_CFA_advance_loc1 | DW_CFA_advance_loc2 | DW_CFA_advance_loc4 => {
+        DW_CFA_advance_loc1 | DW_CFA_advance_loc2 => {
             Ok(visitor.advance(target, parse_delta(opcode, input)?))
         }
         // The definition of the CFA (section 6.4.2.2).
         DW_CFA_def_cfa => {
-            let register = read_register(input)?;
-            let offset = input.read_uleb128()?;
-            Ok(visitor.def_cfa(target, register, offset))
+            Ok(visitor.def_cfa(target, read_register(input)?, input.read_uleb128()?))
         }
         DW_CFA_def_cfa_register => Ok(visitor.def_cfa_register(target, read_register(input)?)),
         DW_CFA_def_cfa_offset => Ok(visitor.def_cfa_offset(target, input.read_uleb128()?)),
@@ -135,15 +132,15 @@ fn visit_extended<R: Reader, C, V: InstructionVisitor<R::Offset, C>>(
     }
 }
 
-/// Reads the operand of `DW_CFA_advance_loc1`, `DW_CFA_advance_loc2` or `DW_CFA_advance_loc4`.
+/// Reads the operand of `DW_CFA_advance_loc1` or `DW_CFA_advance_loc2`.
 #[inline(always)]
 fn parse_delta<R: Reader>(opcode: DwCfa, input: &mut R) -> Result<u32>
     ensures { ReadsValue R.position (unsigned (delta_width opcode.0)) input.old result input.new }
 {
-    match opcode {
-        DW_CFA_advance_loc1 => Ok(u32::from(input.read_u8()?)),
-        DW_CFA_advance_loc2 => Ok(u32::from(input.read_u16()?)),
-        _ => input.read_u32(),
+    if opcode == DW_CFA_advance_loc1 {
+        Ok(u32::from(input.read_u8()?))
+    } else {
+        Ok(u32::from(input.read_u16()?))
     }
 }
 
@@ -186,6 +183,9 @@ fn parse_rare<R: Reader>(
         // Row creation (section 6.4.2.1).
         DW_CFA_set_loc => Ok(CallFrameInstruction::SetLoc {
             address: parse_location(parameters, input)?,
+        }),
+        DW_CFA_advance_loc4 => Ok(CallFrameInstruction::AdvanceLoc {
+            delta: input.read_u32()?,
         }),
         // The definition of the CFA (section 6.4.2.2).
         DW_CFA_def_cfa_expression => Ok(CallFrameInstruction::DefCfaExpression {

@@ -1,4 +1,4 @@
-use Rattle.std.proofs.Common.{◌≡◌, ◌∙◌, refl, inl, sym, false, rules}
+use Rattle.std.proofs.Common.{◌≡◌, refl, inl, false, rules}
 use Rattle.cfi_read_core.specs.PointerEncodings.{application_of, format_of, is_indirect}
 use Rattle.gimli_cfi.specs.EhFrameHdr.{header_context}
 use Rattle.gimli_cfi.specs.HeaderViews.{header_section_view}
