@@ -5,7 +5,7 @@ use Rattle.std.specs.Option.{option_map}
 use Rattle.std.proofs.Math.Nat.{add-mod_right, mod-eq_of_lt}
 use Rattle.cfi_read_core.specs.declared.error.Error.{Error}
 use Rattle.cfi_read_core.specs.ReadFunctions.{Position}
-use Rattle.cfi_read_core.specs.Windows.{slice_over}
+use Rattle.cfi_read_core.specs.SliceReaders.{slice_over}
 use Rattle.cfi_entry.specs.Fdes.{Fde}
 use Rattle.cfi_entry.specs.SectionViews.{eh_frame_view}
 use Rattle.cfi_entry.specs.Sections.{Section}

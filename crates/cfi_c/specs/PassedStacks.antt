@@ -6,7 +6,7 @@
 use Rattle.std.specs.Prelude.{ℕ, ◌&&◌, Bool, true, false, List, map, take, nat_le, nat_lt, Option, Some, None, position, if◌then◌else◌}
 use Rattle.std.specs.Option.{option_and_then}
 use Rattle.std.specs.List.{slice_get}
-use Rattle.cfi_read_core.specs.Windows.{slice_over}
+use Rattle.cfi_read_core.specs.SliceReaders.{slice_over}
 use Rattle.cfi_expression.specs.Windows.{number_in}
 use Rattle.cfi_step.specs.declared.abi.Abi.{Abi}
 use Rattle.cfi_c.specs.declared.CfiBases.{CfiBases}

@@ -3,7 +3,7 @@ ghost use Rattle.std.specs.Prelude.{◌≡◌, ◌<◌, ◌≤◌, None, IfSome,
 ghost use Rattle.std.specs.Option.{option_map};
 ghost use Rattle.cfi_read_core.specs.Addresses.{IsAddressSize};
 ghost use Rattle.cfi_read_core.specs.ByteOrder.{is_big};
-ghost use Rattle.cfi_read_core.specs.Windows.{slice_over, slice_position};
+ghost use Rattle.cfi_read_core.specs.SliceReaders.{slice_over, slice_position};
 ghost use Rattle.cfi_entry.specs.SectionViews.{eh_frame_view};
 ghost use Rattle.gimli_cfi.specs.HeaderViews.{header_reader, section_view, unparsed_view};
 ghost use Rattle.cfi_c.specs.PassedSections.{eh_frame_of, header_in, header_of};

@@ -3,7 +3,7 @@ use Rattle.std.specs.Prelude.{ℕ, ◌+◌, Bool, true, false, zero, suc, List, 
 use Rattle.cfi_read_core.specs.declared.error.Error.{Error}
 use Rattle.cfi_read_core.specs.ReadFunctions.{Read, Source}
 use Rattle.cfi_read_core.specs.ReaderCalls.{read_at}
-use Rattle.cfi_read_core.specs.Windows.{slice_over}
+use Rattle.cfi_read_core.specs.SliceReaders.{slice_over}
 use Rattle.cfi_elf.specs.declared.error.ElfError.{ElfError}
 use Rattle.cfi_elf.specs.declared.table.Table.{Table as TableOfCode}
 

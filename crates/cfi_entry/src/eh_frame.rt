@@ -4,7 +4,7 @@ ghost use Rattle.cfi_read_core.specs.Addresses.{IsAddressSize};
 ghost use Rattle.cfi_read_core.specs.AddressSizes.{has_address_size, size_in_bytes};
 ghost use Rattle.cfi_read_core.specs.declared.common.Vendor.TheVariants.{Default as no_vendor};
 ghost use Rattle.cfi_read_core.specs.ReaderCalls.{all_of};
-ghost use Rattle.cfi_read_core.specs.Windows.{slice_position};
+ghost use Rattle.cfi_read_core.specs.SliceReaders.{slice_position};
 ghost use Rattle.cfi_read_core.specs.CallFrameSections.{EhFrame as eh_frame, section_id};
 ghost use Rattle.cfi_entry.specs.SectionViews.{IsNewEhFrame, eh_frame_address_size};
 ghost use Rattle.cfi_entry.specs.SectionViews.{eh_frame_reader, eh_frame_vendor, eh_frame_view};

@@ -5,7 +5,7 @@ use Rattle.std.specs.Int.{w32, w64}
 use mathlib.Core.Bool.{beq}
 use Rattle.cfi_read_core.specs.ReadFunctions.{Read, ◌>>=◌, give}
 use Rattle.cfi_read_core.specs.Numbers.{unsigned}
-use Rattle.cfi_read_core.specs.Windows.{slice_over}
+use Rattle.cfi_read_core.specs.SliceReaders.{slice_over}
 use Rattle.cfi_perf.specs.declared.error.PerfError.{PerfError}
 use Rattle.cfi_perf.specs.declared.error.PerfError.TheVariants.{NoEvents, MixedEvents}
 use Rattle.cfi_perf.specs.declared.attribute.EventLayout.{EventLayout}

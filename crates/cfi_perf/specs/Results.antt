@@ -3,7 +3,7 @@ use Rattle.std.specs.Prelude.{ℕ, ◌+◌, ◌*◌, Bool, zero, suc, List, [], 
 use Rattle.cfi_read_core.specs.declared.error.Error.{Error}
 use Rattle.cfi_read_core.specs.ReadFunctions.{Read, Source, ◌>>=◌, bytes, offset}
 use Rattle.cfi_read_core.specs.ReaderCalls.{read_at}
-use Rattle.cfi_read_core.specs.Windows.{slice_over}
+use Rattle.cfi_read_core.specs.SliceReaders.{slice_over}
 use Rattle.cfi_perf.specs.declared.error.PerfError.{PerfError}
 
 -- the first error, or what comes of the value

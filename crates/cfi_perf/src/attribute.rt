@@ -3,7 +3,7 @@
 ghost use Rattle.std.specs.Prelude.{◌≡◌, ◌≤◌};
 ghost use Rattle.cfi_read_core.specs.ByteOrder.{is_big};
 ghost use Rattle.cfi_read_core.specs.ReaderCalls.{ReadsBy, ReadsValue};
-ghost use Rattle.cfi_read_core.specs.Windows.{slice_position};
+ghost use Rattle.cfi_read_core.specs.SliceReaders.{slice_position};
 ghost use Rattle.cfi_perf.specs.Results.{entries};
 ghost use Rattle.cfi_perf.specs.Layouts.{chosen, event, event_layout, has, has_any};
 ghost use Rattle.cfi_perf.specs.Layouts.{only_layout, same_layout, sample_format, sample_id_all};

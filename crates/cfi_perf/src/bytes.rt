@@ -3,7 +3,7 @@ ghost use Rattle.std.specs.Prelude.{◌≡◌, ◌≤◌, ◌==◌, ◌*◌, IfO
 ghost use Rattle.std.specs.Prelude.{option_map, position, take};
 ghost use Rattle.cfi_read_core.specs.ReaderCalls.{ReadsBy};
 ghost use Rattle.cfi_read_core.specs.ByteOrder.{is_big};
-ghost use Rattle.cfi_read_core.specs.Windows.{slice_position};
+ghost use Rattle.cfi_read_core.specs.SliceReaders.{slice_position};
 ghost use Rattle.cfi_perf.specs.Results.{before_zero, items, part};
 
 use cfi_read_core::{EndianSlice, Error, Reader, Result, RunTimeEndian};

@@ -2,7 +2,7 @@
 ghost use Rattle.std.specs.Prelude.{◌≡◌, option_map};
 ghost use Rattle.cfi_read_core.specs.ReaderCalls.{ReadsBy, map_ok};
 ghost use Rattle.cfi_read_core.specs.ByteOrder.{is_big};
-ghost use Rattle.cfi_read_core.specs.Windows.{slice_position};
+ghost use Rattle.cfi_read_core.specs.SliceReaders.{slice_position};
 ghost use Rattle.cfi_perf.specs.Profiles.{architecture, feature_section, header_text, layout_by};
 ghost use Rattle.cfi_perf.specs.Profiles.{profile, profile_records, profile_view, text_in};
 ghost use Rattle.cfi_perf.specs.Records.{records_left};

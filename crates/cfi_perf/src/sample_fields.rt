@@ -2,7 +2,7 @@
 ghost use Rattle.std.specs.Prelude.{◌≡◌, option_map};
 ghost use Rattle.cfi_read_core.specs.ByteOrder.{is_big};
 ghost use Rattle.cfi_read_core.specs.ReaderCalls.{ReadsBy, ReadsValue};
-ghost use Rattle.cfi_read_core.specs.Windows.{slice_position};
+ghost use Rattle.cfi_read_core.specs.SliceReaders.{slice_position};
 ghost use Rattle.cfi_perf.specs.Samples.{branch_size, branch_stack, call_chain, copied_stack};
 ghost use Rattle.cfi_perf.specs.Samples.{group_values, number_if, passed_if, passed_lists};
 ghost use Rattle.cfi_perf.specs.Samples.{passed_numbers, raw_data, read_values, registers};

@@ -5,7 +5,7 @@ pub mod PointerEncodings
 pub mod ByteOrder
 pub mod Offsets
 pub mod ReaderCalls
-pub mod Windows
+pub mod SliceReaders
 pub mod RefusalNames
 pub mod CallFrameSections
 pub mod MappedInstructions

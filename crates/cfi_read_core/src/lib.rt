@@ -11,11 +11,9 @@ pub mod endian_slice;
 pub mod endianity;
 pub mod error;
 pub mod instruction;
-pub mod narrow_slice;
 pub mod offset;
 pub mod reader;
 pub mod section_properties;
-mod window;
 
 pub use address::ReaderAddress;
 pub use common::{
@@ -23,9 +21,8 @@ pub use common::{
 };
 pub use constants::{DwCfa, DwEhPe};
 pub use dwarf_section::Section;
-pub use endian_slice::EndianSlice;
+pub use endian_slice::{EndianSlice, NarrowSlice, SliceReader};
 pub use endianity::{BigEndian, Endianity, LittleEndian, RunTimeEndian};
 pub use error::{Error, ReaderOffsetId, Result};
-pub use narrow_slice::NarrowSlice;
 pub use offset::ReaderOffset;
 pub use reader::Reader;

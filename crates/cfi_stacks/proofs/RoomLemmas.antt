@@ -2,11 +2,10 @@
 use Rattle.std.proofs.Common.{◌≡◌, ◌∙◌, ◌++◌, ◌<◌, ℕ, true, List, Option, Some, length, get_or, take, drop, ap, sym, subst, true≢false}
 use Rattle.std.specs.List.{length_refill, refill, slice_get}
 use Rattle.std.proofs.Math.Seq.{take-append_seam}
-use Rattle.cfi_read_core.specs.declared.endian_slice.EndianSlice.{EndianSlice}
 use Rattle.cfi_read_core.specs.declared.endianity.RunTimeEndian.{RunTimeEndian}
 use Rattle.cfi_step.specs.declared.module.LoadedModule.{LoadedModule}
 use Rattle.cfi_read_core.specs.ByteOrder.{is_big}
-use Rattle.cfi_read_core.specs.Windows.{slice_position}
+use Rattle.cfi_read_core.specs.SliceReaders.{EndianSlice, slice_position}
 use Rattle.cfi_step.specs.declared.cached_rows.CachedRow.{CachedRow}
 use Rattle.cfi_step.specs.declared.walk.StackFrame.{StackFrame}
 use Rattle.cfi_step.specs.CachedRows.{AreAlike, AreCachedFor, AreNumbered, KeepsFor}

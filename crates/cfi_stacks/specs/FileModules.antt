@@ -4,7 +4,7 @@
 --     AreOfFiles files modules      each of them is
 use Rattle.std.specs.Prelude.{◌≡◌, ℕ, List, Option, Some, slice_get}
 use Rattle.std.specs.List.{All}
-use Rattle.cfi_read_core.specs.declared.endian_slice.EndianSlice.{EndianSlice}
+use Rattle.cfi_read_core.specs.SliceReaders.{EndianSlice}
 use Rattle.cfi_read_core.specs.declared.endianity.RunTimeEndian.{RunTimeEndian}
 use Rattle.cfi_step.specs.declared.module.LoadedModule.{LoadedModule}
 use Rattle.cfi_stacks.specs.declared.file_code.FileCode.{FileCode}

@@ -4,11 +4,10 @@
 --     file_section frames, file_header frames      .eh_frame and its header, at the addresses that the file has
 --     loaded_module number frames table mapped bias      the module, with the file's number and this compiled table
 use Rattle.std.specs.Prelude.{ℕ, Option, option_map}
-use Rattle.cfi_read_core.specs.declared.endian_slice.EndianSlice.{EndianSlice}
 use Rattle.cfi_read_core.specs.declared.endianity.RunTimeEndian.{RunTimeEndian}
 use Rattle.cfi_read_core.specs.AddressSizes.{size_in_bytes}
 use Rattle.cfi_read_core.specs.ByteOrder.{is_big}
-use Rattle.cfi_read_core.specs.Windows.{slice_position}
+use Rattle.cfi_read_core.specs.SliceReaders.{EndianSlice, slice_position}
 use Rattle.cfi_entry.specs.Sections.{Section}
 use Rattle.cfi_entry.specs.SectionViews.{eh_frame_address_size}
 use Rattle.gimli_cfi.specs.EhFrameHdr.{HeaderSection}

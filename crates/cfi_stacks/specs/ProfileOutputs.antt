@@ -8,10 +8,9 @@ use Rattle.std.specs.Prelude.{◌≡◌, ◌⊎◌, ℕ, Bool, true, List, [], �
 use Rattle.std.specs.List.{flat_map}
 use Rattle.std.specs.List.Sorted.{IsSortedByKey, IsStableByKey}
 use Rattle.std.specs.Ordering.{nat_cmp}
-use Rattle.cfi_read_core.specs.declared.endian_slice.EndianSlice.{EndianSlice}
 use Rattle.cfi_read_core.specs.declared.endianity.RunTimeEndian.{RunTimeEndian}
 use Rattle.cfi_read_core.specs.ByteOrder.{is_big}
-use Rattle.cfi_read_core.specs.Windows.{slice_position}
+use Rattle.cfi_read_core.specs.SliceReaders.{EndianSlice, slice_position}
 use Rattle.cfi_perf.specs.declared.error.PerfError.{PerfError}
 use Rattle.cfi_perf.specs.declared.record.Record.{Record as RecordOfCode}
 use Rattle.cfi_perf.specs.ErrorNames.{name_of_perf}

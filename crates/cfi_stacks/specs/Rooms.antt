@@ -4,10 +4,9 @@
 --     AreKeptFor files cache      they are those of any module that one of the files is, wherever it is mapped
 --     IsRoomFor files room      there is room for all frames of a stack, and the rows that are kept are right for the files
 use Rattle.std.specs.Prelude.{List, Some, true}
-use Rattle.cfi_read_core.specs.declared.endian_slice.EndianSlice.{EndianSlice}
 use Rattle.cfi_read_core.specs.declared.endianity.RunTimeEndian.{RunTimeEndian}
 use Rattle.cfi_read_core.specs.ByteOrder.{is_big}
-use Rattle.cfi_read_core.specs.Windows.{slice_position}
+use Rattle.cfi_read_core.specs.SliceReaders.{EndianSlice, slice_position}
 use Rattle.cfi_step.specs.declared.cached_rows.CachedRow.{CachedRow}
 use Rattle.cfi_step.specs.declared.module.LoadedModule.{LoadedModule}
 use Rattle.cfi_step.specs.CachedRows.{AreCachedIn, AreEmpty}

@@ -2,7 +2,7 @@
 ghost use Rattle.std.specs.Prelude.{◌≡◌, ⊤, option_map};
 ghost use Rattle.cfi_read_core.specs.AddressSizes.{size_in_bytes};
 ghost use Rattle.cfi_read_core.specs.ByteOrder.{is_big};
-ghost use Rattle.cfi_read_core.specs.Windows.{slice_over, slice_position};
+ghost use Rattle.cfi_read_core.specs.SliceReaders.{slice_over, slice_position};
 ghost use Rattle.cfi_entry.specs.SectionViews.{eh_frame_address_size};
 ghost use Rattle.cfi_files.specs.CallFrames.{frames_view};
 ghost use Rattle.gimli_cfi.specs.HeaderViews.{header_reader, section_view, unparsed_view};

@@ -126,7 +126,6 @@ pub trait UnwindSection<R: Reader>: Copy + Debug + _UnwindSectionPrivate<R> {
     ///
     /// `get_cie` is called once, or not at all where the way to the offset of the CIE fails. The
     /// contract names the state in which it is left.
-    #[inline(always)]
     final fn fde_from_offset_with<F>(
         &self,
         bases: &BaseAddresses,

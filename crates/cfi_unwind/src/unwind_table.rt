@@ -290,33 +290,22 @@ fn run_initial<R: Reader, S: UnwindContextStorage<R::Offset>>(
     end_cie(context)
 }
 
-/// Returns the row of an address, borrowed from the context. It depends only on the two programs,
-/// the parameters and the storage's limits.
-///
-/// Fails with the first error of the CIE's instructions; else returns the first row with the
-/// address or the first error that the FDE's table gives, also for an address outside the FDE; else
-/// fails with `NoUnwindInfoForAddress`. Rows after that are not run. Fails with `OutOfMemory` only
-/// where an instruction, or the end of the CIE's initial instructions, allocates, so never with a
-/// fixed storage.
+/// Returns the row of an address, borrowed from the context: the first that contains it, or the
+/// first error of the CIE's instructions or on the way to the row.
 pub(crate) fn row_of_programs<'cie, 'fde, 'ctx, R: Reader, S: UnwindContextStorage<R::Offset>>(
     parameters: Parameters,
-    cie_instructions: CallFrameInstructionIter<'cie, R>,
-    fde_instructions: CallFrameInstructionIter<'fde, R>,
+    initial: CallFrameInstructionIter<'cie, R>,
+    instructions: CallFrameInstructionIter<'fde, R>,
     context: &'ctx mut UnwindContext<R::Offset, S>,
     address: u64,
 ) -> Result<&'ctx UnwindTableRow<R::Offset, S::Rules>>
     ensures run { let s = setting_of parameters S.Rules.limit S.Stack.limit in
         AnswersFde (may_allocate s S.Rules.copies_free) s
-        (instructions_left (instruction_reader R.position cie_instructions.entry))
-        (instructions_left (instruction_reader R.position fde_instructions.entry))
+        (instructions_left (instruction_reader R.position initial.entry))
+        (instructions_left (instruction_reader R.position instructions.entry))
         address (row_lent R.Offset.number result) }
 {
-    let mut table = UnwindTable::with_instructions(
-        parameters,
-        cie_instructions,
-        fde_instructions,
-        context,
-    )?;
+    let mut table = UnwindTable::with_instructions(parameters, initial, instructions, context)?;
     while let Some(row) = table.next_row()? {
         if row.contains(address) {
             let Some(current) = table.into_current_row() else {

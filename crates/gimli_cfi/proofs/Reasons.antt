@@ -15,7 +15,7 @@ use Rattle.cfi_unwind.specs.Scan.{partial_fdes, read_fde}
 use Rattle.gimli_cfi.specs.declared.hdr.unfaithful.Unfaithful.{Unfaithful}
 use Rattle.gimli_cfi.specs.declared.hdr.unfaithful.Unfaithful.TheVariants as reasons
 use Rattle.gimli_cfi.specs.BoundaryRows.{IsBoundaryRow, IsRefusalOfRow, AreRising}
-use Rattle.gimli_cfi.specs.TableCheck.{Listing, ListsFaithfully, IsHeaderRefusal, IsRefusalOfHeader, IsRefusalIn, IsRefusedAt, IsRowRefusal, HasNoRow, Overlaps, IsReason, IsReasonOfStarts, IsReasonOfFde, IsReasonOfFdes}
+use Rattle.gimli_cfi.specs.TableCheck.{Listing, ListsFaithfully, IsHeaderRefusal, IsRefusalIn, IsRefusedAt, IsRowRefusal, HasNoRow, Overlaps, IsReason, IsReasonOfStarts, IsReasonOfFde, IsReasonOfFdes}
 use Rattle.gimli_cfi.specs.EhFrameHdr.{HeaderSection, Table, value_size, start_of, target_of}
 use Rattle.gimli_cfi.specs.FaithfulTables.{IsFaithful, IsFdeIn}
 use Rattle.gimli_cfi.proofs.Faithful.{count_of}
@@ -110,10 +110,6 @@ no_row_by_target header table eh_frame k target fde rising inside is names diffe
     (cases_lt j k)
 
 -- ---- where a part is refused
-
-pub reason_in_header : (l : Listing) (r : Result ℕ Error) (reason : Unfaithful) → ((e : Error) → r ≡ Err e → IsHeaderRefusal l.table l.eh_frame e) → IsRefusalOfHeader r reason → IsReason l reason
-reason_in_header l r reason means refused =
-    subst (λ (x : Unfaithful). IsReason l x) (sym refused.2) (means refused.0 refused.1)
 
 pub reason_in_start : (start : ℕ → Result ℕ Error) (count k : ℕ) (reason : Unfaithful) → k < count → IsRefusalIn (start k) k reason → IsReasonOfStarts start count reason
 reason_in_start start count k reason within refused =

@@ -62,10 +62,7 @@ pub record AreListed (header : HeaderSection) (table : Table) (eh_frame : ℕ) (
 
 -- ---- why a table isn't faithful
 
--- the error of a value of the header, and of a value of row k
-abbrev pub IsRefusalOfHeader : {A : Type 0} → Result A Error → Unfaithful → Type 0
-IsRefusalOfHeader r reason = (e : Error) × (r ≡ Err e) × (reason ≡ reasons.Header e)
-
+-- the error of a value of row k
 abbrev pub IsRefusalIn : {A : Type 0} → Result A Error → ℕ → Unfaithful → Type 0
 IsRefusalIn r k reason = (e : Error) × (r ≡ Err e) × (reason ≡ reasons.Row k e)
 

@@ -31,7 +31,7 @@ pub use Rattle.cfi_read_core.specs.ReadFunctions.{Source, Position, Extent, Outc
 pub use Rattle.cfi_read_core.specs.ReaderCalls.{Reads, ReadsBy, ReadsValue, IsSound, IsPartOf, all_of, bytes_left}
 pub use Rattle.cfi_read_core.specs.ReaderCalls.{end_position, extent_of, find_byte, remaining, same_reader}
 pub use Rattle.cfi_read_core.specs.ReaderCalls.{read_at}
-pub use Rattle.cfi_read_core.specs.Windows.{slice_position, slice_over, narrow_position, narrow_over}
+pub use Rattle.cfi_read_core.specs.SliceReaders.{slice_position, slice_over, narrow_over}
 pub use Rattle.cfi_read_core.specs.ByteOrder.{is_big}
 pub use Rattle.cfi_read_core.specs.Offsets.{offset_up_to, difference}
 pub use Rattle.cfi_read_core.specs.Numbers.{InitialLength, initial_length_size, initial_length_view, number_of, register_of}

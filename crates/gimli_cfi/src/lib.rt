@@ -24,7 +24,7 @@ pub use cfi_read_core::dwarf_section::Expression;
 pub use cfi_read_core::{
     BigEndian, DebugFrameOffset, DwCfa, DwEhPe, EhFrameOffset, Encoding, EndianSlice, Endianity,
     Error, Format, LittleEndian, NarrowSlice, Reader, ReaderAddress, ReaderOffset, ReaderOffsetId,
-    Register, Result, RunTimeEndian, Section, SectionId, Vendor, constants,
+    Register, Result, RunTimeEndian, Section, SectionId, SliceReader, Vendor, constants,
 };
 pub use entry::{
     Augmentation, CfiEntriesIter, CieOrFde, CommonInformationEntry, FrameDescriptionEntry,

@@ -85,15 +85,17 @@ pub fn visit_instruction<R: Reader, C, V: InstructionVisitor<R::Offset, C>>(
         (R.position input.old) (R.position input.new) target.old target.new result }
 {
     let opcode = input.read_u8()?;
-    // A primary opcode is the two high bits alone; the low six bits are its first operand.
+    // A primary opcode is the two high bits alone; the low six bits are its first operand. Ranges
+    // are compared, since such jumps are predicted better, and sooner, than one through a table.
     let low = opcode % 0x40;
-    match DwCfa(opcode - low) {
-        DW_CFA_advance_loc => Ok(visitor.advance(target, u32::from(low))),
-        DW_CFA_offset => {
-            Ok(visitor.offset(target, Register(u16::from(low)), input.read_uleb128()?))
-        }
-        DW_CFA_restore => Ok(visitor.restore(target, Register(u16::from(low)))),
-        _ => visit_extended(DwCfa(opcode), parameters, input, visitor, target),
+    if opcode < DW_CFA_advance_loc.0 {
+        visit_extended(DwCfa(opcode), parameters, input, visitor, target)
+    } else if opcode < DW_CFA_offset.0 {
+        Ok(visitor.advance(target, u32::from(low)))
+    } else if opcode < DW_CFA_restore.0 {
+        Ok(visitor.offset(target, Register(u16::from(low)), input.read_uleb128()?))
+    } else {
+        Ok(visitor.restore(target, Register(u16::from(low))))
     }
 }
 

@@ -13,7 +13,7 @@ ghost use Rattle.gimli_cfi.specs.HeaderViews.{listing_view, section_view, table_
 ghost use Rattle.gimli_cfi.specs.HeaderViews.{table_starts, table_targets, table_view};
 ghost use Rattle.gimli_cfi.specs.TableCheck.{AreListed, HasRow, IsReason, IsReasonOfFde};
 ghost use Rattle.gimli_cfi.specs.TableCheck.{IsReasonOfFdes, IsReasonOfStarts, IsRefusalIn};
-ghost use Rattle.gimli_cfi.specs.TableCheck.{IsRefusalOfHeader, ListsFaithfully};
+ghost use Rattle.gimli_cfi.specs.TableCheck.{ListsFaithfully};
 ghost use Rattle.gimli_cfi.specs.TableCheck.{most_starts, starts_for_fde, starts_for_fdes};
 
 use crate::hdr::row_fields::{searchable_size, target_of_row};
@@ -55,19 +55,10 @@ pub fn check_table<R: Reader, St: StartSource>(
         ≤ St.calls starts.old + most_starts (table_view R.position table.now).count }
     ensures same { St.answer starts.new ≡ St.answer starts.old }
 {
-    let eh_frame = in_header(table.hdr.eh_frame_ptr.direct())?;
-    let size = in_header(searchable_size(table.hdr.table_enc))?;
+    let eh_frame = table.hdr.eh_frame_ptr.direct().map_err(Unfaithful::Header)?;
+    let size = searchable_size(table.hdr.table_enc).map_err(Unfaithful::Header)?;
     check_starts(starts, table.hdr.fde_count)?;
     check_fdes(table, starts, frame, bases, size, eh_frame)
-}
-
-/// The header's value, or the reason why it can't be had.
-#[inline(always)]
-fn in_header(value: cfi_read_core::Result<u64>) -> Result<u64, Unfaithful>
-    ensures given { IfOk result (λ number. value ≡ Ok number) }
-    ensures refused { IfErr result (IsRefusalOfHeader value) }
-{
-    value.map_err(|refusal| Unfaithful::Header(refusal))
 }
 
 /// The start of a row, or the reason why it can't be had.

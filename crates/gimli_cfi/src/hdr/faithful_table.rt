@@ -77,10 +77,7 @@ impl<'a, R: Reader> FaithfulTable<'a, R> {
         ensures unfaithful { IfErr result (λ reason.
             ListsFaithfully (listing_view R.position table.now frame.now bases.now) → ⊥) }
     {
-        let mut starts = match TableStarts::new(table, bases) {
-            Ok(starts) => starts,
-            Err(refusal) => return Err(Unfaithful::Header(refusal)),
-        };
+        let mut starts = TableStarts::new(table, bases).map_err(Unfaithful::Header)?;
         check_table(table, &mut starts, frame, bases)?;
         let table = *table;
         Ok(FaithfulTable {

@@ -4,7 +4,7 @@ ghost use Rattle.std.specs.Option.{option_map};
 ghost use Rattle.cfi_read_core.specs.Addresses.{IsAddressSize};
 ghost use Rattle.cfi_read_core.specs.CallFrameSections.{IsOf, IsOf_prop};
 ghost use Rattle.cfi_read_core.specs.ReaderCalls.{ReadsValue, all_of, map_ok};
-ghost use Rattle.cfi_read_core.specs.Windows.{slice_position};
+ghost use Rattle.cfi_read_core.specs.SliceReaders.{slice_position};
 ghost use Rattle.cfi_read_core.specs.declared.common.SectionId.TheVariants.{EhFrameHdr as hdr_id};
 ghost use Rattle.gimli_cfi.specs.EhFrameHdr.{header_of, row_count};
 

@@ -3,7 +3,6 @@ ghost use Rattle.std.specs.Prelude.{◌≡◌, ◌≤◌, Some};
 ghost use Rattle.cfi_read_core.specs.ReadFunctions.{skip};
 ghost use Rattle.cfi_read_core.specs.ReaderCalls.{ReadsValue};
 ghost use Rattle.cfi_parts.specs.Pointers.{pointer};
-ghost use Rattle.cfi_parts.specs.ReadingParameters.{pointer_context};
 ghost use Rattle.gimli_cfi.specs.EhFrameHdr.{header_context, row_field, rows_passed};
 ghost use Rattle.gimli_cfi.specs.EhFrameHdr.{searched_size, value_size};
 ghost use Rattle.gimli_cfi.specs.HeaderViews.{header_section_view, rows_view, starts_view};
@@ -81,24 +80,6 @@ pub(crate) fn base_of_rows<R: Reader>(
     }
 }
 
-/// What the pointers in the rows are read with.
-#[inline(always)]
-fn row_parameters<'a, R: Reader>(
-    hdr: &'a ParsedEhFrameHdr<R>,
-    bases: &'a BaseAddresses,
-) -> PointerEncodingParameters<'a, R>
-    ensures context { pointer_context R.position result
-        ≡ header_context (header_section_view R.position hdr.now bases.now) }
-    ensures section { result.section.now ≡ hdr.now.section }
-{
-    PointerEncodingParameters {
-        bases: &bases.eh_frame_hdr,
-        func_base: None,
-        address_size: hdr.address_size,
-        section: &hdr.section,
-    }
-}
-
 /// Reads a pointer of a row, where the rows have this base. The reader is at the first row or past
 /// it.
 #[inline(always)]
@@ -141,7 +122,13 @@ fn read_by_encoding<R: Reader>(
         (header_context (header_section_view R.position hdr.now bases.now)))
         input.old result input.new }
 {
-    parse_encoded_pointer(hdr.table_enc, &row_parameters(hdr, bases), input)
+    let parameters = PointerEncodingParameters {
+        bases: &bases.eh_frame_hdr,
+        func_base: None,
+        address_size: hdr.address_size,
+        section: &hdr.section,
+    };
+    parse_encoded_pointer(hdr.table_enc, &parameters, input)
 }
 
 /// Reads a field of the row with this index: the one after the first `before` bytes of the row. The

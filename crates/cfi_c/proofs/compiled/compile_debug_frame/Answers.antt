@@ -1,7 +1,7 @@
 use Rattle.std.proofs.Common.{◌∙◌, Some, IfOk, sym, ap, subst}
 use Rattle.cfi_read_core.specs.ByteOrder.{is_big}
 use Rattle.cfi_read_core.specs.ReaderCalls.{all_of}
-use Rattle.cfi_read_core.specs.Windows.{slice_position}
+use Rattle.cfi_read_core.specs.SliceReaders.{slice_position}
 use Rattle.cfi_entry.specs.Sections.{DebugFrame}
 use Rattle.cfi_compiled.specs.CompiledTables.{IsCompiled}
 use Rattle.cfi_c.specs.PassedSections.{kind_of, section_as}

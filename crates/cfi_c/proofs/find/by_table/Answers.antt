@@ -1,7 +1,7 @@
 use Rattle.std.proofs.Common.{◌∙◌, ap}
 use Rattle.cfi_read_core.specs.ByteOrder.{is_big}
 use Rattle.cfi_read_core.specs.ReaderCalls.{all_of}
-use Rattle.cfi_read_core.specs.Windows.{slice_position}
+use Rattle.cfi_read_core.specs.SliceReaders.{slice_position}
 use Rattle.cfi_entry.specs.Sections.{EhFrame}
 use Rattle.cfi_c.proofs.Sections.{same_header, same_rows, same_section, table_answer}
 use Rattle.cfi_c.proofs.find.by_table.Goals as goal

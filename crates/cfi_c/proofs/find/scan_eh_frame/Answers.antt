@@ -1,7 +1,7 @@
 use Rattle.std.proofs.Common.{◌∙◌, true, Some, refl, sym, ap}
 use Rattle.cfi_read_core.specs.ByteOrder.{is_big}
 use Rattle.cfi_read_core.specs.ReaderCalls.{all_of}
-use Rattle.cfi_read_core.specs.Windows.{slice_position}
+use Rattle.cfi_read_core.specs.SliceReaders.{slice_position}
 use Rattle.cfi_entry.specs.Sections.{EhFrame}
 use Rattle.cfi_unwind.specs.AddressRow.{row_by_scan}
 use Rattle.cfi_unwind.proofs.Laws.{scan_is_due_where_fixed}

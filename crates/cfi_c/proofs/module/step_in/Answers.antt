@@ -1,7 +1,7 @@
 use Rattle.std.proofs.Common.{arith}
 use Rattle.cfi_read_core.specs.AddressSizes.{size_in_bytes}
 use Rattle.cfi_read_core.specs.ByteOrder.{is_big}
-use Rattle.cfi_read_core.specs.Windows.{slice_position}
+use Rattle.cfi_read_core.specs.SliceReaders.{slice_position}
 use Rattle.cfi_expression.specs.Windows.{number_in}
 use Rattle.cfi_c.proofs.StepsInModules.{as_passed}
 use Rattle.cfi_c.proofs.module.step_in.Goals as goal

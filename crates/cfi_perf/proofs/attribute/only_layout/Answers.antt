@@ -1,6 +1,6 @@
 use Rattle.std.proofs.Common.{sym, ap, ◌∙◌, arith}
 use Rattle.cfi_read_core.specs.ByteOrder.{is_big}
-use Rattle.cfi_read_core.specs.Windows.{slice_position}
+use Rattle.cfi_read_core.specs.SliceReaders.{slice_position}
 use Rattle.cfi_perf.specs.Layouts.{event, only_layout}
 use Rattle.cfi_perf.proofs.EntrySteps.{entries_end, entry_read, entry_refused, first_read, if_alike, no_entries, none_left, one_other, one_same}
 use Rattle.cfi_perf.proofs.attribute.only_layout.Goals as goal

@@ -1,6 +1,6 @@
 use Rattle.std.proofs.Common.{◌≡◌, ◌-◌}
 use Rattle.cfi_read_core.specs.ByteOrder.{is_big}
-use Rattle.cfi_read_core.specs.Windows.{slice_position}
+use Rattle.cfi_read_core.specs.SliceReaders.{slice_position}
 use Rattle.cfi_perf.specs.Results.{entries}
 use Rattle.cfi_perf.specs.Layouts.{event, only_layout}
 use Rattle.cfi_perf.proofs.EntrySteps.{if_alike}

@@ -2,7 +2,7 @@ use Rattle.std.proofs.Common.{ℕ, sym, subst, true, None}
 use Rattle.std.specs.Prelude.{take}
 use Rattle.cfi_read_core.specs.AddressSizes.{size_in_bytes}
 use Rattle.cfi_read_core.specs.ByteOrder.{is_big}
-use Rattle.cfi_read_core.specs.Windows.{slice_position}
+use Rattle.cfi_read_core.specs.SliceReaders.{slice_position}
 use Rattle.cfi_expression.specs.Windows.{number_in}
 use Rattle.cfi_step.specs.CachedRows.{AreCachedFor, KeepsFor}
 use Rattle.cfi_step.specs.ModuleLists.{module_list}

@@ -9,7 +9,7 @@ use Rattle.cfi_unwind.proofs.unwind_table.row_of_programs.Given as goal
 abbrev pub invariant-loop-row : goal.invariant-loop-row
 invariant-loop-row g l =
     LeadsToAnswer (setting_of l.fn.parameters g.S.Rules.ArrayLike.limit g.S-Stack-ArrayLike.limit) g.S.Rules.CopyList.copies_free
-    (instructions_left (instruction_reader g.R.Reader.position l.fn.cie_instructions)) (instructions_left (instruction_reader g.R.Reader.position l.fn.fde_instructions)) l.fn.address
+    (instructions_left (instruction_reader g.R.Reader.position l.fn.initial)) (instructions_left (instruction_reader g.R.Reader.position l.fn.instructions)) l.fn.address
     (table_state g.R.Reader.position g.R.Offset.ReaderOffset.number l.table)
     × (l.table.parameters ≡ l.fn.parameters)
 

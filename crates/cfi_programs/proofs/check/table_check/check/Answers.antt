@@ -1,5 +1,5 @@
 use Rattle.std.proofs.Common.{ap, refl, ◌∙◌, Some}
-use Rattle.cfi_read_core.specs.Windows.{slice_position}
+use Rattle.cfi_read_core.specs.SliceReaders.{slice_position}
 use Rattle.cfi_read_core.specs.ByteOrder.{is_big}
 use Rattle.cfi_programs.specs.SectionOfWords.{kind_of_section}
 use Rattle.cfi_programs.proofs.SectionLemmas.{same_header_section, same_section}
