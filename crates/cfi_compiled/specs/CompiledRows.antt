@@ -1,4 +1,5 @@
--- What a compiled table keeps of a row: all but its two addresses, and what the CIE says of the return.
+-- What a compiled table keeps of a row: all but its two addresses, and what the CIE says of the
+-- return.
 --     registers_of row      the registers of a row that a table lends, with their rules
 --     parts_kept row      what the row says
 --     frame_kept row      the same with what the CIE says

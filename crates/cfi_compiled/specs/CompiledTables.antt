@@ -1,10 +1,11 @@
 -- A compiled table as what it means.
---     TableContents      the distinct results as they are kept, and the steps, which name them by number
+--     TableContents      the distinct results as they are kept, and the steps, which name them by
+--         number
 --     results_of, steps_of table      its results, and its steps in the order of their addresses
 --     frame_at table address      what it has for an address; `parts_at` the row alone
 --     IsSound table      what holds of each table: the steps rise, and name results that there are
---     IsCompiled rule_limit stack_limit section table      for every address what the FDE and the row say
---         that the scan gives, but a row's addresses
+--     IsCompiled rule_limit stack_limit section table      for every address what the FDE and the
+--         row say that the scan gives, but a row's addresses
 use Rattle.std.specs.Prelude.{◌≡◌, ◌+◌, ◌<◌, ◌≤◌, ◌⊎◌, ℕ, List, [], ◌∷◌, ◌++◌, length, map, get_or}
 use Rattle.std.specs.Prelude.{Option, Some, None, Result, Err}
 use Rattle.std.specs.List.{All}

@@ -1,9 +1,10 @@
 -- The FDEs of a section that contain an address, up to the first error.
 --     covering readings      those FDEs, in the order of the entries
 --     outside readings refusal      the error for an address that none of them contains
---     first_of a fdes other      the first that contains the address, or the other result where there
---         is none
-use Rattle.std.specs.Prelude.{ℕ, List, [], ◌∷◌, nat_lt, if◌then◌else◌, Option, Result, Ok, Err, unwrap_or}
+--     first_of a fdes other      the first that contains the address, or the other result where
+--         there is none
+use Rattle.std.specs.Prelude.{ℕ, List, [], ◌∷◌, nat_lt, if◌then◌else◌, Option, Result, Ok, Err}
+use Rattle.std.specs.Prelude.{unwrap_or}
 use Rattle.cfi_read_core.specs.declared.error.Error.{Error}
 use Rattle.cfi_read_core.specs.declared.error.Error.TheVariants.{NoUnwindInfoForAddress}
 use Rattle.cfi_entry.specs.Fdes.{Fde, covers, end_of}

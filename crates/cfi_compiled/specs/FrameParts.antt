@@ -1,15 +1,18 @@
--- What a step from a frame to its caller needs: the row but its addresses, and what the CIE says of the return.
+-- What a step from a frame to its caller needs: the row but its addresses, and what the CIE says of
+-- the return.
 --     FrameParts      both
 --     facts_of fde      what the CIE of an FDE says
 --     frame_of facts parts      both, in one record
---     frame_of_row facts result      the same of the result for an address; an error is kept as it is
+--     frame_of_row facts result      the same of the result for an address; an error is kept as it
+--         is
 --     parts_of_frame result      the row alone
 --     frame_of_fde rule_limit stack_limit section a fde      what an FDE gives for an address
 --     frame_by_scan rule_limit stack_limit section a      what the FDE gives that the scan finds
 use Rattle.std.specs.Prelude.{ℕ, Bool, Option, Result}
 use Rattle.cfi_read_core.specs.declared.common.Register.{Register}
 use Rattle.cfi_unwind.specs.Scan.{scan_answer}
-use Rattle.gimli_cfi.specs.Words.{Error, Fde, Parts, Row, Section, is_trampoline, map_ok, row_of_fde}
+use Rattle.gimli_cfi.specs.Words.{Error, Fde, Parts, Row, Section, is_trampoline, map_ok}
+use Rattle.gimli_cfi.specs.Words.{row_of_fde}
 use Rattle.cfi_compiled.specs.declared.facts.CieFacts.{CieFacts}
 
 pub record FrameParts : Type 0 where

@@ -1,14 +1,16 @@
--- Rows as a table keeps them: the rule of the CFA beside the number of the rest, and each rest once.
+-- Rows as a table keeps them: the rule of the CFA beside the number of the rest, and each rest
+-- once.
 --     RestLists      the rests, and the rules of all of them in one list
 --     rules_at rules rest      the registers with their rules of a rest
 --     IsKeptIn rules rest      its rules are in the list, and no register has two
 --     rest_rules, rest_args, rest_facts lists number      what the rest with a number says
 --     frame_in lists row, results_in lists rows      what kept rows say; an error is kept as it is
---     IsRestOf lists facts parts number      the rest with this number is what the CIE says, and the parts
---         but for the CFA
+--     IsRestOf lists facts parts number      the rest with this number is what the CIE says, and
+--         the parts but for the CFA
 --     IsGrown old new      what a number meant it means still
 --     AreNamed lists rows      each row names a rest that there is
-use Rattle.std.specs.Prelude.{◌≡◌, ◌<◌, ◌≤◌, ◌+◌, ◌^◌, ℕ, false, List, length, map, get_or, slice_range}
+use Rattle.std.specs.Prelude.{◌≡◌, ◌<◌, ◌≤◌, ◌+◌, ◌^◌, ℕ, false, List, length, map, get_or}
+use Rattle.std.specs.Prelude.{slice_range}
 use Rattle.std.specs.Prelude.{Result, IfOk}
 use Rattle.std.specs.List.{All}
 use Rattle.cfi_read_core.specs.declared.common.Register.{Register}
@@ -62,7 +64,8 @@ abbrev pub results_in :
     RestLists → List (Result KeptRow Error) → List (Result FrameParts Error)
 results_in lists rows = map (map_ok (frame_in lists)) rows
 
-pub record IsRestOf (lists : RestLists) (facts : CieFacts) (parts : Parts ℕ) (number : ℕ) : Type 0 where
+pub record IsRestOf (lists : RestLists) (facts : CieFacts) (parts : Parts ℕ) (number : ℕ) : Type 0
+    where
   pub inside : number < length lists.rests
   pub room : number + 1 < 2 ^ 64
   pub rules : rest_rules lists number ≡ parts.rules

@@ -1,14 +1,17 @@
 -- Steps in pages of 512 addresses.
 --     offset_of, number_of step      the lower 9 bits of its three bytes, and the upper 15
 --     pages_passed ends k      how many pages end at or before the step with the index k
---     paged_from k first ends steps      the steps from the index k on, of which the first page is `first`
+--     paged_from k first ends steps      the steps from the index k on, of which the first page is
+--         `first`
 --     begin_of ends count page      where a page begins, of as many steps
---     IsSplitIn steps begin end offset k      of the steps from `begin` up to `end` the one before the index k is at or
---         below the offset, and the one at k above it
+--     IsSplitIn steps begin end offset k      of the steps from `begin` up to `end` the one before
+--         the index k is at or below the offset, and the one at k above it
 --     Rising ends      no page ends before the one before it
 --     PagedView      the page of the last step, and all steps
---     IsPaged first ends steps      pages end in order, within the steps, and below 2^64; offsets are of their pages
-use Rattle.std.specs.Prelude.{◌≡◌, ℕ, zero, suc, ◌+◌, ◌*◌, ◌/◌, ◌%◌, ◌^◌, ◌<◌, ◌≤◌, List, [], ◌∷◌, nat_le, length}
+--     IsPaged first ends steps      pages end in order, within the steps, and below 2^64; offsets
+--         are of their pages
+use Rattle.std.specs.Prelude.{◌≡◌, ℕ, zero, suc, ◌+◌, ◌*◌, ◌/◌, ◌%◌, ◌^◌, ◌<◌, ◌≤◌, List, [], ◌∷◌}
+use Rattle.std.specs.Prelude.{nat_le, length}
 use Rattle.std.specs.Prelude.{get_or}
 use Rattle.std.specs.Prelude.{if◌then◌else◌}
 use Rattle.std.specs.List.{All}
@@ -44,7 +47,8 @@ pub record IsSplitIn (steps : List PagedStep) (begin end offset k : ℕ) : Type 
 abbrev pub Rising : List ℕ → Type 0
 Rising ends = (p q : ℕ) → p ≤ q → q < length ends → get_or ends p 0 ≤ get_or ends q 0
 
--- the page of the last step, or of the first where there is none; and the steps, the first of which is at 0
+-- the page of the last step, or of the first where there is none; and the steps, the first of which
+-- is at 0
 pub record PagedView : Type 0 where
   pub page : ℕ
   pub steps : List NumberedStep

@@ -19,7 +19,9 @@ index_in (cfa.Expression e) = e.offset
 
 abbrev pub result_kept : List Error → KeptRow → Result KeptRow Error
 result_kept errors row =
-    if row.rest == error_mark then Err (get_or errors (index_in row.cfa) NoUnwindInfoForAddress) else Ok row
+    if row.rest == error_mark
+    then Err (get_or errors (index_in row.cfa) NoUnwindInfoForAddress)
+    else Ok row
 
 abbrev pub results_kept : List Error → List KeptRow → List (Result KeptRow Error)
 results_kept errors rows = map (result_kept errors) rows

@@ -1,9 +1,12 @@
 -- What a search among numbered steps finds.
 --     Ascend low steps      each step is above the one before it, the first at or above `low`
---     IsSplit steps a k      the step before the index k is at or below the address, and the one at k above it
---     IsNumberAt steps a number      the number of a last step at or below the address; none where there is none
+--     IsSplit steps a k      the step before the index k is at or below the address, and the one at
+--         k above it
+--     IsNumberAt steps a number      the number of a last step at or below the address; none where
+--         there is none
 --     IsStepAt steps k step      the step with the index k; none behind the last one
-use Rattle.std.specs.Prelude.{◌≡◌, ℕ, ◌+◌, ◌<◌, ◌≤◌, List, [], ◌∷◌, length, get_or, Option, Some, None, ⊤}
+use Rattle.std.specs.Prelude.{◌≡◌, ℕ, ◌+◌, ◌<◌, ◌≤◌, List, [], ◌∷◌, length, get_or, Option, Some}
+use Rattle.std.specs.Prelude.{None, ⊤}
 use Rattle.cfi_compiled.specs.declared.step_list.NumberedStep.{NumberedStep}
 
 abbrev pub Ascend : ℕ → List NumberedStep → Type 0

@@ -1,10 +1,12 @@
--- An ELF file: its header, and what the header says of the whole file (System V ABI chapter 4, "ELF Header").
+-- An ELF file: its header, and what the header says of the whole file (System V ABI chapter 4, "ELF
+-- Header").
 use Rattle.std.specs.Prelude.{ℕ, Bool, not, List, Result, Ok, Err, drop, min, ◌==◌, if◌then◌else◌}
 use Rattle.cfi_read_core.specs.declared.common.Vendor.{Vendor}
 use Rattle.cfi_read_core.specs.declared.common.Vendor.TheVariants.{Default, AArch64}
 use Rattle.cfi_read_core.specs.ByteOrder.{is_big}
 use Rattle.cfi_elf.specs.declared.error.ElfError.{ElfError}
-use Rattle.cfi_elf.specs.declared.error.ElfError.TheVariants.{HeaderCut, UnknownVersion, Relocatable, Core}
+use Rattle.cfi_elf.specs.declared.error.ElfError.TheVariants.{HeaderCut, UnknownVersion}
+use Rattle.cfi_elf.specs.declared.error.ElfError.TheVariants.{Relocatable, Core}
 use Rattle.cfi_elf.specs.declared.file_header.Class.{Class}
 use Rattle.cfi_elf.specs.declared.file_header.Class.TheVariants.{Elf32, Elf64}
 use Rattle.cfi_elf.specs.declared.file_header.Identification.{Identification}
@@ -21,7 +23,11 @@ pub record File : Type 0 where
 
 -- what an `ElfFile` of the code is
 abbrev pub file_view : ElfFile → File
-file_view file = record { image = image_view file.image; identification = file.identification; header = file.header }
+file_view file = record {
+  image = image_view file.image;
+  identification = file.identification;
+  header = file.header;
+}
 
 abbrev pub class_of_file : File → Class
 class_of_file file = file.identification.class
@@ -47,7 +53,10 @@ header_bytes image = bytes_at image 0 (min image.length 64) HeaderCut
 unfoldable pub file_by : Image → List ℕ → Result File ElfError
 file_by image bytes =
     and_then (identification bytes) (λ ident.
-    and_then (or_error HeaderCut (read_from (is_big ident.«data») (drop 16 bytes) (file_header ident.class))) (λ header.
+    and_then
+        (or_error HeaderCut
+             (read_from (is_big ident.«data») (drop 16 bytes) (file_header ident.class)))
+        (λ header.
     with_addresses (record { image = image; identification = ident; header = header })))
 
 -- the file of an image

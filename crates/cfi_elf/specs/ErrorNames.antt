@@ -1,7 +1,15 @@
 -- The names of the errors, without what they carry.
 use Rattle.std.specs.Prelude.{ℕ, List, codes}
 use Rattle.cfi_elf.specs.declared.error.ElfError.{ElfError}
-use Rattle.cfi_elf.specs.declared.error.ElfError.TheVariants.{NotElf, HeaderCut, UnknownClass, UnknownDataEncoding, UnknownVersion, Relocatable, Core, SectionEntrySize, SectionTableOutOfBounds, NoNameSection, SectionOutOfBounds, Compressed, NameOutOfBounds, NameNotTerminated, ProgramEntrySize, ProgramTableOutOfBounds, SegmentOutOfBounds, NotRead}
+use Rattle.cfi_elf.specs.declared.error.ElfError.TheVariants.{NotElf, HeaderCut, UnknownClass}
+use Rattle.cfi_elf.specs.declared.error.ElfError.TheVariants.{UnknownDataEncoding, UnknownVersion}
+use Rattle.cfi_elf.specs.declared.error.ElfError.TheVariants.{Relocatable, Core, SectionEntrySize}
+use Rattle.cfi_elf.specs.declared.error.ElfError.TheVariants.{SectionTableOutOfBounds}
+use Rattle.cfi_elf.specs.declared.error.ElfError.TheVariants.{NoNameSection, SectionOutOfBounds}
+use Rattle.cfi_elf.specs.declared.error.ElfError.TheVariants.{Compressed, NameOutOfBounds}
+use Rattle.cfi_elf.specs.declared.error.ElfError.TheVariants.{NameNotTerminated, ProgramEntrySize}
+use Rattle.cfi_elf.specs.declared.error.ElfError.TheVariants.{ProgramTableOutOfBounds}
+use Rattle.cfi_elf.specs.declared.error.ElfError.TheVariants.{SegmentOutOfBounds, NotRead}
 
 abbrev pub name_of_elf : ElfError → List ℕ
 name_of_elf NotElf = codes "NotElf"

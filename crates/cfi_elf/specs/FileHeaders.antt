@@ -1,5 +1,6 @@
 -- The file header (System V ABI chapter 4, "ELF Header", "ELF Identification").
-use Rattle.std.specs.Prelude.{ℕ, not, List, [], ◌∷◌, length, Result, Ok, Err, nat_lt, ◌==◌, nat_eq, slice_index, if◌then◌else◌}
+use Rattle.std.specs.Prelude.{ℕ, not, List, [], ◌∷◌, length, Result, Ok, Err, nat_lt, ◌==◌, nat_eq}
+use Rattle.std.specs.Prelude.{slice_index, if◌then◌else◌}
 use Rattle.std.specs.List.{starts_with}
 use Rattle.std.specs.Int.{Width, w16, w32, w64}
 use Rattle.cfi_read_core.specs.declared.endianity.RunTimeEndian.{RunTimeEndian}
@@ -7,7 +8,8 @@ use Rattle.cfi_read_core.specs.declared.endianity.RunTimeEndian.TheVariants.{Lit
 use Rattle.cfi_read_core.specs.ReadFunctions.{Read, ◌>>=◌, give}
 use Rattle.cfi_read_core.specs.Numbers.{unsigned}
 use Rattle.cfi_elf.specs.declared.error.ElfError.{ElfError}
-use Rattle.cfi_elf.specs.declared.error.ElfError.TheVariants.{NotElf, HeaderCut, UnknownClass, UnknownDataEncoding, UnknownVersion}
+use Rattle.cfi_elf.specs.declared.error.ElfError.TheVariants.{NotElf, HeaderCut, UnknownClass}
+use Rattle.cfi_elf.specs.declared.error.ElfError.TheVariants.{UnknownDataEncoding, UnknownVersion}
 use Rattle.cfi_elf.specs.declared.file_header.Class.{Class}
 use Rattle.cfi_elf.specs.declared.file_header.Class.TheVariants.{Elf32, Elf64}
 use Rattle.cfi_elf.specs.declared.file_header.Identification.{Identification}
@@ -24,11 +26,13 @@ magic = 0x7f ∷ 0x45 ∷ 0x4c ∷ 0x46 ∷ []
 
 -- ELFCLASS32 is 1, ELFCLASS64 is 2
 abbrev pub class_of : ℕ → Result Class ElfError
-class_of byte = if byte == 1 then Ok Elf32 else if byte == 2 then Ok Elf64 else Err (UnknownClass byte)
+class_of byte =
+    if byte == 1 then Ok Elf32 else if byte == 2 then Ok Elf64 else Err (UnknownClass byte)
 
 -- ELFDATA2LSB is 1, ELFDATA2MSB is 2
 abbrev pub data_of : ℕ → Result RunTimeEndian ElfError
-data_of byte = if byte == 1 then Ok Little else if byte == 2 then Ok Big else Err (UnknownDataEncoding byte)
+data_of byte =
+    if byte == 1 then Ok Little else if byte == 2 then Ok Big else Err (UnknownDataEncoding byte)
 
 -- EV_CURRENT is 1
 abbrev pub with_version : {A : Type 0} → ℕ → A → Result A ElfError
@@ -48,7 +52,8 @@ identification bytes =
 
 -- ---- the fields after e_ident
 
--- addresses, offsets and sizes (Elf32_Addr, Elf32_Off, Elf32_Word; Elf64_Addr, Elf64_Off, Elf64_Xword)
+-- addresses, offsets and sizes (Elf32_Addr, Elf32_Off, Elf32_Word; Elf64_Addr, Elf64_Off,
+-- Elf64_Xword)
 abbrev pub class_width : Class → Width
 class_width Elf32 = w32
 class_width Elf64 = w64
@@ -76,7 +81,13 @@ table_sizes = do
   e_shentsize ← unsigned w16
   e_shnum ← unsigned w16
   e_shstrndx ← unsigned w16
-  give (record { e_phentsize = e_phentsize; e_phnum = e_phnum; e_shentsize = e_shentsize; e_shnum = e_shnum; e_shstrndx = e_shstrndx })
+  give (record {
+    e_phentsize = e_phentsize;
+    e_phnum = e_phnum;
+    e_shentsize = e_shentsize;
+    e_shnum = e_shnum;
+    e_shstrndx = e_shstrndx;
+  })
 
 unfoldable pub file_header : Class → Read FileHeader
 file_header class = do

@@ -1,8 +1,10 @@
 -- The names of functions by their addresses (System V ABI chapter 4, "Symbol Table").
 --     named_functions file      the functions that have names, in the order of their symbols
 --     function_name file address      the name of the first of them that begins at the address
---     function_place file address      the name of the one whose bytes have the address, and how far into it that is
-use Rattle.std.specs.Prelude.{ℕ, zero, suc, List, [], ◌∷◌, Option, Some, None, Result, Ok, Err, find, map, option_and_then, option_map, ◌==◌, if◌then◌else◌}
+--     function_place file address      the name of the one whose bytes have the address, and how
+--         far into it that is
+use Rattle.std.specs.Prelude.{ℕ, zero, suc, List, [], ◌∷◌, Option, Some, None, Result, Ok, Err}
+use Rattle.std.specs.Prelude.{find, map, option_and_then, option_map, ◌==◌, if◌then◌else◌}
 use Rattle.std.specs.List.{filter_map}
 use Rattle.cfi_elf.specs.declared.error.ElfError.{ElfError}
 use Rattle.cfi_elf.specs.declared.symbol.Symbol.{Symbol}
@@ -53,7 +55,8 @@ nearest first zero = first zero
 nearest first (suc address) = or_else (first (suc address)) (nearest first address)
 
 abbrev pub place_among : List Function → ℕ → Option Place
-place_among functions address = option_and_then (place_of address) (nearest (first_at functions) address)
+place_among functions address =
+    option_and_then (place_of address) (nearest (first_at functions) address)
 
 abbrev pub function_place : File → ℕ → Option Place
 function_place file address = place_among (named_functions file) address

@@ -10,7 +10,10 @@ pub record Place : Type 0 where
 
 -- of an address at or behind the first, where it is one of the bytes
 abbrev pub place_of : ℕ → Function → Option Place
-place_of address f = if nat_lt (address - f.address) f.size then Some (record { name = f.name; offset = address - f.address }) else None
+place_of address f =
+    if nat_lt (address - f.address) f.size
+    then Some (record { name = f.name; offset = address - f.address })
+    else None
 
 -- a place of the code
 abbrev pub place_view : FunctionPlace → Place

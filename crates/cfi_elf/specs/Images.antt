@@ -1,5 +1,6 @@
 -- A file of which parts were read. What the file has elsewhere is not known.
-use Rattle.std.specs.Prelude.{ℕ, ◌+◌, ◌-◌, ◌*◌, ◌≡◌, List, [], ◌∷◌, length, map, Option, Some, None, Result, Ok, Err, nat_le, if◌then◌else◌}
+use Rattle.std.specs.Prelude.{ℕ, ◌+◌, ◌-◌, ◌*◌, ◌≡◌, List, [], ◌∷◌, length, map, Option, Some, None}
+use Rattle.std.specs.Prelude.{Result, Ok, Err, nat_le, if◌then◌else◌}
 use Rattle.cfi_elf.specs.declared.error.ElfError.{ElfError}
 use Rattle.cfi_elf.specs.declared.error.ElfError.TheVariants.{NotRead}
 use Rattle.cfi_elf.specs.declared.image.FilePart.{FilePart}
@@ -25,7 +26,8 @@ abbrev pub parts_view : List FilePart → List Part
 parts_view parts = map part_view parts
 
 abbrev pub image_view : ImageOfCode → Image
-image_view image = record { length = image.length; first = image.first.now; parts = parts_view image.parts.now }
+image_view image =
+    record { length = image.length; first = image.first.now; parts = parts_view image.parts.now }
 
 -- a file all of whose bytes were read
 abbrev pub whole : List ℕ → Image
@@ -35,12 +37,14 @@ whole bytes = record { length = length bytes; first = bytes; parts = [] }
 
 -- those that a part has, if it has them all
 abbrev pub in_part : ℕ → ℕ → Part → Option (List ℕ)
-in_part offset size read = if nat_le read.offset offset then part read.bytes (offset - read.offset) size else None
+in_part offset size read =
+    if nat_le read.offset offset then part read.bytes (offset - read.offset) size else None
 
 -- by the first part that has them all
 abbrev pub in_parts : ℕ → ℕ → List Part → Option (List ℕ)
 in_parts offset size [] = None
-in_parts offset size (read ∷ parts) = or_else (in_part offset size read) (in_parts offset size parts)
+in_parts offset size (read ∷ parts) =
+    or_else (in_part offset size read) (in_parts offset size parts)
 
 -- bytes that were read, or an error
 abbrev pub if_read : ℕ → ℕ → Option (List ℕ) → Result (Option (List ℕ)) ElfError
@@ -51,7 +55,8 @@ if_read offset size None = Err (NotRead offset size)
 abbrev pub part_of : Image → ℕ → ℕ → Result (Option (List ℕ)) ElfError
 part_of image offset size =
     if nat_le (offset + size) image.length
-    then if_read offset size (or_else (part image.first offset size) (in_parts offset size image.parts))
+    then if_read offset size
+        (or_else (part image.first offset size) (in_parts offset size image.parts))
     else Ok None
 
 -- this error where the file has fewer
@@ -60,7 +65,9 @@ bytes_at image offset size error = and_then (part_of image offset size) (or_miss
 
 -- count entries of one size at an offset
 unfoldable pub table_at : Image → ℕ → ℕ → ℕ → ElfError → Result Table ElfError
-table_at image offset count size error = and_then (bytes_at image offset (count * size) error) (λ bytes. Ok (record { count = count; bytes = bytes }))
+table_at image offset count size error =
+    and_then (bytes_at image offset (count * size) error)
+        (λ bytes. Ok (record { count = count; bytes = bytes }))
 
 -- ---- what an image tells of the file
 

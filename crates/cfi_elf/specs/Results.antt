@@ -1,5 +1,6 @@
 -- Results one after the other, and what is read of a list of bytes.
-use Rattle.std.specs.Prelude.{ℕ, ◌+◌, Bool, true, false, zero, suc, List, [], ◌∷◌, length, Option, Some, None, Result, Ok, Err, nat_le, slice_range, if◌then◌else◌}
+use Rattle.std.specs.Prelude.{ℕ, ◌+◌, Bool, true, false, zero, suc, List, [], ◌∷◌, length, Option}
+use Rattle.std.specs.Prelude.{Some, None, Result, Ok, Err, nat_le, slice_range, if◌then◌else◌}
 use Rattle.cfi_read_core.specs.declared.error.Error.{Error}
 use Rattle.cfi_read_core.specs.ReadFunctions.{Read, Source}
 use Rattle.cfi_read_core.specs.ReaderCalls.{read_at}
@@ -8,7 +9,8 @@ use Rattle.cfi_elf.specs.declared.error.ElfError.{ElfError}
 use Rattle.cfi_elf.specs.declared.table.Table.{Table as TableOfCode}
 
 -- the first error, or what comes of the value
-abbrev pub and_then : {A B : Type 0} → Result A ElfError → (A → Result B ElfError) → Result B ElfError
+abbrev pub and_then :
+    {A B : Type 0} → Result A ElfError → (A → Result B ElfError) → Result B ElfError
 and_then (Ok x) next = next x
 and_then (Err e) next = Err e
 
@@ -29,7 +31,10 @@ or_else None other = other
 
 -- size bytes from the offset on, if there are so many
 abbrev pub part : List ℕ → ℕ → ℕ → Option (List ℕ)
-part bytes offset size = if nat_le (offset + size) (length bytes) then Some (slice_range bytes offset (offset + size)) else None
+part bytes offset size =
+    if nat_le (offset + size) (length bytes)
+    then Some (slice_range bytes offset (offset + size))
+    else None
 
 -- what a read gives at the beginning of the bytes
 abbrev pub read_from : {A : Type 0} → Bool → List ℕ → Read A → Result A Error
@@ -57,13 +62,16 @@ entries_of big table read = entries table.count read (slice_over table.bytes big
 
 -- ---- the first entry that passes a test which can fail
 
-abbrev pub if_passed : {A : Type 0} → Result Bool ElfError → A → Result (Option A) ElfError → Result (Option A) ElfError
+abbrev pub if_passed :
+    {A : Type 0} → Result Bool ElfError → A → Result (Option A) ElfError →
+    Result (Option A) ElfError
 if_passed (Ok true) x others = Ok (Some x)
 if_passed (Ok false) x others = others
 if_passed (Err e) x others = Err e
 
 -- the first that passes, or the first error before it
-abbrev pub first_by : {A : Type 0} → (A → Result Bool ElfError) → List A → Result (Option A) ElfError
+abbrev pub first_by :
+    {A : Type 0} → (A → Result Bool ElfError) → List A → Result (Option A) ElfError
 first_by test [] = Ok None
 first_by test (x ∷ xs) = if_passed (test x) x (first_by test xs)
 

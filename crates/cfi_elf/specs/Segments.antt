@@ -1,7 +1,12 @@
--- What a file has loaded at an address, by its program headers (System V ABI chapter 5, "Program Header", "Program Loading").
-use Rattle.std.specs.Prelude.{ℕ, ◌-◌, ◌+◌, ◌%◌, ◌^◌, Bool, not, ◌&&◌, bit_and, option_map, List, Option, Some, None, Result, Ok, Err, drop, find, nat_le, nat_lt, ◌==◌, if◌then◌else◌}
+-- What a file has loaded at an address, by its program headers (System V ABI chapter 5, "Program
+-- Header", "Program Loading").
+use Rattle.std.specs.Prelude.{ℕ, ◌-◌, ◌+◌, ◌%◌, ◌^◌, Bool, not, ◌&&◌, bit_and, option_map, List}
+use Rattle.std.specs.Prelude.{Option, Some, None, Result, Ok, Err, drop, find, nat_le, nat_lt, ◌==◌}
+use Rattle.std.specs.Prelude.{if◌then◌else◌}
 use Rattle.cfi_elf.specs.declared.error.ElfError.{ElfError}
-use Rattle.cfi_elf.specs.declared.error.ElfError.TheVariants.{ProgramEntrySize, ProgramTableOutOfBounds, SegmentOutOfBounds}
+use Rattle.cfi_elf.specs.declared.error.ElfError.TheVariants.{ProgramEntrySize}
+use Rattle.cfi_elf.specs.declared.error.ElfError.TheVariants.{ProgramTableOutOfBounds}
+use Rattle.cfi_elf.specs.declared.error.ElfError.TheVariants.{SegmentOutOfBounds}
 use Rattle.cfi_elf.specs.declared.program_header.ProgramHeader.{ProgramHeader}
 use Rattle.cfi_elf.specs.declared.segments.Wanted.{Wanted}
 use Rattle.cfi_elf.specs.declared.segments.Wanted.TheVariants.{OfType, LoadedAt, CodeAt}
@@ -26,29 +31,37 @@ program_table file =
     let offset = file.header.offsets.e_phoff in
     let size = program_header_size (class_of_file file) in
     if offset == 0 then Ok no_entries
-    else if not (file.header.sizes.e_phentsize == size) then Err (ProgramEntrySize file.header.sizes.e_phentsize)
-    else and_then (segment_count file) (λ count. table_at file.image offset count size ProgramTableOutOfBounds)
+    else if not (file.header.sizes.e_phentsize == size) then Err
+        (ProgramEntrySize file.header.sizes.e_phentsize)
+    else and_then (segment_count file)
+        (λ count. table_at file.image offset count size ProgramTableOutOfBounds)
 
 -- the program headers of a table, in their order
 abbrev pub program_headers : File → Table → List ProgramHeader
-program_headers file table = entries_of (is_big_file file) table (program_header (class_of_file file))
+program_headers file table =
+    entries_of (is_big_file file) table (program_header (class_of_file file))
 
 -- ---- segments
 
--- whether a segment is loaded (PT_LOAD is 1), and the address is that of one of its bytes in the file
+-- whether a segment is loaded (PT_LOAD is 1), and the address is that of one of its bytes in the
+-- file
 abbrev pub is_loaded_at : ℕ → ProgramHeader → Bool
 is_loaded_at address header =
-    (header.p_type == 1) && (nat_le header.place.p_vaddr address && nat_lt address (header.place.p_vaddr + header.place.p_filesz))
+    (header.p_type == 1)
+    && (nat_le header.place.p_vaddr address
+          && nat_lt address (header.place.p_vaddr + header.place.p_filesz))
 
 -- where a segment begins in the file as it is mapped, by whole pages of 4 KiB
 abbrev pub page_offset : ProgramHeader → ℕ
 page_offset header = header.place.p_offset - header.place.p_offset % 4096
 
--- whether a segment is loaded and executable (PF_X is 1), and the byte at the offset is mapped with it
+-- whether a segment is loaded and executable (PF_X is 1), and the byte at the offset is mapped with
+-- it
 abbrev pub is_code_at : ℕ → ProgramHeader → Bool
 is_code_at offset header =
     (header.p_type == 1) && (not (bit_and header.p_flags 1 == 0)
-    && (nat_le (page_offset header) offset && nat_lt offset (header.place.p_offset + header.place.p_filesz)))
+    && (nat_le (page_offset header) offset
+          && nat_lt offset (header.place.p_offset + header.place.p_filesz)))
 
 abbrev pub is_wanted : Wanted → ProgramHeader → Bool
 is_wanted (OfType p_type) header = header.p_type == p_type
@@ -57,19 +70,24 @@ is_wanted (CodeAt offset) header = is_code_at offset header
 
 -- the first program header that is wanted
 unfoldable pub wanted_segment : File → Wanted → Result (Option ProgramHeader) ElfError
-wanted_segment file wanted = and_then (program_table file) (λ table. Ok (find (is_wanted wanted) (program_headers file table)))
+wanted_segment file wanted =
+    and_then (program_table file)
+        (λ table. Ok (find (is_wanted wanted) (program_headers file table)))
 
 -- the bytes of a segment in the file
 abbrev pub segment_bytes : File → ProgramHeader → Result (List ℕ) ElfError
-segment_bytes file header = bytes_at file.image header.place.p_offset header.place.p_filesz SegmentOutOfBounds
+segment_bytes file header =
+    bytes_at file.image header.place.p_offset header.place.p_filesz SegmentOutOfBounds
 
 -- a segment's address and bytes
 abbrev pub segment_of : File → Option ProgramHeader → Result (Option Section) ElfError
 segment_of file None = Ok None
 segment_of file (Some header) =
-    and_then (segment_bytes file header) (λ bytes. Ok (Some (record { address = header.place.p_vaddr; bytes = bytes })))
+    and_then (segment_bytes file header)
+        (λ bytes. Ok (Some (record { address = header.place.p_vaddr; bytes = bytes })))
 
--- the first segment of type PT_GNU_EH_FRAME, which has the header of call frame information (LSB Core, "Program Header")
+-- the first segment of type PT_GNU_EH_FRAME, which has the header of call frame information (LSB
+-- Core, "Program Header")
 unfoldable pub eh_frame_hdr_segment : File → Result (Option Section) ElfError
 eh_frame_hdr_segment file = and_then (wanted_segment file (OfType 0x6474e550)) (segment_of file)
 
@@ -77,11 +95,13 @@ eh_frame_hdr_segment file = and_then (wanted_segment file (OfType 0x6474e550)) (
 abbrev pub bytes_after : File → ℕ → Option ProgramHeader → Result (Option (List ℕ)) ElfError
 bytes_after file address None = Ok None
 bytes_after file address (Some header) =
-    and_then (segment_bytes file header) (λ bytes. Ok (Some (drop (address - header.place.p_vaddr) bytes)))
+    and_then (segment_bytes file header)
+        (λ bytes. Ok (Some (drop (address - header.place.p_vaddr) bytes)))
 
 -- the file's bytes from an address up to the end of those of the first loaded segment that has it
 unfoldable pub loaded_bytes : File → ℕ → Result (Option (List ℕ)) ElfError
-loaded_bytes file address = and_then (wanted_segment file (LoadedAt address)) (bytes_after file address)
+loaded_bytes file address =
+    and_then (wanted_segment file (LoadedAt address)) (bytes_after file address)
 
 -- ---- the address of a byte of the file
 
@@ -98,4 +118,6 @@ loaded_address offset header = plus (minus header.place.p_vaddr header.place.p_o
 
 -- that of the byte at an offset in the first segment of code that has it
 unfoldable pub address_of_offset : File → ℕ → Result (Option ℕ) ElfError
-address_of_offset file offset = and_then (wanted_segment file (CodeAt offset)) (λ found. Ok (option_map (loaded_address offset) found))
+address_of_offset file offset =
+    and_then (wanted_segment file (CodeAt offset))
+        (λ found. Ok (option_map (loaded_address offset) found))

@@ -1,12 +1,14 @@
 -- The symbols of a file, by their names and addresses (System V ABI chapter 4, "Symbol Table").
-use Rattle.std.specs.Prelude.{ℕ, ◌/◌, Bool, false, List, [], Option, Some, None, Result, Ok, length, find, nat_eq, ◌==◌, if◌then◌else◌}
+use Rattle.std.specs.Prelude.{ℕ, ◌/◌, Bool, false, List, [], Option, Some, None, Result, Ok, length}
+use Rattle.std.specs.Prelude.{find, nat_eq, ◌==◌, if◌then◌else◌}
 use Rattle.std.specs.Cmp.Lexicographic.{pointwise}
 use Rattle.cfi_elf.specs.declared.error.ElfError.{ElfError}
 use Rattle.cfi_elf.specs.declared.section_header.SectionHeader.{SectionHeader}
 use Rattle.cfi_elf.specs.declared.symbol.Symbol.{Symbol}
 use Rattle.cfi_elf.specs.declared.symbols.Function.{Function as FunctionOfCode}
 use Rattle.cfi_elf.specs.declared.symbols.SymbolTable.{SymbolTable as SymbolTableOfCode}
-use Rattle.cfi_elf.specs.Results.{Table, and_then, entries_of, first_by, no_entries, or_else, table_view}
+use Rattle.cfi_elf.specs.Results.{Table, and_then, entries_of, first_by, no_entries, or_else}
+use Rattle.cfi_elf.specs.Results.{table_view}
 use Rattle.cfi_elf.specs.ElfFiles.{File, class_of_file, is_big_file}
 use Rattle.cfi_elf.specs.Sections.{contents, name_at, names_at, section_headers, section_table}
 use Rattle.cfi_elf.specs.Symbols.{symbol, symbol_size, is_function_at}
@@ -27,14 +29,19 @@ is_of_type sh_type header = header.identity.sh_type == sh_type
 
 abbrev pub symbol_section : File → Table → Option SectionHeader
 symbol_section file table =
-    let headers = section_headers file table in or_else (find (is_of_type 2) headers) (find (is_of_type 11) headers)
+    let headers =
+        section_headers file table in or_else (find (is_of_type 2) headers)
+            (find (is_of_type 11) headers)
 
 -- its entries, and its names, which are in the section of the index sh_link
 unfoldable pub symbols_in : File → Table → SectionHeader → Result SymbolTable ElfError
 symbols_in file table header =
     and_then (contents file header) (λ bytes.
     and_then (names_at file table header.place.sh_link) (λ names.
-    Ok (record { entries = record { count = length bytes / symbol_size (class_of_file file); bytes = bytes }; names = names })))
+    Ok (record {
+      entries = record { count = length bytes / symbol_size (class_of_file file); bytes = bytes };
+      names = names;
+    })))
 
 abbrev pub symbols_of : File → Table → Option SectionHeader → Result SymbolTable ElfError
 symbols_of file table None = Ok (record { entries = no_entries; names = [] })
@@ -42,7 +49,8 @@ symbols_of file table (Some header) = symbols_in file table header
 
 -- no symbols where there is no such section
 unfoldable pub symbol_table : File → Result SymbolTable ElfError
-symbol_table file = and_then (section_table file) (λ table. symbols_of file table (symbol_section file table))
+symbol_table file =
+    and_then (section_table file) (λ table. symbols_of file table (symbol_section file table))
 
 -- the symbols in their order
 abbrev pub symbols : File → SymbolTable → List Symbol
@@ -53,7 +61,9 @@ symbols file table = entries_of (is_big_file file) table.entries (symbol (class_
 -- whether a symbol is defined and has the name
 unfoldable pub is_symbol_named : List ℕ → List ℕ → Symbol → Result Bool ElfError
 is_symbol_named names name s =
-    if s.st_shndx == 0 then Ok false else and_then (name_at names s.st_name) (λ found. Ok (pointwise nat_eq found name))
+    if s.st_shndx == 0
+    then Ok false
+    else and_then (name_at names s.st_name) (λ found. Ok (pointwise nat_eq found name))
 
 abbrev pub value_of : Option Symbol → Option ℕ
 value_of None = None
@@ -63,7 +73,8 @@ value_of (Some s) = Some s.st_value
 unfoldable pub symbol_address : File → List ℕ → Result (Option ℕ) ElfError
 symbol_address file name =
     and_then (symbol_table file) (λ table.
-    and_then (first_by (is_symbol_named table.names name) (symbols file table)) (λ found. Ok (value_of found)))
+    and_then (first_by (is_symbol_named table.names name) (symbols file table))
+        (λ found. Ok (value_of found)))
 
 -- ---- by address
 
@@ -80,9 +91,11 @@ function_view f = record { name = f.name.now; address = f.address; size = f.size
 abbrev pub function_of : List ℕ → Option Symbol → Result (Option Function) ElfError
 function_of names None = Ok None
 function_of names (Some s) =
-    and_then (name_at names s.st_name) (λ name. Ok (Some (record { name = name; address = s.st_value; size = s.st_size })))
+    and_then (name_at names s.st_name)
+        (λ name. Ok (Some (record { name = name; address = s.st_value; size = s.st_size })))
 
 -- the first function that has the address
 unfoldable pub function_at : File → ℕ → Result (Option Function) ElfError
 function_at file address =
-    and_then (symbol_table file) (λ table. function_of table.names (find (is_function_at address) (symbols file table)))
+    and_then (symbol_table file)
+        (λ table. function_of table.names (find (is_function_at address) (symbols file table)))

@@ -20,7 +20,13 @@ symbol_32 = do
   st_info ← unsigned w8
   st_other ← unsigned w8
   st_shndx ← unsigned w16
-  give (record { st_name = st_name; st_value = st_value; st_size = st_size; st_info = st_info; st_shndx = st_shndx })
+  give (record {
+    st_name = st_name;
+    st_value = st_value;
+    st_size = st_size;
+    st_info = st_info;
+    st_shndx = st_shndx;
+  })
 
 unfoldable pub symbol_64 : Read Symbol
 symbol_64 = do
@@ -30,7 +36,13 @@ symbol_64 = do
   st_shndx ← unsigned w16
   st_value ← unsigned w64
   st_size ← unsigned w64
-  give (record { st_name = st_name; st_value = st_value; st_size = st_size; st_info = st_info; st_shndx = st_shndx })
+  give (record {
+    st_name = st_name;
+    st_value = st_value;
+    st_size = st_size;
+    st_info = st_info;
+    st_shndx = st_shndx;
+  })
 
 abbrev pub symbol : Class → Read Symbol
 symbol Elf32 = symbol_32
@@ -46,4 +58,5 @@ is_function s = (s.st_info % 16 == 2) && is_defined s
 
 -- that has the address
 abbrev pub is_function_at : ℕ → Symbol → Bool
-is_function_at address s = is_function s && (nat_le s.st_value address && nat_lt address (s.st_value + s.st_size))
+is_function_at address s =
+    is_function s && (nat_le s.st_value address && nat_lt address (s.st_value + s.st_size))

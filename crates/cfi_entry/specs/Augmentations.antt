@@ -1,5 +1,6 @@
 -- Augmentation strings and their data (LSB Core, "Augmentation String Format").
-use Rattle.std.specs.Prelude.{ℕ, Bool, true, false, not, Option, Some, None, List, [], ◌∷◌, ◌==◌, if◌then◌else◌}
+use Rattle.std.specs.Prelude.{ℕ, Bool, true, false, not, Option, Some, None, List, [], ◌∷◌, ◌==◌}
+use Rattle.std.specs.Prelude.{if◌then◌else◌}
 use Rattle.cfi_read_core.specs.declared.error.Error.TheVariants.{UnknownAugmentation}
 use Rattle.cfi_read_core.specs.ReadFunctions.{Read, ◌>>=◌, give, refuse, split, within}
 use Rattle.cfi_read_core.specs.Numbers.{offset_leb128}
@@ -40,7 +41,14 @@ has_b_key (Some known) = known.uses_b_key
 -- ---- augmentation: z 0x7a, L 0x4c, P 0x50, R 0x52, S 0x53, B 0x42
 
 abbrev pub no_letters : Augmentation
-no_letters = record { has_augmentation_data = false; lsda_encoding = None; personality = None; address_encoding = None; is_signal_trampoline = false; uses_b_key = false }
+no_letters = record {
+  has_augmentation_data = false;
+  lsda_encoding = None;
+  personality = None;
+  address_encoding = None;
+  is_signal_trampoline = false;
+  uses_b_key = false;
+}
 
 -- what one letter adds, read from the augmentation data
 unfoldable pub letter : PointerContext → ℕ → Augmentation → Read Augmentation
@@ -64,15 +72,19 @@ unfoldable pub letters : PointerContext → List ℕ → Augmentation → Read A
 letters context [] known = give known
 letters context (l ∷ ls) known = letter context l known >>= letters context ls
 
--- after a first z: the length of the data, in which the other letters are read; what they leave is dropped
+-- after a first z: the length of the data, in which the other letters are read; what they leave is
+-- dropped
 unfoldable pub letters_with_data : PointerContext → List ℕ → Read (Option Augmentation)
 letters_with_data context ls = do
   length ← offset_leb128
   data_bytes ← split length
-  known ← within data_bytes (letters context ls (record no_letters { has_augmentation_data = true }))
+  known ← within data_bytes
+      (letters context ls (record no_letters { has_augmentation_data = true }))
   give (Some known)
 
 unfoldable pub augmentation : PointerContext → List ℕ → Read (Option Augmentation)
 augmentation context [] = give None
 augmentation context (l ∷ ls) =
-    if l == 0x7a then letters_with_data context ls else (letters context (l ∷ ls) no_letters >>= λ known. give (Some known))
+    if l == 0x7a
+    then letters_with_data context ls
+    else (letters context (l ∷ ls) no_letters >>= λ known. give (Some known))

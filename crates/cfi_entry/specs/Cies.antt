@@ -1,12 +1,16 @@
--- Common information entries (DWARF 5 section 6.4.1; LSB Core, "The Common Information Entry Format").
+-- Common information entries (DWARF 5 section 6.4.1; LSB Core, "The Common Information Entry
+-- Format").
 use Rattle.std.specs.Prelude.{ℕ, ℤ, Bool, not, ◌||◌, Option, None, Result, ◌==◌, if◌then◌else◌}
 use Rattle.std.specs.Int.{w8}
 use Rattle.cfi_read_core.specs.declared.common.Format.{Format}
 use Rattle.cfi_read_core.specs.declared.common.Register.{Register}
 use Rattle.cfi_read_core.specs.declared.error.Error.{Error}
-use Rattle.cfi_read_core.specs.declared.error.Error.TheVariants.{UnknownVersion, UnsupportedSegmentSize}
-use Rattle.cfi_read_core.specs.ReadFunctions.{Read, Extent, ◌>>=◌, ◌>>◌, give, refuse_if, remainder, within}
-use Rattle.cfi_read_core.specs.Numbers.{unsigned, unsigned_leb128, signed_leb128, register_leb128, text}
+use Rattle.cfi_read_core.specs.declared.error.Error.TheVariants.{UnknownVersion}
+use Rattle.cfi_read_core.specs.declared.error.Error.TheVariants.{UnsupportedSegmentSize}
+use Rattle.cfi_read_core.specs.ReadFunctions.{Read, Extent, ◌>>=◌, ◌>>◌, give, refuse_if, remainder}
+use Rattle.cfi_read_core.specs.ReadFunctions.{within}
+use Rattle.cfi_read_core.specs.Numbers.{unsigned, unsigned_leb128, signed_leb128, register_leb128}
+use Rattle.cfi_read_core.specs.Numbers.{text}
 use Rattle.cfi_read_core.specs.Addresses.{address_size}
 use Rattle.cfi_entry.specs.Sections.{Section, has_sizes, pointer_context}
 use Rattle.cfi_entry.specs.Prefixes.{Prefix}
@@ -40,7 +44,8 @@ sizes section version =
     else give section.address_size
 
 abbrev pub return_register : ℕ → Read Register
-return_register version = if version == 1 then (unsigned w8 >>= λ n. give (record { 0 = n })) else register_leb128
+return_register version =
+    if version == 1 then (unsigned w8 >>= λ n. give (record { 0 = n })) else register_leb128
 
 -- after the id
 unfoldable pub cie_fields : Section → Prefix → Read Cie
@@ -68,4 +73,5 @@ cie_fields section found = do
   })
 
 abbrev pub cie_of : Section → Prefix → Result Cie Error
-cie_of section found = (within found.rest (cie_fields section found) section.source found.rest.first).value
+cie_of section found =
+    (within found.rest (cie_fields section found) section.source found.rest.first).value

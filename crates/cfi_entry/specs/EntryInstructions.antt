@@ -15,13 +15,16 @@ instruction_context section size encoding = record {
 
 -- those in an extent of the section, where addresses have this size and this encoding
 abbrev pub instructions_in : Section → ℕ → Option ℕ → Extent → Readings Instruction
-instructions_in section size encoding extent = instructions (instruction_context section size encoding) extent section.source
+instructions_in section size encoding extent =
+    instructions (instruction_context section size encoding) extent section.source
 
 -- the addresses in a CIE's instructions are plain
 abbrev pub cie_instructions : Section → Cie → Readings Instruction
-cie_instructions section cie = instructions_in section cie.address_size None cie.initial_instructions
+cie_instructions section cie =
+    instructions_in section cie.address_size None cie.initial_instructions
 
 -- those in an FDE's are encoded as its CIE says
 abbrev pub fde_instructions : Section → Fde → Readings Instruction
 fde_instructions section fde =
-    instructions_in section fde.cie.address_size (address_encoding_of fde.cie.augmentation) fde.instructions
+    instructions_in section fde.cie.address_size (address_encoding_of fde.cie.augmentation)
+        fde.instructions

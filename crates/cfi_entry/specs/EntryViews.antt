@@ -1,8 +1,12 @@
--- Entries of the code as what they mean: the place of a reader gives its extent, and an offset is a number.
---     position_in, section_in view at      the bytes of a section with its bases, and the section as its entries are read
+-- Entries of the code as what they mean: the place of a reader gives its extent, and an offset is a
+-- number.
+--     position_in, section_in view at      the bytes of a section with its bases, and the section
+--         as its entries are read
 --     letter_context view at size      how the pointers of the section's CIEs are read
---     prefix_view, augmentation_view, cie_view      the prefix of an entry, an augmentation and a CIE
---     IsPrefixOf, IsCieOf position section      the prefix and the CIE are read from the bytes of the section
+--     prefix_view, augmentation_view, cie_view      the prefix of an entry, an augmentation and a
+--         CIE
+--     IsPrefixOf, IsCieOf position section      the prefix and the CIE are read from the bytes of
+--         the section
 use Rattle.std.specs.Prelude.{ℕ, Option, Some, None, if◌then◌else◌}
 use Rattle.std.specs.Option.{option_map}
 use Rattle.cfi_read_core.specs.ReadFunctions.{Position}
@@ -29,8 +33,10 @@ position_in view at = (view at.section).position
 abbrev pub section_in : {S : Type 0} → (S → SectionView) → InSection S → Section
 section_in view at = section_of (view at.section) at.bases.now
 
--- how a pointer in the augmentation data of a CIE is read: there is no function to which it could be relative
-abbrev pub letter_context : {S : Type 0} → (S → SectionView) → InSection S → AddressSize → PointerContext
+-- how a pointer in the augmentation data of a CIE is read: there is no function to which it could
+-- be relative
+abbrev pub letter_context :
+    {S : Type 0} → (S → SectionView) → InSection S → AddressSize → PointerContext
 letter_context view at size = pointer_context (section_in view at) None (size_in_bytes size)
 
 -- ---- prefixes, augmentations, CIEs

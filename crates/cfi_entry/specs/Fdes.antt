@@ -1,5 +1,7 @@
--- Frame description entries (DWARF 5 section 6.4.1; LSB Core, "The Frame Description Entry Format").
-use Rattle.std.specs.Prelude.{ℕ, ◌≤◌, ◌<◌, Bool, true, false, ◌&&◌, Option, Some, None, Result, nat_le, nat_lt}
+-- Frame description entries (DWARF 5 section 6.4.1; LSB Core, "The Frame Description Entry
+-- Format").
+use Rattle.std.specs.Prelude.{ℕ, ◌≤◌, ◌<◌, Bool, true, false, ◌&&◌, Option, Some, None, Result}
+use Rattle.std.specs.Prelude.{nat_le, nat_lt}
 use Rattle.cfi_read_core.specs.declared.error.Error.{Error}
 use Rattle.cfi_read_core.specs.ReadFunctions.{Read, Extent, ◌>>=◌, give, split, remainder, within}
 use Rattle.cfi_read_core.specs.Numbers.{offset_leb128}
@@ -56,7 +58,8 @@ data_if true section size initial encoding = do
 
 abbrev pub lsda : Section → ℕ → ℕ → Option Augmentation → Read (Option Pointer)
 lsda section size initial None = give None
-lsda section size initial (Some known) = data_if known.has_augmentation_data section size initial known.lsda_encoding
+lsda section size initial (Some known) =
+    data_if known.has_augmentation_data section size initial known.lsda_encoding
 
 -- ---- the fields, in order, after the id
 
@@ -65,15 +68,25 @@ fde_fields section found cie = do
   range ← addresses section cie.address_size (address_encoding_of cie.augmentation)
   lsda ← lsda section cie.address_size range.0 cie.augmentation
   instructions ← remainder
-  give (record { offset = found.offset; length = found.length; cie = cie; initial = range.0; range = range.1; lsda = lsda; instructions = instructions })
+  give (record {
+    offset = found.offset;
+    length = found.length;
+    cie = cie;
+    initial = range.0;
+    range = range.1;
+    lsda = lsda;
+    instructions = instructions;
+  })
 
 abbrev pub fde_after : Section → Prefix → Cie → Result Fde Error
-fde_after section found cie = (within found.rest (fde_fields section found cie) section.source found.rest.first).value
+fde_after section found cie =
+    (within found.rest (fde_fields section found cie) section.source found.rest.first).value
 
 abbrev pub fde_of : Section → PartialFde → Cie → Result Fde Error
 fde_of section partial cie = fde_after section partial.prefix cie
 
--- ---- what it covers; an end that wraps lies at or below the initial address, and nothing is contained then
+-- ---- what it covers; an end that wraps lies at or below the initial address, and nothing is
+--     contained then
 
 abbrev pub end_of : Fde → ℕ
 end_of fde = wrap fde.initial fde.range fde.cie.address_size

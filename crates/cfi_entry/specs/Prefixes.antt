@@ -1,7 +1,9 @@
--- What each entry begins with: its length, which gives the format and the extent, and its id (DWARF 5 section 6.4.1).
+-- What each entry begins with: its length, which gives the format and the extent, and its id (DWARF
+-- 5 section 6.4.1).
 use Rattle.std.specs.Prelude.{ℕ, Option, Some, None, ◌==◌, if◌then◌else◌}
 use Rattle.cfi_read_core.specs.declared.common.Format.{Format}
-use Rattle.cfi_read_core.specs.ReadFunctions.{Read, Extent, ◌>>=◌, give, here, split, remainder, within}
+use Rattle.cfi_read_core.specs.ReadFunctions.{Read, Extent, ◌>>=◌, give, here, split, remainder}
+use Rattle.cfi_read_core.specs.ReadFunctions.{within}
 use Rattle.cfi_read_core.specs.Numbers.{InitialLength, unsigned, initial_length}
 use Rattle.cfi_entry.specs.Sections.{Section, offset_in, id_width}
 
@@ -19,7 +21,14 @@ fields_after_length section offset length format = do
   place ← here
   id ← unsigned (id_width section.kind format)
   rest ← remainder
-  give (record { offset = offset; length = length; format = format; id = id; id_offset = offset_in section place; rest = rest })
+  give (record {
+    offset = offset;
+    length = length;
+    format = format;
+    id = id;
+    id_offset = offset_in section place;
+    rest = rest;
+  })
 
 -- after the length of an entry that begins at the offset
 abbrev pub of_length : Section → ℕ → InitialLength → Read (Option Prefix)

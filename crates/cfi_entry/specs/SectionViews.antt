@@ -1,12 +1,15 @@
 -- The two sections of the code, `DebugFrame` and `EhFrame`, as what they are.
 --     debug_frame_reader, eh_frame_reader section      the reader over the section's bytes
---     .._address_size, .._vendor section      the size of an address, and whose vendor opcodes are read
+--     .._address_size, .._vendor section      the size of an address, and whose vendor opcodes are
+--         read
 --     .._view position section      the properties of the section
---     IsNewDebugFrame, IsNewEhFrame reader section      the section of a reader, before anything is set
+--     IsNewDebugFrame, IsNewEhFrame reader section      the section of a reader, before anything is
+--         set
 use Rattle.std.specs.Prelude.{◌≡◌}
 use Rattle.cfi_read_core.specs.AddressSizes.{size_in_bytes}
 use Rattle.cfi_read_core.specs.ReadFunctions.{Position}
-use Rattle.cfi_read_core.specs.CallFrameSections.{SectionView, DebugFrame as of_debug_frame, EhFrame as of_eh_frame}
+use Rattle.cfi_read_core.specs.CallFrameSections.{SectionView, DebugFrame as of_debug_frame}
+use Rattle.cfi_read_core.specs.CallFrameSections.{EhFrame as of_eh_frame}
 use Rattle.cfi_read_core.specs.declared.address.AddressSize.{AddressSize}
 use Rattle.cfi_read_core.specs.declared.common.Vendor.{Vendor}
 use Rattle.cfi_read_core.specs.declared.common.Vendor.TheVariants.{Default as no_vendor}
@@ -34,7 +37,8 @@ debug_frame_view position section = record {
 
 abbrev pub IsNewDebugFrame : {R : Type 0} → R → DebugFrame R → Type 0
 IsNewDebugFrame reader section =
-    (section.section ≡ reader) × ((size_in_bytes section.address_size ≡ 8) × (section.vendor ≡ no_vendor))
+    (section.section ≡ reader)
+    × ((size_in_bytes section.address_size ≡ 8) × (section.vendor ≡ no_vendor))
 
 -- ---- .eh_frame
 
@@ -57,4 +61,5 @@ eh_frame_view position section = record {
 
 abbrev pub IsNewEhFrame : {R : Type 0} → R → EhFrame R → Type 0
 IsNewEhFrame reader section =
-    (section.section ≡ reader) × ((size_in_bytes section.address_size ≡ 8) × (section.vendor ≡ no_vendor))
+    (section.section ≡ reader)
+    × ((size_in_bytes section.address_size ≡ 8) × (section.vendor ≡ no_vendor))

@@ -1,4 +1,5 @@
--- A section of call frame information as its entries are read (DWARF 5 section 6.4.1; LSB Core, "The .eh_frame section").
+-- A section of call frame information as its entries are read (DWARF 5 section 6.4.1; LSB Core,
+-- "The .eh_frame section").
 use Rattle.std.specs.Prelude.{ℕ, ◌+◌, ◌-◌, Option, Result, Err, nat_le, nat_lt, if◌then◌else◌}
 use Rattle.cfi_read_core.specs.declared.common.Vendor.{Vendor}
 use Rattle.cfi_read_core.specs.declared.error.Error.{Error}
@@ -8,7 +9,9 @@ use Rattle.cfi_parts.specs.declared.pointer.BaseAddresses.{BaseAddresses}
 use Rattle.cfi_parts.specs.declared.pointer.SectionBaseAddresses.{SectionBaseAddresses}
 use Rattle.cfi_parts.specs.Pointers.{PointerContext}
 use Rattle.cfi_read_core.specs.CallFrameSections.{SectionView, SectionKind, cie_offset_from}
-pub use Rattle.cfi_read_core.specs.CallFrameSections.{SectionKind, DebugFrame, EhFrame, id_width, cie_id, zero_length_ends, has_sizes, cie_offset_from}
+pub use Rattle.cfi_read_core.specs.CallFrameSections.{SectionKind, DebugFrame, EhFrame, id_width}
+pub use Rattle.cfi_read_core.specs.CallFrameSections.{cie_id, zero_length_ends, has_sizes}
+pub use Rattle.cfi_read_core.specs.CallFrameSections.{cie_offset_from}
 
 -- A section as its entries are read: its bytes, and what the caller says of them.
 pub record Section : Type 0 where
@@ -41,7 +44,9 @@ section_of view bases = record {
 -- where an FDE's CIE begins, by the offset of its id and the id
 abbrev pub cie_offset_of : Section → ℕ → ℕ → Result ℕ Error
 cie_offset_of section id_offset id =
-    if nat_le id section.source.greatest then cie_offset_from section.kind id_offset id else Err UnsupportedOffset
+    if nat_le id section.source.greatest
+    then cie_offset_from section.kind id_offset id
+    else Err UnsupportedOffset
 
 -- ---- reading in a section
 
@@ -54,4 +59,5 @@ at_offset section offset read =
 
 -- the pointers of the section's entries, with a function base or none
 abbrev pub pointer_context : Section → Option ℕ → ℕ → PointerContext
-pointer_context section function size = record { bases = section.bases; function = function; size = size; section = section.first }
+pointer_context section function size =
+    record { bases = section.bases; function = function; size = size; section = section.first }

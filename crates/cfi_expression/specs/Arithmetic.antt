@@ -1,9 +1,11 @@
--- Arithmetic of the entries of a stack (DWARF 5 sections 2.5.1.4 and 2.5.1.5). An entry is as wide as an address, of `size` bytes: arithmetic
--- is modulo 2 ^ (8 * size), and a number with a sign is in two's complement.
+-- Arithmetic of the entries of a stack (DWARF 5 sections 2.5.1.4 and 2.5.1.5). An entry is as wide
+-- as an address, of `size` bytes: arithmetic is modulo 2 ^ (8 * size), and a number with a sign is
+-- in two's complement.
 --     low size a      the low bits of a number, of which an entry has room
 --     one_of size o top      what a unary operation gives
 --     two_of size o second top      what a binary operation gives, or a division by zero
-use Rattle.std.specs.Prelude.{ℕ, ◌-◌, ◌*◌, ◌/◌, ◌%◌, ◌^◌, ℤ, Bool, not, nat_le, ◌==◌, Result, Ok, Err, bit_and, bit_or, bit_xor, if◌then◌else◌}
+use Rattle.std.specs.Prelude.{ℕ, ◌-◌, ◌*◌, ◌/◌, ◌%◌, ◌^◌, ℤ, Bool, not, nat_le, ◌==◌, Result, Ok}
+use Rattle.std.specs.Prelude.{Err, bit_and, bit_or, bit_xor, if◌then◌else◌}
 use Rattle.std.specs.Int.{w64, cast_unsigned, from_bool, int_wrapping_div}
 use Rattle.std.specs.Int.RustNames.{int_lt, int_le}
 use Rattle.cfi_read_core.specs.Numbers.{number_by}
@@ -11,9 +13,14 @@ use Rattle.cfi_read_core.specs.Addresses.{wrap}
 use Rattle.cfi_expression.specs.declared.error.FrameError.{FrameError}
 use Rattle.cfi_expression.specs.declared.error.FrameError.TheVariants.{DivisionByZero}
 use Rattle.cfi_expression.specs.declared.operation.UnaryOperation.{UnaryOperation}
-use Rattle.cfi_expression.specs.declared.operation.UnaryOperation.TheVariants.{Abs, Neg, Not, PlusConstant}
+use Rattle.cfi_expression.specs.declared.operation.UnaryOperation.TheVariants.{Abs, Neg, Not}
+use Rattle.cfi_expression.specs.declared.operation.UnaryOperation.TheVariants.{PlusConstant}
 use Rattle.cfi_expression.specs.declared.operation.BinaryOperation.{BinaryOperation}
-use Rattle.cfi_expression.specs.declared.operation.BinaryOperation.TheVariants.{And, Div, Minus, Mod, Mul, Or, Plus, Shl, Shr, Shra, Xor, Eq, Ge, Gt, Le, Lt, Ne}
+use Rattle.cfi_expression.specs.declared.operation.BinaryOperation.TheVariants.{And, Div, Minus}
+use Rattle.cfi_expression.specs.declared.operation.BinaryOperation.TheVariants.{Mod, Mul, Or, Plus}
+use Rattle.cfi_expression.specs.declared.operation.BinaryOperation.TheVariants.{Shl, Shr, Shra, Xor}
+use Rattle.cfi_expression.specs.declared.operation.BinaryOperation.TheVariants.{Eq, Ge, Gt, Le, Lt}
+use Rattle.cfi_expression.specs.declared.operation.BinaryOperation.TheVariants.{Ne}
 
 module _ (size : ℕ) where
   -- one plus the greatest entry

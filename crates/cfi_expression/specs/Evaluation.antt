@@ -1,16 +1,27 @@
--- The value of a DWARF expression in a frame (DWARF 5 section 2.5.1). The entries of the stack are as wide as an address.
+-- The value of a DWARF expression in a frame (DWARF 5 section 2.5.1). The entries of the stack are
+-- as wide as an address.
 --     effect frame o      what an operation does to the stack
 --     step frame expression place      what the operation at the place does, and the place after it
---     value_of frame expression initial count      the value, if at most `count` operations are done
-use Rattle.std.specs.Prelude.{ℕ, zero, suc, ◌+◌, ◌-◌, ℤ, Bool, true, false, nat_le, ◌==◌, List, [], ◌∷◌, Option, Some, None, Result, Ok, Err, ok_or, if◌then◌else◌}
+--     value_of frame expression initial count      the value, if at most `count` operations are
+--         done
+use Rattle.std.specs.Prelude.{ℕ, zero, suc, ◌+◌, ◌-◌, ℤ, Bool, true, false, nat_le, ◌==◌, List, []}
+use Rattle.std.specs.Prelude.{◌∷◌, Option, Some, None, Result, Ok, Err, ok_or, if◌then◌else◌}
 use Rattle.std.specs.Int.{is_negative}
 use Rattle.std.specs.Int.RustNames.{unsigned_abs}
 use Rattle.cfi_read_core.specs.declared.error.Error.{Error}
 use Rattle.cfi_read_core.specs.ReadFunctions.{Position}
 use Rattle.cfi_expression.specs.declared.error.FrameError.{FrameError}
-use Rattle.cfi_expression.specs.declared.error.FrameError.TheVariants.{Unreadable, UnsupportedOperation, BadBranchTarget, TooManyIterations}
+use Rattle.cfi_expression.specs.declared.error.FrameError.TheVariants.{Unreadable}
+use Rattle.cfi_expression.specs.declared.error.FrameError.TheVariants.{UnsupportedOperation}
+use Rattle.cfi_expression.specs.declared.error.FrameError.TheVariants.{BadBranchTarget}
+use Rattle.cfi_expression.specs.declared.error.FrameError.TheVariants.{TooManyIterations}
 use Rattle.cfi_expression.specs.declared.operation.StackOperation.{StackOperation}
-use Rattle.cfi_expression.specs.declared.operation.StackOperation.TheVariants.{Constant, RegisterOffset, Pick, Discard, Swap, Rotate, Dereference, Unary, Binary, Nop, Unsupported}
+use Rattle.cfi_expression.specs.declared.operation.StackOperation.TheVariants.{Constant}
+use Rattle.cfi_expression.specs.declared.operation.StackOperation.TheVariants.{RegisterOffset, Pick}
+use Rattle.cfi_expression.specs.declared.operation.StackOperation.TheVariants.{Discard, Swap}
+use Rattle.cfi_expression.specs.declared.operation.StackOperation.TheVariants.{Rotate, Dereference}
+use Rattle.cfi_expression.specs.declared.operation.StackOperation.TheVariants.{Unary, Binary, Nop}
+use Rattle.cfi_expression.specs.declared.operation.StackOperation.TheVariants.{Unsupported}
 use Rattle.cfi_expression.specs.declared.operation.Operation.{Operation}
 use Rattle.cfi_expression.specs.declared.operation.Operation.TheVariants.{Stack, Skip, Bra}
 use Rattle.cfi_expression.specs.Frames.{Frame, number_at, register_in}
@@ -32,11 +43,14 @@ abbrev pub some_if : Bool → ℕ → Option ℕ
 some_if inside place = if inside then Some place else None
 
 module _ (expression : Position) where
-  -- ---- jumps (section 2.5.1.5): forward or backward from the end of the operation, within the expression or to its end
+  -- ---- jumps (section 2.5.1.5): forward or backward from the end of the operation, within the
+  --     expression or to its end
 
   abbrev pub moved : ℕ → Bool → ℕ → Option ℕ
-  moved place true distance = some_if (nat_le (expression.place + distance) place) (place - distance)
-  moved place false distance = some_if (nat_le distance (expression.source.last - place)) (place + distance)
+  moved place true distance =
+      some_if (nat_le (expression.place + distance) place) (place - distance)
+  moved place false distance =
+      some_if (nat_le distance (expression.source.last - place)) (place + distance)
 
   abbrev pub target : ℕ → ℤ → Result ℕ FrameError
   target place d = ok_or (moved place (is_negative d) (unsigned_abs d)) (BadBranchTarget d)
@@ -50,14 +64,16 @@ module _ (frame : Frame) where
 
   abbrev pub effect : StackOperation → Act Unit
   effect (Constant n) = push_low n
-  effect (RegisterOffset r offset) = of_result (register_in frame r) >>= λ value. push (displaced frame.size value offset)
+  effect (RegisterOffset r offset) =
+      of_result (register_in frame r) >>= λ value. push (displaced frame.size value offset)
   effect (Pick index) = (λ stack. of_result (pick stack index) stack) >>= push
   effect Discard = pop >>= λ top. of_result (Ok tt)
   effect Swap = swap
   effect Rotate = rotate
   effect (Dereference size) = pop >>= λ a. of_result (number_at frame a size) >>= push_low
   effect (Unary o) = pop >>= λ top. push (one_of frame.size o top)
-  effect (Binary o) = pop >>= λ top. pop >>= λ second. of_result (two_of frame.size o second top) >>= push
+  effect (Binary o) =
+      pop >>= λ top. pop >>= λ second. of_result (two_of frame.size o second top) >>= push
   effect Nop = of_result (Ok tt)
   effect (Unsupported opcode) = of_result (Err (UnsupportedOperation opcode))
 
@@ -67,7 +83,8 @@ module _ (frame : Frame) where
     abbrev pub obey : ℕ → Operation → Act ℕ
     obey place (Stack o) = effect o >> of_result (Ok place)
     obey place (Skip d) = of_result (target expression place d)
-    obey place (Bra d) = pop >>= λ top. of_result (if top == 0 then Ok place else target expression place d)
+    obey place (Bra d) =
+        pop >>= λ top. of_result (if top == 0 then Ok place else target expression place d)
 
     abbrev pub obey_read : ℕ → Result Operation Error → Act ℕ
     obey_read place (Ok o) = obey place o

@@ -2,21 +2,29 @@
 --     Frame, frame_view      a frame, and that of the code
 --     known, register_in      the value of a register
 --     number_at      the number at an address
-use Rattle.std.specs.Prelude.{ℕ, ◌&&◌, nat_le, List, Option, None, Result, Err, ok_or, slice_index_or, if◌then◌else◌}
+use Rattle.std.specs.Prelude.{ℕ, ◌&&◌, nat_le, List, Option, None, Result, Err, ok_or}
+use Rattle.std.specs.Prelude.{slice_index_or, if◌then◌else◌}
 use Rattle.cfi_read_core.specs.declared.common.Register.{Register}
 use Rattle.cfi_read_core.specs.Addresses.{is_sized}
 use Rattle.cfi_read_core.specs.AddressSizes.{size_in_bytes}
 use Rattle.cfi_expression.specs.declared.error.FrameError.{FrameError}
-use Rattle.cfi_expression.specs.declared.error.FrameError.TheVariants.{UnsupportedSize, UnknownRegister, UnreadableMemory}
+use Rattle.cfi_expression.specs.declared.error.FrameError.TheVariants.{UnsupportedSize}
+use Rattle.cfi_expression.specs.declared.error.FrameError.TheVariants.{UnknownRegister}
+use Rattle.cfi_expression.specs.declared.error.FrameError.TheVariants.{UnreadableMemory}
 use Rattle.cfi_expression.specs.declared.frame.Frame.{Frame as LentFrame}
 
 pub record Frame : Type 0 where
   pub registers : List (Option ℕ)  -- the value of each register by its number, where it is known
-  pub memory : ℕ → ℕ → Option ℕ  -- the number of so many bytes at an address, where they can be read
+  -- the number of so many bytes at an address, where they can be read
+  pub memory : ℕ → ℕ → Option ℕ
   pub size : ℕ  -- of an address, in bytes
 
 abbrev pub frame_view : {M : Type 0} → (M → ℕ → ℕ → Option ℕ) → LentFrame M → Frame
-frame_view number_at frame = record { registers = frame.registers.now; memory = number_at frame.memory.now; size = size_in_bytes frame.address_size }
+frame_view number_at frame = record {
+  registers = frame.registers.now;
+  memory = number_at frame.memory.now;
+  size = size_in_bytes frame.address_size;
+}
 
 -- ---- registers and memory
 

@@ -1,16 +1,28 @@
--- The operations of a DWARF expression as they are read (DWARF 5 sections 2.5.1 and 7.7.1): for each section a table, from the opcode to the
--- read of its operands. An opcode that no table has isn't evaluated.
+-- The operations of a DWARF expression as they are read (DWARF 5 sections 2.5.1 and 7.7.1): for
+-- each section a table, from the opcode to the read of its operands. An opcode that no table has
+-- isn't evaluated.
 --     operation size      an operation, where an address has this size
 use Rattle.std.specs.Prelude.{ℕ, ◌-◌, ℤ, List, [], ◌∷◌, nat_lt, ◌==◌, if◌then◌else◌}
 use Rattle.std.specs.Int.{w8, w16, w32, w64, cast_unsigned}
 use Rattle.cfi_read_core.specs.declared.common.Register.{Register}
 use Rattle.cfi_read_core.specs.ReadFunctions.{Read, ◌>>=◌, give, chosen_from}
-use Rattle.cfi_read_core.specs.Numbers.{unsigned, signed, unsigned_leb128, signed_leb128, register_leb128}
+use Rattle.cfi_read_core.specs.Numbers.{unsigned, signed, unsigned_leb128, signed_leb128}
+use Rattle.cfi_read_core.specs.Numbers.{register_leb128}
 use Rattle.cfi_read_core.specs.Addresses.{address}
-use Rattle.cfi_expression.specs.declared.operation.UnaryOperation.TheVariants.{Abs, Neg, Not, PlusConstant}
-use Rattle.cfi_expression.specs.declared.operation.BinaryOperation.TheVariants.{And, Div, Minus, Mod, Mul, Or, Plus, Shl, Shr, Shra, Xor, Eq, Ge, Gt, Le, Lt, Ne}
+use Rattle.cfi_expression.specs.declared.operation.UnaryOperation.TheVariants.{Abs, Neg, Not}
+use Rattle.cfi_expression.specs.declared.operation.UnaryOperation.TheVariants.{PlusConstant}
+use Rattle.cfi_expression.specs.declared.operation.BinaryOperation.TheVariants.{And, Div, Minus}
+use Rattle.cfi_expression.specs.declared.operation.BinaryOperation.TheVariants.{Mod, Mul, Or, Plus}
+use Rattle.cfi_expression.specs.declared.operation.BinaryOperation.TheVariants.{Shl, Shr, Shra, Xor}
+use Rattle.cfi_expression.specs.declared.operation.BinaryOperation.TheVariants.{Eq, Ge, Gt, Le, Lt}
+use Rattle.cfi_expression.specs.declared.operation.BinaryOperation.TheVariants.{Ne}
 use Rattle.cfi_expression.specs.declared.operation.StackOperation.{StackOperation}
-use Rattle.cfi_expression.specs.declared.operation.StackOperation.TheVariants.{Constant, RegisterOffset, Pick, Discard, Swap, Rotate, Dereference, Unary, Binary, Nop, Unsupported}
+use Rattle.cfi_expression.specs.declared.operation.StackOperation.TheVariants.{Constant}
+use Rattle.cfi_expression.specs.declared.operation.StackOperation.TheVariants.{RegisterOffset, Pick}
+use Rattle.cfi_expression.specs.declared.operation.StackOperation.TheVariants.{Discard, Swap}
+use Rattle.cfi_expression.specs.declared.operation.StackOperation.TheVariants.{Rotate, Dereference}
+use Rattle.cfi_expression.specs.declared.operation.StackOperation.TheVariants.{Unary, Binary, Nop}
+use Rattle.cfi_expression.specs.declared.operation.StackOperation.TheVariants.{Unsupported}
 use Rattle.cfi_expression.specs.declared.operation.Operation.{Operation}
 use Rattle.cfi_expression.specs.declared.operation.Operation.TheVariants.{Stack, Skip, Bra}
 
@@ -124,7 +136,8 @@ constants =
 unfoldable pub by_constant : ℕ → ℕ → Read StackOperation
 by_constant size opcode = chosen_from opcode constants (by_long_constant size opcode)
 
--- 0x30 to 0x4f are DW_OP_lit0 to lit31, 0x50 to 0x6f DW_OP_reg0 to reg31, which push nothing, and 0x70 to 0x8f DW_OP_breg0 to breg31
+-- 0x30 to 0x4f are DW_OP_lit0 to lit31, 0x50 to 0x6f DW_OP_reg0 to reg31, which push nothing, and
+-- 0x70 to 0x8f DW_OP_breg0 to breg31
 unfoldable pub stack_operation : ℕ → ℕ → Read StackOperation
 stack_operation size opcode =
     if nat_lt opcode 0x30 then by_constant size opcode
@@ -143,7 +156,8 @@ jumps =
     ∷ []
 
 abbrev pub by_opcode : ℕ → ℕ → Read Operation
-by_opcode size opcode = chosen_from opcode jumps (stack_operation size opcode >>= λ o. give (Stack o))
+by_opcode size opcode =
+    chosen_from opcode jumps (stack_operation size opcode >>= λ o. give (Stack o))
 
 unfoldable pub operation : ℕ → Read Operation
 operation size = do

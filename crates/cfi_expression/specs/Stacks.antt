@@ -1,10 +1,14 @@
--- Acting on the stack of a DWARF expression, as a function of the stack (DWARF 5 section 2.5.1). A stack is its entries, the top first.
---     Act A, ◌>>=◌, of_result      an action, one after the other, and one that leaves the stack as it is
+-- Acting on the stack of a DWARF expression, as a function of the stack (DWARF 5 section 2.5.1). A
+-- stack is its entries, the top first.
+--     Act A, ◌>>=◌, of_result      an action, one after the other, and one that leaves the stack as
+--         it is
 --     push, pop, pick      the actions of which all are made
-use Rattle.std.specs.Prelude.{◌≡◌, ℕ, List, [], ◌∷◌, length, nat_lt, Result, Ok, Err, ok_or, if◌then◌else◌}
+use Rattle.std.specs.Prelude.{◌≡◌, ℕ, List, [], ◌∷◌, length, nat_lt, Result, Ok, Err, ok_or}
+use Rattle.std.specs.Prelude.{if◌then◌else◌}
 use Rattle.std.specs.List.{slice_get}
 use Rattle.cfi_expression.specs.declared.error.FrameError.{FrameError}
-use Rattle.cfi_expression.specs.declared.error.FrameError.TheVariants.{NotEnoughStackItems, StackFull}
+use Rattle.cfi_expression.specs.declared.error.FrameError.TheVariants.{NotEnoughStackItems}
+use Rattle.cfi_expression.specs.declared.error.FrameError.TheVariants.{StackFull}
 
 -- What an action gives: a value or the first error, and the stack after it.
 pub record Acted (A : Type 0) : Type 0 where

@@ -17,4 +17,5 @@ given (Err e) = None
 
 -- of a window of memory whose first byte has the address `base`
 abbrev pub number_in : Position → ℕ → ℕ → ℕ → Option ℕ
-number_in window base a size = if nat_lt a base then None else given (behind (a - base) size window.source window.place).value
+number_in window base a size =
+    if nat_lt a base then None else given (behind (a - base) size window.source window.place).value

@@ -1,12 +1,15 @@
 -- Call frame instructions (DWARF 5 sections 6.4.2 and 7.24).
-use Rattle.std.specs.Prelude.{◌≢◌, ◌==◌, if◌then◌else◌, ℕ, ◌-◌, ◌%◌, Option, Some, None, List, [], ◌∷◌, ◌++◌}
+use Rattle.std.specs.Prelude.{◌≢◌, ◌==◌, if◌then◌else◌, ℕ, ◌-◌, ◌%◌, Option, Some, None, List, []}
+use Rattle.std.specs.Prelude.{◌∷◌, ◌++◌}
 use Rattle.std.specs.Int.{Width, w8, w16, w32}
 use Rattle.cfi_read_core.specs.declared.common.Register.{Register as RegisterNumber}
 use Rattle.cfi_read_core.specs.declared.common.Vendor.{Vendor}
 use Rattle.cfi_read_core.specs.declared.common.Vendor.TheVariants as vendors
 use Rattle.cfi_read_core.specs.declared.error.Error.TheVariants.{UnknownCallFrameInstruction}
-use Rattle.cfi_read_core.specs.ReadFunctions.{Read, Source, Extent, Readings, readings_over, ◌>>=◌, give, refuse, of_result, split, chosen_from}
-use Rattle.cfi_read_core.specs.Numbers.{unsigned, unsigned_leb128, signed_leb128, offset_leb128, register_leb128}
+use Rattle.cfi_read_core.specs.ReadFunctions.{Read, Source, Extent, Readings, readings_over, ◌>>=◌}
+use Rattle.cfi_read_core.specs.ReadFunctions.{give, refuse, of_result, split, chosen_from}
+use Rattle.cfi_read_core.specs.Numbers.{unsigned, unsigned_leb128, signed_leb128, offset_leb128}
+use Rattle.cfi_read_core.specs.Numbers.{register_leb128}
 use Rattle.cfi_read_core.specs.Addresses.{address}
 use Rattle.cfi_read_core.specs.declared.instruction.UnwindExpression.{UnwindExpression}
 use Rattle.cfi_read_core.specs.declared.instruction.CallFrameInstruction.{CallFrameInstruction}
@@ -52,7 +55,8 @@ abbrev pub advance : ℕ → Read Instruction
 advance delta = give (variant.AdvanceLoc delta)
 
 -- DW_CFA_offset and its kin: a register and a number that is read after it
-abbrev pub register_and : {A : Type 0} → Read A → (RegisterNumber → A → Instruction) → Read Instruction
+abbrev pub register_and :
+    {A : Type 0} → Read A → (RegisterNumber → A → Instruction) → Read Instruction
 register_and operand made = do
   r ← register_leb128
   n ← operand
@@ -114,13 +118,14 @@ register_rules c =
 
 -- the opcodes whose two high bits are 0, with what is read after them
 abbrev pub extended_opcodes : InstructionContext → List (ℕ × Read Instruction)
-extended_opcodes c = row_creation c ++ cfa_definition c ++ state_and_others c ++ offset_rules ++ register_rules c
+extended_opcodes c =
+    row_creation c ++ cfa_definition c ++ state_and_others c ++ offset_rules ++ register_rules c
 
 abbrev pub by_extended_opcode : InstructionContext → ℕ → Read Instruction
 by_extended_opcode c opcode = chosen_from opcode (extended_opcodes c) (unknown_opcode opcode)
 
--- Not one of the opcodes whose two high bits are 0 that compilers write most: padding, short moves, a new place of the CFA,
--- and the state of a row.
+-- Not one of the opcodes whose two high bits are 0 that compilers write most: padding, short moves,
+-- a new place of the CFA, and the state of a row.
 abbrev pub IsRare : ℕ → Type 0
 IsRare opcode =
     (opcode ≢ 0x00) × (opcode ≢ 0x02) × (opcode ≢ 0x03) × (opcode ≢ 0x0a) × (opcode ≢ 0x0b)

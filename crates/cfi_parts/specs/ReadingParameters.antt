@@ -10,7 +10,8 @@ use Rattle.cfi_parts.specs.Instructions.{InstructionContext}
 use Rattle.cfi_parts.specs.InstructionReaders.{InstructionReader}
 
 -- the parameters for reading pointers
-abbrev pub pointer_context : {R : Type 0} → (R → Position) → PointerEncodingParameters R → PointerContext
+abbrev pub pointer_context :
+    {R : Type 0} → (R → Position) → PointerEncodingParameters R → PointerContext
 pointer_context position p = record {
   bases = p.bases.now;
   function = p.func_base;
@@ -19,7 +20,8 @@ pointer_context position p = record {
 }
 
 -- the parameters for reading instructions
-abbrev pub instruction_context : {R : Type 0} → (R → Position) → InstructionParameters R → InstructionContext
+abbrev pub instruction_context :
+    {R : Type 0} → (R → Position) → InstructionParameters R → InstructionContext
 instruction_context position p = record {
   pointers = pointer_context position p.pointers;
   address_encoding = option_map (λ e. e.0) p.address_encoding;
@@ -27,9 +29,12 @@ instruction_context position p = record {
 }
 
 -- the input is at the start of the section of the pointers or past it
-abbrev pub NotBeforeSection : {R : Type 0} → (R → Position) → PointerEncodingParameters R → R → Type 0
+abbrev pub NotBeforeSection :
+    {R : Type 0} → (R → Position) → PointerEncodingParameters R → R → Type 0
 NotBeforeSection position p input = (position p.section.now).place ≤ (position input).place
 
 -- an input from which instructions are read with these parameters
-abbrev pub reader_at : {R : Type 0} → (R → Position) → InstructionParameters R → R → InstructionReader
-reader_at position p input = record { context = instruction_context position p; position = position input }
+abbrev pub reader_at :
+    {R : Type 0} → (R → Position) → InstructionParameters R → R → InstructionReader
+reader_at position p input =
+    record { context = instruction_context position p; position = position input }

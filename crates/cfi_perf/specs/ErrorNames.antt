@@ -1,7 +1,12 @@
 -- The names of the errors, without what they carry.
 use Rattle.std.specs.Prelude.{ℕ, List, codes}
 use Rattle.cfi_perf.specs.declared.error.PerfError.{PerfError}
-use Rattle.cfi_perf.specs.declared.error.PerfError.TheVariants.{NotPerf, PipeMode, HeaderCut, HeaderSize, AttributeSize, AttributesOutOfBounds, NoEvents, MixedEvents, DataOutOfBounds, FeatureOutOfBounds, RecordSize, RecordCut, Compressed}
+use Rattle.cfi_perf.specs.declared.error.PerfError.TheVariants.{NotPerf, PipeMode, HeaderCut}
+use Rattle.cfi_perf.specs.declared.error.PerfError.TheVariants.{HeaderSize, AttributeSize}
+use Rattle.cfi_perf.specs.declared.error.PerfError.TheVariants.{AttributesOutOfBounds, NoEvents}
+use Rattle.cfi_perf.specs.declared.error.PerfError.TheVariants.{MixedEvents, DataOutOfBounds}
+use Rattle.cfi_perf.specs.declared.error.PerfError.TheVariants.{FeatureOutOfBounds, RecordSize}
+use Rattle.cfi_perf.specs.declared.error.PerfError.TheVariants.{RecordCut, Compressed}
 
 abbrev pub name_of_perf : PerfError → List ℕ
 name_of_perf NotPerf = codes "NotPerf"

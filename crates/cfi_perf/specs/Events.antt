@@ -1,4 +1,5 @@
--- The records of mapped files, programs and new processes (perf_event_open(2), "MMAP layout"; include/uapi/linux/perf_event.h).
+-- The records of mapped files, programs and new processes (perf_event_open(2), "MMAP layout";
+-- include/uapi/linux/perf_event.h).
 use Rattle.std.specs.Prelude.{ℕ, Bool, not, List, drop, Result, Ok}
 use Rattle.std.specs.Int.{w32, w64}
 use Rattle.cfi_read_core.specs.ReadFunctions.{Read, ◌>>=◌, give}
@@ -7,7 +8,11 @@ use Rattle.cfi_perf.specs.declared.error.PerfError.{PerfError}
 use Rattle.cfi_perf.specs.declared.error.PerfError.TheVariants.{RecordCut}
 use Rattle.cfi_perf.specs.declared.record.Record.{Record as RecordOfCode}
 use Rattle.cfi_perf.specs.declared.record.Event.{Event as EventOfCode}
-use Rattle.cfi_perf.specs.declared.record.Event.TheVariants.{Mapping as MappingOfCode, Program as ProgramOfCode, Fork as ForkOfCode, Sample as SampleOfCode, Other as OtherOfCode}
+use Rattle.cfi_perf.specs.declared.record.Event.TheVariants.{Mapping as MappingOfCode}
+use Rattle.cfi_perf.specs.declared.record.Event.TheVariants.{Program as ProgramOfCode}
+use Rattle.cfi_perf.specs.declared.record.Event.TheVariants.{Fork as ForkOfCode}
+use Rattle.cfi_perf.specs.declared.record.Event.TheVariants.{Sample as SampleOfCode}
+use Rattle.cfi_perf.specs.declared.record.Event.TheVariants.{Other as OtherOfCode}
 use Rattle.cfi_perf.specs.declared.record.Mapping.{Mapping as MappingFields}
 use Rattle.cfi_perf.specs.declared.record.Program.{Program as ProgramFields}
 use Rattle.cfi_perf.specs.declared.record.Fork.{Fork}
@@ -45,7 +50,14 @@ pub record Record : Type 0 where
 
 -- what these are in the code
 abbrev pub mapping_view : MappingFields → Mapping
-mapping_view m = record { pid = m.pid; address = m.address; length = m.length; offset = m.offset; is_executable = m.is_executable; name = m.name.now }
+mapping_view m = record {
+  pid = m.pid;
+  address = m.address;
+  length = m.length;
+  offset = m.offset;
+  is_executable = m.is_executable;
+  name = m.name.now;
+}
 
 abbrev pub program_view : ProgramFields → Program
 program_view p = record { pid = p.pid; tid = p.tid; name = p.name.now; is_exec = p.is_exec }
@@ -74,7 +86,14 @@ mapped_range = do
 
 abbrev pub mapping_of : MappedRange → Bool → List ℕ → Mapping
 mapping_of range is_executable name =
-    record { pid = range.pid; address = range.address; length = range.length; offset = range.offset; is_executable = is_executable; name = name }
+    record {
+      pid = range.pid;
+      address = range.address;
+      length = range.length;
+      offset = range.offset;
+      is_executable = is_executable;
+      name = name;
+    }
 
 -- PERF_RECORD_MMAP: the name follows. PERF_RECORD_MISC_MMAP_DATA is 1 << 13
 unfoldable pub mapping : Bool → ℕ → List ℕ → Result Mapping PerfError
@@ -83,7 +102,8 @@ mapping big misc fields =
     and_then (or_missing RecordCut (before_zero (drop 32 fields))) (λ name.
     Ok (mapping_of range (not (has_any 0x2000 misc)) name)))
 
--- PERF_RECORD_MMAP2: behind 24 bytes that say which file it is, prot, flags and the name. PROT_EXEC is 4
+-- PERF_RECORD_MMAP2: behind 24 bytes that say which file it is, prot, flags and the name. PROT_EXEC
+-- is 4
 unfoldable pub mapping2 : Bool → List ℕ → Result Mapping PerfError
 mapping2 big fields =
     and_then (or_error RecordCut (read_from big fields mapped_range)) (λ range.

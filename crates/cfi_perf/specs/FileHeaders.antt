@@ -1,5 +1,6 @@
 -- The header of a profile (perf.data-file-format.txt).
-use Rattle.std.specs.Prelude.{ℕ, not, List, codes, drop, Result, Ok, Err, nat_eq, ◌==◌, if◌then◌else◌}
+use Rattle.std.specs.Prelude.{ℕ, not, List, codes, drop, Result, Ok, Err, nat_eq, ◌==◌}
+use Rattle.std.specs.Prelude.{if◌then◌else◌}
 use Rattle.std.specs.List.{starts_with}
 use Rattle.std.specs.Int.{w64}
 use Rattle.cfi_read_core.specs.declared.endianity.RunTimeEndian.{RunTimeEndian}
@@ -8,7 +9,8 @@ use Rattle.cfi_read_core.specs.ByteOrder.{is_big}
 use Rattle.cfi_read_core.specs.ReadFunctions.{Read, ◌>>=◌, give}
 use Rattle.cfi_read_core.specs.Numbers.{unsigned}
 use Rattle.cfi_perf.specs.declared.error.PerfError.{PerfError}
-use Rattle.cfi_perf.specs.declared.error.PerfError.TheVariants.{NotPerf, PipeMode, HeaderCut, HeaderSize}
+use Rattle.cfi_perf.specs.declared.error.PerfError.TheVariants.{NotPerf, PipeMode, HeaderCut}
+use Rattle.cfi_perf.specs.declared.error.PerfError.TheVariants.{HeaderSize}
 use Rattle.cfi_perf.specs.declared.file_header.FileSection.{FileSection}
 use Rattle.cfi_perf.specs.declared.file_header.FileHeader.{FileHeader}
 use Rattle.cfi_perf.specs.Results.{and_then, or_error, read_from}

@@ -1,5 +1,7 @@
--- What the events of a profile have their samples record (perf_event_open(2), "struct perf_event_attr").
-use Rattle.std.specs.Prelude.{ℕ, ◌-◌, ◌/◌, Bool, not, ◌&&◌, List, [], ◌∷◌, length, Result, Ok, Err, ◌==◌, bit_and, if◌then◌else◌}
+-- What the events of a profile have their samples record (perf_event_open(2), "struct
+-- perf_event_attr").
+use Rattle.std.specs.Prelude.{ℕ, ◌-◌, ◌/◌, Bool, not, ◌&&◌, List, [], ◌∷◌, length, Result, Ok, Err}
+use Rattle.std.specs.Prelude.{◌==◌, bit_and, if◌then◌else◌}
 use Rattle.std.specs.List.{list_all}
 use Rattle.std.specs.Int.{w32, w64}
 use mathlib.Core.Bool.{beq}
@@ -70,7 +72,8 @@ has bits layout = has_any bits layout.sample_type
 
 -- ---- one event
 
--- Bit fields count from the least significant bit of a little-endian number, and from the most significant of a big-endian one; sample_id_all is the one of index 18.
+-- Bit fields count from the least significant bit of a little-endian number, and from the most
+-- significant of a big-endian one; sample_id_all is the one of index 18.
 abbrev pub has_sample_id_all : Bool → ℕ → Bool
 has_sample_id_all big bits = has_any (if big then 0x200000000000 else 0x40000) bits
 
@@ -127,9 +130,14 @@ events big size bytes = entries (length bytes / size) (event size) (slice_over b
 
 abbrev pub same_layout : EventLayout → EventLayout → Bool
 same_layout a b =
-    (a.sample_type == b.sample_type) && ((a.read_format == b.read_format) && (beq a.sample_id_all b.sample_id_all && ((a.branch_sample_type == b.branch_sample_type) && (a.sample_regs_user == b.sample_regs_user))))
+    (a.sample_type == b.sample_type)
+    && ((a.read_format == b.read_format)
+          && (beq a.sample_id_all b.sample_id_all
+                && ((a.branch_sample_type == b.branch_sample_type)
+                      && (a.sample_regs_user == b.sample_regs_user))))
 
 -- the layout of the first event, if each other one has the same
 abbrev pub only_layout : List EventLayout → Result EventLayout PerfError
 only_layout [] = Err NoEvents
-only_layout (first ∷ others) = if list_all (same_layout first) others then Ok first else Err MixedEvents
+only_layout (first ∷ others) =
+    if list_all (same_layout first) others then Ok first else Err MixedEvents

@@ -1,7 +1,10 @@
 -- The records of a profile, one after the other.
---     records_of layout big bytes      the records of these bytes in order, and the error that ended them
+--     records_of layout big bytes      the records of these bytes in order, and the error that
+--         ended them
 --     records_left walk      those that an iterator of the code has left
-use Rattle.std.specs.Prelude.{◌≡◌, ℕ, ◌-◌, ◌*◌, zero, suc, Bool, not, ◌||◌, List, [], ◌∷◌, ◌++◌, map, length, drop, take, Option, Some, None, Result, Ok, Err, count_ones, bit_and, nat_lt, nat_le, ◌==◌, if◌then◌else◌}
+use Rattle.std.specs.Prelude.{◌≡◌, ℕ, ◌-◌, ◌*◌, zero, suc, Bool, not, ◌||◌, List, [], ◌∷◌, ◌++◌}
+use Rattle.std.specs.Prelude.{map, length, drop, take, Option, Some, None, Result, Ok, Err}
+use Rattle.std.specs.Prelude.{count_ones, bit_and, nat_lt, nat_le, ◌==◌, if◌then◌else◌}
 use Rattle.std.specs.Int.{w16, w32, w64}
 use Rattle.cfi_read_core.specs.ByteOrder.{is_big}
 use Rattle.cfi_read_core.specs.ReadFunctions.{Read, ◌>>=◌, give}
@@ -18,7 +21,8 @@ use Rattle.cfi_perf.specs.declared.records.WithoutId.{WithoutId as WithoutIdOfCo
 use Rattle.cfi_perf.specs.Results.{and_then, or_error, or_missing, part, read_from}
 use Rattle.cfi_perf.specs.Layouts.{has, PERF_SAMPLE_TID, PERF_SAMPLE_TIME}
 use Rattle.cfi_perf.specs.Samples.{TimedSample, number_if, sample}
-use Rattle.cfi_perf.specs.Events.{Record, Event, MappingEvent, ProgramEvent, ForkEvent, SampleEvent, OtherEvent, record_view, mapping, mapping2, program, fork}
+use Rattle.cfi_perf.specs.Events.{Record, Event, MappingEvent, ProgramEvent, ForkEvent, SampleEvent}
+use Rattle.cfi_perf.specs.Events.{OtherEvent, record_view, mapping, mapping2, program, fork}
 
 -- ---- the bytes of a record
 
@@ -38,7 +42,8 @@ pub record Framed : Type 0 where
 abbrev pub framed_view : FramedOfCode → Framed
 framed_view f = record { header = f.header; body = f.body.now; others = f.others.now }
 
--- what follows a record: behind PERF_RECORD_AUXTRACE (71) stands a trace, of whose size it tells first
+-- what follows a record: behind PERF_RECORD_AUXTRACE (71) stands a trace, of whose size it tells
+-- first
 abbrev pub after_record : Bool → RecordHeader → List ℕ → List ℕ → Result (List ℕ) PerfError
 after_record big header body behind =
     if header.kind == 71
@@ -55,7 +60,8 @@ split_record big bytes =
     and_then (after_record big header body (drop header.size bytes)) (λ others.
     Ok (record { header = header; body = body; others = others }))))
 
--- ---- the fields of a sample that other records have at their end, in this order (struct sample_id)
+-- ---- the fields of a sample that other records have at their end, in this order (struct
+--     sample_id)
 
 -- TID, TIME, ID, STREAM_ID, CPU, IDENTIFIER: eight bytes for each that samples have
 abbrev pub sample_id_size : EventLayout → ℕ
@@ -76,7 +82,8 @@ without_id_view r = record { time = r.time; fields = r.fields.now }
 
 abbrev pub split_id : EventLayout → Bool → List ℕ → ℕ → Result WithoutId PerfError
 split_id layout big body length' =
-    and_then (or_error RecordCut (read_from big (drop length' body) (sample_id_time layout))) (λ time.
+    and_then (or_error RecordCut (read_from big (drop length' body) (sample_id_time layout)))
+        (λ time.
     Ok (record { time = time; fields = take length' body }))
 
 -- the records of perf itself, from 64 on, have none
@@ -103,7 +110,8 @@ abbrev pub sample_record : TimedSample → Record
 sample_record timed = record { time = timed.time; event = SampleEvent timed.sample }
 
 abbrev pub sample_in : EventLayout → Bool → List ℕ → Result Record PerfError
-sample_in layout big body = map_ok sample_record (or_error RecordCut (read_from big body (sample layout)))
+sample_in layout big body =
+    map_ok sample_record (or_error RecordCut (read_from big body (sample layout)))
 
 -- a sample (9), compressed records (81 and 83), or another record
 unfoldable pub record_of : EventLayout → Bool → RecordHeader → List ℕ → Result Record PerfError
@@ -172,7 +180,8 @@ items all = map Ok all.records ++ error_item all.error
 abbrev pub records_left : RecordsOfCode → Records
 records_left walk = records_of walk.layout (is_big walk.endian) walk.bytes.now
 
--- What `next` returned: the first of the records that were left, or the error that ends them. After an error none are left.
+-- What `next` returned: the first of the records that were left, or the error that ends them. After
+-- an error none are left.
 abbrev pub Meets : Result (Option Record) PerfError → Records → Records → Type 0
 Meets (Ok None) old new = (old ≡ no_records None) × (new ≡ no_records None)
 Meets (Ok (Some r)) old new = old ≡ with_first r new

@@ -1,5 +1,7 @@
 -- Results one after the other, and what is read of a list of bytes.
-use Rattle.std.specs.Prelude.{ℕ, ◌+◌, ◌*◌, Bool, zero, suc, List, [], ◌∷◌, length, take, Option, Some, None, Result, Ok, Err, option_map, position, nat_le, slice_range, ◌==◌, if◌then◌else◌}
+use Rattle.std.specs.Prelude.{ℕ, ◌+◌, ◌*◌, Bool, zero, suc, List, [], ◌∷◌, length, take, Option}
+use Rattle.std.specs.Prelude.{Some, None, Result, Ok, Err, option_map, position, nat_le}
+use Rattle.std.specs.Prelude.{slice_range, ◌==◌, if◌then◌else◌}
 use Rattle.cfi_read_core.specs.declared.error.Error.{Error}
 use Rattle.cfi_read_core.specs.ReadFunctions.{Read, Source, ◌>>=◌, bytes, offset}
 use Rattle.cfi_read_core.specs.ReaderCalls.{read_at}
@@ -7,7 +9,8 @@ use Rattle.cfi_read_core.specs.SliceReaders.{slice_over}
 use Rattle.cfi_perf.specs.declared.error.PerfError.{PerfError}
 
 -- the first error, or what comes of the value
-abbrev pub and_then : {A B : Type 0} → Result A PerfError → (A → Result B PerfError) → Result B PerfError
+abbrev pub and_then :
+    {A B : Type 0} → Result A PerfError → (A → Result B PerfError) → Result B PerfError
 and_then (Ok x) next = next x
 and_then (Err e) next = Err e
 
@@ -25,7 +28,10 @@ or_missing error None = Err error
 
 -- size bytes from the offset on, if there are so many
 abbrev pub part : List ℕ → ℕ → ℕ → Option (List ℕ)
-part bytes offset size = if nat_le (offset + size) (length bytes) then Some (slice_range bytes offset (offset + size)) else None
+part bytes offset size =
+    if nat_le (offset + size) (length bytes)
+    then Some (slice_range bytes offset (offset + size))
+    else None
 
 -- the bytes before the first zero
 abbrev pub before_zero : List ℕ → Option (List ℕ)

@@ -1,5 +1,7 @@
 -- Samples, field by field (perf_event_open(2), PERF_RECORD_SAMPLE).
-use Rattle.std.specs.Prelude.{ℕ, ◌+◌, ◌*◌, ◌^◌, ◌/◌, ◌%◌, Bool, not, List, [], drop, take, Option, Some, None, Result, Ok, Err, count_ones, bit_and, option_map, ◌==◌, if◌then◌else◌}
+use Rattle.std.specs.Prelude.{ℕ, ◌+◌, ◌*◌, ◌^◌, ◌/◌, ◌%◌, Bool, not, List, [], drop, take, Option}
+use Rattle.std.specs.Prelude.{Some, None, Result, Ok, Err, count_ones, bit_and, option_map, ◌==◌}
+use Rattle.std.specs.Prelude.{if◌then◌else◌}
 use Rattle.std.specs.Int.{w32, w64}
 use Rattle.cfi_read_core.specs.ByteOrder.{is_big}
 use Rattle.cfi_read_core.specs.ReadFunctions.{Read, ◌>>=◌, give}
@@ -12,11 +14,17 @@ use Rattle.cfi_perf.specs.declared.sample_fields.Thread.{Thread}
 use Rattle.cfi_perf.specs.declared.sample_fields.SampleNumbers.{SampleNumbers}
 use Rattle.cfi_perf.specs.declared.sample_fields.TimedSample.{TimedSample as TimedSampleOfCode}
 use Rattle.cfi_perf.specs.Results.{items, read_from}
-use Rattle.cfi_perf.specs.Layouts.{has, has_any, PERF_SAMPLE_IP, PERF_SAMPLE_TID, PERF_SAMPLE_TIME, PERF_SAMPLE_ADDR, PERF_SAMPLE_READ, PERF_SAMPLE_CALLCHAIN, PERF_SAMPLE_ID, PERF_SAMPLE_CPU, PERF_SAMPLE_PERIOD, PERF_SAMPLE_STREAM_ID, PERF_SAMPLE_RAW, PERF_SAMPLE_BRANCH_STACK, PERF_SAMPLE_REGS_USER, PERF_SAMPLE_STACK_USER, PERF_SAMPLE_IDENTIFIER}
+use Rattle.cfi_perf.specs.Layouts.{has, has_any, PERF_SAMPLE_IP, PERF_SAMPLE_TID, PERF_SAMPLE_TIME}
+use Rattle.cfi_perf.specs.Layouts.{PERF_SAMPLE_ADDR, PERF_SAMPLE_READ, PERF_SAMPLE_CALLCHAIN}
+use Rattle.cfi_perf.specs.Layouts.{PERF_SAMPLE_ID, PERF_SAMPLE_CPU, PERF_SAMPLE_PERIOD}
+use Rattle.cfi_perf.specs.Layouts.{PERF_SAMPLE_STREAM_ID, PERF_SAMPLE_RAW, PERF_SAMPLE_BRANCH_STACK}
+use Rattle.cfi_perf.specs.Layouts.{PERF_SAMPLE_REGS_USER, PERF_SAMPLE_STACK_USER}
+use Rattle.cfi_perf.specs.Layouts.{PERF_SAMPLE_IDENTIFIER}
 
 -- ---- what a sample is
 
--- The registers of user space: one number of eight bytes for each bit of the mask that is set, in their order.
+-- The registers of user space: one number of eight bytes for each bit of the mask that is set, in
+-- their order.
 pub record UserRegisters : Type 0 where
   pub abi : ℕ
   pub mask : ℕ
@@ -46,18 +54,27 @@ has_register registers number = not ((registers.mask / 2 ^ number) % 2 == 0)
 abbrev pub register_of : UserRegisters → ℕ → Option ℕ
 register_of registers number =
     if has_register registers number
-    then ok_value (read_from registers.big_endian (drop (8 * count_ones (registers.mask % 2 ^ number)) registers.values) (unsigned w64))
+    then ok_value
+        (read_from registers.big_endian
+             (drop (8 * count_ones (registers.mask % 2 ^ number)) registers.values) (unsigned w64))
     else None
 
 -- what these are in the code
 abbrev pub registers_view : UserRegistersOfCode → UserRegisters
-registers_view registers = record { abi = registers.abi; mask = registers.mask; values = registers.values.now; big_endian = is_big registers.endian }
+registers_view registers = record {
+  abi = registers.abi;
+  mask = registers.mask;
+  values = registers.values.now;
+  big_endian = is_big registers.endian;
+}
 
 abbrev pub user_view : UserStateOfCode → UserState
-user_view user = record { registers = option_map registers_view user.registers; stack = user.stack.now }
+user_view user =
+    record { registers = option_map registers_view user.registers; stack = user.stack.now }
 
 abbrev pub sample_view : SampleOfCode → Sample
-sample_view sample = record { pid = sample.pid; tid = sample.tid; ip = sample.ip; user = user_view sample.user }
+sample_view sample =
+    record { pid = sample.pid; tid = sample.tid; ip = sample.ip; user = user_view sample.user }
 
 -- ---- fields that a sample may have
 
@@ -95,7 +112,8 @@ passed_numbers layout = do
   period ← number_if (has PERF_SAMPLE_PERIOD layout)
   give tt
 
--- one count, or several under PERF_FORMAT_GROUP (8): each value has an id (PERF_FORMAT_ID, 4) and a count of lost samples (PERF_FORMAT_LOST, 16) if these are chosen; the times (1 and 2) stand once
+-- one count, or several under PERF_FORMAT_GROUP (8): each value has an id (PERF_FORMAT_ID, 4) and a
+-- count of lost samples (PERF_FORMAT_LOST, 16) if these are chosen; the times (1 and 2) stand once
 unfoldable pub group_values : ℕ → Read Unit
 group_values format = do
   count ← unsigned w64
@@ -111,7 +129,10 @@ single_value format = do
 abbrev pub read_values : EventLayout → Read Unit
 read_values layout =
     if has PERF_SAMPLE_READ layout
-    then (if has_any 0x8 layout.read_format then group_values layout.read_format else single_value layout.read_format)
+    then
+        (if has_any 0x8 layout.read_format
+         then group_values layout.read_format
+         else single_value layout.read_format)
     else give tt
 
 -- a count, and as many numbers
@@ -128,7 +149,8 @@ raw_data = do
   bytes ← items size 1
   give tt
 
--- PERF_SAMPLE_BRANCH_HW_INDEX is 1 << 17; PERF_SAMPLE_BRANCH_COUNTERS is 1 << 19: another eight bytes for each branch
+-- PERF_SAMPLE_BRANCH_HW_INDEX is 1 << 17; PERF_SAMPLE_BRANCH_COUNTERS is 1 << 19: another eight
+-- bytes for each branch
 abbrev pub branch_size : ℕ → ℕ
 branch_size chosen = if has_any 0x80000 chosen then 32 else 24
 
@@ -147,7 +169,8 @@ passed_lists layout = do
   values ← read_values layout
   chain ← passed_if (has PERF_SAMPLE_CALLCHAIN layout) call_chain
   raw ← passed_if (has PERF_SAMPLE_RAW layout) raw_data
-  branches ← passed_if (has PERF_SAMPLE_BRANCH_STACK layout) (branch_stack layout.branch_sample_type)
+  branches ← passed_if (has PERF_SAMPLE_BRANCH_STACK layout)
+      (branch_stack layout.branch_sample_type)
   give tt
 
 -- ---- registers and stack
@@ -156,7 +179,17 @@ passed_lists layout = do
 abbrev pub registers_by : ℕ → ℕ → Read (Option UserRegisters)
 registers_by mask abi =
     if abi == 0 then give None
-    else (items (count_ones mask) 8 >>= λ values source. give (Some (record { abi = abi; mask = mask; values = values; big_endian = source.big_endian })) source)
+    else
+        (items (count_ones mask) 8 >>=
+             λ values source.
+                 give
+                     (Some (record {
+                        abi = abi;
+                        mask = mask;
+                        values = values;
+                        big_endian = source.big_endian;
+                      }))
+                     source)
 
 unfoldable pub registers : ℕ → Read (Option UserRegisters)
 registers mask = do
@@ -164,7 +197,8 @@ registers mask = do
   registers_by mask abi
 
 abbrev pub user_registers : EventLayout → Read (Option UserRegisters)
-user_registers layout = if has PERF_SAMPLE_REGS_USER layout then registers layout.sample_regs_user else give None
+user_registers layout =
+    if has PERF_SAMPLE_REGS_USER layout then registers layout.sample_regs_user else give None
 
 -- the bytes that were to be copied, and how many of them were
 unfoldable pub copied_stack : ℕ → Read (List ℕ)
@@ -207,4 +241,12 @@ sample layout = do
   ids ← passed_numbers layout
   lists ← passed_lists layout
   user ← user_state layout
-  give (record { time = numbers.time; sample = record { pid = numbers.thread.pid; tid = numbers.thread.tid; ip = numbers.ip; user = user } })
+  give (record {
+    time = numbers.time;
+    sample = record {
+      pid = numbers.thread.pid;
+      tid = numbers.thread.tid;
+      ip = numbers.ip;
+      user = user;
+    };
+  })

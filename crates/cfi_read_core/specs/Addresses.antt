@@ -1,10 +1,12 @@
 -- Addresses of 1, 2, 4 or 8 bytes (DWARF 5 section 7.3).
-use Rattle.std.specs.Prelude.{◌≡◌, ℕ, ◌+◌, ◌*◌, ◌^◌, ◌%◌, ◌⊎◌, Bool, true, false, ◌||◌, nat_lt, Option, Some, None, Result, Ok, Err, ◌==◌, if◌then◌else◌}
+use Rattle.std.specs.Prelude.{◌≡◌, ℕ, ◌+◌, ◌*◌, ◌^◌, ◌%◌, ◌⊎◌, Bool, true, false, ◌||◌, nat_lt}
+use Rattle.std.specs.Prelude.{Option, Some, None, Result, Ok, Err, ◌==◌, if◌then◌else◌}
 use Rattle.std.specs.Int.{Width, w8, w16, w32, w64}
 use Rattle.std.proofs.Common.{inl, inr}
 use Rattle.std.proofs.lemmas.Bool.{eqb-true}
 use Rattle.cfi_read_core.specs.declared.error.Error.{Error}
-use Rattle.cfi_read_core.specs.declared.error.Error.TheVariants.{UnsupportedAddressSize, AddressOverflow}
+use Rattle.cfi_read_core.specs.declared.error.Error.TheVariants.{UnsupportedAddressSize}
+use Rattle.cfi_read_core.specs.declared.error.Error.TheVariants.{AddressOverflow}
 use Rattle.cfi_read_core.specs.ReadFunctions.{Read, ◌>>=◌, give, refuse}
 use Rattle.cfi_read_core.specs.Numbers.{unsigned}
 
@@ -33,7 +35,10 @@ either true b f g h = inl (f h)
 either false b f g h = inr (g h)
 
 pub sized_by : (size : ℕ) → is_sized size ≡ true → IsAddressSize size
-sized_by size = either (size == 1) _ (eqb-true size 1) (either (size == 2) _ (eqb-true size 2) (either (size == 4) (size == 8) (eqb-true size 4) (eqb-true size 8)))
+sized_by size =
+    either (size == 1) _ (eqb-true size 1)
+        (either (size == 2) _ (eqb-true size 2)
+             (either (size == 4) (size == 8) (eqb-true size 4) (eqb-true size 8)))
 
 abbrev pub address_width : ℕ → Option Width
 address_width size =

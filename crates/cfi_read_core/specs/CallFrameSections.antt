@@ -1,5 +1,7 @@
--- The two sections of call frame information, and how they differ (DWARF 5 section 6.4.1; LSB Core, "The .eh_frame section").
-use Rattle.std.specs.Prelude.{ℕ, ◌≤◌, ◌-◌, Bool, true, false, Result, Ok, Err, nat_le, ◌==◌, if◌then◌else◌}
+-- The two sections of call frame information, and how they differ (DWARF 5 section 6.4.1; LSB Core,
+-- "The .eh_frame section").
+use Rattle.std.specs.Prelude.{ℕ, ◌≤◌, ◌-◌, Bool, true, false, Result, Ok, Err, nat_le, ◌==◌}
+use Rattle.std.specs.Prelude.{if◌then◌else◌}
 use Rattle.std.specs.Int.{Width, w32, w64}
 use Rattle.cfi_read_core.specs.declared.common.SectionId.{SectionId}
 use Rattle.cfi_read_core.specs.declared.common.SectionId.TheVariants as names
@@ -63,7 +65,8 @@ has_sizes EhFrame version = false
 -- where an FDE's CIE begins: .debug_frame gives the offset, .eh_frame how far it is before the id
 abbrev pub cie_offset_from : SectionKind → ℕ → ℕ → Result ℕ Error
 cie_offset_from DebugFrame id_offset id = Ok id
-cie_offset_from EhFrame id_offset id = if nat_le id id_offset then Ok (id_offset - id) else Err (OffsetOutOfBounds id)
+cie_offset_from EhFrame id_offset id =
+    if nat_le id id_offset then Ok (id_offset - id) else Err (OffsetOutOfBounds id)
 
 -- how many bytes the code's word for a width stands for
 abbrev pub width_of : CieOffsetEncoding → Width
@@ -71,4 +74,5 @@ width_of U32 = w32
 width_of U64 = w64
 
 pub IsOf_prop : (part section : Position) → IsProp (IsOf part section)
-IsOf_prop part section = hlevel (Coded-set (coded_list coded_ℕ), Coded-set coded_bool, Coded-set coded_ℕ, le_prop)
+IsOf_prop part section =
+    hlevel (Coded-set (coded_list coded_ℕ), Coded-set coded_bool, Coded-set coded_ℕ, le_prop)

@@ -1,18 +1,25 @@
--- Numbers of a fixed width, LEB128 numbers, initial lengths and texts at a place (DWARF 5 sections 7.4 to 7.6).
-use Rattle.std.specs.Prelude.{ℕ, ◌+◌, ◌-◌, ◌*◌, ◌^◌, ◌%◌, ℤ, pos, ◌-ℤ◌, Bool, false, not, ◌||◌, List, [], ◌∷◌, length, take, Result, Ok, Err, nat_lt, nat_le, ◌==◌, slice_index, Option, Some, None, if◌then◌else◌}
+-- Numbers of a fixed width, LEB128 numbers, initial lengths and texts at a place (DWARF 5 sections
+-- 7.4 to 7.6).
+use Rattle.std.specs.Prelude.{ℕ, ◌+◌, ◌-◌, ◌*◌, ◌^◌, ◌%◌, ℤ, pos, ◌-ℤ◌, Bool, false, not, ◌||◌}
+use Rattle.std.specs.Prelude.{List, [], ◌∷◌, length, take, Result, Ok, Err, nat_lt, nat_le, ◌==◌}
+use Rattle.std.specs.Prelude.{slice_index, Option, Some, None, if◌then◌else◌}
 use Rattle.std.specs.List.{prefix_len, slice_get}
 use Rattle.std.specs.Int.{Width, w32, w64, byte_len, from_be_bytes, from_le_bytes, cast_signed}
 use Rattle.cfi_read_core.specs.declared.common.Format.{Format}
 use Rattle.cfi_read_core.specs.declared.common.Format.TheVariants.{Dwarf32, Dwarf64}
 use Rattle.cfi_read_core.specs.declared.common.Register.{Register}
 use Rattle.cfi_read_core.specs.declared.error.Error.{Error}
-use Rattle.cfi_read_core.specs.declared.error.Error.TheVariants.{BadUnsignedLeb128, BadSignedLeb128, UnknownReservedLength, UnsupportedRegister}
-use Rattle.cfi_read_core.specs.ReadFunctions.{Read, ◌>>=◌, ◌>>◌, give, refuse, of_result, refuse_if, unexpected_eof, bytes, rest, offset}
+use Rattle.cfi_read_core.specs.declared.error.Error.TheVariants.{BadUnsignedLeb128, BadSignedLeb128}
+use Rattle.cfi_read_core.specs.declared.error.Error.TheVariants.{UnknownReservedLength}
+use Rattle.cfi_read_core.specs.declared.error.Error.TheVariants.{UnsupportedRegister}
+use Rattle.cfi_read_core.specs.ReadFunctions.{Read, ◌>>=◌, ◌>>◌, give, refuse, of_result, refuse_if}
+use Rattle.cfi_read_core.specs.ReadFunctions.{unexpected_eof, bytes, rest, offset}
 
 -- ---- fixed widths
 
 abbrev pub number_of : Width → Bool → List ℕ → ℕ
-number_of width big_endian bs = if big_endian then from_be_bytes width bs else from_le_bytes width bs
+number_of width big_endian bs =
+    if big_endian then from_be_bytes width bs else from_le_bytes width bs
 
 unfoldable pub unsigned : Width → Read ℕ
 unsigned width = do
@@ -72,7 +79,8 @@ signed_leb128_sum bs = number_by (is_below_zero bs) (leb128_sum bs) (128 ^ lengt
 unfoldable pub signed_leb128 : Read ℤ
 signed_leb128 = do
   bs ← leb128_bytes
-  refuse_if (is_bad_byte (λ tenth. not (tenth == 0 || tenth == 0x7f)) (slice_get bs 9)) BadSignedLeb128
+  refuse_if (is_bad_byte (λ tenth. not (tenth == 0 || tenth == 0x7f)) (slice_get bs 9))
+      BadSignedLeb128
   give (signed_leb128_sum bs)
 
 -- a LEB128 number that has to be an offset

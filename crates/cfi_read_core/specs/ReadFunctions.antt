@@ -1,5 +1,7 @@
 -- What a reader is, and reading as a function of the place where it begins.
-use Rattle.std.specs.Prelude.{◌-◌, ◌+◌, ℕ, zero, suc, Bool, true, false, List, [], ◌∷◌, take, drop, Option, Some, None, Result, Ok, Err, nat_le, ◌==◌, slice_range, if◌then◌else◌}
+use Rattle.std.specs.Prelude.{◌-◌, ◌+◌, ℕ, zero, suc, Bool, true, false, List, [], ◌∷◌, take, drop}
+use Rattle.std.specs.Prelude.{Option, Some, None, Result, Ok, Err, nat_le, ◌==◌, slice_range}
+use Rattle.std.specs.Prelude.{if◌then◌else◌}
 use Rattle.cfi_read_core.specs.declared.error.Error.{Error}
 use Rattle.cfi_read_core.specs.declared.error.Error.TheVariants.{UnexpectedEof, UnsupportedOffset}
 
@@ -46,7 +48,8 @@ carry_on next source (Err e) place = record { value = Err e; place = place }
 -- one read after the other; a refused read is the last
 infixl 10 ◌>>=◌
 abbrev pub ◌>>=◌ : {A B : Type 0} → Read A → (A → Read B) → Read B
-read >>= next = λ source place. carry_on next source (read source place).value (read source place).place
+read >>= next =
+    λ source place. carry_on next source (read source place).value (read source place).place
 
 infixl 10 ◌>>◌
 abbrev pub ◌>>◌ : {A B : Type 0} → Read A → Read B → Read B
@@ -88,15 +91,24 @@ bytes n = split n >>= λ extent source. give (bytes_of source extent) source
 
 -- all that is left
 abbrev pub remainder : Read Extent
-remainder = λ source place. record { value = Ok (record { first = place; last = source.last }); place = source.last }
+remainder =
+    λ source place.
+        record { value = Ok (record { first = place; last = source.last }); place = source.last }
 
 -- reads an extent from its first place; the outer reader stays where it was
 abbrev pub within : {A : Type 0} → Extent → Read A → Read A
-within extent read = λ source place. record { value = (read (record source { last = extent.last }) extent.first).value; place = place }
+within extent read =
+    λ source place.
+        record {
+          value = (read (record source { last = extent.last }) extent.first).value;
+          place = place;
+        }
 
 -- a number that has to be an offset
 abbrev pub offset : ℕ → Read ℕ
-offset n = λ source place. (if nat_le n source.greatest then give n else refuse UnsupportedOffset) source place
+offset n =
+    λ source place.
+        (if nat_le n source.greatest then give n else refuse UnsupportedOffset) source place
 
 -- the read that a table has for a number, or the other one where it has none
 abbrev pub chosen_from : {A : Type 0} → ℕ → List (ℕ × Read A) → Read A → Read A
@@ -132,4 +144,6 @@ readings_up_to (suc n) read source place =
 
 -- What it gives over an extent. Each value is to take a byte at least.
 abbrev pub readings_over : {A : Type 0} → Extent → Read A → Source → Readings A
-readings_over extent read source = readings_up_to (extent.last - extent.first) read (record source { last = extent.last }) extent.first
+readings_over extent read source =
+    readings_up_to (extent.last - extent.first) read (record source { last = extent.last })
+        extent.first

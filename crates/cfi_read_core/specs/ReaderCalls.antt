@@ -1,8 +1,10 @@
 -- What a reader of the code is, and what its calls return.
-use Rattle.std.specs.Prelude.{◌≡◌, ◌≤◌, ◌-◌, ℕ, Bool, List, length, Result, Ok, Err, ok_or, position, ◌==◌, nat_eq}
+use Rattle.std.specs.Prelude.{◌≡◌, ◌≤◌, ◌-◌, ℕ, Bool, List, length, Result, Ok, Err, ok_or}
+use Rattle.std.specs.Prelude.{position, ◌==◌, nat_eq}
 use mathlib.Core.Bool.{beq}
 use Rattle.std.specs.Ordering.{on, eq_of_both}
-use Rattle.std.specs.Cmp.{IsEquivalence, IsPartialEquivalence, on_equiv, and_equiv, nat_eq_equiv, bool_eq_equiv, partial_equiv_from_equiv}
+use Rattle.std.specs.Cmp.{IsEquivalence, IsPartialEquivalence, on_equiv, and_equiv, nat_eq_equiv}
+use Rattle.std.specs.Cmp.{bool_eq_equiv, partial_equiv_from_equiv}
 use Rattle.std.specs.Cmp.Lexicographic.{pointwise, lists_equiv}
 use Rattle.cfi_read_core.specs.declared.error.Error.{Error}
 use Rattle.cfi_read_core.specs.ReadFunctions.{Position, Extent, Read, rest, unexpected_eof}
@@ -38,7 +40,10 @@ one_back s = record { source = s.source; place = s.place - 1 }
 -- ---- readers over bytes
 
 abbrev pub all_of : List ℕ → Bool → ℕ → Position
-all_of bytes big greatest = record { source = record { whole = bytes; last = length bytes; big_endian = big; greatest = greatest }; place = 0 }
+all_of bytes big greatest = record {
+  source = record { whole = bytes; last = length bytes; big_endian = big; greatest = greatest };
+  place = 0;
+}
 
 -- a reader of the same source with an end of its own
 abbrev pub IsPartOf : Position → Position → Type 0
@@ -50,13 +55,16 @@ abbrev pub map_ok : {A B E : Type 0} → (A → B) → Result A E → Result B E
 map_ok f (Ok x) = Ok (f x)
 map_ok f (Err e) = Err e
 
--- What a call returned, seen by view, and the place of the reader after it are those of the read. The source stays the same.
+-- What a call returned, seen by view, and the place of the reader after it are those of the read.
+-- The source stays the same.
 abbrev pub Reads : {X A : Type 0} → (X → A) → Read A → Position → Result X Error → Position → Type 0
 Reads view read old answer new =
-    (read old.source old.place ≡ record { value = map_ok view answer; place = new.place }) × (new.source ≡ old.source)
+    (read old.source old.place ≡ record { value = map_ok view answer; place = new.place })
+    × (new.source ≡ old.source)
 
 -- The same for readers of the code, whose position is given by `position`.
-abbrev pub ReadsBy : {R X A : Type 0} → (R → Position) → (X → A) → Read A → R → Result X Error → R → Type 0
+abbrev pub ReadsBy :
+    {R X A : Type 0} → (R → Position) → (X → A) → Read A → R → Result X Error → R → Type 0
 ReadsBy position view read old answer new = Reads view read (position old) answer (position new)
 
 -- The same for a call that returns the very value that is read.
@@ -77,7 +85,9 @@ abbrev pub same_reader : Position → Position → Bool
 same_reader = eq_of_both (on bytes_left (pointwise nat_eq)) (on (λ s. s.source.big_endian) beq)
 
 pub same_reader-equiv : IsEquivalence same_reader
-same_reader-equiv = and_equiv (on_equiv bytes_left (lists_equiv nat_eq_equiv)) (on_equiv (λ s. s.source.big_endian) bool_eq_equiv)
+same_reader-equiv =
+    and_equiv (on_equiv bytes_left (lists_equiv nat_eq_equiv))
+        (on_equiv (λ s. s.source.big_endian) bool_eq_equiv)
 
 pub same_reader-per : IsPartialEquivalence same_reader
 same_reader-per = partial_equiv_from_equiv same_reader-equiv

@@ -3,7 +3,33 @@
 --     errors      all of them, in the order of their numbers
 use Rattle.std.specs.Prelude.{ℕ, List, [], ◌∷◌, codes}
 use Rattle.cfi_read_core.specs.declared.error.Error.{Error}
-use Rattle.cfi_read_core.specs.declared.error.Error.TheVariants.{UnexpectedEof, BadUnsignedLeb128, BadSignedLeb128, UnknownReservedLength, UnsupportedAddressSize, UnsupportedOffset, UnsupportedRegister, AddressOverflow, UnknownVersion, UnsupportedSegmentSize, UnknownAugmentation, UnknownPointerEncoding, CannotParseOmitPointerEncoding, UnsupportedPointerEncoding, PcRelativePointerButSectionBaseIsUndefined, TextRelativePointerButTextBaseIsUndefined, DataRelativePointerButDataBaseIsUndefined, FuncRelativePointerInBadContext, UnsupportedIndirectPointer, NotCieId, NotCiePointer, NoEntryAtGivenOffset, OffsetOutOfBounds, UnknownCallFrameInstruction, CfiInstructionInInvalidContext, InvalidCfiSetLoc, StackFull, PopWithEmptyStack, TooManyRegisterRules, NoUnwindInfoForAddress, OutOfMemory}
+use Rattle.cfi_read_core.specs.declared.error.Error.TheVariants.{UnexpectedEof, BadUnsignedLeb128}
+use Rattle.cfi_read_core.specs.declared.error.Error.TheVariants.{BadSignedLeb128}
+use Rattle.cfi_read_core.specs.declared.error.Error.TheVariants.{UnknownReservedLength}
+use Rattle.cfi_read_core.specs.declared.error.Error.TheVariants.{UnsupportedAddressSize}
+use Rattle.cfi_read_core.specs.declared.error.Error.TheVariants.{UnsupportedOffset}
+use Rattle.cfi_read_core.specs.declared.error.Error.TheVariants.{UnsupportedRegister}
+use Rattle.cfi_read_core.specs.declared.error.Error.TheVariants.{AddressOverflow, UnknownVersion}
+use Rattle.cfi_read_core.specs.declared.error.Error.TheVariants.{UnsupportedSegmentSize}
+use Rattle.cfi_read_core.specs.declared.error.Error.TheVariants.{UnknownAugmentation}
+use Rattle.cfi_read_core.specs.declared.error.Error.TheVariants.{UnknownPointerEncoding}
+use Rattle.cfi_read_core.specs.declared.error.Error.TheVariants.{CannotParseOmitPointerEncoding}
+use Rattle.cfi_read_core.specs.declared.error.Error.TheVariants.{UnsupportedPointerEncoding}
+use Rattle.cfi_read_core.specs.declared.error.Error.TheVariants.{PcRelativePointerButSectionBaseIsUndefined}
+use Rattle.cfi_read_core.specs.declared.error.Error.TheVariants.{TextRelativePointerButTextBaseIsUndefined}
+use Rattle.cfi_read_core.specs.declared.error.Error.TheVariants.{DataRelativePointerButDataBaseIsUndefined}
+use Rattle.cfi_read_core.specs.declared.error.Error.TheVariants.{FuncRelativePointerInBadContext}
+use Rattle.cfi_read_core.specs.declared.error.Error.TheVariants.{UnsupportedIndirectPointer}
+use Rattle.cfi_read_core.specs.declared.error.Error.TheVariants.{NotCieId, NotCiePointer}
+use Rattle.cfi_read_core.specs.declared.error.Error.TheVariants.{NoEntryAtGivenOffset}
+use Rattle.cfi_read_core.specs.declared.error.Error.TheVariants.{OffsetOutOfBounds}
+use Rattle.cfi_read_core.specs.declared.error.Error.TheVariants.{UnknownCallFrameInstruction}
+use Rattle.cfi_read_core.specs.declared.error.Error.TheVariants.{CfiInstructionInInvalidContext}
+use Rattle.cfi_read_core.specs.declared.error.Error.TheVariants.{InvalidCfiSetLoc, StackFull}
+use Rattle.cfi_read_core.specs.declared.error.Error.TheVariants.{PopWithEmptyStack}
+use Rattle.cfi_read_core.specs.declared.error.Error.TheVariants.{TooManyRegisterRules}
+use Rattle.cfi_read_core.specs.declared.error.Error.TheVariants.{NoUnwindInfoForAddress}
+use Rattle.cfi_read_core.specs.declared.error.Error.TheVariants.{OutOfMemory}
 
 pub record NumberedName : Type 0 where
   pub number : ℕ
@@ -27,16 +53,21 @@ numbered_name UnknownAugmentation = numbered 11 (codes "UnknownAugmentation")
 numbered_name (UnknownPointerEncoding e) = numbered 12 (codes "UnknownPointerEncoding")
 numbered_name CannotParseOmitPointerEncoding = numbered 13 (codes "CannotParseOmitPointerEncoding")
 numbered_name (UnsupportedPointerEncoding e) = numbered 14 (codes "UnsupportedPointerEncoding")
-numbered_name PcRelativePointerButSectionBaseIsUndefined = numbered 15 (codes "PcRelativePointerButSectionBaseIsUndefined")
-numbered_name TextRelativePointerButTextBaseIsUndefined = numbered 16 (codes "TextRelativePointerButTextBaseIsUndefined")
-numbered_name DataRelativePointerButDataBaseIsUndefined = numbered 17 (codes "DataRelativePointerButDataBaseIsUndefined")
-numbered_name FuncRelativePointerInBadContext = numbered 18 (codes "FuncRelativePointerInBadContext")
+numbered_name PcRelativePointerButSectionBaseIsUndefined =
+    numbered 15 (codes "PcRelativePointerButSectionBaseIsUndefined")
+numbered_name TextRelativePointerButTextBaseIsUndefined =
+    numbered 16 (codes "TextRelativePointerButTextBaseIsUndefined")
+numbered_name DataRelativePointerButDataBaseIsUndefined =
+    numbered 17 (codes "DataRelativePointerButDataBaseIsUndefined")
+numbered_name FuncRelativePointerInBadContext =
+    numbered 18 (codes "FuncRelativePointerInBadContext")
 numbered_name UnsupportedIndirectPointer = numbered 19 (codes "UnsupportedIndirectPointer")
 numbered_name (NotCieId n) = numbered 20 (codes "NotCieId")
 numbered_name (NotCiePointer n) = numbered 21 (codes "NotCiePointer")
 numbered_name (NoEntryAtGivenOffset n) = numbered 22 (codes "NoEntryAtGivenOffset")
 numbered_name (OffsetOutOfBounds n) = numbered 23 (codes "OffsetOutOfBounds")
-numbered_name (UnknownCallFrameInstruction opcode) = numbered 24 (codes "UnknownCallFrameInstruction")
+numbered_name (UnknownCallFrameInstruction opcode) =
+    numbered 24 (codes "UnknownCallFrameInstruction")
 numbered_name CfiInstructionInInvalidContext = numbered 25 (codes "CfiInstructionInInvalidContext")
 numbered_name (InvalidCfiSetLoc n) = numbered 26 (codes "InvalidCfiSetLoc")
 numbered_name StackFull = numbered 27 (codes "StackFull")

@@ -7,13 +7,15 @@ use Rattle.cfi_entry.specs.Sections.{Section}
 use Rattle.cfi_entry.specs.Prefixes.{Prefix, prefix}
 use Rattle.cfi_entry.specs.Entries.{Entry, entry_of}
 
--- A reader that goes through a section has its bytes and its end, and stands no earlier than its first place.
+-- A reader that goes through a section has its bytes and its end, and stands no earlier than its
+-- first place.
 pub record GoesThrough (reader section : Position) : Type 0 where
   pub source : reader.source ≡ section.source
   pub first : section.place ≤ reader.place
 
 pub GoesThrough_prop : (reader section : Position) → IsProp (GoesThrough reader section)
-GoesThrough_prop reader section = hlevel (Coded-set (coded_list coded_ℕ), Coded-set coded_bool, Coded-set coded_ℕ, le_prop)
+GoesThrough_prop reader section =
+    hlevel (Coded-set (coded_list coded_ℕ), Coded-set coded_bool, Coded-set coded_ℕ, le_prop)
 
 -- the entry of a prefix, or none where there is none
 abbrev pub entry_of_prefix : Section → Option Prefix → Read (Option Entry)

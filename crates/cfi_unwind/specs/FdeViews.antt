@@ -1,7 +1,9 @@
--- An FDE of the code as what it means: the place of a reader gives its extent, and an offset is a number.
+-- An FDE of the code as what it means: the place of a reader gives its extent, and an offset is a
+-- number.
 --     fde_view position number fde      the FDE
 --     fde_cie fde      its CIE, as the code has it
---     IsFdeOf, HasCieOf position section fde      the FDE and its CIE are read from the bytes of the section
+--     IsFdeOf, HasCieOf position section fde      the FDE and its CIE are read from the bytes of
+--         the section
 use Rattle.std.specs.Prelude.{ℕ}
 use Rattle.cfi_read_core.specs.ReadFunctions.{Position}
 use Rattle.cfi_read_core.specs.ReaderCalls.{extent_of}
