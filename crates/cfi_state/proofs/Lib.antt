@@ -30,5 +30,4 @@ pub mod Equal
 pub mod Contexts
 pub mod ContextEquality
 pub mod Evaluation
-pub mod Runs
 pub mod MappedEquality

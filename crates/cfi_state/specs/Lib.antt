@@ -19,7 +19,6 @@ pub mod AcceptedInstructions
 pub mod StorageRefusals
 pub mod RulePairs
 pub mod UnwindContexts
-pub mod ActionEffects
 pub mod ContextEffects
 pub mod Equality
 pub mod EqualityLaws

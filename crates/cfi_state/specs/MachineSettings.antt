@@ -2,10 +2,13 @@
 -- move the location, and where to.
 --     Setting      the entry's factors and addresses, and the storage's limits
 --     next_location      the location after an instruction
+--     rule_given      the register that an action gives a rule, and the rule
 use Rattle.std.specs.Prelude.{ℕ, ◌+◌, ◌*◌, ◌%◌, ◌^◌, Bool, true, false, ◌==◌, ℤ, Option, Some, None}
 use Rattle.cfi_read_core.specs.Addresses.{fits}
+use Rattle.cfi_read_core.specs.declared.common.Register.{Register}
 use Rattle.cfi_read_core.specs.declared.instruction.CallFrameInstruction.{CallFrameInstruction}
-use Rattle.cfi_state.specs.Actions.{Action, sets_location, advances_location, remembers_state, restores_state, toggles_sign_state, action}
+use Rattle.cfi_state.specs.declared.table.rules.RegisterRule.{RegisterRule}
+use Rattle.cfi_state.specs.Actions.{Action, sets_location, advances_location, gives_rule, remembers_state, restores_state, toggles_sign_state, action}
 
 -- A limit of `None` is no limit.
 pub record Setting : Type 0 where
@@ -60,6 +63,12 @@ module _ {T : Type 0} where
   abbrev pub is_toggle : Action T → Bool
   is_toggle toggles_sign_state = true
   is_toggle _ = false
+
+  -- the register that an action gives a rule, and the rule (DWARF 5, section 6.4.2.3)
+  abbrev pub rule_given : Setting → Action T → Option (Register × RegisterRule T)
+  rule_given setting (gives_rule register rule) =
+      Some (register, rule setting.data_alignment_factor)
+  rule_given setting _ = None
 
   -- ---- of instructions
 

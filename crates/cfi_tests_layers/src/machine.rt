@@ -6,10 +6,11 @@ ghost use Rattle.std.proofs.Common.{lit≤};
 use arrayvec::ArrayVec;
 use cfi_read_core::address::AddressSize;
 use cfi_read_core::instruction::CallFrameInstruction;
+use cfi_read_core::instruction::visitor::InstructionVisitor;
 use cfi_read_core::{Error, ReaderOffset, Register, Result, StoreOnHeap};
 use cfi_state::storage::{StoreGrowing, UnwindContextStorage};
 use cfi_state::table::context::UnwindContext;
-use cfi_state::table::machine::{Parameters, current_row, end_cie, evaluate, reset};
+use cfi_state::table::machine::{InstructionRunner, Parameters, current_row, end_cie, reset};
 use cfi_state::table::row::UnwindTableRow;
 use cfi_state::table::rules::RegisterRule;
 use std::alloc::Global;
@@ -49,7 +50,11 @@ fn run<S: UnwindContextStorage<usize>>(
 ) -> Result<Option<u64>>
     ensures { context.new.initial_rules ≡ context.old.initial_rules }
 {
-    evaluate(context, &parameters(), 0x1000, instruction)
+    let runner = InstructionRunner {
+        parameters: &parameters(),
+        location: 0x1000,
+    };
+    runner.other(context, instruction)
 }
 
 /// The rule of register 6 in the current row, and how many registers have one.

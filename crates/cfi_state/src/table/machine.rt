@@ -2,18 +2,19 @@
 //!
 //! What the crates above this one do to a context is here, and not among its methods, so users of
 //! an unwind context do not see it.
-ghost use Rattle.std.specs.Prelude.{◌≡◌, ℕ, None, IfOk, is_some, true, false};
+ghost use Rattle.std.specs.Prelude.{◌≡◌, ℕ, None};
 ghost use Rattle.std.specs.Int.{w64, int_wrapping_mul};
-ghost use Rattle.cfi_state.specs.MachineSettings.{Setting, is_move};
+ghost use Rattle.cfi_state.specs.MachineSettings.{Setting, rule_given};
+ghost use Rattle.cfi_state.specs.Machine.{State, with_cfa, set_cfa_register, set_cfa_offset};
+ghost use Rattle.cfi_read_core.specs.ReaderCalls.{map_ok};
 ghost use Rattle.cfi_read_core.specs.declared.instruction.CallFrameInstruction.TheVariants
     as instruction;
 ghost use Rattle.cfi_state.specs.Row.{at_addresses};
 ghost use Rattle.cfi_state.specs.declared.table.rules.RegisterRule.TheVariants as rule;
 ghost use Rattle.cfi_state.specs.UnwindContexts.{empty_context, machine_state, with_row};
 ghost use Rattle.cfi_state.specs.declared.table.machine.Parameters.{Parameters};
-ghost use Rattle.cfi_state.specs.ContextEffects.{setting_of, Changes, Evaluates, EndsCie, Runs};
+ghost use Rattle.cfi_state.specs.ContextEffects.{setting_of, Changes, EndsCie, Runs};
 ghost use Rattle.cfi_state.specs.Actions.{action, unsigned_factored};
-ghost use Rattle.cfi_state.specs.ActionEffects as effects;
 
 use super::context::UnwindContext;
 use super::row::UnwindTableRow;
@@ -80,7 +81,19 @@ pub fn set_addresses<T: ReaderOffset, S: UnwindContextStorage<T>>(
     context.set_addresses(start, end);
 }
 
-/// Runs an instruction at a location. A visit returns what `evaluate` returns.
+/// Runs an instruction at a location (DWARF 5 section 6.4.2). A visit returns the address that the
+/// instruction moves to, or `None` if it is not a move.
+///
+/// A move leaves the context as it is. So does every error:
+///
+/// - `InvalidCfiSetLoc`: the address is below the location.
+/// - `AddressOverflow`: the new location does not fit the address size.
+/// - `CfiInstructionInInvalidContext`: the instruction sets the register or the offset of a CFA
+///   that is an expression, restores a rule in a CIE, or toggles a sign state that is not a
+///   constant.
+/// - `TooManyRegisterRules`, `StackFull`: the storage's rules or rows are at their limit.
+/// - `PopWithEmptyStack`: no row is remembered.
+/// - `OutOfMemory`: a list without a limit grows, or a row is remembered whose copy allocates.
 #[derive(Clone, Copy, Debug)]
 pub struct InstructionRunner<'a> {
     /// What stays fixed while the programs run.
@@ -99,7 +112,10 @@ impl<T: ReaderOffset, S: UnwindContextStorage<T>> InstructionVisitor<T, UnwindCo
 
     #[inline(always)]
     fn advance(&self, _context: &mut UnwindContext<T, S>, delta: u32) -> Self::Answer {
-        advance(self.parameters, self.location, delta)
+        let distance = u64::from(delta).wrapping_mul(self.parameters.code_alignment_factor);
+        let size = self.parameters.address_size.bytes();
+        let address = self.location.add_sized(distance, size)?;
+        Ok(Some(address))
     }
 
     #[inline(always)]
@@ -137,17 +153,15 @@ impl<T: ReaderOffset, S: UnwindContextStorage<T>> InstructionVisitor<T, UnwindCo
         context: &mut UnwindContext<T, S>,
         register: Register,
     ) -> Self::Answer {
-        if let Some(cfa) = with_register(*context.row().cfa(), register)? {
-            context.set_cfa(cfa);
-        }
+        let cfa = with_register(*context.row().cfa(), register)?;
+        context.set_cfa(cfa);
         Ok(None)
     }
 
     #[inline(always)]
     fn def_cfa_offset(&self, context: &mut UnwindContext<T, S>, offset: u64) -> Self::Answer {
-        if let Some(cfa) = with_offset(*context.row().cfa(), offset.cast_signed())? {
-            context.set_cfa(cfa);
-        }
+        let cfa = with_offset(*context.row().cfa(), offset.cast_signed())?;
+        context.set_cfa(cfa);
         Ok(None)
     }
 
@@ -179,106 +193,108 @@ impl<T: ReaderOffset, S: UnwindContextStorage<T>> InstructionVisitor<T, UnwindCo
     {
         // As in the methods above, what a call returns is taken apart here, so that the room for it
         // is of this method alone.
-        let moved = evaluate(context, self.parameters, self.location, instruction)?;
+        let moved = self.evaluate(context, instruction)?;
         Ok(moved)
     }
 }
 
-/// The location moved by `DW_CFA_advance_loc` (DWARF 5 section 6.4.2.1). Fails with
-/// `AddressOverflow` if it does not fit the address size.
-#[inline(always)]
-fn advance(parameters: &Parameters, location: u64, delta: u32) -> Result<Option<u64>>
-    ensures { result ≡ effects.advanced (setting_of parameters.now None None) location delta }
-{
-    let distance = u64::from(delta).wrapping_mul(parameters.code_alignment_factor);
-    let address = location.add_sized(distance, parameters.address_size.bytes())?;
-    Ok(Some(address))
-}
-
-/// The rule of a register that is saved at an offset from the CFA.
-#[inline(always)]
-fn at_offset<T: ReaderOffset>(parameters: &Parameters, factored_offset: u64) -> RegisterRule<T>
-    ensures { result ≡ rule.Offset
-        (unsigned_factored factored_offset parameters.now.data_alignment_factor) }
-{
-    RegisterRule::Offset(parameters.factored(factored_offset.cast_signed()))
-}
-
-/// Runs one instruction at a location (DWARF 5 section 6.4.2). Returns the address that it moves
-/// to, or `None` if it is not a move.
-///
-/// A move leaves the context as it is. So does every error:
-///
-/// - `InvalidCfiSetLoc`: the address is below the location.
-/// - `AddressOverflow`: the new location does not fit the address size.
-/// - `CfiInstructionInInvalidContext`: the instruction sets the register or the offset of a CFA
-///   that is an expression, restores a rule in a CIE, or toggles a sign state that is not a
-///   constant.
-/// - `TooManyRegisterRules`, `StackFull`: the storage's rules or rows are at their limit.
-/// - `PopWithEmptyStack`: no row is remembered.
-/// - `OutOfMemory`: a list without a limit grows, or a row is remembered whose copy allocates.
-#[inline(never)]
-pub fn evaluate<T: ReaderOffset, S: UnwindContextStorage<T>>(
-    context: &mut UnwindContext<T, S>,
-    parameters: &Parameters,
-    location: u64,
-    instruction: CallFrameInstruction<T>,
-) -> Result<Option<u64>>
-    ensures step { Evaluates (setting_of parameters.now S.Rules.limit S.Stack.limit)
-        S.Rules.copies_free location instruction context.old context.new result }
-    ensures moves { IfOk result (λ moved. is_some moved ≡ is_move instruction) }
-    ensures initial_rules { context.new.initial_rules ≡ context.old.initial_rules }
-{
-    if let Some(address) = target(parameters, location, instruction)? {
-        return Ok(Some(address));
-    }
-    change(context, parameters, instruction)?;
-    Ok(None)
-}
-
-/// Runs an instruction that is not a move.
-#[inline(always)]
-fn change<T: ReaderOffset, S: UnwindContextStorage<T>>(
-    context: &mut UnwindContext<T, S>,
-    parameters: &Parameters,
-    instruction: CallFrameInstruction<T>,
-) -> Result<()>
-    requires { is_move instruction ≡ false }
-    ensures { (location : ℕ) →
-        Changes (setting_of parameters.now S.Rules.limit S.Stack.limit) S.Rules.copies_free
-        location instruction context.old context.new result }
-{
-    if let Some(cfa) = cfa_given(parameters, *context.row().cfa(), instruction)? {
-        context.set_cfa(cfa);
-        return Ok(());
-    }
-    if let Some((register, rule)) = rule_given(parameters, instruction) {
-        return context.set_rule(register, rule);
-    }
-    change_state(context, instruction)
-}
-
-/// Runs an instruction that neither moves nor gives the CFA or a register a rule.
-#[inline(always)]
-fn change_state<T: ReaderOffset, S: UnwindContextStorage<T>>(
-    context: &mut UnwindContext<T, S>,
-    instruction: CallFrameInstruction<T>,
-) -> Result<()>
-    requires { effects.is_of_state (action instruction) ≡ true }
-    ensures { (parameters : Parameters) (location : ℕ) →
-        Changes (setting_of parameters S.Rules.limit S.Stack.limit) S.Rules.copies_free
-        location instruction context.old context.new result }
-{
-    match instruction {
-        CallFrameInstruction::Restore { register } => restore_rule(context, register),
-        CallFrameInstruction::NegateRaState => negate_ra_state(context),
-        CallFrameInstruction::RememberState => context.remember(),
-        CallFrameInstruction::RestoreState => context.restore(),
-        CallFrameInstruction::ArgsSize { size } => {
-            context.set_saved_args_size(size);
-            Ok(())
+impl InstructionRunner<'_> {
+    /// Runs an instruction that comes as a value, which few programs have.
+    #[inline(never)]
+    fn evaluate<T: ReaderOffset, S: UnwindContextStorage<T>>(
+        &self,
+        context: &mut UnwindContext<T, S>,
+        instruction: CallFrameInstruction<T>,
+    ) -> Result<Option<u64>>
+        ensures { Runs (setting_of self.now.parameters.now S.Rules.limit S.Stack.limit)
+            S.Rules.copies_free self.now.location instruction context.old context.new result }
+    {
+        if let Some((register, rule)) = rule_given(self.parameters, instruction) {
+            context.set_rule(register, rule)?;
+            return Ok(None);
         }
-        _ => Ok(()),
+        match instruction {
+            CallFrameInstruction::SetLoc { address } => self.set_loc(context, address),
+            CallFrameInstruction::AdvanceLoc { delta } => self.advance(context, delta),
+            CallFrameInstruction::DefCfa { register, offset } => {
+                self.def_cfa(context, register, offset)
+            }
+            CallFrameInstruction::DefCfaSf {
+                register,
+                factored_offset,
+            } => self.def_cfa_sf(context, register, factored_offset),
+            CallFrameInstruction::DefCfaRegister { register } => {
+                self.def_cfa_register(context, register)
+            }
+            CallFrameInstruction::DefCfaOffset { offset } => self.def_cfa_offset(context, offset),
+            CallFrameInstruction::DefCfaOffsetSf { factored_offset } => {
+                self.def_cfa_offset_sf(context, factored_offset)
+            }
+            CallFrameInstruction::DefCfaExpression { expression } => {
+                context.set_cfa(CfaRule::Expression(expression));
+                Ok(None)
+            }
+            CallFrameInstruction::Restore { register } => self.restore(context, register),
+            CallFrameInstruction::NegateRaState => negate_ra_state(context).and(Ok(None)),
+            CallFrameInstruction::RememberState => self.remember_state(context),
+            CallFrameInstruction::RestoreState => self.restore_state(context),
+            CallFrameInstruction::ArgsSize { size } => {
+                context.set_saved_args_size(size);
+                Ok(None)
+            }
+            _ => self.nop(context),
+        }
+    }
+
+    /// `DW_CFA_set_loc` (DWARF 5 section 6.4.2.1): a move to the address.
+    #[inline(always)]
+    fn set_loc<T: ReaderOffset, S: UnwindContextStorage<T>>(
+        &self,
+        _context: &mut UnwindContext<T, S>,
+        address: u64,
+    ) -> Result<Option<u64>>
+        ensures { Runs (setting_of self.now.parameters.now S.Rules.limit S.Stack.limit)
+            S.Rules.copies_free self.now.location (instruction.SetLoc address)
+            _context.old _context.new result }
+    {
+        if address < self.location {
+            return Err(Error::InvalidCfiSetLoc(address));
+        }
+        Ok(Some(address))
+    }
+
+    /// `DW_CFA_def_cfa_sf` (DWARF 5 section 6.4.2.2): the register and a factored offset.
+    #[inline(always)]
+    fn def_cfa_sf<T: ReaderOffset, S: UnwindContextStorage<T>>(
+        &self,
+        context: &mut UnwindContext<T, S>,
+        register: Register,
+        factored_offset: i64,
+    ) -> Result<Option<u64>>
+        ensures { Runs (setting_of self.now.parameters.now S.Rules.limit S.Stack.limit)
+            S.Rules.copies_free self.now.location (instruction.DefCfaSf register factored_offset)
+            context.old context.new result }
+    {
+        let offset = self.parameters.factored(factored_offset);
+        context.set_cfa(CfaRule::RegisterAndOffset { register, offset });
+        Ok(None)
+    }
+
+    /// `DW_CFA_def_cfa_offset_sf` (DWARF 5 section 6.4.2.2): another offset, which is factored.
+    #[inline(always)]
+    fn def_cfa_offset_sf<T: ReaderOffset, S: UnwindContextStorage<T>>(
+        &self,
+        context: &mut UnwindContext<T, S>,
+        factored_offset: i64,
+    ) -> Result<Option<u64>>
+        ensures { Runs (setting_of self.now.parameters.now S.Rules.limit S.Stack.limit)
+            S.Rules.copies_free self.now.location (instruction.DefCfaOffsetSf factored_offset)
+            context.old context.new result }
+    {
+        let offset = self.parameters.factored(factored_offset);
+        let cfa = with_offset(*context.row().cfa(), offset)?;
+        context.set_cfa(cfa);
+        Ok(None)
     }
 }
 
@@ -299,72 +315,24 @@ pub fn end_cie<T: ReaderOffset, S: UnwindContextStorage<T>>(
     context.save_initial_rules()
 }
 
-/// The address that a move goes to (DWARF 5 section 6.4.2.1), `None` if the instruction is not a
-/// move. Fails with `InvalidCfiSetLoc` or `AddressOverflow`.
+/// The rule of a register that is saved at an offset from the CFA.
 #[inline(always)]
-fn target<T: ReaderOffset>(
-    parameters: &Parameters,
-    location: u64,
-    instruction: CallFrameInstruction<T>,
-) -> Result<Option<u64>>
-    ensures { result
-        ≡ effects.target (setting_of parameters.now None None) location (action instruction) }
+fn at_offset<T: ReaderOffset>(parameters: &Parameters, factored_offset: u64) -> RegisterRule<T>
+    ensures { result ≡ rule.Offset
+        (unsigned_factored factored_offset parameters.now.data_alignment_factor) }
 {
-    match instruction {
-        CallFrameInstruction::SetLoc { address } => {
-            if address < location {
-                return Err(Error::InvalidCfiSetLoc(address));
-            }
-            Ok(Some(address))
-        }
-        CallFrameInstruction::AdvanceLoc { delta } => advance(parameters, location, delta),
-        _ => Ok(None),
-    }
-}
-
-/// The CFA that the instruction defines (DWARF 5 section 6.4.2.2), `None` if it defines none. Fails
-/// with `CfiInstructionInInvalidContext` if it defines half of a CFA that is an expression.
-#[inline(always)]
-fn cfa_given<T: ReaderOffset>(
-    parameters: &Parameters,
-    old: CfaRule<T>,
-    instruction: CallFrameInstruction<T>,
-) -> Result<Option<CfaRule<T>>>
-    ensures { result
-        ≡ effects.cfa_given (setting_of parameters.now None None) old (action instruction) }
-{
-    match instruction {
-        CallFrameInstruction::DefCfa { register, offset } => {
-            let offset = offset.cast_signed();
-            Ok(Some(CfaRule::RegisterAndOffset { register, offset }))
-        }
-        CallFrameInstruction::DefCfaSf {
-            register,
-            factored_offset,
-        } => {
-            let offset = parameters.factored(factored_offset);
-            Ok(Some(CfaRule::RegisterAndOffset { register, offset }))
-        }
-        CallFrameInstruction::DefCfaRegister { register } => with_register(old, register),
-        CallFrameInstruction::DefCfaOffset { offset } => with_offset(old, offset.cast_signed()),
-        CallFrameInstruction::DefCfaOffsetSf { factored_offset } => {
-            with_offset(old, parameters.factored(factored_offset))
-        }
-        CallFrameInstruction::DefCfaExpression { expression } => {
-            Ok(Some(CfaRule::Expression(expression)))
-        }
-        _ => Ok(None),
-    }
+    RegisterRule::Offset(parameters.factored(factored_offset.cast_signed()))
 }
 
 /// The CFA with another register and the same offset; an expression has neither.
 #[inline(always)]
-fn with_register<T: ReaderOffset>(old: CfaRule<T>, register: Register) -> Result<Option<CfaRule<T>>>
-    ensures { result ≡ effects.with_register old register }
+fn with_register<T: ReaderOffset>(old: CfaRule<T>, register: Register) -> Result<CfaRule<T>>
+    ensures { (state : State T) →
+        set_cfa_register state register old ≡ map_ok (with_cfa state) result }
 {
     match old {
         CfaRule::RegisterAndOffset { offset, .. } => {
-            Ok(Some(CfaRule::RegisterAndOffset { register, offset }))
+            Ok(CfaRule::RegisterAndOffset { register, offset })
         }
         CfaRule::Expression(_) => Err(Error::CfiInstructionInInvalidContext),
     }
@@ -372,12 +340,13 @@ fn with_register<T: ReaderOffset>(old: CfaRule<T>, register: Register) -> Result
 
 /// The CFA with another offset and the same register; an expression has neither.
 #[inline(always)]
-fn with_offset<T: ReaderOffset>(old: CfaRule<T>, offset: i64) -> Result<Option<CfaRule<T>>>
-    ensures { result ≡ effects.with_offset old offset }
+fn with_offset<T: ReaderOffset>(old: CfaRule<T>, offset: i64) -> Result<CfaRule<T>>
+    ensures { (state : State T) →
+        set_cfa_offset state offset old ≡ map_ok (with_cfa state) result }
 {
     match old {
         CfaRule::RegisterAndOffset { register, .. } => {
-            Ok(Some(CfaRule::RegisterAndOffset { register, offset }))
+            Ok(CfaRule::RegisterAndOffset { register, offset })
         }
         CfaRule::Expression(_) => Err(Error::CfiInstructionInInvalidContext),
     }
@@ -389,8 +358,7 @@ fn rule_given<T: ReaderOffset>(
     parameters: &Parameters,
     instruction: CallFrameInstruction<T>,
 ) -> Option<(Register, RegisterRule<T>)>
-    ensures { result
-        ≡ effects.rule_given (setting_of parameters.now None None) (action instruction) }
+    ensures { result ≡ rule_given (setting_of parameters.now None None) (action instruction) }
 {
     match instruction {
         CallFrameInstruction::Undefined { register } => Some((register, RegisterRule::Undefined)),

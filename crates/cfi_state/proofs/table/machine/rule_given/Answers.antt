@@ -1,6 +1,6 @@
 use Rattle.std.proofs.Common.{None, sym, ap}
 use Rattle.cfi_state.specs.Actions.{action}
-use Rattle.cfi_state.specs.ActionEffects.{rule_given}
+use Rattle.cfi_state.specs.MachineSettings.{rule_given}
 use Rattle.cfi_state.specs.ContextEffects.{setting_of}
 use Rattle.cfi_state.proofs.table.machine.rule_given.Goals as goal
 
