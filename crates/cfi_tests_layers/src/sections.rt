@@ -3,7 +3,7 @@ use crate::entries::{Settings, settings_of};
 use crate::readers::{OfBytes, Slice};
 use cfi_parts::pointer::{BaseAddresses, Pointer};
 use cfi_read_core::{
-    DebugFrameOffset, EhFrameOffset, Error, Format, Reader, Register, Section, SectionId,
+    DebugFrameOffset, DwEhPe, EhFrameOffset, Error, Format, Reader, Register, Section, SectionId,
 };
 use cfi_tests_bytes::THREE_ROWS;
 use cfi_unwind::entry::CieOrFde;
@@ -39,16 +39,19 @@ const WIDE_CIE: [u8; 21] = [
     0xff, 0xff, 0xff, 0xff, 9, 0, 0, 0, 0, 0, 0, 0, 0, 0, 0, 0, 1, 0, 1, 0x78, 0x10,
 ];
 
+/// A personality, and the same with its encoding.
+type Personality = (Option<Pointer>, Option<(DwEhPe, Pointer)>);
+
 fn personality<R: Reader<Offset = usize>>(
     reader: R,
     bases: &BaseAddresses,
-) -> Result<Option<Pointer>, Error> {
+) -> Result<Personality, Error> {
     let cie = EhFrame::from(reader).cie_from_offset(bases, EhFrameOffset(0))?;
-    Ok(cie.personality())
+    Ok((cie.personality(), cie.personality_with_encoding()))
 }
 
 /// The personality of the CIE at 0, with the address of its section and without.
-fn personalities<R: Reader<Offset = usize>>(reader: R) -> [Result<Option<Pointer>, Error>; 2] {
+fn personalities<R: Reader<Offset = usize>>(reader: R) -> [Result<Personality, Error>; 2] {
     let bases = BaseAddresses::default();
     [
         personality(reader, &bases.set_eh_frame(0x2000)),
@@ -63,8 +66,9 @@ fn check_cies<'a, R: Reader<Offset = usize> + OfBytes<'a>>(rt: &impl Abort) {
     let wide = (Format::Dwarf64, 9, 1, 8, -8, Register(16));
     let refusal = Some(Error::NotCiePointer(0));
     assert_eq!(rt; found, (Ok((narrow, refusal)), Ok((wide, true, true))));
+    let pointer = Pointer::Indirect(0x2021);
     let expected = [
-        Ok(Some(Pointer::Indirect(0x2021))),
+        Ok((Some(pointer), Some((DwEhPe(0x9b), pointer)))),
         Err(Error::PcRelativePointerButSectionBaseIsUndefined),
     ];
     assert_eq!(rt; personalities(R::of(&PERSONALITY)), expected);

@@ -20,3 +20,5 @@ mod register_order;
 mod reuse;
 #[cfg(test)]
 mod rows;
+#[cfg(test)]
+mod worked;

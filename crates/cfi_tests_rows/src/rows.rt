@@ -166,7 +166,7 @@ pub(crate) const R7_16: CfaRule<usize> = CfaRule::RegisterAndOffset {
 };
 
 /// The CFA r7+32.
-const R7_32: CfaRule<usize> = CfaRule::RegisterAndOffset {
+pub(crate) const R7_32: CfaRule<usize> = CfaRule::RegisterAndOffset {
     register: Register(7),
     offset: 32,
 };
