@@ -1,7 +1,6 @@
 pub mod Recovering
 pub mod Signatures
 pub mod FirstRules
-pub mod ByHeader
 pub mod AsScanned
 pub mod SortedModules
 pub mod WorkedModules

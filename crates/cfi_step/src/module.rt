@@ -5,10 +5,6 @@ ghost use Rattle.cfi_read_core.specs.ReaderCalls.{map_ok};
 ghost use Rattle.cfi_entry.specs.Fdes.{Covers};
 ghost use Rattle.cfi_entry.specs.SectionViews.{eh_frame_view};
 ghost use Rattle.cfi_unwind.specs.FdeViews.{HasCieOf, IsFdeOf, fde_view};
-ghost use Rattle.gimli_cfi.specs.EhFrameHdr.{header_of, start_of};
-ghost use Rattle.gimli_cfi.specs.HeaderViews.{listing_view, section_view, unparsed_view};
-ghost use Rattle.gimli_cfi.specs.RowsByHeader.{FoundByHeader};
-ghost use Rattle.gimli_cfi.specs.RowsByTable.{IsFdeFound};
 ghost use Rattle.cfi_expression.specs.Frames.{frame_view};
 ghost use Rattle.cfi_step.specs.CompiledSteps.{IsStepAsScanned, address_in_file};
 ghost use Rattle.cfi_step.specs.Modules.{IsFoundIn, IsStepByFound, IsStepIn};
@@ -20,8 +16,8 @@ use crate::step::{Caller, step_by_fde};
 use cfi_compiled::CompiledTable;
 use cfi_expression::{Frame, FrameError, Memory};
 use gimli_cfi::{
-    BaseAddresses, EhFrame, EhFrameHdr, EhFrameOffset, EhHdrTable, FrameDescriptionEntry, Reader,
-    UnwindContext, UnwindContextStorage, UnwindSection, scan_for_fde,
+    BaseAddresses, EhFrame, EhFrameHdr, FrameDescriptionEntry, Reader, UnwindContext,
+    UnwindContextStorage, fde_by_header, scan_for_fde,
 };
 
 /// A module as it is loaded: its code, and its call frames.
@@ -102,54 +98,6 @@ pub fn fde_in_module<R: Reader>(
         }
         None => scan_for_fde(&loaded.frame, &loaded.bases, address),
     }
-}
-
-/// The FDE for an address by a header: by its table, or by a scan of the section if it has none.
-/// The address size is that of the header's pointers, 1, 2, 4 or 8.
-///
-/// Fails as `EhFrameHdr::parse` and `EhHdrTable::fde_for_address`, or as `scan_for_fde`. Does not
-/// allocate.
-pub fn fde_by_header<R: Reader>(
-    header: &EhFrameHdr<R>,
-    address_size: u8,
-    frame: &EhFrame<R>,
-    bases: &BaseAddresses,
-    address: u64,
-) -> gimli_cfi::Result<FrameDescriptionEntry<R>>
-    requires { IsAddressSize address_size }
-    ensures found { let bytes = unparsed_view R.position header.now address_size bases.now in
-        FoundByHeader (section_view R.position frame.now bases.now) address bytes
-        (header_of bytes) (map_ok (fde_view R.position R.Offset.number) result) }
-    ensures part { IfOk result (IsFdeOf R.position (eh_frame_view R.position frame.now).position) }
-    ensures cie_part { IfOk result
-        (HasCieOf R.position (eh_frame_view R.position frame.now).position) }
-    ensures contains { IfOk result (λ fde.
-        Covers (fde_view R.position R.Offset.number fde) address) }
-{
-    let header = header.parse(bases, address_size)?;
-    match header.table() {
-        Some(table) => fde_by_table(&table, frame, bases, address),
-        None => scan_for_fde(frame, bases, address),
-    }
-}
-
-/// The FDE that a table names for an address, with the CIE to which it points.
-fn fde_by_table<R: Reader>(
-    table: &EhHdrTable<'_, R>,
-    frame: &EhFrame<R>,
-    bases: &BaseAddresses,
-    address: u64,
-) -> gimli_cfi::Result<FrameDescriptionEntry<R>>
-    ensures found { let l = listing_view R.position table.now frame.now bases.now in
-        IsFdeFound (start_of l.header l.table) l address
-        (map_ok (fde_view R.position R.Offset.number) result) }
-    ensures part { IfOk result (IsFdeOf R.position (eh_frame_view R.position frame.now).position) }
-    ensures cie_part { IfOk result
-        (HasCieOf R.position (eh_frame_view R.position frame.now).position) }
-    ensures contains { IfOk result (λ fde.
-        Covers (fde_view R.position R.Offset.number fde) address) }
-{
-    table.fde_for_address(frame, bases, address, EhFrame::cie_from_offset)
 }
 
 /// The caller of a frame of a module's code, by its address (`row_address`).

@@ -32,7 +32,8 @@ pub use entry::{
 };
 pub use hdr::{
     EhFrameHdr, EhHdrTable, EhHdrTableIter, FaithfulTable, ParsedEhFrameHdr, StartSource,
-    TableStarts, Unfaithful, check_table, row_by_header, row_by_table, search_starts,
+    TableStarts, Unfaithful, check_table, fde_by_header, row_by_header, row_by_table,
+    search_starts,
 };
 pub use instruction::{
     CallFrameInstruction, CallFrameInstructionIter, InstructionVisitor, UnwindExpression,

@@ -1,23 +1,59 @@
-//! The unwind row of an address, by a header that isn't parsed yet.
+//! The FDE and the unwind row of an address, by a header that isn't parsed yet.
 ghost use Rattle.std.specs.Prelude.{IfOk};
 ghost use Rattle.cfi_read_core.specs.Addresses.{IsAddressSize};
+ghost use Rattle.cfi_read_core.specs.ReaderCalls.{map_ok};
+ghost use Rattle.cfi_entry.specs.Fdes.{Covers};
 ghost use Rattle.cfi_entry.specs.SectionViews.{eh_frame_view};
 ghost use Rattle.cfi_state.specs.MappedStates.{row_lent};
 ghost use Rattle.cfi_state.specs.Row.{RowContains};
 ghost use Rattle.cfi_state.specs.RowExpressions.{HasExpressionsIn};
+ghost use Rattle.cfi_unwind.specs.FdeViews.{HasCieOf, IsFdeOf, fde_view};
+ghost use Rattle.gimli_cfi.specs.EhFrameHdr.{header_of};
 ghost use Rattle.gimli_cfi.specs.HeaderViews.{section_view, unparsed_view};
-ghost use Rattle.gimli_cfi.specs.RowsByHeader.{IsRowByHeader};
+ghost use Rattle.gimli_cfi.specs.RowsByHeader.{FoundByHeader, IsRowByHeader};
 
-use crate::hdr::by_table::row_by_table;
+use crate::hdr::by_table::table_fde;
 use crate::hdr::header::EhFrameHdr;
 use crate::hdr::starts::TableStarts;
-use crate::table::row_by_scan;
 use cfi_parts::pointer::BaseAddresses;
 use cfi_read_core::{Reader, Result};
 use cfi_state::storage::UnwindContextStorage;
 use cfi_state::table::context::UnwindContext;
 use cfi_state::table::row::UnwindTableRow;
-use cfi_unwind::unwind_section::EhFrame;
+use cfi_unwind::entry::FrameDescriptionEntry;
+use cfi_unwind::unwind_section::{EhFrame, scan_for_fde};
+
+/// The FDE for an address by a header: by its table, or by a scan of the section if it has none.
+/// The address size is that of the header's pointers, 1, 2, 4 or 8.
+///
+/// It contains the address, and has the CIE that it points to. Fails as `EhFrameHdr::parse` and
+/// `EhHdrTable::fde_for_address`, or as `scan_for_fde`. Does not allocate (LSB Core, "The
+/// .eh_frame_hdr section").
+#[inline]
+pub fn fde_by_header<R: Reader>(
+    header: &EhFrameHdr<R>,
+    address_size: u8,
+    frame: &EhFrame<R>,
+    bases: &BaseAddresses,
+    address: u64,
+) -> Result<FrameDescriptionEntry<R>>
+    requires { IsAddressSize address_size }
+    ensures found { let bytes = unparsed_view R.position header.now address_size bases.now in
+        FoundByHeader (section_view R.position frame.now bases.now) address bytes
+        (header_of bytes) (map_ok (fde_view R.position R.Offset.number) result) }
+    ensures part { IfOk result (IsFdeOf R.position (eh_frame_view R.position frame.now).position) }
+    ensures cie_part { IfOk result
+        (HasCieOf R.position (eh_frame_view R.position frame.now).position) }
+    ensures contains { IfOk result (λ fde.
+        Covers (fde_view R.position R.Offset.number fde) address) }
+{
+    let header = header.parse(bases, address_size)?;
+    let Some(table) = header.table() else {
+        return scan_for_fde(frame, bases, address);
+    };
+    let mut starts = TableStarts::new(&table, bases)?;
+    table_fde(&table, &mut starts, frame, bases, address)
+}
 
 /// The unwind row of the address in the section, borrowed from the context, by the header's table.
 ///
@@ -42,10 +78,6 @@ pub fn row_by_header<'ctx, R: Reader, S: UnwindContextStorage<R::Offset>>(
     ensures expressions { IfOk result (λ row. HasExpressionsIn R.Offset.number
         (eh_frame_view R.position frame.now).position row.now.parts) }
 {
-    let header = header.parse(bases, address_size)?;
-    let Some(table) = header.table() else {
-        return row_by_scan(frame, bases, ctx, address);
-    };
-    let mut starts = TableStarts::new(&table, bases)?;
-    row_by_table(&table, &mut starts, frame, bases, ctx, address)
+    let fde = fde_by_header(header, address_size, frame, bases, address)?;
+    fde.unwind_info_for_address(frame, bases, ctx, address)
 }

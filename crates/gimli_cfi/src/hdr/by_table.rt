@@ -86,7 +86,7 @@ pub fn row_by_table<'ctx, R: Reader, St: StartSource, S: UnwindContextStorage<R:
 
 /// The FDE that the table names for the address, with the CIE that it points to.
 #[inline(always)]
-fn table_fde<R: Reader, St: StartSource>(
+pub(crate) fn table_fde<R: Reader, St: StartSource>(
     table: &EhHdrTable<'_, R>,
     starts: &mut St,
     frame: &EhFrame<R>,
@@ -99,6 +99,8 @@ fn table_fde<R: Reader, St: StartSource>(
     ensures part { IfOk result (IsFdeOf R.position (eh_frame_view R.position frame.now).position) }
     ensures cie_part { IfOk result
         (HasCieOf R.position (eh_frame_view R.position frame.now).position) }
+    ensures contains { IfOk result (λ fde.
+        Covers (fde_view R.position R.Offset.number fde) address) }
     ensures calls { St.calls starts.new
         ≤ St.calls starts.old + steps (table_view R.position table.now).count }
     ensures not_asked { value_size (table_view R.position table.now).encoding ≡ None →
