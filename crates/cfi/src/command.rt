@@ -205,6 +205,7 @@ fn cfi<'w>(alloc: Global, formats: &'w [&'w str]) -> Result<clap::Command<'w>, A
         .subcommand(unwind(alloc)?)
 }
 
+/// Returns the program's own command, without those below it.
 fn top<'w>(alloc: Global) -> Result<clap::Command<'w>, AllocError>
     ensures { IfOk result (IsApp top_app) }
 {
@@ -216,6 +217,7 @@ fn top<'w>(alloc: Global) -> Result<clap::Command<'w>, AllocError>
     command.bin_name("cfi")
 }
 
+/// Returns the command `row`.
 fn row<'w>(alloc: Global, formats: &'w [&'w str]) -> Result<clap::Command<'w>, AllocError>
     ensures { IfOk result (IsApp (row_app formats.entry)) }
 {
@@ -227,6 +229,7 @@ fn row<'w>(alloc: Global, formats: &'w [&'w str]) -> Result<clap::Command<'w>, A
         .arg(addresses(alloc))
 }
 
+/// Returns the command `rows`.
 fn rows<'w>(alloc: Global, formats: &'w [&'w str]) -> Result<clap::Command<'w>, AllocError>
     ensures { IfOk result (IsApp (rows_app formats.entry)) }
 {
@@ -238,6 +241,7 @@ fn rows<'w>(alloc: Global, formats: &'w [&'w str]) -> Result<clap::Command<'w>, 
         .arg(address(alloc))
 }
 
+/// Returns the command `dump`.
 fn dump<'w>(alloc: Global) -> Result<clap::Command<'w>, AllocError>
     ensures { IfOk result (IsApp dump_app) }
 {
@@ -247,6 +251,7 @@ fn dump<'w>(alloc: Global) -> Result<clap::Command<'w>, AllocError>
         .arg(file(alloc))
 }
 
+/// Returns the command `check`.
 fn check<'w>(alloc: Global, formats: &'w [&'w str]) -> Result<clap::Command<'w>, AllocError>
     ensures { IfOk result (IsApp (check_app formats.entry)) }
 {
@@ -256,6 +261,7 @@ fn check<'w>(alloc: Global, formats: &'w [&'w str]) -> Result<clap::Command<'w>,
         .arg(files(alloc))
 }
 
+/// Returns the command `table`.
 fn table<'w>(alloc: Global) -> Result<clap::Command<'w>, AllocError>
     ensures { IfOk result (IsApp table_app) }
 {
@@ -265,6 +271,7 @@ fn table<'w>(alloc: Global) -> Result<clap::Command<'w>, AllocError>
         .arg(file(alloc))
 }
 
+/// Returns the command `unwind`.
 fn unwind<'w>(alloc: Global) -> Result<clap::Command<'w>, AllocError>
     ensures { IfOk result (IsApp unwind_app) }
 {
@@ -274,6 +281,7 @@ fn unwind<'w>(alloc: Global) -> Result<clap::Command<'w>, AllocError>
         .arg(profile(alloc))
 }
 
+/// Returns the flag `--raw` of the commands that print registers.
 fn raw_flag<'w>(alloc: Global) -> Arg<'w>
     ensures rule { rule_of result ≡ raw_rule }
     ensures local { result.global ≡ false }
@@ -284,6 +292,7 @@ fn raw_flag<'w>(alloc: Global) -> Arg<'w>
         .action(ArgAction::SetTrue)
 }
 
+/// Returns the flag `--raw` of `unwind`.
 fn places_flag<'w>(alloc: Global) -> Arg<'w>
     ensures rule { rule_of result ≡ raw_rule }
     ensures local { result.global ≡ false }
@@ -294,6 +303,7 @@ fn places_flag<'w>(alloc: Global) -> Arg<'w>
         .action(ArgAction::SetTrue)
 }
 
+/// Returns the option `--format`, with the names of the formats.
 fn format_flag<'w>(alloc: Global, names: &'w [&'w str]) -> Arg<'w>
     ensures rule { rule_of result ≡ format_rule names.entry }
     ensures local { result.global ≡ false }
@@ -305,6 +315,7 @@ fn format_flag<'w>(alloc: Global, names: &'w [&'w str]) -> Arg<'w>
         .value_parser(ValueParser::Names(names))
 }
 
+/// Returns the argument that names an ELF file.
 fn file<'w>(alloc: Global) -> Arg<'w>
     ensures rule { rule_of result ≡ file_rule }
     ensures local { result.global ≡ false }
@@ -314,6 +325,7 @@ fn file<'w>(alloc: Global) -> Arg<'w>
         .required(true)
 }
 
+/// Returns the argument that names a profile.
 fn profile<'w>(alloc: Global) -> Arg<'w>
     ensures rule { rule_of result ≡ file_rule }
     ensures local { result.global ≡ false }
@@ -323,6 +335,7 @@ fn profile<'w>(alloc: Global) -> Arg<'w>
         .required(true)
 }
 
+/// Returns the argument that names one ELF file or more.
 fn files<'w>(alloc: Global) -> Arg<'w>
     ensures rule { rule_of result ≡ files_rule }
     ensures local { result.global ≡ false }
@@ -333,6 +346,7 @@ fn files<'w>(alloc: Global) -> Arg<'w>
         .num_args(1..)
 }
 
+/// Returns the argument for an address, which may be left out.
 fn address<'w>(alloc: Global) -> Arg<'w>
     ensures rule { rule_of result ≡ address_rule }
     ensures local { result.global ≡ false }
@@ -340,6 +354,7 @@ fn address<'w>(alloc: Global) -> Arg<'w>
     Arg::new(alloc, "ADDRESS").help("Decimal, hexadecimal with 0x, a symbol, or SYMBOL+NUMBER")
 }
 
+/// Returns the argument for one address or more.
 fn addresses<'w>(alloc: Global) -> Arg<'w>
     ensures rule { rule_of result ≡ addresses_rule }
     ensures local { result.global ≡ false }

@@ -156,6 +156,7 @@ fn ends_with(steps: &[NumberedStep], number: usize) -> bool
     last.number == number
 }
 
+/// Returns the step with an index, if there is one.
 fn step_at(steps: &[NumberedStep], index: usize) -> Option<NumberedStep>
     ensures step { IsStepAt steps.now index result }
     ensures room { IfSome result (λ _. index + 1 < 2 ^ 64) }

@@ -88,6 +88,7 @@ pub(crate) fn read_identification(bytes: &[u8]) -> std::result::Result<Identific
     Ok(Identification { class, data })
 }
 
+/// Returns the class that `EI_CLASS` says. Fails with `UnknownClass`.
 fn class_of(byte: u8) -> std::result::Result<Class, ElfError>
     ensures { result ≡ class_of byte }
 {
@@ -98,6 +99,7 @@ fn class_of(byte: u8) -> std::result::Result<Class, ElfError>
     }
 }
 
+/// Returns the byte order that `EI_DATA` says. Fails with `UnknownDataEncoding`.
 fn data_of(byte: u8) -> std::result::Result<RunTimeEndian, ElfError>
     ensures { result ≡ data_of byte }
 {
@@ -134,6 +136,7 @@ pub(crate) fn read_file_header<R: Reader>(class: Class, input: &mut R) -> Result
     })
 }
 
+/// Reads the type of the file, its machine and its version.
 #[tactic(auto, unfolding(crate::specs::FileHeaders::object_kind))]
 fn read_object_kind<R: Reader>(input: &mut R) -> Result<ObjectKind>
     ensures { ReadsValue R.position object_kind input.old result input.new }
@@ -148,6 +151,7 @@ fn read_object_kind<R: Reader>(input: &mut R) -> Result<ObjectKind>
     })
 }
 
+/// Reads where the program headers and the section headers begin.
 #[tactic(auto, unfolding(crate::specs::FileHeaders::table_offsets))]
 fn read_table_offsets<R: Reader>(class: Class, input: &mut R) -> Result<TableOffsets>
     ensures { ReadsValue R.position (table_offsets class) input.old result input.new }
@@ -158,6 +162,7 @@ fn read_table_offsets<R: Reader>(class: Class, input: &mut R) -> Result<TableOff
     Ok(TableOffsets { e_phoff, e_shoff })
 }
 
+/// Reads the sizes and counts of both tables, and the index of the section with the names.
 #[tactic(auto, unfolding(crate::specs::FileHeaders::table_sizes))]
 fn read_table_sizes<R: Reader>(input: &mut R) -> Result<TableSizes>
     ensures { ReadsValue R.position table_sizes input.old result input.new }

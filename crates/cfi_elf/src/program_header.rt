@@ -72,6 +72,7 @@ fn read_flags_before_alignment<R: Reader>(class: Class, read: u32, input: &mut R
     }
 }
 
+/// Reads where a segment is in the file and in memory, and its size in the file.
 #[tactic(auto, unfolding(crate::specs::ProgramHeaders::segment_place))]
 fn read_segment_place<R: Reader>(class: Class, input: &mut R) -> Result<SegmentPlace>
     ensures { ReadsValue R.position (segment_place class) input.old result input.new }

@@ -56,6 +56,7 @@ pub(crate) fn read_section_header<R: Reader>(class: Class, input: &mut R) -> Res
     Ok(SectionHeader { identity, place })
 }
 
+/// Reads the name, the type, the flags and the address of a section.
 #[tactic(auto, unfolding(crate::specs::SectionHeaders::section_identity))]
 fn read_section_identity<R: Reader>(class: Class, input: &mut R) -> Result<SectionIdentity>
     ensures { ReadsValue R.position (section_identity class) input.old result input.new }
@@ -72,6 +73,7 @@ fn read_section_identity<R: Reader>(class: Class, input: &mut R) -> Result<Secti
     })
 }
 
+/// Reads where a section is in the file, its size, and the section that it links to.
 #[tactic(auto, unfolding(crate::specs::SectionHeaders::section_place))]
 fn read_section_place<R: Reader>(class: Class, input: &mut R) -> Result<SectionPlace>
     ensures { ReadsValue R.position (section_place class) input.old result input.new }

@@ -122,6 +122,8 @@ impl<'input> ElfFile<'input> {
         )
     }
 
+    /// Returns the number of sections, which section 0 has where the file header says 0. Fails
+    /// where section 0 can't be read.
     #[tactic(auto, unfolding(crate::specs::Sections::section_count))]
     fn section_count(&self) -> Result<u64, ElfError>
         ensures { result ≡ section_count (file_view self.now) }
@@ -170,6 +172,8 @@ impl<'input> ElfFile<'input> {
         self.names_at(table, index)
     }
 
+    /// Returns the index of the section with the names of sections, which section 0 has where the
+    /// file header has no room for it. Fails where section 0 can't be read.
     #[tactic(auto, unfolding(crate::specs::Sections::name_section))]
     fn name_section(&self) -> Result<u32, ElfError>
         ensures { result ≡ name_section (file_view self.now) }
@@ -180,6 +184,8 @@ impl<'input> ElfFile<'input> {
         Ok(u32::from(self.header.sizes.e_shstrndx))
     }
 
+    /// Returns the contents of the section with an index, a string table; nothing for index 0.
+    /// Fails with `NoNameSection` where there is no such section, and where it can't be read.
     #[tactic(auto, unfolding(crate::specs::Sections::names_at))]
     pub(crate) fn names_at(
         &self,

@@ -134,6 +134,8 @@ impl<'input> ElfFile<'input> {
         table_at(&self.image, offset, u64::from(count), size, error)
     }
 
+    /// Returns the number of segments, which section 0 has where the file header has no room for
+    /// it. Fails where section 0 can't be read.
     #[tactic(auto, unfolding(crate::specs::Segments::segment_count))]
     fn segment_count(&self) -> Result<u32, ElfError>
         ensures { result ≡ segment_count (file_view self.now) }
@@ -187,6 +189,7 @@ fn is_wanted(header: &ProgramHeader, wanted: Wanted) -> bool
     }
 }
 
+/// Returns whether a byte of the file is loaded at the address with this segment.
 fn is_loaded_at(header: &ProgramHeader, address: u64) -> bool
     ensures { result ≡ is_loaded_at address header.now }
 {

@@ -38,6 +38,7 @@ pub(crate) fn read_symbol<R: Reader>(class: Class, input: &mut R) -> Result<Symb
     }
 }
 
+/// Reads a symbol of a file of 32 bits.
 #[tactic(auto, unfolding(crate::specs::Symbols::symbol_32))]
 fn read_symbol_32<R: Reader>(input: &mut R) -> Result<Symbol>
     ensures { ReadsValue R.position symbol_32 input.old result input.new }
@@ -57,6 +58,7 @@ fn read_symbol_32<R: Reader>(input: &mut R) -> Result<Symbol>
     })
 }
 
+/// Reads a symbol of a file of 64 bits.
 #[tactic(auto, unfolding(crate::specs::Symbols::symbol_64))]
 fn read_symbol_64<R: Reader>(input: &mut R) -> Result<Symbol>
     ensures { ReadsValue R.position symbol_64 input.old result input.new }

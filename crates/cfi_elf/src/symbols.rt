@@ -104,6 +104,8 @@ impl<'input> ElfFile<'input> {
         }
     }
 
+    /// Returns the symbols and the string table of their names; both are empty where no section
+    /// has symbols. Fails where a section can't be read.
     #[tactic(auto, unfolding(crate::specs::SymbolTables::symbol_table))]
     pub(crate) fn symbol_table(&self) -> Result<SymbolTable<'input>, ElfError>
         ensures { map_ok symbol_table_view result ≡ symbol_table (file_view self.now) }
@@ -198,6 +200,7 @@ fn symbol_named<R: Reader>(
     Ok(None)
 }
 
+/// Returns whether the symbol is defined and has this name. Fails where its name can't be read.
 #[tactic(auto, unfolding(crate::specs::SymbolTables::is_symbol_named))]
 fn is_symbol_named(symbol: &Symbol, names: &[u8], name: &[u8]) -> Result<bool, ElfError>
     ensures { result ≡ is_symbol_named names.now name.now symbol.now }
@@ -226,6 +229,7 @@ fn function_among<R: Reader>(class: Class, count: u64, symbols: R, address: u64)
     None
 }
 
+/// Returns whether the symbol is a defined function whose bytes have this address.
 fn is_function_at(symbol: &Symbol, address: u64) -> bool
     ensures { result ≡ is_function_at address symbol.now }
 {

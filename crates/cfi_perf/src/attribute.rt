@@ -89,6 +89,7 @@ impl EventLayout {
         has_any(bits, self.sample_type)
     }
 
+    /// Returns whether samples by both layouts have the same fields.
     fn is_same(&self, other: &EventLayout) -> bool
         ensures { result ≡ same_layout self.now other.now }
     {
@@ -166,6 +167,7 @@ fn read_event_layout<R: Reader>(input: &mut R) -> Result<EventLayout>
     })
 }
 
+/// Reads the fields of an attribute up to `read_format`.
 #[tactic(auto, unfolding(crate::specs::Layouts::sample_format))]
 fn read_sample_format<R: Reader>(input: &mut R) -> Result<SampleFormat>
     ensures { ReadsValue R.position sample_format input.old result input.new }
@@ -195,6 +197,7 @@ fn read_sample_id_all<R: Reader>(input: &mut R) -> Result<bool>
     }
 }
 
+/// Reads the fields of an attribute from `wakeup_events` up to `sample_regs_user`.
 #[tactic(auto, unfolding(crate::specs::Layouts::chosen))]
 fn read_chosen<R: Reader>(input: &mut R) -> Result<Chosen>
     ensures { ReadsValue R.position chosen input.old result input.new }

@@ -72,6 +72,7 @@ pub(crate) fn file_header(
     }
 }
 
+/// Reads the fields that come after the size of the header.
 #[tactic(auto, unfolding(crate::specs::FileHeaders::header_fields))]
 fn read_header_fields<R: Reader>(input: &mut R) -> Result<FileHeader>
     ensures { ReadsValue R.position header_fields input.old result input.new }

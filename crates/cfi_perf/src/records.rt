@@ -192,6 +192,7 @@ fn split_record(endian: RunTimeEndian, bytes: &[u8]) -> Result<Framed<'_>, PerfE
     })
 }
 
+/// Reads the type, the flags and the size of a record.
 #[tactic(auto, unfolding(crate::specs::Records::record_header))]
 fn read_record_header<R: Reader>(input: &mut R) -> cfi_read_core::Result<RecordHeader>
     ensures { ReadsValue R.position record_header input.old result input.new }
@@ -285,6 +286,7 @@ fn event_of<'input>(
     }
 }
 
+/// Returns the event of a new process. Fails with `RecordCut`.
 fn fork_event(endian: RunTimeEndian, fields: &[u8]) -> Result<Event<'_>, PerfError>
     ensures { map_ok event_view result ≡ fork_event (is_big endian) fields.now }
 {

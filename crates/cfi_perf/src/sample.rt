@@ -46,6 +46,7 @@ impl<'input> UserRegisters<'input> {
     ghost use Rattle.cfi_read_core.specs.ByteOrder.{is_big};
     ghost use Rattle.cfi_perf.specs.Samples.{has_register, register_of, registers_view};
 
+    /// Returns the registers whose bits are set in `mask`, with their values in that order.
     #[inline(always)]
     pub(crate) fn new(abi: u64, mask: u64, values: &'input [u8], endian: RunTimeEndian) -> Self
         requires { length values.now ≡ count_ones mask * 8 }

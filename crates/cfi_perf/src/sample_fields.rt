@@ -97,6 +97,7 @@ pub(crate) fn read_thread<R: Reader>(input: &mut R) -> Result<Thread>
     Ok(Thread { pid, tid })
 }
 
+/// Reads the process and the thread, which are 0 where the sample has neither.
 #[inline(always)]
 fn read_thread_if<R: Reader>(is_there: bool, input: &mut R) -> Result<Thread>
     ensures { ReadsValue R.position (thread_if is_there) input.old result input.new }
@@ -146,6 +147,7 @@ fn pass_lists(layout: &EventLayout, input: &mut Input<'_>) -> Result<()>
     pass_branch_stack(branches, layout.branch_sample_type, input)
 }
 
+/// Passes the counts of the sample's event or of its group, if they are there.
 fn pass_values(layout: &EventLayout, input: &mut Input<'_>) -> Result<()>
     ensures { ReadsValue (slice_position is_big) (read_values layout.now)
         input.old result input.new }
@@ -198,6 +200,7 @@ fn pass_call_chain(is_there: bool, input: &mut Input<'_>) -> Result<()>
     Ok(())
 }
 
+/// Passes the raw data, if they are there.
 #[tactic(auto, unfolding(crate::specs::Samples::raw_data))]
 fn pass_raw_data(is_there: bool, input: &mut Input<'_>) -> Result<()>
     ensures { ReadsValue (slice_position is_big) (passed_if is_there raw_data)
@@ -251,6 +254,7 @@ fn read_user_state<'input>(
     Ok(UserState { registers, stack })
 }
 
+/// Reads the registers of user space; `None` where the sample has none.
 fn read_user_registers<'input>(
     layout: &EventLayout,
     input: &mut Input<'input>,
@@ -282,6 +286,7 @@ fn read_registers<'input>(
     Ok(Some(UserRegisters::new(abi, mask, values, input.endian())))
 }
 
+/// Reads the bytes of the stack that were copied; none where the sample has no stack.
 fn read_user_stack<'input>(layout: &EventLayout, input: &mut Input<'input>) -> Result<&'input [u8]>
     ensures { ReadsBy (slice_position is_big) (λ bytes. bytes.now) (user_stack layout.now)
         input.old result input.new }

@@ -85,6 +85,7 @@ fn counted(text: &'static str, number: u16) -> RegisterName
     }
 }
 
+/// Returns the name of a register of x86-64.
 fn x86_64(register: u16) -> RegisterName
     ensures { name_text result ≡ x86_64 register }
 {
@@ -103,6 +104,7 @@ fn x86_64(register: u16) -> RegisterName
     }
 }
 
+/// Returns the name of a register of i386.
 fn i386(register: u16) -> RegisterName
     ensures { name_text result ≡ i386 register }
 {
@@ -121,6 +123,7 @@ fn i386(register: u16) -> RegisterName
     }
 }
 
+/// Returns the name of a register of AArch64.
 fn aarch64(register: u16) -> RegisterName
     ensures { name_text result ≡ aarch64 register }
 {
@@ -133,6 +136,7 @@ fn aarch64(register: u16) -> RegisterName
     }
 }
 
+/// Returns the name of a register of Arm.
 fn arm(register: u16) -> RegisterName
     ensures { name_text result ≡ arm register }
 {
@@ -145,6 +149,7 @@ fn arm(register: u16) -> RegisterName
     }
 }
 
+/// Returns the name of a register of RISC-V.
 fn riscv(register: u16) -> RegisterName
     ensures { name_text result ≡ riscv register }
 {
@@ -155,6 +160,7 @@ fn riscv(register: u16) -> RegisterName
     }
 }
 
+/// Returns the name of a register of s390x.
 fn s390x(register: u16) -> RegisterName
     ensures { name_text result ≡ s390x register }
 {
@@ -179,6 +185,7 @@ fn s390x(register: u16) -> RegisterName
     }
 }
 
+/// Returns the name of a register of PowerPC of 64 bits.
 fn powerpc64(register: u16) -> RegisterName
     ensures { name_text result ≡ powerpc64 register }
 {

@@ -104,6 +104,7 @@ pub fn first(kind: &str, order: &str, size: &str) -> Option<SectionWords>
     })
 }
 
+/// Returns the kind of section that a word names; `None` for other words.
 fn kind_named(word: &str) -> Option<Kind>
     ensures { result ≡ kind_of word.now }
 {
@@ -116,6 +117,7 @@ fn kind_named(word: &str) -> Option<Kind>
     }
 }
 
+/// Returns the byte order that a word names; `None` for other words.
 fn order_named(word: &str) -> Option<RunTimeEndian>
     ensures { result ≡ order_of word.now }
 {
@@ -128,6 +130,7 @@ fn order_named(word: &str) -> Option<RunTimeEndian>
     }
 }
 
+/// Returns the address size that a word names; `None` for other words.
 fn size_named(word: &str) -> Option<u8>
     ensures { result ≡ size_of word.now }
 {
@@ -168,6 +171,7 @@ pub fn with_option(words: SectionWords, word: &str) -> Option<SectionWords>
     None
 }
 
+/// Returns the words with AArch64 as the vendor; `None` where it was given before.
 fn with_vendor(words: SectionWords) -> Option<SectionWords>
     ensures { result ≡ set_vendor words words.vendor }
 {
@@ -180,6 +184,8 @@ fn with_vendor(words: SectionWords) -> Option<SectionWords>
     }
 }
 
+/// Returns the words with the address of the section; `None` where the number is wrong, or one was
+/// given before.
 fn with_section(words: SectionWords, digits: &str) -> Option<SectionWords>
     ensures { result ≡ set_section words digits.now }
 {
@@ -190,6 +196,8 @@ fn with_section(words: SectionWords, digits: &str) -> Option<SectionWords>
     })
 }
 
+/// Returns the words with the address of the text; `None` where the number is wrong, or one was
+/// given before.
 fn with_text(words: SectionWords, digits: &str) -> Option<SectionWords>
     ensures { result ≡ set_text words digits.now }
 {
@@ -200,6 +208,8 @@ fn with_text(words: SectionWords, digits: &str) -> Option<SectionWords>
     })
 }
 
+/// Returns the words with the address of the data; `None` where the number is wrong, or one was
+/// given before.
 fn with_data_base(words: SectionWords, digits: &str) -> Option<SectionWords>
     ensures { result ≡ set_data_base words digits.now }
 {
@@ -210,6 +220,8 @@ fn with_data_base(words: SectionWords, digits: &str) -> Option<SectionWords>
     })
 }
 
+/// Returns the words with the address of the header; `None` for `.debug_frame`, where the number is
+/// wrong, and where one was given before.
 fn with_header(words: SectionWords, digits: &str) -> Option<SectionWords>
     ensures { result ≡ set_header words digits.now words.kind }
 {
@@ -253,6 +265,7 @@ pub fn number_in(word: &str) -> Option<u64>
     }
 }
 
+/// Parses 1 to 16 hexadecimal digits; `None` for other words.
 fn hexadecimal(digits: &str) -> Option<u64>
     ensures { result ≡ hexadecimal_number digits.now }
 {
@@ -262,6 +275,7 @@ fn hexadecimal(digits: &str) -> Option<u64>
     u64::from_str_radix(digits, 16).ok()
 }
 
+/// Parses 1 to 20 decimal digits of a value below 2^64; `None` for other words.
 fn decimal(digits: &str) -> Option<u64>
     ensures { result ≡ decimal_number digits.now }
 {
@@ -271,12 +285,14 @@ fn decimal(digits: &str) -> Option<u64>
     u64::from_str_radix(digits, 10).ok()
 }
 
+/// Returns whether each byte is a hexadecimal digit.
 fn all_hexadecimal(digits: &[u8]) -> bool
     ensures { result ≡ list_all is_ascii_hexdigit digits.now }
 {
     digits.iter().all(|digit| digit.is_ascii_hexdigit())
 }
 
+/// Returns whether each byte is a decimal digit.
 fn all_decimal(digits: &[u8]) -> bool
     ensures { result ≡ list_all is_ascii_digit digits.now }
 {

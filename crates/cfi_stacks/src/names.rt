@@ -104,6 +104,7 @@ fn shown(byte: u8) -> u8
     if is_printable(byte) { byte } else { b'?' }
 }
 
+/// Returns whether a byte is a printable character of ASCII.
 fn is_printable(byte: u8) -> bool
     ensures { result ≡ is_printable byte }
 {

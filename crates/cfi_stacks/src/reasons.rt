@@ -66,12 +66,14 @@ fn reason_of_error(error: FrameError) -> Reason
     }
 }
 
+/// Returns the reason with a name, which carries no error.
 fn named(name: &'static str) -> Reason
     ensures { reason_view result ≡ record { name = name.now; error = None } }
 {
     Reason { name, error: None }
 }
 
+/// Returns the reason with a name and the error that it carries.
 fn carrying(name: &'static str, error: Error) -> Reason
     ensures { reason_view result ≡ record { name = name.now; error = Some error } }
 {
@@ -96,6 +98,7 @@ pub fn write_reason<W: Write>(output: &mut W, reason: Option<Reason>) -> io::Res
     }
 }
 
+/// Writes the line of a reason that carries no error.
 fn write_plain<W: Write>(output: &mut W, name: &str) -> io::Result<()>
     ensures { Writes (W.contents output.old) (W.contents output.new) result
         (codes "# " ++ name.now ++ [] ++ 10 ∷ []) }
@@ -103,6 +106,7 @@ fn write_plain<W: Write>(output: &mut W, name: &str) -> io::Result<()>
     write_part(output, format_args!("# {name}\n"))
 }
 
+/// Writes the line of a reason and of the error that it carries.
 fn write_carrying<W: Write>(output: &mut W, name: &str, error: Error) -> io::Result<()>
     ensures { Writes (W.contents output.old) (W.contents output.new) result
         (codes "# " ++ name.now ++ (codes " " ++ name_of error) ++ 10 ∷ []) }

@@ -123,6 +123,7 @@ fn push_function(text: &mut Text, place: Option<FunctionPlace<'_>>) -> fmt::Resu
     }
 }
 
+/// Appends what `write_place` writes.
 #[inline]
 fn push_place(text: &mut Text, place: FunctionPlace<'_>) -> fmt::Result
     ensures { OnOk result (text.new.items
@@ -250,6 +251,7 @@ fn write_function<W: Write>(output: &mut W, place: Option<FunctionPlace<'_>>) ->
     }
 }
 
+/// Writes the name of a function, and the offset from its first address.
 fn write_place<W: Write>(output: &mut W, place: FunctionPlace<'_>) -> io::Result<()>
     ensures { Writes (W.contents output.old) (W.contents output.new) result
         (function_text (Some (place_view place.entry))) }
@@ -258,6 +260,7 @@ fn write_place<W: Write>(output: &mut W, place: FunctionPlace<'_>) -> io::Result
     write_offset(output, place.offset)
 }
 
+/// Writes an offset, after a plus sign.
 fn write_offset<W: Write>(output: &mut W, offset: u64) -> io::Result<()>
     ensures { Writes (W.contents output.old) (W.contents output.new) result
         (codes "+" ++ address_text offset) }

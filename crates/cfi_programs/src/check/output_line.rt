@@ -26,6 +26,7 @@ pub fn write_verdict<W: Write>(output: &mut W, format: Format, verdict: Verdict)
     Ok(status_of(verdict))
 }
 
+/// Writes the line of a verdict.
 fn write_verdict_line<W: Write>(output: &mut W, format: Format, verdict: Verdict) -> io::Result<()>
     ensures { Writes (W.contents output.old) (W.contents output.new) result
         (verdict_line format verdict).text }
@@ -34,6 +35,7 @@ fn write_verdict_line<W: Write>(output: &mut W, format: Format, verdict: Verdict
     write_text(output, b"\n")
 }
 
+/// Writes a verdict in a format, without the end of the line.
 fn write_verdict_in<W: Write>(output: &mut W, format: Format, verdict: Verdict) -> io::Result<()>
     ensures { Writes (W.contents output.old) (W.contents output.new) result
         (verdict_in format verdict) }
@@ -44,6 +46,7 @@ fn write_verdict_in<W: Write>(output: &mut W, format: Format, verdict: Verdict) 
     }
 }
 
+/// Returns the status of a verdict: 0 where the table is faithful, else 1.
 fn status_of(verdict: Verdict) -> u8
     ensures { result ≡ verdict_status verdict }
 {
@@ -53,6 +56,7 @@ fn status_of(verdict: Verdict) -> u8
     }
 }
 
+/// Writes a verdict as text.
 fn write_verdict_text<W: Write>(output: &mut W, verdict: Verdict) -> io::Result<()>
     ensures { Writes (W.contents output.old) (W.contents output.new) result
         (verdict_text verdict) }
@@ -65,6 +69,7 @@ fn write_verdict_text<W: Write>(output: &mut W, verdict: Verdict) -> io::Result<
     }
 }
 
+/// Writes a verdict as the end of an object of JSON.
 fn write_verdict_object<W: Write>(output: &mut W, verdict: Verdict) -> io::Result<()>
     ensures { Writes (W.contents output.old) (W.contents output.new) result
         (verdict_object verdict) }
@@ -77,6 +82,7 @@ fn write_verdict_object<W: Write>(output: &mut W, verdict: Verdict) -> io::Resul
     }
 }
 
+/// Writes the end of an object of JSON for a faithful table of this many rows.
 fn write_faithful_object<W: Write>(output: &mut W, rows: u64) -> io::Result<()>
     ensures { Writes (W.contents output.old) (W.contents output.new) result
         (faithful_object rows) }
@@ -86,6 +92,7 @@ fn write_faithful_object<W: Write>(output: &mut W, rows: u64) -> io::Result<()>
     write_text(output, text.as_slice())
 }
 
+/// Appends what `write_faithful_object` writes.
 fn push_faithful(text: &mut Text, rows: u64) -> fmt::Result
     ensures { OnOk result (text.new.items ≡ text.old.items ++ faithful_object rows) }
 {
@@ -94,6 +101,7 @@ fn push_faithful(text: &mut Text, rows: u64) -> fmt::Result
     push(text, b"}")
 }
 
+/// Writes the end of an object of JSON for a table that isn't faithful, with the reason.
 fn write_unfaithful_object<W: Write>(output: &mut W, reason: Unfaithful) -> io::Result<()>
     ensures { Writes (W.contents output.old) (W.contents output.new) result
         (reasoned (codes "unfaithful") (reason_text reason)) }
@@ -121,6 +129,7 @@ pub fn write_finding<W: Write>(
     }
 }
 
+/// Writes what `write_reasoned` writes, and the end of the line.
 fn write_reasoned_line<W: Write>(
     output: &mut W,
     found: &[u8],
@@ -134,6 +143,7 @@ fn write_reasoned_line<W: Write>(
     write_text(output, b"\n")
 }
 
+/// Writes the end of an object of JSON: what was found, and why, as a text and a name behind it.
 fn write_reasoned<W: Write>(
     output: &mut W,
     found: &[u8],
@@ -165,6 +175,7 @@ fn write_reason<W: Write>(output: &mut W, reason: Unfaithful) -> io::Result<()>
     }
 }
 
+/// Writes that the header can't be read, with the error.
 fn write_refused_header<W: Write>(output: &mut W, refusal: Error) -> io::Result<()>
     ensures { Writes (W.contents output.old) (W.contents output.new) result
         (reason_text (Unfaithful.Header refusal)) }
@@ -173,6 +184,7 @@ fn write_refused_header<W: Write>(output: &mut W, refusal: Error) -> io::Result<
     write_part(output, format_args!("header: refused {name}"))
 }
 
+/// Writes that a row of the table can't be read, with the error.
 fn write_refused_row<W: Write>(output: &mut W, row: u64, refusal: Error) -> io::Result<()>
     ensures { Writes (W.contents output.old) (W.contents output.new) result
         (reason_text (Unfaithful.Row row refusal)) }
@@ -181,6 +193,7 @@ fn write_refused_row<W: Write>(output: &mut W, row: u64, refusal: Error) -> io::
     write_part(output, format_args!("row {row}: refused {name}"))
 }
 
+/// Writes that a row doesn't start above the row before it.
 fn write_order<W: Write>(output: &mut W, row: u64, before: u64, start: u64) -> io::Result<()>
     ensures { Writes (W.contents output.old) (W.contents output.new) result
         (reason_text (Unfaithful.Order row before start)) }
@@ -193,6 +206,7 @@ fn write_order<W: Write>(output: &mut W, row: u64, before: u64, start: u64) -> i
     )
 }
 
+/// Writes that the entry at an offset can't be read, with the error.
 fn write_refused_entry<W: Write>(output: &mut W, offset: u64, refusal: Error) -> io::Result<()>
     ensures { Writes (W.contents output.old) (W.contents output.new) result
         (reason_text (Unfaithful.Entry offset refusal)) }
@@ -202,6 +216,7 @@ fn write_refused_entry<W: Write>(output: &mut W, offset: u64, refusal: Error) ->
     write_part(output, format_args!("entry {offset}: refused {name}"))
 }
 
+/// Writes that the FDE at an offset can't be read, with the error.
 fn write_refused_fde<W: Write>(output: &mut W, offset: u64, refusal: Error) -> io::Result<()>
     ensures { Writes (W.contents output.old) (W.contents output.new) result
         (reason_text (Unfaithful.Fde offset refusal)) }
@@ -211,6 +226,7 @@ fn write_refused_fde<W: Write>(output: &mut W, offset: u64, refusal: Error) -> i
     write_part(output, format_args!("FDE {offset}: refused {name}"))
 }
 
+/// Writes that no row leads to the FDE at an offset, whose first address is given.
 fn write_no_row<W: Write>(output: &mut W, offset: u64, address: u64) -> io::Result<()>
     ensures { Writes (W.contents output.old) (W.contents output.new) result
         (reason_text (Unfaithful.NoRow offset address)) }
@@ -223,6 +239,7 @@ fn write_no_row<W: Write>(output: &mut W, offset: u64, address: u64) -> io::Resu
     )
 }
 
+/// Writes that the FDE at an offset contains the start of the row after its own.
 fn write_overlap<W: Write>(output: &mut W, offset: u64, end: u64, next: u64) -> io::Result<()>
     ensures { Writes (W.contents output.old) (W.contents output.new) result
         (reason_text (Unfaithful.Overlap offset end next)) }
@@ -236,6 +253,7 @@ fn write_overlap<W: Write>(output: &mut W, offset: u64, end: u64, next: u64) -> 
     )
 }
 
+/// Writes that the section has fewer FDEs than the table has rows.
 fn write_count<W: Write>(output: &mut W, rows: u64, fdes: u64) -> io::Result<()>
     ensures { Writes (W.contents output.old) (W.contents output.new) result
         (reason_text (Unfaithful.Count rows fdes)) }

@@ -144,6 +144,7 @@ pub fn write_cie<R: Reader<Offset = usize>, W: Write>(
     write_cie_augmentation(output, cie)
 }
 
+/// Writes the offset, the length, the version and the address size of a CIE.
 fn write_cie_head<R: Reader<Offset = usize>, W: Write>(
     output: &mut W,
     cie: &CommonInformationEntry<R>,
@@ -161,6 +162,7 @@ fn write_cie_head<R: Reader<Offset = usize>, W: Write>(
     )
 }
 
+/// Writes the alignment factors and the return address register of a CIE.
 fn write_cie_factors<R: Reader<Offset = usize>, W: Write>(
     output: &mut W,
     names: RegisterNames,
@@ -178,6 +180,7 @@ fn write_cie_factors<R: Reader<Offset = usize>, W: Write>(
     )
 }
 
+/// Writes what the augmentation of a CIE says, and the end of the line.
 fn write_cie_augmentation<R: Reader<Offset = usize>, W: Write>(
     output: &mut W,
     cie: &CommonInformationEntry<R>,
@@ -210,6 +213,7 @@ pub fn write_fde<R: Reader<Offset = usize>, W: Write>(
     write_part(output, format_args!("{lsda}\n"))
 }
 
+/// Writes the offset and the length of an FDE.
 fn write_fde_head<R: Reader<Offset = usize>, W: Write>(
     output: &mut W,
     fde: &FrameDescriptionEntry<R>,
@@ -222,6 +226,7 @@ fn write_fde_head<R: Reader<Offset = usize>, W: Write>(
     write_part(output, format_args!("fde {offset} length={length}"))
 }
 
+/// Writes the offset of an FDE's CIE, its first address and its end.
 fn write_fde_addresses<R: Reader<Offset = usize>, W: Write>(
     output: &mut W,
     fde: &FrameDescriptionEntry<R>,

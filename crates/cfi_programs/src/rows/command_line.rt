@@ -48,6 +48,8 @@ fn first(kind: &str, order: &str, size: &str, address: &str) -> Option<Request>
     })
 }
 
+/// Returns the request with what the words after the address ask for; `None` where one is wrong or
+/// asks for what an earlier one asked for.
 fn with_options(request: Request, options: &[&str]) -> Option<Request>
     ensures { result ≡ option_words (texts options.now) request }
 {
@@ -70,6 +72,7 @@ fn with_option(request: Request, word: &str) -> Option<Request>
     Some(Request { words, ..request })
 }
 
+/// Returns the request with a storage that grows; `None` where it has that already.
 fn with_storage(request: Request) -> Option<Request>
     ensures { result ≡ set_storage request request.storage }
 {
