@@ -141,6 +141,7 @@ impl<T: ReaderOffset, S: UnwindContextStorage<T>> UnwindContext<T, S> {
         self.row.set_addresses(start, end);
     }
 
+    /// Sets the rule of the CFA in the current row.
     #[inline(always)]
     pub(crate) fn set_cfa(&mut self, cfa: CfaRule<T>)
         ensures { self.new ≡ with_row self.old (row_with_cfa self.old.row cfa) }
@@ -148,6 +149,7 @@ impl<T: ReaderOffset, S: UnwindContextStorage<T>> UnwindContext<T, S> {
         self.row.set_cfa(cfa);
     }
 
+    /// Sets the size of the pushed arguments in the current row.
     #[inline(always)]
     pub(crate) fn set_saved_args_size(&mut self, size: u64)
         ensures { self.new ≡ with_row self.old (with_args_size self.old.row size) }
@@ -167,6 +169,7 @@ impl<T: ReaderOffset, S: UnwindContextStorage<T>> UnwindContext<T, S> {
         self.row.set_rule(register, rule)
     }
 
+    /// Removes the register's rule from the current row, if there is one.
     #[inline(always)]
     pub(crate) fn clear_rule(&mut self, register: Register)
         ensures { self.new ≡ with_row self.old

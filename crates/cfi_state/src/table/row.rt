@@ -152,6 +152,7 @@ impl<T: ReaderOffset, A: ArrayLike<Item = Pair<T>>> UnwindTableRow<T, A> {
         self.registers.take_from(&mut other.registers);
     }
 
+    /// Sets the rule of the CFA.
     #[inline(always)]
     pub(crate) fn set_cfa(&mut self, cfa: CfaRule<T>)
         ensures { self.new ≡ row_with_cfa self.old cfa }
@@ -159,6 +160,7 @@ impl<T: ReaderOffset, A: ArrayLike<Item = Pair<T>>> UnwindTableRow<T, A> {
         self.cfa = cfa;
     }
 
+    /// Sets the size of the pushed arguments.
     #[inline(always)]
     pub(crate) fn set_saved_args_size(&mut self, size: u64)
         ensures { self.new ≡ with_args_size self.old size }
@@ -166,6 +168,8 @@ impl<T: ReaderOffset, A: ArrayLike<Item = Pair<T>>> UnwindTableRow<T, A> {
         self.saved_args_size = size;
     }
 
+    /// Sets the register's rule. Fails with `TooManyRegisterRules` or `OutOfMemory` if there is no
+    /// room for a new one.
     #[inline(always)]
     pub(crate) fn set_rule(&mut self, register: Register, rule: RegisterRule<T>) -> Result<()>
         ensures { Performs (AddsRule A.limit self.old.parts.rules register.0)
@@ -176,6 +180,7 @@ impl<T: ReaderOffset, A: ArrayLike<Item = Pair<T>>> UnwindTableRow<T, A> {
         self.registers.set(register, rule)
     }
 
+    /// Removes the register's rule, if there is one.
     #[inline(always)]
     pub(crate) fn clear_rule(&mut self, register: Register)
         ensures { self.new ≡ row_with_rules self.old (map.remove self.old.parts.rules register.0) }
@@ -183,6 +188,7 @@ impl<T: ReaderOffset, A: ArrayLike<Item = Pair<T>>> UnwindTableRow<T, A> {
         self.registers.remove(register);
     }
 
+    /// Returns the rules as a map.
     #[inline(always)]
     pub(crate) fn rules(&self) -> &RegisterRuleMap<T, A>
         ensures { result.now ≡ self.now.parts.rules }

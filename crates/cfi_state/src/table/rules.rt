@@ -191,6 +191,7 @@ impl<T: ReaderOffset, A: ArrayLike<Item = Pair<T>>> RegisterRuleMap<T, A> {
         Err(refusal_of(refused, Error::TooManyRegisterRules))
     }
 
+    /// Removes the register's rule, if there is one.
     #[inline(always)]
     pub(crate) fn remove(&mut self, register: Register)
         ensures { self.new ≡ map.remove self.old register.0 }
@@ -200,6 +201,7 @@ impl<T: ReaderOffset, A: ArrayLike<Item = Pair<T>>> RegisterRuleMap<T, A> {
         }
     }
 
+    /// Removes all rules.
     #[inline(always)]
     pub(crate) fn clear(&mut self)
         ensures { self.new ≡ map.empty }
