@@ -5,7 +5,8 @@
 --     AnswersForProgram      the same for any program that the machine's state is after
 --     AcceptsInitialInstructions      the program of a CIE
 --     AnswersByAccepted      the result for an address
-use Rattle.std.specs.Prelude.{◌≡◌, ℕ, Bool, true, false, List, [], ◌∷◌, ◌++◌, Option, Some, None, Result, Ok, Err}
+use Rattle.std.specs.Prelude.{◌≡◌, ℕ, Bool, true, false, List, [], ◌∷◌, ◌++◌, Option, Some, None}
+use Rattle.std.specs.Prelude.{Result, Ok, Err}
 use Rattle.cfi_read_core.specs.ReadFunctions.{Readings, with_first, no_values}
 use Rattle.cfi_read_core.specs.declared.error.Error.{Error}
 use Rattle.cfi_read_core.specs.declared.instruction.CallFrameInstruction.{CallFrameInstruction}
@@ -13,7 +14,8 @@ use Rattle.cfi_state.specs.AllocatingOperations.{IsDueOrMemory}
 use Rattle.cfi_state.specs.Row.{Row}
 use Rattle.cfi_state.specs.MachineSettings.{Setting, is_move}
 use Rattle.cfi_state.specs.Machine.{State}
-use Rattle.cfi_state.specs.Program.{Program, in_cie, in_fde, followed_by, location_of, refusal, refusal_at_end}
+use Rattle.cfi_state.specs.Program.{Program, in_cie, in_fde, followed_by, location_of, refusal}
+use Rattle.cfi_state.specs.Program.{refusal_at_end}
 use Rattle.cfi_state.specs.FdeAnswers.{row_until, program_state, IsStateAfter}
 use Rattle.cfi_state.specs.UnwindTableStates.{TableState, before_last_row, after_last_row}
 use Rattle.cfi_state.specs.MachineRuns.{MayAllocate, FindsRow}

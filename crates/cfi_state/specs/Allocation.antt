@@ -5,7 +5,8 @@
 use Rattle.std.specs.Prelude.{ℕ, Bool, false, not, ◌&&◌, ◌||◌, nat_le, Option, Some, None, is_some}
 use Rattle.std.specs.FinMap as map
 use Rattle.cfi_read_core.specs.declared.instruction.CallFrameInstruction.{CallFrameInstruction}
-use Rattle.cfi_state.specs.Actions.{Action, gives_rule, restores_rule, toggles_sign_state, remembers_state, action}
+use Rattle.cfi_state.specs.Actions.{Action, gives_rule, restores_rule, toggles_sign_state}
+use Rattle.cfi_state.specs.Actions.{remembers_state, action}
 use Rattle.cfi_state.specs.MachineSettings.{Setting, ra_sign_state}
 use Rattle.cfi_state.specs.Machine.{Rules, State}
 

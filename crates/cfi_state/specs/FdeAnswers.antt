@@ -5,7 +5,8 @@
 --     run_answers, run_cie      the same by the machine
 --     program_state      the machine's state after a program
 --     AreConsecutive, answer_at      what the rows cover, and the result for an address
-use Rattle.std.specs.Prelude.{◌≡◌, ℕ, Bool, if◌then◌else◌, List, [], ◌∷◌, ◌++◌, map, filter_map, nat_le, nat_lt, ◌&&◌, ◌≤◌, Option, Some, None, Result, Ok, Err}
+use Rattle.std.specs.Prelude.{◌≡◌, ℕ, Bool, if◌then◌else◌, List, [], ◌∷◌, ◌++◌, map, filter_map}
+use Rattle.std.specs.Prelude.{nat_le, nat_lt, ◌&&◌, ◌≤◌, Option, Some, None, Result, Ok, Err}
 use Rattle.std.specs.Option.{option_or}
 use Rattle.std.specs.Result.{result_ok}
 use Rattle.cfi_read_core.specs.ReadFunctions.{Readings}
@@ -17,7 +18,9 @@ use Rattle.cfi_state.specs.MachineSettings.{Setting, is_move}
 use Rattle.cfi_state.specs.Machine.{Rules, Parts, State, fresh_state, step, end_of_cie}
 use Rattle.cfi_state.specs.RememberedStates.{survivors, before_open}
 use Rattle.cfi_state.specs.LastWriters.{final_rules, final_parts}
-use Rattle.cfi_state.specs.Program.{Program, in_cie, in_fde, instructions, followed_by, location_of, no_rule, initial_rule, parts_of, refusal, refusal_at_end, IsAccepted}
+use Rattle.cfi_state.specs.Program.{Program, in_cie, in_fde, instructions, followed_by, location_of}
+use Rattle.cfi_state.specs.Program.{no_rule, initial_rule, parts_of, refusal, refusal_at_end}
+use Rattle.cfi_state.specs.Program.{IsAccepted}
 
 abbrev pub or_refused : {A : Type 0} → Option Error → A → Result A Error
 or_refused None value = Ok value

@@ -4,7 +4,9 @@
 --     final_rule      the rule of a register; `initial` has those that the CIE's initial
 --         instructions leave
 --     registers_with_rule      the registers that have one
-use Rattle.std.specs.Prelude.{ℕ, zero, suc, ◌+◌, ◌%◌, Bool, false, if◌then◌else◌, not, ◌&&◌, ◌==◌, ℤ, pos, List, [], ◌∷◌, filter, filter_map, count_by, Option, Some, None, is_some, unwrap_or}
+use Rattle.std.specs.Prelude.{ℕ, zero, suc, ◌+◌, ◌%◌, Bool, false, if◌then◌else◌, not, ◌&&◌, ◌==◌}
+use Rattle.std.specs.Prelude.{ℤ, pos, List, [], ◌∷◌, filter, filter_map, count_by, Option, Some}
+use Rattle.std.specs.Prelude.{None, is_some, unwrap_or}
 use Rattle.std.specs.List.{list_any}
 use Rattle.std.specs.Option.{option_or, option_flatten, option_map, option_map_or}
 use Rattle.std.specs.FinMap as map
@@ -17,7 +19,9 @@ use Rattle.cfi_state.specs.declared.table.rules.RegisterRule.{RegisterRule}
 use Rattle.cfi_state.specs.declared.table.rules.RegisterRule.TheVariants as rule
 use Rattle.cfi_state.specs.Machine.{Rules, Parts}
 use Rattle.cfi_state.specs.MachineSettings.{Setting, ra_sign_state, is_toggle}
-use Rattle.cfi_state.specs.Actions.{Action, defines_cfa, defines_cfa_register, defines_cfa_offset, defines_cfa_expression, gives_rule, restores_rule, toggles_sign_state, sets_args_size, action}
+use Rattle.cfi_state.specs.Actions.{Action, defines_cfa, defines_cfa_register, defines_cfa_offset}
+use Rattle.cfi_state.specs.Actions.{defines_cfa_expression, gives_rule, restores_rule}
+use Rattle.cfi_state.specs.Actions.{toggles_sign_state, sets_args_size, action}
 
 -- what the last instruction that writes something wrote
 abbrev pub last_written :

@@ -2,20 +2,29 @@
 --     State      the location, the parts of the row, and what is remembered
 --     step      the state after an instruction, or its refusal
 --     end_of_cie      the state in which the FDE's program begins, or the refusal
-use Rattle.std.specs.Prelude.{ℕ, ◌+◌, if◌then◌else◌, not, ◌&&◌, nat_lt, nat_le, ℤ, pos, List, [], ◌∷◌, length, Option, Some, None, Result, Ok, Err, bit_xor}
+use Rattle.std.specs.Prelude.{ℕ, ◌+◌, if◌then◌else◌, not, ◌&&◌, nat_lt, nat_le, ℤ, pos, List, []}
+use Rattle.std.specs.Prelude.{◌∷◌, length, Option, Some, None, Result, Ok, Err, bit_xor}
 use Rattle.std.specs.Ordering.{nat_cmp}
 use Rattle.std.specs.FinMap as map
 use Rattle.std.specs.FinMap.{FinMap}
 use Rattle.cfi_read_core.specs.declared.common.Register.{Register}
 use Rattle.cfi_read_core.specs.declared.error.Error.{Error}
-use Rattle.cfi_read_core.specs.declared.error.Error.TheVariants.{AddressOverflow, InvalidCfiSetLoc, CfiInstructionInInvalidContext, StackFull, PopWithEmptyStack, TooManyRegisterRules}
+use Rattle.cfi_read_core.specs.declared.error.Error.TheVariants.{AddressOverflow, InvalidCfiSetLoc}
+use Rattle.cfi_read_core.specs.declared.error.Error.TheVariants.{CfiInstructionInInvalidContext}
+use Rattle.cfi_read_core.specs.declared.error.Error.TheVariants.{StackFull, PopWithEmptyStack}
+use Rattle.cfi_read_core.specs.declared.error.Error.TheVariants.{TooManyRegisterRules}
 use Rattle.cfi_read_core.specs.declared.instruction.CallFrameInstruction.{CallFrameInstruction}
 use Rattle.cfi_state.specs.declared.table.rules.CfaRule.{CfaRule}
 use Rattle.cfi_state.specs.declared.table.rules.CfaRule.TheVariants as cfa
 use Rattle.cfi_state.specs.declared.table.rules.RegisterRule.{RegisterRule}
 use Rattle.cfi_state.specs.declared.table.rules.RegisterRule.TheVariants as rule
-use Rattle.cfi_state.specs.MachineSettings.{Setting, ra_sign_state, is_at_limit, advanced_location, fits_address}
-use Rattle.cfi_state.specs.Actions.{Action, sets_location, advances_location, defines_cfa, defines_cfa_register, defines_cfa_offset, defines_cfa_expression, gives_rule, restores_rule, toggles_sign_state, remembers_state, restores_state, sets_args_size, changes_nothing, action}
+use Rattle.cfi_state.specs.MachineSettings.{Setting, ra_sign_state, is_at_limit, advanced_location}
+use Rattle.cfi_state.specs.MachineSettings.{fits_address}
+use Rattle.cfi_state.specs.Actions.{Action, sets_location, advances_location, defines_cfa}
+use Rattle.cfi_state.specs.Actions.{defines_cfa_register, defines_cfa_offset}
+use Rattle.cfi_state.specs.Actions.{defines_cfa_expression, gives_rule, restores_rule}
+use Rattle.cfi_state.specs.Actions.{toggles_sign_state, remembers_state, restores_state}
+use Rattle.cfi_state.specs.Actions.{sets_args_size, changes_nothing, action}
 
 -- the rules of registers, by number; a register that is not in the map has no rule
 abbrev pub Rules : Type 0 → Type 0

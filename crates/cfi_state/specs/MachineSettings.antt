@@ -8,7 +8,8 @@ use Rattle.cfi_read_core.specs.Addresses.{fits}
 use Rattle.cfi_read_core.specs.declared.common.Register.{Register}
 use Rattle.cfi_read_core.specs.declared.instruction.CallFrameInstruction.{CallFrameInstruction}
 use Rattle.cfi_state.specs.declared.table.rules.RegisterRule.{RegisterRule}
-use Rattle.cfi_state.specs.Actions.{Action, sets_location, advances_location, gives_rule, remembers_state, restores_state, toggles_sign_state, action}
+use Rattle.cfi_state.specs.Actions.{Action, sets_location, advances_location, gives_rule}
+use Rattle.cfi_state.specs.Actions.{remembers_state, restores_state, toggles_sign_state, action}
 
 -- A limit of `None` is no limit.
 pub record Setting : Type 0 where

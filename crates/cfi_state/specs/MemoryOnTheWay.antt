@@ -4,7 +4,8 @@
 --     reaches_allocation      an instruction that may allocate is reached
 --     may_allocate_on_the_way      the same of the programs of a CIE and an FDE
 --     AnswersOrRunsOut      the result that is due or, where one may allocate, `OutOfMemory`
-use Rattle.std.specs.Prelude.{◌≡◌, ◌⊎◌, ℕ, Bool, false, not, ◌&&◌, ◌||◌, nat_le, nat_lt, List, [], ◌∷◌, is_none, IsTrue, Result, Err}
+use Rattle.std.specs.Prelude.{◌≡◌, ◌⊎◌, ℕ, Bool, false, not, ◌&&◌, ◌||◌, nat_le, nat_lt, List, []}
+use Rattle.std.specs.Prelude.{◌∷◌, is_none, IsTrue, Result, Err}
 use Rattle.cfi_read_core.specs.ReadFunctions.{Readings}
 use Rattle.cfi_read_core.specs.declared.error.Error.{Error}
 use Rattle.cfi_read_core.specs.declared.error.Error.TheVariants.{OutOfMemory}

@@ -5,18 +5,28 @@
 --     refusal, refusal_at_end      why the next instruction, or the end of the CIE's initial
 --         instructions, is refused
 --     IsAccepted      none of a program's instructions was refused after those before it
-use Rattle.std.specs.Prelude.{◌≡◌, ℕ, ◌+◌, Bool, true, false, if◌then◌else◌, not, ◌&&◌, nat_lt, nat_le, ◌==◌, List, [], ◌∷◌, ◌++◌, length, fold, Option, Some, None, is_some}
+use Rattle.std.specs.Prelude.{◌≡◌, ℕ, ◌+◌, Bool, true, false, if◌then◌else◌, not, ◌&&◌, nat_lt}
+use Rattle.std.specs.Prelude.{nat_le, ◌==◌, List, [], ◌∷◌, ◌++◌, length, fold, Option, Some, None}
+use Rattle.std.specs.Prelude.{is_some}
 use Rattle.std.specs.Option.{option_or}
 use Rattle.cfi_read_core.specs.declared.error.Error.{Error}
-use Rattle.cfi_read_core.specs.declared.error.Error.TheVariants.{AddressOverflow, InvalidCfiSetLoc, CfiInstructionInInvalidContext, StackFull, PopWithEmptyStack, TooManyRegisterRules}
+use Rattle.cfi_read_core.specs.declared.error.Error.TheVariants.{AddressOverflow, InvalidCfiSetLoc}
+use Rattle.cfi_read_core.specs.declared.error.Error.TheVariants.{CfiInstructionInInvalidContext}
+use Rattle.cfi_read_core.specs.declared.error.Error.TheVariants.{StackFull, PopWithEmptyStack}
+use Rattle.cfi_read_core.specs.declared.error.Error.TheVariants.{TooManyRegisterRules}
 use Rattle.cfi_read_core.specs.declared.instruction.CallFrameInstruction.{CallFrameInstruction}
-use Rattle.cfi_state.specs.Actions.{Action, sets_location, advances_location, defines_cfa, defines_cfa_register, defines_cfa_offset, defines_cfa_expression, gives_rule, restores_rule, toggles_sign_state, remembers_state, restores_state, sets_args_size, changes_nothing, action}
+use Rattle.cfi_state.specs.Actions.{Action, sets_location, advances_location, defines_cfa}
+use Rattle.cfi_state.specs.Actions.{defines_cfa_register, defines_cfa_offset}
+use Rattle.cfi_state.specs.Actions.{defines_cfa_expression, gives_rule, restores_rule}
+use Rattle.cfi_state.specs.Actions.{toggles_sign_state, remembers_state, restores_state}
+use Rattle.cfi_state.specs.Actions.{sets_args_size, changes_nothing, action}
 use Rattle.cfi_state.specs.declared.table.rules.CfaRule.{CfaRule}
 use Rattle.cfi_state.specs.declared.table.rules.CfaRule.TheVariants as cfa
 use Rattle.cfi_state.specs.declared.table.rules.RegisterRule.{RegisterRule}
 use Rattle.cfi_state.specs.declared.table.rules.RegisterRule.TheVariants as rule
 use Rattle.cfi_state.specs.Machine.{Parts}
-use Rattle.cfi_state.specs.MachineSettings.{Setting, ra_sign_state, is_at_limit, advanced_location, fits_address, next_location}
+use Rattle.cfi_state.specs.MachineSettings.{Setting, ra_sign_state, is_at_limit, advanced_location}
+use Rattle.cfi_state.specs.MachineSettings.{fits_address, next_location}
 use Rattle.cfi_state.specs.RememberedStates.{survivors, open_indices}
 use Rattle.cfi_state.specs.LastWriters.{final_cfa, final_rule, registers_with_rule, final_parts}
 

@@ -4,7 +4,9 @@
 --     is_struck      the instruction is not a move, and lies within such a pair or at an end of it
 --     survivors      the instructions that are not struck
 --     open_indices      the indices of the remember_states that nothing matches
-use Rattle.std.specs.Prelude.{ℕ, ◌+◌, Bool, false, if◌then◌else◌, not, ◌&&◌, nat_lt, nat_le, ◌==◌, List, length, map, reverse, take, slice_get, slice_range, filter, filter_map, count_by, None}
+use Rattle.std.specs.Prelude.{ℕ, ◌+◌, Bool, false, if◌then◌else◌, not, ◌&&◌, nat_lt, nat_le, ◌==◌}
+use Rattle.std.specs.Prelude.{List, length, map, reverse, take, slice_get, slice_range, filter}
+use Rattle.std.specs.Prelude.{filter_map, count_by, None}
 use Rattle.std.specs.List.{list_any, list_all, range_with_len}
 use Rattle.std.specs.Option.{option_map_or}
 use Rattle.cfi_read_core.specs.declared.instruction.CallFrameInstruction.{CallFrameInstruction}

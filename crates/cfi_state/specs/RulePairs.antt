@@ -3,7 +3,8 @@
 --     IsDistinctRegisters      no register occurs twice
 --     IsRising      the registers strictly rise
 --     BelongsAt      the register does not occur, and a pair of it belongs at the index
-use Rattle.std.specs.Prelude.{◌≡◌, ℕ, ◌<◌, ◌≤◌, Bool, false, List, map, length, slice_index_or, Option, IsNone, Result, Ok, Err, not, ◌&&◌, if◌then◌else◌}
+use Rattle.std.specs.Prelude.{◌≡◌, ℕ, ◌<◌, ◌≤◌, Bool, false, List, map, length, slice_index_or}
+use Rattle.std.specs.Prelude.{Option, IsNone, Result, Ok, Err, not, ◌&&◌, if◌then◌else◌}
 use Rattle.std.specs.List.{IsDistinct}
 use Rattle.std.specs.List.Sorted.{IsStrictlySortedBy}
 use Rattle.std.specs.Ordering.{nat_cmp, eq_by_cmp}

@@ -2,10 +2,13 @@
 --     ContextState      its rows, and the rules that the CIE's initial instructions end with
 --     machine_state      the state of the machine, which keeps no addresses of rows
 --     context_remember, context_restore, context_end_of_cie      what the operations do
-use Rattle.std.specs.Prelude.{◌≡◌, ℕ, ◌+◌, ◌≤◌, Option, Some, None, List, [], ◌∷◌, ◌++◌, length, map, take, reverse, nat_le, ◌&&◌, if◌then◌else◌, ◌⊎◌, Bool, false, IsNone, Result, Ok, Err}
+use Rattle.std.specs.Prelude.{◌≡◌, ℕ, ◌+◌, ◌≤◌, Option, Some, None, List, [], ◌∷◌, ◌++◌, length}
+use Rattle.std.specs.Prelude.{map, take, reverse, nat_le, ◌&&◌, if◌then◌else◌, ◌⊎◌, Bool, false}
+use Rattle.std.specs.Prelude.{IsNone, Result, Ok, Err}
 use Rattle.std.specs.FinMap.{get, len}
 use Rattle.cfi_read_core.specs.declared.error.Error.{Error}
-use Rattle.cfi_read_core.specs.declared.error.Error.TheVariants.{StackFull, PopWithEmptyStack, CfiInstructionInInvalidContext}
+use Rattle.cfi_read_core.specs.declared.error.Error.TheVariants.{StackFull, PopWithEmptyStack}
+use Rattle.cfi_read_core.specs.declared.error.Error.TheVariants.{CfiInstructionInInvalidContext}
 use Rattle.cfi_state.specs.declared.table.rules.RegisterRule.{RegisterRule}
 use Rattle.cfi_lists.specs.ListLimits.{HasRoomFor}
 use Rattle.cfi_state.specs.MachineSettings.{is_at_limit}
