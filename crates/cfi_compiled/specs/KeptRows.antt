@@ -65,12 +65,12 @@ abbrev pub results_in :
 results_in lists rows = map (map_ok (frame_in lists)) rows
 
 pub record IsRestOf (lists : RestLists) (facts : CieFacts) (parts : Parts ℕ) (number : ℕ) : Type 0
-    where
-  pub inside : number < length lists.rests
-  pub room : number + 1 < 2 ^ 64
-  pub rules : rest_rules lists number ≡ parts.rules
-  pub args : rest_args lists number ≡ parts.args_size
-  pub said : rest_facts lists number ≡ facts
+  where
+    pub inside : number < length lists.rests
+    pub room : number + 1 < 2 ^ 64
+    pub rules : rest_rules lists number ≡ parts.rules
+    pub args : rest_args lists number ≡ parts.args_size
+    pub said : rest_facts lists number ≡ facts
 
 pub record IsGrown (old new : RestLists) : Type 0 where
   pub more : length old.rests ≤ length new.rests

@@ -54,9 +54,9 @@ unfoldable pub file_by : Image → List ℕ → Result File ElfError
 file_by image bytes =
     and_then (identification bytes) (λ ident.
     and_then
-        (or_error HeaderCut
-             (read_from (is_big ident.«data») (drop 16 bytes) (file_header ident.class)))
-        (λ header.
+    (or_error HeaderCut
+    (read_from (is_big ident.«data») (drop 16 bytes) (file_header ident.class)))
+    (λ header.
     with_addresses (record { image = image; identification = ident; header = header })))
 
 -- the file of an image

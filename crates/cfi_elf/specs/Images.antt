@@ -56,7 +56,7 @@ abbrev pub part_of : Image → ℕ → ℕ → Result (Option (List ℕ)) ElfErr
 part_of image offset size =
     if nat_le (offset + size) image.length
     then if_read offset size
-        (or_else (part image.first offset size) (in_parts offset size image.parts))
+    (or_else (part image.first offset size) (in_parts offset size image.parts))
     else Ok None
 
 -- this error where the file has fewer
@@ -67,7 +67,7 @@ bytes_at image offset size error = and_then (part_of image offset size) (or_miss
 unfoldable pub table_at : Image → ℕ → ℕ → ℕ → ElfError → Result Table ElfError
 table_at image offset count size error =
     and_then (bytes_at image offset (count * size) error)
-        (λ bytes. Ok (record { count = count; bytes = bytes }))
+    (λ bytes. Ok (record { count = count; bytes = bytes }))
 
 -- ---- what an image tells of the file
 

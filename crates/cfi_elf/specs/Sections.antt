@@ -23,15 +23,15 @@ use Rattle.cfi_elf.specs.ElfFiles.{File, class_of_file, is_big_file}
 abbrev pub section_header_at : File → List ℕ → ℕ → Result SectionHeader ElfError
 section_header_at file bytes offset =
     or_error SectionTableOutOfBounds
-        (read_from (is_big_file file) (drop offset bytes) (section_header (class_of_file file)))
+    (read_from (is_big_file file) (drop offset bytes) (section_header (class_of_file file)))
 
 -- section 0, which has the numbers that the file header has no room for
 unfoldable pub first_section_header : File → Result SectionHeader ElfError
 first_section_header file =
     and_then
-        (bytes_at file.image file.header.offsets.e_shoff (section_header_size (class_of_file file))
-             SectionTableOutOfBounds)
-        (λ bytes.
+    (bytes_at file.image file.header.offsets.e_shoff (section_header_size (class_of_file file))
+    SectionTableOutOfBounds)
+    (λ bytes.
     section_header_at file bytes 0)
 
 -- e_shnum, or where it is 0 sh_size of section 0
@@ -48,9 +48,9 @@ section_table file =
     let size = section_header_size (class_of_file file) in
     if offset == 0 then Ok no_entries
     else if not (file.header.sizes.e_shentsize == size) then Err
-        (SectionEntrySize file.header.sizes.e_shentsize)
+    (SectionEntrySize file.header.sizes.e_shentsize)
     else and_then (section_count file)
-        (λ count. table_at file.image offset count size SectionTableOutOfBounds)
+    (λ count. table_at file.image offset count size SectionTableOutOfBounds)
 
 -- the section headers of a table, in their order
 abbrev pub section_headers : File → Table → List SectionHeader
@@ -93,8 +93,8 @@ names_at file table index =
     if index == 0 then Ok []
     else if nat_le table.count index then Err (NoNameSection index)
     else and_then
-        (section_header_at file table.bytes (index * section_header_size (class_of_file file)))
-        (contents file)
+    (section_header_at file table.bytes (index * section_header_size (class_of_file file)))
+    (contents file)
 
 -- the section name string table
 unfoldable pub section_names : File → Table → Result (List ℕ) ElfError
@@ -108,7 +108,7 @@ unfoldable pub is_named : List ℕ → List ℕ → SectionHeader → Result Boo
 is_named names name header =
     if header.identity.sh_type == 0 then Ok false
     else and_then (name_at names header.identity.sh_name)
-        (λ found. Ok (pointwise nat_eq found name))
+    (λ found. Ok (pointwise nat_eq found name))
 
 -- the first section header with the name, if every name before it can be read
 abbrev pub first_named :
@@ -134,7 +134,7 @@ abbrev pub section_of : File → Option SectionHeader → Result (Option Section
 section_of file None = Ok None
 section_of file (Some header) =
     and_then (contents file header)
-        (λ bytes. Ok (Some (record { address = header.identity.sh_addr; bytes = bytes })))
+    (λ bytes. Ok (Some (record { address = header.identity.sh_addr; bytes = bytes })))
 
 -- the section of this name
 unfoldable pub section_named : File → List ℕ → Result (Option Section) ElfError
@@ -146,7 +146,7 @@ address_of file header =
     if header.identity.sh_type == 8 then Ok header.identity.sh_addr
     else if not (bit_and header.identity.sh_flags 0x800 == 0) then Err Compressed
     else if nat_le (header.place.sh_offset + header.place.sh_size) file.image.length then Ok
-        header.identity.sh_addr
+    header.identity.sh_addr
     else Err SectionOutOfBounds
 
 abbrev pub address_of_found : File → Option SectionHeader → Result (Option ℕ) ElfError

@@ -32,9 +32,9 @@ program_table file =
     let size = program_header_size (class_of_file file) in
     if offset == 0 then Ok no_entries
     else if not (file.header.sizes.e_phentsize == size) then Err
-        (ProgramEntrySize file.header.sizes.e_phentsize)
+    (ProgramEntrySize file.header.sizes.e_phentsize)
     else and_then (segment_count file)
-        (λ count. table_at file.image offset count size ProgramTableOutOfBounds)
+    (λ count. table_at file.image offset count size ProgramTableOutOfBounds)
 
 -- the program headers of a table, in their order
 abbrev pub program_headers : File → Table → List ProgramHeader
@@ -49,7 +49,7 @@ abbrev pub is_loaded_at : ℕ → ProgramHeader → Bool
 is_loaded_at address header =
     (header.p_type == 1)
     && (nat_le header.place.p_vaddr address
-          && nat_lt address (header.place.p_vaddr + header.place.p_filesz))
+    && nat_lt address (header.place.p_vaddr + header.place.p_filesz))
 
 -- where a segment begins in the file as it is mapped, by whole pages of 4 KiB
 abbrev pub page_offset : ProgramHeader → ℕ
@@ -61,7 +61,7 @@ abbrev pub is_code_at : ℕ → ProgramHeader → Bool
 is_code_at offset header =
     (header.p_type == 1) && (not (bit_and header.p_flags 1 == 0)
     && (nat_le (page_offset header) offset
-          && nat_lt offset (header.place.p_offset + header.place.p_filesz)))
+    && nat_lt offset (header.place.p_offset + header.place.p_filesz)))
 
 abbrev pub is_wanted : Wanted → ProgramHeader → Bool
 is_wanted (OfType p_type) header = header.p_type == p_type
@@ -72,7 +72,7 @@ is_wanted (CodeAt offset) header = is_code_at offset header
 unfoldable pub wanted_segment : File → Wanted → Result (Option ProgramHeader) ElfError
 wanted_segment file wanted =
     and_then (program_table file)
-        (λ table. Ok (find (is_wanted wanted) (program_headers file table)))
+    (λ table. Ok (find (is_wanted wanted) (program_headers file table)))
 
 -- the bytes of a segment in the file
 abbrev pub segment_bytes : File → ProgramHeader → Result (List ℕ) ElfError
@@ -84,7 +84,7 @@ abbrev pub segment_of : File → Option ProgramHeader → Result (Option Section
 segment_of file None = Ok None
 segment_of file (Some header) =
     and_then (segment_bytes file header)
-        (λ bytes. Ok (Some (record { address = header.place.p_vaddr; bytes = bytes })))
+    (λ bytes. Ok (Some (record { address = header.place.p_vaddr; bytes = bytes })))
 
 -- the first segment of type PT_GNU_EH_FRAME, which has the header of call frame information (LSB
 -- Core, "Program Header")
@@ -96,7 +96,7 @@ abbrev pub bytes_after : File → ℕ → Option ProgramHeader → Result (Optio
 bytes_after file address None = Ok None
 bytes_after file address (Some header) =
     and_then (segment_bytes file header)
-        (λ bytes. Ok (Some (drop (address - header.place.p_vaddr) bytes)))
+    (λ bytes. Ok (Some (drop (address - header.place.p_vaddr) bytes)))
 
 -- the file's bytes from an address up to the end of those of the first loaded segment that has it
 unfoldable pub loaded_bytes : File → ℕ → Result (Option (List ℕ)) ElfError
@@ -120,4 +120,4 @@ loaded_address offset header = plus (minus header.place.p_vaddr header.place.p_o
 unfoldable pub address_of_offset : File → ℕ → Result (Option ℕ) ElfError
 address_of_offset file offset =
     and_then (wanted_segment file (CodeAt offset))
-        (λ found. Ok (option_map (loaded_address offset) found))
+    (λ found. Ok (option_map (loaded_address offset) found))

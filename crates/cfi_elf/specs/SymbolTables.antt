@@ -30,8 +30,8 @@ is_of_type sh_type header = header.identity.sh_type == sh_type
 abbrev pub symbol_section : File → Table → Option SectionHeader
 symbol_section file table =
     let headers =
-        section_headers file table in or_else (find (is_of_type 2) headers)
-            (find (is_of_type 11) headers)
+    section_headers file table in or_else (find (is_of_type 2) headers)
+    (find (is_of_type 11) headers)
 
 -- its entries, and its names, which are in the section of the index sh_link
 unfoldable pub symbols_in : File → Table → SectionHeader → Result SymbolTable ElfError
@@ -74,7 +74,7 @@ unfoldable pub symbol_address : File → List ℕ → Result (Option ℕ) ElfErr
 symbol_address file name =
     and_then (symbol_table file) (λ table.
     and_then (first_by (is_symbol_named table.names name) (symbols file table))
-        (λ found. Ok (value_of found)))
+    (λ found. Ok (value_of found)))
 
 -- ---- by address
 
@@ -92,10 +92,10 @@ abbrev pub function_of : List ℕ → Option Symbol → Result (Option Function)
 function_of names None = Ok None
 function_of names (Some s) =
     and_then (name_at names s.st_name)
-        (λ name. Ok (Some (record { name = name; address = s.st_value; size = s.st_size })))
+    (λ name. Ok (Some (record { name = name; address = s.st_value; size = s.st_size })))
 
 -- the first function that has the address
 unfoldable pub function_at : File → ℕ → Result (Option Function) ElfError
 function_at file address =
     and_then (symbol_table file)
-        (λ table. function_of table.names (find (is_function_at address) (symbols file table)))
+    (λ table. function_of table.names (find (is_function_at address) (symbols file table)))

@@ -22,7 +22,7 @@ is_cie section found = found.id == cie_id section.kind found.format
 abbrev pub partial_fde_of : Section → Prefix → Result PartialFde Error
 partial_fde_of section found =
     map_ok (λ offset. record { prefix = found; cie_offset = offset })
-        (cie_offset_of section found.id_offset found.id)
+    (cie_offset_of section found.id_offset found.id)
 
 -- a CIE is read whole, an FDE as far as the offset of its CIE
 unfoldable pub entry_of : Section → Prefix → Result Entry Error
@@ -56,7 +56,7 @@ entries_from zero section place = no_values None
 entries_from (suc n) section place =
     let first = prefix section section.source place in
     entries_with section (nat_le section.source.last place) first.value
-        (entries_from n section first.place)
+    (entries_from n section first.place)
 
 -- the entries that are left at a place; each takes a byte at least
 abbrev pub entries_left : Section → ℕ → Readings Entry

@@ -27,4 +27,4 @@ cie_instructions section cie =
 abbrev pub fde_instructions : Section → Fde → Readings Instruction
 fde_instructions section fde =
     instructions_in section fde.cie.address_size (address_encoding_of fde.cie.augmentation)
-        fde.instructions
+    fde.instructions

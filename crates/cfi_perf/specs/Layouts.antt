@@ -132,9 +132,9 @@ abbrev pub same_layout : EventLayout → EventLayout → Bool
 same_layout a b =
     (a.sample_type == b.sample_type)
     && ((a.read_format == b.read_format)
-          && (beq a.sample_id_all b.sample_id_all
-                && ((a.branch_sample_type == b.branch_sample_type)
-                      && (a.sample_regs_user == b.sample_regs_user))))
+    && (beq a.sample_id_all b.sample_id_all
+    && ((a.branch_sample_type == b.branch_sample_type)
+    && (a.sample_regs_user == b.sample_regs_user))))
 
 -- the layout of the first event, if each other one has the same
 abbrev pub only_layout : List EventLayout → Result EventLayout PerfError

@@ -48,8 +48,8 @@ unfoldable pub layout_by : RunTimeEndian → List ℕ → FileHeader → Result 
 layout_by endian bytes header =
     if nat_lt header.attr_size 112 then Err (AttributeSize header.attr_size)
     else and_then
-        (or_missing AttributesOutOfBounds (part bytes header.attrs.offset header.attrs.size))
-        (λ attrs.
+    (or_missing AttributesOutOfBounds (part bytes header.attrs.offset header.attrs.size))
+    (λ attrs.
     only_layout (events (is_big endian) header.attr_size attrs))
 
 unfoldable pub profile : List ℕ → Result Profile PerfError
@@ -58,7 +58,7 @@ profile bytes =
     and_then (file_header endian bytes) (λ header.
     and_then (layout_by endian bytes header) (λ layout.
     and_then (or_missing DataOutOfBounds (part bytes header.records.offset header.records.size))
-        (λ records.
+    (λ records.
     Ok (record {
       bytes = bytes;
       endian = endian;
@@ -79,9 +79,9 @@ profile_records p = records_of p.layout (is_big p.endian) p.records
 abbrev pub feature_section : Profile → ℕ → Result (List ℕ) PerfError
 feature_section p index =
     and_then
-        (or_error FeatureOutOfBounds
-             (read_from (is_big p.endian) (drop (16 * index) p.behind) file_section))
-        (λ place.
+    (or_error FeatureOutOfBounds
+    (read_from (is_big p.endian) (drop (16 * index) p.behind) file_section))
+    (λ place.
     or_missing FeatureOutOfBounds (part p.bytes place.offset place.size))
 
 -- a text of the header: its size, and as many bytes, with zeros at the end
@@ -93,7 +93,7 @@ header_text = do
 abbrev pub text_in : Profile → List ℕ → Result (List ℕ) PerfError
 text_in p contents =
     and_then (or_error FeatureOutOfBounds (read_from (is_big p.endian) contents header_text))
-        (λ text.
+    (λ text.
     or_missing FeatureOutOfBounds (before_zero text))
 
 -- HEADER_ARCH is bit 6

@@ -83,7 +83,7 @@ without_id_view r = record { time = r.time; fields = r.fields.now }
 abbrev pub split_id : EventLayout → Bool → List ℕ → ℕ → Result WithoutId PerfError
 split_id layout big body length' =
     and_then (or_error RecordCut (read_from big (drop length' body) (sample_id_time layout)))
-        (λ time.
+    (λ time.
     Ok (record { time = time; fields = take length' body }))
 
 -- the records of perf itself, from 64 on, have none

@@ -55,8 +55,8 @@ abbrev pub register_of : UserRegisters → ℕ → Option ℕ
 register_of registers number =
     if has_register registers number
     then ok_value
-        (read_from registers.big_endian
-             (drop (8 * count_ones (registers.mask % 2 ^ number)) registers.values) (unsigned w64))
+    (read_from registers.big_endian
+    (drop (8 * count_ones (registers.mask % 2 ^ number)) registers.values) (unsigned w64))
     else None
 
 -- what these are in the code
@@ -130,9 +130,9 @@ abbrev pub read_values : EventLayout → Read Unit
 read_values layout =
     if has PERF_SAMPLE_READ layout
     then
-        (if has_any 0x8 layout.read_format
-         then group_values layout.read_format
-         else single_value layout.read_format)
+    (if has_any 0x8 layout.read_format
+    then group_values layout.read_format
+    else single_value layout.read_format)
     else give tt
 
 -- a count, and as many numbers
@@ -180,16 +180,16 @@ abbrev pub registers_by : ℕ → ℕ → Read (Option UserRegisters)
 registers_by mask abi =
     if abi == 0 then give None
     else
-        (items (count_ones mask) 8 >>=
-             λ values source.
-                 give
-                     (Some (record {
-                        abi = abi;
-                        mask = mask;
-                        values = values;
-                        big_endian = source.big_endian;
-                      }))
-                     source)
+    (items (count_ones mask) 8 >>=
+    λ values source.
+    give
+    (Some (record {
+      abi = abi;
+      mask = mask;
+      values = values;
+      big_endian = source.big_endian;
+    }))
+    source)
 
 unfoldable pub registers : ℕ → Read (Option UserRegisters)
 registers mask = do

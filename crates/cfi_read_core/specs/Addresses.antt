@@ -37,8 +37,8 @@ either false b f g h = inr (g h)
 pub sized_by : (size : ℕ) → is_sized size ≡ true → IsAddressSize size
 sized_by size =
     either (size == 1) _ (eqb-true size 1)
-        (either (size == 2) _ (eqb-true size 2)
-             (either (size == 4) (size == 8) (eqb-true size 4) (eqb-true size 8)))
+    (either (size == 2) _ (eqb-true size 2)
+    (either (size == 4) (size == 8) (eqb-true size 4) (eqb-true size 8)))
 
 abbrev pub address_width : ℕ → Option Width
 address_width size =

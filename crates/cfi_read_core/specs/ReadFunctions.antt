@@ -93,22 +93,22 @@ bytes n = split n >>= λ extent source. give (bytes_of source extent) source
 abbrev pub remainder : Read Extent
 remainder =
     λ source place.
-        record { value = Ok (record { first = place; last = source.last }); place = source.last }
+    record { value = Ok (record { first = place; last = source.last }); place = source.last }
 
 -- reads an extent from its first place; the outer reader stays where it was
 abbrev pub within : {A : Type 0} → Extent → Read A → Read A
 within extent read =
     λ source place.
-        record {
-          value = (read (record source { last = extent.last }) extent.first).value;
-          place = place;
-        }
+    record {
+      value = (read (record source { last = extent.last }) extent.first).value;
+      place = place;
+    }
 
 -- a number that has to be an offset
 abbrev pub offset : ℕ → Read ℕ
 offset n =
     λ source place.
-        (if nat_le n source.greatest then give n else refuse UnsupportedOffset) source place
+    (if nat_le n source.greatest then give n else refuse UnsupportedOffset) source place
 
 -- the read that a table has for a number, or the other one where it has none
 abbrev pub chosen_from : {A : Type 0} → ℕ → List (ℕ × Read A) → Read A → Read A
@@ -146,4 +146,4 @@ readings_up_to (suc n) read source place =
 abbrev pub readings_over : {A : Type 0} → Extent → Read A → Source → Readings A
 readings_over extent read source =
     readings_up_to (extent.last - extent.first) read (record source { last = extent.last })
-        extent.first
+    extent.first

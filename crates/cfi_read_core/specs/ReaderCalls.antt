@@ -87,7 +87,7 @@ same_reader = eq_of_both (on bytes_left (pointwise nat_eq)) (on (λ s. s.source.
 pub same_reader-equiv : IsEquivalence same_reader
 same_reader-equiv =
     and_equiv (on_equiv bytes_left (lists_equiv nat_eq_equiv))
-        (on_equiv (λ s. s.source.big_endian) bool_eq_equiv)
+    (on_equiv (λ s. s.source.big_endian) bool_eq_equiv)
 
 pub same_reader-per : IsPartialEquivalence same_reader
 same_reader-per = partial_equiv_from_equiv same_reader-equiv

@@ -17,7 +17,7 @@ use Rattle.cfi_read_core.specs.declared.endian_slice.SliceReader.{SliceReader}
 abbrev pub EndianSlice : Type 0 → Type 0
 EndianSlice E = SliceReader E ℕ (record { number = λ n. n; GREATEST = 18446744073709551615 })
     (record { eq = nat_eq }) (record { cmp = nat_cmp })
-        (record { partial_cmp = λ x y. Some (nat_cmp x y) })
+    (record { partial_cmp = λ x y. Some (nat_cmp x y) })
     (record { debug_output = λ n. Some (decimal n) })
 
 -- the position of a reader over a slice, by the test of its byte order

@@ -32,7 +32,7 @@ at_key :
 at_key t r [] any all = cc
 at_key t r (k ∷ ks) any all =
     elim (eq_by_cmp nat_cmp r k) as (λ b.
-        eq_by_cmp nat_cmp r k ≡ b → (b || list_any (eq_by_cmp nat_cmp r) ks) ≡ true → t r ≡ true) [
+    eq_by_cmp nat_cmp r k ≡ b → (b || list_any (eq_by_cmp nat_cmp r) ks) ≡ true → t r ≡ true) [
       | true ↦ λ ties any.
           ap t (nat_cmp-IsAntisymmetric r k ((Equal-is _).0 ties))
           ∙ first_so (t k) (list_all t ks) all
@@ -53,21 +53,21 @@ module _ {X : Type 0} (E : X → X → Bool) where
   from_map_eq a b same r =
       both_some (get a r) (get b r)
       (λ has.
-           at_key (λ q. option_eq E (get a q) (get b q)) r (keys a)
-               (sym (contains_key-keys a r) ∙ has)
-               (first_so (is_within E a b) (is_within E b a) same))
+      at_key (λ q. option_eq E (get a q) (get b q)) r (keys a)
+      (sym (contains_key-keys a r) ∙ has)
+      (first_so (is_within E a b) (is_within E b a) same))
       (λ has.
-           at_key (λ q. option_eq E (get b q) (get a q)) r (keys b)
-               (sym (contains_key-keys b r) ∙ has)
-               (second_so (is_within E a b) (is_within E b a) same))
+      at_key (λ q. option_eq E (get b q) (get a q)) r (keys b)
+      (sym (contains_key-keys b r) ∙ has)
+      (second_so (is_within E a b) (is_within E b a) same))
 
   to_map_eq :
       (a b : FinMap nat_cmp X) → ((r : ℕ) → option_eq E (get a r) (get b r) ≡ true) →
       ((r : ℕ) → option_eq E (get b r) (get a r) ≡ true) → map_eq E a b ≡ true
   to_map_eq a b there back =
       λ i.
-          all_from_each (λ q. option_eq E (get a q) (get b q)) there (keys a) i
-          && all_from_each (λ q. option_eq E (get b q) (get a q)) back (keys b) i
+      all_from_each (λ q. option_eq E (get a q) (get b q)) there (keys a) i
+      && all_from_each (λ q. option_eq E (get b q) (get a q)) back (keys b) i
 
   pub map_equiv : IsEquivalence E → IsEquivalence (map_eq E)
   map_equiv e =
@@ -79,8 +79,8 @@ module _ {X : Type 0} (E : X → X → Bool) where
         trans = λ a b c h k. to_map_eq a c
             (λ r. p.trans (get a r) (get b r) (get c r) (from_map_eq a b h r) (from_map_eq b c k r))
             (λ r. o.symm (get c r) (get a r)
-                ∙ p.trans (get a r) (get b r) (get c r) (from_map_eq a b h r)
-                      (from_map_eq b c k r));
+            ∙ p.trans (get a r) (get b r) (get c r) (from_map_eq a b h r)
+            (from_map_eq b c k r));
       })
       (λ a. to_map_eq a a (λ r. o.refl (get a r)) (λ r. o.refl (get a r)))
 
@@ -90,7 +90,7 @@ module _ {T : Type 0} {eq : T → T → Bool} (e : IsEquivalence eq) where
   expression_equiv : IsEquivalence (expression_eq eq)
   expression_equiv =
       and_equiv (on_equiv (λ (x : UnwindExpression T). x.offset) e)
-          (on_equiv (λ (x : UnwindExpression T). x.length) e)
+      (on_equiv (λ (x : UnwindExpression T). x.length) e)
 
   cfa_refl : (a : CfaRule T) → cfa_eq eq a a ≡ true
   cfa_refl (cfa.RegisterAndOffset r m) = λ i. nat_eq_equiv.refl r.0 i && int_eq_equiv.refl m i
@@ -105,8 +105,8 @@ module _ {T : Type 0} {eq : T → T → Bool} (e : IsEquivalence eq) where
   cfa_congr : (a b c : CfaRule T) → cfa_eq eq a b ≡ true → cfa_eq eq a c ≡ cfa_eq eq b c
   cfa_congr (cfa.RegisterAndOffset r m) (cfa.RegisterAndOffset s n) (cfa.RegisterAndOffset t k) h =
       λ i.
-          nat_eq_equiv.congr r.0 s.0 t.0 (first_so (r.0 == s.0) (int_eq m n) h) i
-          && int_eq_equiv.congr m n k (second_so (r.0 == s.0) (int_eq m n) h) i
+      nat_eq_equiv.congr r.0 s.0 t.0 (first_so (r.0 == s.0) (int_eq m n) h) i
+      && int_eq_equiv.congr m n k (second_so (r.0 == s.0) (int_eq m n) h) i
   cfa_congr (cfa.RegisterAndOffset r m) (cfa.RegisterAndOffset s n) (cfa.Expression e) h = refl
   cfa_congr (cfa.Expression d) (cfa.Expression e) (cfa.Expression f) h =
       expression_equiv.congr d e f h
@@ -171,10 +171,10 @@ module _ {T : Type 0} {eq : T → T → Bool} (e : IsEquivalence eq) where
       (and_equiv (on_equiv (λ (x : Row T). x.end_address) nat_eq_equiv)
       (and_equiv (on_equiv (λ (x : Row T). x.parts.args_size) nat_eq_equiv)
       (and_equiv (on_equiv (λ (x : Row T). x.parts.cfa) cfa_equiv)
-           (on_equiv (λ (x : Row T). x.parts.rules) rules_equiv))))
+      (on_equiv (λ (x : Row T). x.parts.rules) rules_equiv))))
 
   pub context_equiv : IsEquivalence (context_eq eq)
   context_equiv =
       and_equiv (on_equiv (λ (x : ContextState T). x.row) row_equiv)
       (and_equiv (on_equiv (λ (x : ContextState T). x.remembered) (lists_equiv row_equiv))
-           (on_equiv (λ (x : ContextState T). x.initial_rules) (options_equiv rules_equiv)))
+      (on_equiv (λ (x : ContextState T). x.initial_rules) (options_equiv rules_equiv)))

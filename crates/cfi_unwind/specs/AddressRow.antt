@@ -40,7 +40,7 @@ setting rule_limit stack_limit fde = record {
 abbrev pub row_of_fde : Option ℕ → Option ℕ → Section → ℕ → Fde → Result (Row ℕ) Error
 row_of_fde rule_limit stack_limit section a fde =
     fde_answer (setting rule_limit stack_limit fde) (cie_instructions section fde.cie)
-        (fde_instructions section fde) a
+    (fde_instructions section fde) a
 
 abbrev pub row_by_scan : Option ℕ → Option ℕ → Section → ℕ → Result (Row ℕ) Error
 row_by_scan rule_limit stack_limit section a =
@@ -56,7 +56,7 @@ abbrev pub allocates_in_fde : Option ℕ → Option ℕ → Bool → Section →
 allocates_in_fde rule_limit stack_limit copies_free section a fde =
     let s = setting rule_limit stack_limit fde in
     may_allocate_on_the_way (may_allocate s copies_free) s (cie_instructions section fde.cie)
-        (fde_instructions section fde) a
+    (fde_instructions section fde) a
 
 -- nothing allocates where a refusal was found
 abbrev pub allocates_in_found : Option ℕ → Option ℕ → Bool → Section → ℕ → Result Fde Error → Bool
@@ -69,20 +69,20 @@ abbrev pub IsRowOfFde :
     Option ℕ → Option ℕ → Bool → Section → ℕ → Fde → Result (Row ℕ) Error → Type 0
 IsRowOfFde rule_limit stack_limit copies_free section a fde row =
     IsDueOrOutOfMemory (row_of_fde rule_limit stack_limit section a fde)
-        (allocates_in_fde rule_limit stack_limit copies_free section a fde) row
+    (allocates_in_fde rule_limit stack_limit copies_free section a fde) row
 
 -- the row for an address where this FDE or refusal was found
 abbrev pub IsRowOfFound :
     Option ℕ → Option ℕ → Bool → Section → ℕ → Result Fde Error → Result (Row ℕ) Error → Type 0
 IsRowOfFound rule_limit stack_limit copies_free section a found row =
     IsDueOrOutOfMemory (answer_by (row_of_fde rule_limit stack_limit section a) found)
-        (allocates_in_found rule_limit stack_limit copies_free section a found) row
+    (allocates_in_found rule_limit stack_limit copies_free section a found) row
 
 -- the row for an address by going through the section, each FDE with the CIE to which it points
 abbrev pub IsRowByScan : Option ℕ → Option ℕ → Bool → Section → ℕ → Result (Row ℕ) Error → Type 0
 IsRowByScan rule_limit stack_limit copies_free section a row =
     IsDueOrOutOfMemory (row_by_scan rule_limit stack_limit section a)
-        (allocates_in_found rule_limit stack_limit copies_free section a (chosen_fde section a)) row
+    (allocates_in_found rule_limit stack_limit copies_free section a (chosen_fde section a)) row
 
 -- The same where a closure gives the CIEs: from its state f to its state g, or to some state, where
 -- it was passed by value.

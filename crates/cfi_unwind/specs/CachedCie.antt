@@ -21,9 +21,9 @@ abbrev pub CachesCie :
     Option (ℕ × CieFields R O) → Type 0
 CachesCie position number frame bases kept =
     IfSome kept
-        (λ known.
-             (Ok (cie_view position number known.1) ≡ cie_at (section_of frame bases) known.0)
-             × IsCieOf position frame.position known.1)
+    (λ known.
+    (Ok (cie_view position number known.1) ≡ cie_at (section_of frame bases) known.0)
+    × IsCieOf position frame.position known.1)
 
 abbrev pub IsCacheOf :
     {R O : Type 0} → (R → Position) → (O → ℕ) → SectionView → BaseAddresses → CieCacheFields R O →
@@ -37,8 +37,8 @@ abbrev pub GetsCie :
     ℕ → Result (CieFields R O) Error → CieCacheFields R O → Type 0
 GetsCie position number frame bases before offset result after =
     (IsCacheOf position number frame bases before →
-     map_ok (cie_view position number) result ≡ cie_at (section_of frame bases) offset)
+    map_ok (cie_view position number) result ≡ cie_at (section_of frame bases) offset)
     × ((IsCacheOf position number frame bases before →
-        IfOk result (IsCieOf position frame.position))
-       × (IsCacheOf position number frame bases before →
-          IsCacheOf position number frame bases after))
+    IfOk result (IsCieOf position frame.position))
+    × (IsCacheOf position number frame bases before →
+    IsCacheOf position number frame bases after))

@@ -18,19 +18,19 @@ use Rattle.cfi_unwind.specs.declared.entry.entries.CfiEntriesIter.{CfiEntriesIte
 
 abbrev pub walk_section :
     {S R O E : Type 0} {a : _} {b : _} {c : _} {d : _} {e : _} {f : _} {g : _} {h : _} {i : _}
-        {j : _} {k : _} {l : _} →
+    {j : _} {k : _} {l : _} →
     CfiEntriesIter S R O E a b c d e f g h i j k l → S
 walk_section walk = walk.section
 
 abbrev pub walk_bases :
     {S R O E : Type 0} {a : _} {b : _} {c : _} {d : _} {e : _} {f : _} {g : _} {h : _} {i : _}
-        {j : _} {k : _} {l : _} →
+    {j : _} {k : _} {l : _} →
     CfiEntriesIter S R O E a b c d e f g h i j k l → BaseAddresses
 walk_bases walk = walk.bases.now
 
 abbrev pub entries_of :
     {S R O E : Type 0} {a : _} {b : _} {c : _} {d : _} {e : _} {f : _} {g : _} {h : _} {i : _}
-        {j : _} {k : _} {l : _} →
+    {j : _} {k : _} {l : _} →
     (S → SectionView) → (R → Position) → CfiEntriesIter S R O E a b c d e f g h i j k l →
     Readings Entry
 entries_of view position walk =
@@ -38,20 +38,20 @@ entries_of view position walk =
 
 abbrev pub IsAtStart :
     {S R O E : Type 0} {a : _} {b : _} {c : _} {d : _} {e : _} {f : _} {g : _} {h : _} {i : _}
-        {j : _} {k : _} {l : _} →
+    {j : _} {k : _} {l : _} →
     (S → SectionView) → (R → Position) → CfiEntriesIter S R O E a b c d e f g h i j k l → Type 0
 IsAtStart view position walk = position walk.input ≡ (view walk.section).position
 
 abbrev pub IsSameWalk :
     {S R O E : Type 0} {a : _} {b : _} {c : _} {d : _} {e : _} {f : _} {g : _} {h : _} {i : _}
-        {j : _} {k : _} {l : _} →
+    {j : _} {k : _} {l : _} →
     CfiEntriesIter S R O E a b c d e f g h i j k l →
     CfiEntriesIter S R O E a b c d e f g h i j k l → Type 0
 IsSameWalk new old = (new.section ≡ old.section) × (new.bases.now ≡ old.bases.now)
 
 abbrev pub IsShorter :
     {S R O E : Type 0} {a : _} {b : _} {c : _} {d : _} {e : _} {f : _} {g : _} {h : _} {i : _}
-        {j : _} {k : _} {l : _} →
+    {j : _} {k : _} {l : _} →
     (R → Position) → CfiEntriesIter S R O E a b c d e f g h i j k l →
     CfiEntriesIter S R O E a b c d e f g h i j k l → Type 0
 IsShorter position new old = remaining (position new.input) < remaining (position old.input)

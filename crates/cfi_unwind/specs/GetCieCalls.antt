@@ -84,7 +84,7 @@ abbrev pub Scans :
 Scans get_cie section a readings f answer g =
     (given : List (Result Cie Error)) × IsGiven get_cie (partial_fdes readings.values) f given g
     × (chosen_of_given a section (partial_fdes readings.values) readings.refusal given
-       ≡ Some answer)
+    ≡ Some answer)
 
 -- ---- as the calls of a section and of a table use them
 

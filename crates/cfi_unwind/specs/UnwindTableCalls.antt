@@ -90,7 +90,7 @@ abbrev pub KeepsExpressionsIn :
 KeepsExpressionsIn p answer q =
     (section : Position) → EachOfTable (LiesIn section) p →
     EachOfTable (LiesIn section) q
-        × IfOk answer (λ found. IfSome found (λ row. EachExpression (LiesIn section) row.parts))
+    × IfOk answer (λ found. IfSome found (λ row. EachExpression (LiesIn section) row.parts))
 
 -- ---- without a machine
 
@@ -119,10 +119,10 @@ pub record StartsRows {X : Type 0} (place : X → TableState (State ℕ) ℕ) (s
     (copies_free : Bool) (section : Section) (fde : Fde) (made : Result X Error) : Type 0 where
   pub run :
       RunsInitialInstructions (may_allocate s copies_free) s fresh_state
-          (cie_instructions section fde.cie) (map_ok (λ x. (place x).so_far) made)
+      (cie_instructions section fde.cie) (map_ok (λ x. (place x).so_far) made)
   pub kept :
       AcceptsCieProgram s copies_free (cie_instructions section fde.cie)
-          (map_ok (λ x. (place x).so_far) made)
+      (map_ok (λ x. (place x).so_far) made)
   pub left : IfOk made (λ x. (place x).left ≡ fde_instructions section fde)
   pub has_not_ended : IfOk made (λ x. (place x).has_ended ≡ false)
   -- the rows follow each other from the FDE's first address to its end, and each address of it lies
@@ -131,9 +131,9 @@ pub record StartsRows {X : Type 0} (place : X → TableState (State ℕ) ℕ) (s
       IfOk made (λ x. AreConsecutive s.initial_address (rows_to_come s (place x)) s.end_address)
   pub each_once :
       IfOk made
-          (λ x.
-               (address : ℕ) → s.initial_address ≤ address → address < s.end_address →
-               count_by (row_contains address) (rows_to_come s (place x)) ≡ 1)
+      (λ x.
+      (address : ℕ) → s.initial_address ≤ address → address < s.end_address →
+      count_by (row_contains address) (rows_to_come s (place x)) ≡ 1)
   -- the expressions of the two programs, and so of the rows, lie in the section
   pub expressions : IfOk made (λ x. EachOfTable (LiesIn (position_of section)) (place x))
 

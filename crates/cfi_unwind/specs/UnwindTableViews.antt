@@ -30,7 +30,7 @@ use Rattle.cfi_unwind.specs.UnwindTableCalls.{StartsRows, state_in_numbers}
 -- say
 abbrev pub table_state :
     {R S O E A K : Type 0} {a : _} {b : _} {c : _} {d : _} {e : _} {f : _} {g : _} {h : _} {i : _}
-        {j : _} {k : _} →
+    {j : _} {k : _} →
     (R → Position) → (O → ℕ) → UnwindTable R S O E A K a b c d e f g h i j k →
     TableState (State ℕ) ℕ
 table_state position number table = record {
@@ -41,19 +41,19 @@ table_state position number table = record {
 
 abbrev pub table_parameters :
     {R S O E A K : Type 0} {a : _} {b : _} {c : _} {d : _} {e : _} {f : _} {g : _} {h : _} {i : _}
-        {j : _} {k : _} →
+    {j : _} {k : _} →
     UnwindTable R S O E A K a b c d e f g h i j k → Parameters
 table_parameters table = table.parameters
 
 abbrev pub table_setting :
     {R S O E A K : Type 0} {a : _} {b : _} {c : _} {d : _} {e : _} {f : _} {g : _} {h : _} {i : _}
-        {j : _} {k : _} →
+    {j : _} {k : _} →
     UnwindTable R S O E A K a b c d e f g h i j k → Option ℕ → Option ℕ → Setting
 table_setting table = setting_of table.parameters
 
 abbrev pub HasSettingOf :
     {R S O E A K : Type 0} {a : _} {b : _} {c : _} {d : _} {e : _} {f : _} {g : _} {h : _} {i : _}
-        {j : _} {k : _} →
+    {j : _} {k : _} →
     Fde → UnwindTable R S O E A K a b c d e f g h i j k → Type 0
 HasSettingOf fde table =
     (rule_limit stack_limit : Option ℕ) →
@@ -61,26 +61,26 @@ HasSettingOf fde table =
 
 abbrev pub holds_row :
     {R S O E A K : Type 0} {a : _} {b : _} {c : _} {d : _} {e : _} {f : _} {g : _} {h : _} {i : _}
-        {j : _} {k : _} →
+    {j : _} {k : _} →
     UnwindTable R S O E A K a b c d e f g h i j k → Bool
 holds_row table = table.holds_row
 
 -- the context, its row, and the name of the reference to it
 abbrev pub context_now :
     {R S O E A K : Type 0} {a : _} {b : _} {c : _} {d : _} {e : _} {f : _} {g : _} {h : _} {i : _}
-        {j : _} {k : _} →
+    {j : _} {k : _} →
     UnwindTable R S O E A K a b c d e f g h i j k → ContextState O
 context_now table = table.context.now
 
 abbrev pub context_row :
     {R S O E A K : Type 0} {a : _} {b : _} {c : _} {d : _} {e : _} {f : _} {g : _} {h : _} {i : _}
-        {j : _} {k : _} →
+    {j : _} {k : _} →
     UnwindTable R S O E A K a b c d e f g h i j k → Row O
 context_row table = table.context.now.row
 
 abbrev pub context_name :
     {R S O E A K : Type 0} {a : _} {b : _} {c : _} {d : _} {e : _} {f : _} {g : _} {h : _} {i : _}
-        {j : _} {k : _} →
+    {j : _} {k : _} →
     UnwindTable R S O E A K a b c d e f g h i j k → GName
 context_name table = table.context.ghost_name
 
@@ -88,9 +88,9 @@ context_name table = table.context.ghost_name
 -- instructions are refused.
 abbrev pub IsNewTable :
     {R S O E A K : Type 0} {a : _} {b : _} {c : _} {d : _} {e : _} {f : _} {g : _} {h : _} {i : _}
-        {j : _} {k : _} →
+    {j : _} {k : _} →
     (R → Position) → (O → ℕ) → Option ℕ → Option ℕ → Bool → Section → Fde →
     Result (UnwindTable R S O E A K a b c d e f g h i j k) Error → Type 0
 IsNewTable position number rule_limit stack_limit copies_free section fde made =
     StartsRows (table_state position number) (setting rule_limit stack_limit fde) copies_free
-        section fde made
+    section fde made

@@ -29,37 +29,37 @@ partial_of position number prefix cie_offset =
 -- reader say
 abbrev pub partial_view :
     {S R O P E : Type 0} {a : _} {b : _} {c : _} {d : _} {e : _} {f : _} {g : _} {h : _} {i : _}
-        {j : _} {k : _} {l : _} →
+    {j : _} {k : _} {l : _} →
     (R → Position) → (O → ℕ) → PartialFdeFields S R O P E a b c d e f g h i j k l → PartialFde
 partial_view position number p = partial_of position number p.prefix p.cie_offset
 
 abbrev pub partial_section :
     {S R O P E : Type 0} {a : _} {b : _} {c : _} {d : _} {e : _} {f : _} {g : _} {h : _} {i : _}
-        {j : _} {k : _} {l : _} →
+    {j : _} {k : _} {l : _} →
     PartialFdeFields S R O P E a b c d e f g h i j k l → S
 partial_section p = p.section
 
 abbrev pub partial_bases :
     {S R O P E : Type 0} {a : _} {b : _} {c : _} {d : _} {e : _} {f : _} {g : _} {h : _} {i : _}
-        {j : _} {k : _} {l : _} →
+    {j : _} {k : _} {l : _} →
     PartialFdeFields S R O P E a b c d e f g h i j k l → BaseAddresses
 partial_bases p = p.bases.now
 
 abbrev pub partial_prefix :
     {S R O P E : Type 0} {a : _} {b : _} {c : _} {d : _} {e : _} {f : _} {g : _} {h : _} {i : _}
-        {j : _} {k : _} {l : _} →
+    {j : _} {k : _} {l : _} →
     PartialFdeFields S R O P E a b c d e f g h i j k l → EntryPrefix R O
 partial_prefix p = p.prefix
 
 abbrev pub partial_cie_offset :
     {S R O P E : Type 0} {a : _} {b : _} {c : _} {d : _} {e : _} {f : _} {g : _} {h : _} {i : _}
-        {j : _} {k : _} {l : _} →
+    {j : _} {k : _} {l : _} →
     PartialFdeFields S R O P E a b c d e f g h i j k l → O
 partial_cie_offset p = p.cie_offset
 
 abbrev pub IsPartialOf :
     {S R O P E : Type 0} {a : _} {b : _} {c : _} {d : _} {e : _} {f : _} {g : _} {h : _} {i : _}
-        {j : _} {k : _} {l : _} →
+    {j : _} {k : _} {l : _} →
     S → BaseAddresses → PartialFdeFields S R O P E a b c d e f g h i j k l → Type 0
 IsPartialOf section bases p = (p.section ≡ section) × (p.bases.now ≡ bases)
 
@@ -76,7 +76,7 @@ OfEither cie partial (code.Fde f) = partial f
 
 abbrev pub cie_or_fde_view :
     {S R O P E : Type 0} {a : _} {b : _} {c : _} {d : _} {e : _} {f : _} {g : _} {h : _} {i : _}
-        {j : _} {k : _} {l : _} →
+    {j : _} {k : _} {l : _} →
     (R → Position) → (O → ℕ) →
     EntryFields (CieFields R O) (PartialFdeFields S R O P E a b c d e f g h i j k l) → Entry
 cie_or_fde_view position number =
@@ -84,7 +84,7 @@ cie_or_fde_view position number =
 
 abbrev pub IsEntryOf :
     {S R O P E : Type 0} {a : _} {b : _} {c : _} {d : _} {e : _} {f : _} {g : _} {h : _} {i : _}
-        {j : _} {k : _} {l : _} →
+    {j : _} {k : _} {l : _} →
     (S → SectionView) → (R → Position) → S → BaseAddresses →
     EntryFields (CieFields R O) (PartialFdeFields S R O P E a b c d e f g h i j k l) → Type 0
 IsEntryOf view position section bases =

@@ -1,9 +1,14 @@
 -- The header of .eh_frame and its table (LSB Core, "The .eh_frame_hdr section").
-use Rattle.std.specs.Prelude.{ℕ, ◌+◌, ◌-◌, ◌*◌, Bool, not, ◌||◌, Option, Some, None, Result, Ok, Err, ok_or, nat_le, ◌==◌, if◌then◌else◌}
+use Rattle.std.specs.Prelude.{ℕ, ◌+◌, ◌-◌, ◌*◌, Bool, not, ◌||◌, Option, Some, None, Result, Ok}
+use Rattle.std.specs.Prelude.{Err, ok_or, nat_le, ◌==◌, if◌then◌else◌}
 use Rattle.std.specs.Int.{w8}
 use Rattle.cfi_read_core.specs.declared.error.Error.{Error}
-use Rattle.cfi_read_core.specs.declared.error.Error.TheVariants.{UnknownVersion, UnsupportedPointerEncoding, OffsetOutOfBounds, UnsupportedOffset}
-use Rattle.cfi_read_core.specs.ReadFunctions.{Read, Source, Position, Extent, ◌>>=◌, ◌>>◌, give, refuse, refuse_if, of_result, offset, skip, remainder}
+use Rattle.cfi_read_core.specs.declared.error.Error.TheVariants.{UnknownVersion}
+use Rattle.cfi_read_core.specs.declared.error.Error.TheVariants.{UnsupportedPointerEncoding}
+use Rattle.cfi_read_core.specs.declared.error.Error.TheVariants.{OffsetOutOfBounds}
+use Rattle.cfi_read_core.specs.declared.error.Error.TheVariants.{UnsupportedOffset}
+use Rattle.cfi_read_core.specs.ReadFunctions.{Read, Source, Position, Extent, ◌>>=◌, ◌>>◌, give}
+use Rattle.cfi_read_core.specs.ReadFunctions.{refuse, refuse_if, of_result, offset, skip, remainder}
 use Rattle.cfi_read_core.specs.Numbers.{unsigned}
 use Rattle.cfi_read_core.specs.PointerEncodings.{format_of, application_of, is_indirect, is_omitted}
 use Rattle.cfi_parts.specs.declared.pointer.Pointer.{Pointer}
@@ -28,10 +33,16 @@ pub record Header : Type 0 where
 
 -- the section at a reader's place, with the bases of its pointers
 abbrev pub header_section : Position → ℕ → SectionBaseAddresses → HeaderSection
-header_section position size bases = record { source = position.source; first = position.place; address_size = size; bases = bases }
+header_section position size bases =
+    record { source = position.source; first = position.place; address_size = size; bases = bases }
 
 abbrev pub header_context : HeaderSection → PointerContext
-header_context section = record { bases = section.bases; function = None; size = section.address_size; section = section.first }
+header_context section = record {
+  bases = section.bases;
+  function = None;
+  size = section.address_size;
+  section = section.first;
+}
 
 -- ---- the fields, in order
 
@@ -44,11 +55,13 @@ row_count size count_encoding table_encoding =
     if is_omitted count_encoding || is_omitted table_encoding
     then give 0
     else (do
-      refuse_if (has_base count_encoding) (UnsupportedPointerEncoding (record { 0 = count_encoding }))
+      refuse_if (has_base count_encoding)
+          (UnsupportedPointerEncoding (record { 0 = count_encoding }))
       encoded_value count_encoding size)
 
 abbrev pub table_of : ℕ → ℕ → Extent → Option Table
-table_of encoding count rows = if count == 0 then None else Some (record { encoding = encoding; count = count; rows = rows })
+table_of encoding count rows =
+    if count == 0 then None else Some (record { encoding = encoding; count = count; rows = rows })
 
 unfoldable pub header_fields : HeaderSection → Read Header
 header_fields section = do
@@ -78,7 +91,8 @@ value_size encoding =
 
 -- the same, or the error for a format that can't be searched
 abbrev pub searched_size : ℕ → Result ℕ Error
-searched_size encoding = ok_or (value_size encoding) (UnsupportedPointerEncoding (record { 0 = encoding }))
+searched_size encoding =
+    ok_or (value_size encoding) (UnsupportedPointerEncoding (record { 0 = encoding }))
 
 -- a row is a start and a target
 unfoldable pub row_by : PointerContext → ℕ → Read (Pointer × Pointer)
@@ -115,15 +129,21 @@ field_by field encoding None k = refuse (UnsupportedPointerEncoding (record { 0 
 field_by field encoding (Some size) k = field size k
 
 abbrev pub in_rows : {A : Type 0} → HeaderSection → Table → Read A → Result A Error
-in_rows section table read = (read (record section.source { last = table.rows.last }) table.rows.first).value
+in_rows section table read =
+    (read (record section.source { last = table.rows.last }) table.rows.first).value
 
 -- the start of row k, which has to be direct
 unfoldable pub start_of : HeaderSection → Table → ℕ → Result ℕ Error
-start_of section table k = in_rows section table (field_by (start_field section table) table.encoding (value_size table.encoding) k >>= λ p. of_result (direct p))
+start_of section table k =
+    in_rows section table
+    (field_by (start_field section table) table.encoding (value_size table.encoding) k >>=
+    λ p. of_result (direct p))
 
 -- the target of row k
 unfoldable pub target_of : HeaderSection → Table → ℕ → Result Pointer Error
-target_of section table k = in_rows section table (field_by (target_field section table) table.encoding (value_size table.encoding) k)
+target_of section table k =
+    in_rows section table
+    (field_by (target_field section table) table.encoding (value_size table.encoding) k)
 
 -- ---- from a pointer to an offset in .eh_frame, which is at most the greatest of the header's
 -- reader

@@ -9,7 +9,8 @@ use Rattle.cfi_unwind.specs.Scan.{fde_readings, IsAmong}
 use Rattle.gimli_cfi.specs.EhFrameHdr.{HeaderSection, Table, value_size, start_of, target_of}
 
 -- row k starts at the FDE's first address, and its target is the FDE
-pub record IsRowOf (header : HeaderSection) (table : Table) (eh_frame : ℕ) (k : ℕ) (fde : Fde) : Type 0 where
+pub record IsRowOf (header : HeaderSection) (table : Table) (eh_frame : ℕ) (k : ℕ) (fde : Fde)
+    : Type 0 where
   pub start : start_of header table k ≡ Ok fde.initial
   pub target : target_of header table k ≡ Ok (Direct (eh_frame + fde.offset))
 
@@ -17,7 +18,8 @@ pub record IsRowOf (header : HeaderSection) (table : Table) (eh_frame : ℕ) (k 
 abbrev pub IsFdeIn : Section → Fde → Type 0
 IsFdeIn section fde = IsAmong (fde_readings section) fde
 
-pub record IsFaithful (header : HeaderSection) (table : Table) (eh_frame : ℕ) (section : Section) : Type 0 where
+pub record IsFaithful (header : HeaderSection) (table : Table) (eh_frame : ℕ) (section : Section)
+    : Type 0 where
   pub searchable : IsSome (value_size table.encoding)
   -- each row is an FDE's, and its start and target are direct
   pub only_fdes : (k : ℕ) → k < table.count →

@@ -13,13 +13,17 @@ use Rattle.gimli_cfi.specs.TableCheck.{Listing}
 
 -- the reader's offset and byte order follow the reader; the braces have what the traits of the
 -- three say
-module _ {R O E : Type 0} {a : _} {b : _} {c : _} {d : _} {e : _} {f : _} {g : _} {h : _} {i : _} {j : _} {k : _} where
+module _ {R O E : Type 0} {a : _} {b : _} {c : _} {d : _} {e : _} {f : _} {g : _} {h : _} {i : _}
+    {j : _} {k : _} where
   abbrev pub faithful_view : (R → Position) → FaithfulTable R O E a b c d e f g h i j k → Listing
-  faithful_view position checked = listing_view position checked.table checked.frame.now checked.bases.now
+  faithful_view position checked =
+      listing_view position checked.table checked.frame.now checked.bases.now
 
   abbrev pub checked_frame : FaithfulTable R O E a b c d e f g h i j k → EhFrame R
   checked_frame checked = checked.frame.now
 
-  abbrev pub IsCheckOf : FaithfulTable R O E a b c d e f g h i j k → EhHdrTable R O E a b c d e f g h i j k → EhFrame R → BaseAddresses → Type 0
+  abbrev pub IsCheckOf :
+      FaithfulTable R O E a b c d e f g h i j k → EhHdrTable R O E a b c d e f g h i j k →
+      EhFrame R → BaseAddresses → Type 0
   IsCheckOf checked table frame bases =
       (checked.table ≡ table) × ((checked.frame.now ≡ frame) × (checked.bases.now ≡ bases))

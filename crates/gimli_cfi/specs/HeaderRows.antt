@@ -1,5 +1,6 @@
 -- The rows of a header's table in order (LSB Core, "The .eh_frame_hdr section").
-use Rattle.std.specs.Prelude.{ℕ, zero, suc, ◌-◌, List, [], ◌∷◌, Option, Some, None, Result, Ok, Err, ◌≡◌, ◌+◌, ◌==◌, if◌then◌else◌}
+use Rattle.std.specs.Prelude.{ℕ, zero, suc, ◌-◌, List, [], ◌∷◌, Option, Some, None, Result, Ok, Err}
+use Rattle.std.specs.Prelude.{◌≡◌, ◌+◌, ◌==◌, if◌then◌else◌}
 use Rattle.cfi_read_core.specs.declared.error.Error.{Error}
 use Rattle.cfi_read_core.specs.ReadFunctions.{Read, Source, Position, ◌>>=◌, give}
 use Rattle.cfi_read_core.specs.ReaderCalls.{Reads}
@@ -19,7 +20,10 @@ walk_of section table = record {
   section = section;
   encoding = table.encoding;
   count = table.count;
-  position = record { source = record section.source { last = table.rows.last }; place = table.rows.first };
+  position = record {
+    source = record section.source { last = table.rows.last };
+    place = table.rows.first;
+  };
 }
 
 -- one row fewer remains, read or failed
@@ -28,24 +32,30 @@ walk_after walk position = record walk { count = walk.count - 1; position = posi
 
 -- the next row, or none where none remains
 unfoldable pub next_row : Walk → Read (Option (Pointer × Pointer))
-next_row walk = if walk.count == 0 then give None else (row walk.section walk.encoding >>= λ found. give (Some found))
+next_row walk =
+    if walk.count == 0
+    then give None
+    else (row walk.section walk.encoding >>= λ found. give (Some found))
 
 -- n rows from a place on, errors among them: the row after a failed one is read from where the
 -- failed read stopped
-unfoldable pub rows_from : HeaderSection → ℕ → ℕ → Source → ℕ → List (Result (Pointer × Pointer) Error)
+unfoldable pub rows_from :
+    HeaderSection → ℕ → ℕ → Source → ℕ → List (Result (Pointer × Pointer) Error)
 rows_from section encoding zero source place = []
 rows_from section encoding (suc n) source place =
     let first = row section encoding source place in
     first.value ∷ rows_from section encoding n source first.place
 
 abbrev pub rows_left : Walk → List (Result (Pointer × Pointer) Error)
-rows_left walk = rows_from walk.section walk.encoding walk.count walk.position.source walk.position.place
+rows_left walk =
+    rows_from walk.section walk.encoding walk.count walk.position.source walk.position.place
 
 -- ---- a call of `next`, which leaves the walk `after`
 
 -- it reads the next row at the walk's place
 abbrev pub ReadsNextRow : Walk → Result (Option (Pointer × Pointer)) Error → Walk → Type 0
-ReadsNextRow before found after = Reads (λ row. row) (next_row before) before.position found after.position
+ReadsNextRow before found after =
+    Reads (λ row. row) (next_row before) before.position found after.position
 
 -- one row fewer remains, and the place is the one that the call left
 abbrev pub IsStep : Walk → Walk → Type 0
@@ -53,6 +63,9 @@ IsStep before after = after ≡ walk_after before after.position
 
 -- its result is the first of the rows that were left
 abbrev pub MeetsRow : Result (Option (Pointer × Pointer)) Error → Walk → Walk → Type 0
-MeetsRow (Ok None) before after = (before.count ≡ 0) × ((rows_left before ≡ []) × (rows_left after ≡ []))
-MeetsRow (Ok (Some found)) before after = (before.count ≡ after.count + 1) × (rows_left before ≡ Ok found ∷ rows_left after)
-MeetsRow (Err e) before after = (before.count ≡ after.count + 1) × (rows_left before ≡ Err e ∷ rows_left after)
+MeetsRow (Ok None) before after =
+    (before.count ≡ 0) × ((rows_left before ≡ []) × (rows_left after ≡ []))
+MeetsRow (Ok (Some found)) before after =
+    (before.count ≡ after.count + 1) × (rows_left before ≡ Ok found ∷ rows_left after)
+MeetsRow (Err e) before after =
+    (before.count ≡ after.count + 1) × (rows_left before ≡ Err e ∷ rows_left after)

@@ -1,6 +1,8 @@
 -- What contracts see of the types of `.eh_frame_hdr`, and of `.eh_frame` beside it.
---     header_reader, unparsed_view      the section's bytes, and they with what the caller says of them
---     header_view, header_section_view, rows_view      a parsed header, its section and the rows of its table
+--     header_reader, unparsed_view      the section's bytes, and they with what the caller says of
+--         them
+--     header_view, header_section_view, rows_view      a parsed header, its section and the rows of
+--         its table
 --     table_view, table_section_view, table_starts, table_targets, table_offset      a table
 --     walk_view, IsSameTable      an iterator over rows
 --     start_size, calls_made, answers_of, AreStartsOf      the starts of a table's rows
@@ -21,7 +23,8 @@ use Rattle.gimli_cfi.specs.declared.hdr.header.ParsedEhFrameHdr.{ParsedEhFrameHd
 use Rattle.gimli_cfi.specs.declared.hdr.table.EhHdrTable.{EhHdrTable}
 use Rattle.gimli_cfi.specs.declared.hdr.iter.EhHdrTableIter.{EhHdrTableIter}
 use Rattle.gimli_cfi.specs.declared.hdr.starts.TableStarts.{TableStarts}
-use Rattle.gimli_cfi.specs.EhFrameHdr.{HeaderSection, Header, Table, header_section, offset_of_pointer, start_of, table_of, target_of}
+use Rattle.gimli_cfi.specs.EhFrameHdr.{HeaderSection, Header, Table, header_section}
+use Rattle.gimli_cfi.specs.EhFrameHdr.{offset_of_pointer, start_of, table_of, target_of}
 use Rattle.gimli_cfi.specs.HeaderRows.{Walk}
 use Rattle.gimli_cfi.specs.TableCheck.{Listing}
 
@@ -33,7 +36,8 @@ module _ {R : Type 0} where
 
   -- the header's section as it is parsed with this address size and these bases
   abbrev pub unparsed_view : (R → Position) → EhFrameHdr R → ℕ → BaseAddresses → HeaderSection
-  unparsed_view position section size bases = header_section (position section.0) size bases.eh_frame_hdr
+  unparsed_view position section size bases =
+      header_section (position section.0) size bases.eh_frame_hdr
 
   -- the section of the entries, with the bases of their pointers
   abbrev pub section_view : (R → Position) → EhFrame R → BaseAddresses → Section
@@ -42,7 +46,8 @@ module _ {R : Type 0} where
 -- In the types below the reader's offset and byte order follow the reader; the braces have what the
 -- traits of the three say.
 
-module _ {R O E : Type 0} {a : _} {b : _} {c : _} {d : _} {e : _} {f : _} {g : _} {h : _} {i : _} {j : _} {k : _} where
+module _ {R O E : Type 0} {a : _} {b : _} {c : _} {d : _} {e : _} {f : _} {g : _} {h : _} {i : _}
+    {j : _} {k : _} where
   -- ---- a parsed header
 
   abbrev pub header_view : (R → Position) → ParsedEhFrameHdr R O E a b c d e f g h i j k → Header
@@ -59,40 +64,61 @@ module _ {R O E : Type 0} {a : _} {b : _} {c : _} {d : _} {e : _} {f : _} {g : _
   header_address_size header = size_in_bytes header.address_size
 
   -- its section, with the bases with which the rows are read
-  abbrev pub header_section_view : (R → Position) → ParsedEhFrameHdr R O E a b c d e f g h i j k → BaseAddresses → HeaderSection
-  header_section_view position header bases = header_section (position header.section) (size_in_bytes header.address_size) bases.eh_frame_hdr
+  abbrev pub header_section_view :
+      (R → Position) → ParsedEhFrameHdr R O E a b c d e f g h i j k → BaseAddresses → HeaderSection
+  header_section_view position header bases =
+      header_section (position header.section) (size_in_bytes header.address_size)
+      bases.eh_frame_hdr
 
   -- its rows
   abbrev pub rows_view : (R → Position) → ParsedEhFrameHdr R O E a b c d e f g h i j k → Table
-  rows_view position header = record { encoding = header.table_enc.0; count = header.fde_count; rows = extent_of (position header.table) }
+  rows_view position header = record {
+    encoding = header.table_enc.0;
+    count = header.fde_count;
+    rows = extent_of (position header.table);
+  }
 
   -- the start of each row, and the target
-  abbrev pub starts_view : (R → Position) → ParsedEhFrameHdr R O E a b c d e f g h i j k → BaseAddresses → ℕ → Result ℕ Error
-  starts_view position header bases = start_of (header_section_view position header bases) (rows_view position header)
+  abbrev pub starts_view :
+      (R → Position) → ParsedEhFrameHdr R O E a b c d e f g h i j k → BaseAddresses → ℕ →
+      Result ℕ Error
+  starts_view position header bases =
+      start_of (header_section_view position header bases) (rows_view position header)
 
-  abbrev pub targets_view : (R → Position) → ParsedEhFrameHdr R O E a b c d e f g h i j k → BaseAddresses → ℕ → Result Pointer Error
-  targets_view position header bases = target_of (header_section_view position header bases) (rows_view position header)
+  abbrev pub targets_view :
+      (R → Position) → ParsedEhFrameHdr R O E a b c d e f g h i j k → BaseAddresses → ℕ →
+      Result Pointer Error
+  targets_view position header bases =
+      target_of (header_section_view position header bases) (rows_view position header)
 
   -- ---- the table of a header
 
-  abbrev pub table_header : EhHdrTable R O E a b c d e f g h i j k → ParsedEhFrameHdr R O E a b c d e f g h i j k
+  abbrev pub table_header :
+      EhHdrTable R O E a b c d e f g h i j k → ParsedEhFrameHdr R O E a b c d e f g h i j k
   table_header table = table.hdr.now
 
   abbrev pub table_view : (R → Position) → EhHdrTable R O E a b c d e f g h i j k → Table
   table_view position table = rows_view position table.hdr.now
 
-  abbrev pub table_section_view : (R → Position) → EhHdrTable R O E a b c d e f g h i j k → BaseAddresses → HeaderSection
+  abbrev pub table_section_view :
+      (R → Position) → EhHdrTable R O E a b c d e f g h i j k → BaseAddresses → HeaderSection
   table_section_view position table bases = header_section_view position table.hdr.now bases
 
-  abbrev pub table_starts : (R → Position) → EhHdrTable R O E a b c d e f g h i j k → BaseAddresses → ℕ → Result ℕ Error
+  abbrev pub table_starts :
+      (R → Position) → EhHdrTable R O E a b c d e f g h i j k → BaseAddresses → ℕ → Result ℕ Error
   table_starts position table bases = starts_view position table.hdr.now bases
 
-  abbrev pub table_targets : (R → Position) → EhHdrTable R O E a b c d e f g h i j k → BaseAddresses → ℕ → Result Pointer Error
+  abbrev pub table_targets :
+      (R → Position) → EhHdrTable R O E a b c d e f g h i j k → BaseAddresses → ℕ →
+      Result Pointer Error
   table_targets position table bases = targets_view position table.hdr.now bases
 
   -- the offset in .eh_frame of what a pointer points to
-  abbrev pub table_offset : (R → Position) → EhHdrTable R O E a b c d e f g h i j k → Pointer → Result ℕ Error
-  table_offset position table pointer = offset_of_pointer (position table.hdr.now.section).source.greatest table.hdr.now.eh_frame_ptr pointer
+  abbrev pub table_offset :
+      (R → Position) → EhHdrTable R O E a b c d e f g h i j k → Pointer → Result ℕ Error
+  table_offset position table pointer =
+      offset_of_pointer (position table.hdr.now.section).source.greatest table.hdr.now.eh_frame_ptr
+      pointer
 
   -- ---- an iterator over the rows of a table
 
@@ -105,7 +131,9 @@ module _ {R O E : Type 0} {a : _} {b : _} {c : _} {d : _} {e : _} {f : _} {g : _
   }
 
   -- both are over the rows of one header, with the same bases
-  abbrev pub IsSameTable : EhHdrTableIter R O E a b c d e f g h i j k → EhHdrTableIter R O E a b c d e f g h i j k → Type 0
+  abbrev pub IsSameTable :
+      EhHdrTableIter R O E a b c d e f g h i j k → EhHdrTableIter R O E a b c d e f g h i j k →
+      Type 0
   IsSameTable before after = (after.hdr.now ≡ before.hdr.now) × (after.bases.now ≡ before.bases.now)
 
   -- ---- the starts of a table's rows
@@ -117,16 +145,20 @@ module _ {R O E : Type 0} {a : _} {b : _} {c : _} {d : _} {e : _} {f : _} {g : _
   abbrev pub calls_made : TableStarts R O E a b c d e f g h i j k → ℕ
   calls_made starts = starts.calls.calls
 
-  abbrev pub answers_of : (R → Position) → TableStarts R O E a b c d e f g h i j k → ℕ → Result ℕ Error
+  abbrev pub answers_of :
+      (R → Position) → TableStarts R O E a b c d e f g h i j k → ℕ → Result ℕ Error
   answers_of position starts = starts_view position starts.hdr.now starts.bases.now
 
   -- they are those of this table with these bases
-  abbrev pub AreStartsOf : TableStarts R O E a b c d e f g h i j k → EhHdrTable R O E a b c d e f g h i j k → BaseAddresses → Type 0
+  abbrev pub AreStartsOf :
+      TableStarts R O E a b c d e f g h i j k → EhHdrTable R O E a b c d e f g h i j k →
+      BaseAddresses → Type 0
   AreStartsOf starts table bases = (starts.hdr.now ≡ table.hdr.now) × (starts.bases.now ≡ bases)
 
   -- ---- the table with the section
 
-  abbrev pub listing_view : (R → Position) → EhHdrTable R O E a b c d e f g h i j k → EhFrame R → BaseAddresses → Listing
+  abbrev pub listing_view :
+      (R → Position) → EhHdrTable R O E a b c d e f g h i j k → EhFrame R → BaseAddresses → Listing
   listing_view position table frame bases = record {
     header = table_section_view position table bases;
     table = table_view position table;

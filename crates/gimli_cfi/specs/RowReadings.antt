@@ -32,12 +32,19 @@ ReadsPointers base encoding context = read_by base encoding context ≡ pointer 
 -- what is added is this base: 0 for absptr, the data base for datarel
 abbrev pub HasBase : ℕ → SectionBaseAddresses → ℕ → Type 0
 HasBase encoding bases base =
-    ((application_of encoding ≡ 0) × (base ≡ 0)) ⊎ ((application_of encoding ≡ 3) × (bases.data_base ≡ Some base))
+    ((application_of encoding ≡ 0) × (base ≡ 0))
+    ⊎ ((application_of encoding ≡ 3) × (bases.data_base ≡ Some base))
 
 -- In the type below the reader's offset and byte order follow the reader; the braces have what the
 -- traits of the three say.
-module _ {R O E : Type 0} {a : _} {b : _} {c : _} {d : _} {e : _} {f : _} {g : _} {h : _} {i : _} {j : _} {k : _} where
+module _ {R O E : Type 0} {a : _} {b : _} {c : _} {d : _} {e : _} {f : _} {g : _} {h : _} {i : _}
+    {j : _} {k : _} where
   -- the pointers in the rows of this header are read so, with these bases
-  abbrev pub ReadsRows : (R → Position) → Option ℕ → ParsedEhFrameHdr R O E a b c d e f g h i j k → BaseAddresses → Type 0
+  abbrev pub ReadsRows :
+      (R → Position) → Option ℕ → ParsedEhFrameHdr R O E a b c d e f g h i j k → BaseAddresses →
+      Type 0
   ReadsRows position base header bases =
-      ReadsPointers base header.table_enc.0 (header_context (header_section (position header.section) (size_in_bytes header.address_size) bases.eh_frame_hdr))
+      ReadsPointers base header.table_enc.0
+      (header_context
+      (header_section (position header.section) (size_in_bytes header.address_size)
+      bases.eh_frame_hdr))
