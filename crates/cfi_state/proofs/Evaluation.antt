@@ -1,19 +1,21 @@
 -- An instruction that gives a register a rule, or defines the CFA or half of it, changes a context by the machine's step.
-use Rattle.std.proofs.Common.{rules, ap, ◌∙◌, ◌≡◌, ℕ, Bool, true, false, not, cond, Option, Some, None, is_some, IsTrue, refl, sym, subst, Result, Ok, Err, ◌&&◌, inl, inr}
+use Rattle.std.proofs.Common.{rules, ap, ◌∙◌, ◌≡◌, ℕ, ◌*◌, ◌%◌, ◌^◌, Bool, true, false, not, cond, Option, Some, None, is_some, IsTrue, refl, sym, subst, Result, Ok, Err, ◌&&◌, inl, inr}
 use Rattle.std.specs.Option.{IfSome}
 use Rattle.std.specs.Result.{result_and}
 use Rattle.std.specs.FinMap.{get, insert, len, contains_key}
+use Rattle.cfi_read_core.specs.AddressSizes.{size_in_bytes}
+use Rattle.cfi_read_core.specs.Addresses.{checked_sum}
 use Rattle.cfi_read_core.specs.ReaderCalls.{map_ok}
 use Rattle.cfi_read_core.specs.declared.common.Register.{Register}
 use Rattle.cfi_read_core.specs.declared.error.Error.{Error}
-use Rattle.cfi_read_core.specs.declared.error.Error.TheVariants.{TooManyRegisterRules}
+use Rattle.cfi_read_core.specs.declared.error.Error.TheVariants.{AddressOverflow, TooManyRegisterRules}
 use Rattle.cfi_read_core.specs.declared.instruction.CallFrameInstruction.{CallFrameInstruction}
-use Rattle.cfi_read_core.specs.declared.instruction.CallFrameInstruction.TheVariants.{Restore}
+use Rattle.cfi_read_core.specs.declared.instruction.CallFrameInstruction.TheVariants.{AdvanceLoc, Restore}
 use Rattle.cfi_state.specs.declared.table.rules.CfaRule.{CfaRule}
 use Rattle.cfi_state.specs.declared.table.rules.RegisterRule.{RegisterRule}
 use Rattle.cfi_state.specs.declared.table.machine.Parameters.{Parameters}
 use Rattle.cfi_state.specs.AllocatingOperations.{Performs}
-use Rattle.cfi_state.specs.MachineSettings.{Setting, is_at_limit, moves, is_move, rule_given}
+use Rattle.cfi_state.specs.MachineSettings.{Setting, is_at_limit, advanced_location, fits_address, moves, is_move, rule_given}
 use Rattle.cfi_state.specs.Machine.{Rules, State, perform, step}
 use Rattle.cfi_state.specs.Machine as machine
 use Rattle.cfi_state.specs.RulePairs.{map_set_rule, AddsRule}
@@ -138,9 +140,17 @@ module _ {T : Type 0} (s : Setting) (copies_free : Bool) (location : ℕ) (old :
     sym stays,
   )
 
--- no instruction changes the rules that a CIE's initial instructions ended with
-pub runs_initial : {T : Type 0} (s : Setting) (copies_free : Bool) (location : ℕ) (i : CallFrameInstruction T) (old new : ContextState T) (result : Result (Option ℕ) Error)
-    → Runs s copies_free location i old new result → new.initial_rules ≡ old.initial_rules
-runs_initial s copies_free location i old new (Ok None) runs = runs.0.initial_rules
-runs_initial {T = T} s copies_free location i old new (Ok (Some address)) runs = ap (λ (x : ContextState T). x.initial_rules) runs.0.1
-runs_initial {T = T} s copies_free location i old new (Err error) runs = ap (λ (x : ContextState T). x.initial_rules) runs.0.0
+module _ {T : Type 0} (p : Parameters) (rule_limit stack_limit : Option ℕ) (copies_free : Bool) (location : ℕ) (context : ContextState T) where
+  if_fits : (fits : Bool) (sum address : ℕ) → cond fits (Ok sum) (Err AddressOverflow) ≡ Ok address
+      → cond fits (Ok (machine_state sum context)) (Err AddressOverflow) ≡ Ok (machine_state address context)
+  if_fits true sum address is = let same : sum ≡ address = cc in ap (λ n. Ok (machine_state n context)) same
+  if_fits false sum address is = absurd (cc)
+
+  -- a move by so many units, if the sum is an address
+  pub advances : (delta units size address : ℕ) (sum : Result ℕ Error) → map_ok (λ n. n) sum ≡ checked_sum location (units * p.code_alignment_factor % 2 ^ 64) size
+      → units ≡ delta → size ≡ size_in_bytes p.address_size → sum ≡ Ok address → Runs (setting_of p rule_limit stack_limit) copies_free location (AdvanceLoc delta) context context (Ok (Some address))
+  advances delta units size address sum is units_are size_is there =
+      let due = sym is ∙ ap (map_ok (λ n. n)) there in
+      let moved = subst (λ n. checked_sum location (n * p.code_alignment_factor % 2 ^ 64) size ≡ Ok address) units_are due in
+      let fits = subst (λ n. checked_sum location (delta * p.code_alignment_factor % 2 ^ 64) n ≡ Ok address) size_is moved in
+      ((if_fits (fits_address (setting_of p None None) (advanced_location (setting_of p None None) location delta)) (advanced_location (setting_of p None None) location delta) address fits, refl), refl)

@@ -199,7 +199,7 @@ impl<T: ReaderOffset, S: UnwindContextStorage<T>> InstructionVisitor<T, UnwindCo
 }
 
 impl InstructionRunner<'_> {
-    /// Runs an instruction that comes as a value, which few programs have.
+    /// Runs an instruction that comes as a value, as the instructions do that few programs have.
     #[inline(never)]
     fn evaluate<T: ReaderOffset, S: UnwindContextStorage<T>>(
         &self,
@@ -242,11 +242,13 @@ impl InstructionRunner<'_> {
                 context.set_saved_args_size(size);
                 Ok(None)
             }
+            // `Nop`: what gives a register a rule has returned above.
             _ => self.nop(context),
         }
     }
 
-    /// `DW_CFA_set_loc` (DWARF 5 section 6.4.2.1): a move to the address.
+    /// `DW_CFA_set_loc`, a move to the address (DWARF 5 section 6.4.2.1). Fails with
+    /// `InvalidCfiSetLoc` if it is below the location.
     #[inline(always)]
     fn set_loc<T: ReaderOffset, S: UnwindContextStorage<T>>(
         &self,
@@ -263,7 +265,7 @@ impl InstructionRunner<'_> {
         Ok(Some(address))
     }
 
-    /// `DW_CFA_def_cfa_sf` (DWARF 5 section 6.4.2.2): the register and a factored offset.
+    /// `DW_CFA_def_cfa_sf` (DWARF 5 section 6.4.2.2).
     #[inline(always)]
     fn def_cfa_sf<T: ReaderOffset, S: UnwindContextStorage<T>>(
         &self,
@@ -280,7 +282,8 @@ impl InstructionRunner<'_> {
         Ok(None)
     }
 
-    /// `DW_CFA_def_cfa_offset_sf` (DWARF 5 section 6.4.2.2): another offset, which is factored.
+    /// `DW_CFA_def_cfa_offset_sf` (DWARF 5 section 6.4.2.2). Fails with
+    /// `CfiInstructionInInvalidContext` if the CFA is an expression.
     #[inline(always)]
     fn def_cfa_offset_sf<T: ReaderOffset, S: UnwindContextStorage<T>>(
         &self,
