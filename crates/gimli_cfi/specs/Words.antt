@@ -91,8 +91,8 @@ pub use Rattle.cfi_parts.specs.InstructionReaders.{InstructionReader, ReadsIn, M
 pub use Rattle.cfi_parts.specs.InstructionReaders.{MeetsNext, IfFound, HasExpressionOf, SameContext, SameSource, StaysWithin}
 pub use Rattle.cfi_parts.specs.InstructionReaders.{IsShorter as HasFewerInstructions}
 pub use Rattle.cfi_parts.specs.InstructionVisits.{VisitsNext}
-pub use Rattle.cfi_parts.specs.ReadingParameters.{NotBeforeSection, instruction_context, pointer_context}
-pub use Rattle.cfi_parts.specs.InstructionIterators.{instruction_reader}
+pub use Rattle.cfi_parts.specs.ReadingParameters.{NotBeforeSection, instruction_context, pointer_context, reader_at}
+pub use Rattle.cfi_parts.specs.InstructionIterators.{instruction_items, instruction_reader}
 pub use Rattle.cfi_entry.specs.EntryInstructions.{cie_instructions, fde_instructions}
 pub use Rattle.cfi_read_core.specs.MappedInstructions.{map_expression, map_instruction}
 pub use Rattle.cfi_read_core.specs.ExpressionPlaces.{LiesIn, place_in, HasExpressionIn, expression_extent}
@@ -105,7 +105,8 @@ pub use Rattle.cfi_state.specs.declared.table.rules.CfaRule.{CfaRule}
 pub use Rattle.cfi_state.specs.declared.table.rules.RegisterRule.{RegisterRule}
 pub use Rattle.cfi_state.specs.Machine.{Rules, Parts, State}
 pub use Rattle.cfi_state.specs.MachineSettings.{Setting}
-pub use Rattle.cfi_state.specs.Row.{Row, RowContains}
+pub use Rattle.cfi_state.specs.Row.{Row, RowContains, empty_row}
+pub use Rattle.cfi_state.specs.Equality.{rules_eq, row_eq, context_eq}
 pub use Rattle.cfi_state.specs.MappedStates.{map_row, row_lent}
 pub use Rattle.cfi_state.specs.RowExpressions.{HasExpressionsIn}
 pub use Rattle.cfi_state.specs.RulePairs.{IsDistinctRegisters, rules_of}
@@ -116,6 +117,7 @@ pub use Rattle.cfi_state.specs.ContextEffects.{setting_of}
 pub use Rattle.cfi_unwind.specs.UnwindTableViews.{table_state, table_parameters, table_setting, HasSettingOf, IsNewTable}
 pub use Rattle.cfi_unwind.specs.UnwindTableViews.{holds_row, context_now, context_name, context_row}
 pub use Rattle.cfi_unwind.specs.UnwindTableCalls.{StartsRows, LendsNextRow}
+pub use Rattle.cfi_unwind.specs.contracts.unwind_table.UnwindTable.{the_row}
 pub use Rattle.cfi_unwind.specs.AddressRow.{IsRowByScan, IsRowOfFde, IsRowOfFound, row_by_scan, row_of_fde, setting}
 pub use Rattle.cfi_unwind.specs.AddressRow.{ScansForRow, ScansForRowFrom}
 -- ---- storages: lists and their limits

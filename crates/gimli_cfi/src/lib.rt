@@ -34,8 +34,12 @@ pub use hdr::{
     EhFrameHdr, EhHdrTable, EhHdrTableIter, FaithfulTable, ParsedEhFrameHdr, StartSource,
     TableStarts, Unfaithful, check_table, row_by_header, row_by_table, search_starts,
 };
-pub use instruction::{CallFrameInstruction, CallFrameInstructionIter, UnwindExpression};
-pub use pointer::{BaseAddresses, Pointer, SectionBaseAddresses};
+pub use instruction::{
+    CallFrameInstruction, CallFrameInstructionIter, InstructionVisitor, UnwindExpression,
+};
+pub use pointer::{
+    AddressSize, BaseAddresses, Pointer, PointerEncodingParameters, SectionBaseAddresses,
+};
 pub use section::{
     _UnwindSectionPrivate, CieCache, CieOffsetEncoding, DebugFrame, EhFrame, UnwindOffset,
     UnwindSection, scan_for_fde,

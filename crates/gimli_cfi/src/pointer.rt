@@ -1,3 +1,6 @@
 //! Encoded pointers and their bases.
 
-pub use cfi_parts::pointer::{BaseAddresses, Pointer, SectionBaseAddresses};
+pub use cfi_parts::pointer::{
+    BaseAddresses, Pointer, PointerEncodingParameters, SectionBaseAddresses,
+};
+pub use cfi_read_core::address::AddressSize;

@@ -395,11 +395,15 @@ fn most_in_rows<S: UnwindContextStorage<usize>>(
 /// A header with one row.
 const ONE_ROW: [u8; 20] = [1, 3, 3, 3, 0, 0, 0, 0, 1, 0, 0, 0, 0, 1, 0, 0, 0, 2, 0, 0];
 
-const FEW: ([Result<(u32, u32), Error>; 2], bool, bool) = ([Ok((1, 1)), Ok((3, 3))], true, true);
+const FEW: ([Result<(u32, u32), Error>; 4], bool, bool) = (
+    [Ok((1, 1)), Ok((3, 3)), Ok((2, 2)), Ok((2, 2))],
+    true,
+    true,
+);
 
-/// Checks how often the starts of one row and of three are read, and that no search in a thousand
-/// reads more than the eleven numbers that halving needs, whether their starts are in order or go
-/// up and down.
+/// Checks how often the starts of one row and of three are read, also where the table ends after
+/// the second, and that no search in a thousand reads more than the eleven numbers that halving
+/// needs, whether their starts are in order or go up and down.
 pub(crate) fn starts_are_read_by_halving<S: UnwindContextStorage<usize>>(
     rt: &(impl Abort + AllocGlobal),
     context: &mut UnwindContext<usize, S>,
@@ -408,6 +412,9 @@ pub(crate) fn starts_are_read_by_halving<S: UnwindContextStorage<usize>>(
         reads_for(&ONE_ROW, context, 0x180),
         // Two starts and the target.
         reads_for(&HEADER, context, 0x1018),
+        // The start of the second row, which is the address, and the target.
+        reads_for(&HEADER, context, 0x1010),
+        reads_for(&HEADER[..28], context, 0x1010),
     ];
     let in_order = most_in_rows(rt.alloc(), context, 16)?;
     let up_and_down = most_in_rows(rt.alloc(), context, 40503)?;

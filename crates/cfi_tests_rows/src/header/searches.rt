@@ -271,24 +271,26 @@ fn check_targets<S: UnwindContextStorage<usize>>(
     }
 }
 
-/// The row for 0x1018 by two tables in other encodings; that row and the one for 0x1008 by a table
-/// that ends after its second row.
+/// The row for 0x1018 by two tables in other encodings; that row and those for 0x1008 and 0x1010 by
+/// a table that ends after its second row, which starts at 0x1010.
 fn by_others<S: UnwindContextStorage<usize>>(
     context: &mut UnwindContext<usize, S>,
-) -> [Result<Shown, Error>; 4] {
+) -> [Result<Shown, Error>; 5] {
     [
         by_table(&encoded(0xbb), context, 0x1018),
         by_table(&encoded(0x31), context, 0x1018),
         by_table(&HEADER[..28], context, 0x1018),
         by_table(&HEADER[..28], context, 0x1008),
+        by_table(&HEADER[..28], context, 0x1010),
     ]
 }
 
-const BY_OTHERS: [Result<Shown, Error>; 4] = [
+const BY_OTHERS: [Result<Shown, Error>; 5] = [
     Err(Error::UnsupportedIndirectPointer),
     Err(Error::UnsupportedPointerEncoding(DwEhPe(0x31))),
     Err(Error::UnexpectedEof(ReaderOffsetId(28))),
     Ok((0x1000, 0x1010, Some(8))),
+    Ok((0x1010, 0x1011, Some(8))),
 ];
 
 /// Checks the errors and rows of tables that don't list the FDEs as they are.
@@ -459,15 +461,19 @@ impl StartSource for Itself {
 /// The row that a search finds, and the number of calls.
 type Searched = (Result<u64, Error>, u32);
 
-/// A search in a list, which must have a start.
-fn searched(starts: &[u64], address: u64) -> Searched {
-    let count = starts.len() as u64;
+/// A search in so many rows, at least one, whose starts are in a list.
+fn searched_in(starts: &[u64], count: u64, address: u64) -> Searched {
     if count == 0 {
         return (Err(Error::NoUnwindInfoForAddress), 0);
     }
     let mut source = Listed::new(starts);
     let row = search_starts(&mut source, count, address);
     (row, source.made)
+}
+
+/// A search in a list, which must have a start.
+fn searched(starts: &[u64], address: u64) -> Searched {
+    searched_in(starts, starts.len() as u64, address)
 }
 
 /// A search in the greatest number of rows.
@@ -509,4 +515,40 @@ fn searches_by_halving(rt: HostRuntime) {
     ];
     let (row, made) = searched_in_all(12345);
     assert_eq!(rt; (found, row, made <= 64), SEARCHED);
+}
+
+/// Five starts that repeat or don't rise, an address, and what a search finds: while more than one
+/// row is left it asks for the start of the one in the middle, and one at the address ends it.
+const EQUAL_STARTS: [([u64; 5], u64, Searched); 8] = [
+    ([5, 5, 5, 5, 5], 4, (Ok(0), 2)),
+    ([5, 5, 5, 5, 5], 5, (Ok(2), 1)),
+    ([5, 5, 5, 5, 5], 6, (Ok(4), 3)),
+    ([1, 5, 9, 5, 2], 5, (Ok(1), 2)),
+    ([1, 9, 5, 2, 3], 5, (Ok(2), 1)),
+    ([1, 9, 5, 2, 3], 9, (Ok(4), 3)),
+    ([5, 9, 7, 9, 9], 5, (Ok(0), 2)),
+    ([1, 2, 3, 5, 1], 5, (Ok(3), 2)),
+];
+
+/// Three starts, how many rows are searched, of which the others have no start, an address, and
+/// what the search finds.
+const FEWER_STARTS: [([u64; 3], u64, u64, Searched); 8] = [
+    ([5, 5, 5], 3, 5, (Ok(1), 1)),
+    ([5, 5, 5], 3, 6, (Ok(2), 2)),
+    ([1, 5, 2], 3, 5, (Ok(1), 1)),
+    ([1, 5, 2], 3, 2, (Ok(0), 1)),
+    ([1, 3, 5], 4, 5, (Ok(2), 1)),
+    ([1, 3, 5], 4, 6, (Err(Error::NoUnwindInfoForAddress), 2)),
+    ([1, 5, 7], 5, 5, (Ok(1), 2)),
+    ([1, 5, 7], 6, 7, (Err(Error::NoUnwindInfoForAddress), 1)),
+];
+
+#[test]
+fn equal_starts_end_a_search(rt: HostRuntime) {
+    for (starts, address, found) in &EQUAL_STARTS {
+        assert_eq!(rt; searched(starts, *address), *found, "for {address}");
+    }
+    for (starts, count, address, found) in &FEWER_STARTS {
+        assert_eq!(rt; searched_in(starts, *count, *address), *found, "for {address}");
+    }
 }

@@ -33,9 +33,10 @@ type Offset<R> = EhFrameOffset<<R as Reader>::Offset>;
 
 /// The unwind row of the address in the section, borrowed from the context, by a header's table.
 ///
-/// It is the row of the FDE at the target of a boundary row for the address, by the answers of the
-/// source. If the table lists the FDEs of the section faithfully and the source answers the starts
-/// of its rows, as `TableStarts` does, it is what `row_by_scan` returns, row or error.
+/// It is the row of the FDE at the target of the boundary row for the address that `search_starts`
+/// finds, by the answers of the source. If the table lists the FDEs of the section faithfully and
+/// the source answers the starts of its rows, as `TableStarts` does, it is what `row_by_scan`
+/// returns, row or error.
 ///
 /// Fails as `EhHdrTable::lookup_in`, then as `pointer_to_offset` for the target and as
 /// `fde_from_offset` with `cie_from_offset` for the FDE there, and with `NoUnwindInfoForAddress` if

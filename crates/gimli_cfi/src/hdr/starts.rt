@@ -99,6 +99,10 @@ impl<R: Reader> StartSource for TableStarts<'_, '_, R> {
 /// starts at the address, or the next one starts above it. It is one by the answers of the source,
 /// whatever their order.
 ///
+/// While more than one row is left, the source is asked for the row after the first half of them,
+/// rounded down. A row that starts at the address ends the search; one that starts below it leaves
+/// the rows from there on, and one above it the rows before.
+///
 /// Fails as the source does, for an index below the count. The source is called at most `b` times,
 /// `b` being the least number with `count <= 2^b`. It does not allocate.
 #[inline(always)]
@@ -113,8 +117,12 @@ pub fn search_starts<S: StartSource>(source: &mut S, count: u64, address: u64) -
     let mut len = count;
     while len > 1 {
         let half = len / 2;
+        let start = source.start(first + half)?;
+        if start == address {
+            return Ok(first + half);
+        }
         // Which half is left is a number, and no branch, which would often be mispredicted.
-        let is_upper = u64::from(source.start(first + half)? <= address);
+        let is_upper = u64::from(start < address);
         first += half * is_upper;
         len = half + len % 2 * is_upper;
     }

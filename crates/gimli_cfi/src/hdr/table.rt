@@ -76,8 +76,9 @@ impl<R: Reader> EhHdrTable<'_, R> {
     ///
     /// A boundary row is the first one or starts at or below the address; and it is the last one,
     /// or starts at the address, or the next one starts above it. If the starts rise, that is the
-    /// last row that starts at or below the address, or the first row if there is none. The FDE
-    /// there need not contain the address.
+    /// last row that starts at or below the address, or the first row if there is none. In any
+    /// order it is the row that `search_starts` finds, as in gimli. The FDE there need not contain
+    /// the address.
     ///
     /// Fails with `UnsupportedPointerEncoding` of the table's encoding if its format is not
     /// `udata2`, `sdata2`, `udata4`, `sdata4`, `udata8` or `sdata8`; with the error of the start of

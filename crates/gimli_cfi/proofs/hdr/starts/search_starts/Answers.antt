@@ -8,7 +8,7 @@ loop-len-init g c = record { narrowed = narrowed_whole _ _ _ c.requires; answers
 pub loop-len-preserved : goal.loop-len-preserved
 loop-len-preserved g c =
     let halves : c.loop-len.len / 2 + c.loop-len.len / 2 + c.loop-len.len % 2 ≡ c.loop-len.len = omega arith in
-    let upper = upper_is c.in_ok-start.field-0 c.args.address c.from-is_upper.result c.from-is_upper.ensures in
+    let upper = upper_is c.in_ok-start.start c.args.address c.from-is_upper.result c.if-start-address.false c.from-is_upper.ensures in
     record {
       narrowed = narrowed_half _ _ _ _ _ _ _ _ c.loop-len.invariant.narrowed (omega arith) (omega arith) halves
           (answered_there _ _ _ _ _ c.loop-len.invariant.answers c.start.ensures.answered c.in_ok-start.was) upper;
