@@ -45,6 +45,30 @@ build_cfi_c() {
     build_static cfi_c "$@"
 }
 
+# has_statements NAME: whether rt ci left the libraries below the crate NAME, as statements without proofs (which have no
+# stamp), and no source is newer. Right after rt ci none is, but what it had kept is older than the sources of a new clone.
+has_statements() {
+    local below crate rlib
+    mapfile -t below < <(awk -v crate="$1" -f tools/crates_below.awk crates.txt)
+    for crate in "${below[@]:1}"; do
+        rlib=crates/$crate/out/rlib
+        [ ! -e "$rlib/stamp" ] && [ -e "$rlib/$crate.rlib/format" ] || return 1
+        [ -n "${RT_CI_PASSED:-}" ] || is_newer "$rlib/$crate.rlib/format" "$crate" || return 1
+    done
+}
+
+# build_library NAME: proves and builds crates/NAME/out/libNAME.a, and prints what the compiler says if that fails. Over
+# statements the crate is built alone: rt doesn't use them, so rt lib would prove the libraries below again.
+build_library() {
+    local library=$PWD/crates/$1/out/lib$1.a said jobs
+    jobs=$(nproc)
+    if has_statements "$1"; then
+        said=$(build_static "$1" "$library" --jobs "$((jobs < 4 ? jobs : 4))" 2>&1)
+    else
+        said=$(cd "crates/$1" && rt lib 2>&1)
+    fi || { printf '%s\n' "$said" && return 1; }
+}
+
 # worked_rows: the worked rows of the program's tests, a case a line.
 worked_rows() {
     .ci/worked_rows.py crates/cfi_tests_programs/src/rows.rt crates/cfi_tests_programs/src/rows/header.rt

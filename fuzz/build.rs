@@ -1,4 +1,5 @@
-//! Links libcfi_fuzz.a, as tools/comparison/build.rs links the others.
+//! Links libcfi_fuzz.a, as tools/comparison/build.rs links the others, and has programs call
+//! src/memory.rs for memory.
 fn main() {
     println!("cargo:rerun-if-env-changed=CFI_LIBRARIES");
     let folders =
@@ -8,4 +9,5 @@ fn main() {
         println!("cargo:rerun-if-changed={folder}/libcfi_fuzz.a");
     }
     println!("cargo:rustc-link-lib=static=cfi_fuzz");
+    println!("cargo:rustc-link-arg-bins=-Wl,--wrap=malloc,--wrap=realloc,--wrap=free");
 }

@@ -1,8 +1,9 @@
 #!/usr/bin/env python3
 """Puts one fault after the other into a copy of gimli, and sees whether the fuzzer finds it.
 
-  planted.py [--seconds N] [NUMBER..]     all faults, or those; each for at most 60 or N seconds
-  planted.py --list                       lists them
+  planted.py [--plain] [--seconds N] [NUMBER..]     all faults, or those; each for at most 60 or N
+                                                    seconds; with --plain by run --plain
+  planted.py --list                                 lists them
 
 Prints for each fault after how many seconds and inputs it was found. Status 0: all were found; 1:
 some were not. The variables are those of run, with fuzz/out/planted for FUZZ_WORK.
@@ -94,6 +95,11 @@ FAULTS = [
         "Ok(Some((from, to)))",
         "Ok(Some((from, Pointer::Direct(to.pointer()))))",
     ),
+    (
+        "an equal start doesn't end the search",
+        "reader = tail;\n                    break;\n",
+        "reader = tail;\n                    len = len - (len / 2);\n",
+    ),
 ]
 
 
@@ -114,18 +120,18 @@ def run(environment, *words):
     return subprocess.run(command, env=environment, capture_output=True, text=True)
 
 
-def find(work, number, seconds):
+def find(work, number, seconds, plain):
     """Whether the fuzzer finds the fault, from the seeds alone."""
     faulty, fault = os.path.join(work, "faulty"), FAULTS[number]
     plant(os.path.join(work, "original"), faulty, fault)
     environment = dict(os.environ, GIMLI=faulty, FUZZ_WORK=work)
     shutil.rmtree(os.path.join(work, "corpus"), ignore_errors=True)
-    built = run(environment, "--build-only")
+    built = run(environment, *plain, "--build-only")
     assert built.returncode == 0, built.stderr
     began = time.time()
-    ended = run(environment, "--seconds", str(seconds), "--no-build")
+    ended = run(environment, *plain, "--seconds", str(seconds), "--no-build")
     spent = time.time() - began
-    found = ended.returncode == 1 and "DIFFERENT" in ended.stdout
+    found = ended.returncode == 1 and "DIFFERENT" in ended.stdout + ended.stderr
     inputs = re.search(r"^(\d+) inputs", ended.stdout, re.M)
     verdict = "found" if found else "NOT FOUND"
     print(f"{number:2} {verdict} in {spent:.0f} s, {inputs and inputs[1]} inputs: {fault[0]}")
@@ -138,18 +144,19 @@ def main(words):
         for number, fault in enumerate(FAULTS):
             print(f"{number:2} {fault[0]}")
         return 0
-    seconds = 60
+    seconds, plain = 60, [word for word in words[:1] if word == "--plain"]
+    words = words[len(plain) :]
     if words[:1] == ["--seconds"]:
         seconds, words = int(words[1]), words[2:]
     work = os.environ.get("FUZZ_WORK", os.path.join(HERE, "out", "planted"))
     work = os.path.abspath(work)
-    built = run(dict(os.environ, FUZZ_WORK=work), "--build-only")
+    built = run(dict(os.environ, FUZZ_WORK=work), *plain, "--build-only")
     assert built.returncode == 0, built.stderr
     original = os.path.join(work, "original")
     shutil.rmtree(original, ignore_errors=True)
     shutil.copytree(os.path.join(work, "gimli"), original)
     numbers = [int(word) for word in words] or range(len(FAULTS))
-    found = [find(work, number, seconds) for number in numbers]
+    found = [find(work, number, seconds, plain) for number in numbers]
     print(f"{sum(found)} of {len(found)} faults found")
     return 0 if all(found) else 1
 

@@ -3,9 +3,10 @@
 
   seeds.py FOLDER [FILE..]
 
-The seeds are the cases of seeds.txt, sections at the limits of the fixed storage, and each pointer
-encoding in each place. Of each FILE, ELF of 64 bits and little-endian, some entries of .eh_frame
-are added. A section that can be read is written once as it is, and once in pieces.
+The seeds are the cases of seeds.txt, sections at the limits of the storages, large ones, headers
+whose tables are in order or not, and each pointer encoding in each place. Of each FILE, ELF of 64
+bits and little-endian, some entries of .eh_frame are added. A case of seeds.txt whose section can be
+read is written once as it is, and once in pieces.
 """
 import hashlib
 import os
@@ -163,6 +164,26 @@ def write_headers(seeds):
                 seeds.write(flags, numbers, header, cie + SEPARATOR + fde)
 
 
+def write_orders(seeds):
+    """Tables whose starts repeat or don't rise, whole and cut behind each value."""
+    flags = EH_FRAME | TABLE | PIECES | SIZES[8]
+    orders = ((5, 5), (5, 5, 5), (1, 5, 5), (5, 5, 9), (1, 5, 2), (5, 1, 5), (9, 5, 1))
+    orders += ((5, 5, 5, 5), (5, 9, 1, 5), (1, 5, 5, 5, 9), (2, 5, 1, 5, 3, 5, 4))
+    for starts in orders:
+        # The CIE takes 16 bytes, and each FDE 32. The rows of no two FDEs are the same.
+        pieces = [b"\0\1\0\1\x78\x10\0\0\0"]
+        for i, start in enumerate(starts):
+            program = bytes([0x41, 0x0E, 16 + i]).ljust(8, b"\0")
+            pieces.append(b"\1" + struct.pack("<QQ", start, 9) + program)
+        for encoding, size in ((2, 2), (3, 4), (0x3B, 4), (4, 8)):
+            values = [value for i, start in enumerate(starts) for value in (start, 16 + 32 * i)]
+            table = b"".join(value.to_bytes(size, "little") for value in values)
+            header = bytes([1, 3, 3, encoding]) + struct.pack("<II", 0, len(starts))
+            for length in range(size, len(table) + 1, size):
+                numbers = [5, 0, 0, 0, 0]
+                seeds.write(flags, numbers, header + table[:length], SEPARATOR.join(pieces))
+
+
 def write_encodings(seeds):
     """A CIE with one letter in each encoding, and an FDE that has what the letter asks for."""
     kinds = (0, BIG, EH_FRAME, EH_FRAME | BIG, EH_FRAME | TABLE)
@@ -227,6 +248,7 @@ def main(folder, files):
     write_storages(seeds)
     write_large(seeds)
     write_headers(seeds)
+    write_orders(seeds)
     write_encodings(seeds)
     for path in files:
         with open(path, "rb") as file:

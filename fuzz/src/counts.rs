@@ -42,6 +42,20 @@ pub fn departed(departure: Departure) {
     DEPARTED[departure as usize].fetch_add(1, Relaxed);
 }
 
+/// How much was compared.
+pub fn text() -> String {
+    let [
+        [rows_by_scan, errors_by_scan],
+        [rows_by_table, errors_by_table],
+    ] = COMPARED
+        .each_ref()
+        .map(|counts| counts.each_ref().map(|count| count.load(Relaxed)));
+    let rows = rows_by_scan + rows_by_table;
+    let results = rows + errors_by_scan + errors_by_table;
+    let passes = PASSES.load(Relaxed);
+    format!("{results} results for addresses, {rows} of them rows; {passes} passes")
+}
+
 /// `run` adds these lines up over all processes.
 extern "C" fn print() {
     for (how, counts) in ["by scan", "by table"].iter().zip(&COMPARED) {

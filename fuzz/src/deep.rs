@@ -376,7 +376,7 @@ impl Listing {
     }
 
     /// Whether the table lists the FDEs of the section faithfully.
-    fn is_faithful(&self) -> bool {
+    fn is_faithful(&self, question: &Question) -> bool {
         !self.base.indirect
             && self.is_searchable()
             && !self.refused
@@ -388,7 +388,7 @@ impl Listing {
             && self
                 .fdes
                 .iter()
-                .all(|fde| self.has_row(fde) && self.overlap(fde).is_none())
+                .all(|fde| self.has_row(fde) && self.overlap(question, fde).is_none())
     }
 
     fn target(&self, fde: &crate::event::Fde) -> Option<Target> {
@@ -417,24 +417,29 @@ impl Listing {
             .ok()
     }
 
+    /// The start of a row, whose target may be cut off.
+    fn start(&self, question: &Question, row: usize) -> Option<u64> {
+        match self.rows.get(row) {
+            Some(row) => Some(row.0.value),
+            None => start_of(question, row),
+        }
+    }
+
     /// The start of the row after the FDE's, where the FDE contains it.
-    fn overlap(&self, fde: &crate::event::Fde) -> Option<u64> {
-        let next = self.rows.get(self.row_from(fde.start)? + 1)?.0.value;
+    fn overlap(&self, question: &Question, fde: &crate::event::Fde) -> Option<u64> {
+        let next = self.start(question, self.row_from(fde.start)? + 1)?;
         (next < fde.end).then_some(next)
     }
 
     /// Whether the verdict is right: the table is faithful, or the reason is one why it isn't.
     fn allows(&self, question: &Question, verdict: &Event) -> bool {
-        let start = |row: u64| match self.rows.get(row as usize) {
-            Some(row) => Some(row.0.value),
-            None => start_of(question, row as usize),
-        };
+        let start = |row: u64| self.start(question, row as usize);
         let reason = match verdict {
-            Event::End => return self.is_faithful(),
+            Event::End => return self.is_faithful(question),
             Event::Unfaithful(reason) => reason,
             _ => return false,
         };
-        if self.is_faithful() {
+        if self.is_faithful(question) {
             return false;
         }
         let fde_at = |offset: u64| self.fdes.iter().find(|fde| fde.offset == offset);
@@ -469,7 +474,8 @@ impl Listing {
                 fde_at(offset).is_some_and(|fde| fde.start == address && !self.has_row(fde))
             }
             Reason::Overlap { offset, end, next } => {
-                fde_at(offset).is_some_and(|fde| fde.end == end && self.overlap(fde) == Some(next))
+                let is_next = |fde| self.overlap(question, fde) == Some(next);
+                fde_at(offset).is_some_and(|fde| fde.end == end && is_next(fde))
             }
             Reason::Count { rows, fdes } => {
                 rows == self.count && fdes == self.fdes.len() as u64 && fdes < rows

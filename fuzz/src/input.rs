@@ -48,7 +48,8 @@ impl Input {
     }
 }
 
-const FIXED: usize = 44;
+/// Bytes before the header, which each input has.
+pub const FIXED: usize = 44;
 /// Bytes of a section that is put together of pieces.
 const LONGEST: usize = 80_000;
 const SEPARATOR: [u8; 2] = [0x5c, 0xff];

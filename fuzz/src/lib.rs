@@ -1,6 +1,7 @@
-//! A fuzz target: gimli and gimli_cfi are asked the same questions, and the process stops where
-//! what they return differs. [`input`] tells what is asked, README.md which differences are meant.
-mod counts;
+//! gimli and gimli_cfi are asked the same questions, and the process stops where what they return
+//! differs. [`input`] tells what is asked, README.md which differences are meant. libFuzzer calls
+//! [`LLVMFuzzerTestOneInput`], and the program `compare_inputs` calls [`compare_input`].
+pub mod counts;
 mod deep;
 mod event;
 mod guarded;
@@ -12,6 +13,7 @@ use answer::{Answer, Fde, text, truncated};
 use comparison::{answer, c_library, departure, gimli_side, passes, question, sums};
 use departure::{Departure, Expected};
 use guarded::Guarded;
+pub use input::FIXED;
 use input::Input;
 use question::Question;
 use std::cell::RefCell;
@@ -98,11 +100,17 @@ pub unsafe extern "C" fn LLVMFuzzerTestOneInput(data: *const u8, length: usize) 
     } else {
         unsafe { std::slice::from_raw_parts(data, length) }
     };
+    if compare_input(data) { 0 } else { -1 }
+}
+
+/// Compares what both libraries return for an input, and stops the process where it differs. Returns
+/// whether the bytes are an input.
+pub fn compare_input(data: &[u8]) -> bool {
     let Some(input) = input::read(data) else {
-        return -1;
+        return false;
     };
     STATE.with_borrow_mut(|state| compare(state, input));
-    0
+    true
 }
 
 fn compare(state: &mut State, input: Input) {

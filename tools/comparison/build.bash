@@ -27,5 +27,5 @@ copy_gimli() {
         source=$1/source/vendor/gimli
     fi
     rm -rf "$1/gimli"
-    cp -r "$source" "$1/gimli"
+    cp -r --no-preserve=mode "$source" "$1/gimli"
 }
