@@ -7,7 +7,7 @@ use Rattle.cfi_step.specs.declared.step.Caller.{Caller}
 use Rattle.cfi_step.specs.declared.walk.Start.{Start}
 use Rattle.cfi_step.specs.declared.walk.End.{End}
 use Rattle.cfi_step.specs.declared.walk.End.TheVariants.{NoModule, NoRoom}
-use Rattle.cfi_step.specs.Walks.{State, IsStepOf, IsWalkBy, checked, resumed}
+use Rattle.cfi_step.specs.Walks.{State, IsStepOf, IsWalkBy, checked, resumed, resumed_at}
 
 -- ---- what is not written
 
@@ -33,6 +33,19 @@ module _ {A : Type 0} (IsStepIn : A → State → Result Caller FrameError → L
       → IsStepIn loaded s step caller → length caller ≡ length s.caller → OnErr step (caller ≡ s.caller) → result ≡ checked s.at step → IsStepOf IsStepIn modules s result caller
   in_module loaded step result caller there steps room unwritten checks =
       subst (λ (o : Option A). IsStepOf IsStepIn o s result caller) there (step, steps, room, unwritten, checks)
+
+-- ---- why there are no more
+
+ends_otherwise : (c : Caller) (pc : Option ℕ) (end : End) → Err end ≡ resumed_at c pc → end ≡ NoRoom → ⊥
+ends_otherwise c None end is no_room = absurd (cc)
+ends_otherwise c (Some pc) end is no_room = absurd (cc)
+
+-- a walk that a step ends doesn't end for want of room
+pub has_room : (step : Result Caller End) → (step ≡ Err NoRoom → ⊥) → (end : End) → Err end ≡ resumed step → end ≡ NoRoom → ⊥
+has_room (Ok c) room end is no_room = ends_otherwise c c.pc end is no_room
+has_room (Err e) room end is no_room =
+    let same : e ≡ end = cc in
+    room (ap (λ (x : End). Err x) (same ∙ no_room))
 
 -- ---- frames
 

@@ -1,7 +1,5 @@
 -- Rows that are kept for the next walk of a stack, each by its file and its address in the file (DWARF 5 section 6.4.1).
---     holds_row slot, HoldsRowOf file a slot      whether a slot holds a row, and that it holds the one of an address of a file
---     Says parts ra trampoline slot      what its row says, and what the CIE says of the return
---     KeepsRow file a parts ra trampoline old new      a row that says this may have been kept
+--     holds_row slot, slot_view slot      whether a slot holds a row, and what it holds
 --     AreEmpty cache      no slot holds a row
 --     AreAlike m n      if modules have one number of a file, they have the same call frames
 --     AreNumbered modules      that holds of any two of them
@@ -9,63 +7,38 @@
 --     AreCachedFor .. modules cache      the same for all modules
 --     KeepsIn .. loaded old new, KeepsFor .. modules old new      rows may have been kept of these modules: what was right stays right,
 --         also for other modules, if they have the call frames of these where they have their numbers
-use Rattle.std.specs.Prelude.{◌≡◌, ◌⊎◌, ℕ, Bool, true, false, List, Option, Ok, slice_set}
+--     AreRightIn, AreRightFor, StayRightIn, StayRightFor      the same of slots of any type
+use Rattle.std.specs.Prelude.{◌≡◌, ℕ, Bool, false, List, Option, Ok}
 use Rattle.std.specs.List.{All}
-use Rattle.cfi_read_core.specs.declared.common.Register.{Register}
 use Rattle.cfi_read_core.specs.ReadFunctions.{Position}
 use Rattle.cfi_state.specs.Machine.{Parts}
-use Rattle.cfi_state.specs.Row.{Row}
 use Rattle.cfi_state.specs.RulePairs.{rules_of}
-use Rattle.cfi_entry.specs.Augmentations.{is_trampoline}
 use Rattle.cfi_entry.specs.Fdes.{Covers, Fde}
-use Rattle.cfi_entry.specs.Sections.{Section}
-use Rattle.cfi_unwind.specs.AddressRow.{IsRowOfFde}
 use Rattle.cfi_step.specs.declared.cached_rows.CachedRow.{CachedRow}
 use Rattle.cfi_step.specs.declared.module.LoadedModule.{LoadedModule}
 use Rattle.cfi_step.specs.Modules.{IsFoundIn, module_section}
+use Rattle.cfi_step.specs.Slots.{Slot, HoldsRowOf, SaysRowOf}
 
 -- ---- a slot
 
 abbrev pub holds_row : CachedRow → Bool
 holds_row slot = slot.is_kept
 
--- the address is one that the file has
-abbrev pub HoldsRowOf : ℕ → ℕ → CachedRow → Type 0
-HoldsRowOf file a slot = (holds_row slot ≡ true) × (slot.file ≡ file) × (slot.address ≡ a)
-
 abbrev pub parts_cached : CachedRow → Parts ℕ
 parts_cached slot = record { cfa = slot.cfa; rules = rules_of slot.rules.items; args_size = slot.saved_args_size }
 
-abbrev pub Says : Parts ℕ → Register → Bool → CachedRow → Type 0
-Says parts ra trampoline slot = (parts_cached slot ≡ parts) × (slot.return_address ≡ ra) × (slot.is_signal_trampoline ≡ trampoline)
-
--- this row of the address, or none
-abbrev pub HoldsAtMost : ℕ → ℕ → Parts ℕ → Register → Bool → CachedRow → Type 0
-HoldsAtMost file a parts ra trampoline slot =
-    (other b : ℕ) → HoldsRowOf other b slot → (other ≡ file) × (b ≡ a) × Says parts ra trampoline slot
-
--- one slot at most is written
-abbrev pub KeepsRow : ℕ → ℕ → Parts ℕ → Register → Bool → List CachedRow → List CachedRow → Type 0
-KeepsRow file a parts ra trampoline old new =
-    (new ≡ old) ⊎ ((k : ℕ) × (slot : CachedRow) × (new ≡ slice_set old k slot) × HoldsAtMost file a parts ra trampoline slot)
+abbrev pub slot_view : CachedRow → Slot ℕ
+slot_view slot = record {
+  is_kept = slot.is_kept;
+  file = slot.file;
+  address = slot.address;
+  parts = parts_cached slot;
+  return_address = slot.return_address;
+  is_signal_trampoline = slot.is_signal_trampoline;
+}
 
 abbrev pub AreEmpty : List CachedRow → Type 0
 AreEmpty cache = All (λ slot. holds_row slot ≡ false) cache
-
--- ---- rows of an FDE
-
-module _ (rule_limit stack_limit : Option ℕ) (copies_free : Bool) (section : Section) (a : ℕ) (fde : Fde) where
-  -- the slot says what the FDE has for the address
-  abbrev pub SaysRowOf : CachedRow → Type 0
-  SaysRowOf slot =
-      (row : Row ℕ) × IsRowOfFde rule_limit stack_limit copies_free section a fde (Ok row)
-      × Says row.parts fde.cie.return_address_register (is_trampoline fde.cie.augmentation) slot
-
-  -- one slot at most is written, and then holds the row of this address of the file, or none
-  abbrev pub KeepsRowOf : ℕ → List CachedRow → List CachedRow → Type 0
-  KeepsRowOf file old new =
-      (new ≡ old) ⊎ ((k : ℕ) × (slot : CachedRow) × (new ≡ slice_set old k slot)
-      × ((other b : ℕ) → HoldsRowOf other b slot → (other ≡ file) × (b ≡ a) × SaysRowOf slot))
 
 -- ---- modules and their files
 
@@ -81,20 +54,33 @@ AreNumbered modules = All (AreAllAlike modules) modules
 
 -- ---- a cache, for addresses of this size and a storage with these limits
 
-module _ {R : Type 0} (position : R → Position) (size : ℕ) (rule_limit stack_limit : Option ℕ) (copies_free : Bool) where
-  abbrev pub IsCachedIn : LoadedModule R → CachedRow → Type 0
-  IsCachedIn loaded slot =
-      (a : ℕ) → HoldsRowOf loaded.file a slot → (fde : Fde) × IsFoundIn position size loaded a (Ok fde) × Covers fde a
-      × SaysRowOf rule_limit stack_limit copies_free (module_section position size loaded) a fde slot
+module _ {R K T : Type 0} (position : R → Position) (number : T → ℕ) (slot_of : K → Slot T) (size : ℕ) (rule_limit stack_limit : Option ℕ) (copies_free : Bool) where
+  abbrev pub IsRightIn : LoadedModule R → K → Type 0
+  IsRightIn loaded slot =
+      (a : ℕ) → HoldsRowOf loaded.file a (slot_of slot) → (fde : Fde) × IsFoundIn position size loaded a (Ok fde) × Covers fde a
+      × SaysRowOf number rule_limit stack_limit copies_free (module_section position size loaded) a fde (slot_of slot)
 
+  abbrev pub AreRightIn : LoadedModule R → List K → Type 0
+  AreRightIn loaded cache = All (IsRightIn loaded) cache
+
+  abbrev pub AreRightFor : List (LoadedModule R) → List K → Type 0
+  AreRightFor modules cache = All (λ loaded. AreRightIn loaded cache) modules
+
+  abbrev pub StayRightIn : LoadedModule R → List K → List K → Type 0
+  StayRightIn loaded old new = (other : LoadedModule R) → AreAlike loaded other → AreRightIn other old → AreRightIn other new
+
+  abbrev pub StayRightFor : List (LoadedModule R) → List K → List K → Type 0
+  StayRightFor modules old new = (other : LoadedModule R) → AreAllAlike modules other → AreRightIn other old → AreRightIn other new
+
+module _ {R : Type 0} (position : R → Position) (size : ℕ) (rule_limit stack_limit : Option ℕ) (copies_free : Bool) where
   abbrev pub AreCachedIn : LoadedModule R → List CachedRow → Type 0
-  AreCachedIn loaded cache = All (IsCachedIn loaded) cache
+  AreCachedIn = AreRightIn position (λ (n : ℕ). n) slot_view size rule_limit stack_limit copies_free
 
   abbrev pub AreCachedFor : List (LoadedModule R) → List CachedRow → Type 0
-  AreCachedFor modules cache = All (λ loaded. AreCachedIn loaded cache) modules
+  AreCachedFor = AreRightFor position (λ (n : ℕ). n) slot_view size rule_limit stack_limit copies_free
 
   abbrev pub KeepsIn : LoadedModule R → List CachedRow → List CachedRow → Type 0
-  KeepsIn loaded old new = (other : LoadedModule R) → AreAlike loaded other → AreCachedIn other old → AreCachedIn other new
+  KeepsIn = StayRightIn position (λ (n : ℕ). n) slot_view size rule_limit stack_limit copies_free
 
   abbrev pub KeepsFor : List (LoadedModule R) → List CachedRow → List CachedRow → Type 0
-  KeepsFor modules old new = (other : LoadedModule R) → AreAllAlike modules other → AreCachedIn other old → AreCachedIn other new
+  KeepsFor = StayRightFor position (λ (n : ℕ). n) slot_view size rule_limit stack_limit copies_free

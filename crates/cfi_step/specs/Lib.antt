@@ -1,7 +1,9 @@
 pub mod Callers
 pub mod Steps
 pub mod CompiledSteps
+pub mod CodeRanges
 pub mod Modules
 pub mod ModuleLists
+pub mod Slots
 pub mod CachedRows
 pub mod Walks

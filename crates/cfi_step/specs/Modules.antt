@@ -8,11 +8,8 @@
 --     are_sorted low modules      whether modules are in the order of their addresses, with no overlap
 --     IsOutOfOrder modules k      the first module that isn't, by its index
 --     IsInOneAtMost modules a      no two modules have the address in their code
---     AreEndedBy modules a k      the first k modules end at or before the address, and no others
-use Rattle.std.specs.Prelude.{◌≡◌, ℕ, ◌+◌, ◌<◌, ◌≤◌, ◌&&◌, Bool, true, false, List, [], ◌∷◌, length, get_or, take, nat_le, nat_lt, Option, Some, None, Result, IfOk, position}
-use Rattle.std.specs.Option.{option_and_then}
+use Rattle.std.specs.Prelude.{◌≡◌, ℕ, Bool, List, Option, Some, None, Result, IfOk}
 use Rattle.std.specs.Borrow.{Bor}
-use Rattle.std.specs.List.{slice_get}
 use Rattle.cfi_read_core.specs.declared.error.Error.{Error}
 use Rattle.cfi_read_core.specs.ReadFunctions.{Position}
 use Rattle.cfi_entry.specs.Sections.{Section}
@@ -29,6 +26,7 @@ use Rattle.cfi_compiled.specs.CompiledTables.{TableContents, frame_at}
 use Rattle.cfi_step.specs.declared.abi.Abi.{Abi}
 use Rattle.cfi_step.specs.declared.module.LoadedModule.{LoadedModule}
 use Rattle.cfi_step.specs.declared.step.Caller.{Caller}
+use Rattle.cfi_step.specs.CodeRanges as ranges
 use Rattle.cfi_step.specs.CompiledSteps.{IsStepByFrame, address_in_file}
 use Rattle.cfi_step.specs.Steps.{IsStepBy}
 
@@ -67,35 +65,27 @@ module _ {R T : Type 0} (position : R → Position) (number : T → ℕ) (frame 
 
 -- ---- several modules
 
-abbrev pub has_code : {R : Type 0} → LoadedModule R → ℕ → Bool
-has_code loaded a = nat_le loaded.start a && nat_lt a loaded.end
+module _ {R : Type 0} where
+  abbrev pub start_of : LoadedModule R → ℕ
+  start_of loaded = loaded.start
 
-abbrev pub first_module : {R : Type 0} → List (LoadedModule R) → ℕ → Option (LoadedModule R)
-first_module modules a = option_and_then (slice_get modules) (position (λ loaded. has_code loaded a) modules)
+  abbrev pub end_of : LoadedModule R → ℕ
+  end_of loaded = loaded.end
 
--- ---- their order
+  abbrev pub has_code : LoadedModule R → ℕ → Bool
+  has_code = ranges.has_code start_of end_of
 
--- its code begins at or after an address, and doesn't end before it begins
-abbrev pub begins_from : {R : Type 0} → ℕ → LoadedModule R → Bool
-begins_from low loaded = nat_le low loaded.start && nat_le loaded.start loaded.end
+  abbrev pub first_module : List (LoadedModule R) → ℕ → Option (LoadedModule R)
+  first_module = ranges.first_with_code start_of end_of
 
--- each module's code begins at or after the end of that before it, the first at or after `low`
-abbrev pub are_sorted : {R : Type 0} → ℕ → List (LoadedModule R) → Bool
-are_sorted low [] = true
-are_sorted low (loaded ∷ modules) = begins_from low loaded && are_sorted loaded.end modules
+  abbrev pub begins_from : ℕ → LoadedModule R → Bool
+  begins_from = ranges.begins_from start_of end_of
 
--- the modules before the one with this index are sorted, and not with it
-abbrev pub IsOutOfOrder : {R : Type 0} → List (LoadedModule R) → ℕ → Type 0
-IsOutOfOrder modules k = (are_sorted 0 (take k modules) ≡ true) × (are_sorted 0 (take (k + 1) modules) ≡ false)
+  abbrev pub are_sorted : ℕ → List (LoadedModule R) → Bool
+  are_sorted = ranges.are_sorted start_of end_of
 
--- no two modules have the address in their code
-abbrev pub IsInOneAtMost : {R : Type 0} → List (LoadedModule R) → ℕ → Type 0
-IsInOneAtMost {R} modules a =
-    (i j : ℕ) (d : LoadedModule R) → i < length modules → j < length modules →
-    has_code (get_or modules i d) a ≡ true → has_code (get_or modules j d) a ≡ true → i ≡ j
+  abbrev pub IsOutOfOrder : List (LoadedModule R) → ℕ → Type 0
+  IsOutOfOrder = ranges.IsOutOfOrder start_of end_of
 
--- the modules before this index end at or before the address, and the others after it
-pub record AreEndedBy {R : Type 0} (modules : List (LoadedModule R)) (a k : ℕ) : Type 0 where
-  pub inside : k ≤ length modules
-  pub ended : (j : ℕ) (d : LoadedModule R) → j < k → (get_or modules j d).end ≤ a
-  pub not_ended : (j : ℕ) (d : LoadedModule R) → k ≤ j → j < length modules → a < (get_or modules j d).end
+  abbrev pub IsInOneAtMost : List (LoadedModule R) → ℕ → Type 0
+  IsInOneAtMost = ranges.IsInOneAtMost start_of end_of

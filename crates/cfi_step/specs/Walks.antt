@@ -2,17 +2,21 @@
 --     State      a frame, with its registers and the room for its caller's
 --     IsStepFrom process s result caller      what the step from a frame returns and writes, by the first module whose code its address is in
 --     IsWalk process s frames end registers caller      the frames from s on, why there are no more, and what is left in the two lists of registers
+--     IsStepAmong, IsWalkAmong      the same by modules, a memory and an ABI
 --     IsStepOf, IsWalkBy      the same over modules and frames of any form
-use Rattle.std.specs.Prelude.{◌≡◌, ◌⊎◌, ℕ, ◌||◌, Bool, true, List, [], ◌∷◌, length, is_none, nat_lt, Option, Some, None, Result, Ok, Err, OnErr, if◌then◌else◌}
+--     AreWritten walk old new      where a walk's frames are in the room for them
+use Rattle.std.specs.Prelude.{◌≡◌, ◌⊎◌, ℕ, ◌≤◌, ◌||◌, Bool, true, List, [], ◌∷◌, drop, length, is_none, nat_lt, Option, Some, None, Result, Ok, Err, OnErr, if◌then◌else◌}
 use Rattle.cfi_read_core.specs.ReadFunctions.{Position}
 use Rattle.cfi_expression.specs.declared.error.FrameError.{FrameError}
 use Rattle.cfi_expression.specs.Frames.{Frame}
 use Rattle.cfi_read_core.specs.AddressSizes.{size_in_bytes}
+use Rattle.cfi_step.specs.declared.abi.Abi.{Abi}
 use Rattle.cfi_step.specs.declared.step.Caller.{Caller}
 use Rattle.cfi_step.specs.declared.module.LoadedModule.{LoadedModule}
 use Rattle.cfi_step.specs.declared.walk.Process.{Process}
 use Rattle.cfi_step.specs.declared.walk.StackFrame.{StackFrame}
 use Rattle.cfi_step.specs.declared.walk.Start.{Start}
+use Rattle.cfi_step.specs.declared.walk.Walk.{Walk}
 use Rattle.cfi_step.specs.declared.walk.End.{End}
 use Rattle.cfi_step.specs.declared.walk.End.TheVariants.{Outermost, NoModule, Failed, NotRising, NoRoom}
 use Rattle.cfi_step.specs.Steps.{row_address}
@@ -72,20 +76,40 @@ module _ {F : Type 0} (written : Start → Result Caller End → F) (IsStep : St
       × (((fs ≡ []) × (resumed step ≡ Err end) × (registers ≡ s.registers) × (caller ≡ found))
       ⊎ ((next : Start) × (resumed step ≡ Ok next) × IsWalkBy (record { at = next; registers = found; caller = found }) fs end registers caller))
 
--- ---- in a process
+-- the frames are the first ones of the room, and nothing is written behind them; no room is left only if all of it is used
+abbrev pub AreWritten : {F : Type 0} → Walk → List F → List F → Type 0
+AreWritten walk old new =
+    (drop walk.count new ≡ drop walk.count old) × (walk.count ≤ length new) × (walk.end ≡ NoRoom → walk.count ≡ length new)
+
+-- ---- over loaded modules
 
 abbrev pub address_of : State → ℕ
 address_of s = row_address s.at.pc s.at.is_interrupted
+
+module _ {R T : Type 0} (position : R → Position) (number : T → ℕ) (memory : ℕ → ℕ → Option ℕ) (size : ℕ) (abi : Abi) (rule_limit stack_limit : Option ℕ) (copies_free : Bool) where
+  abbrev pub IsStepOver : LoadedModule R → State → Result Caller FrameError → List (Option ℕ) → Type 0
+  IsStepOver loaded s step caller =
+      IsStepIn position number (record { registers = s.registers; memory = memory; size = size }) abi rule_limit stack_limit copies_free loaded (address_of s) step caller
+
+  abbrev pub IsStepAmong : List (LoadedModule R) → State → Result Caller End → List (Option ℕ) → Type 0
+  IsStepAmong modules s result caller = IsStepOf IsStepOver (first_module modules (address_of s)) s result caller
+
+  abbrev pub IsWalkAmong : List (LoadedModule R) → State → List StackFrame → End → List (Option ℕ) → List (Option ℕ) → Type 0
+  IsWalkAmong modules = IsWalkBy written (IsStepAmong modules)
+
+-- ---- in a process
 
 module _ {R M T : Type 0} (position : R → Position) (number : T → ℕ) (number_at : M → ℕ → ℕ → Option ℕ) (rule_limit stack_limit : Option ℕ) (copies_free : Bool) (process : Process R M) where
   abbrev pub frame_in : State → Frame
   frame_in s = record { registers = s.registers; memory = number_at process.memory.now; size = size_in_bytes process.address_size }
 
   abbrev pub IsStepInModule : LoadedModule R → State → Result Caller FrameError → List (Option ℕ) → Type 0
-  IsStepInModule loaded s step caller = IsStepIn position number (frame_in s) process.abi rule_limit stack_limit copies_free loaded (address_of s) step caller
+  IsStepInModule =
+      IsStepOver position number (number_at process.memory.now) (size_in_bytes process.address_size) process.abi rule_limit stack_limit copies_free
 
   abbrev pub IsStepFrom : State → Result Caller End → List (Option ℕ) → Type 0
-  IsStepFrom s result caller = IsStepOf IsStepInModule (first_module (module_list process.modules) (address_of s)) s result caller
+  IsStepFrom =
+      IsStepAmong position number (number_at process.memory.now) (size_in_bytes process.address_size) process.abi rule_limit stack_limit copies_free (module_list process.modules)
 
   abbrev pub IsWalk : State → List StackFrame → End → List (Option ℕ) → List (Option ℕ) → Type 0
   IsWalk = IsWalkBy written IsStepFrom

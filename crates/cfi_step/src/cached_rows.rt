@@ -1,20 +1,17 @@
 //! A cache of rows by their files and addresses, for walks of many stacks.
-ghost use Rattle.std.specs.Prelude.{◌≡◌, IfSome};
+ghost use Rattle.std.specs.Prelude.{◌≡◌};
 ghost use Rattle.std.specs.FinMap.{get};
-ghost use Rattle.std.specs.List.{Contains};
 ghost use Rattle.gimli_cfi.specs.Words.{rules_of};
-ghost use Rattle.cfi_step.specs.CachedRows.{AreEmpty, HoldsRowOf, KeepsRow};
+ghost use Rattle.cfi_step.specs.CachedRows.{AreEmpty};
 
 use crate::rows::RowRules;
+use crate::slots::RowSlot;
 use arrayvec::ArrayVec;
 use gimli_cfi::{ArrayLike, CfaRule, Register, RegisterRule, UnwindTableRow};
 
 /// The most rules of registers that a row may have that is kept. Rows of x86-64 mostly have 7 at
 /// most; one of AArch64 has more if it saves x19 to x30.
 const RULES: usize = 8;
-
-/// 2 ^ 64 divided by the golden ratio: what addresses are multiplied with to be spread.
-const SPREAD: u64 = 0x9e37_79b9_7f4a_7c15;
 
 /// A slot of a cache of rows. It is empty, or holds the row of an address of a file (DWARF 5
 /// section 6.4.1) with what its CIE says of the return.
@@ -31,8 +28,8 @@ pub struct CachedRow {
 }
 
 impl CachedRow {
-    ghost use Rattle.std.specs.Prelude.{◌≡◌, false, true};
-    ghost use Rattle.cfi_step.specs.CachedRows.{HoldsAtMost, HoldsRowOf, holds_row};
+    ghost use Rattle.std.specs.Prelude.{◌≡◌, false};
+    ghost use Rattle.cfi_step.specs.CachedRows.{holds_row};
 
     /// An empty slot. Does not allocate.
     pub fn new() -> CachedRow
@@ -56,56 +53,6 @@ impl CachedRow {
         ensures { holds_row self.new ≡ false }
     {
         self.is_kept = false;
-    }
-
-    /// Whether it holds the row of the address of the file.
-    #[inline(always)]
-    fn is_of(&self, file: usize, address: u64) -> bool
-        ensures { result ≡ true → HoldsRowOf file address self.now }
-    {
-        self.is_kept && self.file == file && self.address == address
-    }
-
-    /// The register that holds the return address.
-    #[inline(always)]
-    pub(crate) fn return_address(&self) -> Register
-        ensures { result ≡ self.now.return_address }
-    {
-        self.return_address
-    }
-
-    /// Whether the FDE is a signal trampoline.
-    #[inline(always)]
-    pub(crate) fn is_signal_trampoline(&self) -> bool
-        ensures { result ≡ self.now.is_signal_trampoline }
-    {
-        self.is_signal_trampoline
-    }
-
-    /// Holds the row of the address of the file, if it has few rules, and else nothing.
-    fn keep<A: ArrayLike<Item = (Register, RegisterRule<usize>)>>(
-        &mut self,
-        file: usize,
-        address: u64,
-        row: &UnwindTableRow<usize, A>,
-        return_address: Register,
-        is_signal_trampoline: bool,
-    )
-        ensures { HoldsAtMost file address row.now.parts return_address is_signal_trampoline
-            self.new }
-    {
-        self.is_kept = false;
-        self.rules.clear();
-        let rules = row.registers().as_slice();
-        if self.rules.try_extend_from_slice(rules).is_ok() {
-            self.file = file;
-            self.address = address;
-            self.cfa = *row.cfa();
-            self.saved_args_size = row.saved_args_size();
-            self.return_address = return_address;
-            self.is_signal_trampoline = is_signal_trampoline;
-            self.is_kept = true;
-        }
     }
 }
 
@@ -132,6 +79,52 @@ impl RowRules for CachedRow {
     }
 }
 
+impl RowSlot for CachedRow {
+    ghost use Rattle.std.specs.Prelude.{refl};
+    ghost use Rattle.cfi_step.specs.CachedRows.{slot_view};
+
+    ghost slot = { slot_view };
+
+    #[inline(always)]
+    fn is_of(&self, file: usize, address: u64) -> bool {
+        self.is_kept && self.file == file && self.address == address
+    }
+
+    #[inline(always)]
+    fn return_address(&self) -> Register {
+        self.return_address
+    }
+
+    #[inline(always)]
+    fn is_signal_trampoline(&self) -> bool {
+        self.is_signal_trampoline
+    }
+
+    fn keep<A: ArrayLike<Item = (Register, RegisterRule<usize>)>>(
+        &mut self,
+        file: usize,
+        address: u64,
+        row: &UnwindTableRow<usize, A>,
+        return_address: Register,
+        is_signal_trampoline: bool,
+    ) {
+        self.is_kept = false;
+        self.rules.clear();
+        let rules = row.registers().as_slice();
+        if self.rules.try_extend_from_slice(rules).is_ok() {
+            self.file = file;
+            self.address = address;
+            self.cfa = *row.cfa();
+            self.saved_args_size = row.saved_args_size();
+            self.return_address = return_address;
+            self.is_signal_trampoline = is_signal_trampoline;
+            self.is_kept = true;
+        }
+    }
+
+    ghost same_parts = { λ s. refl };
+}
+
 /// The register's rule: the first that it has.
 #[inline]
 fn rule_in(
@@ -156,45 +149,4 @@ pub fn clear_rows(cache: &mut [CachedRow])
     for slot in cache {
         slot.clear();
     }
-}
-
-/// The slot that holds the row of the address of the file, if any.
-#[inline]
-pub(crate) fn held(cache: &[CachedRow], file: usize, address: u64) -> Option<&CachedRow>
-    ensures { IfSome result (λ slot.
-        HoldsRowOf file address slot.now × Contains cache.now slot.now) }
-{
-    let index = index_of(file, address, cache.len());
-    if index < cache.len() && cache[index].is_of(file, address) {
-        Some(&cache[index])
-    } else {
-        None
-    }
-}
-
-/// Keeps the row of the address of the file in its slot, in place of the one there. If it has too
-/// many rules, the slot is empty afterwards.
-pub(crate) fn keep_row<A: ArrayLike<Item = (Register, RegisterRule<usize>)>>(
-    cache: &mut [CachedRow],
-    file: usize,
-    address: u64,
-    row: &UnwindTableRow<usize, A>,
-    return_address: Register,
-    is_signal_trampoline: bool,
-)
-    ensures { KeepsRow file address row.now.parts return_address is_signal_trampoline
-        cache.old cache.new }
-{
-    let index = index_of(file, address, cache.len());
-    if index < cache.len() {
-        cache[index].keep(file, address, row, return_address, is_signal_trampoline);
-    }
-}
-
-/// The index of the slot for an address of a file. Each slot holds both, so any would do.
-#[inline]
-fn index_of(file: usize, address: u64, count: usize) -> usize {
-    let mixed = address.wrapping_add((file as u64).wrapping_mul(SPREAD));
-    let spread = mixed.wrapping_mul(SPREAD) >> 32;
-    (spread.wrapping_mul(count as u64) >> 32) as usize
 }

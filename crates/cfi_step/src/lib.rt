@@ -3,30 +3,36 @@
 //! `recover` and `step_by_row` take a row, the other steps find it: by an FDE, by a scan of a
 //! section, by the table of a header, or by a compiled table. `Modules` finds the module of an
 //! address, and `unwind` writes the frames of a stack; `unwind_cached` does so with a cache of
-//! rows. Nothing allocates over a fixed storage.
+//! rows, and `write_frames` by any steps. Nothing allocates over a fixed storage.
 #![tactic(auto)]
 
 pub mod abi;
 pub mod cached_rows;
-mod cached_steps;
 pub mod cached_walk;
+pub mod code;
 pub mod compiled;
 pub mod module;
+pub mod module_steps;
 pub mod modules;
 mod places;
 pub mod recover;
 pub mod rows;
+pub mod slots;
 pub mod step;
+pub mod steps;
 pub mod walk;
 
 pub use abi::Abi;
 pub use cached_rows::{CachedRow, clear_rows};
 pub use cached_walk::unwind_cached;
 pub use cfi_expression::{AddressSize, Frame, FrameError, Memory, Window};
+pub use code::{HasCode, code_at};
 pub use compiled::step_by_compiled;
 pub use gimli_cfi::fde_by_header;
-pub use module::{LoadedModule, fde_in_module, step_in_module};
+pub use module::{LoadedModule, fde_in_module};
+pub use module_steps::step_in_module;
 pub use modules::{Modules, OutOfOrder};
 pub use rows::RowRules;
 pub use step::{Caller, row_address, step_by_fde, step_by_row, step_by_scan};
-pub use walk::{End, Process, StackFrame, Walk, unwind};
+pub use steps::{Steps, WalkFrame};
+pub use walk::{End, Process, StackFrame, Walk, unwind, write_frames};

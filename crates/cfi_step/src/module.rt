@@ -1,23 +1,18 @@
-//! A loaded module, and the caller of a frame of its code.
-ghost use Rattle.std.specs.Prelude.{◌≡◌, ◌≤◌, length, IfOk, IfSome, OnErr};
+//! A loaded module, and the FDE of an address of its code.
+ghost use Rattle.std.specs.Prelude.{◌≡◌, IfOk};
 ghost use Rattle.cfi_read_core.specs.Addresses.{IsAddressSize};
 ghost use Rattle.cfi_read_core.specs.ReaderCalls.{map_ok};
 ghost use Rattle.cfi_entry.specs.Fdes.{Covers};
 ghost use Rattle.cfi_entry.specs.SectionViews.{eh_frame_view};
 ghost use Rattle.cfi_unwind.specs.FdeViews.{HasCieOf, IsFdeOf, fde_view};
-ghost use Rattle.cfi_expression.specs.Frames.{frame_view};
-ghost use Rattle.cfi_step.specs.CompiledSteps.{IsStepAsScanned, address_in_file};
-ghost use Rattle.cfi_step.specs.Modules.{IsFoundIn, IsStepByFound, IsStepIn};
-ghost use Rattle.cfi_step.specs.Modules.{begins_from, has_code};
+ghost use Rattle.cfi_step.specs.CompiledSteps.{address_in_file};
+ghost use Rattle.cfi_step.specs.Modules.{IsFoundIn};
+ghost use Rattle.cfi_step.specs.Modules.{has_code};
 
-use crate::abi::Abi;
-use crate::compiled::step_by_compiled;
-use crate::step::{Caller, step_by_fde};
+use crate::code::{HasCode, has_code};
 use cfi_compiled::CompiledTable;
-use cfi_expression::{Frame, FrameError, Memory};
 use gimli_cfi::{
-    BaseAddresses, EhFrame, EhFrameHdr, FrameDescriptionEntry, Reader, UnwindContext,
-    UnwindContextStorage, fde_by_header, scan_for_fde,
+    BaseAddresses, EhFrame, EhFrameHdr, FrameDescriptionEntry, Reader, fde_by_header, scan_for_fde,
 };
 
 /// A module as it is loaded: its code, and its call frames.
@@ -52,7 +47,7 @@ impl<R> LoadedModule<'_, R> {
     pub fn has_code(&self, address: u64) -> bool
         ensures { result ≡ has_code self.now address }
     {
-        self.start <= address && address < self.end
+        has_code(self, address)
     }
 
     /// The address that the file has for an address of the process: it is less by the bias, modulo
@@ -62,12 +57,23 @@ impl<R> LoadedModule<'_, R> {
     {
         address.wrapping_sub(self.bias)
     }
+}
 
-    /// Whether its code begins at or after an address, and does not end before it begins.
-    pub(crate) fn begins_from(&self, low: u64) -> bool
-        ensures { result ≡ begins_from low self.now }
-    {
-        low <= self.start && self.start <= self.end
+impl<R> HasCode for LoadedModule<'_, R> {
+    ghost use Rattle.cfi_step.specs.Modules.{end_of, start_of};
+
+    ghost start = { start_of };
+
+    ghost end = { end_of };
+
+    #[inline(always)]
+    fn start(&self) -> u64 {
+        self.start
+    }
+
+    #[inline(always)]
+    fn end(&self) -> u64 {
+        self.end
     }
 }
 
@@ -97,66 +103,5 @@ pub fn fde_in_module<R: Reader>(
             fde_by_header(header, address_size, &loaded.frame, &loaded.bases, address)
         }
         None => scan_for_fde(&loaded.frame, &loaded.bases, address),
-    }
-}
-
-/// The caller of a frame of a module's code, by its address (`row_address`).
-///
-/// The address less the bias is looked up. If the module has a compiled table, by that, as
-/// `step_by_compiled`: then neither an FDE nor an instruction is read, and nothing allocates. Else
-/// by the FDE that `fde_in_module` finds. Fails with `FrameError::NoRow` as that, then as
-/// `step_by_fde`, which says what is written. Over a fixed storage it does not allocate.
-pub fn step_in_module<R: Reader, S: UnwindContextStorage<R::Offset>, M: Memory>(
-    loaded: &LoadedModule<'_, R>,
-    ctx: &mut UnwindContext<R::Offset, S>,
-    address: u64,
-    abi: &Abi,
-    frame: &Frame<'_, M>,
-    caller: &mut [Option<u64>],
-) -> Result<Caller, FrameError>
-    requires { length caller.old ≤ 0x10000 }
-    ensures step { IsStepIn R.position R.Offset.number (frame_view M.number_at frame.now)
-        abi.now S.Rules.limit S.Stack.limit S.Rules.copies_free
-        loaded.now address result caller.new }
-    ensures scan { IfSome loaded.now.compiled (λ table. IsStepAsScanned
-        (frame_view M.number_at frame.now) (eh_frame_view R.position loaded.now.frame).position
-        abi.now table.now (address_in_file loaded.now.bias address) result caller.new) }
-    ensures unwritten { OnErr result (caller.new ≡ caller.old) }
-{
-    let address = loaded.address_in_file(address);
-    match loaded.compiled {
-        Some(table) => step_by_compiled(table, &loaded.frame, address, abi, frame, caller),
-        None => step_by_found(loaded, ctx, address, abi, frame, caller),
-    }
-}
-
-/// The caller of a frame of a module's code, by the FDE that `fde_in_module` finds for an address
-/// of the file.
-fn step_by_found<R: Reader, S: UnwindContextStorage<R::Offset>, M: Memory>(
-    loaded: &LoadedModule<'_, R>,
-    ctx: &mut UnwindContext<R::Offset, S>,
-    address: u64,
-    abi: &Abi,
-    frame: &Frame<'_, M>,
-    caller: &mut [Option<u64>],
-) -> Result<Caller, FrameError>
-    requires { length caller.old ≤ 0x10000 }
-    ensures step { IsStepByFound R.position R.Offset.number (frame_view M.number_at frame.now)
-        abi.now S.Rules.limit S.Stack.limit S.Rules.copies_free
-        loaded.now address result caller.new }
-    ensures unwritten { OnErr result (caller.new ≡ caller.old) }
-{
-    match fde_in_module(loaded, frame.address_size.bytes(), address) {
-        Ok(fde) => step_by_fde(
-            &fde,
-            &loaded.frame,
-            &loaded.bases,
-            ctx,
-            address,
-            abi,
-            frame,
-            caller,
-        ),
-        Err(error) => Err(FrameError::NoRow(error)),
     }
 }

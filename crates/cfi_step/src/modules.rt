@@ -2,6 +2,7 @@
 ghost use Rattle.std.specs.Prelude.{◌≡◌, ⊤, true};
 ghost use Rattle.cfi_step.specs.Modules.{are_sorted};
 
+use crate::code::{code_at, out_of_order};
 use crate::module::LoadedModule;
 use std::alloc::AllocError;
 
@@ -36,7 +37,7 @@ impl<'a, R> Modules<'a, R> {
     ghost use Rattle.std.specs.Prelude.{◌≡◌, true, IfErr, OkIff};
     ghost use Rattle.std.specs.Option.{option_map};
     ghost use Rattle.cfi_read_core.specs.ReaderCalls.{map_ok};
-    ghost use Rattle.cfi_step.specs.Modules.{AreEndedBy, IsInOneAtMost, IsOutOfOrder};
+    ghost use Rattle.cfi_step.specs.Modules.{IsInOneAtMost, IsOutOfOrder};
     ghost use Rattle.cfi_step.specs.Modules.{are_sorted, first_module};
     ghost use Rattle.cfi_step.specs.ModuleLists.{module_list};
 
@@ -49,15 +50,10 @@ impl<'a, R> Modules<'a, R> {
             (are_sorted 0 list.now ≡ true) list.now }
         ensures out_of_order { IfErr result (λ first. IsOutOfOrder list.now first.index) }
     {
-        let mut end = 0;
-        for index in 0..list.len() {
-            let loaded = &list[index];
-            if !loaded.begins_from(end) {
-                return Err(OutOfOrder { index });
-            }
-            end = loaded.end;
+        match out_of_order(list) {
+            None => Ok(Modules { list }),
+            Some(index) => Err(OutOfOrder { index }),
         }
-        Ok(Modules { list })
     }
 
     /// The module whose code the address is in: there is at most one. Found by halving; does not
@@ -67,22 +63,6 @@ impl<'a, R> Modules<'a, R> {
             ≡ first_module (module_list self.now) address }
         ensures only { IsInOneAtMost (module_list self.now) address }
     {
-        let index = self.ended_by(address);
-        if index == self.list.len() {
-            return None;
-        }
-        let loaded = &self.list[index];
-        if loaded.start <= address {
-            Some(loaded)
-        } else {
-            None
-        }
-    }
-
-    /// How many modules end at or before the address.
-    fn ended_by(&self, address: u64) -> usize
-        ensures { AreEndedBy (module_list self.now) address result }
-    {
-        self.list.partition_point(|loaded| loaded.end <= address)
+        code_at(self.list, address)
     }
 }

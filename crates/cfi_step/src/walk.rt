@@ -1,12 +1,18 @@
 //! The frames of a stack, from the innermost one out (DWARF 5 section 6.4.4).
-ghost use Rattle.std.specs.Prelude.{◌≡◌, ◌≤◌, ⊤, drop, length, take, true, None};
-ghost use Rattle.cfi_step.specs.Walks.{IsStepFrom, IsWalk, checked, resumed};
+ghost use Rattle.std.specs.Prelude.{◌≡◌, ◌≤◌, ⊤, drop, length, take, true, Err, List, None};
+ghost use Rattle.cfi_read_core.specs.AddressSizes.{size_in_bytes};
+ghost use Rattle.cfi_step.specs.CachedRows.{AreRightFor, StayRightFor};
+ghost use Rattle.cfi_step.specs.ModuleLists.{module_list};
+ghost use Rattle.cfi_step.specs.Walks.{IsStepFrom, IsWalk, IsWalkBy, checked, resumed};
 ghost use Rattle.cfi_step.specs.Walks.{rises_above, written};
 
 use crate::abi::Abi;
-use crate::module::step_in_module;
+use crate::module_steps::step_in_kept;
 use crate::modules::Modules;
+use crate::rows::RowRules;
+use crate::slots::{NoRow, RowSlot};
 use crate::step::{Caller, row_address};
+use crate::steps::{Steps, WalkFrame};
 use cfi_expression::{AddressSize, Frame, FrameError, Memory};
 use gimli_cfi::{Reader, UnwindContext, UnwindContextStorage};
 use std::alloc::AllocError;
@@ -73,6 +79,30 @@ pub enum End {
     NoRoom,
 }
 
+impl WalkFrame for StackFrame {
+    ghost use Rattle.cfi_step.specs.Walks.{written};
+
+    ghost written = { written };
+
+    fn of(at: &Start, step: Result<Caller, End>) -> StackFrame {
+        written(at, step)
+    }
+}
+
+/// The frame as it is written, by its step.
+pub fn written(at: &Start, step: Result<Caller, End>) -> StackFrame
+    ensures { result ≡ written at.now step }
+{
+    StackFrame {
+        pc: at.pc,
+        is_interrupted: at.is_interrupted,
+        cfa: match step {
+            Ok(caller) => Some(caller.cfa),
+            Err(_end) => None,
+        },
+    }
+}
+
 /// How many frames were written, and why there are no more.
 #[derive(Clone, Copy, Debug, PartialEq, Eq)]
 pub struct Walk {
@@ -111,14 +141,46 @@ pub fn unwind<R: Reader, S: UnwindContextStorage<R::Offset>, M: Memory>(
     ensures count { result.count ≤ length frames.new }
     ensures full { result.end ≡ End.NoRoom → result.count ≡ length frames.new }
 {
+    let mut none: [NoRow<R::Offset>; 0] = [];
+    write_frames(process, &mut none, ctx, pc, registers, caller, frames)
+}
+
+/// Writes the frames of a stack as `unwind`, by any steps, with any cache, in any form.
+///
+/// What the steps may have kept in the cache does not hinder the next step.
+pub fn write_frames<K, C, P: Steps<K, C>, F: WalkFrame>(
+    steps: &P,
+    cache: &mut [K],
+    ctx: &mut C,
+    pc: u64,
+    registers: &mut [Option<u64>],
+    caller: &mut [Option<u64>],
+    frames: &mut [F],
+) -> Walk
+    requires room { length registers.old ≤ 0x10000 }
+    requires same_room { length caller.old ≡ length registers.old }
+    requires can { (rows : List K) → length rows ≡ length cache.old →
+        P.keeps steps.now cache.old rows → P.can_step steps.now rows }
+    ensures walk { IsWalkBy F.written (P.is_step steps.now)
+        (record {
+          at = record { pc = pc; is_interrupted = true; callee_cfa = None };
+          registers = registers.old;
+          caller = caller.old;
+        })
+        (take result.count frames.new) result.end registers.new caller.new }
+    ensures rest { drop result.count frames.new ≡ drop result.count frames.old }
+    ensures count { result.count ≤ length frames.new }
+    ensures full { result.end ≡ End.NoRoom → result.count ≡ length frames.new }
+    ensures kept { P.keeps steps.now cache.old cache.new }
+{
     let mut at = Start {
         pc,
         is_interrupted: true,
         callee_cfa: None,
     };
     for index in 0..frames.len() {
-        let step = step_from(process, ctx, &at, registers, caller);
-        frames[index] = written(&at, step);
+        let step = steps.step(cache, ctx, &at, registers, caller);
+        frames[index] = F::of(&at, step);
         match resumed(step) {
             Ok(next) => {
                 at = next;
@@ -138,20 +200,6 @@ pub fn unwind<R: Reader, S: UnwindContextStorage<R::Offset>, M: Memory>(
     }
 }
 
-/// The frame as it is written, by its step.
-pub fn written(at: &Start, step: Result<Caller, End>) -> StackFrame
-    ensures { result ≡ written at.now step }
-{
-    StackFrame {
-        pc: at.pc,
-        is_interrupted: at.is_interrupted,
-        cfa: match step {
-            Ok(caller) => Some(caller.cfa),
-            Err(_end) => None,
-        },
-    }
-}
-
 /// Where the caller's frame is, or why there is none.
 pub fn resumed(step: Result<Caller, End>) -> Result<Start, End>
     ensures { result ≡ resumed step }
@@ -167,19 +215,73 @@ pub fn resumed(step: Result<Caller, End>) -> Result<Start, End>
     }
 }
 
+/// The steps in the modules of a process. A module without a compiled table takes the rows that the
+/// cache holds, and keeps others there.
+impl<
+    R: Reader,
+    S: UnwindContextStorage<R::Offset>,
+    K: RowSlot + RowRules<Offset = R::Offset>,
+    M: Memory,
+> Steps<K, UnwindContext<R::Offset, S>> for Process<'_, R, M> {
+    ghost use Rattle.cfi_read_core.specs.AddressSizes.{size_in_bytes};
+    ghost use Rattle.cfi_step.specs.CachedRows.{AreRightFor, StayRightFor};
+    ghost use Rattle.cfi_step.specs.ModuleLists.{module_list};
+    ghost use Rattle.cfi_step.specs.Walks.{IsStepFrom};
+
+    ghost is_step = { IsStepFrom R.position R.Offset.number M.number_at
+        S.Rules.limit S.Stack.limit S.Rules.copies_free };
+
+    ghost can_step = { λ process. AreRightFor R.position R.Offset.number K.slot
+        (size_in_bytes process.address_size) S.Rules.limit S.Stack.limit S.Rules.copies_free
+        (module_list process.modules) };
+
+    ghost keeps = { λ process. StayRightFor R.position R.Offset.number K.slot
+        (size_in_bytes process.address_size) S.Rules.limit S.Stack.limit S.Rules.copies_free
+        (module_list process.modules) };
+
+    fn step(
+        &self,
+        cache: &mut [K],
+        ctx: &mut UnwindContext<R::Offset, S>,
+        at: &Start,
+        registers: &[Option<u64>],
+        caller: &mut [Option<u64>],
+    ) -> Result<Caller, End> {
+        step_from(self, cache, ctx, at, registers, caller)
+    }
+
+    ghost keeps_none = { λ process cache other alike right. right };
+
+    ghost keeps_then = { λ process old next new first then other alike right.
+        then other alike (first other alike right) };
+}
+
 /// The step from a frame, in the module whose code its address is in.
-fn step_from<R: Reader, S: UnwindContextStorage<R::Offset>, M: Memory>(
+fn step_from<
+    R: Reader,
+    S: UnwindContextStorage<R::Offset>,
+    K: RowSlot + RowRules<Offset = R::Offset>,
+    M: Memory,
+>(
     process: &Process<'_, R, M>,
+    cache: &mut [K],
     ctx: &mut UnwindContext<R::Offset, S>,
     at: &Start,
     registers: &[Option<u64>],
     caller: &mut [Option<u64>],
 ) -> Result<Caller, End>
-    requires { length caller.old ≤ 0x10000 }
-    ensures { IsStepFrom R.position R.Offset.number M.number_at
+    requires room { length caller.old ≤ 0x10000 }
+    requires right { AreRightFor R.position R.Offset.number K.slot
+        (size_in_bytes process.now.address_size) S.Rules.limit S.Stack.limit S.Rules.copies_free
+        (module_list process.now.modules) cache.old }
+    ensures step { IsStepFrom R.position R.Offset.number M.number_at
         S.Rules.limit S.Stack.limit S.Rules.copies_free process.now
         (record { at = at.now; registers = registers.now; caller = caller.old })
         result caller.new }
+    ensures room { result ≡ Err End.NoRoom → ⊥ }
+    ensures kept { StayRightFor R.position R.Offset.number K.slot
+        (size_in_bytes process.now.address_size) S.Rules.limit S.Stack.limit S.Rules.copies_free
+        (module_list process.now.modules) cache.old cache.new }
 {
     let address = row_address(at.pc, at.is_interrupted);
     match process.modules.module_of(address) {
@@ -190,7 +292,8 @@ fn step_from<R: Reader, S: UnwindContextStorage<R::Offset>, M: Memory>(
                 memory: process.memory,
                 address_size: process.address_size,
             };
-            let step = step_in_module(loaded, ctx, address, &process.abi, &frame, caller);
+            let abi = &process.abi;
+            let step = step_in_kept(loaded, cache, ctx, address, abi, &frame, caller);
             checked(at, step)
         }
     }
@@ -198,7 +301,8 @@ fn step_from<R: Reader, S: UnwindContextStorage<R::Offset>, M: Memory>(
 
 /// The step, or why the walk ends there.
 pub fn checked(at: &Start, step: Result<Caller, FrameError>) -> Result<Caller, End>
-    ensures { result ≡ checked at.now step }
+    ensures checked { result ≡ checked at.now step }
+    ensures room { result ≡ Err End.NoRoom → ⊥ }
 {
     match step {
         Ok(caller) => {

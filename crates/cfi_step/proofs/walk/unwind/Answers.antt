@@ -1,38 +1,5 @@
-use Rattle.std.proofs.Common.{◌<◌, ◌≡◌, length, true, None, rules, arith}
-use Rattle.cfi_step.proofs.Walking.{all_written, left, one_more, one_last}
-use Rattle.cfi_step.specs.Walks.{IsStepFrom, written}
+use Rattle.std.proofs.Common.{arith}
 use Rattle.cfi_step.proofs.walk.unwind.Goals as goal
 
-pub returns-in-Err-clause-walk : goal.returns-in-Err-clause-walk
-returns-in-Err-clause-walk g c =
-    let inside : c.loop-index.index < length c.loop-index.frames = omega arith in
-    one_last written (IsStepFrom g.R.Reader.position g.R.Offset.ReaderOffset.number g.M.Memory.number_at g.S.Rules.ArrayLike.limit g.S-Stack-ArrayLike.limit g.S.Rules.CopyList.copies_free c.args.process.now)
-    (record { at = record { pc = c.args.pc; is_interrupted = true; callee_cfa = None }; registers = c.args.registers.now; caller = c.args.caller.now })
-    (record { at = c.loop-index.at; registers = c.loop-index.registers; caller = c.loop-index.caller }) c.loop-index.frames c.loop-index.index c.loop-index.invariant.3
-    c.step_from-step.result c.step_from-step.new.caller c.written.result inside c.step_from-step.ensures c.written.ensures c.in-Err.end c.in-Err.ensures
-
-pub loop-index-preserved : goal.loop-index-preserved
-loop-index-preserved g c =
-    let inside : c.loop-index.index < length c.loop-index.frames = omega arith in
-    let room : length c.step_from-step.new.caller ≡ length c.copy_from_slice.new.self = search rules in
-    let same_room : length c.copy_from_slice.new.self ≡ length c.args.registers.now = search rules in (
-      left c.loop-index.frames c.args.frames.now c.loop-index.index c.written.result inside (omega arith) c.loop-index.invariant.0,
-      room,
-      same_room,
-      one_more written (IsStepFrom g.R.Reader.position g.R.Offset.ReaderOffset.number g.M.Memory.number_at g.S.Rules.ArrayLike.limit g.S-Stack-ArrayLike.limit g.S.Rules.CopyList.copies_free c.args.process.now)
-          (record { at = record { pc = c.args.pc; is_interrupted = true; callee_cfa = None }; registers = c.args.registers.now; caller = c.args.caller.now })
-          (record { at = c.loop-index.at; registers = c.loop-index.registers; caller = c.loop-index.caller }) c.loop-index.frames c.loop-index.index c.loop-index.invariant.3
-          c.step_from-step.result c.step_from-step.new.caller c.written.result inside c.step_from-step.ensures c.written.ensures c.in-Ok.next c.copy_from_slice.new.self c.in-Ok.ensures c.copy_from_slice.ensures.after,
-    )
-
-pub returns-clause-walk : goal.returns-clause-walk
-returns-clause-walk g c =
-    let done : c.loop-index.index ≡ length c.loop-index.frames = omega arith in
-    all_written written (IsStepFrom g.R.Reader.position g.R.Offset.ReaderOffset.number g.M.Memory.number_at g.S.Rules.ArrayLike.limit g.S-Stack-ArrayLike.limit g.S.Rules.CopyList.copies_free c.args.process.now)
-    (record { at = record { pc = c.args.pc; is_interrupted = true; callee_cfa = None }; registers = c.args.registers.now; caller = c.args.caller.now })
-    (record { at = c.loop-index.at; registers = c.loop-index.registers; caller = c.loop-index.caller }) c.loop-index.frames c.loop-index.index (length c.loop-index.frames) done c.loop-index.invariant.3
-
-pub returns-in-Err-clause-rest : goal.returns-in-Err-clause-rest
-returns-in-Err-clause-rest g c =
-    let inside : c.loop-index.index < length c.loop-index.frames = omega arith in
-    left c.loop-index.frames c.args.frames.now c.loop-index.index c.written.result inside (omega arith) c.loop-index.invariant.0
+pub write_frames-requires-clause-can : goal.write_frames-requires-clause-can
+write_frames-requires-clause-can g c = λ rows none keeps. λ m loaded among. λ k d inside. absurd (omega (arith, none, inside))

@@ -1,0 +1,166 @@
+//! The caller of a frame of a module's code.
+ghost use Rattle.std.specs.Prelude.{◌≡◌, ◌≤◌, length, IfSome, OnErr};
+ghost use Rattle.cfi_entry.specs.SectionViews.{eh_frame_view};
+ghost use Rattle.cfi_expression.specs.Frames.{frame_view};
+ghost use Rattle.cfi_step.specs.CachedRows.{AreRightIn, StayRightIn};
+ghost use Rattle.cfi_step.specs.CompiledSteps.{IsStepAsScanned, address_in_file};
+ghost use Rattle.cfi_step.specs.Modules.{IsStepByFound, IsStepIn};
+
+use crate::abi::Abi;
+use crate::compiled::step_by_compiled;
+use crate::module::{LoadedModule, fde_in_module};
+use crate::rows::RowRules;
+use crate::slots::{NoRow, RowSlot, held};
+use crate::step::{Caller, step_by_kept, step_by_row};
+use cfi_expression::{Frame, FrameError, Memory};
+use gimli_cfi::{Reader, UnwindContext, UnwindContextStorage};
+
+/// The caller of a frame of a module's code, by its address (`row_address`).
+///
+/// The address less the bias is looked up. If the module has a compiled table, by that, as
+/// `step_by_compiled`: then neither an FDE nor an instruction is read, and nothing allocates. Else
+/// by the FDE that `fde_in_module` finds. Fails with `FrameError::NoRow` as that, then as
+/// `step_by_fde`, which says what is written. Over a fixed storage it does not allocate.
+pub fn step_in_module<R: Reader, S: UnwindContextStorage<R::Offset>, M: Memory>(
+    loaded: &LoadedModule<'_, R>,
+    ctx: &mut UnwindContext<R::Offset, S>,
+    address: u64,
+    abi: &Abi,
+    frame: &Frame<'_, M>,
+    caller: &mut [Option<u64>],
+) -> Result<Caller, FrameError>
+    requires { length caller.old ≤ 0x10000 }
+    ensures step { IsStepIn R.position R.Offset.number (frame_view M.number_at frame.now)
+        abi.now S.Rules.limit S.Stack.limit S.Rules.copies_free
+        loaded.now address result caller.new }
+    ensures scan { IfSome loaded.now.compiled (λ table. IsStepAsScanned
+        (frame_view M.number_at frame.now) (eh_frame_view R.position loaded.now.frame).position
+        abi.now table.now (address_in_file loaded.now.bias address) result caller.new) }
+    ensures unwritten { OnErr result (caller.new ≡ caller.old) }
+{
+    let mut none: [NoRow<R::Offset>; 0] = [];
+    step_in_kept(loaded, &mut none, ctx, address, abi, frame, caller)
+}
+
+/// The same with a cache of rows. If the module has no compiled table, by the row that the cache
+/// holds for the address in the file, if it does; else that row is kept.
+pub(crate) fn step_in_kept<
+    R: Reader,
+    S: UnwindContextStorage<R::Offset>,
+    K: RowSlot + RowRules<Offset = R::Offset>,
+    M: Memory,
+>(
+    loaded: &LoadedModule<'_, R>,
+    cache: &mut [K],
+    ctx: &mut UnwindContext<R::Offset, S>,
+    address: u64,
+    abi: &Abi,
+    frame: &Frame<'_, M>,
+    caller: &mut [Option<u64>],
+) -> Result<Caller, FrameError>
+    requires room { length caller.old ≤ 0x10000 }
+    requires right { AreRightIn R.position R.Offset.number K.slot
+        (frame_view M.number_at frame.now).size S.Rules.limit S.Stack.limit S.Rules.copies_free
+        loaded.now cache.old }
+    ensures step { IsStepIn R.position R.Offset.number (frame_view M.number_at frame.now)
+        abi.now S.Rules.limit S.Stack.limit S.Rules.copies_free
+        loaded.now address result caller.new }
+    ensures scan { IfSome loaded.now.compiled (λ table. IsStepAsScanned
+        (frame_view M.number_at frame.now) (eh_frame_view R.position loaded.now.frame).position
+        abi.now table.now (address_in_file loaded.now.bias address) result caller.new) }
+    ensures unwritten { OnErr result (caller.new ≡ caller.old) }
+    ensures kept { StayRightIn R.position R.Offset.number K.slot
+        (frame_view M.number_at frame.now).size S.Rules.limit S.Stack.limit S.Rules.copies_free
+        loaded.now cache.old cache.new }
+{
+    let address = loaded.address_in_file(address);
+    match loaded.compiled {
+        Some(table) => step_by_compiled(table, &loaded.frame, address, abi, frame, caller),
+        None => step_by_held(loaded, cache, ctx, address, abi, frame, caller),
+    }
+}
+
+/// The caller of a frame of a module's code, by the row that the cache holds for the address of the
+/// file, or as `step_by_found`.
+#[inline]
+fn step_by_held<
+    R: Reader,
+    S: UnwindContextStorage<R::Offset>,
+    K: RowSlot + RowRules<Offset = R::Offset>,
+    M: Memory,
+>(
+    loaded: &LoadedModule<'_, R>,
+    cache: &mut [K],
+    ctx: &mut UnwindContext<R::Offset, S>,
+    address: u64,
+    abi: &Abi,
+    frame: &Frame<'_, M>,
+    caller: &mut [Option<u64>],
+) -> Result<Caller, FrameError>
+    requires room { length caller.old ≤ 0x10000 }
+    requires right { AreRightIn R.position R.Offset.number K.slot
+        (frame_view M.number_at frame.now).size S.Rules.limit S.Stack.limit S.Rules.copies_free
+        loaded.now cache.old }
+    ensures step { IsStepByFound R.position R.Offset.number (frame_view M.number_at frame.now)
+        abi.now S.Rules.limit S.Stack.limit S.Rules.copies_free
+        loaded.now address result caller.new }
+    ensures unwritten { OnErr result (caller.new ≡ caller.old) }
+    ensures kept { StayRightIn R.position R.Offset.number K.slot
+        (frame_view M.number_at frame.now).size S.Rules.limit S.Stack.limit S.Rules.copies_free
+        loaded.now cache.old cache.new }
+{
+    match held(cache, loaded.file, address) {
+        Some(row) => step_by_row(
+            row,
+            &loaded.frame,
+            row.return_address(),
+            row.is_signal_trampoline(),
+            abi,
+            frame,
+            caller,
+        ),
+        None => step_by_found(loaded, cache, ctx, address, abi, frame, caller),
+    }
+}
+
+/// The caller of a frame of a module's code, by the FDE that `fde_in_module` finds for an address
+/// of the file. The row is kept.
+fn step_by_found<
+    R: Reader,
+    S: UnwindContextStorage<R::Offset>,
+    K: RowSlot + RowRules<Offset = R::Offset>,
+    M: Memory,
+>(
+    loaded: &LoadedModule<'_, R>,
+    cache: &mut [K],
+    ctx: &mut UnwindContext<R::Offset, S>,
+    address: u64,
+    abi: &Abi,
+    frame: &Frame<'_, M>,
+    caller: &mut [Option<u64>],
+) -> Result<Caller, FrameError>
+    requires { length caller.old ≤ 0x10000 }
+    ensures step { IsStepByFound R.position R.Offset.number (frame_view M.number_at frame.now)
+        abi.now S.Rules.limit S.Stack.limit S.Rules.copies_free
+        loaded.now address result caller.new }
+    ensures unwritten { OnErr result (caller.new ≡ caller.old) }
+    ensures kept { StayRightIn R.position R.Offset.number K.slot
+        (frame_view M.number_at frame.now).size S.Rules.limit S.Stack.limit S.Rules.copies_free
+        loaded.now cache.old cache.new }
+{
+    match fde_in_module(loaded, frame.address_size.bytes(), address) {
+        Ok(fde) => step_by_kept(
+            &fde,
+            &loaded.frame,
+            &loaded.bases,
+            loaded.file,
+            cache,
+            ctx,
+            address,
+            abi,
+            frame,
+            caller,
+        ),
+        Err(error) => Err(FrameError::NoRow(error)),
+    }
+}
