@@ -1,5 +1,5 @@
 -- A step in a module that C passes is one in the module that is made of it.
-use Rattle.std.proofs.Common.{◌≡◌, ◌∙◌, ◌<◌, ◌^◌, ℕ, true, List, Option, Some, None, Result, subst, ap}
+use Rattle.std.proofs.Common.{◌≡◌, ◌∙◌, ◌<◌, ◌^◌, ℕ, true, List, Option, Some, None, Result, IfNone, is_none, subst, sym, ap, true≢false}
 use Rattle.std.specs.Borrow.{Bor}
 use Rattle.std.specs.Option.{option_map}
 use Rattle.std.proofs.Math.Nat.{add-mod_right, mod-eq_of_lt}
@@ -72,3 +72,8 @@ module _ {R : Type 0} (position : R → Position) (stack : CfiStack) (passed : C
         subst (λ (n : Section). IsStepBy (frame_of stack s) (slice_over passed.section.now passed.bases.big_endian) (abi_of stack) (λ (n : ℕ). n) (Some 192) (Some 4) true n (address_of s) so.0 result caller) sections
             (subst (λ (p : Position). IsStepBy (frame_of stack s) p (abi_of stack) (λ (n : ℕ). n) (Some 192) (Some 4) true (section_view position loaded.frame loaded.bases) (address_of s) so.0 result caller) bytes so.3),
       )
+
+-- what holds if there is none
+pub if_none : (o : Option ℕ) (P : Type 0) → IfNone o P → is_none o ≡ true → P
+if_none None P holds none = holds
+if_none (Some k) P holds none = absurd (true≢false (sym none))

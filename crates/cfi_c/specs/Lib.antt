@@ -9,3 +9,4 @@ pub mod ManyAddresses
 pub mod TableRows
 pub mod PassedStacks
 pub mod StackFrames
+pub mod PassedSteps

@@ -3,12 +3,12 @@
 --     sized size bases      the bases, with the size of an address that the stack has
 --     known_values registers      the values of the registers by their numbers, where they are known
 --     memory_of, abi_of stack      its bytes as memory, and what the ABI says
-use Rattle.std.specs.Prelude.{ℕ, ◌&&◌, Bool, true, false, List, map, take, nat_le, nat_lt, Option, Some, None, position, if◌then◌else◌}
-use Rattle.std.specs.Option.{option_and_then}
-use Rattle.std.specs.List.{slice_get}
+use Rattle.std.specs.Prelude.{ℕ, Bool, List, map, take, Option, Some, None, if◌then◌else◌}
 use Rattle.cfi_read_core.specs.SliceReaders.{slice_over}
 use Rattle.cfi_expression.specs.Windows.{number_in}
 use Rattle.cfi_step.specs.declared.abi.Abi.{Abi}
+use Rattle.cfi_step.specs.CodeRanges as ranges
+use Rattle.cfi_step.specs.CodeRanges.{first_with_code}
 use Rattle.cfi_c.specs.declared.CfiBases.{CfiBases}
 use Rattle.cfi_c.specs.declared.stack.CfiModule.{CfiModule}
 use Rattle.cfi_c.specs.declared.stack.CfiStack.{CfiStack}
@@ -16,11 +16,17 @@ use Rattle.cfi_c.specs.declared.stack.CfiValue.{CfiValue}
 
 -- ---- modules
 
+abbrev pub start_of : CfiModule → ℕ
+start_of loaded = loaded.start
+
+abbrev pub end_of : CfiModule → ℕ
+end_of loaded = loaded.end
+
 abbrev pub has_code : CfiModule → ℕ → Bool
-has_code loaded a = nat_le loaded.start a && nat_lt a loaded.end
+has_code = ranges.has_code start_of end_of
 
 abbrev pub module_at : List CfiModule → ℕ → Option CfiModule
-module_at modules a = option_and_then (slice_get modules) (position (λ loaded. has_code loaded a) modules)
+module_at = first_with_code start_of end_of
 
 abbrev pub sized : ℕ → CfiBases → CfiBases
 sized size bases = record bases { address_size = size }

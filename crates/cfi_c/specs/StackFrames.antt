@@ -3,7 +3,7 @@
 --     IsWalkForC modules stack s frames end registers caller      the frames from s on, and why there are no more
 --     written_end end      why there are no more, as C gets it
 --     IsUnwound live modules stack pc registers frames new count end      what C gets, with a context or none
-use Rattle.std.specs.Prelude.{◌≡◌, ℕ, ◌≤◌, pos, Bool, true, false, List, length, drop, take, Option, Some, None, Result, Ok, Err, IfOk}
+use Rattle.std.specs.Prelude.{◌≡◌, ℕ, pos, Bool, true, false, List, take, Option, Some, None, Result, Ok, Err, IfOk}
 use Rattle.std.specs.Int.{w16, cast_unsigned}
 use Rattle.cfi_read_core.specs.declared.error.Error.{Error}
 use Rattle.cfi_read_core.specs.declared.error.Error.TheVariants.{UnsupportedAddressSize}
@@ -22,7 +22,7 @@ use Rattle.cfi_step.specs.declared.walk.Start.{Start}
 use Rattle.cfi_step.specs.declared.walk.End.{End}
 use Rattle.cfi_step.specs.declared.walk.End.TheVariants as ends
 use Rattle.cfi_step.specs.Steps.{IsStepBy}
-use Rattle.cfi_step.specs.Walks.{State, IsStepOf, IsWalkBy, address_of, written}
+use Rattle.cfi_step.specs.Walks.{State, AreWritten, IsStepOf, IsWalkBy, address_of, written}
 use Rattle.cfi_c.specs.declared.CfiBases.{CfiBases}
 use Rattle.cfi_c.specs.declared.stack.CfiEnd.{CfiEnd}
 use Rattle.cfi_c.specs.declared.stack.CfiFrame.{CfiFrame}
@@ -110,7 +110,7 @@ IsWalkTo end modules stack pc registers frames new count =
     ((left : List (Option ℕ)) × (caller : List (Option ℕ))
     × IsWalkForC modules stack (record { at = record { pc = pc; is_interrupted = true; callee_cfa = None }; registers = registers; caller = registers })
     (take count new) end left caller)
-    × (drop count new ≡ drop count frames) × (count ≤ length new) × (end ≡ ends.NoRoom → count ≡ length new)
+    × AreWritten (record { count = count; end = end }) frames new
 
 abbrev pub IsWalked : List CfiModule → CfiStack → ℕ → List (Option ℕ) → List CfiFrame → List CfiFrame → ℕ → CfiEnd → Type 0
 IsWalked modules stack pc registers frames new count out =

@@ -1,5 +1,6 @@
 //! Modules that C passes, and steps in them.
-ghost use Rattle.std.specs.Prelude.{◌≡◌, ◌<◌, ◌≤◌, None, IfSome, OnErr, length, position};
+ghost use Rattle.std.specs.Prelude.{◌≡◌, ◌<◌, ◌≤◌, true, Err, None, IfSome, OnErr};
+ghost use Rattle.std.specs.Prelude.{length, position};
 ghost use Rattle.std.specs.Option.{option_map};
 ghost use Rattle.cfi_read_core.specs.Addresses.{IsAddressSize};
 ghost use Rattle.cfi_read_core.specs.ByteOrder.{is_big};
@@ -7,43 +8,99 @@ ghost use Rattle.cfi_read_core.specs.SliceReaders.{slice_over, slice_position};
 ghost use Rattle.cfi_entry.specs.SectionViews.{eh_frame_view};
 ghost use Rattle.gimli_cfi.specs.HeaderViews.{header_reader, section_view, unparsed_view};
 ghost use Rattle.cfi_c.specs.PassedSections.{eh_frame_of, header_in, header_of};
-ghost use Rattle.cfi_c.specs.PassedStacks.{has_code, module_at, sized};
+ghost use Rattle.cfi_step.specs.CodeRanges.{are_sorted};
+ghost use Rattle.cfi_c.specs.PassedStacks.{end_of, has_code, module_at, sized, start_of};
+ghost use Rattle.cfi_c.specs.PassedSteps.{AreOfStack};
 ghost use Rattle.cfi_c.specs.StackFrames.{IsStepForC, IsStepInModule};
 
 use crate::context::Context;
 use crate::find::{bases_of, endian_of, vendor_of};
-use crate::stack::{CfiModule, CfiStack, abi_of};
+use crate::stack::{CfiModule, CfiStack};
+use cfi_step::code::{code_at, has_code};
 use cfi_step::walk::{Start, checked};
 use cfi_step::{
-    AddressSize, Caller, End, Frame, FrameError, LoadedModule, Window, row_address, step_in_module,
+    Abi, AddressSize, Caller, End, Frame, FrameError, LoadedModule, Steps, Window, row_address,
+    step_in_module,
 };
 use gimli_cfi::{EhFrame, EhFrameHdr, EndianSlice, RunTimeEndian};
 
+/// The steps of a walk over what C passes.
+#[derive(Drop)]
+pub struct PassedSteps<'a> {
+    /// The modules, in any order.
+    pub modules: &'a [CfiModule<'a>],
+    /// Whether they are in the order of their addresses, and none overlaps another.
+    pub are_in_order: bool,
+    /// The stack, whose size of an address is one.
+    pub stack: &'a CfiStack<'a>,
+    /// Its bytes as memory.
+    pub memory: Window<EndianSlice<'a, RunTimeEndian>>,
+    /// What the ABI says of its frames.
+    pub abi: Abi,
+}
+
+impl<K> Steps<K, Context> for PassedSteps<'_> {
+    ghost use Rattle.std.specs.Prelude.{⊤};
+
+    ghost is_step = { λ steps. IsStepForC steps.stack.now steps.modules.now };
+
+    ghost can_step = { λ steps cache. AreOfStack steps };
+
+    ghost keeps = { λ steps old new. ⊤ };
+
+    fn step(
+        &self,
+        _cache: &mut [K],
+        context: &mut Context,
+        at: &Start,
+        registers: &[Option<u64>],
+        caller: &mut [Option<u64>],
+    ) -> Result<Caller, End> {
+        step_from(self, context, at, registers, caller)
+    }
+
+    ghost keeps_none = { λ steps cache. tt };
+
+    ghost keeps_then = { λ steps old next new first then. tt };
+}
+
 /// The step from a frame, in the first module whose code its address is in.
-pub fn step_from(
+fn step_from(
+    steps: &PassedSteps<'_>,
     context: &mut Context,
-    modules: &[CfiModule<'_>],
-    stack: &CfiStack<'_>,
     at: &Start,
     registers: &[Option<u64>],
     caller: &mut [Option<u64>],
 ) -> Result<Caller, End>
-    requires size { IsAddressSize stack.now.address_size }
+    requires of_stack { AreOfStack steps.now }
     requires room { length caller.old ≤ 0x10000 }
-    ensures { IsStepForC stack.now modules.now
+    ensures step { IsStepForC steps.now.stack.now steps.now.modules.now
         (record { at = at.now; registers = registers.now; caller = caller.old })
         result caller.new }
+    ensures room { result ≡ Err End.NoRoom → ⊥ }
 {
-    match module_at(modules, row_address(at.pc, at.is_interrupted)) {
+    match module_at(
+        steps.modules,
+        steps.are_in_order,
+        row_address(at.pc, at.is_interrupted),
+    ) {
         None => Err(End::NoModule),
-        Some(module) => checked(at, step_in(context, module, stack, at, registers, caller)),
+        Some(module) => checked(at, step_in(steps, context, module, at, registers, caller)),
     }
 }
 
-/// The first module whose code the address is in.
-fn module_at<'m, 'a>(modules: &'m [CfiModule<'a>], address: u64) -> Option<&'m CfiModule<'a>>
+/// The first module whose code the address is in: by halving, if the modules are in order.
+fn module_at<'m, 'a>(
+    modules: &'m [CfiModule<'a>],
+    are_in_order: bool,
+    address: u64,
+) -> Option<&'m CfiModule<'a>>
+    requires { are_in_order ≡ true → are_sorted start_of end_of 0 modules.now ≡ true }
     ensures { option_map (λ loaded. loaded.now) result ≡ module_at modules.now address }
 {
+    if are_in_order {
+        return code_at(modules, address);
+    }
     match module_index(modules, address) {
         Some(index) => Some(&modules[index]),
         None => None,
@@ -58,42 +115,35 @@ fn module_index(modules: &[CfiModule<'_>], address: u64) -> Option<usize>
     modules.iter().position(|module| has_code(module, address))
 }
 
-/// Whether the address is in the module's code.
-fn has_code(module: &CfiModule<'_>, address: u64) -> bool
-    ensures { result ≡ has_code module.now address }
-{
-    module.start <= address && address < module.end
-}
-
 /// The caller of a frame of the module's code.
 fn step_in(
+    steps: &PassedSteps<'_>,
     context: &mut Context,
     module: &CfiModule<'_>,
-    stack: &CfiStack<'_>,
     at: &Start,
     registers: &[Option<u64>],
     caller: &mut [Option<u64>],
 ) -> Result<Caller, FrameError>
-    requires size { IsAddressSize stack.now.address_size }
+    requires of_stack { AreOfStack steps.now }
     requires room { length caller.old ≤ 0x10000 }
-    ensures step { IsStepInModule stack.now module.now
+    ensures step { IsStepInModule steps.now.stack.now module.now
         (record { at = at.now; registers = registers.now; caller = caller.old })
         result caller.new }
     ensures unwritten { OnErr result (caller.new ≡ caller.old) }
 {
-    let loaded = loaded_of(module, stack.address_size);
-    let memory = memory_of(stack);
+    let size = steps.stack.address_size;
+    let loaded = loaded_of(module, size);
     let frame = Frame {
         registers,
-        memory: &memory,
-        address_size: AddressSize::new(stack.address_size),
+        memory: &steps.memory,
+        address_size: AddressSize::new(size),
     };
     let address = row_address(at.pc, at.is_interrupted);
-    step_in_module(&loaded, context, address, &abi_of(stack), &frame, caller)
+    step_in_module(&loaded, context, address, &steps.abi, &frame, caller)
 }
 
 /// The bytes of the stack as memory.
-fn memory_of<'a>(stack: &CfiStack<'a>) -> Window<EndianSlice<'a, RunTimeEndian>>
+pub fn memory_of<'a>(stack: &CfiStack<'a>) -> Window<EndianSlice<'a, RunTimeEndian>>
     ensures base { result.base ≡ stack.now.base }
     ensures bytes { slice_position is_big result.bytes
         ≡ slice_over stack.now.bytes.now stack.now.big_endian }

@@ -6,7 +6,8 @@ ghost use Rattle.cfi_c.specs.StackFrames.{written_end, written_frame};
 
 use crate::CfiBases;
 use crate::refusal::{number_of, value_of};
-use cfi_step::{Abi, End, FrameError, StackFrame};
+use cfi_step::walk::Start;
+use cfi_step::{Abi, Caller, End, FrameError, HasCode, StackFrame, WalkFrame};
 use gimli_cfi::{Error, Register};
 
 /// A module as it is loaded.
@@ -21,6 +22,22 @@ pub struct CfiModule<'a> {
     pub header: &'a [u8],
     /// Where the two are loaded. The address size is that of the stack.
     pub bases: CfiBases,
+}
+
+impl HasCode for CfiModule<'_> {
+    ghost use Rattle.cfi_c.specs.PassedStacks.{end_of, start_of};
+
+    ghost start = { start_of };
+
+    ghost end = { end_of };
+
+    fn start(&self) -> u64 {
+        self.start
+    }
+
+    fn end(&self) -> u64 {
+        self.end
+    }
 }
 
 /// The bytes of a stack, as far as they are there, and what the ABI says of its frames.
@@ -58,6 +75,16 @@ pub struct CfiFrame {
     pub cfa: u64,
     pub has_cfa: bool,
     pub is_interrupted: bool,
+}
+
+impl WalkFrame for CfiFrame {
+    ghost use Rattle.cfi_c.specs.StackFrames.{frame_by};
+
+    ghost written = { frame_by };
+
+    fn of(at: &Start, step: Result<Caller, End>) -> CfiFrame {
+        frame_of(StackFrame::of(at, step))
+    }
 }
 
 /// Why there are no more frames.
@@ -118,7 +145,7 @@ pub fn abi_of(stack: &CfiStack<'_>) -> Abi
 }
 
 /// The frame as C sees it.
-pub fn frame_of(frame: StackFrame) -> CfiFrame
+fn frame_of(frame: StackFrame) -> CfiFrame
     ensures { result ≡ written_frame frame }
 {
     match frame.cfa {

@@ -7,14 +7,14 @@ ghost use Rattle.cfi_c.specs.PassedStacks.{known_value};
 
 use crate::context::{CfiContext, Context};
 use crate::find::is_sized;
-use crate::module::step_from;
+use crate::module::{PassedSteps, memory_of};
 use crate::refusal::NO_CONTEXT;
 use crate::stack::{
-    CfiEnd, CfiFrame, CfiModule, CfiStack, CfiValue, end_of, first_registers, frame_of,
-    refused_end, write_values,
+    CfiEnd, CfiFrame, CfiModule, CfiStack, CfiValue, abi_of, end_of, first_registers, refused_end,
+    write_values,
 };
-use cfi_step::walk::{Start, resumed, written};
-use cfi_step::{End, Walk};
+use cfi_step::code::out_of_order;
+use cfi_step::{End, Walk, write_frames};
 use gimli_cfi::Error;
 use std::alloc::Global;
 use std::mem;
@@ -149,29 +149,13 @@ fn walk(
     ensures count { result.count ≤ length frames.new }
     ensures full { result.end ≡ End.NoRoom → result.count ≡ length frames.new }
 {
-    let mut at = Start {
-        pc,
-        is_interrupted: true,
-        callee_cfa: None,
+    let steps = PassedSteps {
+        modules,
+        are_in_order: out_of_order(modules).is_none(),
+        stack,
+        memory: memory_of(stack),
+        abi: abi_of(stack),
     };
-    for index in 0..frames.len() {
-        let step = step_from(context, modules, stack, &at, registers, caller);
-        frames[index] = frame_of(written(&at, step));
-        match resumed(step) {
-            Ok(next) => {
-                at = next;
-                registers.copy_from_slice(caller);
-            }
-            Err(end) => {
-                return Walk {
-                    count: index + 1,
-                    end,
-                };
-            }
-        }
-    }
-    Walk {
-        count: frames.len(),
-        end: End::NoRoom,
-    }
+    let mut no_rows: [(); 0] = [];
+    write_frames(&steps, &mut no_rows, context, pc, registers, caller, frames)
 }

@@ -1,16 +1,13 @@
 -- A walk over the copy of a stack, from the innermost frame of a sample.
 use Rattle.std.proofs.Common.{◌≡◌, ◌∙◌, ◌≤◌, ℕ, Bool, true, List, length, drop, take, Option, None, Result, Ok, refl, ap, sym, subst}
 use Rattle.cfi_read_core.specs.ReadFunctions.{Position}
-use Rattle.cfi_expression.specs.declared.error.FrameError.{FrameError}
 use Rattle.cfi_step.specs.declared.abi.Abi.{Abi}
 use Rattle.cfi_step.specs.declared.module.LoadedModule.{LoadedModule}
-use Rattle.cfi_step.specs.declared.step.Caller.{Caller}
 use Rattle.cfi_step.specs.declared.walk.End.{End}
 use Rattle.cfi_step.specs.declared.walk.End.TheVariants.{NoRoom}
 use Rattle.cfi_step.specs.declared.walk.StackFrame.{StackFrame}
 use Rattle.cfi_step.specs.declared.walk.Walk.{Walk}
-use Rattle.cfi_step.specs.Modules.{IsStepIn, first_module}
-use Rattle.cfi_step.specs.Walks.{State, IsStepOf, IsWalkBy, address_of, written}
+use Rattle.cfi_step.specs.Walks.{State, IsWalkAmong}
 use Rattle.cfi_stacks.specs.declared.registers.SampleMachine.{SampleMachine}
 use Rattle.cfi_stacks.specs.declared.sample_stack.Innermost.{Innermost}
 use Rattle.cfi_stacks.specs.declared.sample_stack.NoFrames.{NoFrames}
@@ -33,10 +30,7 @@ module _ (machine : SampleMachine) (user : UserState) where
 module _ {R T : Type 0} (position : R → Position) (number : T → ℕ) (rule_limit stack_limit : Option ℕ) (copies_free : Bool) where
   -- a walk over modules, whose memory, size of an address and ABI are these
   abbrev pub WalkOver : List (LoadedModule R) → (ℕ → ℕ → Option ℕ) → ℕ → Abi → State → List StackFrame → End → List (Option ℕ) → List (Option ℕ) → Type 0
-  WalkOver modules memory size abi = IsWalkBy written (λ (s : State) (result : Result Caller End) (caller : List (Option ℕ)).
-      IsStepOf (λ (loaded : LoadedModule R) (s : State) (step : Result Caller FrameError) (caller : List (Option ℕ)).
-      IsStepIn position number (record { registers = s.registers; memory = memory; size = size }) abi rule_limit stack_limit copies_free loaded (address_of s) step caller)
-      (first_module modules (address_of s)) s result caller)
+  WalkOver modules memory size abi = IsWalkAmong position number memory size abi rule_limit stack_limit copies_free modules
 
   -- of 64 bits, with the ABI of the machine
   pub as_sampled : (modules : List (LoadedModule R)) (machine : SampleMachine) (memory memory' : ℕ → ℕ → Option ℕ) (size : ℕ) (abi : Abi)

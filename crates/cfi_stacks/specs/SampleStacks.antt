@@ -5,22 +5,17 @@
 --     start_of machine user      the innermost frame of a sample, or why it has none
 --     IsUnwound .. modules machine user old result new      what is returned and written
 --     HasRoom frames      there is room for as many frames as a stack may have
-use Rattle.std.specs.Prelude.{◌≡◌, ℕ, ◌≤◌, Bool, true, false, List, length, drop, take, map, Option, Some, None, Result, Ok, Err, ok_or, ◌==◌, if◌then◌else◌}
+use Rattle.std.specs.Prelude.{◌≡◌, ℕ, Bool, true, false, List, length, take, map, Option, Some, None, Result, Ok, Err, ok_or, ◌==◌, if◌then◌else◌}
 use Rattle.std.specs.List.{range_with_len}
 use Rattle.std.specs.Option.{option_and_then}
 use Rattle.cfi_read_core.specs.ReadFunctions.{Position}
 use Rattle.cfi_read_core.specs.SliceReaders.{slice_over}
-use Rattle.cfi_expression.specs.declared.error.FrameError.{FrameError}
-use Rattle.cfi_expression.specs.Frames.{Frame}
 use Rattle.cfi_expression.specs.Windows.{number_in}
 use Rattle.cfi_step.specs.declared.module.LoadedModule.{LoadedModule}
-use Rattle.cfi_step.specs.declared.step.Caller.{Caller}
 use Rattle.cfi_step.specs.declared.walk.End.{End}
-use Rattle.cfi_step.specs.declared.walk.End.TheVariants.{NoRoom}
 use Rattle.cfi_step.specs.declared.walk.StackFrame.{StackFrame}
 use Rattle.cfi_step.specs.declared.walk.Walk.{Walk}
-use Rattle.cfi_step.specs.Modules.{IsStepIn, first_module}
-use Rattle.cfi_step.specs.Walks.{State, IsStepOf, IsWalkBy, address_of, written}
+use Rattle.cfi_step.specs.Walks.{State, AreWritten, IsWalkAmong}
 use Rattle.cfi_stacks.specs.declared.registers.SampleMachine.{SampleMachine}
 use Rattle.cfi_stacks.specs.declared.sample_stack.Innermost.{Innermost}
 use Rattle.cfi_stacks.specs.declared.sample_stack.NoFrames.{NoFrames}
@@ -84,22 +79,10 @@ pub record Room : Type 0 where
   pub frames : List StackFrame
 
 module _ {R T : Type 0} (position : R → Position) (number : T → ℕ) (rule_limit stack_limit : Option ℕ) (copies_free : Bool) (modules : List (LoadedModule R)) (machine : SampleMachine) where
-  module _ (memory : ℕ → ℕ → Option ℕ) where
-    abbrev pub frame_of : State → Frame
-    frame_of s = record { registers = s.registers; memory = memory; size = 8 }
-
-    abbrev pub IsStepInModule : LoadedModule R → State → Result Caller FrameError → List (Option ℕ) → Type 0
-    IsStepInModule loaded s step caller =
-        IsStepIn position number (frame_of s) (abi_of machine) rule_limit stack_limit copies_free loaded (address_of s) step caller
-
-    abbrev pub IsStepFrom : State → Result Caller End → List (Option ℕ) → Type 0
-    IsStepFrom s result caller = IsStepOf IsStepInModule (first_module modules (address_of s)) s result caller
-
-    abbrev pub IsWalkFrom : State → List StackFrame → End → List (Option ℕ) → List (Option ℕ) → Type 0
-    IsWalkFrom = IsWalkBy written IsStepFrom
+  abbrev pub IsWalkFrom : (ℕ → ℕ → Option ℕ) → State → List StackFrame → End → List (Option ℕ) → List (Option ℕ) → Type 0
+  IsWalkFrom memory = IsWalkAmong position number memory 8 (abi_of machine) rule_limit stack_limit copies_free modules
 
   module _ (stack : List ℕ) (old : Room) (result : Result Walk NoFrames) (new : Room) where
-    -- the frames are the first ones of the room, and nothing is written behind them
     abbrev pub IsWalked : Beginning → Walk → Type 0
     IsWalked start walk =
         IsWalkFrom (memory_of stack start.innermost.stack_pointer)
@@ -109,9 +92,7 @@ module _ {R T : Type 0} (position : R → Position) (number : T → ℕ) (rule_l
           caller = old.caller;
         })
         (take walk.count new.frames) walk.end new.registers new.caller
-        × (drop walk.count new.frames ≡ drop walk.count old.frames)
-        × (walk.count ≤ length new.frames)
-        × (walk.end ≡ NoRoom → walk.count ≡ length new.frames)
+        × AreWritten walk old.frames new.frames
 
     abbrev pub IsUnwoundFrom : Result Beginning NoFrames → Type 0
     IsUnwoundFrom (Ok start) = (walk : Walk) × (result ≡ Ok walk) × IsWalked start walk

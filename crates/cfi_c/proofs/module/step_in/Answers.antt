@@ -8,14 +8,15 @@ use Rattle.cfi_c.proofs.module.step_in.Goals as goal
 
 pub returns-clause-step : goal.returns-clause-step
 returns-clause-step c =
-    as_passed (slice_position is_big) c.args.stack.now c.args.module.now c.loaded_of-loaded.result
+    let memory = c.args.steps.now.memory in
+    as_passed (slice_position is_big) c.args.steps.now.stack.now c.args.module.now c.loaded_of-loaded.result
     (record { at = c.args.at.now; registers = c.args.registers.now; caller = c.args.caller.now })
     (record {
       registers = c.args.registers.now;
-      memory = number_in (slice_position is_big c.memory_of-memory.result.bytes) c.memory_of-memory.result.base;
+      memory = number_in (slice_position is_big memory.bytes) memory.base;
       size = size_in_bytes c.new.result;
     })
-    c.abi_of.result c.row_address-address.result c.step_in_module.result c.step_in_module.new.caller
-    (λ i. record { registers = c.args.registers.now; memory = number_in (c.memory_of-memory.ensures.bytes i) (c.memory_of-memory.ensures.base i); size = c.new.ensures i })
-    c.abi_of.ensures c.row_address-address.ensures c.loaded_of-loaded.ensures.bytes c.loaded_of-loaded.ensures.section c.loaded_of-loaded.ensures.header c.loaded_of-loaded.ensures.compiled
+    c.args.steps.now.abi c.row_address-address.result c.step_in_module.result c.step_in_module.new.caller
+    (λ i. record { registers = c.args.registers.now; memory = c.requires.of_stack.1 i; size = c.new.ensures i })
+    c.requires.of_stack.2 c.row_address-address.ensures c.loaded_of-loaded.ensures.bytes c.loaded_of-loaded.ensures.section c.loaded_of-loaded.ensures.header c.loaded_of-loaded.ensures.compiled
     c.loaded_of-loaded.ensures.bias (omega arith) c.step_in_module.ensures.step

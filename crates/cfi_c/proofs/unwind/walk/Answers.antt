@@ -1,38 +1,15 @@
-use Rattle.std.proofs.Common.{◌<◌, ◌≡◌, ◌∙◌, length, true, None, rules, arith, ap}
-use Rattle.cfi_step.proofs.Walking.{all_written, left, one_more, one_last}
-use Rattle.cfi_c.specs.StackFrames.{IsStepForC, frame_by, written_frame}
+use Rattle.std.proofs.Common.{◌≡◌, Bool, rules, true}
+use Rattle.std.specs.Prelude.{is_none}
+use Rattle.cfi_expression.specs.Windows.{number_in}
+use Rattle.cfi_c.proofs.StepsInModules.{if_none}
 use Rattle.cfi_c.proofs.unwind.walk.Goals as goal
 
-pub returns-in-Err-clause-walk : goal.returns-in-Err-clause-walk
-returns-in-Err-clause-walk c =
-    let inside : c.loop-index.index < length c.loop-index.frames = omega arith in
-    one_last frame_by (IsStepForC c.args.stack.now c.args.modules.now)
-    (record { at = record { pc = c.args.pc; is_interrupted = true; callee_cfa = None }; registers = c.args.registers.now; caller = c.args.caller.now })
-    (record { at = c.loop-index.at; registers = c.loop-index.registers; caller = c.loop-index.caller }) c.loop-index.frames c.loop-index.index c.loop-index.invariant.3
-    c.step_from-step.result c.step_from-step.new.caller c.frame_of.result inside c.step_from-step.ensures (c.frame_of.ensures ∙ ap written_frame c.written.ensures) c.in-Err.end c.in-Err.ensures
-
-pub loop-index-preserved : goal.loop-index-preserved
-loop-index-preserved c =
-    let inside : c.loop-index.index < length c.loop-index.frames = omega arith in
-    let room : length c.step_from-step.new.caller ≡ length c.copy_from_slice.new.self = search rules in
-    let same_room : length c.copy_from_slice.new.self ≡ length c.args.registers.now = search rules in (
-      left c.loop-index.frames c.args.frames.now c.loop-index.index c.frame_of.result inside (omega arith) c.loop-index.invariant.0,
-      room,
-      same_room,
-      one_more frame_by (IsStepForC c.args.stack.now c.args.modules.now)
-          (record { at = record { pc = c.args.pc; is_interrupted = true; callee_cfa = None }; registers = c.args.registers.now; caller = c.args.caller.now })
-          (record { at = c.loop-index.at; registers = c.loop-index.registers; caller = c.loop-index.caller }) c.loop-index.frames c.loop-index.index c.loop-index.invariant.3
-          c.step_from-step.result c.step_from-step.new.caller c.frame_of.result inside c.step_from-step.ensures (c.frame_of.ensures ∙ ap written_frame c.written.ensures) c.in-Ok.next c.copy_from_slice.new.self c.in-Ok.ensures c.copy_from_slice.ensures.after,
-    )
-
-pub returns-clause-walk : goal.returns-clause-walk
-returns-clause-walk c =
-    let done : c.loop-index.index ≡ length c.loop-index.frames = omega arith in
-    all_written frame_by (IsStepForC c.args.stack.now c.args.modules.now)
-    (record { at = record { pc = c.args.pc; is_interrupted = true; callee_cfa = None }; registers = c.args.registers.now; caller = c.args.caller.now })
-    (record { at = c.loop-index.at; registers = c.loop-index.registers; caller = c.loop-index.caller }) c.loop-index.frames c.loop-index.index (length c.loop-index.frames) done c.loop-index.invariant.3
-
-pub returns-in-Err-clause-rest : goal.returns-in-Err-clause-rest
-returns-in-Err-clause-rest c =
-    let inside : c.loop-index.index < length c.loop-index.frames = omega arith in
-    left c.loop-index.frames c.args.frames.now c.loop-index.index c.frame_of.result inside (omega arith) c.loop-index.invariant.0
+pub write_frames-requires-clause-can : goal.write_frames-requires-clause-can
+write_frames-requires-clause-can c = λ rows same keeps. (
+  c.requires.size,
+  (λ i. number_in (c.memory_of.ensures.bytes i) (c.memory_of.ensures.base i)),
+  c.abi_of.ensures,
+  λ in_order.
+      let none : is_none c.out_of_order.result ≡ true = search rules in
+      if_none c.out_of_order.result _ c.out_of_order.ensures.sorted none,
+)
