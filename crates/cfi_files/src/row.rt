@@ -5,9 +5,9 @@ ghost use Rattle.cfi_read_core.specs.ReaderCalls.{map_ok};
 ghost use Rattle.cfi_programs.specs.Words.{AreRead, texts};
 ghost use Rattle.cfi_files.specs.CallFrames.{frames_view};
 ghost use Rattle.cfi_files.specs.FileLines.{PrintsSome};
-ghost use Rattle.cfi_files.specs.Found.{debug_frame_in, eh_frame_in};
+ghost use Rattle.cfi_files.specs.Found.{AreSectionsOf, HasReadWords, part_view};
 ghost use Rattle.cfi_files.specs.RowOutputs.{AreWordLines, IsPartRow, IsRowByTableOrScan};
-ghost use Rattle.cfi_files.specs.RowOutputs.{IsRowLine, IsRowOfFile, IsRowOr, IsWordLine};
+ghost use Rattle.cfi_files.specs.RowOutputs.{IsRowLine, IsRowOr, IsWordLine};
 ghost use Rattle.cfi_files.specs.RowOutputs.{OtherwiseIn};
 ghost use Rattle.cfi_files.specs.Targets.{target_address};
 
@@ -25,6 +25,15 @@ use std::alloc::Global;
 use std::io;
 use std::io::Write;
 
+/// The sections of call frames of a file: each may be missing, or have an error in its place.
+#[derive(Clone, Copy)]
+pub struct FrameSections<'file> {
+    /// The section `.eh_frame`.
+    pub eh_frame: Option<Result<CallFrames<'file>, ElfError>>,
+    /// The section `.debug_frame`.
+    pub debug_frame: Option<Result<CallFrames<'file>, ElfError>>,
+}
+
 /// Prints a line for each word: the row for the address that it names, `no address` where it names
 /// none, or `refused` and the name of the error. Returns the greatest status.
 pub fn print_words<W: Write>(
@@ -37,69 +46,73 @@ pub fn print_words<W: Write>(
     ensures { PrintsSome (λ line. AreWordLines style (file_view file.now) (texts words.now) line)
         (W.contents output.old) (W.contents output.new) result }
 {
+    let sections = FrameSections {
+        eh_frame: eh_frame_part(file),
+        debug_frame: debug_frame_part(file),
+    };
+    let mut context = UnwindContext::<usize>::new(alloc).ok();
     let mut status: u8 = 0;
     for word in words {
-        let status_of_word = print_word(alloc, style, word, file, output)?;
+        let status_of_word = print_word(style, word, file, &sections, &mut context, output)?;
         status = status.max(status_of_word);
     }
     Ok(status)
 }
 
-/// Prints the line of a word.
+/// Prints the line of a word. Without a context memory is refused.
 fn print_word<W: Write>(
-    alloc: Global,
     style: Style,
     word: &str,
     file: &ElfFile<'_>,
+    sections: &FrameSections<'_>,
+    context: &mut Option<UnwindContext<usize>>,
     output: &mut W,
 ) -> io::Result<u8>
+    requires { AreSectionsOf (file_view file.now) sections.now }
     ensures { PrintsSome (λ line. IsWordLine style (file_view file.now)
         (target_address (file_view file.now) word.now) line)
         (W.contents output.old) (W.contents output.new) result }
 {
-    match target_address(file, word) {
-        Ok(Some(address)) => print_row(alloc, style, file, address, output),
-        Ok(None) => write_no_address(output, style.format),
-        Err(error) => write_elf_refusal(output, style.format, error),
-    }
-}
-
-/// Prints the row for an address.
-fn print_row<W: Write>(
-    alloc: Global,
-    style: Style,
-    file: &ElfFile<'_>,
-    address: u64,
-    output: &mut W,
-) -> io::Result<u8>
-    ensures { PrintsSome (λ line. IsRowOfFile style (file_view file.now) address line)
-        (W.contents output.old) (W.contents output.new) result }
-{
-    match UnwindContext::<usize>::new(alloc) {
-        Ok(mut context) => print_row_with(style, file, address, &mut context, output),
-        Err(error) => write_refusal_in(output, style.format, error),
+    let address = match target_address(file, word) {
+        Ok(Some(address)) => address,
+        Ok(None) => return write_no_address(output, style.format),
+        Err(error) => return write_elf_refusal(output, style.format, error),
+    };
+    match context {
+        Some(context) => print_row(style, sections, address, context, output),
+        None => write_refusal_in(output, style.format, Error::OutOfMemory),
     }
 }
 
 /// Prints the row in `.eh_frame`, or in `.debug_frame` where the file has no `.eh_frame` or that
 /// has no row for the address.
-fn print_row_with<W: Write>(
+fn print_row<W: Write>(
     style: Style,
-    file: &ElfFile<'_>,
+    sections: &FrameSections<'_>,
     address: u64,
     context: &mut UnwindContext<usize>,
     output: &mut W,
 ) -> io::Result<u8>
-    ensures { PrintsSome (λ line. IsRowLine style (eh_frame_in (file_view file.now))
-        (debug_frame_in (file_view file.now)) address line)
+    requires eh_frame { HasReadWords sections.now.eh_frame }
+    requires debug_frame { HasReadWords sections.now.debug_frame }
+    ensures { PrintsSome (λ line. IsRowLine style (part_view sections.now.eh_frame)
+        (part_view sections.now.debug_frame) address line)
         (W.contents output.old) (W.contents output.new) result }
 {
-    match eh_frame_part(file) {
-        None => match debug_frame_part(file) {
+    let debug_frame = sections.debug_frame;
+    match sections.eh_frame {
+        None => match debug_frame {
             None => write_no_call_frames(output, style.format),
             Some(part) => print_part_row(style, part, address, context, output),
         },
-        Some(Ok(frames)) => print_eh_frame_row(style, file, &frames, address, context, output),
+        Some(Ok(frames)) => print_eh_frame_row(
+            style,
+            &frames,
+            debug_frame,
+            address,
+            context,
+            output,
+        ),
         Some(Err(error)) => write_elf_refusal(output, style.format, error),
     }
 }
@@ -108,44 +121,46 @@ fn print_row_with<W: Write>(
 /// and else by a scan.
 fn print_eh_frame_row<W: Write>(
     style: Style,
-    file: &ElfFile<'_>,
     frames: &CallFrames<'_>,
+    debug_frame: Option<Result<CallFrames<'_>, ElfError>>,
     address: u64,
     context: &mut UnwindContext<usize>,
     output: &mut W,
 ) -> io::Result<u8>
-    requires { AreRead frames.now.words }
+    requires eh_frame { AreRead frames.now.words }
+    requires debug_frame { HasReadWords debug_frame }
     ensures { PrintsSome (λ line. IsRowByTableOrScan style (frames_view frames.now)
-        frames.now.words.header (debug_frame_in (file_view file.now)) address line)
+        frames.now.words.header (part_view debug_frame.entry) address line)
         (W.contents output.old) (W.contents output.new) result }
 {
     let Some(base) = frames.words.header else {
-        return print_scanned_row(style, file, frames, address, context, output);
+        return print_scanned_row(style, frames, debug_frame, address, context, output);
     };
     let (section, header) = (frames.section, frames.header);
     match find_by_header(&frames.words, base, section, header, address, context) {
         Ok(row) => write_answer(output, style, Ok(row)),
-        Err(_) => print_scanned_row(style, file, frames, address, context, output),
+        Err(_) => print_scanned_row(style, frames, debug_frame, address, context, output),
     }
 }
 
 /// Prints the row in `.eh_frame` by a scan, or the one in `.debug_frame` where there is none.
 fn print_scanned_row<W: Write>(
     style: Style,
-    file: &ElfFile<'_>,
     frames: &CallFrames<'_>,
+    debug_frame: Option<Result<CallFrames<'_>, ElfError>>,
     address: u64,
     context: &mut UnwindContext<usize>,
     output: &mut W,
 ) -> io::Result<u8>
-    requires { AreRead frames.now.words }
+    requires eh_frame { AreRead frames.now.words }
+    requires debug_frame { HasReadWords debug_frame }
     ensures { PrintsSome (λ line. IsRowOr style (frames_view frames.now)
-        (debug_frame_in (file_view file.now)) address line)
+        (part_view debug_frame.entry) address line)
         (W.contents output.old) (W.contents output.new) result }
 {
     match find_by_scan(&frames.words, frames.section, address, context) {
         Ok(row) => write_answer(output, style, Ok(row)),
-        Err(error) => print_otherwise(style, file, error, address, context, output),
+        Err(error) => print_otherwise(style, debug_frame, error, address, context, output),
     }
 }
 
@@ -153,19 +168,20 @@ fn print_scanned_row<W: Write>(
 /// has the address.
 fn print_otherwise<W: Write>(
     style: Style,
-    file: &ElfFile<'_>,
+    debug_frame: Option<Result<CallFrames<'_>, ElfError>>,
     error: Error,
     address: u64,
     context: &mut UnwindContext<usize>,
     output: &mut W,
 ) -> io::Result<u8>
-    ensures { PrintsSome (λ line. OtherwiseIn style (debug_frame_in (file_view file.now))
+    requires { HasReadWords debug_frame }
+    ensures { PrintsSome (λ line. OtherwiseIn style (part_view debug_frame.entry)
         error address line) (W.contents output.old) (W.contents output.new) result }
 {
     if error != Error::NoUnwindInfoForAddress {
         return write_refusal_in(output, style.format, error);
     }
-    match debug_frame_part(file) {
+    match debug_frame {
         None => write_refusal_in(output, style.format, error),
         Some(part) => print_part_row(style, part, address, context, output),
     }

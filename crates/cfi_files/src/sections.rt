@@ -1,5 +1,5 @@
 //! What is printed of each section of a file.
-ghost use Rattle.std.specs.Prelude.{◌≡◌, IfOk, IfSome, option_map};
+ghost use Rattle.std.specs.Prelude.{◌≡◌, IfOk};
 ghost use Rattle.cfi_read_core.specs.ReaderCalls.{map_ok};
 ghost use Rattle.cfi_elf.specs.ElfFiles.{file_view};
 ghost use Rattle.cfi_programs.specs.Lines.{Line};
@@ -11,7 +11,7 @@ ghost use Rattle.cfi_files.specs.FileLines.{InTurn, IsUnder, PrintsSome, section
 ghost use Rattle.cfi_files.specs.FileOutputs.{AreFdeRows, AreNamedRows, AreNamesOf, AreParts};
 ghost use Rattle.cfi_files.specs.FileOutputs.{AreRows, AreRowsAt, AreSections, IsOfSection};
 ghost use Rattle.cfi_files.specs.FileOutputs.{IsPart, section_format};
-ghost use Rattle.cfi_files.specs.Found.{debug_frame_in, eh_frame_in};
+ghost use Rattle.cfi_files.specs.Found.{HasReadWords, debug_frame_in, eh_frame_in, part_view};
 ghost use Rattle.cfi_files.specs.Targets.{target_address};
 
 use crate::call_frames::{CallFrames, debug_frame, eh_frame};
@@ -52,9 +52,8 @@ impl SectionPrinted<'_> {
 
 /// The section `.eh_frame`, or the error in its place; `None` where the file has no such section.
 pub fn eh_frame_part<'file>(file: &ElfFile<'file>) -> Option<Result<CallFrames<'file>, ElfError>>
-    ensures frames { option_map (λ part. map_ok frames_view part) result
-        ≡ eh_frame_in (file_view file.now) }
-    ensures read { IfSome result (λ part. IfOk part (λ frames. AreRead frames.words)) }
+    ensures frames { part_view result ≡ eh_frame_in (file_view file.now) }
+    ensures read { HasReadWords result }
 {
     eh_frame(file).transpose()
 }
@@ -62,9 +61,8 @@ pub fn eh_frame_part<'file>(file: &ElfFile<'file>) -> Option<Result<CallFrames<'
 /// The section `.debug_frame`, or the error in its place; `None` where the file has no such
 /// section.
 pub fn debug_frame_part<'file>(file: &ElfFile<'file>) -> Option<Result<CallFrames<'file>, ElfError>>
-    ensures frames { option_map (λ part. map_ok frames_view part) result
-        ≡ debug_frame_in (file_view file.now) }
-    ensures read { IfSome result (λ part. IfOk part (λ frames. AreRead frames.words)) }
+    ensures frames { part_view result ≡ debug_frame_in (file_view file.now) }
+    ensures read { HasReadWords result }
 {
     debug_frame(file).transpose()
 }

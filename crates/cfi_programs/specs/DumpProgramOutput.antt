@@ -1,30 +1,49 @@
 -- Which output is right for a whole section.
+--     printed_text names what section      each entry with its instructions and rows, or the rows of the FDEs
 use Rattle.std.specs.Prelude.{◌≡◌, ◌⊎◌, ℕ, List}
+use Rattle.cfi_entry.specs.Entries.{Entry, entries}
 use Rattle.cfi_entry.specs.Sections.{Section}
 use Rattle.cfi_elf.specs.FunctionNames.{name_in}
 use Rattle.cfi_read_core.specs.declared.error.Error.TheVariants.{OutOfMemory}
 use Rattle.cfi_programs.specs.Lines.{Line, refusal_in}
 use Rattle.cfi_programs.specs.declared.style.Format.{Format}
 use Rattle.cfi_programs.specs.declared.style.Format.TheVariants.{Text as AsText}
+use Rattle.cfi_programs.specs.declared.style.Style.{Style}
 use Rattle.cfi_programs.specs.declared.register_names.RegisterNames.{RegisterNames}
+use Rattle.cfi_programs.specs.declared.dump.printed.AskedRows.{AskedRows}
 use Rattle.cfi_programs.specs.declared.dump.printed.Printed.{Printed}
 use Rattle.cfi_programs.specs.declared.dump.printed.Printed.TheVariants as printing
-use Rattle.cfi_programs.specs.DumpRowTexts.{rows_text, style_of}
-use Rattle.cfi_programs.specs.DumpSectionTexts.{section_text}
+use Rattle.cfi_programs.specs.DumpRowTexts.{entry_rows_text}
+use Rattle.cfi_programs.specs.DumpSectionTexts.{entry_text}
+use Rattle.cfi_programs.specs.ReadingTexts.{readings_text}
 
 -- the form of the lines
 abbrev pub format_of : Printed → Format
 format_of printing.Entries = AsText
 format_of (printing.Rows asked) = asked.format
 
+abbrev pub style_of : RegisterNames → AskedRows → Style
+style_of names asked = record { names = names; format = asked.format }
+
+-- ---- the entries in order
+
+-- an entry with its instructions and rows; or the rows of an FDE
+abbrev pub printed_entry : RegisterNames → Printed → Section → Entry → List ℕ
+printed_entry names printing.Entries section entry = entry_text names section entry
+printed_entry names (printing.Rows asked) section entry =
+    entry_rows_text (style_of names asked) (name_in asked.functions.now) asked.address section entry
+
+abbrev pub printed_text : RegisterNames → Printed → Section → List ℕ
+printed_text names what section = readings_text (format_of what) (λ entry. printed_entry names what section entry) (entries section)
+
+-- ---- the output
+
 -- a text of any number of lines, with the status
 abbrev pub text_output : List ℕ → Line
 text_output text = record { text = text; status = 0 }
 
--- the entries and rows of the section; or the rows of its FDEs
 abbrev pub IsOutput : RegisterNames → Printed → Section → Line → Type 0
-IsOutput names printing.Entries section printed = printed ≡ text_output (section_text names section)
-IsOutput names (printing.Rows asked) section printed = printed ≡ text_output (rows_text (style_of names asked) (name_in asked.functions.now) asked.address section)
+IsOutput names what section printed = printed ≡ text_output (printed_text names what section)
 
 -- the same, or that memory was refused
 abbrev pub IsPrinted : RegisterNames → Printed → Section → Line → Type 0

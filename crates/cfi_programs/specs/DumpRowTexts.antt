@@ -1,27 +1,20 @@
 -- What is printed of the rows of a section: for each FDE, or each that contains an address, a line with its addresses
 -- and the name of the function that begins there, and then its rows.
 --     fde_rows_text style function address section reading      of an FDE that was read, or the refusal in its place
---     rows_text style function address section      of all FDEs in order
---     listed_text names listed section      that, or each entry with its instructions and rows
+--     entry_rows_text style function address section entry      of an entry: nothing for a CIE
 use Rattle.std.specs.Prelude.{ℕ, Bool, true, Option, Some, None, List, [], ◌∷◌, ◌++◌, Result, Ok, Err, codes, if◌then◌else◌}
 use Rattle.cfi_read_core.specs.declared.error.Error.{Error}
-use Rattle.cfi_entry.specs.Entries.{Entry, CieEntry, FdeEntry, entries}
+use Rattle.cfi_entry.specs.Entries.{Entry, CieEntry, FdeEntry}
 use Rattle.cfi_entry.specs.Fdes.{Fde, covers, end_of}
 use Rattle.cfi_entry.specs.Sections.{Section}
 use Rattle.cfi_unwind.specs.Scan.{read_fde}
-use Rattle.cfi_elf.specs.FunctionNames.{name_in}
 use Rattle.cfi_programs.specs.Lines.{address_text, refusal_in}
 use Rattle.cfi_programs.specs.FunctionLines.{function_text}
 use Rattle.cfi_programs.specs.JsonLines.{json_addresses, json_function}
-use Rattle.cfi_programs.specs.DumpSectionTexts.{entry_text, fde_rows, lines}
-use Rattle.cfi_programs.specs.ReadingTexts.{readings_text}
-use Rattle.cfi_programs.specs.declared.register_names.RegisterNames.{RegisterNames}
+use Rattle.cfi_programs.specs.DumpSectionTexts.{fde_rows, lines}
 use Rattle.cfi_programs.specs.declared.style.Format.{Format}
 use Rattle.cfi_programs.specs.declared.style.Format.TheVariants.{Text as AsText, Json}
 use Rattle.cfi_programs.specs.declared.style.Style.{Style}
-use Rattle.cfi_programs.specs.declared.dump.printed.AskedRows.{AskedRows}
-use Rattle.cfi_programs.specs.declared.dump.section.Listed.{Listed}
-use Rattle.cfi_programs.specs.declared.dump.section.Listed.TheVariants as listings
 
 -- ---- the rows of FDEs
 
@@ -57,22 +50,3 @@ fde_rows_text style function address section (Err error) = (refusal_in style.for
 abbrev pub entry_rows_text : Style → (ℕ → Option (List ℕ)) → Option ℕ → Section → Entry → List ℕ
 entry_rows_text style function address section (CieEntry cie) = []
 entry_rows_text style function address section (FdeEntry partial) = fde_rows_text style function address section (read_fde section partial)
-
-abbrev pub rows_text : Style → (ℕ → Option (List ℕ)) → Option ℕ → Section → List ℕ
-rows_text style function address section = readings_text style.format (entry_rows_text style function address section) (entries section)
-
--- ---- by what is asked for
-
-abbrev pub style_of : RegisterNames → AskedRows → Style
-style_of names asked = record { names = names; format = asked.format }
-
-abbrev pub listed_format : Listed → Format
-listed_format listings.Entries = AsText
-listed_format (listings.Rows asked) = asked.format
-
-abbrev pub listed_entry_text : RegisterNames → Listed → Section → Entry → List ℕ
-listed_entry_text names listings.Entries section entry = entry_text names section entry
-listed_entry_text names (listings.Rows asked) section entry = entry_rows_text (style_of names asked) (name_in asked.functions.now) asked.address section entry
-
-abbrev pub listed_text : RegisterNames → Listed → Section → List ℕ
-listed_text names listed section = readings_text (listed_format listed) (λ entry. listed_entry_text names listed section entry) (entries section)

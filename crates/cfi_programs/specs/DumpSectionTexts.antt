@@ -2,7 +2,6 @@
 --     fde_rows section fde      the rows of an FDE, and the refusals among them, in order
 --     lines style answers      a line for each
 --     entry_text names section entry      an entry and its instructions, and after those of an FDE its rows
---     section_text names section      each entry of a section
 use Rattle.std.specs.Prelude.{ℕ, Some, List, [], ◌∷◌, ◌++◌, Result, Ok, Err}
 use Rattle.cfi_read_core.specs.declared.error.Error.{Error}
 use Rattle.cfi_state.specs.MachineSettings.{Setting}
@@ -11,7 +10,7 @@ use Rattle.cfi_state.specs.Row.{Row}
 use Rattle.cfi_state.specs.FdeAnswers.{answers, cie_refusal, on_option}
 use Rattle.cfi_unwind.specs.AddressRow.{setting}
 use Rattle.cfi_entry.specs.Cies.{Cie}
-use Rattle.cfi_entry.specs.Entries.{Entry, CieEntry, FdeEntry, entries}
+use Rattle.cfi_entry.specs.Entries.{Entry, CieEntry, FdeEntry}
 use Rattle.cfi_entry.specs.EntryInstructions.{cie_instructions, fde_instructions}
 use Rattle.cfi_entry.specs.Fdes.{Fde, PartialFde}
 use Rattle.cfi_unwind.specs.Scan.{read_fde}
@@ -20,9 +19,7 @@ use Rattle.cfi_programs.specs.Lines.{refusal_line}
 use Rattle.cfi_programs.specs.AnswerLines.{answer_line, text_style}
 use Rattle.cfi_programs.specs.DumpEntryLines.{cie_line, fde_line, partial_fde_line}
 use Rattle.cfi_programs.specs.DumpInstructionLines.{instructions_text}
-use Rattle.cfi_programs.specs.ReadingTexts.{readings_text}
 use Rattle.cfi_programs.specs.declared.register_names.RegisterNames.{RegisterNames}
-use Rattle.cfi_programs.specs.declared.style.Format.TheVariants.{Text as AsText}
 use Rattle.cfi_programs.specs.declared.style.Style.{Style}
 
 -- ---- the rows of an FDE
@@ -56,8 +53,3 @@ fde_text names section partial (Err error) = partial_fde_line partial.prefix.off
 abbrev pub entry_text : RegisterNames → Section → Entry → List ℕ
 entry_text names section (CieEntry cie) = cie_text names section cie
 entry_text names section (FdeEntry partial) = fde_text names section partial (read_fde section partial)
-
--- ---- the section
-
-abbrev pub section_text : RegisterNames → Section → List ℕ
-section_text names section = readings_text AsText (entry_text names section) (entries section)

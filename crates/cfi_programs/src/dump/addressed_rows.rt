@@ -2,12 +2,11 @@
 //! the name of the function that begins there.
 ghost use Rattle.std.specs.Prelude.{◌≡◌, ◌++◌, option_map, [], ⊤, IfOk, OnOk, if◌then◌else◌};
 ghost use Rattle.cfi_read_core.specs.ReaderCalls.{map_ok};
-ghost use Rattle.cfi_read_core.specs.CallFrameSections.{IsOf};
-ghost use Rattle.cfi_entry.specs.EntryViews.{cie_view};
 ghost use Rattle.cfi_entry.specs.Sections.{section_of};
 ghost use Rattle.cfi_unwind.specs.CachedCie.{IsCacheOf};
-ghost use Rattle.cfi_unwind.specs.FdeViews.{fde_view};
-ghost use Rattle.cfi_unwind.specs.WalkViews.{OfEither, entry_view, partial_of};
+ghost use Rattle.cfi_unwind.specs.FdeViews.{HasCieOf, IsFdeOf, fde_view};
+ghost use Rattle.cfi_unwind.specs.WalkViews.{IsPartialOf, OfEither, cie_or_fde_view};
+ghost use Rattle.cfi_unwind.specs.WalkViews.{partial_view};
 ghost use Rattle.cfi_unwind.specs.Scan.{read_fde};
 ghost use Rattle.cfi_elf.specs.FunctionNames.{name_in};
 ghost use Rattle.cfi_programs.specs.WriterOutput.{Writes};
@@ -46,11 +45,9 @@ pub(crate) fn write_entry_rows<R: Reader<Offset = usize>, S: UnwindSection<R>, W
     context: &mut UnwindContext<usize>,
     entry: Result<CieOrFde<'_, S, R>>,
 ) -> io::Result<()>
-    requires entry { IfOk entry (OfEither (λ _. ⊤)
-        (λ p. (p.section ≡ section.now) × (p.bases.now ≡ bases.now))) }
+    requires entry { IfOk entry (OfEither (λ _. ⊤) (IsPartialOf section.now bases.now)) }
     requires cies { IsCacheOf R.position (λ n. n) (S.view section.now) bases.now cies.old }
-    ensures written { let found = map_ok (entry_view (cie_view R.position (λ n. n))
-        (λ p. partial_of R.position (λ n. n) p.prefix p.cie_offset)) entry.entry in
+    ensures written { let found = map_ok (cie_or_fde_view R.position (λ n. n)) entry.entry in
         let function = name_in asked.entry.functions.now in
         Writes (W.contents output.old) (W.contents output.new) result
         (item_text style.format (λ e. entry_rows_text style function asked.entry.address
@@ -80,11 +77,10 @@ fn write_partial_rows<R: Reader<Offset = usize>, S: UnwindSection<R>, W: Write>(
     context: &mut UnwindContext<usize>,
     partial: &PartialFrameDescriptionEntry<'_, S, R>,
 ) -> io::Result<()>
-    requires section { partial.now.section ≡ section.now }
-    requires bases { partial.now.bases.now ≡ bases.now }
+    requires of { IsPartialOf section.now bases.now partial.now }
     requires cies { IsCacheOf R.position (λ n. n) (S.view section.now) bases.now cies.old }
     ensures written { let from = section_of (S.view section.now) bases.now in
-        let found = partial_of R.position (λ n. n) partial.now.prefix partial.now.cie_offset in
+        let found = partial_view R.position (λ n. n) partial.now in
         Writes (W.contents output.old) (W.contents output.new) result
         (fde_rows_text style (name_in asked.entry.functions.now) asked.entry.address from
         (read_fde from found)) }
@@ -107,9 +103,8 @@ fn write_if_asked_for<R: Reader<Offset = usize>, S: UnwindSection<R>, W: Write>(
     context: &mut UnwindContext<usize>,
     fde: &FrameDescriptionEntry<R>,
 ) -> io::Result<()>
-    requires own { IsOf (R.position fde.now.instructions) (S.view section.now).position }
-    requires cie { IsOf (R.position fde.now.cie.initial_instructions)
-        (S.view section.now).position }
+    requires own { IsFdeOf R.position (S.view section.now).position fde.now }
+    requires cie { HasCieOf R.position (S.view section.now).position fde.now }
     ensures { let read = fde_view R.position (λ n. n) fde.now in
         let rows = lines style (fde_rows (section_of (S.view section.now) bases.now) read) in
         Writes (W.contents output.old) (W.contents output.new) result
@@ -156,9 +151,8 @@ fn write_addressed_rows<R: Reader<Offset = usize>, S: UnwindSection<R>, W: Write
     context: &mut UnwindContext<usize>,
     fde: &FrameDescriptionEntry<R>,
 ) -> io::Result<()>
-    requires own { IsOf (R.position fde.now.instructions) (S.view section.now).position }
-    requires cie { IsOf (R.position fde.now.cie.initial_instructions)
-        (S.view section.now).position }
+    requires own { IsFdeOf R.position (S.view section.now).position fde.now }
+    requires cie { HasCieOf R.position (S.view section.now).position fde.now }
     ensures { let read = fde_view R.position (λ n. n) fde.now in
         let rows = lines style (fde_rows (section_of (S.view section.now) bases.now) read) in
         Writes (W.contents output.old) (W.contents output.new) result

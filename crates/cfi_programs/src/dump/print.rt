@@ -7,12 +7,11 @@ ghost use Rattle.cfi_programs.specs.Lines.{Line};
 ghost use Rattle.cfi_programs.specs.SectionOfWords.{section_of as section_of_words};
 ghost use Rattle.cfi_programs.specs.Words.{AreRead};
 ghost use Rattle.cfi_programs.specs.WriterOutput.{Prints};
-ghost use Rattle.cfi_programs.specs.DumpProgramOutput.{IsPrinted, text_output};
-ghost use Rattle.cfi_programs.specs.DumpRowTexts.{listed_text};
+ghost use Rattle.cfi_programs.specs.DumpProgramOutput.{IsPrinted};
 ghost use Rattle.cfi_programs.specs.declared.dump.printed.Printed.TheVariants.{Rows};
 
 use crate::dump::printed::{AskedRows, Printed};
-use crate::dump::section::{Listed, write_section};
+use crate::dump::section::write_section;
 use crate::lines::write_refusal_in;
 use crate::register_names::RegisterNames;
 use crate::words::{Kind, SectionWords};
@@ -107,7 +106,7 @@ fn print_read<R: Reader<Offset = usize>, W: Write>(
     }
 }
 
-/// Prints what is asked for of the section, and returns the status.
+/// Prints what is asked for of the section, and returns the status 0.
 fn print_section<R: Reader<Offset = usize>, S: UnwindSection<R>, W: Write>(
     output: &mut W,
     names: RegisterNames,
@@ -119,27 +118,6 @@ fn print_section<R: Reader<Offset = usize>, S: UnwindSection<R>, W: Write>(
     ensures { (line : Line) × Prints line (W.contents output.old) (W.contents output.new) result
         × IsPrinted names printed.entry (section_of (S.view section.now) bases.now) line }
 {
-    match printed {
-        Printed::Entries => print_listed(output, names, Listed::Entries, section, bases, context),
-        Printed::Rows(asked) => {
-            print_listed(output, names, Listed::Rows(asked), section, bases, context)
-        }
-    }
-}
-
-/// Prints the entries of the section, and returns the status 0.
-fn print_listed<R: Reader<Offset = usize>, S: UnwindSection<R>, W: Write>(
-    output: &mut W,
-    names: RegisterNames,
-    listed: Listed<'_>,
-    section: &S,
-    bases: &BaseAddresses,
-    context: &mut UnwindContext<usize>,
-) -> io::Result<u8>
-    ensures { let from = section_of (S.view section.now) bases.now in
-        Prints (text_output (listed_text names listed.entry from))
-        (W.contents output.old) (W.contents output.new) result }
-{
-    write_section(output, names, listed, section, bases, context)?;
+    write_section(output, names, printed, section, bases, context)?;
     Ok(0)
 }

@@ -1,18 +1,18 @@
 //! The entries of a section in order, their instructions, and the rows of each FDE.
 ghost use Rattle.std.specs.Prelude.{◌≡◌, ◌++◌, ℕ, Some, Ok, IfOk};
 ghost use Rattle.cfi_read_core.specs.ReaderCalls.{map_ok};
-ghost use Rattle.cfi_read_core.specs.CallFrameSections.{IsOf};
 ghost use Rattle.cfi_state.specs.ContextEffects.{setting_of};
 ghost use Rattle.cfi_state.specs.FdeAnswers.{IsStateAfter};
 ghost use Rattle.cfi_state.specs.AcceptedInstructions.{at_program};
 ghost use Rattle.cfi_state.specs.Program.{Program};
 ghost use Rattle.cfi_state.specs.UnwindTableStates.{answers_to_come};
 ghost use Rattle.cfi_entry.specs.EntryInstructions.{fde_instructions};
-ghost use Rattle.cfi_entry.specs.EntryViews.{cie_view};
+ghost use Rattle.cfi_entry.specs.EntryViews.{IsCieOf, cie_view};
 ghost use Rattle.cfi_entry.specs.Sections.{section_of};
 ghost use Rattle.cfi_unwind.specs.CachedCie.{IsCacheOf};
-ghost use Rattle.cfi_unwind.specs.FdeViews.{fde_view};
-ghost use Rattle.cfi_unwind.specs.WalkViews.{IsPartialOf, OfEither, entry_view, partial_of};
+ghost use Rattle.cfi_unwind.specs.FdeViews.{HasCieOf, IsFdeOf, fde_view};
+ghost use Rattle.cfi_unwind.specs.WalkViews.{IsEntryOf, IsPartialOf, cie_or_fde_view};
+ghost use Rattle.cfi_unwind.specs.WalkViews.{partial_view};
 ghost use Rattle.cfi_unwind.specs.Scan.{read_fde};
 ghost use Rattle.cfi_unwind.specs.UnwindTableViews.{table_state};
 ghost use Rattle.cfi_programs.specs.AnswerLines.{text_style};
@@ -23,12 +23,12 @@ ghost use Rattle.cfi_programs.specs.DumpInstructionLines.{instructions_text};
 ghost use Rattle.cfi_programs.specs.DumpSectionTexts.{cie_text, entry_text, fde_rows, fde_text};
 ghost use Rattle.cfi_programs.specs.DumpSectionTexts.{lines};
 ghost use Rattle.cfi_programs.specs.ReadingTexts.{item_text};
-ghost use Rattle.cfi_programs.specs.DumpRowTexts.{listed_entry_text, listed_format, listed_text};
+ghost use Rattle.cfi_programs.specs.DumpProgramOutput.{format_of, printed_entry, printed_text};
 
 use crate::dump::addressed_rows::write_entry_rows;
 use crate::dump::entry_line::{write_cie, write_fde, write_partial_fde};
 use crate::dump::instruction_line::write_instructions;
-use crate::dump::printed::AskedRows;
+use crate::dump::printed::Printed;
 use crate::kept_rules::{KeptRows, LineRoom};
 use crate::lines::{write_refusal_in, write_text};
 use crate::register_names::RegisterNames;
@@ -43,18 +43,7 @@ use gimli_cfi::{
 use std::io;
 use std::io::Write;
 
-/// What is written of the entries of a section.
-#[derive(Clone, Copy)]
-pub enum Listed<'names> {
-    /// The line of each entry and those of its instructions, and after those of an FDE the lines of
-    /// its rows.
-    Entries,
-    /// For each FDE a line with its addresses and the name of the function that begins there, and
-    /// the lines of its rows, in the format that is asked for.
-    Rows(AskedRows<'names>),
-}
-
-/// Writes what is listed of each entry, in their order.
+/// Writes what is printed of each entry, in their order.
 ///
 /// An error has a line of its own: in place of an entry or an instruction that can't be read, after
 /// which there are no more; after the line of an FDE that can't be read whole, or in its place if
@@ -63,50 +52,47 @@ pub enum Listed<'names> {
 pub fn write_section<R: Reader<Offset = usize>, S: UnwindSection<R>, W: Write>(
     output: &mut W,
     names: RegisterNames,
-    listed: Listed<'_>,
+    printed: Printed<'_>,
     section: &S,
     bases: &BaseAddresses,
     context: &mut UnwindContext<usize>,
 ) -> io::Result<()>
     ensures { Writes (W.contents output.old) (W.contents output.new) result
-        (listed_text names listed.entry (section_of (S.view section.now) bases.now)) }
+        (printed_text names printed.entry (section_of (S.view section.now) bases.now)) }
 {
     let mut room = LineRoom::new(names);
     let mut cies: CieCache<R> = CieCache::new();
     for entry in section.entries(bases) {
-        write_listed(
-            output, &mut room, &mut cies, names, listed, section, bases, context, entry,
+        write_printed(
+            output, &mut room, &mut cies, names, printed, section, bases, context, entry,
         )?;
     }
     Ok(())
 }
 
-/// Writes what is listed of an entry, or of the error in its place.
-fn write_listed<R: Reader<Offset = usize>, S: UnwindSection<R>, W: Write>(
+/// Writes what is printed of an entry, or of the error in its place.
+fn write_printed<R: Reader<Offset = usize>, S: UnwindSection<R>, W: Write>(
     output: &mut W,
     room: &mut LineRoom,
     cies: &mut CieCache<R>,
     names: RegisterNames,
-    listed: Listed<'_>,
+    printed: Printed<'_>,
     section: &S,
     bases: &BaseAddresses,
     context: &mut UnwindContext<usize>,
     entry: Result<CieOrFde<'_, S, R>>,
 ) -> io::Result<()>
-    requires entry { IfOk entry (OfEither
-        (λ cie. IsOf (R.position cie.initial_instructions) (S.view section.now).position)
-        (λ p. (p.section ≡ section.now) × (p.bases.now ≡ bases.now))) }
+    requires entry { IfOk entry (IsEntryOf S.view R.position section.now bases.now) }
     requires cies { IsCacheOf R.position (λ n. n) (S.view section.now) bases.now cies.old }
-    ensures written { let found = map_ok (entry_view (cie_view R.position (λ n. n))
-        (λ p. partial_of R.position (λ n. n) p.prefix p.cie_offset)) entry.entry in
+    ensures written { let found = map_ok (cie_or_fde_view R.position (λ n. n)) entry.entry in
         Writes (W.contents output.old) (W.contents output.new) result
-        (item_text (listed_format listed.entry) (λ e. listed_entry_text names listed.entry
+        (item_text (format_of printed.entry) (λ e. printed_entry names printed.entry
         (section_of (S.view section.now) bases.now) e) found) }
     ensures cies { IsCacheOf R.position (λ n. n) (S.view section.now) bases.now cies.new }
 {
-    match listed {
-        Listed::Entries => write_entry(output, room, cies, names, section, bases, context, entry),
-        Listed::Rows(asked) => {
+    match printed {
+        Printed::Entries => write_entry(output, room, cies, names, section, bases, context, entry),
+        Printed::Rows(asked) => {
             let format = asked.format;
             let style = Style { names, format };
             write_entry_rows(
@@ -127,12 +113,9 @@ fn write_entry<R: Reader<Offset = usize>, S: UnwindSection<R>, W: Write>(
     context: &mut UnwindContext<usize>,
     entry: Result<CieOrFde<'_, S, R>>,
 ) -> io::Result<()>
-    requires entry { IfOk entry (OfEither
-        (λ cie. IsOf (R.position cie.initial_instructions) (S.view section.now).position)
-        (λ p. (p.section ≡ section.now) × (p.bases.now ≡ bases.now))) }
+    requires entry { IfOk entry (IsEntryOf S.view R.position section.now bases.now) }
     requires cies { IsCacheOf R.position (λ n. n) (S.view section.now) bases.now cies.old }
-    ensures written { let found = map_ok (entry_view (cie_view R.position (λ n. n))
-        (λ p. partial_of R.position (λ n. n) p.prefix p.cie_offset)) entry.entry in
+    ensures written { let found = map_ok (cie_or_fde_view R.position (λ n. n)) entry.entry in
         Writes (W.contents output.old) (W.contents output.new) result
         (item_text Format.Text
         (λ e. entry_text names (section_of (S.view section.now) bases.now) e) found) }
@@ -164,7 +147,7 @@ fn write_whole_cie<R: Reader<Offset = usize>, S: UnwindSection<R>, W: Write>(
     bases: &BaseAddresses,
     cie: &CommonInformationEntry<R>,
 ) -> io::Result<()>
-    requires { IsOf (R.position cie.now.initial_instructions) (S.view section.now).position }
+    requires { IsCieOf R.position (S.view section.now).position cie.now }
     ensures { let read = cie_view R.position (λ n. n) cie.now in
         Writes (W.contents output.old) (W.contents output.new) result
         (cie_text names (section_of (S.view section.now) bases.now) read) }
@@ -185,11 +168,10 @@ fn write_fde_and_rows<R: Reader<Offset = usize>, S: UnwindSection<R>, W: Write>(
     context: &mut UnwindContext<usize>,
     partial: &PartialFrameDescriptionEntry<'_, S, R>,
 ) -> io::Result<()>
-    requires section { partial.now.section ≡ section.now }
-    requires bases { partial.now.bases.now ≡ bases.now }
+    requires of { IsPartialOf section.now bases.now partial.now }
     requires cies { IsCacheOf R.position (λ n. n) (S.view section.now) bases.now cies.old }
     ensures written { let from = section_of (S.view section.now) bases.now in
-        let found = partial_of R.position (λ n. n) partial.now.prefix partial.now.cie_offset in
+        let found = partial_view R.position (λ n. n) partial.now in
         Writes (W.contents output.old) (W.contents output.new) result
         (fde_text names from found (read_fde from found)) }
     ensures cies { IsCacheOf R.position (λ n. n) (S.view section.now) bases.now cies.new }
@@ -210,9 +192,8 @@ fn write_whole_fde<R: Reader<Offset = usize>, S: UnwindSection<R>, W: Write>(
     context: &mut UnwindContext<usize>,
     fde: &FrameDescriptionEntry<R>,
 ) -> io::Result<()>
-    requires own { IsOf (R.position fde.now.instructions) (S.view section.now).position }
-    requires cie { IsOf (R.position fde.now.cie.initial_instructions)
-        (S.view section.now).position }
+    requires own { IsFdeOf R.position (S.view section.now).position fde.now }
+    requires cie { HasCieOf R.position (S.view section.now).position fde.now }
     ensures { let from = section_of (S.view section.now) bases.now in
         let read = fde_view R.position (λ n. n) fde.now in
         let instructions = instructions_text names (fde_instructions from read) in
@@ -252,11 +233,9 @@ pub(crate) fn whole<R: Reader, S: UnwindSection<R>>(
     requires cies { IsCacheOf R.position R.Offset.number (S.view section.now) bases.now cies.old }
     ensures read { map_ok (fde_view R.position R.Offset.number) result
         ≡ read_fde (section_of (S.view section.now) bases.now)
-        (partial_of R.position R.Offset.number partial.now.prefix partial.now.cie_offset) }
-    ensures part { IfOk result (λ fde.
-        IsOf (R.position fde.instructions) (S.view section.now).position) }
-    ensures cie_part { IfOk result (λ fde.
-        IsOf (R.position fde.cie.initial_instructions) (S.view section.now).position) }
+        (partial_view R.position R.Offset.number partial.now) }
+    ensures part { IfOk result (IsFdeOf R.position (S.view section.now).position) }
+    ensures cie_part { IfOk result (HasCieOf R.position (S.view section.now).position) }
     ensures cies { IsCacheOf R.position R.Offset.number (S.view section.now) bases.now cies.new }
 {
     let cie = cies.get(section, bases, partial.cie_offset())?;
@@ -277,9 +256,8 @@ pub(crate) fn write_rows<R: Reader<Offset = usize>, S: UnwindSection<R>, W: Writ
     context: &mut UnwindContext<usize>,
     fde: &FrameDescriptionEntry<R>,
 ) -> io::Result<()>
-    requires own { IsOf (R.position fde.now.instructions) (S.view section.now).position }
-    requires cie { IsOf (R.position fde.now.cie.initial_instructions)
-        (S.view section.now).position }
+    requires own { IsFdeOf R.position (S.view section.now).position fde.now }
+    requires cie { HasCieOf R.position (S.view section.now).position fde.now }
     ensures { Writes (W.contents output.old) (W.contents output.new) result
         (lines style (fde_rows (section_of (S.view section.now) bases.now)
         (fde_view R.position (λ n. n) fde.now))) }

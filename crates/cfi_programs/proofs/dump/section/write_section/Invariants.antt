@@ -3,7 +3,7 @@ use Rattle.cfi_unwind.specs.CachedCie.{IsCacheOf}
 use Rattle.cfi_entry.specs.Entries.{entries_left}
 use Rattle.cfi_entry.specs.Sections.{section_of}
 use Rattle.cfi_programs.proofs.WrittenLemmas.{IsGiven}
-use Rattle.cfi_programs.specs.DumpRowTexts.{listed_entry_text, listed_format, listed_text}
+use Rattle.cfi_programs.specs.DumpProgramOutput.{format_of, printed_entry, printed_text}
 use Rattle.cfi_programs.specs.ReadingTexts.{readings_text}
 use Rattle.cfi_programs.proofs.dump.section.write_section.Given as goal
 
@@ -17,6 +17,6 @@ invariant-loop-entry g l =
       same_section : l.entry-iterator.section ≡ l.section;
       same_bases : l.entry-iterator.bases.now ≡ l.bases;
       given : IsGiven (g.W.Write.contents l.initial.output) (g.W.Write.contents l.output)
-          (readings_text (listed_format l.listed) (λ entry. listed_entry_text l.names l.listed section entry) (entries_left section (g.R.Reader.position l.entry-iterator.input).place)) (listed_text l.names l.listed section);
+          (readings_text (format_of l.printed) (λ entry. printed_entry l.names l.printed section entry) (entries_left section (g.R.Reader.position l.entry-iterator.input).place)) (printed_text l.names l.printed section);
       cached : IsCacheOf g.R.Reader.position (λ (n : ℕ). n) (g.S._UnwindSectionPrivate.view l.section) l.bases l.cies;
     }

@@ -1,7 +1,7 @@
 use Rattle.std.proofs.Common.{◌≡◌}
 use Rattle.cfi_entry.specs.EntryViews.{IsCieOf}
 use Rattle.cfi_programs.proofs.DumpSectionWritten.{of_fdes}
-use Rattle.cfi_programs.proofs.dump.section.write_listed.Goals as goal
+use Rattle.cfi_programs.proofs.dump.section.write_printed.Goals as goal
 
 pub returns-in-Entries-clause-written : goal.returns-in-Entries-clause-written
 returns-in-Entries-clause-written g c = rw c.in-Entries.is c.write_entry.ensures.written
