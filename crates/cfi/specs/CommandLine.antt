@@ -1,14 +1,17 @@
 -- The commands of `cfi`, how clap is told of them, and what its matches ask for.
 --     Asked, command_view      a command with the bytes of its words, and that of the code
 --     cfi_app names      the command line as clap is told of it, with the names of the formats
---     FailsAsCfi words r      r is an error of a kind that clap defines for the words, or none where there is no kind
+--     FailsAsCfi words r      r is an error of a kind that clap defines for the words, or none
+--         where there is no kind
 --     asked_by words      what clap's matches of the words ask for
-use Rattle.std.specs.Prelude.{◌≡◌, Bool, true, false, List, [], ◌∷◌, Option, Result, Some, codes, map, option_map, unwrap_or, if◌then◌else◌}
+use Rattle.std.specs.Prelude.{◌≡◌, Bool, true, false, List, [], ◌∷◌, Option, Result, Some, codes}
+use Rattle.std.specs.Prelude.{map, option_map, unwrap_or, if◌then◌else◌}
 use Rattle.std.specs.Borrow.{Bor}
 use Rattle.std.specs.Option.{option_map_or}
 use Rattle.std.specs.Str.{bytes_eq}
 use Rattle.clap.specs.Lexer.{usize_max}
-use Rattle.clap.specs.Words.{App, FailsBy, Row, Rule, Text, all_of, app_of, fault_of, first_of, new_app, new_rule, subcommand_of, with_rule, with_subcommand}
+use Rattle.clap.specs.Words.{App, FailsBy, Row, Rule, Text, all_of, app_of, fault_of, first_of}
+use Rattle.clap.specs.Words.{new_app, new_rule, subcommand_of, with_rule, with_subcommand}
 use Rattle.clap.specs.Simple.{on_top}
 use Rattle.clap.specs.declared.builder.action.ArgAction.TheVariants.{SetTrue}
 use Rattle.clap.specs.declared.builder.command.Command.{Command as ClapCommand}
@@ -22,7 +25,8 @@ use Rattle.cfi_programs.specs.declared.style.Format.TheVariants as form
 
 -- ---- the commands, with the bytes of their words
 
--- first whether registers are printed by number, or stacks without functions, and the form of what is printed
+-- first whether registers are printed by number, or stacks without functions, and the form of what
+-- is printed
 pub data Asked : Type 0 where
   row : Bool → Format → Text → List Text → Asked
   rows : Bool → Format → Text → Option Text → Asked
@@ -32,8 +36,10 @@ pub data Asked : Type 0 where
   unwind : Bool → Text → Asked
 
 abbrev pub command_view : Command → Asked
-command_view (command.Row raw format file addresses) = row raw format file.now (map (λ address. address.now) addresses.items)
-command_view (command.Rows raw format file address) = rows raw format file.now (option_map (λ word. word.now) address)
+command_view (command.Row raw format file addresses) =
+    row raw format file.now (map (λ address. address.now) addresses.items)
+command_view (command.Rows raw format file address) =
+    rows raw format file.now (option_map (λ word. word.now) address)
 command_view (command.Dump raw file) = dump raw file.now
 command_view (command.Check format files) = check format (map (λ file. file.now) files.items)
 command_view (command.Table raw file) = table raw file.now
@@ -46,7 +52,8 @@ file_rule = record (new_rule (codes "FILE")) { required = true }
 
 -- one value at least
 abbrev pub several : Rule → Rule
-several rule = record rule { range = Some (record { start_inclusive = 1; end_inclusive = usize_max }) }
+several rule =
+    record rule { range = Some (record { start_inclusive = 1; end_inclusive = usize_max }) }
 
 abbrev pub files_rule : Rule
 files_rule = several file_rule
@@ -62,13 +69,25 @@ raw_rule = record (new_rule (codes "raw")) { long = Some (codes "raw"); action =
 
 -- one value, among the names
 abbrev pub format_rule : Bor (List (Bor Text)) → Rule
-format_rule names = record (new_rule (codes "format")) { long = Some (codes "format"); value_names = 1; parser = Some (Names names) }
+format_rule names = record (new_rule (codes "format")) {
+  long = Some (codes "format");
+  value_names = 1;
+  parser = Some (Names names);
+}
 
 abbrev pub row_app : Bor (List (Bor Text)) → App
-row_app names = with_rule (with_rule (with_rule (with_rule (new_app (codes "row")) raw_rule) (format_rule names)) file_rule) addresses_rule
+row_app names =
+    with_rule
+    (with_rule (with_rule (with_rule (new_app (codes "row")) raw_rule) (format_rule names))
+    file_rule)
+    addresses_rule
 
 abbrev pub rows_app : Bor (List (Bor Text)) → App
-rows_app names = with_rule (with_rule (with_rule (with_rule (new_app (codes "rows")) raw_rule) (format_rule names)) file_rule) address_rule
+rows_app names =
+    with_rule
+    (with_rule (with_rule (with_rule (new_app (codes "rows")) raw_rule) (format_rule names))
+    file_rule)
+    address_rule
 
 abbrev pub dump_app : App
 dump_app = with_rule (with_rule (new_app (codes "dump")) raw_rule) file_rule
@@ -84,12 +103,27 @@ unwind_app = with_rule (with_rule (new_app (codes "unwind")) raw_rule) file_rule
 
 -- one of the subcommands has to be asked for, and there is none that is called help
 abbrev pub top_app : App
-top_app = on_top (λ shape. record shape { arg_required_else_help = true; subcommand_required = true; disable_help_subcommand = true }) (new_app (codes "cfi"))
+top_app =
+    on_top
+    (λ shape.
+    record shape {
+      arg_required_else_help = true;
+      subcommand_required = true;
+      disable_help_subcommand = true;
+    })
+    (new_app (codes "cfi"))
 
 abbrev pub cfi_app : Bor (List (Bor Text)) → App
 cfi_app names =
     with_subcommand
-    (with_subcommand (with_subcommand (with_subcommand (with_subcommand (with_subcommand top_app (row_app names).top) (rows_app names).top) dump_app.top) (check_app names).top) table_app.top)
+    (with_subcommand
+    (with_subcommand
+    (with_subcommand
+    (with_subcommand (with_subcommand top_app (row_app names).top)
+    (rows_app names).top)
+    dump_app.top)
+    (check_app names).top)
+    table_app.top)
     unwind_app.top
 
 -- the command of clap is the one that is described so
@@ -101,7 +135,9 @@ format_names = codes "text" ∷ codes "json" ∷ []
 
 -- where the names are those of the formats, in some place of memory
 abbrev pub FailsAsCfi : {T : Type 0} → List Text → Result T Error → Type 0
-FailsAsCfi words r = (names : Bor (List (Bor Text))) × (map (λ name. name.now) names.now ≡ format_names) × FailsBy (fault_of (cfi_app names) words) r
+FailsAsCfi words r =
+    (names : Bor (List (Bor Text))) × (map (λ name. name.now) names.now ≡ format_names)
+    × FailsBy (fault_of (cfi_app names) words) r
 
 -- ---- what clap's matches ask for
 
@@ -118,15 +154,18 @@ abbrev pub raw_in : List Row → Bool
 raw_in = has_value (codes "raw") (codes "true")
 
 abbrev pub format_in : List Row → Format
-format_in matches = if has_value (codes "format") (codes "json") matches then form.Json else form.Text
+format_in matches =
+    if has_value (codes "format") (codes "json") matches then form.Json else form.Text
 
 -- by the name and the matches of a subcommand
 abbrev pub asked_of : Text × List Row → Asked
 asked_of named =
     let raw = raw_in named.1 in
     let format = format_in named.1 in
-    if bytes_eq named.0 (codes "row") then row raw format (file_in named.1) (values_in (codes "ADDRESS") named.1)
-    else if bytes_eq named.0 (codes "rows") then rows raw format (file_in named.1) (first_of (codes "ADDRESS") named.1)
+    if bytes_eq named.0 (codes "row") then row raw format (file_in named.1)
+    (values_in (codes "ADDRESS") named.1)
+    else if bytes_eq named.0 (codes "rows") then rows raw format (file_in named.1)
+    (first_of (codes "ADDRESS") named.1)
     else if bytes_eq named.0 (codes "dump") then dump raw (file_in named.1)
     else if bytes_eq named.0 (codes "check") then check format (values_in (codes "FILE") named.1)
     else if bytes_eq named.0 (codes "table") then table raw (file_in named.1)

@@ -10,12 +10,14 @@ use Rattle.cfi_files.specs.Findings.{status_of}
 -- `N files, N tables, N faithful`
 abbrev pub tally_text : ℕ → ℕ → ℕ → List ℕ
 tally_text files tables faithful =
-    decimal files ++ codes " files, " ++ decimal tables ++ codes " tables, " ++ decimal faithful ++ codes " faithful"
+    decimal files ++ codes " files, " ++ decimal tables ++ codes " tables, " ++ decimal faithful
+    ++ codes " faithful"
 
 -- `{"files":N,"tables":N,"faithful":N}`
 abbrev pub tally_object : ℕ → ℕ → ℕ → List ℕ
 tally_object files tables faithful =
-    codes "{\"files\":" ++ json_number files ++ codes ",\"tables\":" ++ json_number tables ++ codes ",\"faithful\":" ++ json_number faithful ++ codes "}"
+    codes "{\"files\":" ++ json_number files ++ codes ",\"tables\":" ++ json_number tables
+    ++ codes ",\"faithful\":" ++ json_number faithful ++ codes "}"
 
 abbrev pub tally_in : Format → ℕ → ℕ → ℕ → List ℕ
 tally_in Text files tables faithful = tally_text files tables faithful

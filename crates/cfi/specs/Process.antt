@@ -1,14 +1,17 @@
 -- Which output and status are right for a run of `cfi`.
---     IsAnswer disk task printed      the output of a task, by the bytes of the files that were opened
+--     IsAnswer disk task printed      the output of a task, by the bytes of the files that were
+--         opened
 --     IsOutput disk words printed      the output for the words of the process
 --     PrintsRun disk words old new status      what a run writes, and its status
-use Rattle.std.specs.Prelude.{◌≡◌, ◌⊎◌, ℕ, Bool, List, [], ◌∷◌, ◌++◌, length, Option, Some, None, Result, Vec, IsNone, MatchResult, IfOk, map}
+use Rattle.std.specs.Prelude.{◌≡◌, ◌⊎◌, ℕ, Bool, List, [], ◌∷◌, ◌++◌, length, Option, Some, None}
+use Rattle.std.specs.Prelude.{Result, Vec, IsNone, MatchResult, IfOk, map}
 use Rattle.std.specs.Borrow.{Bor}
 use Rattle.std.specs.List.{count_by}
 use Rattle.std.specs.Io.KnownBytes.{Appends}
 use Rattle.clap.specs.Words.{IsAmong, Text, fault_of}
 use Rattle.clap.specs.declared.error.kind.ErrorKind.{ErrorKind}
-use Rattle.clap.specs.declared.error.kind.ErrorKind.TheVariants.{DisplayHelp, DisplayVersion, OutOfMemory}
+use Rattle.clap.specs.declared.error.kind.ErrorKind.TheVariants.{DisplayHelp, DisplayVersion}
+use Rattle.clap.specs.declared.error.kind.ErrorKind.TheVariants.{OutOfMemory}
 use Rattle.cfi_programs.specs.Lines.{Line}
 use Rattle.cfi_programs.specs.WriterOutput.{IsBeginning, Writes}
 use Rattle.cfi_files.specs.FileOutputs.{AreLeft, IsNamedCheck, IsOwed}
@@ -23,15 +26,17 @@ use Rattle.cfi_programs.specs.declared.style.Format.{Format}
 use Rattle.cfi.specs.Tasks.{OfRequest, Task, check, of_request, print, task_for, unwind}
 use Rattle.cfi.specs.Words.{asked}
 
--- The files of a system: what a path may be opened to, or none where it can't be opened, and the bytes of an open file,
--- where they are known.
+-- The files of a system: what a path may be opened to, or none where it can't be opened, and the
+-- bytes of an open file, where they are known.
 pub record Disk : Type 1 where
   pub Handle : Type 0
   pub MayOpen : Text → Option Handle → Type 0
   pub bytes_of : Handle → Option (List ℕ)
 
-abbrev pub disk_of : {Handle : Type 0} → (Text → Option Handle → Type 0) → (Handle → Option (List ℕ)) → Disk
-disk_of {Handle} may_open bytes_of = record { Handle = Handle; MayOpen = may_open; bytes_of = bytes_of }
+abbrev pub disk_of :
+    {Handle : Type 0} → (Text → Option Handle → Type 0) → (Handle → Option (List ℕ)) → Disk
+disk_of {Handle} may_open bytes_of =
+    record { Handle = Handle; MayOpen = may_open; bytes_of = bytes_of }
 
 -- nothing is written, and the status is 2
 abbrev pub nothing : Line
@@ -43,20 +48,26 @@ nothing = record { text = []; status = 2 }
 abbrev pub IsPrintOf : (disk : Disk) → OfRequest → Option disk.Handle → Line → Type 0
 IsPrintOf disk what None printed = printed ≡ nothing
 IsPrintOf disk what (Some file) printed =
-    (request : Request) × (bytes : List ℕ) × (of_request request ≡ what) × AreLeft (disk.bytes_of file) bytes × IsOwed request bytes printed
+    (request : Request) × (bytes : List ℕ) × (of_request request ≡ what)
+    × AreLeft (disk.bytes_of file) bytes × IsOwed request bytes printed
 
 abbrev pub IsPrint : Disk → Text → OfRequest → Line → Type 0
-IsPrint disk name what printed = (opened : Option disk.Handle) × disk.MayOpen name opened × IsPrintOf disk what opened printed
+IsPrint disk name what printed =
+    (opened : Option disk.Handle) × disk.MayOpen name opened × IsPrintOf disk what opened printed
 
 -- ---- what checks of files find
 
 -- for the bytes of a file, with its line; a file that can't be opened has no line
 abbrev pub IsCheckOf : (disk : Disk) → Format → Text → Option disk.Handle → Finding → Line → Type 0
 IsCheckOf disk format name None finding printed = (finding ≡ Unreadable) × (printed ≡ nothing)
-IsCheckOf disk format name (Some file) finding printed = (bytes : List ℕ) × AreLeft (disk.bytes_of file) bytes × IsNamedCheck format name bytes finding printed
+IsCheckOf disk format name (Some file) finding printed =
+    (bytes : List ℕ) × AreLeft (disk.bytes_of file) bytes
+    × IsNamedCheck format name bytes finding printed
 
 abbrev pub IsCheck : Disk → Format → Text → Finding → Line → Type 0
-IsCheck disk format name finding printed = (opened : Option disk.Handle) × disk.MayOpen name opened × IsCheckOf disk format name opened finding printed
+IsCheck disk format name finding printed =
+    (opened : Option disk.Handle) × disk.MayOpen name opened
+    × IsCheckOf disk format name opened finding printed
 
 -- what was found in several files, and their lines
 pub record Checks : Type 0 where
@@ -74,32 +85,42 @@ abbrev pub AreChecks : Disk → Format → List Text → Checks → Type 0
 AreChecks disk format [] checks = checks ≡ no_checks
 AreChecks disk format (name ∷ names) checks =
     (finding : Finding) × (printed : Line) × (more : Checks)
-    × IsCheck disk format name finding printed × AreChecks disk format names more × (checks ≡ with_check finding printed.text more)
+    × IsCheck disk format name finding printed × AreChecks disk format names more
+    × (checks ≡ with_check finding printed.text more)
 
 -- the line that counts them
 abbrev pub tally_line : Format → List Finding → List ℕ
-tally_line format found = tally_in format (length found) (count_by has_table found) (count_by is_faithful found) ++ 10 ∷ []
+tally_line format found =
+    tally_in format (length found) (count_by has_table found) (count_by is_faithful found)
+    ++ 10 ∷ []
 
 -- the lines, then their count, with the greatest status
 abbrev pub tallied : Format → Checks → Line
-tallied format checks = record { text = checks.lines ++ tally_line format checks.found; status = greatest_status checks.found }
+tallied format checks = record {
+  text = checks.lines ++ tally_line format checks.found;
+  status = greatest_status checks.found;
+}
 
 abbrev pub AreTallied : Disk → Format → List Text → Line → Type 0
-AreTallied disk format names printed = (checks : Checks) × AreChecks disk format names checks × (printed ≡ tallied format checks)
+AreTallied disk format names printed =
+    (checks : Checks) × AreChecks disk format names checks × (printed ≡ tallied format checks)
 
 -- ---- what is printed of a profile
 
--- the files that it names; none is opened by a name that isn't UTF-8, or if the file isn't a regular one
+-- the files that it names; none is opened by a name that isn't UTF-8, or if the file isn't a
+-- regular one
 abbrev pub MayOpenNamed : (disk : Disk) → List ℕ → Option disk.Handle → Type 0
 MayOpenNamed disk name opened = IsNone opened ⊎ disk.MayOpen name opened
 
 abbrev pub AreStacksOf : (disk : Disk) → Bool → Option disk.Handle → Line → Type 0
 AreStacksOf disk raw None printed = printed ≡ nothing
 AreStacksOf disk raw (Some file) printed =
-    (bytes : List ℕ) × AreLeft (disk.bytes_of file) bytes × IsOwedOfProfile raw (MayOpenNamed disk) disk.bytes_of bytes printed
+    (bytes : List ℕ) × AreLeft (disk.bytes_of file) bytes
+    × IsOwedOfProfile raw (MayOpenNamed disk) disk.bytes_of bytes printed
 
 abbrev pub AreStacks : Disk → Bool → Text → Line → Type 0
-AreStacks disk raw name printed = (opened : Option disk.Handle) × disk.MayOpen name opened × AreStacksOf disk raw opened printed
+AreStacks disk raw name printed =
+    (opened : Option disk.Handle) × disk.MayOpen name opened × AreStacksOf disk raw opened printed
 
 -- ---- a run
 
@@ -117,13 +138,16 @@ IsStatusAfter _ status = status ≡ 2
 -- words that ask for nothing: clap says what is wrong with them, and nothing else is written
 abbrev pub IsExplained : List Text → Line → Type 0
 IsExplained words printed =
-    (kind : ErrorKind) × (names : Bor (List (Bor Text))) × (map (λ name. name.now) names.now ≡ format_names)
-    × ((kind ≡ OutOfMemory) ⊎ IsAmong kind (fault_of (cfi_app names) words)) × (printed.text ≡ []) × IsStatusAfter kind printed.status
+    (kind : ErrorKind) × (names : Bor (List (Bor Text)))
+    × (map (λ name. name.now) names.now ≡ format_names)
+    × ((kind ≡ OutOfMemory) ⊎ IsAmong kind (fault_of (cfi_app names) words)) × (printed.text ≡ [])
+    × IsStatusAfter kind printed.status
 
 -- where memory is refused before there is a command, nothing is written
 abbrev pub IsAnswerTo : Disk → List Text → Option Asked → Line → Type 0
 IsAnswerTo disk words None printed = IsExplained words printed
-IsAnswerTo disk words (Some asked_for) printed = IsAnswer disk (task_for asked_for) printed ⊎ (printed ≡ nothing)
+IsAnswerTo disk words (Some asked_for) printed =
+    IsAnswer disk (task_for asked_for) printed ⊎ (printed ≡ nothing)
 
 -- by the words of the process, none where they can't be had
 abbrev pub IsOutput : Disk → Option (List Text) → Line → Type 0
@@ -133,19 +157,26 @@ IsOutput disk (Some words) printed = IsAnswerTo disk words (asked words) printed
 -- ---- what was written
 
 -- all checks, or a beginning of their lines
-abbrev pub WritesChecks : {E A : Type 0} → Disk → Format → List Text → Option (List ℕ) → Option (List ℕ) → Result (Vec Finding A) E → Type 0
+abbrev pub WritesChecks :
+    {E A : Type 0} → Disk → Format → List Text → Option (List ℕ) → Option (List ℕ) →
+    Result (Vec Finding A) E → Type 0
 WritesChecks disk format names old new result =
-    (checks : Checks) × AreChecks disk format names checks × Writes old new result checks.lines × IfOk result (λ found. found.items ≡ checks.found)
+    (checks : Checks) × AreChecks disk format names checks × Writes old new result checks.lines
+    × IfOk result (λ found. found.items ≡ checks.found)
 
--- all of an output, with its status; or a beginning, with the status 2: the output failed, or memory was refused
+-- all of an output, with its status; or a beginning, with the status 2: the output failed, or
+-- memory was refused
 abbrev pub Ends : Line → Option (List ℕ) → Option (List ℕ) → ℕ → Type 0
 Ends printed old new status =
     (written : List ℕ) × Appends old new written
-    × (((written ≡ printed.text) × (status ≡ printed.status)) ⊎ (IsBeginning written printed.text × (status ≡ 2)))
+    × (((written ≡ printed.text) × (status ≡ printed.status))
+    ⊎ (IsBeginning written printed.text × (status ≡ 2)))
 
 abbrev pub PrintsRun : Disk → Option (List Text) → Option (List ℕ) → Option (List ℕ) → ℕ → Type 0
-PrintsRun disk words old new status = (printed : Line) × IsOutput disk words printed × Ends printed old new status
+PrintsRun disk words old new status =
+    (printed : Line) × IsOutput disk words printed × Ends printed old new status
 
 -- the status once the output is flushed, which may fail
 abbrev pub IsStatusOf : {E : Type 0} → Result ℕ E → ℕ → Type 0
-IsStatusOf printed status = MatchResult printed (λ answered. (status ≡ answered) ⊎ (status ≡ 2)) (λ _. status ≡ 2)
+IsStatusOf printed status =
+    MatchResult printed (λ answered. (status ≡ answered) ⊎ (status ≡ 2)) (λ _. status ≡ 2)

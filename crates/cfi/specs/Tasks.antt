@@ -34,7 +34,8 @@ asking raw what = record { what = what; raw = raw }
 abbrev pub of_request : Request → OfRequest
 of_request request = asking request.raw (of_file request.printed)
 
--- to print something of a file; to check files, in a format; or to print the stacks of a profile, raw or with functions
+-- to print something of a file; to check files, in a format; or to print the stacks of a profile,
+-- raw or with functions
 pub data Task : Type 0 where
   print : Text → OfRequest → Task
   check : List Text → Format → Task

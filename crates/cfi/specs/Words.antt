@@ -1,7 +1,10 @@
 -- What the words of a command line ask for, word by word.
---     given false nothing words      the flags and the arguments among the words after a command's name
+--     given false nothing words      the flags and the arguments among the words after a command's
+--         name
 --     asked words      the command that the words ask for, if any
-use Rattle.std.specs.Prelude.{Bool, true, false, List, [], ◌∷◌, ◌++◌, Option, Some, None, codes, is_some, slice_get, option_and_then, option_map, unwrap_or, if◌then◌else◌}
+use Rattle.std.specs.Prelude.{Bool, true, false, List, [], ◌∷◌, ◌++◌, Option, Some, None, codes}
+use Rattle.std.specs.Prelude.{is_some, slice_get, option_and_then, option_map, unwrap_or}
+use Rattle.std.specs.Prelude.{if◌then◌else◌}
 use Rattle.std.specs.Option.{option_map_or}
 use Rattle.std.specs.Str.{bytes_eq, chars}
 use Rattle.clap.specs.Lexer.{long_of, short_of}
@@ -12,7 +15,8 @@ use Rattle.cfi.specs.CommandLine.{Asked, check, dump, row, rows, table, unwind}
 
 -- ---- what one word is
 
--- a word before `--`: `--raw`; `--format`, with the name that follows an `=`; a flag that no command has; or an argument
+-- a word before `--`: `--raw`; `--format`, with the name that follows an `=`; a flag that no
+-- command has; or an argument
 pub data Word : Type 0 where
   raw_flag : Word
   format_flag : Option Text → Word
@@ -68,7 +72,8 @@ with_arguments words so_far = record so_far { arguments = so_far.arguments ++ wo
 abbrev pub taken : Bool → Word → Text → Given → Option (Bool × Given)
 taken false raw_flag word so_far = option_map (λ given. (false, given)) (with_raw so_far)
 taken false (format_flag None) word so_far = Some (true, so_far)
-taken false (format_flag (Some name)) word so_far = option_map (λ given. (false, given)) (with_format name so_far)
+taken false (format_flag (Some name)) word so_far =
+    option_map (λ given. (false, given)) (with_format name so_far)
 taken false argument word so_far = Some (false, with_arguments (word ∷ []) so_far)
 taken true argument word so_far = option_map (λ given. (false, given)) (with_format word so_far)
 taken _ _ word so_far = None
@@ -77,8 +82,10 @@ taken _ _ word so_far = None
 abbrev pub given : Bool → Given → List Text → Option Given
 given awaits so_far [] = if awaits then None else Some so_far
 given awaits so_far (word ∷ rest) =
-    if bytes_eq word (45 ∷ 45 ∷ []) then (if awaits then None else Some (with_arguments rest so_far))
-    else option_and_then (λ next. given next.0 next.1 rest) (taken awaits (word_of word) word so_far)
+    if bytes_eq word (45 ∷ 45 ∷ []) then
+    (if awaits then None else Some (with_arguments rest so_far))
+    else option_and_then (λ next. given next.0 next.1 rest)
+    (taken awaits (word_of word) word so_far)
 
 -- ---- the commands by their flags and arguments
 

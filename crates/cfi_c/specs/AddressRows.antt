@@ -1,9 +1,12 @@
 -- The row of an address, as C gets it.
---     IsAnswered answer out rules first count      the row with its status and, from `first` on, the rules of the
---         registers below `count`; after an error the number that it carries
---     IsAnswerOf bases bytes header a answer      the row of the address, without a header by a scan of the section
---     IsAnswerForC live bases bytes header a out rules first count      what C gets, with a context or none
-use Rattle.std.specs.Prelude.{◌≡◌, ℕ, pos, Bool, true, false, List, Option, Some, None, Result, Ok, Err}
+--     IsAnswered answer out rules first count      the row with its status and, from `first` on,
+--         the rules of the registers below `count`; after an error the number that it carries
+--     IsAnswerOf bases bytes header a answer      the row of the address, without a header by a
+--         scan of the section
+--     IsAnswerForC live bases bytes header a out rules first count      what C gets, with a context
+--         or none
+use Rattle.std.specs.Prelude.{◌≡◌, ℕ, pos, Bool, true, false, List, Option, Some, None, Result, Ok}
+use Rattle.std.specs.Prelude.{Err}
 use Rattle.cfi_read_core.specs.declared.error.Error.{Error}
 use Rattle.cfi_read_core.specs.declared.error.Error.TheVariants.{UnsupportedAddressSize}
 use Rattle.cfi_read_core.specs.Addresses.{IsAddressSize}
@@ -24,7 +27,8 @@ use Rattle.cfi_c.specs.PassedSections.{section_of, eh_frame_of, header_of}
 use Rattle.cfi_c.specs.WrittenRows.{IsWritten, IsRules}
 
 abbrev pub IsAnswered : Result (Row ℕ) Error → CfiRow → List CfiRule → ℕ → ℕ → Type 0
-IsAnswered (Ok row) out rules first count = (out.status ≡ pos 0) × IsWritten row out × IsRules row rules first count
+IsAnswered (Ok row) out rules first count =
+    (out.status ≡ pos 0) × IsWritten row out × IsRules row rules first count
 IsAnswered (Err e) out rules first count = (out.status ≡ number e) × (out.refused ≡ value e)
 
 -- of the FDE that is found, or the refusal in its place
@@ -34,30 +38,38 @@ IsTableAnswer section header a answer =
     × (answer ≡ answer_by (row_of_fde (Some 192) (Some 4) section a) found)
 
 abbrev pub IsAnswerOf : CfiBases → List ℕ → Option (List ℕ) → ℕ → Result (Row ℕ) Error → Type 0
-IsAnswerOf bases bytes None a answer = answer ≡ row_by_scan (Some 192) (Some 4) (section_of bases bytes) a
-IsAnswerOf bases bytes (Some header) a answer = IsTableAnswer (eh_frame_of bases bytes) (header_of bases header) a answer
+IsAnswerOf bases bytes None a answer =
+    answer ≡ row_by_scan (Some 192) (Some 4) (section_of bases bytes) a
+IsAnswerOf bases bytes (Some header) a answer =
+    IsTableAnswer (eh_frame_of bases bytes) (header_of bases header) a answer
 
 abbrev pub IsSizedAnswer : CfiBases → List ℕ → Option (List ℕ) → ℕ → Result (Row ℕ) Error → Type 0
 IsSizedAnswer bases bytes header a answer =
-    ((IsAddressSize bases.address_size → ⊥) → answer ≡ Err (UnsupportedAddressSize bases.address_size))
+    ((IsAddressSize bases.address_size → ⊥) →
+    answer ≡ Err (UnsupportedAddressSize bases.address_size))
     × (IsAddressSize bases.address_size → IsAnswerOf bases bytes header a answer)
 
 -- the header has a table, and it lists the FDEs of the section faithfully
 abbrev pub IsFaithfulHeader : CfiBases → List ℕ → List ℕ → Type 0
 IsFaithfulHeader bases bytes header =
     (read : headers.Header) × (table : headers.Table) × (eh_frame : ℕ)
-    × (headers.header_of (header_of bases header) ≡ Ok read) × (read.table ≡ Some table) × (read.eh_frame ≡ Direct eh_frame)
+    × (headers.header_of (header_of bases header) ≡ Ok read) × (read.table ≡ Some table)
+    × (read.eh_frame ≡ Direct eh_frame)
     × IsFaithful (header_of bases header) table eh_frame (eh_frame_of bases bytes)
 
 -- the row by a scan of .eh_frame
 abbrev pub IsScanned : CfiBases → List ℕ → ℕ → CfiRow → List CfiRule → ℕ → ℕ → Type 0
-IsScanned bases bytes a out rules first count = IsAnswered (row_by_scan (Some 192) (Some 4) (eh_frame_of bases bytes) a) out rules first count
+IsScanned bases bytes a out rules first count =
+    IsAnswered (row_by_scan (Some 192) (Some 4) (eh_frame_of bases bytes) a) out rules first count
 
 -- 32: there is no context
-abbrev pub IsAnswerForC : Bool → CfiBases → List ℕ → Option (List ℕ) → ℕ → CfiRow → List CfiRule → ℕ → ℕ → Type 0
+abbrev pub IsAnswerForC :
+    Bool → CfiBases → List ℕ → Option (List ℕ) → ℕ → CfiRow → List CfiRule → ℕ → ℕ → Type 0
 IsAnswerForC true bases bytes header a out rules first count =
-    (answer : Result (Row ℕ) Error) × IsSizedAnswer bases bytes header a answer × IsAnswered answer out rules first count
-IsAnswerForC false bases bytes header a out rules first count = (out.status ≡ pos 32) × (out.refused ≡ 0)
+    (answer : Result (Row ℕ) Error) × IsSizedAnswer bases bytes header a answer
+    × IsAnswered answer out rules first count
+IsAnswerForC false bases bytes header a out rules first count =
+    (out.status ≡ pos 32) × (out.refused ≡ 0)
 
 -- whether there is a context
 abbrev pub is_live : {A : Type 0} → Option A → Bool

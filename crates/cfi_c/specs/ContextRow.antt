@@ -1,4 +1,5 @@
--- The checker's description of `UnwindContext<usize, StoreOnHeap>`. It follows the type; another one is refused by `HeldContext`.
+-- The checker's description of `UnwindContext<usize, StoreOnHeap>`. It follows the type; another
+-- one is refused by `HeldContext`.
 use Rattle.cfi_read_core.specs.contracts.common.Register.{the_row as register}
 use Rattle.cfi_read_core.specs.contracts.common.RegisterDefault.TheImpl as register-default
 use Rattle.cfi_read_core.specs.contracts.common.StoreOnHeap.{the_row as store}
@@ -41,16 +42,26 @@ rules = ArrayVec.the_row pair (number 192) unit
 
 abbrev pub context_row : RattleType
 context_row =
-    let empty_pair = pair-default.ghosts register (RegisterRule.the_row usize) register-default.ghosts pair-default.no_dict (rule-default.ghosts usize) pair-default.no_dict in
+    let empty_pair =
+    pair-default.ghosts register (RegisterRule.the_row usize) register-default.ghosts
+    pair-default.no_dict (rule-default.ghosts usize) pair-default.no_dict in
     let rule_list = list.ghosts pair (number 192) empty_pair list.no_dict list.no_dict in
-    let row = UnwindTableRow.the_row usize rules offset.ghosts usize-partial-eq.ghosts usize-ord.ghosts usize-partial-ord.ghosts usize-debug.ghosts rule_list in
-    UnwindContext.the_row usize store rules (Box.the_row (ArrayVec.the_row row (number 4) unit) heap heap-allocator.ghosts)
-    offset.ghosts usize-partial-eq.ghosts usize-ord.ghosts usize-partial-ord.ghosts usize-debug.ghosts rule_list
+    let row =
+    UnwindTableRow.the_row usize rules offset.ghosts usize-partial-eq.ghosts usize-ord.ghosts
+    usize-partial-ord.ghosts usize-debug.ghosts rule_list in
+    UnwindContext.the_row usize store rules
+    (Box.the_row (ArrayVec.the_row row (number 4) unit) heap heap-allocator.ghosts)
+    offset.ghosts usize-partial-eq.ghosts usize-ord.ghosts usize-partial-ord.ghosts
+    usize-debug.ghosts rule_list
     (copies.ghosts pair (number 192)
-    (pair-clone.ghosts register (RegisterRule.the_row usize) (copy.ghosts register) pair-clone.no_dict
-    (rule-clone.ghosts usize usize-clone.ghosts rule-clone.no_dict rule-clone.no_dict) pair-clone.no_dict pair-clone.no_dict pair-clone.no_dict)
+    (pair-clone.ghosts register (RegisterRule.the_row usize) (copy.ghosts register)
+    pair-clone.no_dict
+    (rule-clone.ghosts usize usize-clone.ghosts rule-clone.no_dict rule-clone.no_dict)
+    pair-clone.no_dict pair-clone.no_dict pair-clone.no_dict)
     copies.no_dict empty_pair copies.no_dict)
     (boxed-list.ghosts row (number 4)
-    (row-default.ghosts usize (number 192) offset.ghosts row-default.no_dict usize-clone.ghosts row-default.no_dict usize-eq.ghosts row-default.no_dict
-    usize-partial-eq.ghosts row-default.no_dict usize-ord.ghosts row-default.no_dict usize-partial-ord.ghosts row-default.no_dict usize-debug.ghosts row-default.no_dict)
+    (row-default.ghosts usize (number 192) offset.ghosts row-default.no_dict
+    usize-clone.ghosts row-default.no_dict usize-eq.ghosts row-default.no_dict
+    usize-partial-eq.ghosts row-default.no_dict usize-ord.ghosts row-default.no_dict
+    usize-partial-ord.ghosts row-default.no_dict usize-debug.ghosts row-default.no_dict)
     boxed-list.no_dict boxed-list.no_dict)

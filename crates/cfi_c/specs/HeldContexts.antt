@@ -1,5 +1,6 @@
 -- What the address of a context owns.
---     owned live alloc p      the context at p and the right to give its memory back to the heap, where it is live
+--     owned live alloc p      the context at p and the right to give its memory back to the heap,
+--         where it is live
 use Rattle.std.specs.Prelude.{Bool, true, false}
 use base.Fml.{Fml, ftrue, fex}
 use denote.RawPtr.{Ptr}
@@ -9,5 +10,6 @@ use Rattle.std.specs.contracts.impls.GlobalAllocator.TheImpl.{ghosts}
 use Rattle.cfi_c.specs.ContextRow.{context_row}
 
 abbrev pub owned : Bool → heap.Denot → Ptr → Fml
-owned true alloc p = fex context_row.Denot (λ context. box_owns (ghosts.dealloc_token alloc) context_row p context)
+owned true alloc p =
+    fex context_row.Denot (λ context. box_owns (ghosts.dealloc_token alloc) context_row p context)
 owned false alloc p = ftrue

@@ -1,5 +1,6 @@
 -- What the address of a compiled table owns.
---     owned table alloc p      the table at p and the right to give its memory back to the heap, where there is one
+--     owned table alloc p      the table at p and the right to give its memory back to the heap,
+--         where there is one
 use Rattle.std.specs.Prelude.{Option, Some, None}
 use base.Fml.{Fml, ftrue}
 use denote.RawPtr.{Ptr}

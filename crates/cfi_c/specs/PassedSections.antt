@@ -20,7 +20,12 @@ vendor_of true = vendor.AArch64
 vendor_of false = vendor.Default
 
 abbrev pub source_of : CfiBases → List ℕ → Source
-source_of bases bytes = record { whole = bytes; last = length bytes; big_endian = bases.big_endian; greatest = 0xffffffffffffffff }
+source_of bases bytes = record {
+  whole = bytes;
+  last = length bytes;
+  big_endian = bases.big_endian;
+  greatest = 0xffffffffffffffff;
+}
 
 abbrev pub section_as : SectionKind → CfiBases → List ℕ → Section
 section_as kind bases bytes = record {
@@ -29,7 +34,11 @@ section_as kind bases bytes = record {
   first = 0;
   address_size = bases.address_size;
   vendor = vendor_of bases.aarch64;
-  bases = record { section = Some bases.section; text = Some bases.text; data_base = Some bases.data_base };
+  bases = record {
+    section = Some bases.section;
+    text = Some bases.text;
+    data_base = Some bases.data_base;
+  };
 }
 
 abbrev pub section_of : CfiBases → List ℕ → Section
@@ -45,7 +54,8 @@ header_of bases bytes = record {
   source = source_of bases bytes;
   first = 0;
   address_size = bases.address_size;
-  bases = record { section = Some bases.header; text = Some bases.text; data_base = Some bases.header };
+  bases =
+      record { section = Some bases.header; text = Some bases.text; data_base = Some bases.header };
 }
 
 -- the bytes of a header, where there is one

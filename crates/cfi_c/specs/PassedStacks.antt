@@ -1,7 +1,8 @@
 -- The modules and the stack that C passes.
 --     module_at modules a      the first module whose code the address is in
 --     sized size bases      the bases, with the size of an address that the stack has
---     known_values registers      the values of the registers by their numbers, where they are known
+--     known_values registers      the values of the registers by their numbers, where they are
+--         known
 --     memory_of, abi_of stack      its bytes as memory, and what the ABI says
 use Rattle.std.specs.Prelude.{ℕ, Bool, List, map, take, Option, Some, None, if◌then◌else◌}
 use Rattle.cfi_read_core.specs.SliceReaders.{slice_over}

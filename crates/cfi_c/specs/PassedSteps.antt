@@ -1,6 +1,6 @@
 -- The steps of a walk over what C passes.
---     AreOfStack steps      their memory and ABI are those of the stack, whose size of an address is
---         one, and the modules are in order if they say so
+--     AreOfStack steps      their memory and ABI are those of the stack, whose size of an address
+--         is one, and the modules are in order if they say so
 use Rattle.std.specs.Prelude.{◌≡◌, true}
 use Rattle.cfi_read_core.specs.Addresses.{IsAddressSize}
 use Rattle.cfi_read_core.specs.ByteOrder.{is_big}
@@ -13,6 +13,7 @@ use Rattle.cfi_c.specs.PassedStacks.{abi_of, end_of, memory_of, start_of}
 abbrev pub AreOfStack : PassedSteps → Type 0
 AreOfStack steps =
     IsAddressSize steps.stack.now.address_size
-    × (number_in (slice_position is_big steps.memory.bytes) steps.memory.base ≡ memory_of steps.stack.now)
+    × (number_in (slice_position is_big steps.memory.bytes) steps.memory.base
+    ≡ memory_of steps.stack.now)
     × (steps.abi ≡ abi_of steps.stack.now)
     × (steps.are_in_order ≡ true → are_sorted start_of end_of 0 steps.modules.now ≡ true)

@@ -5,7 +5,19 @@
 use Rattle.std.specs.Prelude.{ℕ, ℤ, pos, negsuc, List, [], ◌∷◌, ◌++◌, map, codes, slice_index_or}
 use Rattle.cfi_read_core.specs.RefusalNames.{errors, name_of, number_of}
 use Rattle.cfi_read_core.specs.declared.error.Error.{Error}
-use Rattle.cfi_read_core.specs.declared.error.Error.TheVariants.{UnexpectedEof, UnknownReservedLength, UnsupportedAddressSize, UnsupportedRegister, UnknownVersion, UnsupportedSegmentSize, UnknownPointerEncoding, UnsupportedPointerEncoding, NotCieId, NotCiePointer, NoEntryAtGivenOffset, OffsetOutOfBounds, UnknownCallFrameInstruction, InvalidCfiSetLoc}
+use Rattle.cfi_read_core.specs.declared.error.Error.TheVariants.{UnexpectedEof}
+use Rattle.cfi_read_core.specs.declared.error.Error.TheVariants.{UnknownReservedLength}
+use Rattle.cfi_read_core.specs.declared.error.Error.TheVariants.{UnsupportedAddressSize}
+use Rattle.cfi_read_core.specs.declared.error.Error.TheVariants.{UnsupportedRegister}
+use Rattle.cfi_read_core.specs.declared.error.Error.TheVariants.{UnknownVersion}
+use Rattle.cfi_read_core.specs.declared.error.Error.TheVariants.{UnsupportedSegmentSize}
+use Rattle.cfi_read_core.specs.declared.error.Error.TheVariants.{UnknownPointerEncoding}
+use Rattle.cfi_read_core.specs.declared.error.Error.TheVariants.{UnsupportedPointerEncoding}
+use Rattle.cfi_read_core.specs.declared.error.Error.TheVariants.{NotCieId, NotCiePointer}
+use Rattle.cfi_read_core.specs.declared.error.Error.TheVariants.{NoEntryAtGivenOffset}
+use Rattle.cfi_read_core.specs.declared.error.Error.TheVariants.{OffsetOutOfBounds}
+use Rattle.cfi_read_core.specs.declared.error.Error.TheVariants.{UnknownCallFrameInstruction}
+use Rattle.cfi_read_core.specs.declared.error.Error.TheVariants.{InvalidCfiSetLoc}
 
 abbrev pub number : Error → ℤ
 number e = pos (number_of e)

@@ -1,9 +1,13 @@
 -- The frames of a stack, as C gets them.
---     IsStepInModule stack loaded s step caller      a step from a frame of a module's code, by the FDE that the module's sections have for it
---     IsWalkForC modules stack s frames end registers caller      the frames from s on, and why there are no more
+--     IsStepInModule stack loaded s step caller      a step from a frame of a module's code, by the
+--         FDE that the module's sections have for it
+--     IsWalkForC modules stack s frames end registers caller      the frames from s on, and why
+--         there are no more
 --     written_end end      why there are no more, as C gets it
---     IsUnwound live modules stack pc registers frames new count end      what C gets, with a context or none
-use Rattle.std.specs.Prelude.{◌≡◌, ℕ, pos, Bool, true, false, List, take, Option, Some, None, Result, Ok, Err, IfOk}
+--     IsUnwound live modules stack pc registers frames new count end      what C gets, with a
+--         context or none
+use Rattle.std.specs.Prelude.{◌≡◌, ℕ, pos, Bool, true, false, List, take, Option, Some, None}
+use Rattle.std.specs.Prelude.{Result, Ok, Err, IfOk}
 use Rattle.std.specs.Int.{w16, cast_unsigned}
 use Rattle.cfi_read_core.specs.declared.error.Error.{Error}
 use Rattle.cfi_read_core.specs.declared.error.Error.TheVariants.{UnsupportedAddressSize}
@@ -39,18 +43,23 @@ use Rattle.cfi_c.specs.PassedStacks.{abi_of, known_values, memory_of, module_at,
 abbrev pub IsFdeBy : CfiBases → List ℕ → Option (List ℕ) → ℕ → Result Fde Error → Type 0
 IsFdeBy bases bytes None a found = found ≡ chosen_fde (eh_frame_of bases bytes) a
 IsFdeBy bases bytes (Some header) a found =
-    FoundByHeader (eh_frame_of bases bytes) a (header_of bases header) (headers.header_of (header_of bases header)) found
+    FoundByHeader (eh_frame_of bases bytes) a (header_of bases header)
+    (headers.header_of (header_of bases header)) found
 
 module _ (stack : CfiStack) where
   abbrev pub frame_of : State → Frame
-  frame_of s = record { registers = s.registers; memory = memory_of stack; size = stack.address_size }
+  frame_of s =
+      record { registers = s.registers; memory = memory_of stack; size = stack.address_size }
 
-  abbrev pub IsStepInModule : CfiModule → State → Result Caller FrameError → List (Option ℕ) → Type 0
+  abbrev pub IsStepInModule :
+      CfiModule → State → Result Caller FrameError → List (Option ℕ) → Type 0
   IsStepInModule loaded s step caller =
       let bases = sized stack.address_size loaded.bases in
-      (found : Result Fde Error) × IsFdeBy bases loaded.section.now (header_in loaded.header.now) (address_of s) found
+      (found : Result Fde Error)
+      × IsFdeBy bases loaded.section.now (header_in loaded.header.now) (address_of s) found
       × IfOk found (λ fde. Covers fde (address_of s))
-      × IsStepBy (frame_of s) (slice_over loaded.section.now loaded.bases.big_endian) (abi_of stack) (λ n. n) (Some 192) (Some 4) true
+      × IsStepBy (frame_of s) (slice_over loaded.section.now loaded.bases.big_endian) (abi_of stack)
+      (λ n. n) (Some 192) (Some 4) true
       (eh_frame_of bases loaded.section.now) (address_of s) found step caller
 
   abbrev pub IsStepForC : List CfiModule → State → Result Caller End → List (Option ℕ) → Type 0
@@ -60,8 +69,10 @@ module _ (stack : CfiStack) where
 
 -- without a CFA it is 0
 abbrev pub frame_with : StackFrame → Option ℕ → CfiFrame
-frame_with frame None = record { pc = frame.pc; cfa = 0; has_cfa = false; is_interrupted = frame.is_interrupted }
-frame_with frame (Some cfa) = record { pc = frame.pc; cfa = cfa; has_cfa = true; is_interrupted = frame.is_interrupted }
+frame_with frame None =
+    record { pc = frame.pc; cfa = 0; has_cfa = false; is_interrupted = frame.is_interrupted }
+frame_with frame (Some cfa) =
+    record { pc = frame.pc; cfa = cfa; has_cfa = true; is_interrupted = frame.is_interrupted }
 
 abbrev pub written_frame : StackFrame → CfiFrame
 written_frame frame = frame_with frame frame.cfa
@@ -69,7 +80,9 @@ written_frame frame = frame_with frame frame.cfa
 abbrev pub frame_by : Start → Result Caller End → CfiFrame
 frame_by at step = written_frame (written at step)
 
-abbrev pub IsWalkForC : List CfiModule → CfiStack → State → List CfiFrame → End → List (Option ℕ) → List (Option ℕ) → Type 0
+abbrev pub IsWalkForC :
+    List CfiModule → CfiStack → State → List CfiFrame → End → List (Option ℕ) → List (Option ℕ) →
+    Type 0
 IsWalkForC modules stack = IsWalkBy frame_by (IsStepForC stack modules)
 
 -- ---- why there are no more
@@ -105,14 +118,23 @@ written_end (ends.Failed e) = failed_end e
 -- ---- a walk
 
 -- the frames from the innermost one on, whose registers are these; behind them nothing is written
-abbrev pub IsWalkTo : End → List CfiModule → CfiStack → ℕ → List (Option ℕ) → List CfiFrame → List CfiFrame → ℕ → Type 0
+abbrev pub IsWalkTo :
+    End → List CfiModule → CfiStack → ℕ → List (Option ℕ) → List CfiFrame → List CfiFrame → ℕ →
+    Type 0
 IsWalkTo end modules stack pc registers frames new count =
     ((left : List (Option ℕ)) × (caller : List (Option ℕ))
-    × IsWalkForC modules stack (record { at = record { pc = pc; is_interrupted = true; callee_cfa = None }; registers = registers; caller = registers })
+    × IsWalkForC modules stack
+    (record {
+      at = record { pc = pc; is_interrupted = true; callee_cfa = None };
+      registers = registers;
+      caller = registers;
+    })
     (take count new) end left caller)
     × AreWritten (record { count = count; end = end }) frames new
 
-abbrev pub IsWalked : List CfiModule → CfiStack → ℕ → List (Option ℕ) → List CfiFrame → List CfiFrame → ℕ → CfiEnd → Type 0
+abbrev pub IsWalked :
+    List CfiModule → CfiStack → ℕ → List (Option ℕ) → List CfiFrame → List CfiFrame → ℕ → CfiEnd →
+    Type 0
 IsWalked modules stack pc registers frames new count out =
     (end : End) × IsWalkTo end modules stack pc registers frames new count × (out ≡ written_end end)
 
@@ -123,8 +145,13 @@ IsRefused due frames new count out = (count ≡ 0) × (new ≡ frames) × (out �
 abbrev pub no_context : CfiEnd
 no_context = record { refused = 0; kind = 16; status = pos 32 }
 
-abbrev pub IsUnwound : Bool → List CfiModule → CfiStack → ℕ → List CfiValue → List CfiFrame → List CfiFrame → ℕ → CfiEnd → Type 0
-IsUnwound false modules stack pc registers frames new count out = IsRefused no_context frames new count out
+abbrev pub IsUnwound :
+    Bool → List CfiModule → CfiStack → ℕ → List CfiValue → List CfiFrame → List CfiFrame → ℕ →
+    CfiEnd → Type 0
+IsUnwound false modules stack pc registers frames new count out =
+    IsRefused no_context frames new count out
 IsUnwound true modules stack pc registers frames new count out =
-    ((IsAddressSize stack.address_size → ⊥) → IsRefused (refused_end 16 (UnsupportedAddressSize stack.address_size)) frames new count out)
-    × (IsAddressSize stack.address_size → IsWalked modules stack pc (known_values registers) frames new count out)
+    ((IsAddressSize stack.address_size → ⊥) →
+    IsRefused (refused_end 16 (UnsupportedAddressSize stack.address_size)) frames new count out)
+    × (IsAddressSize stack.address_size →
+    IsWalked modules stack pc (known_values registers) frames new count out)

@@ -1,11 +1,14 @@
 -- Compiled tables, as C gets them.
 --     table_in table      what the table that C holds has for the addresses, or none
---     IsTableMade bases bytes old status new      the table of the section; or the one that was there, with a status
---     IsTableRow table a out rules      the row of the address with its rules, or the error, with a table or none
+--     IsTableMade bases bytes old status new      the table of the section; or the one that was
+--         there, with a status
+--     IsTableRow table a out rules      the row of the address with its rules, or the error, with a
+--         table or none
 use Rattle.std.specs.Prelude.{◌≡◌, ◌⊎◌, ℕ, ℤ, pos, List, length, Option, Some, None}
 use Rattle.cfi_read_core.specs.Addresses.{IsAddressSize}
 use Rattle.cfi_read_core.specs.ReaderCalls.{map_ok}
-use Rattle.cfi_read_core.specs.declared.error.Error.TheVariants.{UnsupportedAddressSize, OutOfMemory}
+use Rattle.cfi_read_core.specs.declared.error.Error.TheVariants.{UnsupportedAddressSize}
+use Rattle.cfi_read_core.specs.declared.error.Error.TheVariants.{OutOfMemory}
 use Rattle.gimli_cfi.specs.Words.{Row, Parts}
 use Rattle.cfi_compiled.specs.CompiledTables.{TableContents, IsCompiled, parts_at}
 use Rattle.cfi_c.specs.declared.CfiBases.{CfiBases}
@@ -26,16 +29,20 @@ abbrev pub IsTableOf : CfiBases → List ℕ → TableContents → Type 0
 IsTableOf bases bytes table = IsCompiled (Some 192) (Some 4) (section_of bases bytes) table
 
 abbrev pub IsMade : CfiBases → List ℕ → ℤ → Option TableContents → Type 0
-IsMade bases bytes status new = (table : TableContents) × (status ≡ pos 0) × (new ≡ Some table) × IsTableOf bases bytes table
+IsMade bases bytes status new =
+    (table : TableContents) × (status ≡ pos 0) × (new ≡ Some table) × IsTableOf bases bytes table
 
 -- nothing is written
 abbrev pub IsLeft : Option TableContents → ℤ → ℤ → Option TableContents → Type 0
 IsLeft old due status new = (status ≡ due) × (new ≡ old)
 
-abbrev pub IsTableMade : CfiBases → List ℕ → Option TableContents → ℤ → Option TableContents → Type 0
+abbrev pub IsTableMade :
+    CfiBases → List ℕ → Option TableContents → ℤ → Option TableContents → Type 0
 IsTableMade bases bytes old status new =
-    ((IsAddressSize bases.address_size → ⊥) → IsLeft old (number (UnsupportedAddressSize bases.address_size)) status new)
-    × (IsAddressSize bases.address_size → IsMade bases bytes status new ⊎ IsLeft old (number OutOfMemory) status new)
+    ((IsAddressSize bases.address_size → ⊥) →
+    IsLeft old (number (UnsupportedAddressSize bases.address_size)) status new)
+    × (IsAddressSize bases.address_size →
+    IsMade bases bytes status new ⊎ IsLeft old (number OutOfMemory) status new)
 
 -- ---- and asked
 
@@ -45,5 +52,6 @@ unplaced parts = record { start_address = 0; end_address = 0; parts = parts }
 
 -- 33: there is no table
 abbrev pub IsTableRow : Option TableContents → ℕ → CfiRow → List CfiRule → Type 0
-IsTableRow (Some table) a out rules = IsAnswered (map_ok unplaced (parts_at table a)) out rules 0 (length rules)
+IsTableRow (Some table) a out rules =
+    IsAnswered (map_ok unplaced (parts_at table a)) out rules 0 (length rules)
 IsTableRow None a out rules = (out.status ≡ pos 33) × (out.refused ≡ 0)

@@ -2,7 +2,8 @@
 --     IsWritten row out      a row but for its rules
 --     written_rule rule      the rule of a register
 --     IsRules row rules first count      from `first` on, the rules of the registers below `count`
-use Rattle.std.specs.Prelude.{◌≡◌, ◌⊎◌, ℕ, ◌+◌, ◌<◌, ◌≤◌, ℤ, pos, List, length, nat_le, Option, Some, None, slice_index_or, if◌then◌else◌}
+use Rattle.std.specs.Prelude.{◌≡◌, ◌⊎◌, ℕ, ◌+◌, ◌<◌, ◌≤◌, ℤ, pos, List, length, nat_le, Option}
+use Rattle.std.specs.Prelude.{Some, None, slice_index_or, if◌then◌else◌}
 use Rattle.std.specs.FinMap as map
 use Rattle.cfi_state.specs.declared.table.rules.CfaRule.{CfaRule}
 use Rattle.cfi_state.specs.declared.table.rules.CfaRule.TheVariants as cfa
@@ -16,12 +17,15 @@ use Rattle.cfi_c.specs.Refusals.{value}
 -- ---- a row
 
 abbrev pub IsCfa : CfaRule ℕ → CfiRow → Type 0
-IsCfa (cfa.RegisterAndOffset r offset) out = (out.cfa_kind ≡ 0) × (out.cfa_register ≡ r.0) × (out.cfa_offset ≡ offset)
-IsCfa (cfa.Expression e) out = (out.cfa_kind ≡ 1) × (out.cfa_place ≡ e.offset) × (out.cfa_length ≡ e.length)
+IsCfa (cfa.RegisterAndOffset r offset) out =
+    (out.cfa_kind ≡ 0) × (out.cfa_register ≡ r.0) × (out.cfa_offset ≡ offset)
+IsCfa (cfa.Expression e) out =
+    (out.cfa_kind ≡ 1) × (out.cfa_place ≡ e.offset) × (out.cfa_length ≡ e.length)
 
 abbrev pub IsWritten : Row ℕ → CfiRow → Type 0
 IsWritten row out =
-    (out.start ≡ row.start_address) × (out.end ≡ row.end_address) × (out.args_size ≡ row.parts.args_size)
+    (out.start ≡ row.start_address) × (out.end ≡ row.end_address)
+    × (out.args_size ≡ row.parts.args_size)
     × (out.refused ≡ 0) × IsCfa row.parts.cfa out
 
 -- ---- its rules
@@ -30,7 +34,8 @@ abbrev pub plain_rule : ℕ → ℤ → CfiRule
 plain_rule kind value = record { kind = kind; value = value; place = 0; length = 0 }
 
 abbrev pub placed_rule : ℕ → ℕ → ℕ → CfiRule
-placed_rule kind place length = record { kind = kind; value = pos 0; place = place; length = length }
+placed_rule kind place length =
+    record { kind = kind; value = pos 0; place = place; length = length }
 
 abbrev pub written_rule : Option (RegisterRule ℕ) → CfiRule
 written_rule None = plain_rule 0 (pos 0)
@@ -52,8 +57,10 @@ abbrev pub rule_in : List CfiRule → ℕ → CfiRule
 rule_in rules k = slice_index_or rules k (written_rule None)
 
 abbrev pub IsRules : Row ℕ → List CfiRule → ℕ → ℕ → Type 0
-IsRules row rules first count = (k : ℕ) → k < count → rule_in rules (first + k) ≡ written_rule (rule_at row k)
+IsRules row rules first count =
+    (k : ℕ) → k < count → rule_in rules (first + k) ≡ written_rule (rule_at row k)
 
 -- the rules before `first`, and those from `first + count` on
 abbrev pub SameAround : ℕ → ℕ → List CfiRule → List CfiRule → Type 0
-SameAround first count old new = (k : ℕ) → (k < first) ⊎ (first + count ≤ k) → rule_in new k ≡ rule_in old k
+SameAround first count old new =
+    (k : ℕ) → (k < first) ⊎ (first + count ≤ k) → rule_in new k ≡ rule_in old k

@@ -1,5 +1,5 @@
--- The sections of call frames in an ELF file, with what the headers of the file say of each (LSB Core, "Exception
--- Frames", "The .eh_frame_hdr section"; DWARF 5 section 6.4).
+-- The sections of call frames in an ELF file, with what the headers of the file say of each (LSB
+-- Core, "Exception Frames", "The .eh_frame_hdr section"; DWARF 5 section 6.4).
 --     eh_frame_of file      .eh_frame, by its name or else by the segment of its header
 --     debug_frame_of file      .debug_frame
 use Rattle.std.specs.Prelude.{ℕ, List, [], Option, Some, None, Result, Ok, Err, option_map, codes}
@@ -26,14 +26,16 @@ pub record Frames : Type 0 where
 
 -- what call frames of the code are
 abbrev pub frames_view : CallFrames → Frames
-frames_view frames = record { words = frames.words; section = frames.section.now; header = frames.header.now }
+frames_view frames =
+    record { words = frames.words; section = frames.section.now; header = frames.header.now }
 
 infixl 10 ◌>>=◌
 abbrev pub ◌>>=◌ : {A B : Type 0} → Result A ElfError → (A → Result B ElfError) → Result B ElfError
 given >>= next = and_then given next
 
 -- what comes of a thing that is there
-abbrev pub if_there : {A B : Type 0} → Option A → (A → Result (Option B) ElfError) → Result (Option B) ElfError
+abbrev pub if_there :
+    {A B : Type 0} → Option A → (A → Result (Option B) ElfError) → Result (Option B) ElfError
 if_there None next = Ok None
 if_there (Some x) next = next x
 
@@ -52,12 +54,17 @@ words_of file kind = record {
 
 -- those of .eh_frame at an address, with its bases
 abbrev pub eh_frame_words : File → ℕ → Option ℕ → Option ℕ → SectionWords
-eh_frame_words file address text base = record (words_of file EhFrame) { section = Some address; text = text; data_base = base }
+eh_frame_words file address text base =
+    record (words_of file EhFrame) { section = Some address; text = text; data_base = base }
 
 -- with the section of the header, if there is one
 abbrev pub with_header : SectionWords → List ℕ → Option Section → Frames
 with_header words bytes None = record { words = words; section = bytes; header = [] }
-with_header words bytes (Some header) = record { words = record words { header = Some header.address }; section = bytes; header = header.bytes }
+with_header words bytes (Some header) = record {
+  words = record words { header = Some header.address };
+  section = bytes;
+  header = header.bytes;
+}
 
 -- ---- .eh_frame by its name
 
@@ -87,16 +94,20 @@ pointed_to (Ok header) = result_ok (direct header.eh_frame)
 pointed_to (Err e) = None
 
 abbrev pub eh_frame_address : SectionWords → Section → Option ℕ
-eh_frame_address words header = pointed_to (header_of (header_section_of words header.address header.bytes))
+eh_frame_address words header =
+    pointed_to (header_of (header_section_of words header.address header.bytes))
 
 -- what is loaded from an address on, with the header
 abbrev pub loaded_frames : File → Section → ℕ → Result (Option Frames) ElfError
 loaded_frames file header address = do
   loaded ← loaded_bytes file address
-  Ok (option_map (λ bytes. with_header (eh_frame_words file address None None) bytes (Some header)) loaded)
+  Ok
+      (option_map (λ bytes. with_header (eh_frame_words file address None None) bytes (Some header))
+      loaded)
 
 unfoldable pub frames_by_header : File → Section → Result (Option Frames) ElfError
-frames_by_header file header = if_there (eh_frame_address (words_of file EhFrame) header) (loaded_frames file header)
+frames_by_header file header =
+    if_there (eh_frame_address (words_of file EhFrame) header) (loaded_frames file header)
 
 unfoldable pub frames_by_segment : File → Result (Option Frames) ElfError
 frames_by_segment file = do
@@ -117,4 +128,8 @@ eh_frame_of file = section_named file (codes ".eh_frame") >>= by_name_or_segment
 unfoldable pub debug_frame_of : File → Result (Option Frames) ElfError
 debug_frame_of file = do
   found ← debug_frame file
-  Ok (option_map (λ section. record { words = words_of file DebugFrame; section = section.bytes; header = [] }) found)
+  Ok
+      (option_map
+      (λ section.
+      record { words = words_of file DebugFrame; section = section.bytes; header = [] })
+      found)

@@ -1,8 +1,10 @@
 -- What is printed of a compiled table.
---     IsCompiledText names section line      the steps of a table of the section, or that memory was refused
+--     IsCompiledText names section line      the steps of a table of the section, or that memory
+--         was refused
 --     step_text names start parts      the line of a step: its first address, and what it has
 --     steps_text names steps      a line for each step
-use Rattle.std.specs.Prelude.{◌≡◌, ◌⊎◌, ℕ, List, [], ◌∷◌, ◌++◌, Some, Result, Ok, Err, codes, flat_map}
+use Rattle.std.specs.Prelude.{◌≡◌, ◌⊎◌, ℕ, List, [], ◌∷◌, ◌++◌, Some, Result, Ok, Err, codes}
+use Rattle.std.specs.Prelude.{flat_map}
 use Rattle.std.specs.Fmt.{decimal}
 use Rattle.cfi_read_core.specs.declared.error.Error.{Error}
 use Rattle.cfi_read_core.specs.declared.error.Error.TheVariants.{OutOfMemory}
@@ -20,22 +22,29 @@ use Rattle.cfi_programs.specs.declared.register_names.RegisterNames.{RegisterNam
 
 -- what comes before the rules
 abbrev pub step_head : RegisterNames → ℕ → Parts ℕ → List ℕ
-step_head names start parts = address_text start ++ codes " cfa=" ++ cfa_text names parts.cfa ++ codes " args=" ++ decimal parts.args_size
+step_head names start parts =
+    address_text start ++ codes " cfa=" ++ cfa_text names parts.cfa ++ codes " args="
+    ++ decimal parts.args_size
 
 abbrev pub error_text : ℕ → Error → List ℕ
 error_text start error = address_text start ++ codes " refused " ++ name_of error ++ 10 ∷ []
 
 abbrev pub step_text : RegisterNames → ℕ → Result (Parts ℕ) Error → List ℕ
-step_text names start (Ok parts) = (step_head names start parts ++ parts_rules names parts) ++ 10 ∷ []
+step_text names start (Ok parts) =
+    (step_head names start parts ++ parts_rules names parts) ++ 10 ∷ []
 step_text names start (Err error) = error_text start error
 
 unfoldable pub steps_text : RegisterNames → List Step → List ℕ
-steps_text names steps = flat_map (λ step. step_text names step.start (parts_of_frame step.frame)) steps
+steps_text names steps =
+    flat_map (λ step. step_text names step.start (parts_of_frame step.frame)) steps
 
--- the steps of a table that has for every address what the scan gives, in a storage of 192 rules and 4 rows
+-- the steps of a table that has for every address what the scan gives, in a storage of 192 rules
+-- and 4 rows
 abbrev pub AreStepsOf : RegisterNames → Section → Line → Type 0
 AreStepsOf names section printed =
-    (table : TableContents) × IsCompiled (Some 192) (Some 4) section table × (printed ≡ text_output (steps_text names (steps_of table)))
+    (table : TableContents) × IsCompiled (Some 192) (Some 4) section table
+    × (printed ≡ text_output (steps_text names (steps_of table)))
 
 abbrev pub IsCompiledText : RegisterNames → Section → Line → Type 0
-IsCompiledText names section printed = AreStepsOf names section printed ⊎ (printed ≡ refusal_in Text OutOfMemory)
+IsCompiledText names section printed =
+    AreStepsOf names section printed ⊎ (printed ≡ refusal_in Text OutOfMemory)

@@ -45,7 +45,8 @@ under front printed = record { text = front ++ printed.text; status = printed.st
 
 -- two outputs, with the greater status
 abbrev pub in_turn : Line → Line → Line
-in_turn first second = record { text = first.text ++ second.text; status = max first.status second.status }
+in_turn first second =
+    record { text = first.text ++ second.text; status = max first.status second.status }
 
 -- an output of which something holds, behind a text
 abbrev pub IsUnder : List ℕ → (Line → Type 0) → Line → Type 0
@@ -53,10 +54,13 @@ IsUnder front Is printed = (body : Line) × Is body × (printed ≡ under front 
 
 -- an output of which one thing holds, and then one of which another does
 abbrev pub InTurn : (Line → Type 0) → (Line → Type 0) → Line → Type 0
-InTurn IsFirst IsSecond printed = (first : Line) × (second : Line) × IsFirst first × IsSecond second × (printed ≡ in_turn first second)
+InTurn IsFirst IsSecond printed =
+    (first : Line) × (second : Line) × IsFirst first × IsSecond second
+    × (printed ≡ in_turn first second)
 
 -- ---- what a writer was given
 
 -- an output of which something holds, all of it or a beginning
-abbrev pub PrintsSome : {E : Type 0} → (Line → Type 0) → Option (List ℕ) → Option (List ℕ) → Result ℕ E → Type 0
+abbrev pub PrintsSome :
+    {E : Type 0} → (Line → Type 0) → Option (List ℕ) → Option (List ℕ) → Result ℕ E → Type 0
 PrintsSome Is old new result = (printed : Line) × Prints printed old new result × Is printed

@@ -1,10 +1,14 @@
 -- Which output is right for the bytes of a file.
 --     IsOutput request bytes line      what is printed of these bytes
 --     IsOwed request bytes line      the same, or that there was no memory or no input
---     IsNamedCheck format name bytes finding line      what the check of a file finds, and its line behind the name of the file
---     PrintsOwed request input old new result      what is owed for the bytes of an input was written, with its status
---     ChecksNamed format name input old new result      the check of an input, and its line, was written
-use Rattle.std.specs.Prelude.{◌≡◌, ◌⊎◌, ℕ, List, ◌++◌, Option, Some, None, Result, Ok, Err, IfSome, codes}
+--     IsNamedCheck format name bytes finding line      what the check of a file finds, and its line
+--         behind the name of the file
+--     PrintsOwed request input old new result      what is owed for the bytes of an input was
+--         written, with its status
+--     ChecksNamed format name input old new result      the check of an input, and its line, was
+--         written
+use Rattle.std.specs.Prelude.{◌≡◌, ◌⊎◌, ℕ, List, ◌++◌, Option, Some, None, Result, Ok, Err, IfSome}
+use Rattle.std.specs.Prelude.{codes}
 use Rattle.std.specs.Borrow.{Bor}
 use Rattle.cfi_elf.specs.declared.error.ElfError.{ElfError}
 use Rattle.cfi_elf.specs.declared.function_names.FunctionNames.{FunctionNames}
@@ -36,7 +40,9 @@ use Rattle.cfi_files.specs.declared.sections.SectionPrinted.{SectionPrinted}
 use Rattle.cfi_files.specs.declared.sections.SectionPrinted.TheVariants as sections
 use Rattle.cfi_files.specs.CallFrames.{Frames}
 use Rattle.cfi_files.specs.CompiledTexts.{IsCompiledText}
-use Rattle.cfi_files.specs.FileLines.{IsUnder, InTurn, PrintsSome, elf_refusal, file_label, no_address, no_call_frames, out_of_memory, section_line, wrong_input}
+use Rattle.cfi_files.specs.FileLines.{IsUnder, InTurn, PrintsSome, elf_refusal, file_label}
+use Rattle.cfi_files.specs.FileLines.{no_address, no_call_frames, out_of_memory, section_line}
+use Rattle.cfi_files.specs.FileLines.{wrong_input}
 use Rattle.cfi_files.specs.Found.{debug_frame_in, eh_frame_in}
 use Rattle.cfi_files.specs.RowOutputs.{AreWordLines}
 use Rattle.cfi_files.specs.MachineNames.{names_in}
@@ -56,58 +62,78 @@ IsOfSection names sections.Compiled section printed = IsCompiledText names secti
 
 -- what is printed of a section
 abbrev pub IsPart : RegisterNames → SectionPrinted → Result Frames ElfError → Line → Type 0
-IsPart names what (Ok frames) printed = IsOfSection names what (section_of frames.words frames.section) printed
+IsPart names what (Ok frames) printed =
+    IsOfSection names what (section_of frames.words frames.section) printed
 IsPart names what (Err e) printed = printed ≡ elf_refusal (section_format what) e
 
 -- that of .eh_frame and of .debug_frame, where there are both each under a line with its name
-abbrev pub AreParts : RegisterNames → SectionPrinted → Option (Result Frames ElfError) → Option (Result Frames ElfError) → Line → Type 0
+abbrev pub AreParts :
+    RegisterNames → SectionPrinted → Option (Result Frames ElfError) →
+    Option (Result Frames ElfError) → Line → Type 0
 AreParts names what None None printed = printed ≡ no_call_frames (section_format what)
 AreParts names what (Some eh_frame) None printed = IsPart names what eh_frame printed
 AreParts names what None (Some debug_frame) printed = IsPart names what debug_frame printed
 AreParts names what (Some eh_frame) (Some debug_frame) printed =
-    InTurn (IsUnder (section_line (section_format what) (codes ".eh_frame")) (IsPart names what eh_frame)) (IsUnder (section_line (section_format what) (codes ".debug_frame")) (IsPart names what debug_frame)) printed
+    InTurn
+    (IsUnder (section_line (section_format what) (codes ".eh_frame"))
+    (IsPart names what eh_frame))
+    (IsUnder (section_line (section_format what) (codes ".debug_frame"))
+    (IsPart names what debug_frame))
+    printed
 
 abbrev pub AreSections : RegisterNames → SectionPrinted → File → Line → Type 0
-AreSections names what file printed = AreParts names what (eh_frame_in file) (debug_frame_in file) printed
+AreSections names what file printed =
+    AreParts names what (eh_frame_in file) (debug_frame_in file) printed
 
 -- ---- whether the header's table is faithful
 
 -- by the header at this address
 abbrev pub IsVerdictOf : Format → Frames → ℕ → Finding → Line → Type 0
 IsVerdictOf format frames address finding printed =
-    (verdict : Verdict) × IsVerdict (section_of frames.words frames.section) (header_section_of frames.words address frames.header) verdict
+    (verdict : Verdict)
+    × IsVerdict (section_of frames.words frames.section)
+    (header_section_of frames.words address frames.header) verdict
     × (finding ≡ finding_of verdict) × (printed ≡ verdict_line format verdict)
 
 -- without a verdict, for a reason
 abbrev pub IsFound : Format → Finding → List ℕ → Finding → Line → Type 0
-IsFound format what reason finding printed = (finding ≡ what) × (printed ≡ found_line format what reason)
+IsFound format what reason finding printed =
+    (finding ≡ what) × (printed ≡ found_line format what reason)
 
 abbrev pub refused : List ℕ → List ℕ
 refused name = codes "refused " ++ name
 
 abbrev pub IsVerdictIn : Format → Frames → Option ℕ → Finding → Line → Type 0
-IsVerdictIn format frames None finding printed = IsFound format NoTable (codes "no header") finding printed
-IsVerdictIn format frames (Some address) finding printed = IsVerdictOf format frames address finding printed
+IsVerdictIn format frames None finding printed =
+    IsFound format NoTable (codes "no header") finding printed
+IsVerdictIn format frames (Some address) finding printed =
+    IsVerdictOf format frames address finding printed
 
 abbrev pub IsCheck : Format → Option (Result Frames ElfError) → Finding → Line → Type 0
-IsCheck format None finding printed = IsFound format NoTable (codes "no call frames") finding printed
-IsCheck format (Some (Ok frames)) finding printed = IsVerdictIn format frames frames.words.header finding printed
-IsCheck format (Some (Err e)) finding printed = IsFound format NoTable (refused (name_of_elf e)) finding printed
+IsCheck format None finding printed =
+    IsFound format NoTable (codes "no call frames") finding printed
+IsCheck format (Some (Ok frames)) finding printed =
+    IsVerdictIn format frames frames.words.header finding printed
+IsCheck format (Some (Err e)) finding printed =
+    IsFound format NoTable (refused (name_of_elf e)) finding printed
 
 -- of a file
 abbrev pub IsCheckOfParsed : Format → Result File ElfError → Finding → Line → Type 0
 IsCheckOfParsed format (Ok file) finding printed = IsCheck format (eh_frame_in file) finding printed
-IsCheckOfParsed format (Err e) finding printed = IsFound format NoTable (refused (name_of_elf e)) finding printed
+IsCheckOfParsed format (Err e) finding printed =
+    IsFound format NoTable (refused (name_of_elf e)) finding printed
 
 -- or that there was no memory, or the input can't be read
 abbrev pub IsCheckOfInput : Format → List ℕ → Finding → Line → Type 0
 IsCheckOfInput format bytes finding printed =
     IsCheckOfParsed format (elf_file bytes) finding printed
-    ⊎ (IsFound format NoTable (refused (name_of OutOfMemory)) finding printed ⊎ IsFound format Unreadable (codes "wrong input") finding printed)
+    ⊎ (IsFound format NoTable (refused (name_of OutOfMemory)) finding printed
+    ⊎ IsFound format Unreadable (codes "wrong input") finding printed)
 
 -- behind the name of the file
 abbrev pub IsNamedCheck : Format → List ℕ → List ℕ → Finding → Line → Type 0
-IsNamedCheck format name bytes finding printed = IsUnder (file_label format name) (IsCheckOfInput format bytes finding) printed
+IsNamedCheck format name bytes finding printed =
+    IsUnder (file_label format name) (IsCheckOfInput format bytes finding) printed
 
 -- ---- the rows of FDEs
 
@@ -117,11 +143,20 @@ AreNamesOf file functions = (address : ℕ) → name_in functions address ≡ fu
 
 abbrev pub AreNamedRows : Style → File → Option ℕ → Line → Type 0
 AreNamedRows style file address printed =
-    (functions : Bor FunctionNames) × AreNamesOf file functions.now × AreSections style.names (sections.Listed (listed.Rows (record { address = address; functions = functions; format = style.format }))) file printed
+    (functions : Bor FunctionNames) × AreNamesOf file functions.now
+    × AreSections style.names
+    (sections.Listed
+    (listed.Rows (record {
+      address = address;
+      functions = functions;
+      format = style.format;
+    })))
+    file printed
 
 -- or that memory was refused for these
 abbrev pub AreFdeRows : Style → File → Option ℕ → Line → Type 0
-AreFdeRows style file address printed = AreNamedRows style file address printed ⊎ (printed ≡ out_of_memory style.format)
+AreFdeRows style file address printed =
+    AreNamedRows style file address printed ⊎ (printed ≡ out_of_memory style.format)
 
 -- at the address that a word names
 abbrev pub AreRowsAt : Style → File → Result (Option ℕ) ElfError → Line → Type 0
@@ -148,7 +183,8 @@ styled names format = record { names = names; format = format }
 
 -- with these names of registers
 abbrev pub IsNamed : RegisterNames → Printed → File → Line → Type 0
-IsNamed names (Row words format) file printed = AreWordLines (styled names format) file (texts words.now) printed
+IsNamed names (Row words format) file printed =
+    AreWordLines (styled names format) file (texts words.now) printed
 IsNamed names (Rows word format) file printed = AreRows (styled names format) file word printed
 IsNamed names Dump file printed = AreSections names (sections.Listed listed.Entries) file printed
 IsNamed names Table file printed = AreSections names sections.Compiled file printed
@@ -167,7 +203,10 @@ IsOutput request bytes printed = IsOfParsed request (elf_file bytes) printed
 
 -- or that there was no memory, or the input can't be read
 abbrev pub IsOwed : Request → List ℕ → Line → Type 0
-IsOwed request bytes printed = IsOutput request bytes printed ⊎ ((printed ≡ out_of_memory (format_for request.printed)) ⊎ (printed ≡ wrong_input (format_for request.printed)))
+IsOwed request bytes printed =
+    IsOutput request bytes printed
+    ⊎ ((printed ≡ out_of_memory (format_for request.printed))
+    ⊎ (printed ≡ wrong_input (format_for request.printed)))
 
 -- ---- what was written for an input
 
@@ -176,12 +215,23 @@ abbrev pub AreLeft : Option (List ℕ) → List ℕ → Type 0
 AreLeft known bytes = IfSome known (λ left. bytes ≡ left)
 
 -- for some bytes, which are those of the input where these are known
-abbrev pub PrintsOwed : {E : Type 0} → Request → Option (List ℕ) → Option (List ℕ) → Option (List ℕ) → Result ℕ E → Type 0
-PrintsOwed request input old new result = (bytes : List ℕ) × AreLeft input bytes × PrintsSome (λ line. IsOwed request bytes line) old new result
+abbrev pub PrintsOwed :
+    {E : Type 0} → Request → Option (List ℕ) → Option (List ℕ) → Option (List ℕ) → Result ℕ E →
+    Type 0
+PrintsOwed request input old new result =
+    (bytes : List ℕ) × AreLeft input bytes
+    × PrintsSome (λ line. IsOwed request bytes line) old new result
 
-abbrev pub ChecksInput : {E : Type 0} → Format → Option (List ℕ) → Option (List ℕ) → Option (List ℕ) → Result Finding E → Type 0
-ChecksInput format input old new result = (bytes : List ℕ) × AreLeft input bytes × ChecksSome (λ finding line. IsCheckOfInput format bytes finding line) old new result
+abbrev pub ChecksInput :
+    {E : Type 0} → Format → Option (List ℕ) → Option (List ℕ) → Option (List ℕ) → Result Finding E →
+    Type 0
+ChecksInput format input old new result =
+    (bytes : List ℕ) × AreLeft input bytes
+    × ChecksSome (λ finding line. IsCheckOfInput format bytes finding line) old new result
 
-abbrev pub ChecksNamed : {E : Type 0} → Format → List ℕ → Option (List ℕ) → Option (List ℕ) → Option (List ℕ) → Result Finding E → Type 0
+abbrev pub ChecksNamed :
+    {E : Type 0} → Format → List ℕ → Option (List ℕ) → Option (List ℕ) → Option (List ℕ) →
+    Result Finding E → Type 0
 ChecksNamed format name input old new result =
-    (bytes : List ℕ) × AreLeft input bytes × ChecksSome (λ finding line. IsNamedCheck format name bytes finding line) old new result
+    (bytes : List ℕ) × AreLeft input bytes
+    × ChecksSome (λ finding line. IsNamedCheck format name bytes finding line) old new result

@@ -1,10 +1,13 @@
 -- Files of which the parts are read that are needed.
 --     IsPartRead known offset size part      what a read of a part gives
 --     IsPartRefused all offset size error      why a part of these bytes is not copied
---     AreOfInput known image      the parts are of the bytes of a file, which are the known ones where these are known
---     AreEnough symbols image      they have all that the call frames of the file need, and the symbols where these are needed
+--     AreOfInput known image      the parts are of the bytes of a file, which are the known ones
+--         where these are known
+--     AreEnough symbols image      they have all that the call frames of the file need, and the
+--         symbols where these are needed
 --     IsEnoughOf known symbols image      both
-use Rattle.std.specs.Prelude.{◌≡◌, ◌<◌, ◌+◌, ◌⊎◌, ℕ, Bool, true, false, ◌&&◌, ◌||◌, List, [], ◌∷◌, length, Option, Some, IfOk, IfSome, nat_le}
+use Rattle.std.specs.Prelude.{◌≡◌, ◌<◌, ◌+◌, ◌⊎◌, ℕ, Bool, true, false, ◌&&◌, ◌||◌, List, [], ◌∷◌}
+use Rattle.std.specs.Prelude.{length, Option, Some, IfOk, IfSome, nat_le}
 use Rattle.cfi_elf.specs.declared.error.ElfError.{ElfError}
 use Rattle.cfi_elf.specs.ElfFiles.{File, elf_file_of}
 use Rattle.cfi_elf.specs.Images.{Image, IsImageOf, IsNotRead, IsRead, Part, parts_view}
@@ -26,16 +29,22 @@ IsLength known n = IfSome known (λ all. n ≡ length all)
 
 -- size bytes, which are those from the offset on where the bytes of the file are known
 abbrev pub IsPartRead : Option (List ℕ) → ℕ → ℕ → List ℕ → Type 0
-IsPartRead known offset size read = (length read ≡ size) × IfSome known (λ all. part all offset size ≡ Some read)
+IsPartRead known offset size read =
+    (length read ≡ size) × IfSome known (λ all. part all offset size ≡ Some read)
 
 -- there is no memory for it, or the bytes end before it does
 abbrev pub IsPartRefused : List ℕ → ℕ → ℕ → InputError → Type 0
-IsPartRefused all offset size e = (e ≡ OutOfMemory) ⊎ ((e ≡ Unreadable) × (length all < offset + size))
+IsPartRefused all offset size e =
+    (e ≡ OutOfMemory) ⊎ ((e ≡ Unreadable) × (length all < offset + size))
 
 -- ---- what was read of it
 
 abbrev pub image_of : FileParts → Image
-image_of parts = record { length = parts.length; first = parts.first.items; parts = parts_view parts.parts.items }
+image_of parts = record {
+  length = parts.length;
+  first = parts.first.items;
+  parts = parts_view parts.parts.items;
+}
 
 -- that some bytes have all parts: the known ones, where these are known
 abbrev pub AreOfInput : Option (List ℕ) → Image → Type 0
@@ -51,7 +60,10 @@ are_apart start end (read ∷ parts) = is_apart start end read && are_apart star
 
 -- whether the bytes between two offsets are in the file, and none of them was read
 abbrev pub is_free : Image → ℕ → ℕ → Bool
-is_free image start end = nat_le start end && (nat_le end image.length && (nat_le (length image.first) start && are_apart start end image.parts))
+is_free image start end =
+    nat_le start end
+    && (nat_le end image.length
+    && (nat_le (length image.first) start && are_apart start end image.parts))
 
 -- ---- what is needed of it
 
@@ -73,12 +85,14 @@ abbrev pub HasAll : Bool → File → Type 0
 HasAll symbols file = HasEhFrame file × HasDebugFrame file × HasSymbols symbols file
 
 abbrev pub AreEnough : Bool → Image → Type 0
-AreEnough symbols image = IsRead (elf_file_of image) × IfOk (elf_file_of image) (λ file. HasAll symbols file)
+AreEnough symbols image =
+    IsRead (elf_file_of image) × IfOk (elf_file_of image) (λ file. HasAll symbols file)
 
 abbrev pub IsEnoughOf : Option (List ℕ) → Bool → Image → Type 0
 IsEnoughOf known symbols image = AreOfInput known image × AreEnough symbols image
 
--- whether the symbols of the file are needed: the rows have the names of functions, and words name symbols
+-- whether the symbols of the file are needed: the rows have the names of functions, and words name
+-- symbols
 abbrev pub needs_symbols : Printed → Bool
 needs_symbols (Row words format) = true
 needs_symbols (Rows word format) = true

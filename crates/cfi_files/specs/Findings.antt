@@ -7,7 +7,8 @@ use Rattle.cfi_programs.specs.WriterOutput.{Writes}
 use Rattle.cfi_programs.specs.declared.check.table_check.Verdict.{Verdict}
 use Rattle.cfi_programs.specs.declared.check.table_check.Verdict.TheVariants as verdicts
 use Rattle.cfi_files.specs.declared.finding.Finding.{Finding}
-use Rattle.cfi_files.specs.declared.finding.Finding.TheVariants.{Faithful, Unfaithful, NoTable, Unreadable}
+use Rattle.cfi_files.specs.declared.finding.Finding.TheVariants.{Faithful, Unfaithful, NoTable}
+use Rattle.cfi_files.specs.declared.finding.Finding.TheVariants.{Unreadable}
 
 abbrev pub has_table : Finding → Bool
 has_table Faithful = true
@@ -36,7 +37,8 @@ name_of_finding Unreadable = codes "unreadable"
 
 -- the end of the line of a file, for a reason
 abbrev pub found_line : Format → Finding → List ℕ → Line
-found_line format finding reason = line (finding_text format (name_of_finding finding) reason) (status_of finding)
+found_line format finding reason =
+    line (finding_text format (name_of_finding finding) reason) (status_of finding)
 
 abbrev pub finding_of : Verdict → Finding
 finding_of (verdicts.Faithful rows) = Faithful
@@ -44,7 +46,11 @@ finding_of (verdicts.Unfaithful reason) = Unfaithful
 finding_of verdicts.NoTable = NoTable
 finding_of (verdicts.Refused error) = Unfaithful
 
--- an output and what was found, of which something holds: all of it was written or a beginning, and that is answered
-abbrev pub ChecksSome : {E : Type 0} → (Finding → Line → Type 0) → Option (List ℕ) → Option (List ℕ) → Result Finding E → Type 0
+-- an output and what was found, of which something holds: all of it was written or a beginning, and
+-- that is answered
+abbrev pub ChecksSome :
+    {E : Type 0} → (Finding → Line → Type 0) → Option (List ℕ) → Option (List ℕ) →
+    Result Finding E → Type 0
 ChecksSome Is old new result =
-    (finding : Finding) × (printed : Line) × Writes old new result printed.text × IfOk result (λ found. found ≡ finding) × Is finding printed
+    (finding : Finding) × (printed : Line) × Writes old new result printed.text
+    × IfOk result (λ found. found ≡ finding) × Is finding printed

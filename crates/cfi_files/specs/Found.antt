@@ -25,5 +25,6 @@ HasReadWords part = IfSome part (λ part. IfOk part (λ frames. AreRead frames.w
 
 abbrev pub AreSectionsOf : File → FrameSections → Type 0
 AreSectionsOf file sections =
-    (part_view sections.eh_frame ≡ eh_frame_in file) × (part_view sections.debug_frame ≡ debug_frame_in file)
+    (part_view sections.eh_frame ≡ eh_frame_in file)
+    × (part_view sections.debug_frame ≡ debug_frame_in file)
     × HasReadWords sections.eh_frame × HasReadWords sections.debug_frame

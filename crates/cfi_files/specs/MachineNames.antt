@@ -2,10 +2,13 @@
 use Rattle.std.specs.Prelude.{ℕ, Bool, true, false, ◌==◌, if◌then◌else◌}
 use Rattle.cfi_elf.specs.ElfFiles.{File}
 use Rattle.cfi_programs.specs.declared.register_names.RegisterNames.{RegisterNames}
-use Rattle.cfi_programs.specs.declared.register_names.RegisterNames.TheVariants.{Numbers, X86_64, I386, AArch64, Arm, RiscV, S390x, PowerPc64}
+use Rattle.cfi_programs.specs.declared.register_names.RegisterNames.TheVariants.{Numbers, X86_64}
+use Rattle.cfi_programs.specs.declared.register_names.RegisterNames.TheVariants.{I386, AArch64, Arm}
+use Rattle.cfi_programs.specs.declared.register_names.RegisterNames.TheVariants.{RiscV, S390x}
+use Rattle.cfi_programs.specs.declared.register_names.RegisterNames.TheVariants.{PowerPc64}
 
--- those of the machine: EM_386 is 3, EM_PPC64 is 21, EM_S390 is 22, EM_ARM is 40, EM_X86_64 is 62, EM_AARCH64 is 183
--- and EM_RISCV is 243
+-- those of the machine: EM_386 is 3, EM_PPC64 is 21, EM_S390 is 22, EM_ARM is 40, EM_X86_64 is 62,
+-- EM_AARCH64 is 183 and EM_RISCV is 243
 abbrev pub register_names_of : ℕ → RegisterNames
 register_names_of e_machine =
     if e_machine == 3 then I386

@@ -29,12 +29,19 @@ fde_text offset = codes "FDE " ++ address_text offset
 abbrev pub reason_text : Unfaithful → List ℕ
 reason_text (reasons.Header error) = refused_text (codes "header") error
 reason_text (reasons.Row row error) = refused_text (row_text row) error
-reason_text (reasons.Order row before start) = row_text row ++ codes ": starts at " ++ address_text start ++ codes ", the row before it at " ++ address_text before
+reason_text (reasons.Order row before start) =
+    row_text row ++ codes ": starts at " ++ address_text start ++ codes ", the row before it at "
+    ++ address_text before
 reason_text (reasons.Entry offset error) = refused_text (entry_text offset) error
 reason_text (reasons.Fde offset error) = refused_text (fde_text offset) error
-reason_text (reasons.NoRow offset address) = fde_text offset ++ codes ": no row starts at " ++ address_text address ++ codes " and leads to it"
-reason_text (reasons.Overlap offset end next) = fde_text offset ++ codes ": ends at " ++ address_text end ++ codes ", the next row starts at " ++ address_text next
-reason_text (reasons.Count rows fdes) = codes "table: " ++ decimal rows ++ codes " rows for " ++ decimal fdes ++ codes " FDEs"
+reason_text (reasons.NoRow offset address) =
+    fde_text offset ++ codes ": no row starts at " ++ address_text address
+    ++ codes " and leads to it"
+reason_text (reasons.Overlap offset end next) =
+    fde_text offset ++ codes ": ends at " ++ address_text end ++ codes ", the next row starts at "
+    ++ address_text next
+reason_text (reasons.Count rows fdes) =
+    codes "table: " ++ decimal rows ++ codes " rows for " ++ decimal fdes ++ codes " FDEs"
 
 abbrev pub verdict_text : Verdict → List ℕ
 verdict_text (verdicts.Faithful rows) = codes "faithful " ++ decimal rows
@@ -52,7 +59,8 @@ verdict_status (verdicts.Refused error) = 1
 
 -- what was found, and why
 abbrev pub reasoned : List ℕ → List ℕ → List ℕ
-reasoned found reason = codes "\"result\":\"" ++ (found ++ codes "\",\"reason\":\"") ++ (reason ++ codes "\"}")
+reasoned found reason =
+    codes "\"result\":\"" ++ (found ++ codes "\",\"reason\":\"") ++ (reason ++ codes "\"}")
 
 abbrev pub faithful_object : ℕ → List ℕ
 faithful_object rows = codes "\"result\":\"faithful\",\"rows\":" ++ json_number rows ++ codes "}"
@@ -61,7 +69,8 @@ abbrev pub verdict_object : Verdict → List ℕ
 verdict_object (verdicts.Faithful rows) = faithful_object rows
 verdict_object (verdicts.Unfaithful reason) = reasoned (codes "unfaithful") (reason_text reason)
 verdict_object verdicts.NoTable = reasoned (codes "no table") (codes "header: has no table")
-verdict_object (verdicts.Refused error) = reasoned (codes "unfaithful") (refused_text (codes "header") error)
+verdict_object (verdicts.Refused error) =
+    reasoned (codes "unfaithful") (refused_text (codes "header") error)
 
 -- ---- the line
 

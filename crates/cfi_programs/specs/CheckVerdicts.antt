@@ -4,7 +4,8 @@ use Rattle.cfi_entry.specs.Sections.{Section}
 use Rattle.gimli_cfi.specs.EhFrameHdr.{Header, HeaderSection, header_of}
 use Rattle.gimli_cfi.specs.TableCheck.{IsReason, Listing, ListsFaithfully}
 use Rattle.cfi_programs.specs.declared.check.table_check.Verdict.{Verdict}
-use Rattle.cfi_programs.specs.declared.check.table_check.Verdict.TheVariants.{Faithful, Unfaithful, NoTable, Refused}
+use Rattle.cfi_programs.specs.declared.check.table_check.Verdict.TheVariants.{Faithful, Unfaithful}
+use Rattle.cfi_programs.specs.declared.check.table_check.Verdict.TheVariants.{NoTable, Refused}
 
 -- The header is read and has rows: the table that is checked, with its section.
 pub record IsChecked (section : Section) (header : HeaderSection) (listing : Listing) : Type 0 where
@@ -15,9 +16,15 @@ pub record IsChecked (section : Section) (header : HeaderSection) (listing : Lis
   pub of_header : listing.header ≡ header
   pub of_section : listing.section ≡ section
 
--- The table lists the FDEs of the section faithfully; or a reason holds, and it doesn't; or there is no table.
+-- The table lists the FDEs of the section faithfully; or a reason holds, and it doesn't; or there
+-- is no table.
 abbrev pub IsVerdict : Section → HeaderSection → Verdict → Type 0
-IsVerdict section header (Faithful rows) = (listing : Listing) × IsChecked section header listing × ListsFaithfully listing × (rows ≡ listing.table.count)
-IsVerdict section header (Unfaithful reason) = (listing : Listing) × IsChecked section header listing × IsReason listing reason × (ListsFaithfully listing → ⊥)
-IsVerdict section header NoTable = (read : Header) × (header_of header ≡ Ok read) × (read.table ≡ None)
+IsVerdict section header (Faithful rows) =
+    (listing : Listing) × IsChecked section header listing × ListsFaithfully listing
+    × (rows ≡ listing.table.count)
+IsVerdict section header (Unfaithful reason) =
+    (listing : Listing) × IsChecked section header listing × IsReason listing reason
+    × (ListsFaithfully listing → ⊥)
+IsVerdict section header NoTable =
+    (read : Header) × (header_of header ≡ Ok read) × (read.table ≡ None)
 IsVerdict section header (Refused error) = header_of header ≡ Err error

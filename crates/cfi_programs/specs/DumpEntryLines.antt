@@ -3,7 +3,8 @@ use Rattle.std.specs.Prelude.{ℕ, Bool, true, false, Option, Some, None, List, 
 use Rattle.std.specs.Fmt.{decimal, signed_decimal}
 use Rattle.cfi_parts.specs.declared.pointer.Pointer.{Pointer}
 use Rattle.cfi_parts.specs.declared.pointer.Pointer.TheVariants.{Direct, Indirect}
-use Rattle.cfi_entry.specs.Augmentations.{address_encoding_of, lsda_encoding_of, personality_of, is_trampoline, has_b_key}
+use Rattle.cfi_entry.specs.Augmentations.{address_encoding_of, lsda_encoding_of, personality_of}
+use Rattle.cfi_entry.specs.Augmentations.{is_trampoline, has_b_key}
 use Rattle.cfi_entry.specs.Cies.{Cie}
 use Rattle.cfi_entry.specs.Fdes.{Fde, end_of}
 use Rattle.cfi_programs.specs.Lines.{address_text}
@@ -27,7 +28,8 @@ lsda_encoding_text (Some encoding) = codes " lsda=" ++ address_text encoding
 
 abbrev pub personality_text : Option (ℕ × Pointer) → List ℕ
 personality_text None = []
-personality_text (Some (encoding, pointer)) = codes " personality=" ++ address_text encoding ++ codes ":" ++ target_text pointer
+personality_text (Some (encoding, pointer)) =
+    codes " personality=" ++ address_text encoding ++ codes ":" ++ target_text pointer
 
 abbrev pub signal_text : Bool → List ℕ
 signal_text false = []
@@ -45,17 +47,23 @@ lsda_text (Some pointer) = codes " lsda=" ++ target_text pointer
 
 abbrev pub cie_head : Cie → List ℕ
 cie_head cie =
-    codes "cie " ++ address_text cie.offset ++ codes " length=" ++ decimal cie.length ++ codes " version=" ++ decimal cie.version ++ codes " size=" ++ decimal cie.address_size
+    codes "cie " ++ address_text cie.offset ++ codes " length=" ++ decimal cie.length
+    ++ codes " version=" ++ decimal cie.version ++ codes " size=" ++ decimal cie.address_size
 
 abbrev pub cie_factors : RegisterNames → Cie → List ℕ
 cie_factors names cie =
-    codes " code=" ++ decimal cie.code_alignment_factor ++ codes " data=" ++ signed_decimal cie.data_alignment_factor ++ codes " return=" ++ register_text names cie.return_address_register.0
+    codes " code=" ++ decimal cie.code_alignment_factor ++ codes " data="
+    ++ signed_decimal cie.data_alignment_factor ++ codes " return="
+    ++ register_text names cie.return_address_register.0
 
 -- what its augmentation means
 abbrev pub cie_augmentation : Cie → List ℕ
 cie_augmentation cie =
-    addresses_text (address_encoding_of cie.augmentation) ++ lsda_encoding_text (lsda_encoding_of cie.augmentation) ++ personality_text (personality_of cie.augmentation)
-    ++ signal_text (is_trampoline cie.augmentation) ++ b_key_text (has_b_key cie.augmentation) ++ 10 ∷ []
+    addresses_text (address_encoding_of cie.augmentation)
+    ++ lsda_encoding_text (lsda_encoding_of cie.augmentation)
+    ++ personality_text (personality_of cie.augmentation)
+    ++ signal_text (is_trampoline cie.augmentation) ++ b_key_text (has_b_key cie.augmentation)
+    ++ 10 ∷ []
 
 abbrev pub cie_line : RegisterNames → Cie → List ℕ
 cie_line names cie = cie_head cie ++ (cie_factors names cie ++ cie_augmentation cie)
@@ -66,10 +74,13 @@ abbrev pub fde_head : ℕ → ℕ → List ℕ
 fde_head offset length = codes "fde " ++ address_text offset ++ codes " length=" ++ decimal length
 
 abbrev pub fde_addresses : Fde → List ℕ
-fde_addresses fde = codes " cie=" ++ address_text fde.cie.offset ++ codes " " ++ address_text fde.initial ++ codes " " ++ address_text (end_of fde)
+fde_addresses fde =
+    codes " cie=" ++ address_text fde.cie.offset ++ codes " " ++ address_text fde.initial
+    ++ codes " " ++ address_text (end_of fde)
 
 abbrev pub fde_line : Fde → List ℕ
-fde_line fde = fde_head fde.offset fde.length ++ (fde_addresses fde ++ (lsda_text fde.lsda ++ 10 ∷ []))
+fde_line fde =
+    fde_head fde.offset fde.length ++ (fde_addresses fde ++ (lsda_text fde.lsda ++ 10 ∷ []))
 
 -- of which no more could be read
 abbrev pub partial_fde_line : ℕ → ℕ → List ℕ

@@ -1,7 +1,10 @@
--- The lines of instructions: the name of each in DWARF (DWARF 5 section 7.24), and its operands as the section has them.
---     shown instruction      the name, one for all sizes of an operand; the registers, which come first; the other operand
+-- The lines of instructions: the name of each in DWARF (DWARF 5 section 7.24), and its operands as
+-- the section has them.
+--     shown instruction      the name, one for all sizes of an operand; the registers, which come
+--         first; the other operand
 --     instruction_line names instruction      its line
---     instructions_text names readings      a line for each, and after the last one the error with which they end
+--     instructions_text names readings      a line for each, and after the last one the error with
+--         which they end
 use Rattle.std.specs.Prelude.{ℕ, ℤ, List, [], ◌∷◌, ◌++◌, codes}
 use Rattle.std.specs.Fmt.{decimal, signed_decimal}
 use Rattle.cfi_read_core.specs.declared.common.Register.{Register}
@@ -38,7 +41,8 @@ abbrev pub of : Register → List RegisterOperand
 of register = labelled (codes " register=") register ∷ []
 
 abbrev pub dest_and_src : Register → Register → List RegisterOperand
-dest_and_src dest src = labelled (codes " dest_register=") dest ∷ labelled (codes " src_register=") src ∷ []
+dest_and_src dest src =
+    labelled (codes " dest_register=") dest ∷ labelled (codes " src_register=") src ∷ []
 
 abbrev pub expression_operand : UnwindExpression ℕ → List ℕ
 expression_operand expression = codes " expression=" ++ expression_text expression
@@ -51,28 +55,44 @@ abbrev pub signed_factored_operand : ℤ → List ℕ
 signed_factored_operand offset = codes " factored_offset=" ++ signed_decimal offset
 
 abbrev pub shown : Instruction → Shown
-shown (variant.SetLoc address) = shown_as (codes "DW_CFA_set_loc") [] (codes " address=" ++ address_text address)
-shown (variant.AdvanceLoc delta) = shown_as (codes "DW_CFA_advance_loc") [] (codes " delta=" ++ decimal delta)
-shown (variant.DefCfa register offset) = shown_as (codes "DW_CFA_def_cfa") (of register) (codes " offset=" ++ decimal offset)
-shown (variant.DefCfaSf register factored) = shown_as (codes "DW_CFA_def_cfa_sf") (of register) (signed_factored_operand factored)
-shown (variant.DefCfaRegister register) = shown_as (codes "DW_CFA_def_cfa_register") (of register) []
-shown (variant.DefCfaOffset offset) = shown_as (codes "DW_CFA_def_cfa_offset") [] (codes " offset=" ++ decimal offset)
-shown (variant.DefCfaOffsetSf factored) = shown_as (codes "DW_CFA_def_cfa_offset_sf") [] (signed_factored_operand factored)
-shown (variant.DefCfaExpression expression) = shown_as (codes "DW_CFA_def_cfa_expression") [] (expression_operand expression)
+shown (variant.SetLoc address) =
+    shown_as (codes "DW_CFA_set_loc") [] (codes " address=" ++ address_text address)
+shown (variant.AdvanceLoc delta) =
+    shown_as (codes "DW_CFA_advance_loc") [] (codes " delta=" ++ decimal delta)
+shown (variant.DefCfa register offset) =
+    shown_as (codes "DW_CFA_def_cfa") (of register) (codes " offset=" ++ decimal offset)
+shown (variant.DefCfaSf register factored) =
+    shown_as (codes "DW_CFA_def_cfa_sf") (of register) (signed_factored_operand factored)
+shown (variant.DefCfaRegister register) =
+    shown_as (codes "DW_CFA_def_cfa_register") (of register) []
+shown (variant.DefCfaOffset offset) =
+    shown_as (codes "DW_CFA_def_cfa_offset") [] (codes " offset=" ++ decimal offset)
+shown (variant.DefCfaOffsetSf factored) =
+    shown_as (codes "DW_CFA_def_cfa_offset_sf") [] (signed_factored_operand factored)
+shown (variant.DefCfaExpression expression) =
+    shown_as (codes "DW_CFA_def_cfa_expression") [] (expression_operand expression)
 shown (variant.Undefined register) = shown_as (codes "DW_CFA_undefined") (of register) []
 shown (variant.SameValue register) = shown_as (codes "DW_CFA_same_value") (of register) []
-shown (variant.Offset register factored) = shown_as (codes "DW_CFA_offset") (of register) (factored_operand factored)
-shown (variant.OffsetExtendedSf register factored) = shown_as (codes "DW_CFA_offset_extended_sf") (of register) (signed_factored_operand factored)
-shown (variant.OffsetExtendedNegative register factored) = shown_as (codes "DW_CFA_GNU_negative_offset_extended") (of register) (factored_operand factored)
-shown (variant.ValOffset register factored) = shown_as (codes "DW_CFA_val_offset") (of register) (factored_operand factored)
-shown (variant.ValOffsetSf register factored) = shown_as (codes "DW_CFA_val_offset_sf") (of register) (signed_factored_operand factored)
+shown (variant.Offset register factored) =
+    shown_as (codes "DW_CFA_offset") (of register) (factored_operand factored)
+shown (variant.OffsetExtendedSf register factored) =
+    shown_as (codes "DW_CFA_offset_extended_sf") (of register) (signed_factored_operand factored)
+shown (variant.OffsetExtendedNegative register factored) =
+    shown_as (codes "DW_CFA_GNU_negative_offset_extended") (of register) (factored_operand factored)
+shown (variant.ValOffset register factored) =
+    shown_as (codes "DW_CFA_val_offset") (of register) (factored_operand factored)
+shown (variant.ValOffsetSf register factored) =
+    shown_as (codes "DW_CFA_val_offset_sf") (of register) (signed_factored_operand factored)
 shown (variant.Register dest src) = shown_as (codes "DW_CFA_register") (dest_and_src dest src) []
-shown (variant.Expression register expression) = shown_as (codes "DW_CFA_expression") (of register) (expression_operand expression)
-shown (variant.ValExpression register expression) = shown_as (codes "DW_CFA_val_expression") (of register) (expression_operand expression)
+shown (variant.Expression register expression) =
+    shown_as (codes "DW_CFA_expression") (of register) (expression_operand expression)
+shown (variant.ValExpression register expression) =
+    shown_as (codes "DW_CFA_val_expression") (of register) (expression_operand expression)
 shown (variant.Restore register) = shown_as (codes "DW_CFA_restore") (of register) []
 shown variant.RememberState = shown_as (codes "DW_CFA_remember_state") [] []
 shown variant.RestoreState = shown_as (codes "DW_CFA_restore_state") [] []
-shown (variant.ArgsSize size) = shown_as (codes "DW_CFA_GNU_args_size") [] (codes " size=" ++ decimal size)
+shown (variant.ArgsSize size) =
+    shown_as (codes "DW_CFA_GNU_args_size") [] (codes " size=" ++ decimal size)
 shown variant.NegateRaState = shown_as (codes "DW_CFA_AARCH64_negate_ra_state") [] []
 shown variant.Nop = shown_as (codes "DW_CFA_nop") [] []
 
@@ -80,7 +100,8 @@ shown variant.Nop = shown_as (codes "DW_CFA_nop") [] []
 
 abbrev pub registers_text : RegisterNames → List RegisterOperand → List ℕ
 registers_text names [] = []
-registers_text names (operand ∷ operands) = operand.label ++ register_text names operand.register ++ registers_text names operands
+registers_text names (operand ∷ operands) =
+    operand.label ++ register_text names operand.register ++ registers_text names operands
 
 abbrev pub instruction_line : RegisterNames → Instruction → List ℕ
 instruction_line names instruction =

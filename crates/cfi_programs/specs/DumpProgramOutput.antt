@@ -1,5 +1,6 @@
 -- Which output is right for a whole section.
---     printed_text names what section      each entry with its instructions and rows, or the rows of the FDEs
+--     printed_text names what section      each entry with its instructions and rows, or the rows
+--         of the FDEs
 use Rattle.std.specs.Prelude.{◌≡◌, ◌⊎◌, ℕ, List}
 use Rattle.cfi_entry.specs.Entries.{Entry, entries}
 use Rattle.cfi_entry.specs.Sections.{Section}
@@ -34,7 +35,9 @@ printed_entry names (printing.Rows asked) section entry =
     entry_rows_text (style_of names asked) (name_in asked.functions.now) asked.address section entry
 
 abbrev pub printed_text : RegisterNames → Printed → Section → List ℕ
-printed_text names what section = readings_text (format_of what) (λ entry. printed_entry names what section entry) (entries section)
+printed_text names what section =
+    readings_text (format_of what) (λ entry. printed_entry names what section entry)
+    (entries section)
 
 -- ---- the output
 
@@ -47,4 +50,5 @@ IsOutput names what section printed = printed ≡ text_output (printed_text name
 
 -- the same, or that memory was refused
 abbrev pub IsPrinted : RegisterNames → Printed → Section → Line → Type 0
-IsPrinted names what section printed = IsOutput names what section printed ⊎ (printed ≡ refusal_in (format_of what) OutOfMemory)
+IsPrinted names what section printed =
+    IsOutput names what section printed ⊎ (printed ≡ refusal_in (format_of what) OutOfMemory)

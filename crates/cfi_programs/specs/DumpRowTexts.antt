@@ -1,8 +1,10 @@
--- What is printed of the rows of a section: for each FDE, or each that contains an address, a line with its addresses
--- and the name of the function that begins there, and then its rows.
---     fde_rows_text style function address section reading      of an FDE that was read, or the refusal in its place
+-- What is printed of the rows of a section: for each FDE, or each that contains an address, a line
+-- with its addresses and the name of the function that begins there, and then its rows.
+--     fde_rows_text style function address section reading      of an FDE that was read, or the
+--         refusal in its place
 --     entry_rows_text style function address section entry      of an entry: nothing for a CIE
-use Rattle.std.specs.Prelude.{ℕ, Bool, true, Option, Some, None, List, [], ◌∷◌, ◌++◌, Result, Ok, Err, codes, if◌then◌else◌}
+use Rattle.std.specs.Prelude.{ℕ, Bool, true, Option, Some, None, List, [], ◌∷◌, ◌++◌, Result, Ok}
+use Rattle.std.specs.Prelude.{Err, codes, if◌then◌else◌}
 use Rattle.cfi_read_core.specs.declared.error.Error.{Error}
 use Rattle.cfi_entry.specs.Entries.{Entry, CieEntry, FdeEntry}
 use Rattle.cfi_entry.specs.Fdes.{Fde, covers, end_of}
@@ -34,7 +36,8 @@ function_in Json name = json_function name ++ 10 ∷ []
 
 -- the addresses, and the name of the function that begins at the first, by the function's address
 abbrev pub addresses_line : Format → (ℕ → Option (List ℕ)) → Fde → List ℕ
-addresses_line format function fde = addresses_in format fde.initial (end_of fde) ++ function_in format (function fde.initial)
+addresses_line format function fde =
+    addresses_in format fde.initial (end_of fde) ++ function_in format (function fde.initial)
 
 -- an FDE that contains the address; any, where there is none
 abbrev pub is_asked_for : Option ℕ → Fde → Bool
@@ -42,11 +45,15 @@ is_asked_for None fde = true
 is_asked_for (Some address) fde = covers fde address
 
 -- an FDE that can't be read may be the one of the address
-abbrev pub fde_rows_text : Style → (ℕ → Option (List ℕ)) → Option ℕ → Section → Result Fde Error → List ℕ
+abbrev pub fde_rows_text :
+    Style → (ℕ → Option (List ℕ)) → Option ℕ → Section → Result Fde Error → List ℕ
 fde_rows_text style function address section (Ok fde) =
-    if is_asked_for address fde then addresses_line style.format function fde ++ lines style (fde_rows section fde) else []
+    if is_asked_for address fde
+    then addresses_line style.format function fde ++ lines style (fde_rows section fde)
+    else []
 fde_rows_text style function address section (Err error) = (refusal_in style.format error).text
 
 abbrev pub entry_rows_text : Style → (ℕ → Option (List ℕ)) → Option ℕ → Section → Entry → List ℕ
 entry_rows_text style function address section (CieEntry cie) = []
-entry_rows_text style function address section (FdeEntry partial) = fde_rows_text style function address section (read_fde section partial)
+entry_rows_text style function address section (FdeEntry partial) =
+    fde_rows_text style function address section (read_fde section partial)

@@ -1,7 +1,8 @@
 -- What is printed of a section.
 --     fde_rows section fde      the rows of an FDE, and the refusals among them, in order
 --     lines style answers      a line for each
---     entry_text names section entry      an entry and its instructions, and after those of an FDE its rows
+--     entry_text names section entry      an entry and its instructions, and after those of an FDE
+--         its rows
 use Rattle.std.specs.Prelude.{ℕ, Some, List, [], ◌∷◌, ◌++◌, Result, Ok, Err}
 use Rattle.cfi_read_core.specs.declared.error.Error.{Error}
 use Rattle.cfi_state.specs.MachineSettings.{Setting}
@@ -31,7 +32,10 @@ setting_of_fde fde = setting (Some 192) (Some 4) fde
 -- the error of the CIE's initial instructions; else the rows and errors of the FDE's
 abbrev pub fde_rows : Section → Fde → List (Result (Row ℕ) Error)
 fde_rows section fde =
-    on_option (answers (setting_of_fde fde) (in_fde (cie_instructions section fde.cie).values []) (fde_instructions section fde)) (λ error. Err error ∷ [])
+    on_option
+    (answers (setting_of_fde fde) (in_fde (cie_instructions section fde.cie).values [])
+    (fde_instructions section fde))
+    (λ error. Err error ∷ [])
     (cie_refusal (setting_of_fde fde) (cie_instructions section fde.cie))
 
 abbrev pub lines : Style → List (Result (Row ℕ) Error) → List ℕ
@@ -42,14 +46,20 @@ lines style (answer ∷ answers) = (answer_line style answer).text ++ lines styl
 
 -- a CIE and its instructions
 abbrev pub cie_text : RegisterNames → Section → Cie → List ℕ
-cie_text names section cie = cie_line names cie ++ instructions_text names (cie_instructions section cie)
+cie_text names section cie =
+    cie_line names cie ++ instructions_text names (cie_instructions section cie)
 
 -- an FDE, its instructions and its rows; or what was read of it, and the error of the rest
 abbrev pub fde_text : RegisterNames → Section → PartialFde → Result Fde Error → List ℕ
-fde_text names section partial (Ok fde) = fde_line fde ++ (instructions_text names (fde_instructions section fde) ++ lines (text_style names) (fde_rows section fde))
-fde_text names section partial (Err error) = partial_fde_line partial.prefix.offset partial.prefix.length ++ (refusal_line error).text
+fde_text names section partial (Ok fde) =
+    fde_line fde
+    ++ (instructions_text names (fde_instructions section fde)
+    ++ lines (text_style names) (fde_rows section fde))
+fde_text names section partial (Err error) =
+    partial_fde_line partial.prefix.offset partial.prefix.length ++ (refusal_line error).text
 
 -- an FDE is read with the CIE to which it points
 abbrev pub entry_text : RegisterNames → Section → Entry → List ℕ
 entry_text names section (CieEntry cie) = cie_text names section cie
-entry_text names section (FdeEntry partial) = fde_text names section partial (read_fde section partial)
+entry_text names section (FdeEntry partial) =
+    fde_text names section partial (read_fde section partial)

@@ -1,5 +1,6 @@
 -- What is printed of the name of a function.
-use Rattle.std.specs.Prelude.{ℕ, List, [], ◌∷◌, Option, Some, None, map, nat_le, nat_lt, ◌&&◌, if◌then◌else◌}
+use Rattle.std.specs.Prelude.{ℕ, List, [], ◌∷◌, Option, Some, None, map, nat_le, nat_lt, ◌&&◌}
+use Rattle.std.specs.Prelude.{if◌then◌else◌}
 
 -- printable ASCII, or a question mark: no file steers a terminal
 abbrev pub shown : ℕ → ℕ

@@ -1,10 +1,13 @@
 -- The input: a section in hexadecimal, and after its first line the header where one is asked for.
-use Rattle.std.specs.Prelude.{◌≡◌, ◌<◌, ◌+◌, ◌*◌, slice_index, unwrap_or, ℕ, Bool, not, ◌||◌, Option, Some, None, List, [], ◌∷◌, Result, IsErr, IfSome, Ok, Err, ◌==◌, filter}
+use Rattle.std.specs.Prelude.{◌≡◌, ◌<◌, ◌+◌, ◌*◌, slice_index, unwrap_or, ℕ, Bool, not, ◌||◌}
+use Rattle.std.specs.Prelude.{Option, Some, None, List, [], ◌∷◌, Result, IsErr, IfSome, Ok, Err}
+use Rattle.std.specs.Prelude.{◌==◌, filter}
 use Rattle.std.specs.List.{before_first, after_first}
 use Rattle.cfi_read_core.specs.ReaderCalls.{map_ok}
 use Rattle.hex.specs.Hex.{decode_of, decode_pairs, hex_digit_value}
 use Rattle.cfi_programs.specs.declared.input.InputError.{InputError}
-use Rattle.cfi_programs.specs.declared.input.InputError.TheVariants.{Unreadable, NotHexadecimal, OutOfMemory}
+use Rattle.cfi_programs.specs.declared.input.InputError.TheVariants.{Unreadable, NotHexadecimal}
+use Rattle.cfi_programs.specs.declared.input.InputError.TheVariants.{OutOfMemory}
 use Rattle.cfi_programs.specs.declared.input.Sections.{Sections}
 use Rattle.hex.specs.declared.error.FromHexError.{FromHexError}
 
@@ -23,21 +26,29 @@ decoded_bytes input = decode_of (without_spaces input)
 
 -- the list has each digit's value at the place that is its byte, and 255 at the others
 abbrev pub AreDigitValues : List ℕ → Type 0
-AreDigitValues values = (byte : ℕ) → byte < 256 → slice_index values byte ≡ unwrap_or (hex_digit_value byte) 255
+AreDigitValues values =
+    (byte : ℕ) → byte < 256 → slice_index values byte ≡ unwrap_or (hex_digit_value byte) 255
 
 -- spaces left out, the text is a digit of this value and the rest
 abbrev pub BeginsWithDigit : ℕ → List ℕ → List ℕ → Type 0
-BeginsWithDigit value rest text = (digit : ℕ) × ((without_spaces text ≡ digit ∷ without_spaces rest) × (hex_digit_value digit ≡ Some value))
+BeginsWithDigit value rest text =
+    (digit : ℕ)
+    × ((without_spaces text ≡ digit ∷ without_spaces rest) × (hex_digit_value digit ≡ Some value))
 
 -- spaces left out, the text begins with a byte that is not a digit
 abbrev pub BeginsWithNoDigit : List ℕ → Type 0
-BeginsWithNoDigit text = (other : ℕ) × ((rest : List ℕ) × ((without_spaces text ≡ other ∷ rest) × (hex_digit_value other ≡ None)))
+BeginsWithNoDigit text =
+    (other : ℕ)
+    × ((rest : List ℕ) × ((without_spaces text ≡ other ∷ rest) × (hex_digit_value other ≡ None)))
 
 -- spaces left out, the text is the two digits of this byte and the rest
 abbrev pub BeginsWithByte : ℕ → List ℕ → List ℕ → Type 0
 BeginsWithByte byte rest text =
     (high : ℕ) × ((low : ℕ) × ((without_spaces text ≡ high ∷ low ∷ without_spaces rest)
-    × ((a : ℕ) × ((b : ℕ) × ((hex_digit_value high ≡ Some a) × ((hex_digit_value low ≡ Some b) × (byte ≡ a * 16 + b)))))))
+    × ((a : ℕ)
+    × ((b : ℕ)
+    × ((hex_digit_value high ≡ Some a)
+    × ((hex_digit_value low ≡ Some b) × (byte ≡ a * 16 + b)))))))
 
 -- spaces left out, the text is refused, from whatever index its digits are counted
 abbrev pub BeginsWithNoByte : List ℕ → Type 0
@@ -55,9 +66,12 @@ with_header (Err e) header = None
 -- none where the input is not hexadecimal
 abbrev pub bytes_by : Option ℕ → List ℕ → Option Bytes
 bytes_by None input = with_header (decoded_bytes input) (Ok [])
-bytes_by (Some base) input = with_header (decoded_bytes (before_first is_line_feed input)) (decoded_bytes (after_first is_line_feed input))
+bytes_by (Some base) input =
+    with_header (decoded_bytes (before_first is_line_feed input))
+    (decoded_bytes (after_first is_line_feed input))
 
--- what comes of the input, for the bytes that it means; lack of memory and a failed read are no fault of its bytes
+-- what comes of the input, for the bytes that it means; lack of memory and a failed read are no
+-- fault of its bytes
 abbrev pub IsReading : Option Bytes → Result Bytes InputError → Type 0
 IsReading meant (Ok bytes) = meant ≡ Some bytes
 IsReading meant (Err NotHexadecimal) = meant ≡ None
@@ -71,5 +85,7 @@ abbrev pub bytes_of : Sections → Bytes
 bytes_of sections = record { section = sections.section.items; header = sections.header.items }
 
 -- what comes of an input whose bytes are known, by what they mean
-abbrev pub ReadsSections : (List ℕ → Option Bytes) → Option (List ℕ) → Result Sections InputError → Type 0
-ReadsSections meaning input result = IfSome input (λ bytes. IsReading (meaning bytes) (map_ok bytes_of result))
+abbrev pub ReadsSections :
+    (List ℕ → Option Bytes) → Option (List ℕ) → Result Sections InputError → Type 0
+ReadsSections meaning input result =
+    IfSome input (λ bytes. IsReading (meaning bytes) (map_ok bytes_of result))

@@ -4,7 +4,8 @@
 --     json_row names row      a row
 --     json_addresses start end, json_function name      an FDE
 --     json_section name      the name of a section
-use Rattle.std.specs.Prelude.{ℕ, ◌/◌, ◌%◌, ◌^◌, Bool, true, false, ◌==◌, List, [], ◌∷◌, ◌++◌, Option, Some, None, map, flat_map, nat_lt, codes, if◌then◌else◌}
+use Rattle.std.specs.Prelude.{ℕ, ◌/◌, ◌%◌, ◌^◌, Bool, true, false, ◌==◌, List, [], ◌∷◌, ◌++◌}
+use Rattle.std.specs.Prelude.{Option, Some, None, map, flat_map, nat_lt, codes, if◌then◌else◌}
 use Rattle.std.specs.FinMap.{get}
 use Rattle.std.specs.Fmt.{decimal, digit_glyph}
 use Rattle.cfi_state.specs.declared.table.rules.RegisterRule.{RegisterRule}
@@ -27,7 +28,8 @@ abbrev pub escape : ℕ → List ℕ
 escape c =
     if c == 34 then codes "\\\""
     else if c == 92 then codes "\\\\"
-    else if nat_lt c 0x20 then codes "\\u00" ++ digit_glyph false (c / 16) ∷ digit_glyph false (c % 16) ∷ []
+    else if nat_lt c 0x20 then codes "\\u00"
+    ++ digit_glyph false (c / 16) ∷ digit_glyph false (c % 16) ∷ []
     else c ∷ []
 
 abbrev pub escaped : List ℕ → List ℕ
@@ -37,7 +39,9 @@ escaped text = flat_map escape text
 
 -- a register and its rule
 abbrev pub json_member : RegisterNames → ℕ → RegisterRule ℕ → List ℕ
-json_member names register rule = codes "\"" ++ register_text names register ++ codes "\":\"" ++ rule_text names rule ++ codes "\""
+json_member names register rule =
+    codes "\"" ++ register_text names register ++ codes "\":\"" ++ rule_text names rule
+    ++ codes "\""
 
 -- behind a comma (44)
 abbrev pub json_rule : RegisterNames → ℕ → RegisterRule ℕ → List ℕ
@@ -56,7 +60,8 @@ json_rules names parts = separated true (rules_by (json_rule names) 65536 0 (get
 -- what comes before the rules
 abbrev pub json_head : RegisterNames → Row ℕ → List ℕ
 json_head names row =
-    codes "{\"start\":\"" ++ address_text row.start_address ++ codes "\",\"end\":\"" ++ address_text row.end_address ++ codes "\",\"cfa\":\"" ++ cfa_text names row.parts.cfa
+    codes "{\"start\":\"" ++ address_text row.start_address ++ codes "\",\"end\":\""
+    ++ address_text row.end_address ++ codes "\",\"cfa\":\"" ++ cfa_text names row.parts.cfa
     ++ codes "\",\"args\":" ++ json_number row.parts.args_size ++ codes ",\"rules\":{"
 
 abbrev pub json_row : RegisterNames → Row ℕ → List ℕ
@@ -66,9 +71,12 @@ json_row names row = (json_head names row ++ json_rules names row.parts) ++ code
 
 -- its first address, and the first one after its last
 abbrev pub json_addresses : ℕ → ℕ → List ℕ
-json_addresses start end = codes "{\"fde\":{\"start\":\"" ++ address_text start ++ codes "\",\"end\":\"" ++ address_text end ++ codes "\""
+json_addresses start end =
+    codes "{\"fde\":{\"start\":\"" ++ address_text start ++ codes "\",\"end\":\""
+    ++ address_text end ++ codes "\""
 
--- the function that begins at the first, with a question mark for each byte that is not printable ASCII; and the end
+-- the function that begins at the first, with a question mark for each byte that is not printable
+-- ASCII; and the end
 abbrev pub json_function : Option (List ℕ) → List ℕ
 json_function None = codes "}}"
 json_function (Some name) = codes ",\"function\":\"" ++ (escaped (map shown name) ++ codes "\"}}")

@@ -16,4 +16,5 @@ kept_text kept = kept.text.items
 
 -- the text is that of the rules
 abbrev pub AreKept : RegisterNames → KeptRules → Type 0
-AreKept names kept = kept_text kept ≡ rules_by (ruled names) 65536 0 (map.get (rules_of (kept_rules kept)))
+AreKept names kept =
+    kept_text kept ≡ rules_by (ruled names) 65536 0 (map.get (rules_of (kept_rules kept)))

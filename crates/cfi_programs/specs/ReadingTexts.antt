@@ -1,6 +1,7 @@
 -- What is printed of values that are read in order, by the text of one.
 --     item_text format text item      a value, or the error in its place
---     readings_text format text readings      each value, and after the last one the error with which they end
+--     readings_text format text readings      each value, and after the last one the error with
+--         which they end
 use Rattle.std.specs.Prelude.{ℕ, Option, Some, None, List, [], ◌++◌, Result, Ok, Err, flat_map}
 use Rattle.cfi_read_core.specs.declared.error.Error.{Error}
 use Rattle.cfi_read_core.specs.ReadFunctions.{Readings}
@@ -16,4 +17,5 @@ refusal_text format None = []
 refusal_text format (Some error) = (refusal_in format error).text
 
 unfoldable pub readings_text : {A : Type 0} → Format → (A → List ℕ) → Readings A → List ℕ
-readings_text format text readings = flat_map text readings.values ++ refusal_text format readings.refusal
+readings_text format text readings =
+    flat_map text readings.values ++ refusal_text format readings.refusal

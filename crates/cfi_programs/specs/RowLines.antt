@@ -1,5 +1,6 @@
 -- What is printed of a row, with the names of registers.
-use Rattle.std.specs.Prelude.{ℕ, zero, suc, ◌+◌, ℤ, pos, negsuc, Option, Some, None, List, [], ◌++◌, codes}
+use Rattle.std.specs.Prelude.{ℕ, zero, suc, ◌+◌, ℤ, pos, negsuc, Option, Some, None, List, [], ◌++◌}
+use Rattle.std.specs.Prelude.{codes}
 use Rattle.std.specs.FinMap as map
 use Rattle.std.specs.Fmt.{decimal, signed_decimal}
 use Rattle.cfi_read_core.specs.declared.instruction.UnwindExpression.{UnwindExpression}
@@ -45,18 +46,22 @@ ruled_by text_of register None = []
 ruled_by text_of register (Some rule) = text_of register rule
 
 -- the n registers from r on that have a rule
-unfoldable pub rules_by : (ℕ → RegisterRule ℕ → List ℕ) → ℕ → ℕ → (ℕ → Option (RegisterRule ℕ)) → List ℕ
+unfoldable pub rules_by :
+    (ℕ → RegisterRule ℕ → List ℕ) → ℕ → ℕ → (ℕ → Option (RegisterRule ℕ)) → List ℕ
 rules_by text_of zero register rule_of = []
-rules_by text_of (suc n) register rule_of = ruled_by text_of register (rule_of register) ++ rules_by text_of n (register + 1) rule_of
+rules_by text_of (suc n) register rule_of =
+    ruled_by text_of register (rule_of register) ++ rules_by text_of n (register + 1) rule_of
 
 -- a register and its rule
 abbrev pub ruled : RegisterNames → ℕ → RegisterRule ℕ → List ℕ
-ruled names register rule = codes " " ++ register_text names register ++ codes "=" ++ rule_text names rule
+ruled names register rule =
+    codes " " ++ register_text names register ++ codes "=" ++ rule_text names rule
 
 -- what comes before the rules
 abbrev pub row_head : RegisterNames → Row ℕ → List ℕ
 row_head names row =
-    address_text row.start_address ++ codes " " ++ address_text row.end_address ++ codes " cfa=" ++ cfa_text names row.parts.cfa
+    address_text row.start_address ++ codes " " ++ address_text row.end_address ++ codes " cfa="
+    ++ cfa_text names row.parts.cfa
     ++ codes " args=" ++ decimal row.parts.args_size
 
 -- the rules of all registers, by rising number

@@ -36,7 +36,8 @@ first_words kind order size address = do
 
 -- what the words ask for, or none where they are wrong
 unfoldable pub request_of : List (List ℕ) → Option Request
-request_of (kind ∷ order ∷ size ∷ address ∷ options) = option_and_then (option_words options) (first_words kind order size address)
+request_of (kind ∷ order ∷ size ∷ address ∷ options) =
+    option_and_then (option_words options) (first_words kind order size address)
 request_of words = None
 
 -- What holds of each request that is asked for.

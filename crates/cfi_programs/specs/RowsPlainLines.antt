@@ -15,5 +15,8 @@ plain_answer : (answer : Result (Row ℕ) Error) → IsPlain (answer_line (text_
 plain_answer (Ok row) = record { beginning = refl; low = lit≤ tt }
 plain_answer (Err e) = record { beginning = refl; low = lit≤ tt }
 
-pub plain : (request : Request) (bytes : Bytes) (printed : Line) → rows_tool.IsLine request bytes printed → IsPlain printed
-plain request bytes printed (answer, is, e) = subst (λ line. IsPlain line) (sym e) (plain_answer answer)
+pub plain :
+    (request : Request) (bytes : Bytes) (printed : Line) → rows_tool.IsLine request bytes printed →
+    IsPlain printed
+plain request bytes printed (answer, is, e) =
+    subst (λ line. IsPlain line) (sym e) (plain_answer answer)

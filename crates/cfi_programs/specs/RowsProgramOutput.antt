@@ -25,7 +25,8 @@ pub record Room : Type 0 where
   pub copies_free : Bool  -- a row's rules are copied without taking memory
 
 abbrev pub room : Option ℕ → Option ℕ → Bool → Room
-room rule_limit stack_limit copies_free = record { rule_limit = rule_limit; stack_limit = stack_limit; copies_free = copies_free }
+room rule_limit stack_limit copies_free =
+    record { rule_limit = rule_limit; stack_limit = stack_limit; copies_free = copies_free }
 
 abbrev pub room_of : Storage → Room
 room_of OnHeap = room (Some 192) (Some 4) true
@@ -33,18 +34,26 @@ room_of Growing = room None None false
 
 -- ---- the answer
 
--- the FDE for the address, or the refusal in its place; the base is that of the header, where there is one
+-- the FDE for the address, or the refusal in its place; the base is that of the header, where there
+-- is one
 abbrev pub FoundByBase : Request → Bytes → Option ℕ → Result Fde Error → Type 0
-FoundByBase request bytes None found = found ≡ chosen_fde (section_of request.words bytes.section) request.address
+FoundByBase request bytes None found =
+    found ≡ chosen_fde (section_of request.words bytes.section) request.address
 FoundByBase request bytes (Some base) found =
-    FoundByHeader (section_of request.words bytes.section) request.address (header_section_of request.words base bytes.header) (header_of (header_section_of request.words base bytes.header)) found
+    FoundByHeader (section_of request.words bytes.section) request.address
+    (header_section_of request.words base bytes.header)
+    (header_of (header_section_of request.words base bytes.header)) found
 
--- What may be answered to a request: the row of the FDE that is found, or the first refusal on the way. Only an
--- instruction that may allocate may be refused for lack of it; where the room is fixed none is.
-pub record IsAnswer (room : Room) (request : Request) (bytes : Bytes) (answer : Result (Row ℕ) Error) : Type 0 where
+-- What may be answered to a request: the row of the FDE that is found, or the first refusal on the
+-- way. Only an instruction that may allocate may be refused for lack of it; where the room is fixed
+-- none is.
+pub record IsAnswer (room : Room) (request : Request) (bytes : Bytes)
+    (answer : Result (Row ℕ) Error) : Type 0 where
   pub found : Result Fde Error
   pub finds : FoundByBase request bytes request.words.header found
-  pub answers : IsRowOfFound room.rule_limit room.stack_limit room.copies_free (section_of request.words bytes.section) request.address found answer
+  pub answers :
+      IsRowOfFound room.rule_limit room.stack_limit room.copies_free
+      (section_of request.words bytes.section) request.address found answer
 
 -- ---- the line
 
@@ -54,7 +63,10 @@ rows_in room_for = record {
   Request = Request;
   request_of = request_of;
   meaning = λ request input. bytes_by request.words.header input;
-  IsLine = λ request bytes printed. (answer : Result (Row ℕ) Error) × IsAnswer (room_for request) request bytes answer × (printed ≡ answer_line (text_style Numbers) answer);
+  IsLine =
+      λ request bytes printed.
+      (answer : Result (Row ℕ) Error) × IsAnswer (room_for request) request bytes answer
+      × (printed ≡ answer_line (text_style Numbers) answer);
 }
 
 -- the program

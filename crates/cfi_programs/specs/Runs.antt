@@ -1,19 +1,22 @@
 -- Which output is right for the words and the input of a program, and what a run writes.
 --     LineOfWords tool words input printed      the output that is right for words and input
 --     IsLineFor tool request bytes printed      the output of a request, or that memory was refused
---     IsOwed tool request input printed      the same of words that may be wrong, or that the input can't be read
+--     IsOwed tool request input printed      the same of words that may be wrong, or that the input
+--         can't be read
 --     IsRun tool words input written status      what a run writes, and its status
 --     PrintsRun tool words input old new status      the same for a reader and a writer
-use Rattle.std.specs.Prelude.{◌≡◌, ◌⊎◌, ℕ, ◌≤◌, ◌<◌, ◌==◌, false, get_or, Option, Some, None, List, Result, IsSome, IfSome}
+use Rattle.std.specs.Prelude.{◌≡◌, ◌⊎◌, ℕ, ◌≤◌, ◌<◌, ◌==◌, false, get_or, Option, Some, None, List}
+use Rattle.std.specs.Prelude.{Result, IsSome, IfSome}
 use Rattle.std.specs.Io.KnownBytes.{Appends}
 use Rattle.std.specs.Option.{option_and_then}
 use Rattle.cfi_read_core.specs.declared.error.Error.TheVariants.{OutOfMemory}
 use Rattle.cfi_programs.specs.Input.{Bytes}
-use Rattle.cfi_programs.specs.Lines.{Line, refusal_line, wrong_words, wrong_hexadecimal, wrong_input}
+use Rattle.cfi_programs.specs.Lines.{Line, refusal_line, wrong_words, wrong_hexadecimal}
+use Rattle.cfi_programs.specs.Lines.{wrong_input}
 use Rattle.cfi_programs.specs.WriterOutput.{IsBeginning, Prints}
 
--- An executable: what its words ask for, or none where they are wrong; what its input means, or none where it is not
--- hexadecimal; and the outputs that are right for what it means.
+-- An executable: what its words ask for, or none where they are wrong; what its input means, or
+-- none where it is not hexadecimal; and the outputs that are right for what it means.
 pub record Tool : Type 1 where
   pub Request : Type 0
   pub request_of : List (List ℕ) → Option Request
@@ -21,15 +24,18 @@ pub record Tool : Type 1 where
   pub IsLine : Request → Bytes → Line → Type 0
 
 -- the tool of a type of requests
-abbrev pub tool_of : {Request : Type 0} → (List (List ℕ) → Option Request) → (Request → List ℕ → Option Bytes) → (Request → Bytes → Line → Type 0) → Tool
-tool_of {Request} request_of meaning is_line = record { Request = Request; request_of = request_of; meaning = meaning; IsLine = is_line }
+abbrev pub tool_of :
+    {Request : Type 0} → (List (List ℕ) → Option Request) → (Request → List ℕ → Option Bytes) →
+    (Request → Bytes → Line → Type 0) → Tool
+tool_of {Request} request_of meaning is_line =
+    record { Request = Request; request_of = request_of; meaning = meaning; IsLine = is_line }
 
 -- some words ask for the request
 abbrev pub IsAskedFor : {Request : Type 0} → (List (List ℕ) → Option Request) → Request → Type 0
 IsAskedFor request_of request = (words : List (List ℕ)) × (request_of words ≡ Some request)
 
--- The output of an answer does not begin with a w, as the lines do that say that words or input are wrong, and its
--- status is 0 or 1.
+-- The output of an answer does not begin with a w, as the lines do that say that words or input are
+-- wrong, and its status is 0 or 1.
 pub record IsPlain (printed : Line) : Type 0 where
   pub beginning : (get_or printed.text 0 0 == 119) ≡ false
   pub low : printed.status ≤ 1
@@ -42,9 +48,11 @@ LineOfInput tool request (Some bytes) printed = tool.IsLine request bytes printe
 
 abbrev pub LineOfRequest : (tool : Tool) → Option tool.Request → List ℕ → Line → Type 0
 LineOfRequest tool None input printed = printed ≡ wrong_words
-LineOfRequest tool (Some request) input printed = LineOfInput tool request (tool.meaning request input) printed
+LineOfRequest tool (Some request) input printed =
+    LineOfInput tool request (tool.meaning request input) printed
 
--- what is asked for by the words after the program's name, or none where they are wrong or can't be had
+-- what is asked for by the words after the program's name, or none where they are wrong or can't be
+-- had
 abbrev pub asked_for : (tool : Tool) → Option (List (List ℕ)) → Option tool.Request
 asked_for tool words = option_and_then tool.request_of words
 
@@ -63,33 +71,56 @@ abbrev pub IsLineFor : (tool : Tool) → tool.Request → Bytes → Line → Typ
 IsLineFor tool request bytes printed = tool.IsLine request bytes printed ⊎ (printed ≡ out_of_memory)
 
 -- the writer was given the output of a request, all of it or a beginning
-abbrev pub PrintsAnswer : {E : Type 0} → (tool : Tool) → tool.Request → Bytes → Option (List ℕ) → Option (List ℕ) → Result ℕ E → Type 0
-PrintsAnswer tool request bytes old new result = (printed : Line) × Prints printed old new result × IsLineFor tool request bytes printed
+abbrev pub PrintsAnswer :
+    {E : Type 0} → (tool : Tool) → tool.Request → Bytes → Option (List ℕ) → Option (List ℕ) →
+    Result ℕ E → Type 0
+PrintsAnswer tool request bytes old new result =
+    (printed : Line) × Prints printed old new result × IsLineFor tool request bytes printed
 
 -- an output that is right, or that there was no memory or no input
 abbrev pub IsOwed : (tool : Tool) → Option tool.Request → List ℕ → Line → Type 0
 IsOwed tool request input printed =
-    LineOfRequest tool request input printed ⊎ (IsSome request × ((printed ≡ out_of_memory) ⊎ (printed ≡ wrong_input)))
+    LineOfRequest tool request input printed
+    ⊎ (IsSome request × ((printed ≡ out_of_memory) ⊎ (printed ≡ wrong_input)))
 
--- where the bytes of the input are known, the writer was given what is owed for them, all of it or a beginning
-abbrev pub PrintsOwed : {E : Type 0} → (tool : Tool) → Option tool.Request → Option (List ℕ) → Option (List ℕ) → Option (List ℕ) → Result ℕ E → Type 0
+-- where the bytes of the input are known, the writer was given what is owed for them, all of it or
+-- a beginning
+abbrev pub PrintsOwed :
+    {E : Type 0} → (tool : Tool) → Option tool.Request → Option (List ℕ) → Option (List ℕ) →
+    Option (List ℕ) → Result ℕ E → Type 0
 PrintsOwed tool request input old new result =
-    IfSome input (λ bytes. (printed : Line) × Prints printed old new result × IsOwed tool request bytes printed)
+    IfSome input
+    (λ bytes.
+    (printed : Line) × Prints printed old new result × IsOwed tool request bytes printed)
 
 -- What was written by a run that ends with the status, for the words and all bytes of the input.
-pub record IsRun (tool : Tool) (words : Option (List (List ℕ))) (input written : List ℕ) (status : ℕ) : Type 0 where
+pub record IsRun (tool : Tool) (words : Option (List (List ℕ))) (input written : List ℕ)
+    (status : ℕ) : Type 0 where
   pub printed : Line
   pub owed : IsOwed tool (asked_for tool words) input printed
   -- all of it, with its status; or, where the output failed, a beginning of it
-  pub ends : ((written ≡ printed.text) × (status ≡ printed.status)) ⊎ (IsBeginning written printed.text × (status ≡ 2))
-  -- Where there is an answer, the words are right, and it is all that is written. Memory may have been refused.
-  pub answered : status ≤ 1 → IsSome (asked_for tool words) × (LineOfWords tool words input (record { text = written; status = status }) ⊎ (record { text = written; status = status } ≡ out_of_memory))
+  pub ends :
+      ((written ≡ printed.text) × (status ≡ printed.status))
+      ⊎ (IsBeginning written printed.text × (status ≡ 2))
+  -- Where there is an answer, the words are right, and it is all that is written. Memory may have
+  -- been refused.
+  pub answered :
+      status ≤ 1 →
+      IsSome (asked_for tool words)
+      × (LineOfWords tool words input (record { text = written; status = status })
+      ⊎ (record { text = written; status = status } ≡ out_of_memory))
   pub otherwise : 1 < status → status ≡ 2
   -- where the words or the input are said to be wrong, they are
-  pub words_wrong : status ≡ 2 → written ≡ wrong_words.text → LineOfWords tool words input wrong_words
-  pub hexadecimal_wrong : status ≡ 2 → written ≡ wrong_hexadecimal.text → LineOfWords tool words input wrong_hexadecimal
+  pub words_wrong :
+      status ≡ 2 → written ≡ wrong_words.text → LineOfWords tool words input wrong_words
+  pub hexadecimal_wrong :
+      status ≡ 2 → written ≡ wrong_hexadecimal.text → LineOfWords tool words input wrong_hexadecimal
 
--- where the bytes of the input are known, what the writer was given and the status are those of a run
-abbrev pub PrintsRun : Tool → Option (List (List ℕ)) → Option (List ℕ) → Option (List ℕ) → Option (List ℕ) → ℕ → Type 0
+-- where the bytes of the input are known, what the writer was given and the status are those of a
+-- run
+abbrev pub PrintsRun :
+    Tool → Option (List (List ℕ)) → Option (List ℕ) → Option (List ℕ) → Option (List ℕ) → ℕ → Type 0
 PrintsRun tool words input old new status =
-    IfSome input (λ bytes. (written : List ℕ) × Appends old new written × IsRun tool words bytes written status)
+    IfSome input
+    (λ bytes.
+    (written : List ℕ) × Appends old new written × IsRun tool words bytes written status)

@@ -10,7 +10,12 @@ use Rattle.cfi_programs.specs.declared.words.Kind.TheVariants.{DebugFrame, EhFra
 use Rattle.cfi_programs.specs.declared.words.SectionWords.{SectionWords}
 
 abbrev pub source_of : SectionWords → List ℕ → Source
-source_of words bytes = record { whole = bytes; last = length bytes; big_endian = is_big words.endian; greatest = 0xffffffffffffffff }
+source_of words bytes = record {
+  whole = bytes;
+  last = length bytes;
+  big_endian = is_big words.endian;
+  greatest = 0xffffffffffffffff;
+}
 
 abbrev pub kind_of_section : Kind → sections.SectionKind
 kind_of_section DebugFrame = sections.DebugFrame

@@ -1,5 +1,6 @@
 -- The words of the command line that say of what kind a section is, and where it lies.
-use Rattle.std.specs.Prelude.{◌≡◌, ℕ, ◌^◌, Bool, ◌&&◌, Option, Some, None, List, [], ◌∷◌, length, take, drop, map, nat_le, nat_lt, codes, if◌then◌else◌}
+use Rattle.std.specs.Prelude.{◌≡◌, ℕ, ◌^◌, Bool, ◌&&◌, Option, Some, None, List, [], ◌∷◌, length}
+use Rattle.std.specs.Prelude.{take, drop, map, nat_le, nat_lt, codes, if◌then◌else◌}
 use Rattle.std.specs.Borrow.{Bor}
 use Rattle.std.specs.Char.{is_ascii_digit, is_ascii_hexdigit}
 use Rattle.std.specs.List.{list_all}
@@ -27,7 +28,8 @@ texts_given words = option_map (λ list. texts list.now) words
 
 -- what comes after the start of a word that begins with it
 abbrev pub after_prefix : List ℕ → List ℕ → Option (List ℕ)
-after_prefix start word = if bytes_eq (take (length start) word) start then Some (drop (length start) word) else None
+after_prefix start word =
+    if bytes_eq (take (length start) word) start then Some (drop (length start) word) else None
 
 -- ---- numbers
 
@@ -39,11 +41,17 @@ below_2_64 n = if nat_lt n (2 ^ 64) then Some n else None
 
 -- 1 to 16 digits of either case, after 0x
 abbrev pub hexadecimal_number : List ℕ → Option ℕ
-hexadecimal_number digits = if has_length 16 digits && list_all is_ascii_hexdigit digits then Some (digits_value 16 digits) else None
+hexadecimal_number digits =
+    if has_length 16 digits && list_all is_ascii_hexdigit digits
+    then Some (digits_value 16 digits)
+    else None
 
 -- 1 to 20 digits
 abbrev pub decimal_number : List ℕ → Option ℕ
-decimal_number digits = if has_length 20 digits && list_all is_ascii_digit digits then below_2_64 (digits_value 10 digits) else None
+decimal_number digits =
+    if has_length 20 digits && list_all is_ascii_digit digits
+    then below_2_64 (digits_value 10 digits)
+    else None
 
 abbrev pub number_after : List ℕ → Option (List ℕ) → Option ℕ
 number_after word (Some digits) = hexadecimal_number digits
@@ -64,18 +72,23 @@ set_vendor words vendors.Default = Some (record words { vendor = vendors.AArch64
 set_vendor words vendors.AArch64 = None
 
 abbrev pub set_section : SectionWords → List ℕ → Option SectionWords
-set_section words digits = option_map (λ n. record words { section = Some n }) (once_given words.section (number digits))
+set_section words digits =
+    option_map (λ n. record words { section = Some n }) (once_given words.section (number digits))
 
 abbrev pub set_text : SectionWords → List ℕ → Option SectionWords
-set_text words digits = option_map (λ n. record words { text = Some n }) (once_given words.text (number digits))
+set_text words digits =
+    option_map (λ n. record words { text = Some n }) (once_given words.text (number digits))
 
 abbrev pub set_data_base : SectionWords → List ℕ → Option SectionWords
-set_data_base words digits = option_map (λ n. record words { data_base = Some n }) (once_given words.data_base (number digits))
+set_data_base words digits =
+    option_map (λ n. record words { data_base = Some n })
+    (once_given words.data_base (number digits))
 
 -- only .eh_frame has a header
 abbrev pub set_header : SectionWords → List ℕ → Kind → Option SectionWords
 set_header words digits DebugFrame = None
-set_header words digits EhFrame = option_map (λ n. record words { header = Some n }) (once_given words.header (number digits))
+set_header words digits EhFrame =
+    option_map (λ n. record words { header = Some n }) (once_given words.header (number digits))
 
 -- the first that fits: set by what comes after the start, or else what is otherwise asked for
 abbrev pub either : {A : Type 0} → Option (List ℕ) → (List ℕ → Option A) → Option A → Option A
@@ -88,7 +101,8 @@ section_word word words =
     else either (after_prefix (codes "section=") word) (set_section words)
     (either (after_prefix (codes "text=") word) (set_text words)
     (either (after_prefix (codes "data=") word) (set_data_base words)
-    (either (after_prefix (codes "header=") word) (λ digits. set_header words digits words.kind) None)))
+    (either (after_prefix (codes "header=") word) (λ digits. set_header words digits words.kind)
+    None)))
 
 -- each word in turn, where none is wrong
 unfoldable pub each_word : {A : Type 0} → (List ℕ → A → Option A) → List (List ℕ) → A → Option A
@@ -98,10 +112,14 @@ each_word read (word ∷ words) value = option_and_then (each_word read words) (
 -- ---- the first words
 
 abbrev pub kind_of : List ℕ → Option Kind
-kind_of word = if bytes_eq word (codes "debug_frame") then Some DebugFrame else if bytes_eq word (codes "eh_frame") then Some EhFrame else None
+kind_of word =
+    if bytes_eq word (codes "debug_frame") then Some DebugFrame
+    else if bytes_eq word (codes "eh_frame") then Some EhFrame else None
 
 abbrev pub order_of : List ℕ → Option RunTimeEndian
-order_of word = if bytes_eq word (codes "le") then Some Little else if bytes_eq word (codes "be") then Some Big else None
+order_of word =
+    if bytes_eq word (codes "le") then Some Little
+    else if bytes_eq word (codes "be") then Some Big else None
 
 abbrev pub size_of : List ℕ → Option ℕ
 size_of word =
@@ -131,6 +149,7 @@ first_words kind order size = do
     header = None;
   })
 
--- What holds of the words of each section: the size of an address is known, and only .eh_frame has a header.
+-- What holds of the words of each section: the size of an address is known, and only .eh_frame has
+-- a header.
 abbrev pub AreRead : SectionWords → Type 0
 AreRead words = IsAddressSize words.address_size × (IsSome words.header → words.kind ≡ EhFrame)

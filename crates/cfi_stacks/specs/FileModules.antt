@@ -12,10 +12,13 @@ use Rattle.cfi_stacks.specs.declared.profile_files.ProfileFile.{ProfileFile}
 use Rattle.cfi_stacks.specs.Objects.{HasFramesOf}
 
 abbrev pub IsOfFile : ℕ → ProfileFile → LoadedModule (EndianSlice RunTimeEndian) → Type 0
-IsOfFile number file loaded = (code : FileCode) × (file.code ≡ Some code) × HasFramesOf number code.object loaded
+IsOfFile number file loaded =
+    (code : FileCode) × (file.code ≡ Some code) × HasFramesOf number code.object loaded
 
 abbrev pub IsOfFiles : List ProfileFile → LoadedModule (EndianSlice RunTimeEndian) → Type 0
-IsOfFiles files loaded = (file : ProfileFile) × (slice_get files loaded.file ≡ Some file) × IsOfFile loaded.file file loaded
+IsOfFiles files loaded =
+    (file : ProfileFile) × (slice_get files loaded.file ≡ Some file)
+    × IsOfFile loaded.file file loaded
 
 abbrev pub AreOfFiles : List ProfileFile → List (LoadedModule (EndianSlice RunTimeEndian)) → Type 0
 AreOfFiles files modules = All (IsOfFiles files) modules

@@ -1,8 +1,10 @@
--- The module that call frames of a file are where the file is mapped (LSB Core, "Exception Frames"; System V ABI
--- chapter 5, "Program Loading").
+-- The module that call frames of a file are where the file is mapped (LSB Core, "Exception Frames";
+-- System V ABI chapter 5, "Program Loading").
 --     Module, module_view      a module by its code and its sections, and that of the code
---     file_section frames, file_header frames      .eh_frame and its header, at the addresses that the file has
---     loaded_module number frames table mapped bias      the module, with the file's number and this compiled table
+--     file_section frames, file_header frames      .eh_frame and its header, at the addresses that
+--         the file has
+--     loaded_module number frames table mapped bias      the module, with the file's number and
+--         this compiled table
 use Rattle.std.specs.Prelude.{ℕ, Option, option_map}
 use Rattle.cfi_read_core.specs.declared.endianity.RunTimeEndian.{RunTimeEndian}
 use Rattle.cfi_read_core.specs.AddressSizes.{size_in_bytes}
@@ -39,7 +41,9 @@ module_view loaded =
       bias = loaded.bias;
       file = loaded.file;
       section = section_view (slice_position is_big) loaded.frame loaded.bases;
-      header = option_map (λ header. unparsed_view (slice_position is_big) header size loaded.bases) loaded.header;
+      header =
+          option_map (λ header. unparsed_view (slice_position is_big) header size loaded.bases)
+          loaded.header;
       compiled = option_map (λ table. table.now) loaded.compiled;
     }
 
@@ -48,7 +52,8 @@ abbrev pub file_section : Frames → Section
 file_section frames = section_of (record frames.words { kind = EhFrame }) frames.section
 
 abbrev pub file_header : Frames → Option HeaderSection
-file_header frames = option_map (λ base. header_section_of frames.words base frames.header) frames.words.header
+file_header frames =
+    option_map (λ base. header_section_of frames.words base frames.header) frames.words.header
 
 -- .eh_frame and its header as they lie in the file, and the code as it lies in the process
 abbrev pub loaded_module : ℕ → Frames → Option TableContents → MappedCode → ℕ → Module

@@ -3,8 +3,10 @@
 --     object_of bytes      the file of these bytes, if it has .eh_frame
 --     bias_of object mapped      how far its code is moved
 --     has_table frames      whether a compiled table is made
---     module_of number object table mapped      the module, with the file's number and this compiled table, if there is one
---     HasFramesOf number object loaded      a module of the code has the file's number and its call frames
+--     module_of number object table mapped      the module, with the file's number and this
+--         compiled table, if there is one
+--     HasFramesOf number object loaded      a module of the code has the file's number and its call
+--         frames
 use Rattle.std.specs.Prelude.{◌≡◌, ℕ, Bool, not, List, Option, None, Result, Ok, Err, option_map}
 use Rattle.std.specs.Option.{is_some, option_and_then}
 use Rattle.std.specs.Result.{result_ok}
@@ -34,24 +36,29 @@ there (Ok found) = found
 there (Err e) = None
 
 abbrev pub with_frames : File → Option Object
-with_frames file = option_map (λ frames. record { file = file; frames = frames }) (there (eh_frame_of file))
+with_frames file =
+    option_map (λ frames. record { file = file; frames = frames }) (there (eh_frame_of file))
 
 -- the file of these bytes, if it can be read and has .eh_frame
 abbrev pub object_of : List ℕ → Option Object
 object_of bytes = option_and_then with_frames (result_ok (elf_file bytes))
 
--- the byte at the first mapped address is that at the offset in the file, which has an address of the file's own
+-- the byte at the first mapped address is that at the offset in the file, which has an address of
+-- the file's own
 abbrev pub bias_of : Object → MappedCode → Option ℕ
-bias_of object mapped = option_map (minus mapped.start) (there (address_of_offset object.file mapped.offset))
+bias_of object mapped =
+    option_map (minus mapped.start) (there (address_of_offset object.file mapped.offset))
 
 -- where each row is else found by a scan
 abbrev pub has_table : Frames → Bool
 has_table frames = not (is_some frames.words.header)
 
 abbrev pub module_of : ℕ → Object → Option TableContents → MappedCode → Option Module
-module_of number object table mapped = option_map (loaded_module number object.frames table mapped) (bias_of object mapped)
+module_of number object table mapped =
+    option_map (loaded_module number object.frames table mapped) (bias_of object mapped)
 
 -- wherever the file is mapped
 abbrev pub HasFramesOf : ℕ → ObjectOfCode → LoadedModule (EndianSlice RunTimeEndian) → Type 0
 HasFramesOf number object loaded =
-    (loaded.file ≡ number) × (loaded.frame ≡ object.frame) × (loaded.header ≡ object.header) × (loaded.bases ≡ object.bases)
+    (loaded.file ≡ number) × (loaded.frame ≡ object.frame) × (loaded.header ≡ object.header)
+    × (loaded.bases ≡ object.bases)

@@ -1,10 +1,14 @@
 -- Which output is right for a profile.
 --     stack_text raw files list frames      the lines of frames, where this is mapped
 --     IsStackText raw machine files list time sample text      the text of a sample's stack
---     AreStacks raw machine files before records text      the texts of the samples, in the order of the records
---     IsPrinted .. records error line      these, and then the error that ended the records; or a beginning of them, and that memory was refused
---     IsOutput raw may_open remaining bytes line      the output of a profile of these bytes, whose files may be opened so
-use Rattle.std.specs.Prelude.{◌≡◌, ◌⊎◌, ℕ, Bool, true, List, [], ◌∷◌, ◌++◌, Option, Some, None, Result, Ok, Err, codes, map, take}
+--     AreStacks raw machine files before records text      the texts of the samples, in the order
+--         of the records
+--     IsPrinted .. records error line      these, and then the error that ended the records; or a
+--         beginning of them, and that memory was refused
+--     IsOutput raw may_open remaining bytes line      the output of a profile of these bytes, whose
+--         files may be opened so
+use Rattle.std.specs.Prelude.{◌≡◌, ◌⊎◌, ℕ, Bool, true, List, [], ◌∷◌, ◌++◌, Option, Some, None}
+use Rattle.std.specs.Prelude.{Result, Ok, Err, codes, map, take}
 use Rattle.std.specs.List.{flat_map}
 use Rattle.std.specs.List.Sorted.{IsSortedByKey, IsStableByKey}
 use Rattle.std.specs.Ordering.{nat_cmp}
@@ -40,27 +44,35 @@ use Rattle.cfi_stacks.specs.StackTexts.{head_line, site_line}
 
 -- a frame is looked up as its row is: a return address less one
 abbrev pub frame_text : Bool → List KnownFile → List MappedCode → StackFrame → List ℕ
-frame_text raw files list frame = site_line raw (site_of files list (row_address frame.pc frame.is_interrupted))
+frame_text raw files list frame =
+    site_line raw (site_of files list (row_address frame.pc frame.is_interrupted))
 
 abbrev pub stack_text : Bool → List KnownFile → List MappedCode → List StackFrame → List ℕ
 stack_text raw files list frames = flat_map (frame_text raw files list) frames
 
 -- the frames of a walk and why there are no more, or why there are none
-abbrev pub walk_text : Bool → List KnownFile → List MappedCode → Result Walk NoFrames → List StackFrame → List ℕ
-walk_text raw files list (Ok walk) room = stack_text raw files list (take walk.count room) ++ reason_line (reason_of walk.end)
+abbrev pub walk_text :
+    Bool → List KnownFile → List MappedCode → Result Walk NoFrames → List StackFrame → List ℕ
+walk_text raw files list (Ok walk) room =
+    stack_text raw files list (take walk.count room) ++ reason_line (reason_of walk.end)
 walk_text raw files list (Err why) room = reason_line (Some (reason_without why))
 
 -- behind a line with the thread and the time, and before an empty line
-abbrev pub sample_text : Bool → List KnownFile → List MappedCode → ℕ → Sample → Result Walk NoFrames → List StackFrame → List ℕ
-sample_text raw files list time s result room = head_line s.pid s.tid time ++ (walk_text raw files list result room ++ 10 ∷ [])
+abbrev pub sample_text :
+    Bool → List KnownFile → List MappedCode → ℕ → Sample → Result Walk NoFrames → List StackFrame →
+    List ℕ
+sample_text raw files list time s result room =
+    head_line s.pid s.tid time ++ (walk_text raw files list result room ++ 10 ∷ [])
 
 module _ (raw : Bool) (machine : SampleMachine) (files : List KnownFile) where
   -- by the modules that are mapped, in a room for 4096 frames and a storage of 192 rules and 4 rows
   abbrev pub IsStackText : List MappedCode → ℕ → Sample → List ℕ → Type 0
   IsStackText list time s text =
-      (modules : List (LoadedModule (EndianSlice RunTimeEndian))) × (old : Room) × (result : Result Walk NoFrames) × (new : Room)
+      (modules : List (LoadedModule (EndianSlice RunTimeEndian))) × (old : Room)
+      × (result : Result Walk NoFrames) × (new : Room)
       × (map module_view modules ≡ modules_in files list) × HasRoom old.frames
-      × IsUnwound (slice_position is_big) (λ n. n) (Some 192) (Some 4) true modules machine s.user old result new
+      × IsUnwound (slice_position is_big) (λ n. n) (Some 192) (Some 4) true modules machine s.user
+      old result new
       × (text ≡ sample_text raw files list time s result new.frames)
 
   abbrev pub IsTextOf : (ℕ → List MappedCode) → ℕ → Event → List ℕ → Type 0
@@ -70,7 +82,8 @@ module _ (raw : Bool) (machine : SampleMachine) (files : List KnownFile) where
   abbrev pub AreStacks : (ℕ → List MappedCode) → List Record → List ℕ → Type 0
   AreStacks before [] text = text ≡ []
   AreStacks before (r ∷ records) text =
-      (first : List ℕ) × (others : List ℕ) × IsTextOf before r.time r.event first × AreStacks (after files r.event before) records others × (text ≡ first ++ others)
+      (first : List ℕ) × (others : List ℕ) × IsTextOf before r.time r.event first
+      × AreStacks (after files r.event before) records others × (text ≡ first ++ others)
 
 -- ---- all samples
 
@@ -86,10 +99,13 @@ ended text (Some error) = record { text = text ++ (perf_refusal error).text; sta
 abbrev pub nothing_mapped : ℕ → List MappedCode
 nothing_mapped pid = []
 
-abbrev pub IsPrinted : Bool → SampleMachine → List KnownFile → List Record → Option PerfError → Line → Type 0
+abbrev pub IsPrinted :
+    Bool → SampleMachine → List KnownFile → List Record → Option PerfError → Line → Type 0
 IsPrinted raw machine files records error printed =
-    ((text : List ℕ) × AreStacks raw machine files nothing_mapped records text × (printed ≡ ended text error))
-    ⊎ ((n : ℕ) × (text : List ℕ) × AreStacks raw machine files nothing_mapped (take n records) text × (printed ≡ record { text = text ++ out_of_memory.text; status = 1 }))
+    ((text : List ℕ) × AreStacks raw machine files nothing_mapped records text
+    × (printed ≡ ended text error))
+    ⊎ ((n : ℕ) × (text : List ℕ) × AreStacks raw machine files nothing_mapped (take n records) text
+    × (printed ≡ record { text = text ++ out_of_memory.text; status = 1 }))
 
 -- ---- a profile
 
@@ -110,15 +126,20 @@ abbrev pub IsSortedOf : Records → List Record → Option PerfError → Type 0
 IsSortedOf found sorted error = AreInTimeOrder found.records sorted × (error ≡ found.error)
 
 -- by files that were opened
-abbrev pub IsOfOpened : Bool → SampleMachine → List Opened → List Record → Option PerfError → Line → Type 0
+abbrev pub IsOfOpened :
+    Bool → SampleMachine → List Opened → List Record → Option PerfError → Line → Type 0
 IsOfOpened raw machine opened sorted error printed =
-    (files : List KnownFile) × AreFilesOf opened files × IsPrinted raw machine files sorted error printed
+    (files : List KnownFile) × AreFilesOf opened files
+    × IsPrinted raw machine files sorted error printed
 
-module _ (raw : Bool) {Handle : Type 0} (may_open : List ℕ → Option Handle → Type 0) (remaining : Handle → Option (List ℕ)) where
+module _ (raw : Bool) {Handle : Type 0} (may_open : List ℕ → Option Handle → Type 0)
+    (remaining : Handle → Option (List ℕ)) where
   -- by the files of these names
-  abbrev pub IsOfNamed : SampleMachine → List (List ℕ) → List Record → Option PerfError → Line → Type 0
+  abbrev pub IsOfNamed :
+      SampleMachine → List (List ℕ) → List Record → Option PerfError → Line → Type 0
   IsOfNamed machine names sorted error printed =
-      (opened : List Opened) × AreOpened may_open remaining names opened × IsOfOpened raw machine opened sorted error printed
+      (opened : List Opened) × AreOpened may_open remaining names opened
+      × IsOfOpened raw machine opened sorted error printed
 
   abbrev pub IsOfSorted : SampleMachine → List Record → Option PerfError → Line → Type 0
   IsOfSorted machine sorted error printed = IsOfNamed machine (names_of sorted) sorted error printed
@@ -126,7 +147,9 @@ module _ (raw : Bool) {Handle : Type 0} (may_open : List ℕ → Option Handle �
   -- or memory was refused before the first stack
   abbrev pub IsOfRecords : SampleMachine → Records → Line → Type 0
   IsOfRecords machine found printed =
-      ((sorted : List Record) × AreInTimeOrder found.records sorted × IsOfSorted machine sorted found.error printed) ⊎ (printed ≡ out_of_memory)
+      ((sorted : List Record) × AreInTimeOrder found.records sorted
+      × IsOfSorted machine sorted found.error printed)
+      ⊎ (printed ≡ out_of_memory)
 
   abbrev pub IsOfMachine : Option SampleMachine → Records → Line → Type 0
   IsOfMachine None found printed = printed ≡ unknown_machine
@@ -146,4 +169,5 @@ module _ (raw : Bool) {Handle : Type 0} (may_open : List ℕ → Option Handle �
 
   -- or there was no memory, or the input can't be read
   abbrev pub IsOwed : List ℕ → Line → Type 0
-  IsOwed bytes printed = IsOutput bytes printed ⊎ ((printed ≡ out_of_memory) ⊎ (printed ≡ wrong_input))
+  IsOwed bytes printed =
+      IsOutput bytes printed ⊎ ((printed ≡ out_of_memory) ⊎ (printed ≡ wrong_input))

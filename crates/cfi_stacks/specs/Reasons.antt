@@ -1,17 +1,30 @@
 -- Why a stack has no more frames, as it is printed.
---     reason_of end      the reason why a walk has no more frames; none where its last frame is the outermost one
+--     reason_of end      the reason why a walk has no more frames; none where its last frame is the
+--         outermost one
 --     reason_without why      the reason why a sample has no frames
 --     reason_line reason      its line
 use Rattle.std.specs.Prelude.{List, [], ◌∷◌, ◌++◌, ℕ, Option, Some, None, codes}
 use Rattle.cfi_read_core.specs.declared.error.Error.{Error}
 use Rattle.cfi_read_core.specs.RefusalNames.{name_of}
 use Rattle.cfi_expression.specs.declared.error.FrameError.{FrameError}
-use Rattle.cfi_expression.specs.declared.error.FrameError.TheVariants.{NoRow, Unreadable, UnsupportedOperation, UnsupportedSize, UnknownRegister, UnreadableMemory, NotEnoughStackItems, StackFull, DivisionByZero, BadBranchTarget, TooManyIterations, ArchitecturalRule}
+use Rattle.cfi_expression.specs.declared.error.FrameError.TheVariants.{NoRow, Unreadable}
+use Rattle.cfi_expression.specs.declared.error.FrameError.TheVariants.{UnsupportedOperation}
+use Rattle.cfi_expression.specs.declared.error.FrameError.TheVariants.{UnsupportedSize}
+use Rattle.cfi_expression.specs.declared.error.FrameError.TheVariants.{UnknownRegister}
+use Rattle.cfi_expression.specs.declared.error.FrameError.TheVariants.{UnreadableMemory}
+use Rattle.cfi_expression.specs.declared.error.FrameError.TheVariants.{NotEnoughStackItems}
+use Rattle.cfi_expression.specs.declared.error.FrameError.TheVariants.{StackFull, DivisionByZero}
+use Rattle.cfi_expression.specs.declared.error.FrameError.TheVariants.{BadBranchTarget}
+use Rattle.cfi_expression.specs.declared.error.FrameError.TheVariants.{TooManyIterations}
+use Rattle.cfi_expression.specs.declared.error.FrameError.TheVariants.{ArchitecturalRule}
 use Rattle.cfi_step.specs.declared.walk.End.{End}
-use Rattle.cfi_step.specs.declared.walk.End.TheVariants.{Outermost, NoModule, Failed, NotRising, NoRoom}
+use Rattle.cfi_step.specs.declared.walk.End.TheVariants.{Outermost, NoModule, Failed, NotRising}
+use Rattle.cfi_step.specs.declared.walk.End.TheVariants.{NoRoom}
 use Rattle.cfi_stacks.specs.declared.reasons.Reason.{Reason as ReasonOfCode}
 use Rattle.cfi_stacks.specs.declared.sample_stack.NoFrames.{NoFrames}
-use Rattle.cfi_stacks.specs.declared.sample_stack.NoFrames.TheVariants.{NoRegisters, OtherAbi, NoProgramCounter, NoStackPointer}
+use Rattle.cfi_stacks.specs.declared.sample_stack.NoFrames.TheVariants.{NoRegisters, OtherAbi}
+use Rattle.cfi_stacks.specs.declared.sample_stack.NoFrames.TheVariants.{NoProgramCounter}
+use Rattle.cfi_stacks.specs.declared.sample_stack.NoFrames.TheVariants.{NoStackPointer}
 
 -- the name of a variant, and the error of the call frames that it carries
 pub record Reason : Type 0 where

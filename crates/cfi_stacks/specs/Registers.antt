@@ -1,10 +1,13 @@
--- The registers of samples, under the numbers of two documents: perf's (asm/perf_regs.h of each machine) and DWARF's (System V
--- psABI of x86-64, figure 3.36; DWARF for the Arm 64-bit Architecture, "DWARF register names").
+-- The registers of samples, under the numbers of two documents: perf's (asm/perf_regs.h of each
+-- machine) and DWARF's (System V psABI of x86-64, figure 3.36; DWARF for the Arm 64-bit
+-- Architecture, "DWARF register names").
 --     machine_named architecture      the machine of a name of `uname -m`
 --     perf_number machine k      perf's number of the register that has DWARF's number k
---     register_count, pc_number machine      how many registers have one, and DWARF's number of the pc
+--     register_count, pc_number machine      how many registers have one, and DWARF's number of the
+--         pc
 --     abi_of machine      what the ABI says of its frames
-use Rattle.std.specs.Prelude.{ℕ, List, [], ◌∷◌, codes, nat_eq, nat_lt, position, Option, Some, None, if◌then◌else◌}
+use Rattle.std.specs.Prelude.{ℕ, List, [], ◌∷◌, codes, nat_eq, nat_lt, position, Option, Some, None}
+use Rattle.std.specs.Prelude.{if◌then◌else◌}
 use Rattle.std.specs.Cmp.Lexicographic.{pointwise}
 use Rattle.std.specs.List.{slice_get}
 use Rattle.std.specs.Option.{option_and_then}
@@ -23,18 +26,22 @@ machine_named name =
 -- r8 to r15
 abbrev pub eight_more : List (List ℕ) → List (List ℕ)
 eight_more others =
-    codes "R8" ∷ codes "R9" ∷ codes "R10" ∷ codes "R11" ∷ codes "R12" ∷ codes "R13" ∷ codes "R14" ∷ codes "R15" ∷ others
+    codes "R8" ∷ codes "R9" ∷ codes "R10" ∷ codes "R11" ∷ codes "R12" ∷ codes "R13" ∷ codes "R14"
+    ∷ codes "R15" ∷ others
 
 -- the registers of x86-64 in the order of perf's numbers, by perf's names
 abbrev pub x86_64_by_perf : List (List ℕ)
 x86_64_by_perf =
-    codes "AX" ∷ codes "BX" ∷ codes "CX" ∷ codes "DX" ∷ codes "SI" ∷ codes "DI" ∷ codes "BP" ∷ codes "SP"
-    ∷ codes "IP" ∷ codes "FLAGS" ∷ codes "CS" ∷ codes "SS" ∷ codes "DS" ∷ codes "ES" ∷ codes "FS" ∷ codes "GS" ∷ eight_more []
+    codes "AX" ∷ codes "BX" ∷ codes "CX" ∷ codes "DX" ∷ codes "SI" ∷ codes "DI" ∷ codes "BP"
+    ∷ codes "SP"
+    ∷ codes "IP" ∷ codes "FLAGS" ∷ codes "CS" ∷ codes "SS" ∷ codes "DS" ∷ codes "ES" ∷ codes "FS"
+    ∷ codes "GS" ∷ eight_more []
 
 -- the same in the order of DWARF's numbers, where 16 is the return address
 abbrev pub x86_64_by_dwarf : List (List ℕ)
 x86_64_by_dwarf =
-    codes "AX" ∷ codes "DX" ∷ codes "CX" ∷ codes "BX" ∷ codes "SI" ∷ codes "DI" ∷ codes "BP" ∷ codes "SP" ∷ eight_more (codes "IP" ∷ [])
+    codes "AX" ∷ codes "DX" ∷ codes "CX" ∷ codes "BX" ∷ codes "SI" ∷ codes "DI" ∷ codes "BP"
+    ∷ codes "SP" ∷ eight_more (codes "IP" ∷ [])
 
 -- the place of a name among names
 abbrev pub place_of : List (List ℕ) → List ℕ → Option ℕ
@@ -59,8 +66,14 @@ pc_number AArch64 = 32
 
 -- ---- frames
 
--- The stack pointer is rsp or sp. The signature of a return address of AArch64 may be in all bits above the 48 of an address but bit 55 (Arm
--- Architecture Reference Manual, "Pointer authentication").
+-- The stack pointer is rsp or sp. The signature of a return address of AArch64 may be in all bits
+-- above the 48 of an address but bit 55 (Arm Architecture Reference Manual, "Pointer
+-- authentication").
 abbrev pub abi_of : SampleMachine → Abi
-abi_of X86_64 = record { stack_pointer = record { 0 = 7 }; signature_mask = 0; max_iterations = 1000 }
-abi_of AArch64 = record { stack_pointer = record { 0 = 31 }; signature_mask = 0xff7f000000000000; max_iterations = 1000 }
+abi_of X86_64 =
+    record { stack_pointer = record { 0 = 7 }; signature_mask = 0; max_iterations = 1000 }
+abi_of AArch64 = record {
+  stack_pointer = record { 0 = 31 };
+  signature_mask = 0xff7f000000000000;
+  max_iterations = 1000;
+}

@@ -1,12 +1,15 @@
 -- What the records of a profile say of processes, one after the other.
---     names_of records      the names that executable mappings have, each once, in the order of the records
+--     names_of records      the names that executable mappings have, each once, in the order of the
+--         records
 --     after files event before      what is mapped in each process after a record
 --     replayed replay      what is mapped in each process, for a replay of the code
 --     HasOwnModules replay      its modules are of its files
-use Rattle.std.specs.Prelude.{◌≡◌, ℕ, ◌+◌, ◌-◌, ◌^◌, Bool, List, [], ◌∷◌, ◌++◌, Option, Some, None, fold, map, min, position, ⊤, if◌then◌else◌}
+use Rattle.std.specs.Prelude.{◌≡◌, ℕ, ◌+◌, ◌-◌, ◌^◌, Bool, List, [], ◌∷◌, ◌++◌, Option, Some, None}
+use Rattle.std.specs.Prelude.{fold, map, min, position, ⊤, if◌then◌else◌}
 use Rattle.std.specs.List.{list_any}
 use Rattle.std.specs.Str.{bytes_eq}
-use Rattle.cfi_perf.specs.Events.{Event, Mapping, Record, ForkEvent, MappingEvent, OtherEvent, ProgramEvent, SampleEvent}
+use Rattle.cfi_perf.specs.Events.{Event, Mapping, Record, ForkEvent, MappingEvent, OtherEvent}
+use Rattle.cfi_perf.specs.Events.{ProgramEvent, SampleEvent}
 use Rattle.cfi_stacks.specs.declared.mappings.MappedCode.{MappedCode}
 use Rattle.cfi_stacks.specs.declared.replay.Replay.{Replay}
 use Rattle.cfi_stacks.specs.Histories.{Change, executed, forked, mapped, mappings_after}
@@ -37,11 +40,17 @@ names_of records = fold (λ names r. with_name names (code_name r.event)) [] rec
 
 -- which of the files is mapped; none where it isn't mapped as code
 abbrev pub object_of : List KnownFile → Mapping → Option ℕ
-object_of files m = if m.is_executable then position (λ file. bytes_eq file.name m.name) files else None
+object_of files m =
+    if m.is_executable then position (λ file. bytes_eq file.name m.name) files else None
 
 -- up to the last address at most
 abbrev pub mapped_code : List KnownFile → Mapping → MappedCode
-mapped_code files m = record { start = m.address; end = min (m.address + m.length) (2 ^ 64 - 1); offset = m.offset; object = object_of files m }
+mapped_code files m = record {
+  start = m.address;
+  end = min (m.address + m.length) (2 ^ 64 - 1);
+  offset = m.offset;
+  object = object_of files m;
+}
 
 -- ---- the processes
 
@@ -69,7 +78,8 @@ files_in replay = map known_view replay.files.now
 
 -- before a sample is unwound the modules are those of its process
 abbrev pub AreModulesFor : Event → Replay → Type 0
-AreModulesFor (SampleEvent s) replay = map module_view replay.modules.items ≡ modules_in (files_in replay) (replayed replay s.pid)
+AreModulesFor (SampleEvent s) replay =
+    map module_view replay.modules.items ≡ modules_in (files_in replay) (replayed replay s.pid)
 AreModulesFor _ replay = ⊤
 
 abbrev pub HasOwnModules : Replay → Type 0

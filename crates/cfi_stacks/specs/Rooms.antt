@@ -1,8 +1,10 @@
 -- The room that samples are unwound in, and the rows that it keeps of the files of a profile.
 --     KeepsNoRows room      no row is kept
 --     AreRowsOf loaded cache      the rows of its file are those of this module
---     AreKeptFor files cache      they are those of any module that one of the files is, wherever it is mapped
---     IsRoomFor files room      there is room for all frames of a stack, and the rows that are kept are right for the files
+--     AreKeptFor files cache      they are those of any module that one of the files is, wherever
+--         it is mapped
+--     IsRoomFor files room      there is room for all frames of a stack, and the rows that are kept
+--         are right for the files
 use Rattle.std.specs.Prelude.{List, Some, true}
 use Rattle.cfi_read_core.specs.declared.endianity.RunTimeEndian.{RunTimeEndian}
 use Rattle.cfi_read_core.specs.ByteOrder.{is_big}
@@ -24,7 +26,9 @@ AreRowsOf loaded cache = AreCachedIn (slice_position is_big) 8 (Some 192) (Some 
 
 -- in any process, and at any bias
 abbrev pub AreKeptFor : List ProfileFile → List CachedRow → Type 0
-AreKeptFor files cache = (loaded : LoadedModule (EndianSlice RunTimeEndian)) → IsOfFiles files loaded → AreRowsOf loaded cache
+AreKeptFor files cache =
+    (loaded : LoadedModule (EndianSlice RunTimeEndian)) → IsOfFiles files loaded →
+    AreRowsOf loaded cache
 
 abbrev pub IsRoomFor : List ProfileFile → Room → Type 0
 IsRoomFor files room = HasRoom room.frames.items × AreKeptFor files room.cache.items

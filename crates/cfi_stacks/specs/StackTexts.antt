@@ -3,7 +3,8 @@
 --     head_line pid tid time      the line of the thread and the time
 --     without_function site      the same, less its function
 --     site_line raw site      the line of a frame, raw or with its function
-use Rattle.std.specs.Prelude.{ℕ, ◌-◌, ◌/◌, ◌%◌, Bool, List, [], ◌∷◌, ◌++◌, Option, Some, None, codes, false, length, map, option_map, take, if◌then◌else◌}
+use Rattle.std.specs.Prelude.{ℕ, ◌-◌, ◌/◌, ◌%◌, Bool, List, [], ◌∷◌, ◌++◌, Option, Some, None}
+use Rattle.std.specs.Prelude.{codes, false, length, map, option_map, take, if◌then◌else◌}
 use Rattle.std.specs.Fmt.{decimal, digits}
 use Rattle.cfi_elf.specs.FunctionPlaces.{Place, place_view}
 use Rattle.cfi_programs.specs.FunctionLines.{shown}
@@ -18,21 +19,30 @@ filled fill text = take (length fill - length text) fill ++ text
 
 -- nanoseconds as seconds, with six digits behind the point
 abbrev pub seconds_text : ℕ → List ℕ
-seconds_text time = decimal (time / 1000000000) ++ codes "." ++ filled (codes "000000") (decimal (time / 1000 % 1000000))
+seconds_text time =
+    decimal (time / 1000000000) ++ codes "."
+    ++ filled (codes "000000") (decimal (time / 1000 % 1000000))
 
 abbrev pub head_line : ℕ → ℕ → ℕ → List ℕ
-head_line pid tid time = decimal pid ++ codes "/" ++ decimal tid ++ codes " " ++ seconds_text time ++ (codes ":" ++ 10 ∷ [])
+head_line pid tid time =
+    decimal pid ++ codes "/" ++ decimal tid ++ codes " " ++ seconds_text time
+    ++ (codes ":" ++ 10 ∷ [])
 
 -- ---- a frame
 
--- the place in the file that is mapped at an address, the function whose bytes have it, and the file's name
+-- the place in the file that is mapped at an address, the function whose bytes have it, and the
+-- file's name
 pub record Site : Type 0 where
   pub place : ℕ
   pub function : Option Place
   pub file : Option (List ℕ)
 
 abbrev pub site_view : SiteOfCode → Site
-site_view site = record { place = site.place; function = option_map place_view site.function; file = option_map (λ name. name.bytes.now) site.file }
+site_view site = record {
+  place = site.place;
+  function = option_map place_view site.function;
+  file = option_map (λ name. name.bytes.now) site.file;
+}
 
 abbrev pub without_function : Site → Site
 without_function site = record site { function = None }
@@ -50,15 +60,20 @@ file_text (Some name) = map shown name
 
 -- behind a tab, in sixteen columns
 abbrev pub column_text : ℕ → List ℕ
-column_text place = codes "\t" ++ filled (codes "                ") (digits 16 false place) ++ codes " "
+column_text place =
+    codes "\t" ++ filled (codes "                ") (digits 16 false place) ++ codes " "
 
 -- the place, the function, and the file in parentheses
 abbrev pub frame_line : Site → List ℕ
-frame_line site = column_text site.place ++ (function_text site.function ++ (codes " (" ++ (file_text site.file ++ (codes ")" ++ 10 ∷ []))))
+frame_line site =
+    column_text site.place
+    ++ (function_text site.function
+    ++ (codes " (" ++ (file_text site.file ++ (codes ")" ++ 10 ∷ []))))
 
 -- the place, and the file in parentheses
 abbrev pub place_line : Site → List ℕ
-place_line site = column_text site.place ++ (codes "(" ++ (file_text site.file ++ (codes ")" ++ 10 ∷ [])))
+place_line site =
+    column_text site.place ++ (codes "(" ++ (file_text site.file ++ (codes ")" ++ 10 ∷ [])))
 
 -- raw: the function is left out
 abbrev pub site_line : Bool → Site → List ℕ

@@ -1,12 +1,15 @@
--- Rows that are kept for the next walk of a stack, each by its file and its address in the file (DWARF 5 section 6.4.1).
+-- Rows that are kept for the next walk of a stack, each by its file and its address in the file
+-- (DWARF 5 section 6.4.1).
 --     holds_row slot, slot_view slot      whether a slot holds a row, and what it holds
 --     AreEmpty cache      no slot holds a row
 --     AreAlike m n      if modules have one number of a file, they have the same call frames
 --     AreNumbered modules      that holds of any two of them
---     AreCachedIn .. loaded cache      each row that is held of the module's file is that of the FDE that the module has for its address
+--     AreCachedIn .. loaded cache      each row that is held of the module's file is that of the
+--         FDE that the module has for its address
 --     AreCachedFor .. modules cache      the same for all modules
---     KeepsIn .. loaded old new, KeepsFor .. modules old new      rows may have been kept of these modules: what was right stays right,
---         also for other modules, if they have the call frames of these where they have their numbers
+--     KeepsIn .. loaded old new, KeepsFor .. modules old new      rows may have been kept of these
+--         modules: what was right stays right, also for other modules, if they have the call frames
+--         of these where they have their numbers
 --     AreRightIn, AreRightFor, StayRightIn, StayRightFor      the same of slots of any type
 use Rattle.std.specs.Prelude.{◌≡◌, ℕ, Bool, false, List, Option, Ok}
 use Rattle.std.specs.List.{All}
@@ -25,7 +28,8 @@ abbrev pub holds_row : CachedRow → Bool
 holds_row slot = slot.is_kept
 
 abbrev pub parts_cached : CachedRow → Parts ℕ
-parts_cached slot = record { cfa = slot.cfa; rules = rules_of slot.rules.items; args_size = slot.saved_args_size }
+parts_cached slot =
+    record { cfa = slot.cfa; rules = rules_of slot.rules.items; args_size = slot.saved_args_size }
 
 abbrev pub slot_view : CachedRow → Slot ℕ
 slot_view slot = record {
@@ -54,11 +58,14 @@ AreNumbered modules = All (AreAllAlike modules) modules
 
 -- ---- a cache, for addresses of this size and a storage with these limits
 
-module _ {R K T : Type 0} (position : R → Position) (number : T → ℕ) (slot_of : K → Slot T) (size : ℕ) (rule_limit stack_limit : Option ℕ) (copies_free : Bool) where
+module _ {R K T : Type 0} (position : R → Position) (number : T → ℕ) (slot_of : K → Slot T)
+    (size : ℕ) (rule_limit stack_limit : Option ℕ) (copies_free : Bool) where
   abbrev pub IsRightIn : LoadedModule R → K → Type 0
   IsRightIn loaded slot =
-      (a : ℕ) → HoldsRowOf loaded.file a (slot_of slot) → (fde : Fde) × IsFoundIn position size loaded a (Ok fde) × Covers fde a
-      × SaysRowOf number rule_limit stack_limit copies_free (module_section position size loaded) a fde (slot_of slot)
+      (a : ℕ) → HoldsRowOf loaded.file a (slot_of slot) →
+      (fde : Fde) × IsFoundIn position size loaded a (Ok fde) × Covers fde a
+      × SaysRowOf number rule_limit stack_limit copies_free (module_section position size loaded) a
+      fde (slot_of slot)
 
   abbrev pub AreRightIn : LoadedModule R → List K → Type 0
   AreRightIn loaded cache = All (IsRightIn loaded) cache
@@ -67,17 +74,22 @@ module _ {R K T : Type 0} (position : R → Position) (number : T → ℕ) (slot
   AreRightFor modules cache = All (λ loaded. AreRightIn loaded cache) modules
 
   abbrev pub StayRightIn : LoadedModule R → List K → List K → Type 0
-  StayRightIn loaded old new = (other : LoadedModule R) → AreAlike loaded other → AreRightIn other old → AreRightIn other new
+  StayRightIn loaded old new =
+      (other : LoadedModule R) → AreAlike loaded other → AreRightIn other old → AreRightIn other new
 
   abbrev pub StayRightFor : List (LoadedModule R) → List K → List K → Type 0
-  StayRightFor modules old new = (other : LoadedModule R) → AreAllAlike modules other → AreRightIn other old → AreRightIn other new
+  StayRightFor modules old new =
+      (other : LoadedModule R) → AreAllAlike modules other → AreRightIn other old →
+      AreRightIn other new
 
-module _ {R : Type 0} (position : R → Position) (size : ℕ) (rule_limit stack_limit : Option ℕ) (copies_free : Bool) where
+module _ {R : Type 0} (position : R → Position) (size : ℕ) (rule_limit stack_limit : Option ℕ)
+    (copies_free : Bool) where
   abbrev pub AreCachedIn : LoadedModule R → List CachedRow → Type 0
   AreCachedIn = AreRightIn position (λ (n : ℕ). n) slot_view size rule_limit stack_limit copies_free
 
   abbrev pub AreCachedFor : List (LoadedModule R) → List CachedRow → Type 0
-  AreCachedFor = AreRightFor position (λ (n : ℕ). n) slot_view size rule_limit stack_limit copies_free
+  AreCachedFor =
+      AreRightFor position (λ (n : ℕ). n) slot_view size rule_limit stack_limit copies_free
 
   abbrev pub KeepsIn : LoadedModule R → List CachedRow → List CachedRow → Type 0
   KeepsIn = StayRightIn position (λ (n : ℕ). n) slot_view size rule_limit stack_limit copies_free

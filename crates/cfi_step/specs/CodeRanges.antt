@@ -4,7 +4,8 @@
 --     IsOutOfOrder items k      the first item that isn't, by its index
 --     IsInOneAtMost items a      no two items have the address in their code
 --     AreEndedBy items a k      the first k items end at or before the address, and no others
-use Rattle.std.specs.Prelude.{◌≡◌, ℕ, ◌+◌, ◌<◌, ◌≤◌, ◌&&◌, Bool, true, false, List, [], ◌∷◌, length, get_or, take, nat_le, nat_lt, Option, position}
+use Rattle.std.specs.Prelude.{◌≡◌, ℕ, ◌+◌, ◌<◌, ◌≤◌, ◌&&◌, Bool, true, false, List, [], ◌∷◌, length}
+use Rattle.std.specs.Prelude.{get_or, take, nat_le, nat_lt, Option, position}
 use Rattle.std.specs.Option.{option_and_then}
 use Rattle.std.specs.List.{slice_get}
 
@@ -13,7 +14,8 @@ module _ {A : Type 0} (start end : A → ℕ) where
   has_code item a = nat_le (start item) a && nat_lt a (end item)
 
   abbrev pub first_with_code : List A → ℕ → Option A
-  first_with_code items a = option_and_then (slice_get items) (position (λ item. has_code item a) items)
+  first_with_code items a =
+      option_and_then (slice_get items) (position (λ item. has_code item a) items)
 
   -- ---- their order
 
@@ -28,7 +30,8 @@ module _ {A : Type 0} (start end : A → ℕ) where
 
   -- the items before the one with this index are sorted, and not with it
   abbrev pub IsOutOfOrder : List A → ℕ → Type 0
-  IsOutOfOrder items k = (are_sorted 0 (take k items) ≡ true) × (are_sorted 0 (take (k + 1) items) ≡ false)
+  IsOutOfOrder items k =
+      (are_sorted 0 (take k items) ≡ true) × (are_sorted 0 (take (k + 1) items) ≡ false)
 
   -- no two items have the address in their code
   abbrev pub IsInOneAtMost : List A → ℕ → Type 0

@@ -1,8 +1,12 @@
 -- From a frame to its caller, by what a compiled table has for the address.
---     address_in_file bias a      the address that a file has for one of the process, where it is moved by a bias
---     IsStepByFrame frame bytes abi found result caller      what a step returns and writes by the row and the CIE, or by the error in their place
---     IsStepAsScanned frame bytes abi table a result caller      for whatever section the table is compiled: the step by a scan of it
-use Rattle.std.specs.Prelude.{◌≡◌, ℕ, ◌+◌, ◌-◌, ◌%◌, ◌^◌, Bool, List, length, Option, Result, Ok, Err, IfOk}
+--     address_in_file bias a      the address that a file has for one of the process, where it is
+--         moved by a bias
+--     IsStepByFrame frame bytes abi found result caller      what a step returns and writes by the
+--         row and the CIE, or by the error in their place
+--     IsStepAsScanned frame bytes abi table a result caller      for whatever section the table is
+--         compiled: the step by a scan of it
+use Rattle.std.specs.Prelude.{◌≡◌, ℕ, ◌+◌, ◌-◌, ◌%◌, ◌^◌, Bool, List, length, Option, Result, Ok}
+use Rattle.std.specs.Prelude.{Err, IfOk}
 use Rattle.cfi_read_core.specs.declared.error.Error.{Error}
 use Rattle.cfi_read_core.specs.ReadFunctions.{Position}
 use Rattle.cfi_entry.specs.Sections.{Section}
@@ -22,14 +26,21 @@ abbrev pub address_in_file : ℕ → ℕ → ℕ
 address_in_file bias a = (a + (2 ^ 64 - bias)) % 2 ^ 64
 
 module _ (frame : Frame) (bytes : Position) (abi : Abi) where
-  abbrev pub IsStepByFrame : Result FrameParts Error → Result Caller FrameError → List (Option ℕ) → Type 0
+  abbrev pub IsStepByFrame :
+      Result FrameParts Error → Result Caller FrameError → List (Option ℕ) → Type 0
   IsStepByFrame (Ok found) result caller =
-      (result ≡ caller_by frame bytes abi (λ n. n) found.return_address found.is_signal_trampoline found.parts)
-      × IfOk result (λ c. AreRecovered frame bytes abi (λ n. n) found.parts c.cfa (length caller) caller)
+      (result
+      ≡ caller_by frame bytes abi (λ n. n) found.return_address found.is_signal_trampoline
+      found.parts)
+      × IfOk result
+      (λ c. AreRecovered frame bytes abi (λ n. n) found.parts c.cfa (length caller) caller)
   IsStepByFrame (Err e) result caller = result ≡ Err (NoRow e)
 
   -- over a storage with the limits of the table
-  abbrev pub IsStepAsScanned : TableContents → ℕ → Result Caller FrameError → List (Option ℕ) → Type 0
+  abbrev pub IsStepAsScanned :
+      TableContents → ℕ → Result Caller FrameError → List (Option ℕ) → Type 0
   IsStepAsScanned table a result caller =
-      (rule_limit stack_limit : Option ℕ) (copies_free : Bool) (section : Section) → IsCompiled rule_limit stack_limit section table →
-      IsStepBy frame bytes abi (λ n. n) rule_limit stack_limit copies_free section a (chosen_fde section a) result caller
+      (rule_limit stack_limit : Option ℕ) (copies_free : Bool) (section : Section) →
+      IsCompiled rule_limit stack_limit section table →
+      IsStepBy frame bytes abi (λ n. n) rule_limit stack_limit copies_free section a
+      (chosen_fde section a) result caller

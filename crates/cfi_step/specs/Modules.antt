@@ -1,11 +1,15 @@
--- What a loaded module has for an address: by a compiled table; where it has none, the FDE by its header, or by a scan of its section. All
--- three have the addresses of the file, so an address of the process is looked up less the bias.
+-- What a loaded module has for an address: by a compiled table; where it has none, the FDE by its
+-- header, or by a scan of its section. All three have the addresses of the file, so an address of
+-- the process is looked up less the bias.
 --     module_section position loaded      the section of its entries
---     IsFoundIn position size loaded a found      the FDE for an address of the file, or the error in its place, where an address has this size
+--     IsFoundIn position size loaded a found      the FDE for an address of the file, or the error
+--         in its place, where an address has this size
 --     IsStepByFound .. loaded a result caller      a step by it
---     IsStepIn .. loaded a result caller      a step by the compiled table, or by the FDE where there is none, from an address of the process
+--     IsStepIn .. loaded a result caller      a step by the compiled table, or by the FDE where
+--         there is none, from an address of the process
 --     has_code loaded a, first_module modules a      the module whose code the address is in
---     are_sorted low modules      whether modules are in the order of their addresses, with no overlap
+--     are_sorted low modules      whether modules are in the order of their addresses, with no
+--         overlap
 --     IsOutOfOrder modules k      the first module that isn't, by its index
 --     IsInOneAtMost modules a      no two modules have the address in their code
 use Rattle.std.specs.Prelude.{◌≡◌, ℕ, Bool, List, Option, Some, None, Result, IfOk}
@@ -44,24 +48,31 @@ module _ {R : Type 0} (position : R → Position) (size : ℕ) (loaded : LoadedM
   IsFoundIn a found = IsFoundBy loaded.header a found
 
 -- the caller of a frame of the module's code, whose row is that of the address
-module _ {R T : Type 0} (position : R → Position) (number : T → ℕ) (frame : Frame) (abi : Abi) (rule_limit stack_limit : Option ℕ) (copies_free : Bool) where
+module _ {R T : Type 0} (position : R → Position) (number : T → ℕ) (frame : Frame) (abi : Abi)
+    (rule_limit stack_limit : Option ℕ) (copies_free : Bool) where
   -- by an address of the file
-  abbrev pub IsStepByFound : LoadedModule R → ℕ → Result Caller FrameError → List (Option ℕ) → Type 0
+  abbrev pub IsStepByFound :
+      LoadedModule R → ℕ → Result Caller FrameError → List (Option ℕ) → Type 0
   IsStepByFound loaded a result caller =
       (found : Result Fde Error) × IsFoundIn position frame.size loaded a found
       × IfOk found (λ fde. Covers fde a)
-      × IsStepBy frame (eh_frame_view position loaded.frame).position abi number rule_limit stack_limit copies_free
+      × IsStepBy frame (eh_frame_view position loaded.frame).position abi number rule_limit
+      stack_limit copies_free
       (module_section position frame.size loaded) a found result caller
 
   -- the same, and by a compiled table; the bytes of expressions are those of the module's section
-  abbrev pub IsStepVia : Option (Bor TableContents) → LoadedModule R → ℕ → Result Caller FrameError → List (Option ℕ) → Type 0
+  abbrev pub IsStepVia :
+      Option (Bor TableContents) → LoadedModule R → ℕ → Result Caller FrameError → List (Option ℕ) →
+      Type 0
   IsStepVia None loaded a result caller = IsStepByFound loaded a result caller
   IsStepVia (Some table) loaded a result caller =
-      IsStepByFrame frame (eh_frame_view position loaded.frame).position abi (frame_at table.now a) result caller
+      IsStepByFrame frame (eh_frame_view position loaded.frame).position abi (frame_at table.now a)
+      result caller
 
   -- by an address of the process
   abbrev pub IsStepIn : LoadedModule R → ℕ → Result Caller FrameError → List (Option ℕ) → Type 0
-  IsStepIn loaded a result caller = IsStepVia loaded.compiled loaded (address_in_file loaded.bias a) result caller
+  IsStepIn loaded a result caller =
+      IsStepVia loaded.compiled loaded (address_in_file loaded.bias a) result caller
 
 -- ---- several modules
 

@@ -40,22 +40,26 @@ module _ {T : Type 0} where
       (other ≡ file) × (b ≡ a) × Says parts ra trampoline slot
 
 -- one slot at most is written
-abbrev pub KeepsRow : {K T : Type 0} → (K → Slot T) → ℕ → ℕ → Parts T → Register → Bool → List K → List K → Type 0
+abbrev pub KeepsRow :
+    {K T : Type 0} → (K → Slot T) → ℕ → ℕ → Parts T → Register → Bool → List K → List K → Type 0
 KeepsRow {K} slot_of file a parts ra trampoline old new =
     (new ≡ old) ⊎ ((k : ℕ) × (slot : K) × (new ≡ slice_set old k slot)
     × HoldsAtMost file a parts ra trampoline (slot_of slot))
 
 -- ---- rows of an FDE
 
-module _ {T : Type 0} (number : T → ℕ) (rule_limit stack_limit : Option ℕ) (copies_free : Bool) (section : Section) (a : ℕ) (fde : Fde) where
+module _ {T : Type 0} (number : T → ℕ) (rule_limit stack_limit : Option ℕ) (copies_free : Bool)
+    (section : Section) (a : ℕ) (fde : Fde) where
   -- the slot says what the FDE has for the address
   abbrev pub SaysRowOf : Slot T → Type 0
   SaysRowOf slot =
-      (row : Row T) × IsRowOfFde rule_limit stack_limit copies_free section a fde (Ok (map_row number row))
+      (row : Row T)
+      × IsRowOfFde rule_limit stack_limit copies_free section a fde (Ok (map_row number row))
       × Says row.parts fde.cie.return_address_register (is_trampoline fde.cie.augmentation) slot
 
   -- one slot at most is written, and then holds the row of this address of the file, or none
   abbrev pub KeepsRowOf : {K : Type 0} → (K → Slot T) → ℕ → List K → List K → Type 0
   KeepsRowOf {K} slot_of file old new =
       (new ≡ old) ⊎ ((k : ℕ) × (slot : K) × (new ≡ slice_set old k slot)
-      × ((other b : ℕ) → HoldsRowOf other b (slot_of slot) → (other ≡ file) × (b ≡ a) × SaysRowOf (slot_of slot)))
+      × ((other b : ℕ) → HoldsRowOf other b (slot_of slot) →
+      (other ≡ file) × (b ≡ a) × SaysRowOf (slot_of slot)))

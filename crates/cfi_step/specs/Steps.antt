@@ -1,9 +1,13 @@
 -- From a frame to its caller, by the row of the frame's pc (DWARF 5 section 6.4.4).
 --     row_address pc is_interrupted      the address by which the row of a frame is found
---     caller_by ra trampoline parts      the CFA, the caller's pc, and whether the frame is a signal trampoline's
---     IsCallerBy ra trampoline row result caller      what a step returns and writes by a row, or by the error in its place
---     IsStepBy .. section a found result caller      the same by the FDE that is found for the address, or the error in its place
-use Rattle.std.specs.Prelude.{◌≡◌, ℕ, ◌+◌, ◌-◌, ◌%◌, ◌^◌, Bool, true, false, List, length, Option, Result, Ok, Err, IfOk}
+--     caller_by ra trampoline parts      the CFA, the caller's pc, and whether the frame is a
+--         signal trampoline's
+--     IsCallerBy ra trampoline row result caller      what a step returns and writes by a row, or
+--         by the error in its place
+--     IsStepBy .. section a found result caller      the same by the FDE that is found for the
+--         address, or the error in its place
+use Rattle.std.specs.Prelude.{◌≡◌, ℕ, ◌+◌, ◌-◌, ◌%◌, ◌^◌, Bool, true, false, List, length, Option}
+use Rattle.std.specs.Prelude.{Result, Ok, Err, IfOk}
 use Rattle.cfi_read_core.specs.declared.common.Register.{Register}
 use Rattle.cfi_read_core.specs.declared.error.Error.{Error}
 use Rattle.cfi_read_core.specs.ReadFunctions.{Position}
@@ -23,8 +27,8 @@ use Rattle.cfi_step.specs.declared.abi.Abi.{Abi}
 use Rattle.cfi_step.specs.declared.step.Caller.{Caller}
 use Rattle.cfi_step.specs.Callers.{AreRecovered, cfa_of, on_ok, return_address}
 
--- The address by which a row is found. A return address is after the call, so it is looked up less one, modulo 2 ^ 64; the pc of a frame that
--- was interrupted as it is.
+-- The address by which a row is found. A return address is after the call, so it is looked up less
+-- one, modulo 2 ^ 64; the pc of a frame that was interrupted as it is.
 abbrev pub row_address : ℕ → Bool → ℕ
 row_address pc true = pc
 row_address pc false = (pc + (2 ^ 64 - 1)) % 2 ^ 64
@@ -33,18 +37,28 @@ module _ (frame : Frame) (bytes : Position) (abi : Abi) {T : Type 0} (number : T
   -- without a pc the frame is the outermost one
   abbrev pub caller_by : Register → Bool → Parts T → Result Caller FrameError
   caller_by ra trampoline parts =
-      on_ok (λ the_cfa. map_value (λ pc. record { cfa = the_cfa; pc = pc; is_interrupted = trampoline }) (return_address frame bytes abi number parts the_cfa ra))
+      on_ok
+      (λ the_cfa.
+      map_value (λ pc. record { cfa = the_cfa; pc = pc; is_interrupted = trampoline })
+      (return_address frame bytes abi number parts the_cfa ra))
       (cfa_of frame bytes abi number parts.cfa)
 
-  abbrev pub IsCallerBy : Register → Bool → Result (Row T) Error → Result Caller FrameError → List (Option ℕ) → Type 0
+  abbrev pub IsCallerBy :
+      Register → Bool → Result (Row T) Error → Result Caller FrameError → List (Option ℕ) → Type 0
   IsCallerBy ra trampoline (Ok row) result caller =
       (result ≡ caller_by ra trampoline row.parts)
-      × IfOk result (λ c. AreRecovered frame bytes abi number row.parts c.cfa (length caller) caller)
+      × IfOk result
+      (λ c. AreRecovered frame bytes abi number row.parts c.cfa (length caller) caller)
   IsCallerBy ra trampoline (Err e) result caller = result ≡ Err (NoRow e)
 
   -- over a storage with these limits
-  abbrev pub IsStepBy : Option ℕ → Option ℕ → Bool → Section → ℕ → Result Fde Error → Result Caller FrameError → List (Option ℕ) → Type 0
+  abbrev pub IsStepBy :
+      Option ℕ → Option ℕ → Bool → Section → ℕ → Result Fde Error → Result Caller FrameError →
+      List (Option ℕ) → Type 0
   IsStepBy rule_limit stack_limit copies_free section a (Ok fde) result caller =
-      (row : Result (Row T) Error) × IsRowOfFde rule_limit stack_limit copies_free section a fde (map_ok (map_row number) row)
-      × IsCallerBy fde.cie.return_address_register (is_trampoline fde.cie.augmentation) row result caller
-  IsStepBy rule_limit stack_limit copies_free section a (Err e) result caller = result ≡ Err (NoRow e)
+      (row : Result (Row T) Error)
+      × IsRowOfFde rule_limit stack_limit copies_free section a fde (map_ok (map_row number) row)
+      × IsCallerBy fde.cie.return_address_register (is_trampoline fde.cie.augmentation) row result
+      caller
+  IsStepBy rule_limit stack_limit copies_free section a (Err e) result caller =
+      result ≡ Err (NoRow e)
