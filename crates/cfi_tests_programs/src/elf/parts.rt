@@ -1,7 +1,11 @@
 //! What is printed of files that are read by parts. They have the file of `printed` twice: its
 //! headers lie at the beginning, and its section headers and sections a number of bytes behind.
+ghost use Rattle.std.specs.Prelude.{None};
+
 use super::printed::{ALL_ROWS, DUMP, FILE, FailsAfter, prints};
-use cfi_files::Printed;
+use cfi_files::input::copy_part;
+use cfi_files::{FileInput, Printed, Request, run_on_file};
+use cfi_programs::input::InputError;
 use cfi_programs::style::Format;
 use cfi_tests_bytes::bytes_of;
 use std::alloc::Global;
@@ -84,4 +88,52 @@ fn parts_that_overlap(rt: HostRuntime) -> Result<(), Fail> {
     add(&mut bytes, 0x2000 + SIZE_OF_NAMES, 0x46);
     let bytes = bytes.as_slice();
     prints_after(&rt, Printed::Rows(None, Format::Text), bytes, 8, ALL_ROWS)
+}
+
+/// Counts the parts that are read of a file, and their bytes.
+#[derive(Drop)]
+struct Counting<'a> {
+    bytes: &'a [u8],
+    parts: usize,
+    read: u64,
+}
+
+impl FileInput for Counting<'_> {
+    ghost bytes = { λ _. None };
+
+    fn length(&mut self, _alloc: Global) -> Result<u64, InputError> {
+        Ok(self.bytes.len() as u64)
+    }
+
+    fn read_part(&mut self, alloc: Global, offset: u64, size: u64) -> Result<Vec<u8>, InputError> {
+        self.parts = self.parts.saturating_add(1);
+        self.read = self.read.saturating_add(size);
+        copy_part(alloc, self.bytes, offset, size)
+    }
+}
+
+/// How many parts of a file are read for what is printed, and how many bytes these have.
+fn counted(alloc: Global, printed: Printed<'_>, bytes: &[u8]) -> Result<(usize, u64), Fail> {
+    let mut input = Counting {
+        bytes,
+        parts: 0,
+        read: 0,
+    };
+    let raw = false;
+    let mut output = Vec::new(alloc);
+    run_on_file(alloc, Request { printed, raw }, &mut input, &mut output)?;
+    Ok((input.parts, input.read))
+}
+
+/// Of the 9,312 bytes of the file of `parts` only those of its parts are read: 4,096; 8 section
+/// headers of 64; 70 of their names; 56, 20 and 48 of `.eh_frame`, its header and `.debug_frame`;
+/// and for rows 168 of the symbols and 57 of their names.
+#[test]
+fn bytes_that_are_read(rt: HostRuntime) -> Result<(), Fail> {
+    let bytes = spread(rt.alloc(), 0x20)?;
+    let bytes = bytes.as_slice();
+    let dump = counted(rt.alloc(), Printed::Dump, bytes)?;
+    let rows = counted(rt.alloc(), Printed::Rows(None, Format::Text), bytes)?;
+    assert_eq!(rt; (bytes.len(), dump, rows), (9_312, (6, 4_802), (8, 5_027)));
+    Ok(())
 }
