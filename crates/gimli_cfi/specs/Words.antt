@@ -182,7 +182,7 @@ pub use Rattle.gimli_cfi.specs.HalvingSteps.{steps}
 pub use Rattle.gimli_cfi.specs.TableLookup.{IsFoundBySearch, IsFoundByTable, FindsByTable}
 pub use Rattle.gimli_cfi.specs.RowsByTable.{IsFdeFound, IsRowByTable, IfFaithful, IfStartsOf}
 pub use Rattle.gimli_cfi.specs.RowsByTable.{FindsFde, FindsRow, LeadsToRow}
-pub use Rattle.gimli_cfi.specs.RowsByHeader.{IsRowByHeader}
+pub use Rattle.gimli_cfi.specs.RowsByHeader.{FoundByHeader, IsRowByHeader}
 -- ---- whether a table is faithful to its section
 
 pub use Rattle.gimli_cfi.specs.FaithfulTables.{IsFaithful, IsFdeIn, IsRowOf}
