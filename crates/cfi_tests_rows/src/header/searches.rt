@@ -549,6 +549,10 @@ fn equal_starts_end_a_search(rt: HostRuntime) {
         assert_eq!(rt; searched(starts, *address), *found, "for {address}");
     }
     for (starts, count, address, found) in &FEWER_STARTS {
-        assert_eq!(rt; searched_in(starts, *count, *address), *found, "for {address}");
+        assert_eq!(rt;
+            searched_in(starts, *count, *address),
+            *found,
+            "for {address}"
+        );
     }
 }
