@@ -60,8 +60,6 @@ module _ {R T : Type 0} (position : R → Position) (number : T → ℕ) (rule_l
             subst (λ (rs : List (Option ℕ)). IsWalkFrom position number rule_limit stack_limit copies_free modules machine (memory_of user.stack innermost.stack_pointer)
                 (record { at = record { pc = innermost.pc; is_interrupted = true; callee_cfa = None }; registers = rs; caller = old.caller })
                 (take walk.count new.frames) walk.end new.registers new.caller) are_known walks,
-            rest,
-            count,
-            full,
+            (rest, count, full),
           ),
         )
