@@ -7,4 +7,5 @@ mod cuts;
 mod faithful;
 mod headers;
 mod searches;
+mod sources;
 mod with_context;

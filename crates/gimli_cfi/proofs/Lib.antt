@@ -26,4 +26,5 @@ pub mod StartCounts
 pub mod EntryEnds
 pub mod Passed
 pub mod Certificates
+pub mod SourceSections
 pub mod Callers

@@ -183,6 +183,11 @@ pub use Rattle.gimli_cfi.specs.TableLookup.{IsFoundBySearch, IsFoundByTable, Fin
 pub use Rattle.gimli_cfi.specs.RowsByTable.{IsFdeFound, IsRowByTable, IfFaithful, IfStartsOf}
 pub use Rattle.gimli_cfi.specs.RowsByTable.{FindsFde, FindsRow, LeadsToRow}
 pub use Rattle.gimli_cfi.specs.RowsByHeader.{FoundByHeader, IsRowByHeader}
+-- ---- a section whose kind is known only when the program runs, with its header
+
+pub use Rattle.gimli_cfi.specs.SectionSources.{GivenSection, source_view, given_section, given_as}
+pub use Rattle.gimli_cfi.specs.SectionSources.{given_header, section_made, IsGivenRow}
+pub use Rattle.gimli_cfi.specs.declared.source.SectionSource.{SectionSource}
 -- ---- whether a table is faithful to its section
 
 pub use Rattle.gimli_cfi.specs.FaithfulTables.{IsFaithful, IsFdeIn, IsRowOf}

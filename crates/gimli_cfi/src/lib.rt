@@ -16,6 +16,7 @@ pub mod hdr;
 pub mod instruction;
 pub mod pointer;
 pub mod section;
+pub mod source;
 pub mod storage;
 pub mod table;
 
@@ -45,6 +46,7 @@ pub use section::{
     _UnwindSectionPrivate, CieCache, CieOffsetEncoding, DebugFrame, EhFrame, UnwindOffset,
     UnwindSection, scan_for_fde,
 };
+pub use source::{CallFrameSection, SectionKind, SectionSource};
 pub use storage::{
     ArrayLike, CapacityFull, CopyList, Refused, StoreGrowing, StoreOnHeap, UnwindContextStorage,
     Why,
