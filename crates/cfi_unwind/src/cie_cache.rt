@@ -7,8 +7,11 @@ ghost use Rattle.cfi_entry.specs.Sections.{section_of};
 ghost use Rattle.cfi_entry.specs.Entries.{cie_at};
 ghost use Rattle.cfi_entry.specs.EntryViews.{IsCieOf, cie_view};
 ghost use Rattle.cfi_unwind.specs.CachedCie.{IsCacheOf};
+ghost use Rattle.cfi_unwind.specs.FdeViews.{HasCieOf, IsFdeOf, fde_view};
+ghost use Rattle.cfi_unwind.specs.Scan.{read_fde};
+ghost use Rattle.cfi_unwind.specs.WalkViews.{partial_bases, partial_section, partial_view};
 
-use crate::entry::CommonInformationEntry;
+use crate::entry::{CommonInformationEntry, FrameDescriptionEntry, PartialFrameDescriptionEntry};
 use crate::unwind_section::UnwindSection;
 use cfi_entry::cie::CieFields;
 use cfi_parts::pointer::BaseAddresses;
@@ -70,5 +73,34 @@ impl<R: Reader> CieCache<R> {
         let cie = section.cie_from_offset(bases, offset)?;
         self.kept = Some((place, cie));
         Ok(cie)
+    }
+
+    /// Reads the rest of an FDE, with the CIE to which it points, as `get` returns it.
+    ///
+    /// The cache must have been used with the entry's section and bases alone. Fails as
+    /// `PartialFrameDescriptionEntry::parse` with `UnwindSection::cie_from_offset`.
+    #[inline(always)]
+    pub fn fde<S: UnwindSection<R>>(
+        &mut self,
+        partial: &PartialFrameDescriptionEntry<'_, S, R>,
+    ) -> Result<FrameDescriptionEntry<R>>
+        ensures read { let section = S.view (partial_section partial.now) in
+            let bases = partial_bases partial.now in
+            IsCacheOf R.position R.Offset.number section bases self.old →
+            map_ok (fde_view R.position R.Offset.number) result
+            ≡ read_fde (section_of section bases)
+            (partial_view R.position R.Offset.number partial.now) }
+        ensures part { IfOk result
+            (IsFdeOf R.position (S.view (partial_section partial.now)).position) }
+        ensures cie_part { let section = S.view (partial_section partial.now) in
+            IsCacheOf R.position R.Offset.number section (partial_bases partial.now) self.old →
+            IfOk result (HasCieOf R.position section.position) }
+        ensures keeps { let section = S.view (partial_section partial.now) in
+            let bases = partial_bases partial.now in
+            IsCacheOf R.position R.Offset.number section bases self.old →
+            IsCacheOf R.position R.Offset.number section bases self.new }
+    {
+        let cie = self.get(&partial.section, partial.bases, partial.cie_offset())?;
+        partial.with_cie(&cie)
     }
 }

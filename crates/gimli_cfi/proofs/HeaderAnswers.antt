@@ -10,7 +10,6 @@ use Rattle.cfi_unwind.specs.Scan.{chosen_fde}
 use Rattle.gimli_cfi.specs.EhFrameHdr.{HeaderSection, Header, Table, header_of, start_of, value_size}
 use Rattle.gimli_cfi.specs.TableLookup.{IsFoundByTable, fde_by_row}
 use Rattle.gimli_cfi.specs.RowsByHeader.{FoundByHeader, FoundByTable}
-use Rattle.gimli_cfi.proofs.Searches.{by_format}
 
 module _ (section : Section) (a : ℕ) (header : HeaderSection) where
   abbrev Found : Result Fde Error → Type 0
@@ -28,12 +27,6 @@ module _ (section : Section) (a : ℕ) (header : HeaderSection) where
   pub by_scan : (h : Header) (found : Result Fde Error) → Ok h ≡ header_of header → None ≡ h.table
       → found ≡ chosen_fde section a → Found found
   by_scan h found is rows scans = found_in h None found is rows scans
-
-  pub refused_table : (h : Header) (t : Table) (e : Error) → Ok h ≡ header_of header → Some t ≡ h.table
-      → ◌≡◌ {A = Result ℕ Error} (Err e) (ok_or (value_size t.encoding) (UnsupportedPointerEncoding (record { 0 = t.encoding }))) → Found (Err e)
-  refused_table h t e is rows refused =
-      found_in h (Some t) (Err e) is rows
-      (by_format (value_size t.encoding) (start_of header t) t a (fde_by_row header t h.eh_frame section a) e refused)
 
   pub by_table : (source : HeaderSection) (h : Header) (t : Table) (start : ℕ → Result ℕ Error) (eh_frame : Pointer) (found : Result Fde Error)
       → Ok h ≡ header_of header → Some t ≡ h.table → start ≡ start_of source t → source ≡ header → eh_frame ≡ h.eh_frame

@@ -6,6 +6,7 @@
 --     table_view, table_section_view, table_starts, table_targets, table_offset      a table
 --     walk_view, IsSameTable      an iterator over rows
 --     start_size, calls_made, answers_of, AreStartsOf      the starts of a table's rows
+--     signed_calls, signed_answers      those of four bytes with a sign
 --     section_view      the section of the entries
 --     listing_view      a table with the section whose FDEs it is to list
 use Rattle.std.specs.Prelude.{◌≡◌, ℕ, Result}
@@ -22,6 +23,7 @@ use Rattle.gimli_cfi.specs.declared.hdr.header.EhFrameHdr.{EhFrameHdr}
 use Rattle.gimli_cfi.specs.declared.hdr.header.ParsedEhFrameHdr.{ParsedEhFrameHdr}
 use Rattle.gimli_cfi.specs.declared.hdr.table.EhHdrTable.{EhHdrTable}
 use Rattle.gimli_cfi.specs.declared.hdr.iter.EhHdrTableIter.{EhHdrTableIter}
+use Rattle.gimli_cfi.specs.declared.hdr.starts.SignedStarts.{SignedStarts}
 use Rattle.gimli_cfi.specs.declared.hdr.starts.TableStarts.{TableStarts}
 use Rattle.gimli_cfi.specs.EhFrameHdr.{HeaderSection, Header, Table, header_section}
 use Rattle.gimli_cfi.specs.EhFrameHdr.{offset_of_pointer, start_of, table_of, target_of}
@@ -154,6 +156,14 @@ module _ {R O E : Type 0} {a : _} {b : _} {c : _} {d : _} {e : _} {f : _} {g : _
       TableStarts R O E a b c d e f g h i j k → EhHdrTable R O E a b c d e f g h i j k →
       BaseAddresses → Type 0
   AreStartsOf starts table bases = (starts.hdr.now ≡ table.hdr.now) × (starts.bases.now ≡ bases)
+
+  -- the same of a table whose pointers are four bytes with a sign
+  abbrev pub signed_calls : SignedStarts R O E a b c d e f g h i j k → ℕ
+  signed_calls starts = starts.calls.calls
+
+  abbrev pub signed_answers :
+      (R → Position) → SignedStarts R O E a b c d e f g h i j k → ℕ → Result ℕ Error
+  signed_answers position starts = starts_view position starts.hdr.now starts.bases.now
 
   -- ---- the table with the section
 

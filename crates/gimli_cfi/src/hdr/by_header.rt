@@ -12,9 +12,8 @@ ghost use Rattle.gimli_cfi.specs.EhFrameHdr.{header_of};
 ghost use Rattle.gimli_cfi.specs.HeaderViews.{section_view, unparsed_view};
 ghost use Rattle.gimli_cfi.specs.RowsByHeader.{FoundByHeader, IsRowByHeader};
 
-use crate::hdr::by_table::table_fde;
+use crate::hdr::by_table::own_table_fde;
 use crate::hdr::header::EhFrameHdr;
-use crate::hdr::starts::TableStarts;
 use cfi_parts::pointer::BaseAddresses;
 use cfi_read_core::{Reader, Result};
 use cfi_state::storage::UnwindContextStorage;
@@ -51,8 +50,7 @@ pub fn fde_by_header<R: Reader>(
     let Some(table) = header.table() else {
         return scan_for_fde(frame, bases, address);
     };
-    let mut starts = TableStarts::new(&table, bases)?;
-    table_fde(&table, &mut starts, frame, bases, address)
+    own_table_fde(&table, frame, bases, address)
 }
 
 /// The unwind row of the address in the section, borrowed from the context, by the header's table.

@@ -1,5 +1,5 @@
 //! The FDE and the unwind row of an address, by a header's table.
-ghost use Rattle.std.specs.Prelude.{◌≡◌, ◌+◌, ◌≤◌, IfOk, None};
+ghost use Rattle.std.specs.Prelude.{◌≡◌, ◌+◌, ◌≤◌, IfOk, None, Ok};
 ghost use Rattle.cfi_read_core.specs.ReaderCalls.{map_ok};
 ghost use Rattle.cfi_entry.specs.Fdes.{Covers};
 ghost use Rattle.cfi_entry.specs.SectionViews.{eh_frame_view};
@@ -12,10 +12,10 @@ ghost use Rattle.cfi_unwind.specs.GetCieCalls.{AsksForCie, GivesCiesOf, IsAnswer
 ghost use Rattle.gimli_cfi.specs.EhFrameHdr.{value_size};
 ghost use Rattle.gimli_cfi.specs.HalvingSteps.{steps};
 ghost use Rattle.gimli_cfi.specs.HeaderViews.{listing_view, section_view};
-ghost use Rattle.gimli_cfi.specs.HeaderViews.{table_offset, table_view};
+ghost use Rattle.gimli_cfi.specs.HeaderViews.{table_offset, table_starts, table_view};
 ghost use Rattle.gimli_cfi.specs.RowsByTable.{FindsFde, FindsRow, IfFaithful, IsFdeFound};
 ghost use Rattle.gimli_cfi.specs.RowsByTable.{IsRowByTable, LeadsToRow};
-ghost use Rattle.gimli_cfi.specs.TableLookup.{ReadsAt};
+ghost use Rattle.gimli_cfi.specs.TableLookup.{ReadsAt, fde_by_target};
 
 use crate::hdr::starts::StartSource;
 use crate::hdr::table::EhHdrTable;
@@ -108,6 +108,48 @@ pub(crate) fn table_fde<R: Reader, St: StartSource>(
     ensures same { St.answer starts.new ≡ St.answer starts.old }
 {
     let target = table.lookup_in(starts, address, bases)?;
+    fde_of_target(table, target, frame, bases, address)
+}
+
+/// The same by the starts in the table's rows.
+#[inline(always)]
+pub(crate) fn own_table_fde<R: Reader>(
+    table: &EhHdrTable<'_, R>,
+    frame: &EhFrame<R>,
+    bases: &BaseAddresses,
+    address: u64,
+) -> Result<FrameDescriptionEntry<R>>
+    ensures found { IsFdeFound (table_starts R.position table.now bases.now)
+        (listing_view R.position table.now frame.now bases.now) address
+        (map_ok (fde_view R.position R.Offset.number) result) }
+    ensures part { IfOk result (IsFdeOf R.position (eh_frame_view R.position frame.now).position) }
+    ensures cie_part { IfOk result
+        (HasCieOf R.position (eh_frame_view R.position frame.now).position) }
+    ensures contains { IfOk result (λ fde.
+        Covers (fde_view R.position R.Offset.number fde) address) }
+{
+    let target = table.lookup(address, bases)?;
+    fde_of_target(table, target, frame, bases, address)
+}
+
+/// The FDE that a target names, with the CIE that it points to, if it contains the address.
+#[inline(always)]
+fn fde_of_target<R: Reader>(
+    table: &EhHdrTable<'_, R>,
+    target: Pointer,
+    frame: &EhFrame<R>,
+    bases: &BaseAddresses,
+    address: u64,
+) -> Result<FrameDescriptionEntry<R>>
+    ensures found { let listing = listing_view R.position table.now frame.now bases.now in
+        map_ok (fde_view R.position R.Offset.number) result
+        ≡ fde_by_target listing.header listing.section listing.eh_frame address (Ok target) }
+    ensures part { IfOk result (IsFdeOf R.position (eh_frame_view R.position frame.now).position) }
+    ensures cie_part { IfOk result
+        (HasCieOf R.position (eh_frame_view R.position frame.now).position) }
+    ensures contains { IfOk result (λ fde.
+        Covers (fde_view R.position R.Offset.number fde) address) }
+{
     let reader = *frame.section();
     fde_at_target(
         table,

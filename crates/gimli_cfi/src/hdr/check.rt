@@ -21,8 +21,9 @@ use crate::hdr::starts::{StartSource, search_starts};
 use crate::hdr::table::EhHdrTable;
 use crate::hdr::unfaithful::Unfaithful;
 use cfi_parts::pointer::{BaseAddresses, Pointer};
-use cfi_read_core::{EhFrameOffset, Error, Reader, ReaderOffset};
-use cfi_unwind::entry::{CieOrFde, FrameDescriptionEntry, PartialFrameDescriptionEntry};
+use cfi_read_core::{Error, Reader, ReaderOffset};
+use cfi_unwind::cie_cache::CieCache;
+use cfi_unwind::entry::{CieOrFde, FrameDescriptionEntry};
 use cfi_unwind::unwind_section::{EhFrame, UnwindSection};
 
 /// Checks whether the table lists the FDEs of the section faithfully, by a source of the starts of
@@ -137,6 +138,7 @@ fn check_fdes<R: Reader, St: StartSource>(
     let rows = table.hdr.fde_count;
     let mut left = rows;
     let mut end = 0;
+    let mut cies: CieCache<R> = CieCache::new();
     let mut entries = frame.entries(bases);
     loop {
         let entry = match entries.next() {
@@ -150,7 +152,7 @@ fn check_fdes<R: Reader, St: StartSource>(
         };
         end = end_of_entry(&entry);
         if let CieOrFde::Fde(partial) = entry {
-            let fde = match read_whole(&partial) {
+            let fde = match cies.fde(&partial) {
                 Ok(fde) => fde,
                 Err(refusal) => {
                     let offset = partial.offset().into_u64();
@@ -189,23 +191,6 @@ fn end_of_entry<R: Reader>(entry: &CieOrFde<'_, EhFrame<R>, R>) -> u64
             partial.offset().into_u64() + size + partial.entry_len().into_u64()
         }
     }
-}
-
-/// The FDE with the CIE that it points to.
-#[inline(always)]
-fn read_whole<R: Reader>(
-    partial: &PartialFrameDescriptionEntry<'_, EhFrame<R>, R>,
-) -> cfi_read_core::Result<FrameDescriptionEntry<R>>
-    ensures { map_ok (fde_view R.position R.Offset.number) result
-        ≡ read_fde (section_view R.position (partial_section partial.now)
-        (partial_bases partial.now)) (partial_view R.position R.Offset.number partial.now) }
-{
-    let reader = partial.offset();
-    partial.parse(|from: &EhFrame<R>, bases: &BaseAddresses, offset: EhFrameOffset<R::Offset>| {
-        // The checker takes the closure only if it captures a value of a type with the reader's.
-        let _reader = reader;
-        from.cie_from_offset(bases, offset)
-    })
 }
 
 /// Checks that the FDE has a row, and doesn't contain the start of the row after it.

@@ -1,5 +1,5 @@
 //! The start and the target of a row, each read where it is in the table.
-ghost use Rattle.std.specs.Prelude.{◌≡◌, ◌≤◌, Some};
+ghost use Rattle.std.specs.Prelude.{◌≡◌, ◌≤◌, IfSome, Some};
 ghost use Rattle.cfi_read_core.specs.ReadFunctions.{skip};
 ghost use Rattle.cfi_read_core.specs.ReaderCalls.{ReadsValue};
 ghost use Rattle.cfi_parts.specs.Pointers.{pointer};
@@ -66,7 +66,8 @@ pub(crate) fn base_of_rows<R: Reader>(
     hdr: &ParsedEhFrameHdr<R>,
     bases: &BaseAddresses,
 ) -> Option<u64>
-    ensures { ReadsRows R.position result hdr.now bases.now }
+    ensures read { ReadsRows R.position result hdr.now bases.now }
+    ensures four { IfSome result (λ _. value_size hdr.now.table_enc.0 ≡ Some 4) }
 {
     let encoding = hdr.table_enc;
     let is_signed_4 = encoding.format() == DW_EH_PE_sdata4 && !encoding.is_indirect();

@@ -1,5 +1,5 @@
 //! Where the rows of a table start, and the search in the starts.
-ghost use Rattle.std.specs.Prelude.{◌≡◌, ℕ, ◌+◌, ◌≤◌, ◌<◌, IfOk, IfErr, Result, Some};
+ghost use Rattle.std.specs.Prelude.{◌≡◌, ℕ, ◌+◌, ◌≤◌, ◌<◌, IfOk, IfErr, IfSome, Result, Some};
 ghost use Rattle.cfi_read_core.specs.ReaderCalls.{map_ok};
 ghost use Rattle.cfi_read_core.specs.declared.error.Error.{Error};
 ghost use Rattle.gimli_cfi.specs.BoundaryRows.{IsBoundaryRow, IsRefusalOfRow};
@@ -89,6 +89,52 @@ impl<R: Reader> StartSource for TableStarts<'_, '_, R> {
     fn start(&mut self, index: u64) -> Result<u64> {
         self.calls = self.calls.next();
         start_of_row(self.hdr, self.bases, self.base, self.size, index)
+    }
+}
+
+/// The starts of a table whose pointers are four bytes with a sign, as linkers write them, for
+/// addresses of eight bytes: those of `TableStarts`, read without a look at the encoding, so that
+/// a search in them is a short loop.
+#[derive(Drop)]
+pub(crate) struct SignedStarts<'a, 'bases, R: Reader> {
+    hdr: &'a ParsedEhFrameHdr<R>,
+    bases: &'bases BaseAddresses,
+    base: u64,
+    calls: CallCount,
+    ghost searchable: { value_size hdr.now.table_enc.0 ≡ Some 4 },
+    ghost chosen: { ReadsRows R.position (Some base) hdr.now bases.now },
+}
+
+impl<'a, 'bases, R: Reader> SignedStarts<'a, 'bases, R> {
+    ghost use Rattle.gimli_cfi.specs.HeaderViews.{signed_answers, table_starts};
+
+    /// The starts of the table; `None` if its pointers are others.
+    #[inline(always)]
+    pub(crate) fn new(table: &EhHdrTable<'a, R>, bases: &'bases BaseAddresses) -> Option<Self>
+        ensures { IfSome result (λ starts. signed_answers R.position starts
+            ≡ table_starts R.position table.now bases.now) }
+    {
+        let base = base_of_rows(table.hdr, bases)?;
+        Some(SignedStarts {
+            hdr: table.hdr,
+            bases,
+            base,
+            calls: CallCount::none(),
+        })
+    }
+}
+
+impl<R: Reader> StartSource for SignedStarts<'_, '_, R> {
+    ghost use Rattle.gimli_cfi.specs.HeaderViews.{signed_answers, signed_calls};
+
+    ghost answer = { signed_answers R.position };
+
+    ghost calls = { signed_calls };
+
+    #[inline(always)]
+    fn start(&mut self, index: u64) -> Result<u64> {
+        self.calls = self.calls.next();
+        start_of_row(self.hdr, self.bases, Some(self.base), 4, index)
     }
 }
 

@@ -10,7 +10,7 @@ ghost use Rattle.gimli_cfi.specs.TableLookup.{IsFoundBySearch};
 use crate::hdr::header::ParsedEhFrameHdr;
 use crate::hdr::iter::EhHdrTableIter;
 use crate::hdr::row_fields::{searchable_size, target_of_row};
-use crate::hdr::starts::{StartSource, TableStarts, search_starts};
+use crate::hdr::starts::{SignedStarts, StartSource, TableStarts, search_starts};
 use cfi_parts::pointer::{BaseAddresses, Pointer};
 use cfi_read_core::{EhFrameOffset, Error, Reader, ReaderOffset, Result};
 use std::alloc::AllocError;
@@ -100,6 +100,9 @@ impl<R: Reader> EhHdrTable<'_, R> {
             (k : ℕ) × IsLastUpTo starts table.count address k
             × (result ≡ table_targets R.position self.now bases.now k) }
     {
+        if let Some(mut starts) = SignedStarts::new(self, bases) {
+            return self.lookup_in(&mut starts, address, bases);
+        }
         let mut starts = TableStarts::new(self, bases)?;
         self.lookup_in(&mut starts, address, bases)
     }

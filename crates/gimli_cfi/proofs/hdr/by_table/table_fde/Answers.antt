@@ -1,10 +1,8 @@
-use Rattle.std.proofs.Common.{◌≡◌, Err, Ok, ap, rules, sym, ◌∙◌}
+use Rattle.std.proofs.Common.{◌≡◌, Err, Ok, ap, rules}
 use Rattle.cfi_read_core.specs.ReaderCalls.{map_ok}
-use Rattle.cfi_entry.specs.Entries.{cie_at}
-use Rattle.cfi_entry.specs.EntryViews.{cie_view}
 use Rattle.cfi_unwind.specs.FdeViews.{fde_view}
 use Rattle.gimli_cfi.specs.HeaderViews.{section_view, header_section_view, table_view}
-use Rattle.gimli_cfi.proofs.TableFinds.{at_own, found_through}
+use Rattle.gimli_cfi.proofs.TableFinds.{found_through}
 use Rattle.gimli_cfi.proofs.hdr.by_table.table_fde.Goals as goal
 
 pub returns-in_err-target-clause-found : goal.returns-in_err-target-clause-found
@@ -16,9 +14,6 @@ returns-in_err-target-clause-found g c =
 
 pub returns-clause-found : goal.returns-clause-found
 returns-clause-found g c =
-    let read = c.fde_at_target.ensures.read in
     found_through (g.St.StartSource.answer c.args.starts.now) (header_section_view g.R.Reader.position c.args.table.now.hdr.now c.args.bases.now)
     (table_view g.R.Reader.position c.args.table.now) c.args.table.now.hdr.now.eh_frame_ptr (section_view g.R.Reader.position c.args.frame.now c.args.bases.now) c.args.address
-    (Ok c.in_ok-target.target) _
-    (at_own _ (section_view g.R.Reader.position c.args.frame.now c.args.bases.now) (λ f offset given h q. let own : map_ok (cie_view g.R.Reader.position g.R.Offset.ReaderOffset.number) q.answer ≡ cie_at (section_view g.R.Reader.position q.call.shown_section.now q.call.shown_bases.now) (g.R.Offset.ReaderOffset.number q.asked.0) = search rules in sym q.seen ∙ (rw (q.call.at_section, q.call.at_bases, q.at_offset) at own)) _ _ _ _ _ read)
-    c.in_ok-target.ensures.found
+    (Ok c.in_ok-target.target) _ c.fde_of_target.ensures.found c.in_ok-target.ensures.found

@@ -22,6 +22,7 @@ loop-entry-init g c =
     record {
       same_section = c.entries-entries.ensures.section;
       same_bases = c.entries-entries.ensures.bases;
+      cies = c.new-cies.ensures (eh_frame_view g.R.Reader.position c.args.frame.now) c.args.bases.now;
       passed =
           subst (λ (s : Position). Passed header table c.args.eh_frame section table.count (entries section) (entries_left section s.place)) (sym at_start)
           (passed_none header table c.args.eh_frame section);
@@ -44,13 +45,13 @@ returns-in-Err-clause-calls g c =
 pub returns-in-Err-clause-same : goal.returns-in-Err-clause-same
 returns-in-Err-clause-same g c = c.loop-entry.invariant.answers
 
-pub returns-in-Err-read_whole-clause-calls : goal.returns-in-Err-read_whole-clause-calls
-returns-in-Err-read_whole-clause-calls g c =
+pub returns-in-Err-fde-clause-calls : goal.returns-in-Err-fde-clause-calls
+returns-in-Err-fde-clause-calls g c =
     let count = (table_view g.R.Reader.position c.args.table.now).count in
     at_most (g.St.StartSource.calls c.args.starts.now) _ 0 count c.loop-entry.left (starts_for_fde count) c.loop-entry.invariant.calls
 
-pub returns-in-Err-read_whole-clause-same : goal.returns-in-Err-read_whole-clause-same
-returns-in-Err-read_whole-clause-same g c = c.loop-entry.invariant.answers
+pub returns-in-Err-fde-clause-same : goal.returns-in-Err-fde-clause-same
+returns-in-Err-fde-clause-same g c = c.loop-entry.invariant.answers
 
 pub end_of_entry-end-requires : goal.end_of_entry-end-requires
 end_of_entry-end-requires g c =
@@ -77,7 +78,9 @@ returns-in_err-check_fde-clause-reason g c =
     let partial = partial_of g.R.Reader.position g.R.Offset.ReaderOffset.number c.in-Fde.partial.prefix c.in-Fde.partial.cie_offset in
     let met = rw (c.loop-entry.invariant.same_section, c.loop-entry.invariant.same_bases, c.in-Ok-Some.field-0-is, c.in-Fde.is) at c.in-Ok-Some.ensures.met in
     let same_section_and_bases = rw (c.in-Ok-Some.field-0-is, c.in-Fde.is) at c.in-Ok-Some.ensures.same_section_and_bases in
-    let read : Ok fde ≡ read_fde section partial = rw (same_section_and_bases.0 ∙ c.loop-entry.invariant.same_section, same_section_and_bases.1 ∙ c.loop-entry.invariant.same_bases) at c.in-Ok.ensures in
+    let of_frame = same_section_and_bases.0 ∙ c.loop-entry.invariant.same_section in
+    let of_bases = same_section_and_bases.1 ∙ c.loop-entry.invariant.same_bases in
+    let read : Ok fde ≡ read_fde section partial = (rw (of_frame, of_bases) at c.in-Ok.ensures.read) c.loop-entry.invariant.cies in
     let among = is_among header table c.args.eh_frame section partial c.loop-entry.invariant.passed met fde (sym read) in
     rw gives (reason_of_fde header table c.args.eh_frame section fde c.in_err-check_fde.field-0.0 among c.in_err-check_fde.ensures.reason)
 
@@ -98,7 +101,9 @@ overflow_sub-left g c =
     let partial = partial_of g.R.Reader.position g.R.Offset.ReaderOffset.number c.in-Fde.partial.prefix c.in-Fde.partial.cie_offset in
     let met = rw (c.loop-entry.invariant.same_section, c.loop-entry.invariant.same_bases, c.in-Ok-Some.field-0-is, c.in-Fde.is) at c.in-Ok-Some.ensures.met in
     let same_section_and_bases = rw (c.in-Ok-Some.field-0-is, c.in-Fde.is) at c.in-Ok-Some.ensures.same_section_and_bases in
-    let read : Ok fde ≡ read_fde section partial = rw (same_section_and_bases.0 ∙ c.loop-entry.invariant.same_section, same_section_and_bases.1 ∙ c.loop-entry.invariant.same_bases) at c.in-Ok.ensures in
+    let of_frame = same_section_and_bases.0 ∙ c.loop-entry.invariant.same_section in
+    let of_bases = same_section_and_bases.1 ∙ c.loop-entry.invariant.same_bases in
+    let read : Ok fde ≡ read_fde section partial = (rw (of_frame, of_bases) at c.in-Ok.ensures.read) c.loop-entry.invariant.cies in
     row_left header table c.args.eh_frame section partial c.loop-entry.invariant.passed met fde (sym read) c.in_ok-check_fde.ensures.row
 
 pub loop-entry-preserved-in-Fde : goal.loop-entry-preserved-in-Fde
@@ -111,12 +116,15 @@ loop-entry-preserved-in-Fde g c =
     let others = entries_left section (g.R.Reader.position c.next.new.self.input).place in
     let met = rw (c.next.ensures.section, c.next.ensures.bases, c.loop-entry.invariant.same_section, c.loop-entry.invariant.same_bases, c.in-Ok-Some.field-0-is, c.in-Fde.is) at c.in-Ok-Some.ensures.met in
     let same_section_and_bases = rw (c.in-Ok-Some.field-0-is, c.in-Fde.is) at c.in-Ok-Some.ensures.same_section_and_bases in
-    let read : Ok fde ≡ read_fde section partial = rw (same_section_and_bases.0 ∙ c.loop-entry.invariant.same_section, same_section_and_bases.1 ∙ c.loop-entry.invariant.same_bases) at c.in-Ok.ensures in
+    let of_frame = same_section_and_bases.0 ∙ c.loop-entry.invariant.same_section in
+    let of_bases = same_section_and_bases.1 ∙ c.loop-entry.invariant.same_bases in
+    let read : Ok fde ≡ read_fde section partial = (rw (of_frame, of_bases) at c.in-Ok.ensures.read) c.loop-entry.invariant.cies in
     let ended : c.end_of_entry-end.result ≡ end_of_entry (FdeEntry partial) = rw c.in-Fde.is at c.end_of_entry-end.ensures in
     let some = overflow_sub-left g c in
     record {
       same_section = c.next.ensures.section ∙ c.loop-entry.invariant.same_section;
       same_bases = c.next.ensures.bases ∙ c.loop-entry.invariant.same_bases;
+      cies = (rw (of_frame, of_bases) at c.fde.ensures.keeps) c.loop-entry.invariant.cies;
       passed = passed_fde header table c.args.eh_frame section {others = others} partial c.loop-entry.invariant.passed met fde (sym read) c.in_ok-check_fde.ensures.row;
       stands = subst (λ (n : ℕ). StandsAt section n others) (sym ended) (stands_after section {others = others} (FdeEntry partial) c.loop-entry.invariant.stands met);
       answers = c.in_ok-check_fde.ensures.same ∙ c.loop-entry.invariant.answers;

@@ -1,5 +1,7 @@
 use Rattle.std.proofs.Common.{◌≡◌, ◌≤◌, ◌+◌, ◌-◌, ◌*◌, length}
 use Rattle.cfi_entry.specs.Entries.{entries, entries_left}
+use Rattle.cfi_entry.specs.SectionViews.{eh_frame_view}
+use Rattle.cfi_unwind.specs.CachedCie.{IsCacheOf}
 use Rattle.cfi_parts.specs.InstructionReaders.{items}
 use Rattle.gimli_cfi.specs.TableCheck.{starts_for_fde}
 use Rattle.gimli_cfi.specs.HeaderViews.{section_view, header_section_view, table_view}
@@ -18,6 +20,7 @@ invariant-loop-entry g l =
     record {
       same_section : l.entries.section ≡ l.frame;
       same_bases : l.entries.bases.now ≡ l.bases;
+      cies : IsCacheOf position g.R.Offset.ReaderOffset.number (eh_frame_view position l.frame) l.bases l.cies;
       passed : Passed (header_section_view position l.table.hdr.now l.bases) table l.eh_frame section l.left (entries section) (entries_left section (position l.entries.input).place);
       stands : StandsAt section l.end (entries_left section (position l.entries.input).place);
       answers : source.answer l.starts ≡ source.answer l.fn.starts;

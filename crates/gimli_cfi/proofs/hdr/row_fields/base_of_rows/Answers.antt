@@ -5,16 +5,16 @@ use Rattle.gimli_cfi.specs.HeaderViews.{header_section_view}
 use Rattle.gimli_cfi.proofs.RowPointers.{by_base, by_data_base}
 use Rattle.gimli_cfi.proofs.hdr.row_fields.base_of_rows.Goals as goal
 
-pub returns-in-DW_EH_PE_absptr : goal.returns-in-DW_EH_PE_absptr
-returns-in-DW_EH_PE_absptr g c =
+pub returns-in-DW_EH_PE_absptr-clause-read : goal.returns-in-DW_EH_PE_absptr-clause-read
+returns-in-DW_EH_PE_absptr-clause-read g c =
     let e = c.args.hdr.now.table_enc.0 in
     let is_format : format_of e ≡ 0x0b = search rules in
     let is_direct : is_indirect e ≡ false = search rules in
     let plain : application_of e ≡ 0 = search rules in
     by_base e (header_context (header_section_view g.R.Reader.position c.args.hdr.now c.args.bases.now)) is_format is_direct (search rules) 0 (inl (plain, refl))
 
-pub returns-in-DW_EH_PE_datarel : goal.returns-in-DW_EH_PE_datarel
-returns-in-DW_EH_PE_datarel g c =
+pub returns-in-DW_EH_PE_datarel-clause-read : goal.returns-in-DW_EH_PE_datarel-clause-read
+returns-in-DW_EH_PE_datarel-clause-read g c =
     let e = c.args.hdr.now.table_enc.0 in
     let is_format : format_of e ≡ 0x0b = search rules in
     let is_direct : is_indirect e ≡ false = search rules in
