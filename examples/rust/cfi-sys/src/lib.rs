@@ -1,7 +1,7 @@
 //! The declarations of `cfi_c.h` in Rust, word for word. The crate `cfi` is a safe interface to them.
 //!
-//! What each call asks for and does is said in `cfi_c.h` and in the manual page `cfi_c(3)`. In short: pointers are not null
-//! and are aligned, lengths are those of what they point to, and what is written overlaps nothing else.
+//! What each call asks for and does is said in `cfi_c.h` and in the manual page `cfi_c(3)`. In short: pointers are not
+//! null and are aligned, lengths are those of what they point to, and what is written overlaps nothing else.
 #![no_std]
 #![allow(non_upper_case_globals)]
 
@@ -314,7 +314,8 @@ extern "C" {
     ///
     /// As the head of the crate asks.
     pub fn cfi_table_free(table: *mut CfiTable);
-    /// Writes what the row of the address says, by a binary search in the table, and the rules of the registers from 0 on.
+    /// Writes what the row of the address says, by a binary search in the table, and the rules of the registers from 0
+    /// on.
     ///
     /// # Safety
     ///
@@ -326,7 +327,8 @@ extern "C" {
         rules: *mut CfiRule,
         rules_len: usize,
     ) -> i32;
-    /// Writes the frames of a stack, from the innermost one out, as far as there is room, and in *end why there are no more.
+    /// Writes the frames of a stack, from the innermost one out, as far as there is room, and in *end why there are no
+    /// more.
     ///
     /// # Safety
     ///

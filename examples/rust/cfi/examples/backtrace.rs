@@ -1,6 +1,7 @@
 //! Unwinds its own stack, and prints the address of each frame with the module that it is in: on x86-64 Linux.
 //!
-//! The loaded modules are those of `/proc/self/maps` and their `PT_GNU_EH_FRAME`; the stack is copied before it is walked.
+//! The loaded modules are those of `/proc/self/maps` and their `PT_GNU_EH_FRAME`; the stack is copied before it is
+//! walked.
 #[cfg(not(all(target_arch = "x86_64", target_os = "linux")))]
 fn main() {
     println!("the registers of x86-64 alone are known here");

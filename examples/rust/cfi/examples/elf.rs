@@ -1,5 +1,5 @@
-//! Prints the unwind rows at the entry point of an ELF file and of what it defines as `.eh_frame`, by slices of the file
-//! alone: `elf [FILE]`, of itself without one. 64 bits and little-endian.
+//! Prints the unwind rows at the entry point of an ELF file and of what it defines as `.eh_frame`, by slices of the
+//! file alone: `elf [FILE]`, of itself without one. 64 bits and little-endian.
 use cfi::{Context, Section, Table};
 
 /// The bytes at an offset of a file, as many as a length says; none where they aren't there.

@@ -1,5 +1,5 @@
-//! Prints the rows of a function as the program cfi_rows does: from `.debug_frame`, and from `.eh_frame` by the table of its
-//! header. Each address is looked up alone, among all, and in a table of the section.
+//! Prints the rows of a function as the program cfi_rows does: from `.debug_frame`, and from `.eh_frame` by the table
+//! of its header. Each address is looked up alone, among all, and in a table of the section.
 use cfi::{Context, Result, Row, Section, Table};
 
 const ADDRESSES: [u64; 4] = [0x1000, 0x1002, 0x1004, 0x1020];

@@ -3,8 +3,8 @@ use std::ptr;
 use crate::row::answer_of;
 use crate::{End, Error, Frame, Module, Registers, Result, Row, Section, Stack};
 
-/// The memory of lookups: made once, and used for any number of addresses of any sections. Only [`Context::new`] allocates
-/// in the library. What a context was used for before doesn't change an answer.
+/// The memory of lookups: made once, and used for any number of addresses of any sections. Only [`Context::new`]
+/// allocates in the library. What a context was used for before doesn't change an answer.
 ///
 /// A context stays on its thread, so it is neither `Send` nor `Sync`; threads have one each.
 ///
@@ -68,8 +68,8 @@ impl Context {
         answer_of(&row, rules)
     }
 
-    /// Returns the rows of many addresses, each as [`Context::row`] returns it, by one call of the library. Allocates what is
-    /// returned, and aborts without memory, as `Vec` does.
+    /// Returns the rows of many addresses, each as [`Context::row`] returns it, by one call of the library. Allocates
+    /// what is returned, and aborts without memory, as `Vec` does.
     pub fn rows<const REGISTERS: usize>(
         &mut self,
         section: &Section<'_>,
@@ -102,11 +102,11 @@ impl Context {
             .collect()
     }
 
-    /// Writes the frames of a stack, from the innermost one out, as many as `frames` has room for. Returns those that are
-    /// written, and why there are no more.
+    /// Writes the frames of a stack, from the innermost one out, as many as `frames` has room for. Returns those that
+    /// are written, and why there are no more.
     ///
-    /// A frame's module is the first whose code its address is in. Only the bytes of the stack and of the modules' sections
-    /// are read, so a corrupt stack ends the walk, and no more. It doesn't allocate.
+    /// A frame's module is the first whose code its address is in. Only the bytes of the stack and of the modules'
+    /// sections are read, so a corrupt stack ends the walk, and no more. It doesn't allocate.
     pub fn unwind<'f>(
         &mut self,
         modules: &[Module<'_>],

@@ -37,13 +37,14 @@ pub enum ErrorKind {
     UnknownPointerEncoding,
     /// A required pointer is encoded as omitted.
     CannotParseOmitPointerEncoding,
-    /// An aligned pointer; in `.eh_frame_hdr` also a count whose encoding is more than a format, or a table that cannot be searched, since its rows differ in size. Carries the encoding.
+    /// An aligned pointer; in `.eh_frame_hdr` also a count whose encoding is more than a format, or a table that cannot
+    /// be searched, since its rows differ in size. Carries the encoding.
     UnsupportedPointerEncoding,
-    /// A pointer is relative to its section, whose address is not set (`set_eh_frame`, `set_eh_frame_hdr`).
+    /// A pointer is relative to its section, whose address is not set.
     PcRelativePointerButSectionBaseIsUndefined,
-    /// A pointer is relative to the text base, which is not set (`set_text`).
+    /// A pointer is relative to the text base, which is not set (`Section::with_text`).
     TextRelativePointerButTextBaseIsUndefined,
-    /// A pointer is relative to the data base, which is not set (`set_got`; for `.eh_frame_hdr` `set_eh_frame_hdr`).
+    /// A pointer is relative to the data base, which is not set (`Section::with_data`).
     DataRelativePointerButDataBaseIsUndefined,
     /// A pointer is relative to its function, but is not the LSDA pointer of an FDE.
     FuncRelativePointerInBadContext,
@@ -55,11 +56,14 @@ pub enum ErrorKind {
     NotCiePointer,
     /// There is a length of zero where an entry should be. Carries the offset in the section.
     NoEntryAtGivenOffset,
-    /// A pointer points before the start of the section. Carries the id of an FDE, which is the distance back to its CIE, or the pointer in a row of `.eh_frame_hdr`.
+    /// A pointer points before the start of the section. Carries the id of an FDE, which is the distance back to its
+    /// CIE, or the pointer in a row of `.eh_frame_hdr`.
     OffsetOutOfBounds,
     /// An unknown opcode, or one of a vendor that is not set (`set_vendor`). Carries the opcode.
     UnknownCallFrameInstruction,
-    /// An instruction that is not valid in its context: a restore in a CIE, a change of the CFA's register or offset while the CFA is an expression, or a toggle of the signing state while register 34 has a rule that is not a constant.
+    /// An instruction that is not valid in its context: a restore in a CIE, a change of the CFA's register or offset
+    /// while the CFA is an expression, or a toggle of the signing state while register 34 has a rule that is not a
+    /// constant.
     CfiInstructionInInvalidContext,
     /// An instruction sets the location to a lower address. Carries the address.
     InvalidCfiSetLoc,

@@ -1,9 +1,9 @@
 //! Unwind rows and stacks by DWARF call frame information: `.eh_frame`, `.eh_frame_hdr` and `.debug_frame`.
 //!
-//! A safe interface to the C library of gimli_cfi, whose answers are proved for all bytes and all addresses. A section is
-//! a slice with its address ([`Section`]); nothing is kept of it after a call. A [`Context`] looks up the [`Row`] of an
-//! address, by the table of the section's header or by a scan; a [`Table`] is made of a section once, and has the rows of
-//! all its addresses. [`Context::unwind`] goes from frame to frame of a stack.
+//! A safe interface to the C library of gimli_cfi, whose answers are proved for all bytes and all addresses. A section
+//! is a slice with its address ([`Section`]); nothing is kept of it after a call. A [`Context`] looks up the [`Row`] of
+//! an address, by the table of the section's header or by a scan; a [`Table`] is made of a section once, and has the
+//! rows of all its addresses. [`Context::unwind`] goes from frame to frame of a stack.
 //!
 //! ```
 //! use cfi::{Cfa, Context, Rule, Section};

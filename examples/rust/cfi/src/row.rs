@@ -55,8 +55,8 @@ pub enum Rule {
     Constant(u64),
 }
 
-/// The unwind row of an address, with the rules of the registers below `REGISTERS`. 17 is enough for x86-64, whose return
-/// address is register 16, and 35 for the general registers of AArch64 and whether its return address is signed.
+/// The unwind row of an address, with the rules of the registers below `REGISTERS`. 17 is enough for x86-64, whose
+/// return address is register 16, and 35 for the general registers of AArch64 and whether its return address is signed.
 #[derive(Clone, Copy, Debug, PartialEq, Eq, Hash)]
 pub struct Row<const REGISTERS: usize> {
     /// The first address for which the row holds; 0 by a [`crate::Table`].

@@ -1,5 +1,5 @@
-/// A section of call frames: its bytes, where it lies, and how its numbers are read. Without further calls it is that of a
-/// little-endian program with addresses of 8 bytes.
+/// A section of call frames: its bytes, where it lies, and how its numbers are read. Without further calls it is that
+/// of a little-endian program with addresses of 8 bytes.
 #[derive(Clone, Copy, Debug)]
 pub struct Section<'a> {
     pub(crate) bytes: &'a [u8],
@@ -35,8 +35,8 @@ impl<'a> Section<'a> {
         }
     }
 
-    /// With `.eh_frame_hdr` of these bytes at this address: rows are then found by its table, if it has one. Where the table
-    /// lists the FDEs faithfully they are those of a scan. Without effect for `.debug_frame`, and for no bytes.
+    /// With `.eh_frame_hdr` of these bytes at this address: rows are then found by its table, if it has one. Where the
+    /// table lists the FDEs faithfully they are those of a scan. Without effect for `.debug_frame`, and for no bytes.
     pub fn with_header(mut self, bytes: &'a [u8], address: u64) -> Section<'a> {
         self.header = if self.bases.debug_frame { &[] } else { bytes };
         self.bases.header = address;

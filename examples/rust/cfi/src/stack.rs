@@ -10,8 +10,8 @@ use crate::{Error, Section};
 pub struct Module<'a>(cfi_sys::CfiModule, PhantomData<&'a [u8]>);
 
 impl<'a> Module<'a> {
-    /// Returns the module with this code and section, with addresses as they are loaded. Without a header its rows are found
-    /// by a scan, which takes far longer. A `.debug_frame` is read as `.eh_frame`.
+    /// Returns the module with this code and section, with addresses as they are loaded. Without a header its rows are
+    /// found by a scan, which takes far longer. A `.debug_frame` is read as `.eh_frame`.
     pub fn new(code: Range<u64>, section: Section<'a>) -> Module<'a> {
         let (eh_frame, header) = (section.bytes, section.header);
         let module = cfi_sys::CfiModule {

@@ -5,8 +5,8 @@ use crate::{Error, Result, Row, Section};
 
 /// The rows of a section for all addresses, made once. It doesn't read the section any more.
 ///
-/// A table may go to another thread, and is used by one at a time: it is `Send`, and a lookup borrows it mutably. Threads
-/// that look up at once have a table each.
+/// A table may go to another thread, and is used by one at a time: it is `Send`, and a lookup borrows it mutably.
+/// Threads that look up at once have a table each.
 #[derive(Debug)]
 pub struct Table(cfi_sys::CfiTable);
 
@@ -16,8 +16,8 @@ unsafe impl Send for Table {}
 unsafe impl Sync for Table {}
 
 impl Table {
-    /// Makes the table of a section, without its header. Fails with `OutOfMemory`, or with `UnsupportedAddressSize` for a
-    /// size that is none. An error in the section is that of the addresses that it is for.
+    /// Makes the table of a section, without its header. Fails with `OutOfMemory`, or with `UnsupportedAddressSize` for
+    /// a size that is none. An error in the section is that of the addresses that it is for.
     pub fn new(section: &Section<'_>) -> Result<Table> {
         let mut table = Table(cfi_sys::CfiTable {
             at: ptr::null_mut(),
@@ -31,8 +31,8 @@ impl Table {
         }
     }
 
-    /// Returns what [`crate::Context::row`] returns for the address by a scan, but for `start` and `end`, which are 0. It
-    /// takes a binary search, and doesn't allocate.
+    /// Returns what [`crate::Context::row`] returns for the address by a scan, but for `start` and `end`, which are 0.
+    /// It takes a binary search, and doesn't allocate.
     pub fn row<const REGISTERS: usize>(&mut self, address: u64) -> Result<Row<REGISTERS>> {
         let mut row = cfi_sys::CfiRow::default();
         let mut rules = [cfi_sys::CfiRule::default(); REGISTERS];
