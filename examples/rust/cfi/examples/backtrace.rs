@@ -24,15 +24,16 @@ mod linux {
     /// What is mapped of a file: its name, and its parts by their addresses.
     type Mapped = BTreeMap<String, Vec<Range<u64>>>;
 
-    /// The files that are mapped, and the stack.
+    /// What is mapped, also without a name, as stacks may be.
     fn mapped() -> std::io::Result<Mapped> {
         let mut mapped = Mapped::new();
         for line in std::fs::read_to_string("/proc/self/maps")?.lines() {
             let mut words = line.split_whitespace();
             let range = words.next().and_then(|range| range.split_once('-'));
-            let (Some((start, end)), Some(rights), Some(name)) = (range, words.next(), words.nth(3)) else {
+            let (Some((start, end)), Some(rights)) = (range, words.next()) else {
                 continue;
             };
+            let name = words.nth(3).unwrap_or_default();
             if rights.starts_with('r') {
                 let bound = |text| u64::from_str_radix(text, 16).unwrap_or(0);
                 mapped
@@ -105,11 +106,10 @@ mod linux {
         let mapped = mapped()?;
         let base = known[2];
         // SAFETY: this is the stack of this thread, which nothing else writes; it is copied at once.
-        let copied = unsafe { bytes(&mapped["[stack]"], base) }
-            .ok_or("not on the first stack")?
-            .to_vec();
-        let modules: Vec<(&str, Module)> = mapped
-            .iter()
+        let here = mapped.values().find_map(|parts| unsafe { bytes(parts, base) });
+        let copied = here.ok_or("the stack is not mapped")?.to_vec();
+        let files = mapped.iter().filter(|(name, _)| name.starts_with('/'));
+        let modules: Vec<(&str, Module)> = files
             .filter_map(|(name, parts)| Some((name.as_str(), module(parts)?)))
             .collect();
         let mut registers = Registers::new();
