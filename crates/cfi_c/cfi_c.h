@@ -160,6 +160,46 @@ typedef struct {
     bool known;
 } CfiValue;
 
+/* Some bytes of memory, from the address base on. */
+typedef struct {
+    uint64_t base;
+    const uint8_t *bytes;
+    size_t len;
+} CfiWindow;
+
+/* Memory, as far as it is there, and what the ABI says: as CfiStack, with any number of windows, in any order. A signal
+ * handler's stack, a fiber's or the segments of a core file are a window each. A number is read of the first window that has
+ * all its bytes, so the one that is read most stands first. */
+typedef struct {
+    const CfiWindow *windows;
+    size_t windows_len;
+    uint64_t signature_mask;
+    uint32_t max_iterations;
+    uint16_t stack_pointer;
+    bool big_endian;
+    uint8_t address_size;
+} CfiMemory;
+
+/* What an FDE and its CIE say of a function, beside its rows. */
+typedef struct {
+    uint64_t start, end;           /* its first address, and the first after it */
+    uint64_t lsda, personality;    /* 0 where there is none */
+    uint64_t fde;                  /* the FDE's offset in the section */
+    uint16_t return_address;       /* the register that has the return address */
+    bool is_known;                 /* there is an FDE; else all of this is 0 */
+    bool has_lsda, has_personality;
+    bool lsda_is_indirect, personality_is_indirect; /* what stands there is the address of the pointer */
+    bool is_signal_trampoline;     /* by the augmentation's letter S: a signal interrupted the caller */
+} CfiFunction;
+
+/* The caller of a frame. */
+typedef struct {
+    uint64_t cfa;        /* the frame's own */
+    uint64_t pc;         /* 0 if the frame is the outermost one */
+    uint64_t args_size;  /* of the frame itself: how many bytes of arguments it has pushed, by DW_CFA_GNU_args_size */
+    bool is_interrupted; /* a signal interrupted the caller: its pc is looked up as it is */
+} CfiCaller;
+
 /* A frame of a stack. */
 typedef struct {
     uint64_t pc;         /* where it goes on, or was interrupted */
@@ -187,7 +227,8 @@ typedef enum {
     CFI_END_BAD_BRANCH_TARGET = 13,    /* the distance modulo 65536 */
     CFI_END_TOO_MANY_ITERATIONS = 14,
     CFI_END_ARCHITECTURAL_RULE = 15,
-    CFI_END_NOT_WALKED = 16 /* no frame is written: status is CFI_NoContext, or CFI_UnsupportedAddressSize: the size */
+    CFI_END_NOT_WALKED = 16, /* no frame is written: status is CFI_NoContext, or CFI_UnsupportedAddressSize: the size */
+    CFI_END_NONE = 17        /* by cfi_step alone: there is a caller */
 } CfiEndKind;
 
 typedef struct {
@@ -244,6 +285,23 @@ int32_t cfi_table_row(CfiTable *table, uint64_t address, CfiRow *row, CfiRule *r
  * sections are read. */
 size_t cfi_unwind(CfiContext *context, const CfiModule *modules, size_t modules_len, const CfiStack *stack, uint64_t pc,
                   const CfiValue *registers, size_t registers_len, CfiFrame *frames, size_t frames_len, CfiEnd *end);
+
+/* Writes the caller of one frame. The pc and the registers are those of the frame; is_interrupted says that the pc is looked
+ * up as it is, as that of the innermost frame and of one that a signal interrupted, and not as a return address. The module is
+ * the one whose code has the pc: its start and end aren't read. The row is found as by cfi_unwind.
+ *
+ * Returns end->kind. CFI_END_NONE: *caller and caller_registers are the caller's. CFI_END_OUTERMOST: there is no caller; both
+ * are written, and caller->pc is 0. Else, as by cfi_unwind, CFI_END_NO_ROW and those after it; then neither is written. Whether
+ * the CFA rises is not checked.
+ *
+ * *function is what the FDE of the frame's pc says, also where there is no caller, if there is an FDE.
+ *
+ * registers[k] and caller_registers[k] have DWARF's number k. Those from 256 on aren't read, and aren't known of a caller. On
+ * x86-64 register 16 is the pc: pass it, since rows of procedure linkage tables read it. Only the bytes of memory that the
+ * rules name are read, and the module's sections. */
+uint32_t cfi_step(CfiContext *context, const CfiModule *module, const CfiMemory *memory, uint64_t pc, bool is_interrupted,
+                  const CfiValue *registers, size_t registers_len, CfiValue *caller_registers, size_t caller_registers_len,
+                  CfiFunction *function, CfiCaller *caller, CfiEnd *end);
 
 /* Writes the name of a status, as in "UnexpectedEof", as far as there is room for it, without a zero at its end. Returns
  * how long it is. "Unknown" for a number that is no status. */
