@@ -21,7 +21,9 @@ use Rattle.cfi_step.specs.declared.module.LoadedModule.{LoadedModule}
 use Rattle.cfi_step.specs.declared.step.Caller.{Caller}
 use Rattle.cfi_compiled.specs.CompiledTables.{TableContents}
 use Rattle.cfi_step.specs.CompiledSteps.{address_in_file}
-use Rattle.cfi_step.specs.Modules.{IsFoundBy, IsStepByFound, IsStepIn, IsStepVia}
+use Rattle.cfi_step.specs.declared.function.Function.{Function}
+use Rattle.cfi_step.specs.Functions.{IsStepInFunction, function_in}
+use Rattle.cfi_step.specs.Modules.{IsFoundBy, IsStepByFde as IsStepByLoaded, IsStepByFound, IsStepIn, IsStepVia}
 use Rattle.cfi_step.specs.Steps.{IsStepBy}
 use Rattle.cfi_step.specs.Walks.{State, address_of}
 use Rattle.cfi_c.specs.declared.CfiBases.{CfiBases}
@@ -29,7 +31,7 @@ use Rattle.cfi_c.specs.declared.stack.CfiModule.{CfiModule}
 use Rattle.cfi_c.specs.declared.stack.CfiStack.{CfiStack}
 use Rattle.cfi_c.specs.PassedSections.{eh_frame_of, header_in, header_of}
 use Rattle.cfi_c.specs.PassedStacks.{abi_of, sized}
-use Rattle.cfi_c.specs.StackFrames.{IsFdeBy, IsStepInModule, frame_of}
+use Rattle.cfi_c.specs.StackFrames.{IsFdeBy, IsStepByFde, IsStepInModule, frame_of}
 
 module _ {R : Type 0} (position : R → Position) (size : ℕ) (loaded : LoadedModule R) (bases : CfiBases) (bytes : List ℕ) (same : section_view position loaded.frame loaded.bases ≡ eh_frame_of bases bytes) where
   found_by : (made : Option (EhFrameHdr R)) (passed : Option (List ℕ))
@@ -46,6 +48,28 @@ module _ {R : Type 0} (position : R → Position) (size : ℕ) (loaded : LoadedM
 -- a file that isn't moved has the addresses of the process
 not_moved : (bias a : ℕ) → bias ≡ 0 → a < 2 ^ 64 → address_in_file bias a ≡ a
 not_moved bias a none fits = ap (λ (n : ℕ). address_in_file n a) none ∙ (add-mod_right a (2 ^ 64) ∙ mod-eq_of_lt fits)
+
+module _ {R : Type 0} (position : R → Position) (frame : Frame) (abi : Abi) (passed : CfiModule) (loaded : LoadedModule R)
+    (bytes : (eh_frame_view position loaded.frame).position ≡ slice_over passed.section.now passed.bases.big_endian)
+    (sections : section_view position loaded.frame loaded.bases ≡ eh_frame_of (sized frame.size passed.bases) passed.section.now)
+    (headers : option_map (λ header. unparsed_view position header frame.size loaded.bases) loaded.header ≡ option_map (header_of (sized frame.size passed.bases)) (header_in passed.header.now)) where
+  by_fde : (a : ℕ) (found : Result Fde Error) (result : Result Caller FrameError) (caller : List (Option ℕ))
+      → IsStepByLoaded position (λ (n : ℕ). n) frame abi (Some 192) (Some 4) true loaded a found result caller → IsStepByFde frame abi passed a found result caller
+  by_fde a found result caller is = (
+    found_by position frame.size loaded (sized frame.size passed.bases) passed.section.now sections loaded.header (header_in passed.header.now) headers a found is.0,
+    is.1,
+    subst (λ (n : Section). IsStepBy frame (slice_over passed.section.now passed.bases.big_endian) abi (λ (n : ℕ). n) (Some 192) (Some 4) true n a found result caller) sections
+    (subst (λ (p : Position). IsStepBy frame p abi (λ (n : ℕ). n) (Some 192) (Some 4) true (section_view position loaded.frame loaded.bases) a found result caller) bytes is.2),
+  )
+
+  -- the step with its function, of a file that isn't moved
+  pub in_function : (a : ℕ) (function : Option Function) (result : Result Caller FrameError) (caller : List (Option ℕ)) → loaded.bias ≡ 0 → a < 2 ^ 64
+      → IsStepInFunction position (λ (n : ℕ). n) frame abi (Some 192) (Some 4) true loaded (address_in_file loaded.bias a) function result caller
+      → (found : Result Fde Error) × IsStepByFde frame abi passed a found result caller × (function ≡ function_in found)
+  in_function a function result caller unmoved fits is =
+      let at : IsStepInFunction position (λ (n : ℕ). n) frame abi (Some 192) (Some 4) true loaded a function result caller =
+      subst (λ (n : ℕ). IsStepInFunction position (λ (n : ℕ). n) frame abi (Some 192) (Some 4) true loaded n function result caller) (not_moved loaded.bias a unmoved fits) is in
+      (at.0, by_fde a at.0 result caller at.1, at.2)
 
 module _ {R : Type 0} (position : R → Position) (stack : CfiStack) (passed : CfiModule) (loaded : LoadedModule R) where
   pub as_passed : (s : State) (frame : Frame) (abi : Abi) (a : ℕ) (result : Result Caller FrameError) (caller : List (Option ℕ))
@@ -65,13 +89,8 @@ module _ {R : Type 0} (position : R → Position) (stack : CfiStack) (passed : C
       let ruled : IsStepByFound position (λ (n : ℕ). n) (frame_of stack s) (abi_of stack) (Some 192) (Some 4) true loaded a result caller =
       subst (λ (b : Abi). IsStepByFound position (λ (n : ℕ). n) (frame_of stack s) b (Some 192) (Some 4) true loaded a result caller) abis framed in
       let so : IsStepByFound position (λ (n : ℕ). n) (frame_of stack s) (abi_of stack) (Some 192) (Some 4) true loaded (address_of s) result caller =
-      subst (λ (n : ℕ). IsStepByFound position (λ (n : ℕ). n) (frame_of stack s) (abi_of stack) (Some 192) (Some 4) true loaded n result caller) addresses ruled in (
-        so.0,
-        found_by position stack.address_size loaded (sized stack.address_size passed.bases) passed.section.now sections loaded.header (header_in passed.header.now) headers (address_of s) so.0 so.1,
-        so.2,
-        subst (λ (n : Section). IsStepBy (frame_of stack s) (slice_over passed.section.now passed.bases.big_endian) (abi_of stack) (λ (n : ℕ). n) (Some 192) (Some 4) true n (address_of s) so.0 result caller) sections
-            (subst (λ (p : Position). IsStepBy (frame_of stack s) p (abi_of stack) (λ (n : ℕ). n) (Some 192) (Some 4) true (section_view position loaded.frame loaded.bases) (address_of s) so.0 result caller) bytes so.3),
-      )
+      subst (λ (n : ℕ). IsStepByFound position (λ (n : ℕ). n) (frame_of stack s) (abi_of stack) (Some 192) (Some 4) true loaded n result caller) addresses ruled in
+      (so.0, by_fde position (frame_of stack s) (abi_of stack) passed loaded bytes sections headers (address_of s) so.0 result caller so.1)
 
 -- what holds if there is none
 pub if_none : (o : Option ℕ) (P : Type 0) → IfNone o P → is_none o ≡ true → P

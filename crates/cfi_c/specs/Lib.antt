@@ -9,4 +9,6 @@ pub mod ManyAddresses
 pub mod TableRows
 pub mod PassedStacks
 pub mod StackFrames
+pub mod PassedMemories
+pub mod SteppedFrames
 pub mod PassedSteps

@@ -1,4 +1,6 @@
 -- The frames of a stack, as C gets them.
+--     IsStepByFde frame abi loaded a found step caller      a step by the FDE that the module's
+--         sections have for the address
 --     IsStepInModule stack loaded s step caller      a step from a frame of a module's code, by the
 --         FDE that the module's sections have for it
 --     IsWalkForC modules stack s frames end registers caller      the frames from s on, and why
@@ -20,6 +22,7 @@ use Rattle.gimli_cfi.specs.RowsByHeader.{FoundByHeader}
 use Rattle.cfi_expression.specs.declared.error.FrameError.{FrameError}
 use Rattle.cfi_expression.specs.declared.error.FrameError.TheVariants as failed
 use Rattle.cfi_expression.specs.Frames.{Frame}
+use Rattle.cfi_step.specs.declared.abi.Abi.{Abi}
 use Rattle.cfi_step.specs.declared.step.Caller.{Caller}
 use Rattle.cfi_step.specs.declared.walk.StackFrame.{StackFrame}
 use Rattle.cfi_step.specs.declared.walk.Start.{Start}
@@ -46,6 +49,18 @@ IsFdeBy bases bytes (Some header) a found =
     FoundByHeader (eh_frame_of bases bytes) a (header_of bases header)
     (headers.header_of (header_of bases header)) found
 
+-- by the FDE that is found for an address of the module's code
+abbrev pub IsStepByFde :
+    Frame → Abi → CfiModule → ℕ → Result Fde Error → Result Caller FrameError → List (Option ℕ) →
+    Type 0
+IsStepByFde frame abi loaded a found step caller =
+    let bases = sized frame.size loaded.bases in
+    IsFdeBy bases loaded.section.now (header_in loaded.header.now) a found
+    × IfOk found (λ fde. Covers fde a)
+    × IsStepBy frame (slice_over loaded.section.now loaded.bases.big_endian) abi
+    (λ n. n) (Some 192) (Some 4) true
+    (eh_frame_of bases loaded.section.now) a found step caller
+
 module _ (stack : CfiStack) where
   abbrev pub frame_of : State → Frame
   frame_of s =
@@ -54,13 +69,8 @@ module _ (stack : CfiStack) where
   abbrev pub IsStepInModule :
       CfiModule → State → Result Caller FrameError → List (Option ℕ) → Type 0
   IsStepInModule loaded s step caller =
-      let bases = sized stack.address_size loaded.bases in
       (found : Result Fde Error)
-      × IsFdeBy bases loaded.section.now (header_in loaded.header.now) (address_of s) found
-      × IfOk found (λ fde. Covers fde (address_of s))
-      × IsStepBy (frame_of s) (slice_over loaded.section.now loaded.bases.big_endian) (abi_of stack)
-      (λ n. n) (Some 192) (Some 4) true
-      (eh_frame_of bases loaded.section.now) (address_of s) found step caller
+      × IsStepByFde (frame_of s) (abi_of stack) loaded (address_of s) found step caller
 
   abbrev pub IsStepForC : List CfiModule → State → Result Caller End → List (Option ℕ) → Type 0
   IsStepForC modules s = IsStepOf IsStepInModule (module_at modules (address_of s)) s

@@ -161,7 +161,7 @@ pub fn memory_of<'a>(stack: &CfiStack<'a>) -> Window<EndianSlice<'a, RunTimeEndi
 
 /// The module with its sections, whose addresses have this size. They are given at the addresses of
 /// the process, so there is no bias.
-fn loaded_of<'a>(
+pub fn loaded_of<'a>(
     module: &CfiModule<'a>,
     size: u8,
 ) -> LoadedModule<'a, EndianSlice<'a, RunTimeEndian>>

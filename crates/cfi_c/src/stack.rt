@@ -178,7 +178,7 @@ pub fn end_of(end: End) -> CfiEnd
 }
 
 /// Why no caller is found, as C sees it.
-fn failed_end(error: FrameError) -> CfiEnd
+pub fn failed_end(error: FrameError) -> CfiEnd
     ensures { result ≡ failed_end error }
 {
     match error {
@@ -198,7 +198,7 @@ fn failed_end(error: FrameError) -> CfiEnd
 }
 
 /// An end without an error of the sections.
-fn plain_end(kind: u32, refused: u64) -> CfiEnd
+pub fn plain_end(kind: u32, refused: u64) -> CfiEnd
     ensures { result ≡ plain_end kind refused }
 {
     CfiEnd {

@@ -20,7 +20,7 @@ use std::alloc::Global;
 use std::mem;
 
 /// The kind of an end where nothing is walked.
-const NOT_WALKED: u32 = 16;
+pub const NOT_WALKED: u32 = 16;
 
 /// Writes the frames of a stack, from the innermost one out, as far as there is room. The pc and
 /// the registers are those of the innermost frame; registers from 256 on are not read.

@@ -135,15 +135,17 @@ module _ {R K T : Type 0} (position : R → Position) (number : T → ℕ) (slot
       let bytes = (eh_frame_view position loaded.frame).position in
       let parts_of_row : parts ≡ row.parts = sym same ∙ says in (
         Ok fde,
-        found,
-        covers,
         (
-          Ok row,
-          is_row,
+          found,
+          covers,
           (
-            same_caller number frame bytes abi parts result slot.return_address fde.cie.return_address_register slot.is_signal_trampoline (is_trampoline fde.cie.augmentation) is is_ra is_tr
-                ∙ ap (caller_by frame bytes abi number fde.cie.return_address_register (is_trampoline fde.cie.augmentation)) parts_of_row,
-            subst (λ (p : Parts T). IfOk result (λ c. AreRecovered frame bytes abi number p c.cfa (length caller) caller)) parts_of_row recovered,
+            Ok row,
+            is_row,
+            (
+              same_caller number frame bytes abi parts result slot.return_address fde.cie.return_address_register slot.is_signal_trampoline (is_trampoline fde.cie.augmentation) is is_ra is_tr
+                  ∙ ap (caller_by frame bytes abi number fde.cie.return_address_register (is_trampoline fde.cie.augmentation)) parts_of_row,
+              subst (λ (p : Parts T). IfOk result (λ c. AreRecovered frame bytes abi number p c.cfa (length caller) caller)) parts_of_row recovered,
+            ),
           ),
         ),
       )

@@ -3,6 +3,7 @@ pub mod Steps
 pub mod CompiledSteps
 pub mod CodeRanges
 pub mod Modules
+pub mod Functions
 pub mod ModuleLists
 pub mod Slots
 pub mod CachedRows

@@ -4,7 +4,7 @@
 --     module_section position loaded      the section of its entries
 --     IsFoundIn position size loaded a found      the FDE for an address of the file, or the error
 --         in its place, where an address has this size
---     IsStepByFound .. loaded a result caller      a step by it
+--     IsStepByFound .. loaded a result caller      a step by it; IsStepByFde for one that is found
 --     IsStepIn .. loaded a result caller      a step by the compiled table, or by the FDE where
 --         there is none, from an address of the process
 --     has_code loaded a, first_module modules a      the module whose code the address is in
@@ -50,15 +50,19 @@ module _ {R : Type 0} (position : R → Position) (size : ℕ) (loaded : LoadedM
 -- the caller of a frame of the module's code, whose row is that of the address
 module _ {R T : Type 0} (position : R → Position) (number : T → ℕ) (frame : Frame) (abi : Abi)
     (rule_limit stack_limit : Option ℕ) (copies_free : Bool) where
-  -- by an address of the file
-  abbrev pub IsStepByFound :
-      LoadedModule R → ℕ → Result Caller FrameError → List (Option ℕ) → Type 0
-  IsStepByFound loaded a result caller =
-      (found : Result Fde Error) × IsFoundIn position frame.size loaded a found
-      × IfOk found (λ fde. Covers fde a)
+  -- by the FDE that is found for an address of the file
+  abbrev pub IsStepByFde :
+      LoadedModule R → ℕ → Result Fde Error → Result Caller FrameError → List (Option ℕ) → Type 0
+  IsStepByFde loaded a found result caller =
+      IsFoundIn position frame.size loaded a found × IfOk found (λ fde. Covers fde a)
       × IsStepBy frame (eh_frame_view position loaded.frame).position abi number rule_limit
       stack_limit copies_free
       (module_section position frame.size loaded) a found result caller
+
+  abbrev pub IsStepByFound :
+      LoadedModule R → ℕ → Result Caller FrameError → List (Option ℕ) → Type 0
+  IsStepByFound loaded a result caller =
+      (found : Result Fde Error) × IsStepByFde loaded a found result caller
 
   -- the same, and by a compiled table; the bytes of expressions are those of the module's section
   abbrev pub IsStepVia :

@@ -1,7 +1,7 @@
 -- From a frame to its caller, by the row of the frame's pc (DWARF 5 section 6.4.4).
 --     row_address pc is_interrupted      the address by which the row of a frame is found
---     caller_by ra trampoline parts      the CFA, the caller's pc, and whether the frame is a
---         signal trampoline's
+--     caller_by ra trampoline parts      the CFA, the caller's pc, whether the frame is a signal
+--         trampoline's, and the size of the arguments that it has pushed
 --     IsCallerBy ra trampoline row result caller      what a step returns and writes by a row, or
 --         by the error in its place
 --     IsStepBy .. section a found result caller      the same by the FDE that is found for the
@@ -39,7 +39,13 @@ module _ (frame : Frame) (bytes : Position) (abi : Abi) {T : Type 0} (number : T
   caller_by ra trampoline parts =
       on_ok
       (λ the_cfa.
-      map_value (λ pc. record { cfa = the_cfa; pc = pc; is_interrupted = trampoline })
+      map_value
+      (λ pc. record {
+        cfa = the_cfa;
+        pc = pc;
+        is_interrupted = trampoline;
+        args_size = parts.args_size;
+      })
       (return_address frame bytes abi number parts the_cfa ra))
       (cfa_of frame bytes abi number parts.cfa)
 

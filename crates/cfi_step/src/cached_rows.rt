@@ -77,6 +77,11 @@ impl RowRules for CachedRow {
     fn register_rules(&self) -> &[(Register, RegisterRule<usize>)] {
         self.rules.as_slice()
     }
+
+    #[inline(always)]
+    fn args_size(&self) -> u64 {
+        self.saved_args_size
+    }
 }
 
 impl RowSlot for CachedRow {

@@ -1,9 +1,10 @@
 //! From a frame to its caller, by a row of an unwind table (DWARF 5 sections 6.4.1 and 6.4.4).
 //!
 //! `recover` and `step_by_row` take a row, the other steps find it: by an FDE, by a scan of a
-//! section, by the table of a header, or by a compiled table. `Modules` finds the module of an
-//! address, and `unwind` writes the frames of a stack; `unwind_cached` does so with a cache of
-//! rows, and `write_frames` by any steps. Nothing allocates over a fixed storage.
+//! section, by the table of a header, or by a compiled table; `step_in_function` also says what the
+//! FDE has of the function. `Modules` finds the module of an address, and `unwind` writes the frames
+//! of a stack; `unwind_cached` does so with a cache of rows, and `write_frames` by any steps.
+//! Nothing allocates over a fixed storage.
 #![tactic(auto)]
 
 pub mod abi;
@@ -11,6 +12,7 @@ pub mod cached_rows;
 pub mod cached_walk;
 pub mod code;
 pub mod compiled;
+pub mod function;
 pub mod module;
 pub mod module_steps;
 pub mod modules;
@@ -28,6 +30,7 @@ pub use cached_walk::unwind_cached;
 pub use cfi_expression::{AddressSize, Frame, FrameError, Memory, Window};
 pub use code::{HasCode, code_at};
 pub use compiled::step_by_compiled;
+pub use function::{Function, FunctionStep, step_in_function};
 pub use gimli_cfi::fde_by_header;
 pub use module::{LoadedModule, fde_in_module};
 pub use module_steps::step_in_module;

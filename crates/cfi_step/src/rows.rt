@@ -7,7 +7,7 @@ use cfi_compiled::CompiledRow;
 use gimli_cfi::{ArrayLike, CfaRule, ReaderOffset, Register, RegisterRule, UnwindTableRow};
 
 /// What a row says of the caller: the rule of the CFA, and the rules of registers (DWARF 5 section
-/// 6.4.1).
+/// 6.4.1); and the size of the arguments that the frame has pushed.
 pub trait RowRules {
     /// How an expression's place in the section is counted.
     type Offset: ReaderOffset;
@@ -27,6 +27,10 @@ pub trait RowRules {
     /// occurs twice, its first rule holds.
     fn register_rules(&self) -> &[(Register, RegisterRule<Self::Offset>)]
         ensures { rules_of result.now ≡ (parts self.now).rules };
+
+    /// How many bytes of arguments the frame has pushed (`DW_CFA_GNU_args_size`).
+    fn args_size(&self) -> u64
+        ensures { result ≡ (parts self.now).args_size };
 }
 
 impl<T: ReaderOffset, A: ArrayLike<Item = (Register, RegisterRule<T>)>> RowRules
@@ -48,6 +52,11 @@ impl<T: ReaderOffset, A: ArrayLike<Item = (Register, RegisterRule<T>)>> RowRules
     #[inline(always)]
     fn register_rules(&self) -> &[(Register, RegisterRule<T>)] {
         self.registers().as_slice()
+    }
+
+    #[inline(always)]
+    fn args_size(&self) -> u64 {
+        self.saved_args_size()
     }
 }
 
@@ -71,5 +80,10 @@ impl RowRules for CompiledRow<'_> {
     #[inline(always)]
     fn register_rules(&self) -> &[(Register, RegisterRule<usize>)] {
         self.registers()
+    }
+
+    #[inline(always)]
+    fn args_size(&self) -> u64 {
+        self.saved_args_size()
     }
 }

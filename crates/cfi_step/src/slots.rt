@@ -67,6 +67,10 @@ impl<T: ReaderOffset> RowRules for NoRow<T> {
     fn register_rules(&self) -> &[(Register, RegisterRule<T>)] {
         &[]
     }
+
+    fn args_size(&self) -> u64 {
+        0
+    }
 }
 
 impl<T: ReaderOffset> RowSlot for NoRow<T> {

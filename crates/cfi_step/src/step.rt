@@ -27,6 +27,8 @@ pub struct Caller {
     pub pc: Option<u64>,
     /// Whether a signal interrupted the caller at the pc. The pc is then looked up as it is.
     pub is_interrupted: bool,
+    /// How many bytes of arguments the frame itself has pushed (`DW_CFA_GNU_args_size`).
+    pub args_size: u64,
 }
 
 /// The address by which the row of a frame is found.
@@ -75,6 +77,7 @@ pub fn step_by_row<R: Reader, Section: _UnwindSectionPrivate<R>, Rules: RowRules
         cfa,
         pc,
         is_interrupted: is_signal_trampoline,
+        args_size: row.args_size(),
     })
 }
 

@@ -9,14 +9,16 @@ pub returns-in-Ok-clause-step : goal.returns-in-Ok-clause-step
 returns-in-Ok-clause-step g c =
     let fde = fde_view g.R.Reader.position g.R.Offset.ReaderOffset.number c.in-Ok.fde in (
       Ok fde,
-      subst (λ (n : ℕ). IsFoundIn g.R.Reader.position n c.args.loaded.now c.args.address (Ok fde)) c.bytes.ensures c.in-Ok.ensures.found,
-      c.in-Ok.ensures.contains,
-      c.step_by_kept.ensures.step,
+      (
+        subst (λ (n : ℕ). IsFoundIn g.R.Reader.position n c.args.loaded.now c.args.address (Ok fde)) c.bytes.ensures c.in-Ok.ensures.found,
+        c.in-Ok.ensures.contains,
+        c.step_by_kept.ensures.step,
+      ),
     )
 
 pub returns-in-Err-clause-step : goal.returns-in-Err-clause-step
 returns-in-Err-clause-step g c =
-    (Err c.in-Err.error, subst (λ (n : ℕ). IsFoundIn g.R.Reader.position n c.args.loaded.now c.args.address (Err c.in-Err.error)) c.bytes.ensures c.in-Err.ensures.found, tt, refl)
+    (Err c.in-Err.error, (subst (λ (n : ℕ). IsFoundIn g.R.Reader.position n c.args.loaded.now c.args.address (Err c.in-Err.error)) c.bytes.ensures c.in-Err.ensures.found, tt, refl))
 
 pub returns-in-Ok-clause-kept : goal.returns-in-Ok-clause-kept
 returns-in-Ok-clause-kept g c =

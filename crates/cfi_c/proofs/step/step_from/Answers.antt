@@ -1,0 +1,27 @@
+use Rattle.std.proofs.Common.{arith, subst}
+use Rattle.cfi_read_core.specs.AddressSizes.{size_in_bytes}
+use Rattle.cfi_read_core.specs.ByteOrder.{is_big}
+use Rattle.cfi_read_core.specs.SliceReaders.{slice_position}
+use Rattle.cfi_expression.specs.Frames.{Frame}
+use Rattle.cfi_step.specs.declared.abi.Abi.{Abi}
+use Rattle.cfi_step.specs.CompiledSteps.{address_in_file}
+use Rattle.cfi_step.specs.Functions.{IsStepInFunction}
+use Rattle.cfi_c.specs.SteppedFrames.{frame_in}
+use Rattle.cfi_c.specs.PassedMemories.{abi_in, number_in_memory}
+use Rattle.cfi_c.proofs.StepsInModules.{in_function}
+use Rattle.cfi_c.proofs.step.step_from.Goals as goal
+
+pub returns : goal.returns
+returns c =
+    let memory = c.args.memory.now in
+    let loaded = c.loaded_of-loaded in
+    let step = c.step_in_function in
+    let at = address_in_file loaded.result.bias c.args.address in
+    let frame : Frame = record { registers = c.args.registers.now; memory = number_in_memory memory; size = size_in_bytes c.new.result } in
+    let same_frame : frame ≡ frame_in memory c.args.registers.now = λ i. record { registers = c.args.registers.now; memory = number_in_memory memory; size = c.new.ensures i } in
+    let framed : IsStepInFunction (slice_position is_big) (λ (n : ℕ). n) (frame_in memory c.args.registers.now) c.abi_in-abi.result (Some 192) (Some 4) true loaded.result at step.result.function step.result.caller step.new.caller =
+    subst (λ (f : Frame). IsStepInFunction (slice_position is_big) (λ (n : ℕ). n) f c.abi_in-abi.result (Some 192) (Some 4) true loaded.result at step.result.function step.result.caller step.new.caller) same_frame step.ensures.step in
+    let ruled : IsStepInFunction (slice_position is_big) (λ (n : ℕ). n) (frame_in memory c.args.registers.now) (abi_in memory) (Some 192) (Some 4) true loaded.result at step.result.function step.result.caller step.new.caller =
+    subst (λ (b : Abi). IsStepInFunction (slice_position is_big) (λ (n : ℕ). n) (frame_in memory c.args.registers.now) b (Some 192) (Some 4) true loaded.result at step.result.function step.result.caller step.new.caller) c.abi_in-abi.ensures framed in
+    in_function (slice_position is_big) (frame_in memory c.args.registers.now) (abi_in memory) c.args.module.now loaded.result loaded.ensures.bytes loaded.ensures.section loaded.ensures.header
+    c.args.address step.result.function step.result.caller step.new.caller loaded.ensures.bias (omega arith) ruled
