@@ -6,4 +6,5 @@ mod PointerPairs
 mod RuleWrites
 mod Sections
 mod StepsInModules
+mod SteppedValues
 mod TableAnswers

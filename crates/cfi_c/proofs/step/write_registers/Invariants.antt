@@ -1,4 +1,4 @@
-use Rattle.std.proofs.Common.{◌≡◌, ◌×◌, ◌<◌, ℕ, length}
+use Rattle.std.proofs.Common.{◌≡◌, ◌<◌, ℕ}
 use Rattle.std.specs.Prelude.{None, slice_index_or}
 use Rattle.cfi_expression.specs.Frames.{known}
 use Rattle.cfi_c.specs.SteppedFrames.{written_value}
