@@ -1,5 +1,5 @@
-/* Unwinds stacks whose frames were worked out by hand, through the C library, and prints which differ. The bytes behind the
- * frames are checked. Linked with --wrap=malloc, --wrap=realloc, --wrap=free. */
+/* Unwinds stacks whose frames were worked out by hand, through the C library, by cfi_unwind and by cfi_step again and again, and
+ * prints which differ. The bytes behind the frames are checked. Linked with --wrap=malloc, --wrap=realloc, --wrap=free. */
 #include <inttypes.h>
 #include <stdio.h>
 #include <stdlib.h>
@@ -134,6 +134,50 @@ static void begin(Process *p, const Stack *s) {
     p->registers_len = REGISTERS;
 }
 
+static const CfiModule *module_of(const Process *p, uint64_t address) {
+    for (size_t i = 0; i < 2; i++)
+        if (p->modules[i].start <= address && address < p->modules[i].end)
+            return &p->modules[i];
+    return NULL;
+}
+
+/* The same frames by cfi_step, over a memory of two windows that part the stack's bytes at the first eight. */
+static int are_steps(CfiContext *context, const Process *p, const Stack *s) {
+    const CfiStack *k = &p->stack;
+    size_t part = k->len < 8 ? k->len : 8, count = 0;
+    CfiWindow windows[2] = {{k->base + part, k->bytes + part, k->len - part}, {k->base, k->bytes, part}};
+    CfiMemory memory = {windows, 2, k->signature_mask, k->max_iterations, k->stack_pointer, k->big_endian, k->address_size};
+    CfiValue registers[REGISTERS], found[REGISTERS];
+    CfiFrame frame = {.pc = s->pc, .is_interrupted = true};
+    CfiEnd end = {.kind = CFI_END_NONE};
+    CfiCaller caller = {0};
+    memcpy(registers, p->registers, sizeof registers);
+    while (end.kind == CFI_END_NONE) {
+        const CfiModule *module = module_of(p, frame.is_interrupted ? frame.pc : frame.pc - 1);
+        uint64_t callee_cfa = caller.cfa;
+        CfiFunction function = {0};
+        end = (CfiEnd){.kind = count == s->room ? CFI_END_NO_ROOM : CFI_END_NO_MODULE};
+        if (end.kind == CFI_END_NO_MODULE && module) {
+            cfi_step(context, module, &memory, frame.pc, frame.is_interrupted, registers, p->registers_len, found,
+                     p->registers_len, &function, &caller, &end);
+            if (function.is_known != (end.kind != CFI_END_NOT_WALKED && end.kind != CFI_END_NO_ROW))
+                return 0;
+        }
+        if (end.kind == CFI_END_NO_ROOM || end.kind == CFI_END_NOT_WALKED)
+            break;
+        if (end.kind == CFI_END_NONE && !frame.is_interrupted && caller.cfa <= callee_cfa)
+            end = (CfiEnd){.kind = CFI_END_NOT_RISING};
+        frame.has_cfa = end.kind == CFI_END_NONE || end.kind == CFI_END_OUTERMOST;
+        frame.cfa = frame.has_cfa ? caller.cfa : 0;
+        if (count == s->count || !is_frame(&frame, &s->frames[count]))
+            return 0;
+        count++;
+        frame.pc = caller.pc, frame.is_interrupted = caller.is_interrupted;
+        memcpy(registers, found, sizeof found);
+    }
+    return count == s->count && end.kind == s->end.kind && end.refused == s->end.refused && end.status == s->end.status;
+}
+
 static void check(CfiContext *context, const Process *p, const Stack *s) {
     CfiFrame frames[FRAMES + 1];
     CfiEnd end;
@@ -146,6 +190,10 @@ static void check(CfiContext *context, const Process *p, const Stack *s) {
     stacks++;
     same = same && count == s->count && is_guarded(&frames[s->count], FRAMES + 1 - s->count);
     same = same && end.kind == s->end.kind && end.refused == s->end.refused && end.status == s->end.status;
+    if (!are_steps(context, p, s)) {
+        failures++;
+        printf("c library: %s: not by steps\n", s->name);
+    }
     if (!same || calls_for_memory != before) {
         failures++;
         printf("c library: %s: %zu frames, end %u, status %d, refused %#" PRIx64 "\n", s->name, count, end.kind, end.status,

@@ -1,5 +1,5 @@
-/* The unwind row of an address, from the bytes of .eh_frame or .debug_frame, and the frames of a stack: the library gimli_cfi
- * for C.
+/* The unwind row of an address, from the bytes of .eh_frame or .debug_frame, the frames of a stack, and the caller of one: the
+ * library gimli_cfi for C.
  *
  * The library is built for x86-64 Linux by rt, for AArch64 Linux by examples/aarch64, which has only been tried under qemu.
  * The sections may be those of any machine.
@@ -15,9 +15,11 @@
  * point to is aligned as C aligns its type. A bool is 0 or 1.
  *
  * Calls with different contexts and tables may run at the same time. A context stays on the thread that made it. A table
- * may be handed to another thread, by a lock, a thread's start or join, or a SeqCst atomic; one call at a time has it. No
- * call is made from a signal handler, nor in the forked child of a process with threads. malloc and free are those of one
- * allocator, and align as C asks. */
+ * may be handed to another thread, by a lock, a thread's start or join, or a SeqCst atomic; one call at a time has it. The
+ * calls that make or free a context or a table are made neither from a signal handler nor in the forked child of a process
+ * with threads. The others call neither malloc nor free, take no lock, and keep nothing outside of what they are passed: they
+ * may be made there, with a context and tables that no interrupted call has. A handler that does not return loses the context
+ * of the call that it interrupted. malloc and free are those of one allocator, and align as C asks. */
 #ifndef CFI_C_H
 #define CFI_C_H
 

@@ -1,9 +1,9 @@
 //! From a frame to its caller, by a row of an unwind table (DWARF 5 sections 6.4.1 and 6.4.4).
 //!
 //! `recover` and `step_by_row` take a row, the other steps find it: by an FDE, by a scan of a
-//! section, by the table of a header, or by a compiled table; `step_in_function` also says what the
-//! FDE has of the function. `Modules` finds the module of an address, and `unwind` writes the frames
-//! of a stack; `unwind_cached` does so with a cache of rows, and `write_frames` by any steps.
+//! section, by the table of a header, or by a compiled table; `step_in_function` also returns what
+//! the FDE says of the function. `Modules` finds the module of an address, and `unwind` writes the
+//! frames of a stack; `unwind_cached` does so with a cache of rows, `write_frames` by any steps.
 //! Nothing allocates over a fixed storage.
 #![tactic(auto)]
 

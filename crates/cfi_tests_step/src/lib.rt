@@ -10,6 +10,8 @@ mod files;
 #[cfg(test)]
 mod frames;
 #[cfg(test)]
+mod functions;
+#[cfg(test)]
 mod mappings;
 #[cfg(test)]
 mod modules;
