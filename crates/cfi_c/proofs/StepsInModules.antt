@@ -59,7 +59,7 @@ module _ {R : Type 0} (position : R → Position) (frame : Frame) (abi : Abi) (p
     found_by position frame.size loaded (sized frame.size passed.bases) passed.section.now sections loaded.header (header_in passed.header.now) headers a found is.0,
     is.1,
     subst (λ (n : Section). IsStepBy frame (slice_over passed.section.now passed.bases.big_endian) abi (λ (n : ℕ). n) (Some 192) (Some 4) true n a found result caller) sections
-    (subst (λ (p : Position). IsStepBy frame p abi (λ (n : ℕ). n) (Some 192) (Some 4) true (section_view position loaded.frame loaded.bases) a found result caller) bytes is.2),
+        (subst (λ (p : Position). IsStepBy frame p abi (λ (n : ℕ). n) (Some 192) (Some 4) true (section_view position loaded.frame loaded.bases) a found result caller) bytes is.2),
   )
 
   -- the step with its function, of a file that isn't moved
