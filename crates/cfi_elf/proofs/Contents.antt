@@ -7,10 +7,10 @@ use Rattle.cfi_elf.specs.ElfFiles.{File}
 use Rattle.cfi_elf.specs.Images.{bytes_at}
 use Rattle.cfi_elf.specs.Sections.{contents}
 
-pub compressed : (file : File) (header : SectionHeader) → (header.identity.sh_type ≡ 8 → ⊥) → (bit_and header.identity.sh_flags 0x800 ≡ 0 → ⊥) → contents file header ≡ Err Compressed
+pub compressed : (file : File) (header : SectionHeader) → (header.sh_type ≡ 8 → ⊥) → (bit_and header.sh_flags 0x800 ≡ 0 → ⊥) → contents file header ≡ Err Compressed
 unfolding contents
 compressed file header other flags = rw (ne_eqb _ _ other, ne_eqb _ _ flags) refl
 
-pub uncompressed : (file : File) (header : SectionHeader) → (header.identity.sh_type ≡ 8 → ⊥) → bit_and header.identity.sh_flags 0x800 ≡ 0 → contents file header ≡ bytes_at file.image header.place.sh_offset header.place.sh_size SectionOutOfBounds
+pub uncompressed : (file : File) (header : SectionHeader) → (header.sh_type ≡ 8 → ⊥) → bit_and header.sh_flags 0x800 ≡ 0 → contents file header ≡ bytes_at file.image header.sh_offset header.sh_size SectionOutOfBounds
 unfolding contents
 uncompressed file header other plain = rw (ne_eqb _ _ other, plain) refl

@@ -1,42 +1,86 @@
--- The entries of a table, when the first of them is read.
-use Rattle.std.proofs.Common.{◌≡◌, ◌<◌, ◌≤◌, ◌+◌, ◌-◌, ℕ, zero, suc, Bool, [], ◌∷◌, Option, Some, Ok, Err, cond, refl, sym, ap, ◌∙◌, arith}
+-- The entries of a table, one after the other.
+use Rattle.std.proofs.Common.{◌≡◌, ◌<◌, ◌≤◌, ◌+◌, ◌*◌, ◌/◌, ℕ, zero, suc, Bool, List, [], ◌∷◌, length, drop, map, Some, None, Result, cond, refl, sym, ap, ◌∙◌, arith, slice_get, if◌then◌else◌, ⊎_elim}
 use Rattle.std.specs.Prelude.{find}
-use Rattle.cfi_read_core.specs.declared.error.Error.{Error}
-use Rattle.cfi_read_core.specs.ReadFunctions.{Read, Source, Position, Outcome}
-use Rattle.cfi_elf.specs.Results.{entries, listed}
+use Rattle.std.specs.List.{range_with_len}
+use Rattle.std.proofs.Math.Nat.{div-le_self, le-div_iff_mul-le}
+use Rattle.std.proofs.lemmas.Bool.{cases_lt, le-leb, lt-leb}
+use Rattle.std.proofs.lemmas.List.{drop_all, length-map}
+use Rattle.std.proofs.lemmas.List.FromFn.{length-map-range_with_len}
+use Rattle.cfi_elf.specs.Fields.{entries, entry_at, part}
+use Rattle.cfi_elf.specs.Results.{first_by, if_passed}
 
-one_more : (count index : ℕ) → index < count → count - index ≡ suc (count - (index + 1))
-one_more count index below = omega arith
+-- ---- what is left of a list from an index on
 
--- an entry that was read, and the others
-pub entry_read : {A : Type 0} (count index : ℕ) (read : Read A) (old new : Position) (x : A) → index < count →
-    (read old.source old.place ≡ record { value = Ok x; place = new.place }) × (new.source ≡ old.source) →
-    entries (count - index) read old.source old.place ≡ x ∷ entries (count - (index + 1)) read new.source new.place
-unfolding entries
-entry_read {A = A} count index read old new x below (gives, same) =
-    ap (λ n. entries n read old.source old.place) (one_more count index below)
-    ∙ (ap (λ (o : Outcome A). listed o.value (entries (count - (index + 1)) read old.source o.place)) gives
-    ∙ ap (λ (s : Source). x ∷ entries (count - (index + 1)) read s new.place) (sym same))
+pub next_is : {A : Type 0} (xs : List A) (index : ℕ) (x : A) → Some x ≡ slice_get xs index → drop index xs ≡ x ∷ drop (suc index) xs
+next_is [] index x is = absurd (cc)
+next_is (y ∷ xs) zero x is = let same : y ≡ x = cc in ap (λ z. z ∷ xs) same
+next_is (y ∷ xs) (suc index) x is = next_is xs index x is
 
--- an entry that can't be read
-pub entry_refused : {A : Type 0} (n : ℕ) (read : Read A) (source : Source) (place place' : ℕ) (e : Error) →
-    read source place ≡ record { value = Err e; place = place' } → entries n read source place ≡ []
-unfolding entries
-entry_refused zero read source place place' e gives = refl
-entry_refused {A = A} (suc n) read source place place' e gives = ap (λ (o : Outcome A). listed o.value (entries n read source o.place)) gives
+pub none_is : {A : Type 0} (xs : List A) (index : ℕ) → None ≡ slice_get xs index → drop index xs ≡ []
+none_is [] zero is = refl
+none_is [] (suc index) is = refl
+none_is (y ∷ xs) zero is = absurd (cc)
+none_is (y ∷ xs) (suc index) is = none_is xs index is
 
--- no entries are left
-pub entries_end : {A : Type 0} (count index : ℕ) (read : Read A) (source : Source) (place : ℕ) → count ≤ index → entries (count - index) read source place ≡ []
-unfolding entries
-entries_end count index read source place passed = let none : count - index ≡ 0 = omega arith in ap (λ n. entries n read source place) none
+pub next_left : {A : Type 0} (xs : List A) (index : ℕ) (x : A) → Some x ≡ slice_get xs index → drop index xs ≡ x ∷ drop (index + 1) xs
+next_left xs index x is = let after : suc index ≡ index + 1 = omega arith in next_is xs index x is ∙ ap (λ (n : ℕ). x ∷ drop n xs) after
 
--- what a search returns, by whether the first entry is the one
-abbrev pub by_test : {A : Type 0} → (A → Bool) → ℕ → Read A → Position → Bool → A → Option A
-by_test test n read new b x = cond b (Some x) (find test (entries n read new.source new.place))
+-- ---- searches, by whether the next one passes
 
-pub find_step : {A : Type 0} (test : A → Bool) (count index : ℕ) (read : Read A) (old new : Position) (x : A) (b : Bool) →
-    index < count → (read old.source old.place ≡ record { value = Ok x; place = new.place }) × (new.source ≡ old.source) → test x ≡ b →
-    find test (entries (count - index) read old.source old.place) ≡ by_test test (count - (index + 1)) read new b x
-find_step test count index read old new x b below gives is =
-    ap (find test) (entry_read count index read old new x below gives)
-    ∙ ap (λ b. by_test test (count - (index + 1)) read new b x) is
+pub find_step : {A : Type 0} (test : A → Bool) (xs : List A) (index : ℕ) (x : A) (b : Bool) → Some x ≡ slice_get xs index → test x ≡ b →
+    find test (drop index xs) ≡ cond b (Some x) (find test (drop (index + 1) xs))
+find_step test xs index x b is so = ap (find test) (next_left xs index x is) ∙ ap (λ (b : Bool). cond b (Some x) (find test (drop (index + 1) xs))) so
+
+pub search_step : {A E : Type 0} (test : A → Result Bool E) (xs : List A) (index : ℕ) (x : A) (answer : Result Bool E) → Some x ≡ slice_get xs index → test x ≡ answer →
+    first_by test (drop index xs) ≡ if_passed answer x (first_by test (drop (index + 1) xs))
+search_step {E = E} test xs index x answer is so =
+    ap (first_by test) (next_left xs index x is) ∙ ap (λ (r : Result Bool E). if_passed r x (first_by test (drop (index + 1) xs))) so
+
+-- ---- the entries of a table
+
+pub ranged : {A : Type 0} (f : ℕ → A) (a n i j : ℕ) → i < n → a + i ≡ j → slice_get (map f (range_with_len a n)) i ≡ Some (f j)
+ranged f a zero i j inside is = absurd (omega (arith, inside))
+ranged f a (suc n) zero j inside is = let same : a ≡ j = omega (arith, is) in ap (λ (k : ℕ). Some (f k)) same
+ranged f a (suc n) (suc i) j inside is = ranged f (a + 1) n i j (omega (arith, inside)) (omega (arith, is))
+
+pub past : {A : Type 0} (f : ℕ → A) (a n i : ℕ) → n ≤ i → slice_get (map f (range_with_len a n)) i ≡ None
+past f a zero i up = refl
+past f a (suc n) zero up = absurd (omega (arith, up))
+past f a (suc n) (suc i) up = past f (a + 1) n i (omega (arith, up))
+
+pub fits : (size : ℕ) (bytes : List ℕ) (index : ℕ) → 0 < size → index < length bytes / size → index * size + size ≤ length bytes
+fits size bytes index some inside =
+    let up : suc index ≤ length bytes / size = omega (arith, inside) in
+    let all : suc index * size ≤ length bytes = (le-div_iff_mul-le {k = size} {x = suc index} {y = length bytes} some).0 up in
+    omega (arith, all)
+
+pub entry_is : (size : ℕ) (bytes : List ℕ) (index : ℕ) → 0 < size → part bytes (index * size) size ≡ slice_get (entries size bytes) index
+entry_is size bytes index some = ⊎_elim
+    (λ (inside : index < length bytes / size).
+    ap (λ (b : Bool). if b then Some (entry_at size bytes index) else None) (le-leb _ _ (fits size bytes index some inside))
+    ∙ sym (ranged (entry_at size bytes) 0 (length bytes / size) index index inside (omega arith)))
+    (λ (up : length bytes / size ≤ index).
+    ap (λ (b : Bool). if b then Some (entry_at size bytes index) else None) (lt-leb _ _ (beyond up))
+    ∙ sym (past (entry_at size bytes) 0 (length bytes / size) index up))
+    (cases_lt index (length bytes / size))
+  where
+    beyond : length bytes / size ≤ index → length bytes < index * size + size
+    beyond up = ⊎_elim
+        (λ (less : length bytes < index * size + size). less)
+        (λ (whole : index * size + size ≤ length bytes).
+        let all : suc index * size ≤ length bytes = omega (arith, whole) in
+        let low : suc index ≤ length bytes / size = (le-div_iff_mul-le {k = size} {x = suc index} {y = length bytes} some).1 all in
+        absurd (omega (arith, low, up)))
+        (cases_lt (length bytes) (index * size + size))
+
+pub entry_past : (size : ℕ) (bytes : List ℕ) (index : ℕ) → 0 < size → length bytes < index * size → None ≡ slice_get (entries size bytes) index
+entry_past size bytes index some far =
+    let beyond : length bytes < index * size + size = omega (arith, far) in
+    sym (ap (λ (b : Bool). if b then Some (entry_at size bytes index) else None) (lt-leb _ _ beyond)) ∙ entry_is size bytes index some
+
+-- at the latest when there were as many as bytes
+pub none_left : {A : Type 0} (f : List ℕ → A) (size : ℕ) (bytes : List ℕ) (index : ℕ) → length bytes ≤ index → drop index (map f (entries size bytes)) ≡ []
+none_left f size bytes index up =
+    let n : length (map f (entries size bytes)) ≡ length bytes / size = length-map (entries size bytes) f ∙ length-map-range_with_len (entry_at size bytes) 0 (length bytes / size) in
+    let few = div-le_self (length bytes) size in
+    drop_all index (map f (entries size bytes)) (omega (arith, n, few, up))

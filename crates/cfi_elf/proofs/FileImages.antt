@@ -1,6 +1,6 @@
 -- The file that is read of parts is the one that is read of all bytes, unless it needs bytes that were not read.
-use Rattle.std.proofs.Common.{◌≡◌, ◌∙◌, ◌+◌, Bool, true, false, ℕ, List, [], length, drop, Option, Some, None, Result, Ok, Err, option_map, refl, sym, ap, subst}
-use Rattle.std.specs.Prelude.{min, not, nat_le, nat_lt, nat_eq, ◌==◌, bit_and, slice_index, slice_range, if◌then◌else◌}
+use Rattle.std.proofs.Common.{◌≡◌, ◌∙◌, ◌+◌, Bool, true, false, ℕ, List, [], length, Option, Some, None, Result, Ok, Err, option_map, refl, sym, ap, subst}
+use Rattle.std.specs.Prelude.{min, not, nat_le, nat_lt, nat_eq, ◌==◌, bit_and, codes, slice_range, if◌then◌else◌}
 use Rattle.std.specs.List.{starts_with}
 use Rattle.cfi_read_core.specs.ByteOrder.{is_big}
 use Rattle.cfi_elf.specs.declared.error.ElfError.{ElfError}
@@ -8,12 +8,12 @@ use Rattle.cfi_elf.specs.declared.error.ElfError.TheVariants.{NotElf, HeaderCut,
 use Rattle.cfi_elf.specs.declared.file_header.Identification.{Identification}
 use Rattle.cfi_elf.specs.declared.file_header.FileHeader.{FileHeader}
 use Rattle.cfi_elf.specs.declared.section_header.SectionHeader.{SectionHeader}
-use Rattle.cfi_elf.specs.FileHeaders.{class_of, data_of, file_header, identification, magic}
+use Rattle.cfi_elf.specs.Headers.{file_header, file_header_bytes}
 use Rattle.cfi_elf.specs.Images.{Image, IsImageOf, IsRead, bytes_at, if_read, whole}
-use Rattle.cfi_elf.specs.Results.{and_then, or_else, or_error, or_missing, read_from}
-use Rattle.cfi_elf.specs.ElfFiles.{File, elf_file, elf_file_of, file_by, header_bytes, with_addresses}
-use Rattle.cfi_elf.specs.Sections.{Section, address_of, address_of_found, contents, header_named, section_address, section_named, section_of}
-use Rattle.cfi_elf.proofs.SameResults.{Same, ok_read, same_err, same_if, same_ok, same_or_error, same_then, then_read}
+use Rattle.cfi_elf.specs.Results.{and_then, if_found, meaning, or_else, or_missing}
+use Rattle.cfi_elf.specs.ElfFiles.{File, byte_orders, classes, elf_file, elf_file_of, file_by, header_bytes, ident, identification, magic, with_addresses}
+use Rattle.cfi_elf.specs.Sections.{Section, address_of, contents, header_named, section_address, section_named, section_of}
+use Rattle.cfi_elf.proofs.SameResults.{Same, ok_read, same_err, same_if, same_ok, same_or_missing, same_then, then_read}
 use Rattle.cfi_elf.proofs.Images.{in_whole, same_bytes_at}
 
 -- ---- results one after the other
@@ -39,38 +39,41 @@ addressed false true c e f f' g g' same = refl
 addressed false false true e f f' g g' same = refl
 addressed false false false e f f' g g' same = same
 
+cut_then : {A : Type 0} (b : Bool) (r r' : Result File ElfError) (g g' : File → Result A ElfError) → and_then r g ≡ and_then r' g' →
+    and_then (if b then Err HeaderCut else r) g ≡ and_then (if b then Err HeaderCut else r') g'
+cut_then true r r' g g' same = refl
+cut_then false r r' g g' same = same
+
 file_then : {A : Type 0} (image image' : Image) (bytes : List ℕ) (g g' : File → Result A ElfError) →
     ((ident : Identification) (header : FileHeader) → g (record { image = image; identification = ident; header = header }) ≡ g' (record { image = image'; identification = ident; header = header })) →
     and_then (file_by image bytes) g ≡ and_then (file_by image' bytes) g'
 unfolding file_by
 file_then image image' bytes g g' same =
-    let read = λ (ident : Identification). or_error HeaderCut (read_from (is_big ident.«data») (drop 16 bytes) (file_header ident.class)) in
-    let made = λ (image : Image) (ident : Identification) (header : FileHeader). with_addresses (record { image = image; identification = ident; header = header }) in
-    then_regrouped (identification bytes) (λ ident. and_then (read ident) (made image ident)) g
-    ∙ (then_each (identification bytes) (λ ident. and_then (and_then (read ident) (made image ident)) g) (λ ident. and_then (and_then (read ident) (made image' ident)) g')
+    let header = λ (ident : Identification). file_header ident.class (is_big ident.«data») bytes in
+    let file = λ (image : Image) (ident : Identification). with_addresses (record { image = image; identification = ident; header = header ident }) in
+    let short = λ (ident : Identification). nat_lt (length bytes) (file_header_bytes ident.class) in
+    let made = λ (image : Image) (ident : Identification). (if short ident then Err HeaderCut else file image ident) in
+    then_regrouped (identification bytes) (made image) g
+    ∙ (then_each (identification bytes) (λ ident. and_then (made image ident) g) (λ ident. and_then (made image' ident) g')
     (λ ident.
-    then_regrouped (read ident) (made image ident) g
-    ∙ (then_each (read ident) (λ header. and_then (made image ident header) g) (λ header. and_then (made image' ident header) g')
-    (λ header. addressed (not (header.kind.e_version == 1)) (header.kind.e_type == 1) (header.kind.e_type == 4) (UnknownVersion header.kind.e_version) _ _ g g' (same ident header))
-    ∙ sym (then_regrouped (read ident) (made image' ident) g')))
-    ∙ sym (then_regrouped (identification bytes) (λ ident. and_then (read ident) (made image' ident)) g'))
+    let kind = (header ident).kind in
+    cut_then (short ident) (file image ident) (file image' ident) g g'
+    (addressed (not (kind.e_version == 1)) (kind.e_type == 1) (kind.e_type == 4) (UnknownVersion kind.e_version) _ _ g g' (same ident (header ident))))
+    ∙ sym (then_regrouped (identification bytes) (made image') g'))
 
 -- ---- the header needs no more bytes
 
 same_identification : (bytes : List ℕ) → Same (identification bytes) (identification bytes)
 unfolding identification
 same_identification bytes =
+    let class = ident bytes (codes "EI_CLASS") in
+    let order = ident bytes (codes "EI_DATA") in
+    let version = ident bytes (codes "EI_VERSION") in
     same_if (not (starts_with nat_eq bytes magic)) (same_err NotElf refl)
     (same_if (nat_lt (length bytes) 16) (same_err HeaderCut refl)
-    (same_then (same_class (slice_index bytes 4)) (λ class.
-    same_then (same_data (slice_index bytes 5)) (λ data'.
-    same_if (slice_index bytes 6 == 1) (same_ok (record { class = class; «data» = data' })) (same_err (UnknownVersion (slice_index bytes 6)) refl)))))
-  where
-    same_class : (byte : ℕ) → Same (class_of byte) (class_of byte)
-    same_class byte = same_if (byte == 1) (same_ok _) (same_if (byte == 2) (same_ok _) (same_err (UnknownClass byte) refl))
-
-    same_data : (byte : ℕ) → Same (data_of byte) (data_of byte)
-    same_data byte = same_if (byte == 1) (same_ok _) (same_if (byte == 2) (same_ok _) (same_err (UnknownDataEncoding byte) refl))
+    (same_then (same_or_missing (UnknownClass class) refl (meaning classes class)) (λ class.
+    same_then (same_or_missing (UnknownDataEncoding order) refl (meaning byte_orders order)) (λ order.
+    same_if (version == 1) (same_ok (record { class = class; «data» = order })) (same_err (UnknownVersion version) refl)))))
 
 same_addressed : (file : File) → Same (with_addresses file) (with_addresses file)
 same_addressed file =
@@ -81,8 +84,8 @@ same_by_header : (image : Image) (bytes : List ℕ) → Same (file_by image byte
 unfolding file_by
 same_by_header image bytes =
     same_then (same_identification bytes) (λ ident.
-    same_then (same_or_error HeaderCut refl (read_from (is_big ident.«data») (drop 16 bytes) (file_header ident.class))) (λ header.
-    same_addressed (record { image = image; identification = ident; header = header })))
+    same_if (nat_lt (length bytes) (file_header_bytes ident.class)) (same_err HeaderCut refl)
+    (same_addressed (record { image = image; identification = ident; header = file_header ident.class (is_big ident.«data») bytes })))
 
 -- ---- the file
 
@@ -145,25 +148,28 @@ address_found found = Ok (option_map (λ section. section.address) found)
 
 of_contents : (a b c : Bool) (address offset size : ℕ) (bytes : List ℕ) →
     and_then (if a then Ok address else if b then Err Compressed else if c then Ok address else Err SectionOutOfBounds) (λ address. Ok (Some address))
-    ≡ and_then (and_then
+    ≡ and_then (and_then (and_then
     (if a then Ok [] else if b then Err Compressed else and_then (if c then if_read offset size (or_else (if c then Some bytes else None) None) else Ok None) (or_missing SectionOutOfBounds))
-    (λ bytes. Ok (Some (record { address = address; bytes = bytes })))) address_found
+    (λ bytes. Ok (record { address = address; bytes = bytes }))) (λ section. Ok (Some section))) address_found
 of_contents true b c address offset size bytes = refl
 of_contents false true c address offset size bytes = refl
 of_contents false false true address offset size bytes = refl
 of_contents false false false address offset size bytes = refl
 
 module _ (bytes : List ℕ) (file : File) where
-  address_of_header : (found : Option SectionHeader) → address_of_found (in_whole bytes file) found ≡ and_then (section_of (in_whole bytes file) found) address_found
+  abbrev all : File
+  all = in_whole bytes file
+
+  address_of_header : (found : Option SectionHeader) → if_found (address_of all) found ≡ and_then (if_found (section_of all) found) address_found
   unfolding address_of contents bytes_at
   address_of_header None = refl
   address_of_header (Some header) =
-      let offset = header.place.sh_offset in
-      let size = header.place.sh_size in
-      of_contents (header.identity.sh_type == 8) (not (bit_and header.identity.sh_flags 0x800 == 0)) (nat_le (offset + size) (length bytes)) header.identity.sh_addr offset size (slice_range bytes offset (offset + size))
+      let offset = header.sh_offset in
+      let size = header.sh_size in
+      of_contents (header.sh_type == 8) (not (bit_and header.sh_flags 0x800 == 0)) (nat_le (offset + size) (length bytes)) header.sh_addr offset size (slice_range bytes offset (offset + size))
 
-  pub address_of_section : (name : List ℕ) → section_address (in_whole bytes file) name ≡ and_then (section_named (in_whole bytes file) name) (λ found. Ok (option_map (λ section. section.address) found))
+  pub address_of_section : (name : List ℕ) → section_address all name ≡ and_then (section_named all name) (λ found. Ok (option_map (λ section. section.address) found))
   unfolding section_address section_named
   address_of_section name =
-      then_each (header_named (in_whole bytes file) name) (address_of_found (in_whole bytes file)) _ address_of_header
-      ∙ sym (then_regrouped (header_named (in_whole bytes file) name) (section_of (in_whole bytes file)) address_found)
+      then_each (header_named all name) (if_found (address_of all)) _ address_of_header
+      ∙ sym (then_regrouped (header_named all name) (if_found (section_of all)) address_found)

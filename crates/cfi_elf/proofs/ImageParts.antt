@@ -1,10 +1,12 @@
 -- What a part of a file has is what the whole file has there.
-use Rattle.std.proofs.Common.{◌≡◌, ◌∙◌, ◌+◌, ◌-◌, ◌≤◌, Bool, true, false, ℕ, List, [], ◌∷◌, length, take, drop, Option, Some, None, Ok, refl, sym, ap, arith}
+use Rattle.std.proofs.Common.{◌≡◌, ◌∙◌, ◌+◌, ◌-◌, ◌≤◌, Bool, true, false, ℕ, List, [], ◌∷◌, length, take, drop, Option, Some, None, Ok, Err, ◌<◌, refl, sym, ap, arith}
 use Rattle.std.specs.Prelude.{nat_le, slice_range, if◌then◌else◌}
-use Rattle.std.proofs.lemmas.Bool.{le-leb, leb-true}
+use Rattle.std.proofs.lemmas.Bool.{le-leb, leb-true, lt-leb}
+use Rattle.cfi_elf.specs.declared.error.ElfError.{ElfError}
 use Rattle.std.proofs.lemmas.List.{drop-drop, drop-take, take-take}
-use Rattle.cfi_elf.specs.Images.{ArePartsOf, Image, IsImageOf, IsPartOf, IsRead, Part, if_read, in_part, in_parts, part_of, whole}
-use Rattle.cfi_elf.specs.Results.{or_else, part}
+use Rattle.cfi_elf.specs.Images.{ArePartsOf, Image, IsImageOf, IsPartOf, IsRead, Part, bytes_at, if_read, in_part, in_parts, part_of, whole}
+use Rattle.cfi_elf.specs.Fields.{part}
+use Rattle.cfi_elf.specs.Results.{or_else}
 use Rattle.cfi_elf.proofs.SameResults.{Same, ok_read}
 
 -- ---- of a list of bytes
@@ -99,3 +101,9 @@ module _ {image : Image} {bytes : List ℕ} (of : IsImageOf image bytes) where
         ∙ ap (λ (n : ℕ). if nat_le (offset + size) n then if_read offset size (or_else (part bytes offset size) None) else Ok None) of.length_is;
     read = whole_read bytes offset size;
   }
+
+-- ---- past the end of the file
+
+pub past_the_end : (image : Image) (offset size : ℕ) (error : ElfError) → image.length < size → bytes_at image offset size error ≡ Err error
+unfolding bytes_at
+past_the_end image offset size error longer = let past : image.length < offset + size = omega (arith, longer) in rw (lt-leb (offset + size) image.length past) refl

@@ -6,10 +6,8 @@ pub mod SameResults
 pub mod ImageParts
 pub mod Images
 pub mod FileImages
+mod FoundSections
 mod FunctionLists
 mod FileKinds
-pub mod Laws
-pub mod NameSteps
 mod NearestFunctions
-mod Parts
 mod Worked

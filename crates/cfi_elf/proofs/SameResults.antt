@@ -4,7 +4,7 @@ use Rattle.std.specs.Prelude.{if◌then◌else◌}
 use Rattle.cfi_elf.specs.declared.error.ElfError.{ElfError}
 use Rattle.cfi_elf.specs.declared.error.ElfError.TheVariants.{NotRead}
 use Rattle.cfi_elf.specs.Images.{IsRead}
-use Rattle.cfi_elf.specs.Results.{and_then, first_by, if_passed, or_error, or_missing}
+use Rattle.cfi_elf.specs.Results.{and_then, first_by, if_found, if_passed, or_missing}
 
 -- a result by parts of a file, and that of the whole file, which needs no byte that was not read
 pub record Same {A : Type 0} (r r' : Result A ElfError) : Type 0 where
@@ -36,10 +36,6 @@ same_ok x = same_self (Ok x) (ok_read x)
 pub same_err : {A : Type 0} (e : ElfError) → is_not_read e ≡ false → Same {A = A} (Err e) (Err e)
 same_err e other = same_self (Err e) (err_read e other)
 
-pub same_or_error : {A E : Type 0} (e : ElfError) → is_not_read e ≡ false → (r : Result A E) → Same (or_error e r) (or_error e r)
-same_or_error e other (Ok x) = same_ok x
-same_or_error e other (Err e') = same_err e other
-
 pub same_or_missing : {A : Type 0} (e : ElfError) → is_not_read e ≡ false → (o : Option A) → Same (or_missing e o) (or_missing e o)
 same_or_missing e other (Some x) = same_ok x
 same_or_missing e other None = same_err e other
@@ -64,6 +60,10 @@ same_then {r = r} {r' = r'} {next = next} {next' = next'} first others = record 
   same = then_same r r' next next' first others;
   read = then_read r' next' first.read (λ x. (others x).read);
 }
+
+pub same_if_found : {A B : Type 0} {next next' : A → Result B ElfError} → ((x : A) → Same (next x) (next' x)) → (found : Option A) → Same (if_found next found) (if_found next' found)
+same_if_found each None = same_ok None
+same_if_found each (Some x) = same_then (each x) (λ y. same_ok (Some y))
 
 -- ---- by a test
 

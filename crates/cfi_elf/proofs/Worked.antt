@@ -2,25 +2,21 @@
 use Rattle.std.proofs.Common.{◌≡◌, ℕ, ◌+◌, ◌-◌, ◌*◌, List, [], ◌∷◌, codes, false, Option, Some, None, Result, Ok, Err, refl, ap, ◌∙◌}
 use Rattle.std.specs.Prelude.{nat_lt, if◌then◌else◌, take, drop}
 use Rattle.cfi_read_core.specs.declared.endianity.RunTimeEndian.TheVariants.{Big}
-use Rattle.cfi_read_core.specs.Numbers.{unsigned}
 use Rattle.cfi_elf.specs.declared.error.ElfError.{ElfError}
 use Rattle.cfi_elf.specs.declared.error.ElfError.TheVariants.{NotElf, HeaderCut, NotRead, SectionTableOutOfBounds, NameOutOfBounds, NameNotTerminated}
 use Rattle.cfi_elf.specs.declared.file_header.Class.TheVariants.{Elf32, Elf64}
-use Rattle.cfi_elf.specs.FileHeaders.{identification, object_kind, table_offsets, table_sizes, file_header}
-use Rattle.cfi_elf.specs.Results.{and_then, entries, read_from}
-use Rattle.cfi_elf.specs.SectionHeaders.{section_identity, section_place, section_header}
-use Rattle.cfi_elf.specs.ProgramHeaders.{segment_place, program_header}
-use Rattle.cfi_elf.specs.ElfFiles.{File, elf_file, elf_file_of, file_by, header_bytes}
-use Rattle.cfi_elf.specs.Images.{Image, Part, bytes_at, table_at, whole}
+use Rattle.cfi_elf.specs.Results.{and_then}
+use Rattle.cfi_elf.specs.Headers.{program_header, symbol}
+use Rattle.cfi_elf.specs.ElfFiles.{File, elf_file, elf_file_of, file_by, header_bytes, identification}
+use Rattle.cfi_elf.specs.Images.{Image, Part, bytes_at, whole}
 use Rattle.cfi_elf.specs.Sections.{first_section_header, section_count, section_table, contents, name_at, name_section, names_at, section_names, is_named, header_named, section_named, address_of, section_address, debug_frame}
 use Rattle.cfi_elf.specs.Segments.{segment_count, program_table, wanted_segment, loaded_bytes, eh_frame_hdr_segment, address_of_offset}
-use Rattle.cfi_elf.specs.Symbols.{symbol_64}
 use Rattle.cfi_elf.specs.SymbolTables.{Function}
 use Rattle.cfi_elf.specs.FunctionNames.{first_name, named_function, place_among}
 
 -- to name it on an `unfolding` line is to open all these
 unfoldable computing : ℕ
-unfolding unsigned bytes_at table_at header_bytes file_by identification object_kind table_offsets table_sizes file_header entries section_identity section_place section_header segment_place program_header elf_file_of first_section_header section_count section_table contents name_at name_section names_at section_names is_named header_named section_named address_of section_address debug_frame segment_count program_table wanted_segment loaded_bytes eh_frame_hdr_segment address_of_offset symbol_64
+unfolding bytes_at header_bytes file_by identification elf_file_of first_section_header section_count section_table contents name_at name_section names_at section_names is_named header_named section_named address_of section_address debug_frame segment_count program_table wanted_segment loaded_bytes eh_frame_hdr_segment address_of_offset
 computing = 0
 
 -- the bytes of hexadecimal text, whose letters are small
@@ -185,13 +181,13 @@ unterminated = refl
 
 -- ---- of 64 bits, the least significant byte first
 
-segment_of_64_bits : read_from false (bytes_behind None (codes "0100000005000000000200000000000000124000000000000012400000000000300000000000000040000000000000000010000000000000")) (program_header Elf64)
-    ≡ Ok (record { p_type = 1; p_flags = 5; place = record { p_offset = 0x200; p_vaddr = 0x401200; p_filesz = 0x30 } })
+segment_of_64_bits : program_header Elf64 false (bytes_behind None (codes "0100000005000000000200000000000000124000000000000012400000000000300000000000000040000000000000000010000000000000"))
+    ≡ record { p_type = 1; p_flags = 5; p_offset = 0x200; p_vaddr = 0x401200; p_filesz = 0x30 }
 unfolding computing
 segment_of_64_bits = refl
 
-symbol_of_64_bits : read_from false (bytes_behind None (codes "010000001200070000124000000000003000000000000000")) symbol_64
-    ≡ Ok (record { st_name = 1; st_value = 0x401200; st_size = 0x30; st_info = 0x12; st_shndx = 7 })
+symbol_of_64_bits : symbol Elf64 false (bytes_behind None (codes "010000001200070000124000000000003000000000000000"))
+    ≡ record { st_name = 1; st_value = 0x401200; st_size = 0x30; st_info = 0x12; st_shndx = 7 }
 unfolding computing
 symbol_of_64_bits = refl
 

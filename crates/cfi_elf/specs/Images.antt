@@ -1,11 +1,12 @@
 -- A file of which parts were read. What the file has elsewhere is not known.
-use Rattle.std.specs.Prelude.{ℕ, ◌+◌, ◌-◌, ◌*◌, ◌≡◌, List, [], ◌∷◌, length, map, Option, Some, None}
+use Rattle.std.specs.Prelude.{ℕ, ◌+◌, ◌-◌, ◌≡◌, List, [], ◌∷◌, length, map, Option, Some, None}
 use Rattle.std.specs.Prelude.{Result, Ok, Err, nat_le, if◌then◌else◌}
 use Rattle.cfi_elf.specs.declared.error.ElfError.{ElfError}
 use Rattle.cfi_elf.specs.declared.error.ElfError.TheVariants.{NotRead}
 use Rattle.cfi_elf.specs.declared.image.FilePart.{FilePart}
 use Rattle.cfi_elf.specs.declared.image.Image.{Image as ImageOfCode}
-use Rattle.cfi_elf.specs.Results.{Table, and_then, or_else, or_missing, part}
+use Rattle.cfi_elf.specs.Fields.{part}
+use Rattle.cfi_elf.specs.Results.{and_then, or_else, or_missing}
 
 -- The bytes from an offset on.
 pub record Part : Type 0 where
@@ -62,12 +63,6 @@ part_of image offset size =
 -- this error where the file has fewer
 unfoldable pub bytes_at : Image → ℕ → ℕ → ElfError → Result (List ℕ) ElfError
 bytes_at image offset size error = and_then (part_of image offset size) (or_missing error)
-
--- count entries of one size at an offset
-unfoldable pub table_at : Image → ℕ → ℕ → ℕ → ElfError → Result Table ElfError
-table_at image offset count size error =
-    and_then (bytes_at image offset (count * size) error)
-    (λ bytes. Ok (record { count = count; bytes = bytes }))
 
 -- ---- what an image tells of the file
 

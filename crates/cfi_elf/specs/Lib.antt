@@ -1,11 +1,12 @@
 pub mod ErrorNames
 pub mod Results
+pub mod Fields
+pub mod Layouts
+pub mod Headers
 pub mod Images
-pub mod FileHeaders
-pub mod SectionHeaders
-pub mod ProgramHeaders
 pub mod ElfFiles
 pub mod Sections
+pub mod FoundSections
 pub mod Segments
 pub mod Symbols
 pub mod SymbolTables

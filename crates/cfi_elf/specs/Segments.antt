@@ -1,8 +1,8 @@
 -- What a file has loaded at an address, by its program headers (System V ABI chapter 5, "Program
 -- Header", "Program Loading").
-use Rattle.std.specs.Prelude.{ℕ, ◌-◌, ◌+◌, ◌%◌, ◌^◌, Bool, not, ◌&&◌, bit_and, option_map, List}
-use Rattle.std.specs.Prelude.{Option, Some, None, Result, Ok, Err, drop, find, nat_le, nat_lt, ◌==◌}
-use Rattle.std.specs.Prelude.{if◌then◌else◌}
+use Rattle.std.specs.Prelude.{ℕ, ◌-◌, ◌+◌, ◌*◌, ◌%◌, ◌^◌, Bool, not, ◌&&◌, bit_and, option_map}
+use Rattle.std.specs.Prelude.{List, [], Option, Result, Ok, Err, drop, find, map, nat_le, nat_lt}
+use Rattle.std.specs.Prelude.{◌==◌, if◌then◌else◌}
 use Rattle.cfi_elf.specs.declared.error.ElfError.{ElfError}
 use Rattle.cfi_elf.specs.declared.error.ElfError.TheVariants.{ProgramEntrySize}
 use Rattle.cfi_elf.specs.declared.error.ElfError.TheVariants.{ProgramTableOutOfBounds}
@@ -10,36 +10,38 @@ use Rattle.cfi_elf.specs.declared.error.ElfError.TheVariants.{SegmentOutOfBounds
 use Rattle.cfi_elf.specs.declared.program_header.ProgramHeader.{ProgramHeader}
 use Rattle.cfi_elf.specs.declared.segments.Wanted.{Wanted}
 use Rattle.cfi_elf.specs.declared.segments.Wanted.TheVariants.{OfType, LoadedAt, CodeAt}
-use Rattle.cfi_elf.specs.Images.{bytes_at, table_at}
-use Rattle.cfi_elf.specs.Results.{Table, and_then, entries_of, no_entries}
-use Rattle.cfi_elf.specs.ProgramHeaders.{program_header, program_header_size}
 use Rattle.cfi_elf.specs.ElfFiles.{File, class_of_file, is_big_file}
-use Rattle.cfi_elf.specs.Sections.{Section, first_section_header}
+use Rattle.cfi_elf.specs.Fields.{entries}
+use Rattle.cfi_elf.specs.Headers.{program_header, program_header_bytes}
+use Rattle.cfi_elf.specs.Images.{bytes_at}
+use Rattle.cfi_elf.specs.Results.{and_then, if_found}
+use Rattle.cfi_elf.specs.Sections.{Section, or_by_first}
 
 -- ---- the program header table
 
 -- e_phnum, or where it is PN_XNUM and there are section headers sh_info of section 0
 unfoldable pub segment_count : File → Result ℕ ElfError
 segment_count file =
-    if (file.header.sizes.e_phnum == 0xffff) && not (file.header.offsets.e_shoff == 0)
-    then and_then (first_section_header file) (λ first. Ok first.place.sh_info)
-    else Ok file.header.sizes.e_phnum
+    let e_phnum = file.header.sizes.e_phnum in
+    or_by_first file e_phnum ((e_phnum == 0xffff) && not (file.header.offsets.e_shoff == 0))
+    (λ first. first.sh_info)
 
--- none where e_phoff is 0
-unfoldable pub program_table : File → Result Table ElfError
+-- its bytes; none where e_phoff is 0
+unfoldable pub program_table : File → Result (List ℕ) ElfError
 program_table file =
     let offset = file.header.offsets.e_phoff in
-    let size = program_header_size (class_of_file file) in
-    if offset == 0 then Ok no_entries
+    let size = program_header_bytes (class_of_file file) in
+    if offset == 0 then Ok []
     else if not (file.header.sizes.e_phentsize == size) then Err
     (ProgramEntrySize file.header.sizes.e_phentsize)
     else and_then (segment_count file)
-    (λ count. table_at file.image offset count size ProgramTableOutOfBounds)
+    (λ count. bytes_at file.image offset (count * size) ProgramTableOutOfBounds)
 
 -- the program headers of a table, in their order
-abbrev pub program_headers : File → Table → List ProgramHeader
+abbrev pub program_headers : File → List ℕ → List ProgramHeader
 program_headers file table =
-    entries_of (is_big_file file) table (program_header (class_of_file file))
+    map (program_header (class_of_file file) (is_big_file file))
+    (entries (program_header_bytes (class_of_file file)) table)
 
 -- ---- segments
 
@@ -48,12 +50,12 @@ program_headers file table =
 abbrev pub is_loaded_at : ℕ → ProgramHeader → Bool
 is_loaded_at address header =
     (header.p_type == 1)
-    && (nat_le header.place.p_vaddr address
-    && nat_lt address (header.place.p_vaddr + header.place.p_filesz))
+    && (nat_le header.p_vaddr address
+    && nat_lt address (header.p_vaddr + header.p_filesz))
 
 -- where a segment begins in the file as it is mapped, by whole pages of 4 KiB
 abbrev pub page_offset : ProgramHeader → ℕ
-page_offset header = header.place.p_offset - header.place.p_offset % 4096
+page_offset header = header.p_offset - header.p_offset % 4096
 
 -- whether a segment is loaded and executable (PF_X is 1), and the byte at the offset is mapped with
 -- it
@@ -61,7 +63,7 @@ abbrev pub is_code_at : ℕ → ProgramHeader → Bool
 is_code_at offset header =
     (header.p_type == 1) && (not (bit_and header.p_flags 1 == 0)
     && (nat_le (page_offset header) offset
-    && nat_lt offset (header.place.p_offset + header.place.p_filesz)))
+    && nat_lt offset (header.p_offset + header.p_filesz)))
 
 abbrev pub is_wanted : Wanted → ProgramHeader → Bool
 is_wanted (OfType p_type) header = header.p_type == p_type
@@ -77,31 +79,29 @@ wanted_segment file wanted =
 -- the bytes of a segment in the file
 abbrev pub segment_bytes : File → ProgramHeader → Result (List ℕ) ElfError
 segment_bytes file header =
-    bytes_at file.image header.place.p_offset header.place.p_filesz SegmentOutOfBounds
+    bytes_at file.image header.p_offset header.p_filesz SegmentOutOfBounds
 
 -- a segment's address and bytes
-abbrev pub segment_of : File → Option ProgramHeader → Result (Option Section) ElfError
-segment_of file None = Ok None
-segment_of file (Some header) =
+abbrev pub segment_of : File → ProgramHeader → Result Section ElfError
+segment_of file header =
     and_then (segment_bytes file header)
-    (λ bytes. Ok (Some (record { address = header.place.p_vaddr; bytes = bytes })))
+    (λ bytes. Ok (record { address = header.p_vaddr; bytes = bytes }))
 
 -- the first segment of type PT_GNU_EH_FRAME, which has the header of call frame information (LSB
 -- Core, "Program Header")
 unfoldable pub eh_frame_hdr_segment : File → Result (Option Section) ElfError
-eh_frame_hdr_segment file = and_then (wanted_segment file (OfType 0x6474e550)) (segment_of file)
+eh_frame_hdr_segment file =
+    and_then (wanted_segment file (OfType 0x6474e550)) (if_found (segment_of file))
 
 -- a segment's bytes in the file, from an address on
-abbrev pub bytes_after : File → ℕ → Option ProgramHeader → Result (Option (List ℕ)) ElfError
-bytes_after file address None = Ok None
-bytes_after file address (Some header) =
-    and_then (segment_bytes file header)
-    (λ bytes. Ok (Some (drop (address - header.place.p_vaddr) bytes)))
+abbrev pub bytes_after : File → ℕ → ProgramHeader → Result (List ℕ) ElfError
+bytes_after file address header =
+    and_then (segment_bytes file header) (λ bytes. Ok (drop (address - header.p_vaddr) bytes))
 
 -- the file's bytes from an address up to the end of those of the first loaded segment that has it
 unfoldable pub loaded_bytes : File → ℕ → Result (Option (List ℕ)) ElfError
 loaded_bytes file address =
-    and_then (wanted_segment file (LoadedAt address)) (bytes_after file address)
+    and_then (wanted_segment file (LoadedAt address)) (if_found (bytes_after file address))
 
 -- ---- the address of a byte of the file
 
@@ -114,7 +114,7 @@ minus a b = (a + (2 ^ 64 - b)) % 2 ^ 64
 
 -- that of the byte at an offset, by the segment's address and offset
 abbrev pub loaded_address : ℕ → ProgramHeader → ℕ
-loaded_address offset header = plus (minus header.place.p_vaddr header.place.p_offset) offset
+loaded_address offset header = plus (minus header.p_vaddr header.p_offset) offset
 
 -- that of the byte at an offset in the first segment of code that has it
 unfoldable pub address_of_offset : File → ℕ → Result (Option ℕ) ElfError

@@ -1,50 +1,48 @@
 -- The symbols of a file, by their names and addresses (System V ABI chapter 4, "Symbol Table").
-use Rattle.std.specs.Prelude.{ℕ, ◌/◌, Bool, false, List, [], Option, Some, None, Result, Ok, length}
-use Rattle.std.specs.Prelude.{find, nat_eq, ◌==◌, if◌then◌else◌}
+use Rattle.std.specs.Prelude.{ℕ, Bool, false, List, [], Option, Some, None, Result, Ok, find, map}
+use Rattle.std.specs.Prelude.{option_map, nat_eq, ◌==◌, if◌then◌else◌}
 use Rattle.std.specs.Cmp.Lexicographic.{pointwise}
 use Rattle.cfi_elf.specs.declared.error.ElfError.{ElfError}
 use Rattle.cfi_elf.specs.declared.section_header.SectionHeader.{SectionHeader}
 use Rattle.cfi_elf.specs.declared.symbol.Symbol.{Symbol}
 use Rattle.cfi_elf.specs.declared.symbols.Function.{Function as FunctionOfCode}
 use Rattle.cfi_elf.specs.declared.symbols.SymbolTable.{SymbolTable as SymbolTableOfCode}
-use Rattle.cfi_elf.specs.Results.{Table, and_then, entries_of, first_by, no_entries, or_else}
-use Rattle.cfi_elf.specs.Results.{table_view}
 use Rattle.cfi_elf.specs.ElfFiles.{File, class_of_file, is_big_file}
+use Rattle.cfi_elf.specs.Fields.{entries}
+use Rattle.cfi_elf.specs.Headers.{symbol, symbol_bytes}
+use Rattle.cfi_elf.specs.Results.{and_then, first_by, if_found, or_else}
 use Rattle.cfi_elf.specs.Sections.{contents, name_at, names_at, section_headers, section_table}
-use Rattle.cfi_elf.specs.Symbols.{symbol, symbol_size, is_function_at}
+use Rattle.cfi_elf.specs.Symbols.{is_function_at}
 
--- The symbols, and the string table with their names.
+-- The bytes of the symbols, and the string table with their names.
 pub record SymbolTable : Type 0 where
-  pub entries : Table
+  pub bytes : List ℕ
   pub names : List ℕ
 
 -- what a table of symbols of the code is
 abbrev pub symbol_table_view : SymbolTableOfCode → SymbolTable
-symbol_table_view table = record { entries = table_view table.entries; names = table.names.now }
+symbol_table_view table = record { bytes = table.bytes.now; names = table.names.now }
 
 -- ---- the symbol table: the first section of type SHT_SYMTAB (2), or else of type SHT_DYNSYM (11)
 
 abbrev pub is_of_type : ℕ → SectionHeader → Bool
-is_of_type sh_type header = header.identity.sh_type == sh_type
+is_of_type sh_type header = header.sh_type == sh_type
 
-abbrev pub symbol_section : File → Table → Option SectionHeader
+abbrev pub symbol_section : File → List ℕ → Option SectionHeader
 symbol_section file table =
     let headers =
     section_headers file table in or_else (find (is_of_type 2) headers)
     (find (is_of_type 11) headers)
 
--- its entries, and its names, which are in the section of the index sh_link
-unfoldable pub symbols_in : File → Table → SectionHeader → Result SymbolTable ElfError
+-- its bytes, and its names, which are in the section of the index sh_link
+unfoldable pub symbols_in : File → List ℕ → SectionHeader → Result SymbolTable ElfError
 symbols_in file table header =
     and_then (contents file header) (λ bytes.
-    and_then (names_at file table header.place.sh_link) (λ names.
-    Ok (record {
-      entries = record { count = length bytes / symbol_size (class_of_file file); bytes = bytes };
-      names = names;
-    })))
+    and_then (names_at file table header.sh_link) (λ names.
+    Ok (record { bytes = bytes; names = names })))
 
-abbrev pub symbols_of : File → Table → Option SectionHeader → Result SymbolTable ElfError
-symbols_of file table None = Ok (record { entries = no_entries; names = [] })
+abbrev pub symbols_of : File → List ℕ → Option SectionHeader → Result SymbolTable ElfError
+symbols_of file table None = Ok (record { bytes = []; names = [] })
 symbols_of file table (Some header) = symbols_in file table header
 
 -- no symbols where there is no such section
@@ -52,9 +50,14 @@ unfoldable pub symbol_table : File → Result SymbolTable ElfError
 symbol_table file =
     and_then (section_table file) (λ table. symbols_of file table (symbol_section file table))
 
--- the symbols in their order
+-- the symbols in their order, as many as fit the section whole
+abbrev pub symbols_of_bytes : File → List ℕ → List Symbol
+symbols_of_bytes file bytes =
+    map (symbol (class_of_file file) (is_big_file file))
+    (entries (symbol_bytes (class_of_file file)) bytes)
+
 abbrev pub symbols : File → SymbolTable → List Symbol
-symbols file table = entries_of (is_big_file file) table.entries (symbol (class_of_file file))
+symbols file table = symbols_of_bytes file table.bytes
 
 -- ---- by name
 
@@ -66,8 +69,7 @@ is_symbol_named names name s =
     else and_then (name_at names s.st_name) (λ found. Ok (pointwise nat_eq found name))
 
 abbrev pub value_of : Option Symbol → Option ℕ
-value_of None = None
-value_of (Some s) = Some s.st_value
+value_of found = option_map (λ s. s.st_value) found
 
 -- the value of the first defined symbol with the name
 unfoldable pub symbol_address : File → List ℕ → Result (Option ℕ) ElfError
@@ -88,14 +90,14 @@ pub record Function : Type 0 where
 abbrev pub function_view : FunctionOfCode → Function
 function_view f = record { name = f.name.now; address = f.address; size = f.size }
 
-abbrev pub function_of : List ℕ → Option Symbol → Result (Option Function) ElfError
-function_of names None = Ok None
-function_of names (Some s) =
+abbrev pub function_of : List ℕ → Symbol → Result Function ElfError
+function_of names s =
     and_then (name_at names s.st_name)
-    (λ name. Ok (Some (record { name = name; address = s.st_value; size = s.st_size })))
+    (λ name. Ok (record { name = name; address = s.st_value; size = s.st_size }))
 
 -- the first function that has the address
 unfoldable pub function_at : File → ℕ → Result (Option Function) ElfError
 function_at file address =
     and_then (symbol_table file)
-    (λ table. function_of table.names (find (is_function_at address) (symbols file table)))
+    (λ table.
+    if_found (function_of table.names) (find (is_function_at address) (symbols file table)))

@@ -1,6 +1,8 @@
-//! Parts of a slice of bytes, by offsets of the file's width.
-ghost use Rattle.std.specs.Prelude.{◌≡◌, drop, option_map};
-ghost use Rattle.cfi_elf.specs.Results.{part};
+//! Parts of a slice of bytes, numbers in it, and the entries of a table.
+ghost use Rattle.std.specs.Prelude.{◌≡◌, ◌+◌, ◌*◌, ◌<◌, ◌≤◌, ◌==◌, IfSome, MatchOption, drop};
+ghost use Rattle.std.specs.Prelude.{length, option_map, position, slice_get};
+ghost use Rattle.std.specs.Int.{w8, w16, w32, w64};
+ghost use Rattle.cfi_elf.specs.Fields.{before_zero, entries, number_at, part};
 
 /// The `size` bytes from the offset on, or `None` where there are fewer.
 #[inline(always)]
@@ -23,5 +25,119 @@ pub(crate) fn bytes_from(bytes: &[u8], offset: u64) -> &[u8]
         &bytes[offset as usize..]
     } else {
         &[]
+    }
+}
+
+/// The bytes before the first zero, or `None` where there is none.
+pub(crate) fn before_zero(bytes: &[u8]) -> Option<&[u8]>
+    ensures { option_map (λ found. found.now) result ≡ before_zero bytes.now }
+{
+    let length = first_zero(bytes)?;
+    Some(&bytes[..length])
+}
+
+/// The index of the first zero.
+fn first_zero(bytes: &[u8]) -> Option<usize>
+    ensures value { result ≡ position (λ x. x == 0) bytes.now }
+    ensures bound { IfSome result (λ index. index ≤ length bytes.now) }
+{
+    bytes.iter().position(|byte| *byte == 0)
+}
+
+/// The entry at an index of a table whose entries have this size, or `None` where it has fewer.
+#[inline(always)]
+pub(crate) fn entry(table: &[u8], size: u64, index: usize) -> Option<&[u8]>
+    requires { 0 < size }
+    ensures value { option_map (λ found. found.now) result
+        ≡ slice_get (entries size table.now) index }
+    ensures size { IfSome result (λ found. length found.now ≡ size) }
+{
+    let Some(start) = size_of(index as u64, size, table.len() as u64) else {
+        return None;
+    };
+    part(table, start, size)
+}
+
+/// How many bytes `count` entries of `size` bytes have, or `None` where that is more than this
+/// length.
+pub(crate) fn size_of(count: u64, size: u64, length: u64) -> Option<u64>
+    ensures { MatchOption result (length < count * size) (λ n. n ≡ count * size) }
+{
+    count.checked_mul(size)
+}
+
+/// The bytes of a record, and their order.
+#[derive(Clone, Copy)]
+pub(crate) struct Record<'input> {
+    pub(crate) bytes: &'input [u8],
+    pub(crate) big_endian: bool,
+}
+
+impl Record<'_> {
+    /// The number in the byte at an offset.
+    #[inline(always)]
+    pub(crate) fn byte(&self, at: usize) -> u8
+        requires { at + 1 ≤ length self.now.bytes.now }
+        ensures { result ≡ number_at self.now.big_endian self.now.bytes.now at w8 }
+    {
+        let spelled = [self.bytes[at]];
+        if self.big_endian {
+            u8::from_be_bytes(spelled)
+        } else {
+            u8::from_le_bytes(spelled)
+        }
+    }
+
+    /// The number in the two bytes from an offset on.
+    #[inline(always)]
+    pub(crate) fn half(&self, at: usize) -> u16
+        requires { at + 2 ≤ length self.now.bytes.now }
+        ensures { result ≡ number_at self.now.big_endian self.now.bytes.now at w16 }
+    {
+        let spelled = [self.bytes[at], self.bytes[at + 1]];
+        if self.big_endian {
+            u16::from_be_bytes(spelled)
+        } else {
+            u16::from_le_bytes(spelled)
+        }
+    }
+
+    /// The number in the four bytes from an offset on.
+    #[inline(always)]
+    pub(crate) fn word(&self, at: usize) -> u32
+        requires { at + 4 ≤ length self.now.bytes.now }
+        ensures { result ≡ number_at self.now.big_endian self.now.bytes.now at w32 }
+    {
+        let bytes = self.bytes;
+        let spelled = [bytes[at], bytes[at + 1], bytes[at + 2], bytes[at + 3]];
+        if self.big_endian {
+            u32::from_be_bytes(spelled)
+        } else {
+            u32::from_le_bytes(spelled)
+        }
+    }
+
+    /// The number in the eight bytes from an offset on.
+    #[inline(always)]
+    pub(crate) fn xword(&self, at: usize) -> u64
+        requires { at + 8 ≤ length self.now.bytes.now }
+        ensures { result ≡ number_at self.now.big_endian self.now.bytes.now at w64 }
+    {
+        let bytes = self.bytes;
+        let spelled = [
+            bytes[at],
+            bytes[at + 1],
+            bytes[at + 2],
+            bytes[at + 3],
+            bytes[at + 4],
+            bytes[at + 5],
+            bytes[at + 6],
+            bytes[at + 7],
+        ];
+        if self.big_endian {
+            u64::from_be_bytes(spelled)
+        } else {
+            u64::from_le_bytes(spelled)
+        }
     }
 }

@@ -2,16 +2,17 @@
 ghost use Rattle.std.specs.Prelude.{◌≡◌};
 ghost use Rattle.cfi_read_core.specs.ReaderCalls.{map_ok};
 ghost use Rattle.cfi_elf.specs.ElfFiles.{address_size_of, class_of_file, elf_file, elf_file_of};
-ghost use Rattle.cfi_elf.specs.ElfFiles.{file_by, file_view, header_bytes, vendor_of};
+ghost use Rattle.cfi_elf.specs.ElfFiles.{file_by, file_view, header_bytes, is_big_file, vendor_of};
 ghost use Rattle.cfi_elf.specs.ElfFiles.{with_addresses};
 ghost use Rattle.cfi_elf.specs.Images.{image_view};
 
+use crate::bytes::Record;
 use crate::error::ElfError;
 use crate::file_header::{
-    Class, EI_NIDENT, FileHeader, Identification, read_file_header, read_identification,
+    Class, FileHeader, Identification, file_header_size, parse_file_header, read_identification,
 };
 use crate::image::Image;
-use cfi_read_core::{EndianSlice, RunTimeEndian, Vendor};
+use cfi_read_core::{Endianity, RunTimeEndian, Vendor};
 
 const EV_CURRENT: u32 = 1;
 
@@ -114,6 +115,18 @@ impl<'input> ElfFile<'input> {
             Vendor::Default
         }
     }
+
+    /// These bytes of the file, as a record.
+    #[inline(always)]
+    pub(crate) fn fields(&self, bytes: &'input [u8]) -> Record<'input>
+        ensures bytes { result.bytes.now ≡ bytes.now }
+        ensures order { result.big_endian ≡ is_big_file (file_view self.now) }
+    {
+        Record {
+            bytes,
+            big_endian: self.identification.data.is_big_endian(),
+        }
+    }
 }
 
 /// The bytes that the header is read of: the longest one has 64.
@@ -130,10 +143,14 @@ fn file_by<'input>(image: Image<'input>, bytes: &[u8]) -> Result<ElfFile<'input>
     ensures { map_ok file_view result ≡ file_by (image_view image.entry) bytes.now }
 {
     let identification = read_identification(bytes)?;
-    let mut fields = EndianSlice::new(&bytes[EI_NIDENT..], identification.data);
-    let Ok(header) = read_file_header(identification.class, &mut fields) else {
+    if bytes.len() < file_header_size(identification.class) {
         return Err(ElfError::HeaderCut);
+    }
+    let fields = Record {
+        bytes,
+        big_endian: identification.data.is_big_endian(),
     };
+    let header = parse_file_header(identification.class, fields);
     with_addresses(ElfFile {
         image,
         identification,

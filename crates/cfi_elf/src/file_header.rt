@@ -1,17 +1,18 @@
 //! The file header (System V ABI chapter 4, "ELF Header").
-ghost use Rattle.std.specs.Prelude.{◌≡◌, ◌≤◌, ⊤, IfOk, length};
-ghost use Rattle.cfi_read_core.specs.Numbers.{unsigned};
-ghost use Rattle.cfi_read_core.specs.ReaderCalls.{ReadsValue};
-ghost use Rattle.cfi_elf.specs.FileHeaders.{class_of, class_width, data_of, file_header};
-ghost use Rattle.cfi_elf.specs.FileHeaders.{identification, object_kind, table_offsets};
-ghost use Rattle.cfi_elf.specs.FileHeaders.{table_sizes};
+ghost use Rattle.std.specs.Prelude.{◌≡◌, ◌≤◌, IfOk, length};
+ghost use Rattle.cfi_elf.specs.declared.error.ElfError.TheVariants.{UnknownClass};
+ghost use Rattle.cfi_elf.specs.declared.error.ElfError.TheVariants.{UnknownDataEncoding};
+ghost use Rattle.cfi_elf.specs.declared.file_header.Class.TheVariants.{Elf32, Elf64};
+ghost use Rattle.cfi_elf.specs.ElfFiles.{byte_orders, classes, identification};
+ghost use Rattle.cfi_elf.specs.Headers.{file_header, file_header_bytes};
+ghost use Rattle.cfi_elf.specs.Results.{meaning, or_missing};
 
+use crate::bytes::Record;
 use crate::error::ElfError;
-use cfi_read_core::{Reader, Result, RunTimeEndian};
-use std::alloc::AllocError;
+use cfi_read_core::RunTimeEndian;
 
 /// The number of bytes of `e_ident` (`EI_NIDENT`).
-pub(crate) const EI_NIDENT: usize = 16;
+const EI_NIDENT: usize = 16;
 
 const EV_CURRENT: u8 = 1;
 
@@ -69,10 +70,9 @@ pub struct FileHeader {
 /// Returns what `e_ident` says.
 ///
 /// Fails with `NotElf`, `HeaderCut`, `UnknownClass`, `UnknownDataEncoding` or `UnknownVersion`.
-#[tactic(auto, unfolding(crate::specs::FileHeaders::identification))]
-pub(crate) fn read_identification(bytes: &[u8]) -> std::result::Result<Identification, ElfError>
-    ensures value { result ≡ identification bytes.now }
-    ensures whole { IfOk result (λ _. 16 ≤ length bytes.now) }
+#[tactic(auto, unfolding(crate::specs::ElfFiles::identification))]
+pub(crate) fn read_identification(bytes: &[u8]) -> Result<Identification, ElfError>
+    ensures { result ≡ identification bytes.now }
 {
     if !bytes.starts_with(b"\x7fELF") {
         return Err(ElfError::NotElf);
@@ -80,17 +80,22 @@ pub(crate) fn read_identification(bytes: &[u8]) -> std::result::Result<Identific
     if bytes.len() < EI_NIDENT {
         return Err(ElfError::HeaderCut);
     }
-    let class = class_of(bytes[4])?;
-    let data = data_of(bytes[5])?;
-    if bytes[6] != EV_CURRENT {
-        return Err(ElfError::UnknownVersion(u32::from(bytes[6])));
+    let fields = Record {
+        bytes,
+        big_endian: false,
+    };
+    let class = class_of(fields.byte(4))?;
+    let data = data_of(fields.byte(5))?;
+    let version = fields.byte(6);
+    if version != EV_CURRENT {
+        return Err(ElfError::UnknownVersion(u32::from(version)));
     }
     Ok(Identification { class, data })
 }
 
 /// Returns the class that `EI_CLASS` says. Fails with `UnknownClass`.
-fn class_of(byte: u8) -> std::result::Result<Class, ElfError>
-    ensures { result ≡ class_of byte }
+fn class_of(byte: u8) -> Result<Class, ElfError>
+    ensures { result ≡ or_missing (UnknownClass byte) (meaning classes byte) }
 {
     match byte {
         1 => Ok(Class::Elf32),
@@ -100,8 +105,8 @@ fn class_of(byte: u8) -> std::result::Result<Class, ElfError>
 }
 
 /// Returns the byte order that `EI_DATA` says. Fails with `UnknownDataEncoding`.
-fn data_of(byte: u8) -> std::result::Result<RunTimeEndian, ElfError>
-    ensures { result ≡ data_of byte }
+fn data_of(byte: u8) -> Result<RunTimeEndian, ElfError>
+    ensures { result ≡ or_missing (UnknownDataEncoding byte) (meaning byte_orders byte) }
 {
     match byte {
         1 => Ok(RunTimeEndian::Little),
@@ -110,75 +115,73 @@ fn data_of(byte: u8) -> std::result::Result<RunTimeEndian, ElfError>
     }
 }
 
-/// Reads an address, an offset or a size: four bytes or eight, by the class.
-#[inline(always)]
-pub(crate) fn read_class_sized<R: Reader>(class: Class, input: &mut R) -> Result<u64>
-    ensures { ReadsValue R.position (unsigned (class_width class)) input.old result input.new }
+/// The size of the file header in bytes.
+pub(crate) fn file_header_size(class: Class) -> usize
+    ensures { result ≡ file_header_bytes class }
 {
     match class {
-        Class::Elf32 => Ok(u64::from(input.read_u32()?)),
-        Class::Elf64 => input.read_u64(),
+        Class::Elf32 => 52,
+        Class::Elf64 => 64,
     }
 }
 
-/// Reads the file header after `e_ident`. Fails with `UnexpectedEof` where the input ends in it.
-#[tactic(auto, unfolding(crate::specs::FileHeaders::file_header))]
-pub(crate) fn read_file_header<R: Reader>(class: Class, input: &mut R) -> Result<FileHeader>
-    ensures { ReadsValue R.position (file_header class) input.old result input.new }
+/// The file header in these bytes.
+pub(crate) fn parse_file_header(class: Class, fields: Record<'_>) -> FileHeader
+    requires { file_header_bytes class ≤ length fields.bytes.now }
+    ensures { result ≡ file_header class fields.entry.big_endian fields.entry.bytes.now }
 {
-    let kind = read_object_kind(input)?;
-    let offsets = read_table_offsets(class, input)?;
-    let sizes = read_table_sizes(input)?;
-    Ok(FileHeader {
-        kind,
-        offsets,
-        sizes,
-    })
+    match class {
+        Class::Elf32 => file_header_32(fields),
+        Class::Elf64 => file_header_64(fields),
+    }
 }
 
-/// Reads the type of the file, its machine and its version.
-#[tactic(auto, unfolding(crate::specs::FileHeaders::object_kind))]
-fn read_object_kind<R: Reader>(input: &mut R) -> Result<ObjectKind>
-    ensures { ReadsValue R.position object_kind input.old result input.new }
+/// That of a file of 32 bits.
+fn file_header_32(fields: Record<'_>) -> FileHeader
+    requires { 52 ≤ length fields.bytes.now }
+    ensures { result ≡ file_header Elf32 fields.entry.big_endian fields.entry.bytes.now }
 {
-    let e_type = input.read_u16()?;
-    let e_machine = input.read_u16()?;
-    let e_version = input.read_u32()?;
-    Ok(ObjectKind {
-        e_type,
-        e_machine,
-        e_version,
-    })
+    FileHeader {
+        kind: ObjectKind {
+            e_type: fields.half(16),
+            e_machine: fields.half(18),
+            e_version: fields.word(20),
+        },
+        offsets: TableOffsets {
+            e_phoff: u64::from(fields.word(28)),
+            e_shoff: u64::from(fields.word(32)),
+        },
+        sizes: TableSizes {
+            e_phentsize: fields.half(42),
+            e_phnum: fields.half(44),
+            e_shentsize: fields.half(46),
+            e_shnum: fields.half(48),
+            e_shstrndx: fields.half(50),
+        },
+    }
 }
 
-/// Reads where the program headers and the section headers begin.
-#[tactic(auto, unfolding(crate::specs::FileHeaders::table_offsets))]
-fn read_table_offsets<R: Reader>(class: Class, input: &mut R) -> Result<TableOffsets>
-    ensures { ReadsValue R.position (table_offsets class) input.old result input.new }
+/// That of a file of 64 bits.
+fn file_header_64(fields: Record<'_>) -> FileHeader
+    requires { 64 ≤ length fields.bytes.now }
+    ensures { result ≡ file_header Elf64 fields.entry.big_endian fields.entry.bytes.now }
 {
-    let _e_entry = read_class_sized(class, input)?;
-    let e_phoff = read_class_sized(class, input)?;
-    let e_shoff = read_class_sized(class, input)?;
-    Ok(TableOffsets { e_phoff, e_shoff })
-}
-
-/// Reads the sizes and counts of both tables, and the index of the section with the names.
-#[tactic(auto, unfolding(crate::specs::FileHeaders::table_sizes))]
-fn read_table_sizes<R: Reader>(input: &mut R) -> Result<TableSizes>
-    ensures { ReadsValue R.position table_sizes input.old result input.new }
-{
-    let _e_flags = input.read_u32()?;
-    let _e_ehsize = input.read_u16()?;
-    let e_phentsize = input.read_u16()?;
-    let e_phnum = input.read_u16()?;
-    let e_shentsize = input.read_u16()?;
-    let e_shnum = input.read_u16()?;
-    let e_shstrndx = input.read_u16()?;
-    Ok(TableSizes {
-        e_phentsize,
-        e_phnum,
-        e_shentsize,
-        e_shnum,
-        e_shstrndx,
-    })
+    FileHeader {
+        kind: ObjectKind {
+            e_type: fields.half(16),
+            e_machine: fields.half(18),
+            e_version: fields.word(20),
+        },
+        offsets: TableOffsets {
+            e_phoff: fields.xword(32),
+            e_shoff: fields.xword(40),
+        },
+        sizes: TableSizes {
+            e_phentsize: fields.half(54),
+            e_phnum: fields.half(56),
+            e_shentsize: fields.half(58),
+            e_shnum: fields.half(60),
+            e_shstrndx: fields.half(62),
+        },
+    }
 }

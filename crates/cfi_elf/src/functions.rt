@@ -1,18 +1,14 @@
 //! The functions of a file that have names (System V ABI chapter 4, "Symbol Table").
 ghost use Rattle.std.specs.Prelude.{◌≡◌, IfOk, map, option_map};
 ghost use Rattle.std.specs.List.{filter_map};
-ghost use Rattle.cfi_elf.specs.Results.{entries};
 ghost use Rattle.cfi_elf.specs.ElfFiles.{file_view};
-ghost use Rattle.cfi_elf.specs.Symbols.{symbol};
-ghost use Rattle.cfi_elf.specs.SymbolTables.{function_view};
 ghost use Rattle.cfi_elf.specs.FunctionNames.{named_function, named_functions};
+ghost use Rattle.cfi_elf.specs.SymbolTables.{function_view, symbol_table_view, symbols};
 
 use crate::elf_file::ElfFile;
-use crate::file_header::Class;
 use crate::sections::name_at;
-use crate::symbol::{Symbol, read_symbol};
-use crate::symbols::{Function, is_function};
-use cfi_read_core::{EndianSlice, Reader};
+use crate::symbol::Symbol;
+use crate::symbols::{Function, SymbolTable, is_function};
 use std::alloc::{AllocError, Global};
 
 impl<'input> ElfFile<'input> {
@@ -29,35 +25,30 @@ impl<'input> ElfFile<'input> {
         let Ok(table) = self.symbol_table() else {
             return Ok(Vec::new(alloc));
         };
-        let entries = EndianSlice::new(table.entries.bytes, self.identification.data);
-        let class = self.identification.class;
-        functions_among(alloc, class, table.entries.count, entries, table.names)
+        self.functions_among(alloc, table)
     }
-}
 
-/// Those of `count` symbols that are functions with names.
-fn functions_among<'input, R: Reader>(
-    alloc: Global,
-    class: Class,
-    count: u64,
-    symbols: R,
-    names: &'input [u8],
-) -> Result<Vec<Function<'input>>, AllocError>
-    ensures { IfOk result (λ functions. map function_view functions.items
-        ≡ filter_map (named_function names.now) (entries count (symbol class)
-        (R.position symbols).source (R.position symbols).place)) }
-{
-    let mut functions = Vec::new(alloc);
-    let mut symbols = symbols;
-    for index in 0..count {
-        let Ok(symbol) = read_symbol(class, &mut symbols) else {
-            return Ok(functions);
-        };
-        if let Some(function) = named_function(&symbol, names) {
-            functions.push(function)?;
+    /// Those of the symbols that are functions with names.
+    fn functions_among(
+        &self,
+        alloc: Global,
+        table: SymbolTable<'input>,
+    ) -> Result<Vec<Function<'input>>, AllocError>
+        ensures { IfOk result (λ functions. map function_view functions.items
+            ≡ filter_map (named_function table.entry.names.now)
+            (symbols (file_view self.now) (symbol_table_view table.entry))) }
+    {
+        let mut functions = Vec::new(alloc);
+        for index in 0..table.bytes.len() {
+            let Some(symbol) = self.symbol_in(table.bytes, index) else {
+                return Ok(functions);
+            };
+            if let Some(function) = named_function(&symbol, table.names) {
+                functions.push(function)?;
+            }
         }
+        Ok(functions)
     }
-    Ok(functions)
 }
 
 /// The function that a symbol names.

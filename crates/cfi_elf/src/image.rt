@@ -1,10 +1,10 @@
 //! Files of which parts were read.
-ghost use Rattle.std.specs.Prelude.{◌≡◌, ◌+◌, nat_le, option_map};
+ghost use Rattle.std.specs.Prelude.{◌≡◌, ◌+◌, ◌*◌, nat_le, option_map};
 ghost use Rattle.cfi_read_core.specs.ReaderCalls.{map_ok};
 ghost use Rattle.cfi_elf.specs.Images.{bytes_at, image_view, in_part, in_parts, part_of};
 ghost use Rattle.cfi_elf.specs.Images.{part_view, parts_view, whole};
 
-use crate::bytes::part;
+use crate::bytes::{part, size_of};
 use crate::error::ElfError;
 
 /// A part of a file that was read.
@@ -79,6 +79,24 @@ impl<'input> Image<'input> {
     {
         match self.part(offset, size)? {
             Some(bytes) => Ok(bytes),
+            None => Err(error),
+        }
+    }
+
+    /// The bytes of a table of `count` entries of `size` bytes at an offset. Fails with this error
+    /// where the file has fewer, and with `NotRead`.
+    pub(crate) fn table_at(
+        &self,
+        offset: u64,
+        count: u64,
+        size: u64,
+        error: ElfError,
+    ) -> Result<&'input [u8], ElfError>
+        ensures { map_ok (λ found. found.now) result
+            ≡ bytes_at (image_view self.now) offset (count * size) error }
+    {
+        match size_of(count, size, self.length) {
+            Some(length) => self.bytes_at(offset, length, error),
             None => Err(error),
         }
     }

@@ -20,7 +20,6 @@ mod sections;
 mod segments;
 mod symbol;
 mod symbols;
-mod table;
 
 pub use elf_file::{ElfFile, Section};
 pub use error::ElfError;

@@ -1,23 +1,16 @@
 //! Program headers (System V ABI chapter 5, "Program Header").
-ghost use Rattle.std.specs.Prelude.{◌≡◌};
-ghost use Rattle.cfi_read_core.specs.ReaderCalls.{ReadsValue};
-ghost use Rattle.cfi_elf.specs.ProgramHeaders.{flags_after_type, flags_before_alignment};
-ghost use Rattle.cfi_elf.specs.ProgramHeaders.{program_header, program_header_size, segment_place};
+ghost use Rattle.std.specs.Prelude.{◌≡◌, ◌<◌, ◌≤◌, length};
+ghost use Rattle.cfi_elf.specs.declared.file_header.Class.TheVariants.{Elf32, Elf64};
+ghost use Rattle.cfi_elf.specs.Headers.{program_header, program_header_bytes};
 
-use crate::file_header::{Class, read_class_sized};
-use cfi_read_core::{Reader, Result};
+use crate::bytes::Record;
+use crate::file_header::Class;
 
 /// A program header: what a segment is, where it is in the file, and where it is loaded.
 #[derive(Clone, Copy, Debug, PartialEq, Eq)]
 pub struct ProgramHeader {
     pub p_type: u32,
     pub p_flags: u32,
-    pub place: SegmentPlace,
-}
-
-/// Where a segment is in the file, and where it is loaded.
-#[derive(Clone, Copy, Debug, PartialEq, Eq)]
-pub struct SegmentPlace {
     pub p_offset: u64,
     pub p_vaddr: u64,
     pub p_filesz: u64,
@@ -26,7 +19,8 @@ pub struct SegmentPlace {
 /// The size of a program header in bytes.
 #[inline(always)]
 pub(crate) fn program_header_size(class: Class) -> u64
-    ensures { result ≡ program_header_size class }
+    ensures value { result ≡ program_header_bytes class }
+    ensures some { 0 < result }
 {
     match class {
         Class::Elf32 => 32,
@@ -34,57 +28,44 @@ pub(crate) fn program_header_size(class: Class) -> u64
     }
 }
 
-/// Reads a program header. Fails with `UnexpectedEof` where the input ends in it.
-#[tactic(auto, unfolding(crate::specs::ProgramHeaders::program_header))]
-pub(crate) fn read_program_header<R: Reader>(class: Class, input: &mut R) -> Result<ProgramHeader>
-    ensures { ReadsValue R.position (program_header class) input.old result input.new }
-{
-    let p_type = input.read_u32()?;
-    let p_flags = read_flags_after_type(class, input)?;
-    let place = read_segment_place(class, input)?;
-    let p_flags = read_flags_before_alignment(class, p_flags, input)?;
-    let _p_align = read_class_sized(class, input)?;
-    Ok(ProgramHeader {
-        p_type,
-        p_flags,
-        place,
-    })
-}
-
-/// Reads `p_flags` where 64-bit files have it.
-fn read_flags_after_type<R: Reader>(class: Class, input: &mut R) -> Result<u32>
-    ensures { ReadsValue R.position (flags_after_type class) input.old result input.new }
+/// The program header in these bytes.
+#[inline(always)]
+pub(crate) fn parse_program_header(class: Class, fields: Record<'_>) -> ProgramHeader
+    requires { program_header_bytes class ≤ length fields.bytes.now }
+    ensures { result ≡ program_header class fields.entry.big_endian fields.entry.bytes.now }
 {
     match class {
-        Class::Elf32 => Ok(0),
-        Class::Elf64 => input.read_u32(),
+        Class::Elf32 => program_header_32(fields),
+        Class::Elf64 => program_header_64(fields),
     }
 }
 
-/// Reads `p_flags` where 32-bit files have it, or else returns what was read before.
-fn read_flags_before_alignment<R: Reader>(class: Class, read: u32, input: &mut R) -> Result<u32>
-    ensures { ReadsValue R.position (flags_before_alignment class read) input.old
-        result input.new }
+/// That of a file of 32 bits.
+#[inline(always)]
+fn program_header_32(fields: Record<'_>) -> ProgramHeader
+    requires { 32 ≤ length fields.bytes.now }
+    ensures { result ≡ program_header Elf32 fields.entry.big_endian fields.entry.bytes.now }
 {
-    match class {
-        Class::Elf32 => input.read_u32(),
-        Class::Elf64 => Ok(read),
+    ProgramHeader {
+        p_type: fields.word(0),
+        p_flags: fields.word(24),
+        p_offset: u64::from(fields.word(4)),
+        p_vaddr: u64::from(fields.word(8)),
+        p_filesz: u64::from(fields.word(16)),
     }
 }
 
-/// Reads where a segment is in the file and in memory, and its size in the file.
-#[tactic(auto, unfolding(crate::specs::ProgramHeaders::segment_place))]
-fn read_segment_place<R: Reader>(class: Class, input: &mut R) -> Result<SegmentPlace>
-    ensures { ReadsValue R.position (segment_place class) input.old result input.new }
+/// That of a file of 64 bits.
+#[inline(always)]
+fn program_header_64(fields: Record<'_>) -> ProgramHeader
+    requires { 56 ≤ length fields.bytes.now }
+    ensures { result ≡ program_header Elf64 fields.entry.big_endian fields.entry.bytes.now }
 {
-    let p_offset = read_class_sized(class, input)?;
-    let p_vaddr = read_class_sized(class, input)?;
-    let _p_paddr = read_class_sized(class, input)?;
-    let p_filesz = read_class_sized(class, input)?;
-    let _p_memsz = read_class_sized(class, input)?;
-    Ok(SegmentPlace {
-        p_offset,
-        p_vaddr,
-        p_filesz,
-    })
+    ProgramHeader {
+        p_type: fields.word(0),
+        p_flags: fields.word(4),
+        p_offset: fields.xword(8),
+        p_vaddr: fields.xword(16),
+        p_filesz: fields.xword(32),
+    }
 }

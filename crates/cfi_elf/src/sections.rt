@@ -1,23 +1,19 @@
 //! The sections of a file, by their names (System V ABI chapter 4, "Sections").
-ghost use Rattle.std.specs.Prelude.{◌≡◌, ◌*◌, ◌≤◌, ◌==◌, IfSome, length, option_map, position};
+ghost use Rattle.std.specs.Prelude.{◌≡◌, IfOk, option_map, slice_get};
 ghost use Rattle.cfi_read_core.specs.ReaderCalls.{map_ok};
-ghost use Rattle.cfi_elf.specs.Results.{entries, table_view};
 ghost use Rattle.cfi_elf.specs.ElfFiles.{file_view};
-ghost use Rattle.cfi_elf.specs.SectionHeaders.{section_header, section_header_size};
-ghost use Rattle.cfi_elf.specs.Sections.{address_of, before_zero, contents, debug_frame};
-ghost use Rattle.cfi_elf.specs.Sections.{first_named, first_section_header, header_named};
-ghost use Rattle.cfi_elf.specs.Sections.{is_named, name_at, name_section, names_at};
-ghost use Rattle.cfi_elf.specs.Sections.{section_address, section_count, section_header_at};
-ghost use Rattle.cfi_elf.specs.Sections.{section_named, section_names, section_table};
-ghost use Rattle.cfi_elf.specs.Sections.{section_view};
+ghost use Rattle.cfi_elf.specs.FoundSections.{FindsSection};
+ghost use Rattle.cfi_elf.specs.Results.{first_by};
+ghost use Rattle.cfi_elf.specs.Sections.{address_of, contents, debug_frame};
+ghost use Rattle.cfi_elf.specs.Sections.{first_section_header, header_named, is_named, name_at};
+ghost use Rattle.cfi_elf.specs.Sections.{name_section, names_at, section_address, section_count};
+ghost use Rattle.cfi_elf.specs.Sections.{section_headers, section_named, section_names};
+ghost use Rattle.cfi_elf.specs.Sections.{section_table, section_view};
 
-use crate::bytes::bytes_from;
+use crate::bytes::{before_zero, bytes_from, entry};
 use crate::elf_file::{ElfFile, Section};
 use crate::error::ElfError;
-use crate::file_header::Class;
-use crate::section_header::{SectionHeader, read_section_header, section_header_size};
-use crate::table::{Table, table_at};
-use cfi_read_core::{EndianSlice, Reader};
+use crate::section_header::{SectionHeader, parse_section_header, section_header_size};
 
 const SHN_UNDEF: u32 = 0;
 
@@ -41,15 +37,17 @@ impl<'input> ElfFile<'input> {
     /// (System V ABI chapter 4, "Sections", "String Table").
     #[tactic(auto, unfolding(crate::specs::Sections::section_named))]
     pub fn section(&self, name: &[u8]) -> Result<Option<Section<'input>>, ElfError>
-        ensures { map_ok (option_map section_view) result
+        ensures value { map_ok (option_map section_view) result
             ≡ section_named (file_view self.now) name.now }
+        ensures first { IfOk result (λ found.
+            FindsSection (file_view self.now) name.now (option_map section_view found)) }
     {
         let Some(header) = self.header_named(name)? else {
             return Ok(None);
         };
         let bytes = self.contents(&header)?;
         Ok(Some(Section {
-            address: header.identity.sh_addr,
+            address: header.sh_addr,
             bytes,
         }))
     }
@@ -92,34 +90,59 @@ impl<'input> ElfFile<'input> {
     {
         let table = self.section_table()?;
         let names = self.section_names(table)?;
-        let headers = EndianSlice::new(table.bytes, self.identification.data);
-        first_named(self.identification.class, table.count, headers, names, name)
+        self.first_named(table, names, name)
     }
 
-    /// The table of section headers; an empty one where the file has none.
+    /// The first header of a table with this name.
+    fn first_named(
+        &self,
+        table: &'input [u8],
+        names: &[u8],
+        name: &[u8],
+    ) -> Result<Option<SectionHeader>, ElfError>
+        ensures { result ≡ first_by (is_named names.now name.now)
+            (section_headers (file_view self.now) table.now) }
+    {
+        for index in 0..table.len() {
+            let Some(header) = self.section_header_in(table, index) else {
+                return Ok(None);
+            };
+            if is_named(&header, names, name)? {
+                return Ok(Some(header));
+            }
+        }
+        Ok(None)
+    }
+
+    /// The section header at an index of a table, or `None` where it has fewer.
+    pub(crate) fn section_header_in(
+        &self,
+        table: &'input [u8],
+        index: usize,
+    ) -> Option<SectionHeader>
+        ensures { result ≡ slice_get (section_headers (file_view self.now) table.now) index }
+    {
+        let class = self.identification.class;
+        let bytes = entry(table, section_header_size(class), index)?;
+        Some(parse_section_header(class, self.fields(bytes)))
+    }
+
+    /// The bytes of the section headers; none where the file has none.
     #[tactic(auto, unfolding(crate::specs::Sections::section_table))]
-    pub(crate) fn section_table(&self) -> Result<Table<'input>, ElfError>
-        ensures { map_ok table_view result ≡ section_table (file_view self.now) }
+    pub(crate) fn section_table(&self) -> Result<&'input [u8], ElfError>
+        ensures { map_ok (λ table. table.now) result ≡ section_table (file_view self.now) }
     {
         let offset = self.header.offsets.e_shoff;
         if offset == 0 {
-            return Ok(Table {
-                count: 0,
-                bytes: &[],
-            });
+            return Ok(&[]);
         }
         let size = section_header_size(self.identification.class);
         if u64::from(self.header.sizes.e_shentsize) != size {
             return Err(ElfError::SectionEntrySize(self.header.sizes.e_shentsize));
         }
         let count = self.section_count()?;
-        table_at(
-            &self.image,
-            offset,
-            count,
-            size,
-            ElfError::SectionTableOutOfBounds,
-        )
+        let error = ElfError::SectionTableOutOfBounds;
+        self.image.table_at(offset, count, size, error)
     }
 
     /// Returns the number of sections, which section 0 has where the file header says 0. Fails
@@ -129,7 +152,7 @@ impl<'input> ElfFile<'input> {
         ensures { result ≡ section_count (file_view self.now) }
     {
         if self.header.sizes.e_shnum == 0 {
-            return Ok(self.first_section_header()?.place.sh_size);
+            return Ok(self.first_section_header()?.sh_size);
         }
         Ok(u64::from(self.header.sizes.e_shnum))
     }
@@ -144,28 +167,19 @@ impl<'input> ElfFile<'input> {
         let bytes = self
             .image
             .bytes_at(offset, size, ElfError::SectionTableOutOfBounds)?;
-        self.section_header_at(bytes, 0)
-    }
-
-    /// The section header at an offset of these bytes.
-    fn section_header_at(&self, bytes: &[u8], offset: u64) -> Result<SectionHeader, ElfError>
-        ensures { result ≡ section_header_at (file_view self.now) bytes.now offset }
-    {
-        let entry = bytes_from(bytes, offset);
-        let mut input = EndianSlice::new(entry, self.identification.data);
-        match read_section_header(self.identification.class, &mut input) {
-            Ok(header) => Ok(header),
-            Err(_) => Err(ElfError::SectionTableOutOfBounds),
+        match self.section_header_in(bytes, 0) {
+            Some(header) => Ok(header),
+            None => Err(ElfError::SectionTableOutOfBounds),
         }
     }
 
     /// The string table with the names of sections.
     #[tactic(auto, unfolding(crate::specs::Sections::section_names))]
-    fn section_names(&self, table: Table<'input>) -> Result<&'input [u8], ElfError>
+    fn section_names(&self, table: &'input [u8]) -> Result<&'input [u8], ElfError>
         ensures { map_ok (λ names. names.now) result
-            ≡ section_names (file_view self.now) (table_view table.entry) }
+            ≡ section_names (file_view self.now) table.now }
     {
-        if table.count == 0 {
+        if table.len() == 0 {
             return Ok(&[]);
         }
         let index = self.name_section()?;
@@ -179,7 +193,7 @@ impl<'input> ElfFile<'input> {
         ensures { result ≡ name_section (file_view self.now) }
     {
         if self.header.sizes.e_shstrndx == SHN_XINDEX {
-            return Ok(self.first_section_header()?.place.sh_link);
+            return Ok(self.first_section_header()?.sh_link);
         }
         Ok(u32::from(self.header.sizes.e_shstrndx))
     }
@@ -187,23 +201,17 @@ impl<'input> ElfFile<'input> {
     /// Returns the contents of the section with an index, a string table; nothing for index 0.
     /// Fails with `NoNameSection` where there is no such section, and where it can't be read.
     #[tactic(auto, unfolding(crate::specs::Sections::names_at))]
-    pub(crate) fn names_at(
-        &self,
-        table: Table<'input>,
-        index: u32,
-    ) -> Result<&'input [u8], ElfError>
+    pub(crate) fn names_at(&self, table: &'input [u8], index: u32) -> Result<&'input [u8], ElfError>
         ensures { map_ok (λ names. names.now) result
-            ≡ names_at (file_view self.now) (table_view table.entry) index }
+            ≡ names_at (file_view self.now) table.now index }
     {
         if index == SHN_UNDEF {
             return Ok(&[]);
         }
-        if u64::from(index) >= table.count {
-            return Err(ElfError::NoNameSection(index));
+        match self.section_header_in(table, index as usize) {
+            Some(header) => self.contents(&header),
+            None => Err(ElfError::NoNameSection(index)),
         }
-        let offset = offset_of(self.identification.class, index);
-        let header = self.section_header_at(table.bytes, offset)?;
-        self.contents(&header)
     }
 
     /// The address of a section, if the file has its bytes.
@@ -211,14 +219,14 @@ impl<'input> ElfFile<'input> {
     fn address_of(&self, header: &SectionHeader) -> Result<u64, ElfError>
         ensures { result ≡ address_of (file_view self.now) header.now }
     {
-        if header.identity.sh_type == SHT_NOBITS {
-            return Ok(header.identity.sh_addr);
+        if header.sh_type == SHT_NOBITS {
+            return Ok(header.sh_addr);
         }
-        if header.identity.sh_flags & SHF_COMPRESSED != 0 {
+        if header.sh_flags & SHF_COMPRESSED != 0 {
             return Err(ElfError::Compressed);
         }
-        if self.image.has(header.place.sh_offset, header.place.sh_size) {
-            Ok(header.identity.sh_addr)
+        if self.image.has(header.sh_offset, header.sh_size) {
+            Ok(header.sh_addr)
         } else {
             Err(ElfError::SectionOutOfBounds)
         }
@@ -230,46 +238,15 @@ impl<'input> ElfFile<'input> {
         ensures { map_ok (λ bytes. bytes.now) result
             ≡ contents (file_view self.now) header.now }
     {
-        if header.identity.sh_type == SHT_NOBITS {
+        if header.sh_type == SHT_NOBITS {
             return Ok(&[]);
         }
-        if header.identity.sh_flags & SHF_COMPRESSED != 0 {
+        if header.sh_flags & SHF_COMPRESSED != 0 {
             return Err(ElfError::Compressed);
         }
-        let place = &header.place;
-        self.image.bytes_at(place.sh_offset, place.sh_size, ElfError::SectionOutOfBounds)
+        let error = ElfError::SectionOutOfBounds;
+        self.image.bytes_at(header.sh_offset, header.sh_size, error)
     }
-}
-
-/// Where the section header of this index begins in the table.
-fn offset_of(class: Class, index: u32) -> u64
-    ensures { result ≡ index * section_header_size class }
-{
-    u64::from(index) * section_header_size(class)
-}
-
-/// The first of `count` section headers with this name.
-fn first_named<R: Reader>(
-    class: Class,
-    count: u64,
-    headers: R,
-    names: &[u8],
-    name: &[u8],
-) -> Result<Option<SectionHeader>, ElfError>
-    ensures { result ≡ first_named names.now name.now
-        (entries count (section_header class)
-        (R.position headers).source (R.position headers).place) }
-{
-    let mut headers = headers;
-    for index in 0..count {
-        let Ok(header) = read_section_header(class, &mut headers) else {
-            return Ok(None);
-        };
-        if is_named(&header, names, name)? {
-            return Ok(Some(header));
-        }
-    }
-    Ok(None)
 }
 
 /// Whether the section has this name.
@@ -278,10 +255,10 @@ fn is_named(header: &SectionHeader, names: &[u8], name: &[u8]) -> Result<bool, E
     ensures { result ≡ is_named names.now name.now header.now }
 {
     // The other members of such a header have no meaning.
-    if header.identity.sh_type == SHT_NULL {
+    if header.sh_type == SHT_NULL {
         return Ok(false);
     }
-    let found = name_at(names, header.identity.sh_name)?;
+    let found = name_at(names, header.sh_name)?;
     Ok(found == name)
 }
 
@@ -301,20 +278,4 @@ pub(crate) fn name_at(strings: &[u8], index: u32) -> Result<&[u8], ElfError>
         Some(name) => Ok(name),
         None => Err(ElfError::NameNotTerminated),
     }
-}
-
-/// The bytes before the first zero, or `None` where there is none.
-fn before_zero(bytes: &[u8]) -> Option<&[u8]>
-    ensures { option_map (λ found. found.now) result ≡ before_zero bytes.now }
-{
-    let length = first_zero(bytes)?;
-    Some(&bytes[..length])
-}
-
-/// The index of the first zero.
-fn first_zero(bytes: &[u8]) -> Option<usize>
-    ensures value { result ≡ position (λ x. x == 0) bytes.now }
-    ensures bound { IfSome result (λ index. index ≤ length bytes.now) }
-{
-    bytes.iter().position(|byte| *byte == 0)
 }

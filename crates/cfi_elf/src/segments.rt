@@ -1,23 +1,18 @@
 //! What a file has loaded at an address, and where its bytes are loaded, by its program headers
 //! (System V ABI chapter 5, "Program Header", "Program Loading").
-ghost use Rattle.std.specs.Prelude.{◌≡◌, find, option_map};
+ghost use Rattle.std.specs.Prelude.{◌≡◌, find, option_map, slice_get};
 ghost use Rattle.cfi_read_core.specs.ReaderCalls.{map_ok};
-ghost use Rattle.cfi_elf.specs.Results.{entries, table_view};
 ghost use Rattle.cfi_elf.specs.ElfFiles.{file_view};
-ghost use Rattle.cfi_elf.specs.ProgramHeaders.{program_header};
 ghost use Rattle.cfi_elf.specs.Sections.{section_view};
 ghost use Rattle.cfi_elf.specs.Segments.{address_of_offset, eh_frame_hdr_segment, is_code_at};
 ghost use Rattle.cfi_elf.specs.Segments.{is_loaded_at, is_wanted, loaded_address, loaded_bytes};
-ghost use Rattle.cfi_elf.specs.Segments.{page_offset, program_table, segment_bytes};
-ghost use Rattle.cfi_elf.specs.Segments.{segment_count, wanted_segment};
+ghost use Rattle.cfi_elf.specs.Segments.{page_offset, program_headers, program_table};
+ghost use Rattle.cfi_elf.specs.Segments.{segment_bytes, segment_count, wanted_segment};
 
-use crate::bytes::bytes_from;
+use crate::bytes::{bytes_from, entry};
 use crate::elf_file::{ElfFile, Section};
 use crate::error::ElfError;
-use crate::file_header::Class;
-use crate::program_header::{ProgramHeader, program_header_size, read_program_header};
-use crate::table::{Table, table_at};
-use cfi_read_core::{EndianSlice, Reader};
+use crate::program_header::{ProgramHeader, parse_program_header, program_header_size};
 
 const PN_XNUM: u16 = 0xffff;
 
@@ -58,7 +53,7 @@ impl<'input> ElfFile<'input> {
         };
         let bytes = self.segment_bytes(&header)?;
         Ok(Some(Section {
-            address: header.place.p_vaddr,
+            address: header.p_vaddr,
             bytes,
         }))
     }
@@ -80,7 +75,7 @@ impl<'input> ElfFile<'input> {
             return Ok(None);
         };
         let bytes = self.segment_bytes(&header)?;
-        Ok(Some(bytes_from(bytes, address.saturating_sub(header.place.p_vaddr))))
+        Ok(Some(bytes_from(bytes, address.saturating_sub(header.p_vaddr))))
     }
 
     /// The address at which the file's byte at this offset is loaded, by the first executable
@@ -109,21 +104,42 @@ impl<'input> ElfFile<'input> {
         ensures { result ≡ wanted_segment (file_view self.now) wanted }
     {
         let table = self.program_table()?;
-        let headers = EndianSlice::new(table.bytes, self.identification.data);
-        Ok(first_wanted(self.identification.class, table.count, headers, wanted))
+        Ok(self.first_wanted(table, wanted))
     }
 
-    /// The table of program headers; an empty one where the file has none.
+    /// The first header of a table that is wanted.
+    fn first_wanted(&self, table: &'input [u8], wanted: Wanted) -> Option<ProgramHeader>
+        ensures { result ≡ find (is_wanted wanted)
+            (program_headers (file_view self.now) table.now) }
+    {
+        for index in 0..table.len() {
+            let Some(header) = self.program_header_in(table, index) else {
+                return None;
+            };
+            if is_wanted(&header, wanted) {
+                return Some(header);
+            }
+        }
+        None
+    }
+
+    /// The program header at an index of a table, or `None` where it has fewer.
+    fn program_header_in(&self, table: &'input [u8], index: usize) -> Option<ProgramHeader>
+        ensures { result ≡ slice_get (program_headers (file_view self.now) table.now) index }
+    {
+        let class = self.identification.class;
+        let bytes = entry(table, program_header_size(class), index)?;
+        Some(parse_program_header(class, self.fields(bytes)))
+    }
+
+    /// The bytes of the program headers; none where the file has none.
     #[tactic(auto, unfolding(crate::specs::Segments::program_table))]
-    fn program_table(&self) -> Result<Table<'input>, ElfError>
-        ensures { map_ok table_view result ≡ program_table (file_view self.now) }
+    fn program_table(&self) -> Result<&'input [u8], ElfError>
+        ensures { map_ok (λ table. table.now) result ≡ program_table (file_view self.now) }
     {
         let offset = self.header.offsets.e_phoff;
         if offset == 0 {
-            return Ok(Table {
-                count: 0,
-                bytes: &[],
-            });
+            return Ok(&[]);
         }
         let size = program_header_size(self.identification.class);
         if u64::from(self.header.sizes.e_phentsize) != size {
@@ -131,7 +147,7 @@ impl<'input> ElfFile<'input> {
         }
         let count = self.segment_count()?;
         let error = ElfError::ProgramTableOutOfBounds;
-        table_at(&self.image, offset, u64::from(count), size, error)
+        self.image.table_at(offset, u64::from(count), size, error)
     }
 
     /// Returns the number of segments, which section 0 has where the file header has no room for
@@ -141,7 +157,7 @@ impl<'input> ElfFile<'input> {
         ensures { result ≡ segment_count (file_view self.now) }
     {
         if self.header.sizes.e_phnum == PN_XNUM && self.header.offsets.e_shoff != 0 {
-            return Ok(self.first_section_header()?.place.sh_info);
+            return Ok(self.first_section_header()?.sh_info);
         }
         Ok(u32::from(self.header.sizes.e_phnum))
     }
@@ -151,31 +167,9 @@ impl<'input> ElfFile<'input> {
         ensures { map_ok (λ bytes. bytes.now) result
             ≡ segment_bytes (file_view self.now) header.now }
     {
-        let place = &header.place;
-        self.image.bytes_at(place.p_offset, place.p_filesz, ElfError::SegmentOutOfBounds)
+        let error = ElfError::SegmentOutOfBounds;
+        self.image.bytes_at(header.p_offset, header.p_filesz, error)
     }
-}
-
-/// The first of `count` program headers that is wanted.
-fn first_wanted<R: Reader>(
-    class: Class,
-    count: u64,
-    headers: R,
-    wanted: Wanted,
-) -> Option<ProgramHeader>
-    ensures { result ≡ find (is_wanted wanted) (entries count (program_header class)
-        (R.position headers).source (R.position headers).place) }
-{
-    let mut headers = headers;
-    for index in 0..count {
-        let Ok(header) = read_program_header(class, &mut headers) else {
-            return None;
-        };
-        if is_wanted(&header, wanted) {
-            return Some(header);
-        }
-    }
-    None
 }
 
 /// Whether this segment is looked for.
@@ -193,35 +187,34 @@ fn is_wanted(header: &ProgramHeader, wanted: Wanted) -> bool
 fn is_loaded_at(header: &ProgramHeader, address: u64) -> bool
     ensures { result ≡ is_loaded_at address header.now }
 {
-    let place = &header.place;
-    header.p_type == PT_LOAD && place.p_vaddr <= address && address - place.p_vaddr < place.p_filesz
+    header.p_type == PT_LOAD
+        && header.p_vaddr <= address
+        && address - header.p_vaddr < header.p_filesz
 }
 
 /// Whether the byte at an offset is mapped with this segment, as code.
 fn is_code_at(header: &ProgramHeader, offset: u64) -> bool
     ensures { result ≡ is_code_at offset header.now }
 {
-    let place = &header.place;
     header.p_type == PT_LOAD
         && header.p_flags & PF_X != 0
         && page_offset(header) <= offset
-        && (offset < place.p_offset || offset - place.p_offset < place.p_filesz)
+        && (offset < header.p_offset || offset - header.p_offset < header.p_filesz)
 }
 
 /// The offset of the page that a segment begins in.
 fn page_offset(header: &ProgramHeader) -> u64
     ensures { result ≡ page_offset header.now }
 {
-    header.place.p_offset - header.place.p_offset % PAGE_SIZE
+    header.p_offset - header.p_offset % PAGE_SIZE
 }
 
 /// The address at which the byte at an offset is loaded, with this segment.
 fn loaded_address(header: &ProgramHeader, offset: u64) -> u64
     ensures { result ≡ loaded_address offset header.now }
 {
-    let place = &header.place;
-    place
+    header
         .p_vaddr
-        .wrapping_sub(place.p_offset)
+        .wrapping_sub(header.p_offset)
         .wrapping_add(offset)
 }

@@ -1,10 +1,10 @@
 //! Symbols of a symbol table (System V ABI chapter 4, "Symbol Table").
-ghost use Rattle.std.specs.Prelude.{◌≡◌};
-ghost use Rattle.cfi_read_core.specs.ReaderCalls.{ReadsValue};
-ghost use Rattle.cfi_elf.specs.Symbols.{symbol, symbol_32, symbol_64, symbol_size};
+ghost use Rattle.std.specs.Prelude.{◌≡◌, ◌<◌, ◌≤◌, length};
+ghost use Rattle.cfi_elf.specs.declared.file_header.Class.TheVariants.{Elf32, Elf64};
+ghost use Rattle.cfi_elf.specs.Headers.{symbol, symbol_bytes};
 
+use crate::bytes::Record;
 use crate::file_header::Class;
-use cfi_read_core::{Reader, Result};
 
 /// A symbol.
 #[derive(Clone, Copy, Debug, PartialEq, Eq)]
@@ -20,7 +20,8 @@ pub struct Symbol {
 /// The size of a symbol in bytes.
 #[inline(always)]
 pub(crate) fn symbol_size(class: Class) -> u64
-    ensures { result ≡ symbol_size class }
+    ensures value { result ≡ symbol_bytes class }
+    ensures some { 0 < result }
 {
     match class {
         Class::Elf32 => 16,
@@ -28,52 +29,44 @@ pub(crate) fn symbol_size(class: Class) -> u64
     }
 }
 
-/// Reads a symbol. Fails with `UnexpectedEof` where the input ends in it.
-pub(crate) fn read_symbol<R: Reader>(class: Class, input: &mut R) -> Result<Symbol>
-    ensures { ReadsValue R.position (symbol class) input.old result input.new }
+/// The symbol in these bytes.
+#[inline(always)]
+pub(crate) fn parse_symbol(class: Class, fields: Record<'_>) -> Symbol
+    requires { symbol_bytes class ≤ length fields.bytes.now }
+    ensures { result ≡ symbol class fields.entry.big_endian fields.entry.bytes.now }
 {
     match class {
-        Class::Elf32 => read_symbol_32(input),
-        Class::Elf64 => read_symbol_64(input),
+        Class::Elf32 => symbol_32(fields),
+        Class::Elf64 => symbol_64(fields),
     }
 }
 
-/// Reads a symbol of a file of 32 bits.
-#[tactic(auto, unfolding(crate::specs::Symbols::symbol_32))]
-fn read_symbol_32<R: Reader>(input: &mut R) -> Result<Symbol>
-    ensures { ReadsValue R.position symbol_32 input.old result input.new }
+/// That of a file of 32 bits.
+#[inline(always)]
+fn symbol_32(fields: Record<'_>) -> Symbol
+    requires { 16 ≤ length fields.bytes.now }
+    ensures { result ≡ symbol Elf32 fields.entry.big_endian fields.entry.bytes.now }
 {
-    let st_name = input.read_u32()?;
-    let st_value = u64::from(input.read_u32()?);
-    let st_size = u64::from(input.read_u32()?);
-    let st_info = input.read_u8()?;
-    let _st_other = input.read_u8()?;
-    let st_shndx = input.read_u16()?;
-    Ok(Symbol {
-        st_name,
-        st_value,
-        st_size,
-        st_info,
-        st_shndx,
-    })
+    Symbol {
+        st_name: fields.word(0),
+        st_value: u64::from(fields.word(4)),
+        st_size: u64::from(fields.word(8)),
+        st_info: fields.byte(12),
+        st_shndx: fields.half(14),
+    }
 }
 
-/// Reads a symbol of a file of 64 bits.
-#[tactic(auto, unfolding(crate::specs::Symbols::symbol_64))]
-fn read_symbol_64<R: Reader>(input: &mut R) -> Result<Symbol>
-    ensures { ReadsValue R.position symbol_64 input.old result input.new }
+/// That of a file of 64 bits.
+#[inline(always)]
+fn symbol_64(fields: Record<'_>) -> Symbol
+    requires { 24 ≤ length fields.bytes.now }
+    ensures { result ≡ symbol Elf64 fields.entry.big_endian fields.entry.bytes.now }
 {
-    let st_name = input.read_u32()?;
-    let st_info = input.read_u8()?;
-    let _st_other = input.read_u8()?;
-    let st_shndx = input.read_u16()?;
-    let st_value = input.read_u64()?;
-    let st_size = input.read_u64()?;
-    Ok(Symbol {
-        st_name,
-        st_value,
-        st_size,
-        st_info,
-        st_shndx,
-    })
+    Symbol {
+        st_name: fields.word(0),
+        st_value: fields.xword(8),
+        st_size: fields.xword(16),
+        st_info: fields.byte(4),
+        st_shndx: fields.half(6),
+    }
 }

@@ -1,23 +1,22 @@
 //! The symbols of a file, by their names and addresses (System V ABI chapter 4, "Symbol Table").
-ghost use Rattle.std.specs.Prelude.{◌≡◌, Err, IfErr, OnOk, find, option_map};
-ghost use Rattle.cfi_elf.specs.Images.{IsNotRead, IsRead};
+ghost use Rattle.std.specs.Prelude.{◌≡◌, Err, IfErr, OnOk, find, option_map, slice_get};
 ghost use Rattle.cfi_read_core.specs.ReaderCalls.{map_ok};
-ghost use Rattle.cfi_elf.specs.Results.{entries, first_by, table_view};
 ghost use Rattle.cfi_elf.specs.ElfFiles.{file_view};
-ghost use Rattle.cfi_elf.specs.SectionHeaders.{section_header};
-ghost use Rattle.cfi_elf.specs.Symbols.{is_function, is_function_at, symbol};
+ghost use Rattle.cfi_elf.specs.Images.{IsNotRead, IsRead};
+ghost use Rattle.cfi_elf.specs.Results.{first_by};
+ghost use Rattle.cfi_elf.specs.Sections.{section_headers};
+ghost use Rattle.cfi_elf.specs.Symbols.{is_function, is_function_at};
 ghost use Rattle.cfi_elf.specs.SymbolTables.{function_at, function_view, is_of_type};
 ghost use Rattle.cfi_elf.specs.SymbolTables.{is_symbol_named, symbol_address, symbol_section};
-ghost use Rattle.cfi_elf.specs.SymbolTables.{symbol_table, symbol_table_view, symbols_in};
+ghost use Rattle.cfi_elf.specs.SymbolTables.{symbol_table, symbol_table_view, symbols};
+ghost use Rattle.cfi_elf.specs.SymbolTables.{symbols_in, symbols_of_bytes};
 
+use crate::bytes::entry;
 use crate::elf_file::ElfFile;
 use crate::error::ElfError;
-use crate::file_header::Class;
-use crate::section_header::{SectionHeader, read_section_header};
+use crate::section_header::SectionHeader;
 use crate::sections::name_at;
-use crate::symbol::{Symbol, read_symbol, symbol_size};
-use crate::table::Table;
-use cfi_read_core::{EndianSlice, Reader};
+use crate::symbol::{Symbol, parse_symbol, symbol_size};
 
 const SHN_UNDEF: u16 = 0;
 
@@ -38,10 +37,10 @@ pub struct Function<'input> {
     pub size: u64,
 }
 
-/// The symbols of a file, and the string table with their names.
+/// The bytes of the symbols of a file, and the string table with their names.
 #[derive(Clone, Copy, Debug)]
 pub(crate) struct SymbolTable<'input> {
-    pub(crate) entries: Table<'input>,
+    pub(crate) bytes: &'input [u8],
     pub(crate) names: &'input [u8],
 }
 
@@ -56,9 +55,7 @@ impl<'input> ElfFile<'input> {
         ensures { result ≡ symbol_address (file_view self.now) name.now }
     {
         let table = self.symbol_table()?;
-        let entries = EndianSlice::new(table.entries.bytes, self.identification.data);
-        let class = self.identification.class;
-        match symbol_named(class, table.entries.count, entries, table.names, name)? {
+        match self.symbol_named(table, name)? {
             Some(symbol) => Ok(Some(symbol.st_value)),
             None => Ok(None),
         }
@@ -75,9 +72,7 @@ impl<'input> ElfFile<'input> {
             ≡ function_at (file_view self.now) address }
     {
         let table = self.symbol_table()?;
-        let entries = EndianSlice::new(table.entries.bytes, self.identification.data);
-        let class = self.identification.class;
-        let Some(symbol) = function_among(class, table.entries.count, entries, address) else {
+        let Some(symbol) = self.function_among(table, address) else {
             return Ok(None);
         };
         let name = name_at(table.names, symbol.st_name)?;
@@ -114,90 +109,97 @@ impl<'input> ElfFile<'input> {
         match self.symbol_section(table) {
             Some(header) => self.symbols_in(table, &header),
             None => Ok(SymbolTable {
-                entries: Table {
-                    count: 0,
-                    bytes: &[],
-                },
+                bytes: &[],
                 names: &[],
             }),
         }
     }
 
     /// The first section of type `SHT_SYMTAB`, or else of type `SHT_DYNSYM`.
-    fn symbol_section(&self, table: Table<'input>) -> Option<SectionHeader>
-        ensures { result ≡ symbol_section (file_view self.now) (table_view table.entry) }
+    fn symbol_section(&self, table: &'input [u8]) -> Option<SectionHeader>
+        ensures { result ≡ symbol_section (file_view self.now) table.now }
     {
-        let headers = EndianSlice::new(table.bytes, self.identification.data);
-        let class = self.identification.class;
-        if let Some(header) = first_of_type(class, table.count, headers, SHT_SYMTAB) {
+        if let Some(header) = self.first_of_type(table, SHT_SYMTAB) {
             return Some(header);
         }
-        first_of_type(class, table.count, headers, SHT_DYNSYM)
+        self.first_of_type(table, SHT_DYNSYM)
+    }
+
+    /// The first header of a table of this type.
+    fn first_of_type(&self, table: &'input [u8], sh_type: u32) -> Option<SectionHeader>
+        ensures { result ≡ find (is_of_type sh_type)
+            (section_headers (file_view self.now) table.now) }
+    {
+        for index in 0..table.len() {
+            let Some(header) = self.section_header_in(table, index) else {
+                return None;
+            };
+            if header.sh_type == sh_type {
+                return Some(header);
+            }
+        }
+        None
     }
 
     /// The symbols of a section.
     #[tactic(auto, unfolding(crate::specs::SymbolTables::symbols_in))]
     fn symbols_in(
         &self,
-        table: Table<'input>,
+        table: &'input [u8],
         header: &SectionHeader,
     ) -> Result<SymbolTable<'input>, ElfError>
         ensures { map_ok symbol_table_view result
-            ≡ symbols_in (file_view self.now) (table_view table.entry) header.now }
+            ≡ symbols_in (file_view self.now) table.now header.now }
     {
         let bytes = self.contents(header)?;
-        let names = self.names_at(table, header.place.sh_link)?;
-        let count = bytes.len() as u64 / symbol_size(self.identification.class);
-        Ok(SymbolTable {
-            entries: Table { count, bytes },
-            names,
-        })
+        let names = self.names_at(table, header.sh_link)?;
+        Ok(SymbolTable { bytes, names })
     }
-}
 
-/// The first of `count` section headers of this type.
-fn first_of_type<R: Reader>(
-    class: Class,
-    count: u64,
-    headers: R,
-    sh_type: u32,
-) -> Option<SectionHeader>
-    ensures { result ≡ find (is_of_type sh_type) (entries count (section_header class)
-        (R.position headers).source (R.position headers).place) }
-{
-    let mut headers = headers;
-    for index in 0..count {
-        let Ok(header) = read_section_header(class, &mut headers) else {
-            return None;
-        };
-        if header.identity.sh_type == sh_type {
-            return Some(header);
+    /// The first symbol that is defined and has this name.
+    fn symbol_named(
+        &self,
+        table: SymbolTable<'input>,
+        name: &[u8],
+    ) -> Result<Option<Symbol>, ElfError>
+        ensures { result ≡ first_by (is_symbol_named table.entry.names.now name.now)
+            (symbols (file_view self.now) (symbol_table_view table.entry)) }
+    {
+        for index in 0..table.bytes.len() {
+            let Some(symbol) = self.symbol_in(table.bytes, index) else {
+                return Ok(None);
+            };
+            if is_symbol_named(&symbol, table.names, name)? {
+                return Ok(Some(symbol));
+            }
         }
+        Ok(None)
     }
-    None
-}
 
-/// The first of `count` symbols that is defined and has this name.
-fn symbol_named<R: Reader>(
-    class: Class,
-    count: u64,
-    symbols: R,
-    names: &[u8],
-    name: &[u8],
-) -> Result<Option<Symbol>, ElfError>
-    ensures { result ≡ first_by (is_symbol_named names.now name.now) (entries count (symbol class)
-        (R.position symbols).source (R.position symbols).place) }
-{
-    let mut symbols = symbols;
-    for index in 0..count {
-        let Ok(symbol) = read_symbol(class, &mut symbols) else {
-            return Ok(None);
-        };
-        if is_symbol_named(&symbol, names, name)? {
-            return Ok(Some(symbol));
+    /// The first symbol that is a function with this address.
+    fn function_among(&self, table: SymbolTable<'input>, address: u64) -> Option<Symbol>
+        ensures { result ≡ find (is_function_at address)
+            (symbols (file_view self.now) (symbol_table_view table.entry)) }
+    {
+        for index in 0..table.bytes.len() {
+            let Some(symbol) = self.symbol_in(table.bytes, index) else {
+                return None;
+            };
+            if is_function_at(&symbol, address) {
+                return Some(symbol);
+            }
         }
+        None
     }
-    Ok(None)
+
+    /// The symbol at an index of a table, or `None` where it has fewer.
+    pub(crate) fn symbol_in(&self, table: &'input [u8], index: usize) -> Option<Symbol>
+        ensures { result ≡ slice_get (symbols_of_bytes (file_view self.now) table.now) index }
+    {
+        let class = self.identification.class;
+        let bytes = entry(table, symbol_size(class), index)?;
+        Some(parse_symbol(class, self.fields(bytes)))
+    }
 }
 
 /// Returns whether the symbol is defined and has this name. Fails where its name can't be read.
@@ -210,23 +212,6 @@ fn is_symbol_named(symbol: &Symbol, names: &[u8], name: &[u8]) -> Result<bool, E
     }
     let found = name_at(names, symbol.st_name)?;
     Ok(found == name)
-}
-
-/// The first of `count` symbols that is a function with this address.
-fn function_among<R: Reader>(class: Class, count: u64, symbols: R, address: u64) -> Option<Symbol>
-    ensures { result ≡ find (is_function_at address) (entries count (symbol class)
-        (R.position symbols).source (R.position symbols).place) }
-{
-    let mut symbols = symbols;
-    for index in 0..count {
-        let Ok(symbol) = read_symbol(class, &mut symbols) else {
-            return None;
-        };
-        if is_function_at(&symbol, address) {
-            return Some(symbol);
-        }
-    }
-    None
 }
 
 /// Returns whether the symbol is a defined function whose bytes have this address.

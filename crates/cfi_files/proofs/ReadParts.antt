@@ -6,7 +6,7 @@ use Rattle.std.proofs.lemmas.List.{length-replicate, take-append-drop}
 use Rattle.std.proofs.Math.Seq.{take-append-add, take-append_seam}
 use Rattle.cfi_elf.specs.declared.image.FilePart.{FilePart}
 use Rattle.cfi_elf.specs.Images.{ArePartsOf, Image, IsPartOf, Part, part_view, parts_view}
-use Rattle.cfi_elf.specs.Results.{part}
+use Rattle.cfi_elf.specs.Fields.{part}
 use Rattle.cfi_files.specs.FileOutputs.{AreLeft}
 use Rattle.cfi_files.specs.FileParts.{AreOfInput, IsLength, IsPartRead, are_apart, is_apart, is_free}
 use Rattle.cfi_files.proofs.Splices.{spliced, spliced_after, spliced_before, spliced_length, spliced_part}

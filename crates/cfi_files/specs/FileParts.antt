@@ -11,7 +11,7 @@ use Rattle.std.specs.Prelude.{length, Option, Some, IfOk, IfSome, nat_le}
 use Rattle.cfi_elf.specs.declared.error.ElfError.{ElfError}
 use Rattle.cfi_elf.specs.ElfFiles.{File, elf_file_of}
 use Rattle.cfi_elf.specs.Images.{Image, IsImageOf, IsNotRead, IsRead, Part, parts_view}
-use Rattle.cfi_elf.specs.Results.{part}
+use Rattle.cfi_elf.specs.Fields.{part}
 use Rattle.cfi_elf.specs.SymbolTables.{symbol_table}
 use Rattle.cfi_programs.specs.declared.input.InputError.{InputError}
 use Rattle.cfi_programs.specs.declared.input.InputError.TheVariants.{Unreadable, OutOfMemory}

@@ -1,0 +1,52 @@
+-- Bytes, and records of them whose fields have names.
+--     part bytes offset size      size bytes from an offset on, if there are so many
+--     before_zero bytes      the bytes before the first zero, if there is one
+--     number_at big bytes offset width      the number that so many bytes from an offset on are
+--     field big bytes fields name      the number in the field of this name
+--     entries size bytes      the records of one size in a table, as many as fit it whole
+use Rattle.std.specs.Prelude.{ℕ, ◌+◌, ◌*◌, ◌/◌, Bool, List, length, take, map, find, Option, Some}
+use Rattle.std.specs.Prelude.{None, option_map, position, nat_le, ◌==◌, bytes_eq, slice_range}
+use Rattle.std.specs.Prelude.{sum_by, if◌then◌else◌}
+use Rattle.std.specs.Int.{Width, byte_len}
+use Rattle.std.specs.List.{range_with_len}
+use Rattle.cfi_read_core.specs.Numbers.{number_of}
+
+abbrev pub part : List ℕ → ℕ → ℕ → Option (List ℕ)
+part bytes offset size =
+    if nat_le (offset + size) (length bytes)
+    then Some (slice_range bytes offset (offset + size))
+    else None
+
+abbrev pub before_zero : List ℕ → Option (List ℕ)
+before_zero bytes = option_map (λ n. take n bytes) (position (λ x. x == 0) bytes)
+
+-- ---- records
+
+-- Where a field is in its record: how many bytes are before it, and how many it has.
+pub record Field : Type 0 where
+  pub name : List ℕ
+  pub offset : ℕ
+  pub width : Width
+
+abbrev pub number_at : Bool → List ℕ → ℕ → Width → ℕ
+number_at big bytes offset width =
+    number_of width big (slice_range bytes offset (offset + byte_len width))
+
+abbrev pub number_in : Bool → List ℕ → Option Field → ℕ
+number_in big bytes None = 0
+number_in big bytes (Some f) = number_at big bytes f.offset f.width
+
+abbrev pub field : Bool → List ℕ → List Field → List ℕ → ℕ
+field big bytes fields name = number_in big bytes (find (λ f. bytes_eq f.name name) fields)
+
+-- the bytes of a record, which has nothing between its fields
+abbrev pub size_of : List Field → ℕ
+size_of fields = sum_by (λ f. byte_len f.width) fields
+
+-- ---- tables
+
+abbrev pub entry_at : ℕ → List ℕ → ℕ → List ℕ
+entry_at size bytes index = slice_range bytes (index * size) (index * size + size)
+
+abbrev pub entries : ℕ → List ℕ → List (List ℕ)
+entries size bytes = map (entry_at size bytes) (range_with_len 0 (length bytes / size))
