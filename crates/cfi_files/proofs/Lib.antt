@@ -1,4 +1,3 @@
-pub mod ReadWords
 pub mod Joined
 pub mod FoundParts
 pub mod WordLines

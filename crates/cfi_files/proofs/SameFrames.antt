@@ -6,8 +6,8 @@ use Rattle.cfi_elf.specs.Images.{IsImageOf}
 use Rattle.cfi_elf.specs.Sections.{Section}
 use Rattle.cfi_elf.proofs.SameResults.{Same, same_ok, same_then}
 use Rattle.cfi_elf.proofs.Images.{in_whole, same_debug_frame, same_eh_frame_hdr_segment, same_loaded_bytes, same_section_address, same_section_named}
-use Rattle.cfi_programs.specs.declared.words.Kind.TheVariants.{DebugFrame, EhFrame}
-use Rattle.cfi_files.specs.CallFrames.{by_name_or_segment, data_base, debug_frame_of, eh_frame_address, eh_frame_of, eh_frame_words, frames_by_header, frames_by_segment, if_there, loaded_frames, named_frames, or_else, with_header, words_of}
+use Rattle.gimli_cfi.specs.declared.source.SectionKind.TheVariants.{DebugFrame}
+use Rattle.cfi_files.specs.CallFrames.{by_name_or_segment, data_base, debug_frame_of, eh_frame_address, eh_frame_at, eh_frame_of, frames_by_header, frames_by_segment, if_there, loaded_at, loaded_frames, named_frames, or_else, section_in}
 
 same_or_else : (found : Option ℕ) (r r' : Result (Option ℕ) ElfError) → Same r r' → Same (or_else found r) (or_else found r')
 same_or_else (Some address) r r' same = same_ok (Some address)
@@ -34,16 +34,16 @@ module _ (file : File) (bytes : List ℕ) (of : IsImageOf file.image bytes) wher
       same_then (same_section_address file of (codes ".text")) (λ text.
       same_then same_base (λ base.
       same_then (same_section_named file of (codes ".eh_frame_hdr")) (λ header.
-      same_ok (with_header (eh_frame_words file section.address text base) section.bytes header))))
+      same_ok (eh_frame_at file section text base header))))
 
   same_loaded : (header : Section) (address : ℕ) → Same (loaded_frames file header address) (loaded_frames all header address)
   same_loaded header address =
       same_then (same_loaded_bytes file of address) (λ loaded.
-      same_ok (option_map (λ (found : List ℕ). with_header (eh_frame_words file address None None) found (Some header)) loaded))
+      same_ok (option_map (loaded_at file header address) loaded))
 
   same_by_header : (header : Section) → Same (frames_by_header file header) (frames_by_header all header)
   unfolding frames_by_header
-  same_by_header header = same_there (eh_frame_address (words_of file EhFrame) header) _ _ (same_loaded header)
+  same_by_header header = same_there (eh_frame_address file header) _ _ (same_loaded header)
 
   same_by_segment : Same (frames_by_segment file) (frames_by_segment all)
   unfolding frames_by_segment
@@ -61,4 +61,4 @@ module _ (file : File) (bytes : List ℕ) (of : IsImageOf file.image bytes) wher
   unfolding debug_frame_of
   same_debug =
       same_then (same_debug_frame file of) (λ found.
-      same_ok (option_map (λ (section : Section). record { words = words_of file DebugFrame; section = section.bytes; header = [] }) found))
+      same_ok (option_map (λ (section : Section). section_in file DebugFrame section.bytes) found))

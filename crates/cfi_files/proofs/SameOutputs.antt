@@ -13,12 +13,13 @@ use Rattle.cfi_programs.specs.Lines.{Line}
 use Rattle.cfi_programs.specs.Words.{number, texts}
 use Rattle.cfi_programs.specs.declared.register_names.RegisterNames.{RegisterNames}
 use Rattle.cfi_programs.specs.declared.style.Style.{Style}
+use Rattle.gimli_cfi.specs.SectionSources.{GivenSection}
 use Rattle.cfi_files.specs.declared.request.Printed.{Printed}
 use Rattle.cfi_files.specs.declared.request.Printed.TheVariants.{Row, Rows, Dump, Table}
 use Rattle.cfi_files.specs.declared.sections.SectionPrinted.{SectionPrinted}
 use Rattle.cfi_files.specs.declared.sections.SectionPrinted.TheVariants.{Compiled, Listed}
 use Rattle.cfi_programs.specs.declared.dump.printed.Printed.TheVariants.{Entries, Rows as AllRows}
-use Rattle.cfi_files.specs.CallFrames.{Frames, debug_frame_of, eh_frame_of}
+use Rattle.cfi_files.specs.CallFrames.{debug_frame_of, eh_frame_of}
 use Rattle.cfi_files.specs.FileLines.{out_of_memory}
 use Rattle.cfi_files.specs.FileParts.{needs_symbols}
 use Rattle.cfi_files.specs.FileOutputs.{AreFdeRows, AreParts, AreRows, AreRowsAt, AreSections, IsNamed, styled}
@@ -38,8 +39,8 @@ module _ (file : File) (image : Image) where
 
   pub same_sections : HasSameFrames → (names : RegisterNames) (what : SectionPrinted) (line : Line) → AreSections names what file line → AreSections names what other line
   same_sections (eh, debug) names what line are =
-      subst (λ (d : Result (Option Frames) ElfError). AreParts names what (result_transpose (eh_frame_of other)) (result_transpose d) line) debug
-      (subst (λ (e : Result (Option Frames) ElfError). AreParts names what (result_transpose e) (result_transpose (debug_frame_of file)) line) eh are)
+      subst (λ (d : Result (Option GivenSection) ElfError). AreParts names what (result_transpose (eh_frame_of other)) (result_transpose d) line) debug
+      (subst (λ (e : Result (Option GivenSection) ElfError). AreParts names what (result_transpose e) (result_transpose (debug_frame_of file)) line) eh are)
 
   -- ---- symbols
 
@@ -96,8 +97,8 @@ module _ (file : File) (image : Image) where
 
   same_row : HasSameFrames → (style : Style) (address : ℕ) (line : Line) → IsRowOfFile style file address line → IsRowOfFile style other address line
   same_row (eh, debug) style address line is =
-      subst (λ (d : Result (Option Frames) ElfError). IsRowLine style (result_transpose (eh_frame_of other)) (result_transpose d) address line ⊎ (line ≡ out_of_memory style.format)) debug
-      (subst (λ (e : Result (Option Frames) ElfError). IsRowLine style (result_transpose e) (result_transpose (debug_frame_of file)) address line ⊎ (line ≡ out_of_memory style.format)) eh is)
+      subst (λ (d : Result (Option GivenSection) ElfError). IsRowLine style (result_transpose (eh_frame_of other)) (result_transpose d) address line ⊎ (line ≡ out_of_memory style.format)) debug
+      (subst (λ (e : Result (Option GivenSection) ElfError). IsRowLine style (result_transpose e) (result_transpose (debug_frame_of file)) address line ⊎ (line ≡ out_of_memory style.format)) eh is)
 
   same_word : HasSameFrames → (style : Style) (target : Result (Option ℕ) ElfError) (line : Line) → IsWordLine style file target line → IsWordLine style other target line
   same_word frames style (Ok (Some address)) line is = same_row frames style address line is

@@ -8,9 +8,9 @@ use Rattle.cfi_elf.proofs.FileImages.{file_found, file_refused}
 use Rattle.cfi_elf.proofs.Images.{in_whole, same_symbol_table}
 use Rattle.cfi_programs.specs.Lines.{Line}
 use Rattle.cfi_programs.specs.declared.style.Format.{Format}
+use Rattle.gimli_cfi.specs.SectionSources.{GivenSection}
 use Rattle.cfi_files.specs.declared.finding.Finding.{Finding}
 use Rattle.cfi_files.specs.declared.request.Request.{Request}
-use Rattle.cfi_files.specs.CallFrames.{Frames}
 use Rattle.cfi_files.specs.FileLines.{PrintsSome}
 use Rattle.cfi_files.specs.FileOutputs.{ChecksInput, IsCheck, IsCheckOfParsed, IsOfParsed, PrintsOwed}
 use Rattle.cfi_files.specs.FileParts.{HasAll, IsEnoughOf, needs_symbols}
@@ -25,7 +25,7 @@ output_of request bytes file of (eh, debug, symbols) line is =
 
 check_of : (format : Format) (bytes : List ℕ) (file : File) (symbols : Bool) → IsImageOf file.image bytes → HasAll symbols file → (finding : Finding) (line : Line) → IsCheckOfParsed format (Ok file) finding line → IsCheckOfParsed format (Ok (in_whole bytes file)) finding line
 check_of format bytes file symbols of (eh, debug, others) finding line is =
-    subst (λ (found : Result (Option Frames) ElfError). IsCheck format (result_transpose found) finding line) ((same_eh_frame file bytes of).same eh) is
+    subst (λ (found : Result (Option GivenSection) ElfError). IsCheck format (result_transpose found) finding line) ((same_eh_frame file bytes of).same eh) is
 
 output_by : (request : Request) (image : Image) (bytes : List ℕ) → IsImageOf image bytes → IsRead (elf_file_of image) → (r : Result File ElfError) → elf_file_of image ≡ r → IfOk r (HasAll (needs_symbols request.printed)) → (line : Line) →
     IsOfParsed request r line → IsOfParsed request (elf_file bytes) line

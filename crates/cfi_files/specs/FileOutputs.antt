@@ -18,9 +18,10 @@ use Rattle.cfi_read_core.specs.RefusalNames.{name_of}
 use Rattle.cfi_read_core.specs.declared.error.Error.TheVariants.{OutOfMemory}
 use Rattle.cfi_elf.specs.FunctionNames.{function_name, name_in}
 use Rattle.cfi_entry.specs.Sections.{Section}
+use Rattle.gimli_cfi.specs.EhFrameHdr.{HeaderSection}
+use Rattle.gimli_cfi.specs.SectionSources.{GivenSection, given_header, given_section}
 use Rattle.cfi_programs.specs.Lines.{Line}
 use Rattle.cfi_programs.specs.Words.{texts}
-use Rattle.cfi_programs.specs.SectionOfWords.{header_section_of, section_of}
 use Rattle.cfi_programs.specs.declared.check.table_check.Verdict.{Verdict}
 use Rattle.cfi_programs.specs.CheckVerdicts.{IsVerdict}
 use Rattle.cfi_programs.specs.CheckLines.{verdict_line}
@@ -38,7 +39,6 @@ use Rattle.cfi_files.specs.declared.finding.Finding.TheVariants.{NoTable, Unread
 use Rattle.cfi_files.specs.Findings.{ChecksSome, finding_of, found_line}
 use Rattle.cfi_files.specs.declared.sections.SectionPrinted.{SectionPrinted}
 use Rattle.cfi_files.specs.declared.sections.SectionPrinted.TheVariants as sections
-use Rattle.cfi_files.specs.CallFrames.{Frames}
 use Rattle.cfi_files.specs.CompiledTexts.{IsCompiledText}
 use Rattle.cfi_files.specs.FileLines.{IsUnder, InTurn, PrintsSome, elf_refusal, file_label}
 use Rattle.cfi_files.specs.FileLines.{no_address, no_call_frames, out_of_memory, section_line}
@@ -61,15 +61,15 @@ IsOfSection names (sections.Listed what) section printed = IsPrinted names what 
 IsOfSection names sections.Compiled section printed = IsCompiledText names section printed
 
 -- what is printed of a section
-abbrev pub IsPart : RegisterNames → SectionPrinted → Result Frames ElfError → Line → Type 0
+abbrev pub IsPart : RegisterNames → SectionPrinted → Result GivenSection ElfError → Line → Type 0
 IsPart names what (Ok frames) printed =
-    IsOfSection names what (section_of frames.words frames.section) printed
+    IsOfSection names what (given_section frames) printed
 IsPart names what (Err e) printed = printed ≡ elf_refusal (section_format what) e
 
 -- that of .eh_frame and of .debug_frame, where there are both each under a line with its name
 abbrev pub AreParts :
-    RegisterNames → SectionPrinted → Option (Result Frames ElfError) →
-    Option (Result Frames ElfError) → Line → Type 0
+    RegisterNames → SectionPrinted → Option (Result GivenSection ElfError) →
+    Option (Result GivenSection ElfError) → Line → Type 0
 AreParts names what None None printed = printed ≡ no_call_frames (section_format what)
 AreParts names what (Some eh_frame) None printed = IsPart names what eh_frame printed
 AreParts names what None (Some debug_frame) printed = IsPart names what debug_frame printed
@@ -87,12 +87,10 @@ AreSections names what file printed =
 
 -- ---- whether the header's table is faithful
 
--- by the header at this address
-abbrev pub IsVerdictOf : Format → Frames → ℕ → Finding → Line → Type 0
-IsVerdictOf format frames address finding printed =
-    (verdict : Verdict)
-    × IsVerdict (section_of frames.words frames.section)
-    (header_section_of frames.words address frames.header) verdict
+-- on a header
+abbrev pub IsVerdictOn : Format → GivenSection → HeaderSection → Finding → Line → Type 0
+IsVerdictOn format frames header finding printed =
+    (verdict : Verdict) × IsVerdict (given_section frames) header verdict
     × (finding ≡ finding_of verdict) × (printed ≡ verdict_line format verdict)
 
 -- without a verdict, for a reason
@@ -103,17 +101,18 @@ IsFound format what reason finding printed =
 abbrev pub refused : List ℕ → List ℕ
 refused name = codes "refused " ++ name
 
-abbrev pub IsVerdictIn : Format → Frames → Option ℕ → Finding → Line → Type 0
+abbrev pub IsVerdictIn :
+    Format → GivenSection → Option HeaderSection → Finding → Line → Type 0
 IsVerdictIn format frames None finding printed =
     IsFound format NoTable (codes "no header") finding printed
-IsVerdictIn format frames (Some address) finding printed =
-    IsVerdictOf format frames address finding printed
+IsVerdictIn format frames (Some header) finding printed =
+    IsVerdictOn format frames header finding printed
 
-abbrev pub IsCheck : Format → Option (Result Frames ElfError) → Finding → Line → Type 0
+abbrev pub IsCheck : Format → Option (Result GivenSection ElfError) → Finding → Line → Type 0
 IsCheck format None finding printed =
     IsFound format NoTable (codes "no call frames") finding printed
 IsCheck format (Some (Ok frames)) finding printed =
-    IsVerdictIn format frames frames.words.header finding printed
+    IsVerdictIn format frames (given_header frames) finding printed
 IsCheck format (Some (Err e)) finding printed =
     IsFound format NoTable (refused (name_of_elf e)) finding printed
 

@@ -1,30 +1,19 @@
 //! The sections of call frames in an ELF file, with what the headers of the file say of each.
-ghost use Rattle.std.specs.Prelude.{◌≡◌, IfOk, IfSome, option_map};
-ghost use Rattle.cfi_read_core.specs.Addresses.{IsAddressSize};
+ghost use Rattle.std.specs.Prelude.{◌≡◌, option_map};
+ghost use Rattle.cfi_read_core.specs.AddressSizes.{size_in_bytes};
 ghost use Rattle.cfi_read_core.specs.ReaderCalls.{map_ok};
-ghost use Rattle.cfi_elf.specs.ElfFiles.{file_view};
+ghost use Rattle.gimli_cfi.specs.SectionSources.{source_view};
+ghost use Rattle.cfi_elf.specs.ElfFiles.{address_size_of, class_of_file, file_view};
 ghost use Rattle.cfi_elf.specs.Sections.{section_view};
-ghost use Rattle.cfi_programs.specs.Words.{AreRead};
-ghost use Rattle.cfi_files.specs.CallFrames.{data_base, debug_frame_of};
-ghost use Rattle.cfi_files.specs.CallFrames.{eh_frame_address, eh_frame_of, eh_frame_words};
-ghost use Rattle.cfi_files.specs.CallFrames.{frames_by_header, frames_by_segment};
-ghost use Rattle.cfi_files.specs.CallFrames.{frames_view, named_frames, with_header, words_of};
+ghost use Rattle.cfi_files.specs.CallFrames.{bases_at, data_base, debug_frame_of};
+ghost use Rattle.cfi_files.specs.CallFrames.{eh_frame_address, eh_frame_at, eh_frame_of};
+ghost use Rattle.cfi_files.specs.CallFrames.{frames_by_header, frames_by_segment, named_frames};
+ghost use Rattle.cfi_files.specs.CallFrames.{section_in};
 
 use cfi_elf::{ElfError, ElfFile, Section};
-use cfi_programs::words::{Kind, SectionWords};
-use gimli_cfi::EhFrameHdr;
-
-/// A section of call frames, with what the headers of its file say of it. The bytes are part of the
-/// file.
-#[derive(Clone, Copy)]
-pub struct CallFrames<'file> {
-    /// The section's kind, byte order, address size and vendor, and its addresses.
-    pub words: SectionWords,
-    /// The bytes of the section.
-    pub section: &'file [u8],
-    /// The bytes of the header of `.eh_frame`; none where `words.header` is `None`.
-    pub header: &'file [u8],
-}
+use gimli_cfi::{
+    AddressSize, BaseAddresses, EhFrameHdr, SectionBaseAddresses, SectionKind, SectionSource,
+};
 
 /// The section `.eh_frame`, with its address, the bases of text and of data, and its header.
 /// Returns `None` where the file has no such section.
@@ -39,9 +28,8 @@ pub struct CallFrames<'file> {
 /// `ElfFile::loaded_bytes` where no section has the name. Does not allocate (LSB Core, "Exception
 /// Frames").
 #[tactic(auto, unfolding(crate::specs::CallFrames::eh_frame_of))]
-pub fn eh_frame<'file>(file: &ElfFile<'file>) -> Result<Option<CallFrames<'file>>, ElfError>
-    ensures frames { map_ok (option_map frames_view) result ≡ eh_frame_of (file_view file.now) }
-    ensures read { IfOk result (λ found. IfSome found (λ frames. AreRead frames.words)) }
+pub fn eh_frame<'file>(file: &ElfFile<'file>) -> Result<Option<SectionSource<'file>>, ElfError>
+    ensures { map_ok (option_map source_view) result ≡ eh_frame_of (file_view file.now) }
 {
     match file.section(b".eh_frame")? {
         Some(section) => Ok(Some(named_frames(file, section)?)),
@@ -55,51 +43,61 @@ pub fn eh_frame<'file>(file: &ElfFile<'file>) -> Result<Option<CallFrames<'file>
 /// Fails as `ElfFile::debug_frame`, so with `Compressed` for a compressed section. Does not
 /// allocate (DWARF 5 section 6.4).
 #[tactic(auto, unfolding(crate::specs::CallFrames::debug_frame_of))]
-pub fn debug_frame<'file>(file: &ElfFile<'file>) -> Result<Option<CallFrames<'file>>, ElfError>
-    ensures frames { map_ok (option_map frames_view) result
-        ≡ debug_frame_of (file_view file.now) }
-    ensures read { IfOk result (λ found. IfSome found (λ frames. AreRead frames.words)) }
+pub fn debug_frame<'file>(file: &ElfFile<'file>) -> Result<Option<SectionSource<'file>>, ElfError>
+    ensures { map_ok (option_map source_view) result ≡ debug_frame_of (file_view file.now) }
 {
     match file.debug_frame()? {
-        Some(section) => Ok(Some(CallFrames {
-            words: words_of(file, Kind::DebugFrame),
-            section: section.bytes,
-            header: &[],
-        })),
+        Some(section) => Ok(Some(section_in(file, SectionKind::DebugFrame, section.bytes))),
         None => Ok(None),
     }
 }
 
-/// What the file's header says of a section: its addresses are not set.
-fn words_of(file: &ElfFile<'_>, kind: Kind) -> SectionWords
-    ensures { result ≡ words_of (file_view file.now) kind }
+/// A section of these bytes, as the file's header says of all. It has no bases and no header.
+fn section_in<'file>(
+    file: &ElfFile<'file>,
+    kind: SectionKind,
+    bytes: &'file [u8],
+) -> SectionSource<'file>
+    ensures { source_view result ≡ section_in (file_view file.now) kind bytes.now }
 {
-    SectionWords {
+    SectionSource {
         kind,
         endian: file.endian(),
-        address_size: file.address_size(),
-        section: None,
-        text: None,
-        data_base: None,
+        address_size: address_size(file),
         vendor: file.vendor(),
+        bases: bases_at(None, None, None, None),
+        bytes,
         header: None,
     }
 }
 
-/// What is said of `.eh_frame` at an address, with its bases.
-fn eh_frame_words(
-    file: &ElfFile<'_>,
-    address: u64,
+/// The size of an address.
+fn address_size(file: &ElfFile<'_>) -> AddressSize
+    ensures { size_in_bytes result ≡ address_size_of (class_of_file (file_view file.now)) }
+{
+    AddressSize::new(file.address_size())
+}
+
+/// The bases of a section, and of its header, by the addresses of both.
+fn bases_at(
+    section: Option<u64>,
     text: Option<u64>,
     data_base: Option<u64>,
-) -> SectionWords
-    ensures { result ≡ eh_frame_words (file_view file.now) address text data_base }
+    header: Option<u64>,
+) -> BaseAddresses
+    ensures { result ≡ bases_at section text data_base header }
 {
-    SectionWords {
-        section: Some(address),
-        text,
-        data_base,
-        ..words_of(file, Kind::EhFrame)
+    BaseAddresses {
+        eh_frame_hdr: SectionBaseAddresses {
+            section: header,
+            text,
+            data_base: header,
+        },
+        eh_frame: SectionBaseAddresses {
+            section,
+            text,
+            data_base,
+        },
     }
 }
 
@@ -108,15 +106,14 @@ fn eh_frame_words(
 fn named_frames<'file>(
     file: &ElfFile<'file>,
     section: Section<'file>,
-) -> Result<CallFrames<'file>, ElfError>
-    ensures { map_ok frames_view result
+) -> Result<SectionSource<'file>, ElfError>
+    ensures { map_ok source_view result
         ≡ named_frames (file_view file.now) (section_view section.entry) }
 {
     let text = file.section_address(b".text")?;
     let data_base = data_base(file)?;
     let header = file.section(b".eh_frame_hdr")?;
-    let words = eh_frame_words(file, section.address, text, data_base);
-    Ok(with_header(words, section.bytes, header))
+    Ok(eh_frame_at(file, section, text, data_base, header))
 }
 
 /// The base of data.
@@ -130,36 +127,35 @@ fn data_base(file: &ElfFile<'_>) -> Result<Option<u64>, ElfError>
     }
 }
 
-/// The call frames of these words and bytes, with their header if there is one.
-fn with_header<'file>(
-    words: SectionWords,
-    section: &'file [u8],
+/// `.eh_frame`, at its address and with these bases, with its header if there is one.
+fn eh_frame_at<'file>(
+    file: &ElfFile<'file>,
+    section: Section<'file>,
+    text: Option<u64>,
+    data_base: Option<u64>,
     header: Option<Section<'file>>,
-) -> CallFrames<'file>
-    ensures { frames_view result
-        ≡ with_header words section.now (option_map section_view header.entry) }
+) -> SectionSource<'file>
+    ensures { source_view result ≡ eh_frame_at (file_view file.now) (section_view section.entry)
+        text data_base (option_map section_view header.entry) }
 {
+    let frames = section_in(file, SectionKind::EhFrame, section.bytes);
     match header {
-        Some(header) => CallFrames {
-            words: SectionWords {
-                header: Some(header.address),
-                ..words
-            },
-            section,
-            header: header.bytes,
+        Some(header) => SectionSource {
+            bases: bases_at(Some(section.address), text, data_base, Some(header.address)),
+            header: Some(header.bytes),
+            ..frames
         },
-        None => CallFrames {
-            words,
-            section,
-            header: &[],
+        None => SectionSource {
+            bases: bases_at(Some(section.address), text, data_base, None),
+            ..frames
         },
     }
 }
 
 /// `.eh_frame`, found by the segment of its header.
 #[tactic(auto, unfolding(crate::specs::CallFrames::frames_by_segment))]
-fn frames_by_segment<'file>(file: &ElfFile<'file>) -> Result<Option<CallFrames<'file>>, ElfError>
-    ensures { map_ok (option_map frames_view) result ≡ frames_by_segment (file_view file.now) }
+fn frames_by_segment<'file>(file: &ElfFile<'file>) -> Result<Option<SectionSource<'file>>, ElfError>
+    ensures { map_ok (option_map source_view) result ≡ frames_by_segment (file_view file.now) }
 {
     match file.eh_frame_hdr_segment()? {
         Some(header) => frames_by_header(file, header),
@@ -172,31 +168,29 @@ fn frames_by_segment<'file>(file: &ElfFile<'file>) -> Result<Option<CallFrames<'
 fn frames_by_header<'file>(
     file: &ElfFile<'file>,
     header: Section<'file>,
-) -> Result<Option<CallFrames<'file>>, ElfError>
-    ensures { map_ok (option_map frames_view) result
+) -> Result<Option<SectionSource<'file>>, ElfError>
+    ensures { map_ok (option_map source_view) result
         ≡ frames_by_header (file_view file.now) (section_view header.entry) }
 {
-    let Some(address) = eh_frame_address(words_of(file, Kind::EhFrame), header) else {
+    let Some(address) = eh_frame_address(file, header) else {
         return Ok(None);
     };
-    let words = eh_frame_words(file, address, None, None);
     match file.loaded_bytes(address)? {
-        Some(bytes) => Ok(Some(with_header(words, bytes, Some(header)))),
+        Some(bytes) => {
+            let section = Section { address, bytes };
+            Ok(Some(eh_frame_at(file, section, None, None, Some(header))))
+        }
         None => Ok(None),
     }
 }
 
 /// The address to which a header points. `None` where it can't be parsed, or its pointer is
 /// indirect.
-fn eh_frame_address(words: SectionWords, header: Section<'_>) -> Option<u64>
-    requires { IsAddressSize words.address_size }
-    ensures { result ≡ eh_frame_address words (section_view header.entry) }
+fn eh_frame_address(file: &ElfFile<'_>, header: Section<'_>) -> Option<u64>
+    ensures { result ≡ eh_frame_address (file_view file.now) (section_view header.entry) }
 {
-    let words = SectionWords {
-        header: Some(header.address),
-        ..words
-    };
-    let section = EhFrameHdr::new(header.bytes, words.endian);
-    let parsed = section.parse(&words.bases(), words.address_size).ok()?;
+    let bases = bases_at(None, None, None, Some(header.address));
+    let section = EhFrameHdr::new(header.bytes, file.endian());
+    let parsed = section.parse(&bases, address_size(file).bytes()).ok()?;
     parsed.eh_frame_ptr().direct().ok()
 }

@@ -2,14 +2,13 @@
 ghost use Rattle.std.specs.Prelude.{◌≡◌, ◌≤◌, ℕ, None, Ok};
 ghost use Rattle.std.specs.FinMap as map;
 ghost use Rattle.cfi_entry.specs.Sections.{section_of};
+ghost use Rattle.gimli_cfi.specs.SectionSources.{given_section, source_view};
 ghost use Rattle.cfi_compiled.specs.CompiledRows.{parts_kept};
 ghost use Rattle.cfi_compiled.specs.CompiledTables.{steps_of};
 ghost use Rattle.cfi_compiled.specs.FrameParts.{parts_of_frame};
 ghost use Rattle.cfi_compiled.specs.TableSteps.{step_view};
 ghost use Rattle.cfi_programs.specs.DumpProgramOutput.{text_output};
 ghost use Rattle.cfi_programs.specs.Lines.{Line};
-ghost use Rattle.cfi_programs.specs.SectionOfWords.{section_of as section_of_words};
-ghost use Rattle.cfi_programs.specs.Words.{AreRead};
 ghost use Rattle.cfi_programs.specs.WriterOutput.{Prints, Writes};
 ghost use Rattle.cfi_files.specs.CompiledTexts.{IsCompiledText, error_text, step_text};
 ghost use Rattle.cfi_files.specs.CompiledTexts.{steps_text};
@@ -19,17 +18,15 @@ use cfi_programs::lines::{Address, write_part, write_refusal, write_text};
 use cfi_programs::register_names::RegisterNames;
 use cfi_programs::row_line::{HasRules, number_behind, push_frame, write_by_number};
 use cfi_programs::text::{Text, push, push_address};
-use cfi_programs::words::{Kind, SectionWords};
 use gimli_cfi::{
-    _UnwindSectionPrivate, BaseAddresses, DebugFrame, EhFrame, EndianSlice, Error, Reader,
-    Register, RegisterRule, UnwindSection,
+    BaseAddresses, CallFrameSection, Error, Reader, Register, RegisterRule, SectionSource,
+    UnwindSection,
 };
 use std::alloc::Global;
 use std::io;
 use std::io::Write;
 
-/// Prints the rows for all addresses, by the compiled table of the section that these bytes are, of
-/// the kind and at the addresses that the words give, and returns the status.
+/// Prints the rows for all addresses, by the compiled table of the section, and returns the status.
 ///
 /// Status 0: the steps of the table are printed, as `write_steps` says. Status 1: `refused
 /// OutOfMemory`. Fails where the output can't be written.
@@ -38,28 +35,18 @@ use std::io::Write;
 pub fn print_compiled<W: Write>(
     alloc: Global,
     names: RegisterNames,
-    words: &SectionWords,
-    bytes: &[u8],
+    source: &SectionSource<'_>,
     output: &mut W,
 ) -> io::Result<u8>
-    requires { AreRead words.now }
     ensures { (line : Line) × Prints line (W.contents output.old) (W.contents output.new) result
-        × IsCompiledText names (section_of_words words.now bytes.now) line }
+        × IsCompiledText names (given_section (source_view source.now)) line }
 {
-    let reader = EndianSlice::new(bytes, words.endian);
-    let bases = words.bases();
-    match words.kind {
-        Kind::DebugFrame => {
-            let mut frame = DebugFrame::from(reader);
-            frame.set_address_size(words.address_size);
-            frame.set_vendor(words.vendor);
-            print_table(alloc, names, &frame, &bases, output)
+    match source.section() {
+        CallFrameSection::DebugFrame(frame) => {
+            print_table(alloc, names, &frame, &source.bases, output)
         }
-        Kind::EhFrame => {
-            let mut frame = EhFrame::from(reader);
-            frame.set_address_size(words.address_size);
-            frame.set_vendor(words.vendor);
-            print_table(alloc, names, &frame, &bases, output)
+        CallFrameSection::EhFrame(frame) => {
+            print_table(alloc, names, &frame, &source.bases, output)
         }
     }
 }

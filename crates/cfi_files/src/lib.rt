@@ -17,7 +17,7 @@ mod sections;
 mod table_check;
 pub mod target;
 
-pub use call_frames::{CallFrames, debug_frame, eh_frame};
+pub use call_frames::{debug_frame, eh_frame};
 pub use finding::Finding;
 pub use input::FileInput;
 pub use request::{Printed, Request};

@@ -1,26 +1,23 @@
 //! The rows for the addresses that words name in a file.
-ghost use Rattle.std.specs.Prelude.{IfOk};
 ghost use Rattle.cfi_elf.specs.ElfFiles.{file_view};
 ghost use Rattle.cfi_read_core.specs.ReaderCalls.{map_ok};
-ghost use Rattle.cfi_programs.specs.Words.{AreRead, texts};
-ghost use Rattle.cfi_files.specs.CallFrames.{frames_view};
+ghost use Rattle.gimli_cfi.specs.SectionSources.{given_header, source_view};
+ghost use Rattle.cfi_programs.specs.Words.{texts};
 ghost use Rattle.cfi_files.specs.FileLines.{PrintsSome};
-ghost use Rattle.cfi_files.specs.Found.{AreSectionsOf, HasReadWords, part_view};
+ghost use Rattle.cfi_files.specs.Found.{AreSectionsOf, part_view};
 ghost use Rattle.cfi_files.specs.RowOutputs.{AreWordLines, IsPartRow, IsRowByTableOrScan};
 ghost use Rattle.cfi_files.specs.RowOutputs.{IsRowLine, IsRowOr, IsWordLine};
 ghost use Rattle.cfi_files.specs.RowOutputs.{OtherwiseIn};
 ghost use Rattle.cfi_files.specs.Targets.{target_address};
 
-use crate::call_frames::CallFrames;
 use crate::lines::{write_elf_refusal, write_no_address, write_no_call_frames};
 use crate::sections::{debug_frame_part, eh_frame_part};
 use crate::target::target_address;
 use cfi_elf::{ElfError, ElfFile};
 use cfi_programs::lines::write_refusal_in;
 use cfi_programs::row_line::write_answer;
-use cfi_programs::rows::row_lookup::{find_by_header, find_by_scan};
 use cfi_programs::style::Style;
-use gimli_cfi::{Error, UnwindContext};
+use gimli_cfi::{Error, SectionSource, UnwindContext};
 use std::alloc::Global;
 use std::io;
 use std::io::Write;
@@ -29,9 +26,9 @@ use std::io::Write;
 #[derive(Clone, Copy)]
 pub struct FrameSections<'file> {
     /// The section `.eh_frame`.
-    pub eh_frame: Option<Result<CallFrames<'file>, ElfError>>,
+    pub eh_frame: Option<Result<SectionSource<'file>, ElfError>>,
     /// The section `.debug_frame`.
-    pub debug_frame: Option<Result<CallFrames<'file>, ElfError>>,
+    pub debug_frame: Option<Result<SectionSource<'file>, ElfError>>,
 }
 
 /// Prints a line for each word: the row for the address that it names, `no address` where it names
@@ -93,8 +90,6 @@ fn print_row<W: Write>(
     context: &mut UnwindContext<usize>,
     output: &mut W,
 ) -> io::Result<u8>
-    requires eh_frame { HasReadWords sections.now.eh_frame }
-    requires debug_frame { HasReadWords sections.now.debug_frame }
     ensures { PrintsSome (λ line. IsRowLine style (part_view sections.now.eh_frame)
         (part_view sections.now.debug_frame) address line)
         (W.contents output.old) (W.contents output.new) result }
@@ -121,23 +116,20 @@ fn print_row<W: Write>(
 /// and else by a scan.
 fn print_eh_frame_row<W: Write>(
     style: Style,
-    frames: &CallFrames<'_>,
-    debug_frame: Option<Result<CallFrames<'_>, ElfError>>,
+    frames: &SectionSource<'_>,
+    debug_frame: Option<Result<SectionSource<'_>, ElfError>>,
     address: u64,
     context: &mut UnwindContext<usize>,
     output: &mut W,
 ) -> io::Result<u8>
-    requires eh_frame { AreRead frames.now.words }
-    requires debug_frame { HasReadWords debug_frame }
-    ensures { PrintsSome (λ line. IsRowByTableOrScan style (frames_view frames.now)
-        frames.now.words.header (part_view debug_frame.entry) address line)
+    ensures { PrintsSome (λ line. IsRowByTableOrScan style (source_view frames.now)
+        (given_header (source_view frames.now)) (part_view debug_frame.entry) address line)
         (W.contents output.old) (W.contents output.new) result }
 {
-    let Some(base) = frames.words.header else {
+    let Some(_) = frames.header() else {
         return print_scanned_row(style, frames, debug_frame, address, context, output);
     };
-    let (section, header) = (frames.section, frames.header);
-    match find_by_header(&frames.words, base, section, header, address, context) {
+    match frames.row(context, address) {
         Ok(row) => write_answer(output, style, Ok(row)),
         Err(_) => print_scanned_row(style, frames, debug_frame, address, context, output),
     }
@@ -146,19 +138,17 @@ fn print_eh_frame_row<W: Write>(
 /// Prints the row in `.eh_frame` by a scan, or the one in `.debug_frame` where there is none.
 fn print_scanned_row<W: Write>(
     style: Style,
-    frames: &CallFrames<'_>,
-    debug_frame: Option<Result<CallFrames<'_>, ElfError>>,
+    frames: &SectionSource<'_>,
+    debug_frame: Option<Result<SectionSource<'_>, ElfError>>,
     address: u64,
     context: &mut UnwindContext<usize>,
     output: &mut W,
 ) -> io::Result<u8>
-    requires eh_frame { AreRead frames.now.words }
-    requires debug_frame { HasReadWords debug_frame }
-    ensures { PrintsSome (λ line. IsRowOr style (frames_view frames.now)
+    ensures { PrintsSome (λ line. IsRowOr style (source_view frames.now)
         (part_view debug_frame.entry) address line)
         (W.contents output.old) (W.contents output.new) result }
 {
-    match find_by_scan(&frames.words, frames.section, address, context) {
+    match frames.row_by_scan(context, address) {
         Ok(row) => write_answer(output, style, Ok(row)),
         Err(error) => print_otherwise(style, debug_frame, error, address, context, output),
     }
@@ -168,13 +158,12 @@ fn print_scanned_row<W: Write>(
 /// has the address.
 fn print_otherwise<W: Write>(
     style: Style,
-    debug_frame: Option<Result<CallFrames<'_>, ElfError>>,
+    debug_frame: Option<Result<SectionSource<'_>, ElfError>>,
     error: Error,
     address: u64,
     context: &mut UnwindContext<usize>,
     output: &mut W,
 ) -> io::Result<u8>
-    requires { HasReadWords debug_frame }
     ensures { PrintsSome (λ line. OtherwiseIn style (part_view debug_frame.entry)
         error address line) (W.contents output.old) (W.contents output.new) result }
 {
@@ -190,18 +179,17 @@ fn print_otherwise<W: Write>(
 /// Prints the row in `.debug_frame` by a scan, or the error in the place of the section.
 fn print_part_row<W: Write>(
     style: Style,
-    part: Result<CallFrames<'_>, ElfError>,
+    part: Result<SectionSource<'_>, ElfError>,
     address: u64,
     context: &mut UnwindContext<usize>,
     output: &mut W,
 ) -> io::Result<u8>
-    requires { IfOk part (λ frames. AreRead frames.words) }
-    ensures { PrintsSome (λ line. IsPartRow style (map_ok frames_view part.entry) address line)
+    ensures { PrintsSome (λ line. IsPartRow style (map_ok source_view part.entry) address line)
         (W.contents output.old) (W.contents output.new) result }
 {
     match part {
         Ok(frames) => {
-            let row = find_by_scan(&frames.words, frames.section, address, context);
+            let row = frames.row_by_scan(context, address);
             write_answer(output, style, row)
         }
         Err(error) => write_elf_refusal(output, style.format, error),

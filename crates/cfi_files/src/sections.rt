@@ -1,30 +1,28 @@
 //! What is printed of each section of a file.
-ghost use Rattle.std.specs.Prelude.{◌≡◌, IfOk};
+ghost use Rattle.std.specs.Prelude.{◌≡◌};
 ghost use Rattle.cfi_read_core.specs.ReaderCalls.{map_ok};
+ghost use Rattle.gimli_cfi.specs.SectionSources.{given_section, source_view};
 ghost use Rattle.cfi_elf.specs.ElfFiles.{file_view};
 ghost use Rattle.cfi_programs.specs.Lines.{Line};
-ghost use Rattle.cfi_programs.specs.SectionOfWords.{section_of};
-ghost use Rattle.cfi_programs.specs.Words.{AreRead};
 ghost use Rattle.cfi_programs.specs.WriterOutput.{Prints};
-ghost use Rattle.cfi_files.specs.CallFrames.{frames_view};
 ghost use Rattle.cfi_files.specs.FileLines.{InTurn, IsUnder, PrintsSome, section_line};
 ghost use Rattle.cfi_files.specs.FileOutputs.{AreFdeRows, AreNamedRows, AreNamesOf, AreParts};
 ghost use Rattle.cfi_files.specs.FileOutputs.{AreRows, AreRowsAt, AreSections, IsOfSection};
 ghost use Rattle.cfi_files.specs.FileOutputs.{IsPart, section_format};
-ghost use Rattle.cfi_files.specs.Found.{HasReadWords, debug_frame_in, eh_frame_in, part_view};
+ghost use Rattle.cfi_files.specs.Found.{debug_frame_in, eh_frame_in, part_view};
 ghost use Rattle.cfi_files.specs.Targets.{target_address};
 
-use crate::call_frames::{CallFrames, debug_frame, eh_frame};
+use crate::call_frames::{debug_frame, eh_frame};
 use crate::compiled::print_compiled;
 use crate::lines::{write_elf_refusal, write_no_address, write_no_call_frames, write_section_name};
 use crate::target::target_address;
 use cfi_elf::{ElfError, ElfFile, FunctionNames};
-use cfi_programs::dump::print::print_bytes;
+use cfi_programs::dump::print::print_source;
 use cfi_programs::dump::{AskedRows, Printed};
 use cfi_programs::lines::write_refusal_in;
 use cfi_programs::register_names::RegisterNames;
 use cfi_programs::style::{Format, Style};
-use gimli_cfi::Error;
+use gimli_cfi::{Error, SectionSource};
 use std::alloc::Global;
 use std::io;
 use std::io::Write;
@@ -51,18 +49,18 @@ impl SectionPrinted<'_> {
 }
 
 /// The section `.eh_frame`, or the error in its place; `None` where the file has no such section.
-pub fn eh_frame_part<'file>(file: &ElfFile<'file>) -> Option<Result<CallFrames<'file>, ElfError>>
-    ensures frames { part_view result ≡ eh_frame_in (file_view file.now) }
-    ensures read { HasReadWords result }
+pub fn eh_frame_part<'file>(file: &ElfFile<'file>) -> Option<Result<SectionSource<'file>, ElfError>>
+    ensures { part_view result ≡ eh_frame_in (file_view file.now) }
 {
     eh_frame(file).transpose()
 }
 
 /// The section `.debug_frame`, or the error in its place; `None` where the file has no such
 /// section.
-pub fn debug_frame_part<'file>(file: &ElfFile<'file>) -> Option<Result<CallFrames<'file>, ElfError>>
-    ensures frames { part_view result ≡ debug_frame_in (file_view file.now) }
-    ensures read { HasReadWords result }
+pub fn debug_frame_part<'file>(
+    file: &ElfFile<'file>,
+) -> Option<Result<SectionSource<'file>, ElfError>>
+    ensures { part_view result ≡ debug_frame_in (file_view file.now) }
 {
     debug_frame(file).transpose()
 }
@@ -175,15 +173,13 @@ fn print_both<W: Write>(
     alloc: Global,
     names: RegisterNames,
     printed: SectionPrinted<'_>,
-    eh_frame: Result<CallFrames<'_>, ElfError>,
-    debug_frame: Result<CallFrames<'_>, ElfError>,
+    eh_frame: Result<SectionSource<'_>, ElfError>,
+    debug_frame: Result<SectionSource<'_>, ElfError>,
     output: &mut W,
 ) -> io::Result<u8>
-    requires eh_frame { IfOk eh_frame (λ frames. AreRead frames.words) }
-    requires debug_frame { IfOk debug_frame (λ frames. AreRead frames.words) }
     ensures { PrintsSome (λ line. AreParts names printed.entry
-        (Some (map_ok frames_view eh_frame.entry))
-        (Some (map_ok frames_view debug_frame.entry)) line)
+        (Some (map_ok source_view eh_frame.entry))
+        (Some (map_ok source_view debug_frame.entry)) line)
         (W.contents output.old) (W.contents output.new) result }
 {
     let first = print_under(alloc, names, b".eh_frame", printed, eh_frame, output)?;
@@ -197,12 +193,11 @@ fn print_under<W: Write>(
     names: RegisterNames,
     name: &[u8],
     printed: SectionPrinted<'_>,
-    part: Result<CallFrames<'_>, ElfError>,
+    part: Result<SectionSource<'_>, ElfError>,
     output: &mut W,
 ) -> io::Result<u8>
-    requires { IfOk part (λ frames. AreRead frames.words) }
     ensures { PrintsSome (λ line. IsUnder (section_line (section_format printed.entry) name.now)
-        (λ body. IsPart names printed.entry (map_ok frames_view part.entry) body) line)
+        (λ body. IsPart names printed.entry (map_ok source_view part.entry) body) line)
         (W.contents output.old) (W.contents output.new) result }
 {
     write_section_name(output, printed.format(), name)?;
@@ -214,11 +209,10 @@ fn print_part<W: Write>(
     alloc: Global,
     names: RegisterNames,
     printed: SectionPrinted<'_>,
-    part: Result<CallFrames<'_>, ElfError>,
+    part: Result<SectionSource<'_>, ElfError>,
     output: &mut W,
 ) -> io::Result<u8>
-    requires { IfOk part (λ frames. AreRead frames.words) }
-    ensures { PrintsSome (λ line. IsPart names printed.entry (map_ok frames_view part.entry) line)
+    ensures { PrintsSome (λ line. IsPart names printed.entry (map_ok source_view part.entry) line)
         (W.contents output.old) (W.contents output.new) result }
 {
     match part {
@@ -232,20 +226,14 @@ fn print_section<W: Write>(
     alloc: Global,
     names: RegisterNames,
     printed: SectionPrinted<'_>,
-    frames: &CallFrames<'_>,
+    frames: &SectionSource<'_>,
     output: &mut W,
 ) -> io::Result<u8>
-    requires { AreRead frames.now.words }
     ensures { (line : Line) × Prints line (W.contents output.old) (W.contents output.new) result
-        × IsOfSection names printed.entry
-        (section_of frames.now.words frames.now.section.now) line }
+        × IsOfSection names printed.entry (given_section (source_view frames.now)) line }
 {
     match printed {
-        SectionPrinted::Listed(printed) => {
-            print_bytes(alloc, names, printed, &frames.words, frames.section, output)
-        }
-        SectionPrinted::Compiled => {
-            print_compiled(alloc, names, &frames.words, frames.section, output)
-        }
+        SectionPrinted::Listed(printed) => print_source(alloc, names, printed, frames, output),
+        SectionPrinted::Compiled => print_compiled(alloc, names, frames, output),
     }
 }

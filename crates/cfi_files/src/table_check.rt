@@ -1,18 +1,17 @@
 //! Whether the table of a file's header lists the FDEs of `.eh_frame` faithfully.
 ghost use Rattle.cfi_elf.specs.ElfFiles.{file_view};
-ghost use Rattle.cfi_programs.specs.Words.{AreRead};
-ghost use Rattle.cfi_files.specs.CallFrames.{frames_view};
+ghost use Rattle.gimli_cfi.specs.SectionSources.{given_header, source_view};
 ghost use Rattle.cfi_files.specs.FileOutputs.{IsCheck, IsVerdictIn};
 ghost use Rattle.cfi_files.specs.Findings.{ChecksSome};
 ghost use Rattle.cfi_files.specs.Found.{eh_frame_in};
 
-use crate::call_frames::CallFrames;
 use crate::finding::{Finding, finding_of, found, write_found};
 use crate::sections::eh_frame_part;
 use cfi_elf::ElfFile;
 use cfi_programs::check::output_line::write_verdict;
 use cfi_programs::check::table_check::check;
 use cfi_programs::style::Format;
+use gimli_cfi::SectionSource;
 use std::io;
 use std::io::Write;
 
@@ -39,19 +38,17 @@ pub fn check_table<W: Write>(
 
 /// Prints the verdict on the table of these call frames.
 fn check_frames<W: Write>(
-    frames: &CallFrames<'_>,
+    frames: &SectionSource<'_>,
     format: Format,
     output: &mut W,
 ) -> io::Result<Finding>
-    requires { AreRead frames.now.words }
     ensures { ChecksSome
-        (λ finding line. IsVerdictIn format (frames_view frames.now) frames.now.words.header
-        finding line)
+        (λ finding line. IsVerdictIn format (source_view frames.now)
+        (given_header (source_view frames.now)) finding line)
         (W.contents output.old) (W.contents output.new) result }
 {
-    let Some(address) = frames.words.header else {
-        return write_found(output, format, Finding::NoTable, "no header", "");
-    };
-    let verdict = check(&frames.words, address, frames.section, frames.header);
-    found(finding_of(verdict), write_verdict(output, format, verdict))
+    match check(frames) {
+        None => write_found(output, format, Finding::NoTable, "no header", ""),
+        Some(verdict) => found(finding_of(verdict), write_verdict(output, format, verdict)),
+    }
 }

@@ -6,13 +6,10 @@ pub mod RunLemmas
 mod Printed
 pub mod RowLineLemmas
 mod KeptRulesLemmas
-pub mod SectionLemmas
-pub mod SectionWordsLemmas
 pub mod WordLemmas
 pub mod WrittenLemmas
 mod RowsPrinted
 mod RegistersNamed
-pub mod RowsRequestLemmas
 pub mod RowsCommandLineLemmas
 pub mod RowsAnswerLemmas
 mod RowsOnHeap

@@ -5,7 +5,7 @@ use Rattle.cfi_state.specs.declared.table.rules.RegisterRule.{RegisterRule}
 use Rattle.cfi_state.specs.declared.table.rules.RegisterRule.TheVariants as rules
 use Rattle.cfi_read_core.specs.declared.common.Vendor.TheVariants as vendors
 use Rattle.cfi_read_core.specs.declared.endianity.RunTimeEndian.TheVariants.{Little, Big}
-use Rattle.cfi_programs.specs.declared.words.Kind.TheVariants.{DebugFrame, EhFrame}
+use Rattle.gimli_cfi.specs.declared.source.SectionKind.TheVariants.{DebugFrame, EhFrame}
 use Rattle.cfi_programs.specs.declared.rows.command_line.Storage.TheVariants.{OnHeap, Growing}
 use Rattle.std.specs.FinMap as map
 use Rattle.cfi_state.specs.declared.table.rules.CfaRule.{CfaRule}
@@ -21,7 +21,7 @@ plain_words : request_of (codes "debug_frame" ∷ codes "le" ∷ codes "8" ∷ c
   words = record {
     kind = DebugFrame;
     endian = Little;
-    address_size = 8;
+    address_size = record { bytes = 8; sized = refl };
     section = None;
     text = None;
     data_base = None;
@@ -38,7 +38,7 @@ all_words : request_of (codes "eh_frame" ∷ codes "be" ∷ codes "4" ∷ codes 
   words = record {
     kind = EhFrame;
     endian = Big;
-    address_size = 4;
+    address_size = record { bytes = 4; sized = refl };
     section = Some 1;
     text = Some 2;
     data_base = Some 3;

@@ -1,7 +1,8 @@
 -- What is right to say of a section and its header.
-use Rattle.std.specs.Prelude.{◌≡◌, Some, None, Ok, Err}
+use Rattle.std.specs.Prelude.{◌≡◌, Option, Some, None, Ok, Err}
 use Rattle.cfi_entry.specs.Sections.{Section}
 use Rattle.gimli_cfi.specs.EhFrameHdr.{Header, HeaderSection, header_of}
+use Rattle.gimli_cfi.specs.SectionSources.{GivenSection, given_header, given_section}
 use Rattle.gimli_cfi.specs.TableCheck.{IsReason, Listing, ListsFaithfully}
 use Rattle.cfi_programs.specs.declared.check.table_check.Verdict.{Verdict}
 use Rattle.cfi_programs.specs.declared.check.table_check.Verdict.TheVariants.{Faithful, Unfaithful}
@@ -28,3 +29,12 @@ IsVerdict section header (Unfaithful reason) =
 IsVerdict section header NoTable =
     (read : Header) × (header_of header ≡ Ok read) × (read.table ≡ None)
 IsVerdict section header (Refused error) = header_of header ≡ Err error
+
+-- there is none where there is no header
+abbrev pub IsVerdictIf : Section → Option HeaderSection → Option Verdict → Type 0
+IsVerdictIf section None verdict = verdict ≡ None
+IsVerdictIf section (Some header) None = ⊥
+IsVerdictIf section (Some header) (Some verdict) = IsVerdict section header verdict
+
+abbrev pub IsVerdictOf : GivenSection → Option Verdict → Type 0
+IsVerdictOf given verdict = IsVerdictIf (given_section given) (given_header given) verdict

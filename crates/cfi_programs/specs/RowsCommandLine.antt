@@ -3,7 +3,7 @@ use Rattle.std.specs.Prelude.{ℕ, Option, Some, None, List, ◌∷◌, codes, i
 use Rattle.std.specs.Option.{option_and_then, option_map}
 use Rattle.std.specs.Str.{bytes_eq}
 use Rattle.cfi_programs.specs.Words as sections
-use Rattle.cfi_programs.specs.Words.{◌>>=◌, AreRead, each_word, number, section_word}
+use Rattle.cfi_programs.specs.Words.{◌>>=◌, each_word, number, section_word}
 use Rattle.cfi_programs.specs.declared.rows.command_line.Storage.{Storage}
 use Rattle.cfi_programs.specs.declared.rows.command_line.Storage.TheVariants.{OnHeap, Growing}
 use Rattle.cfi_programs.specs.declared.rows.command_line.Request.{Request}
@@ -39,7 +39,3 @@ unfoldable pub request_of : List (List ℕ) → Option Request
 request_of (kind ∷ order ∷ size ∷ address ∷ options) =
     option_and_then (option_words options) (first_words kind order size address)
 request_of words = None
-
--- What holds of each request that is asked for.
-abbrev pub CanBeAnswered : Request → Type 0
-CanBeAnswered request = AreRead request.words

@@ -2,18 +2,14 @@
 use Rattle.std.specs.Prelude.{◌≡◌, ℕ, Bool, true, false, Option, Some, None, Result}
 use Rattle.cfi_read_core.specs.declared.error.Error.{Error}
 use Rattle.cfi_state.specs.Row.{Row}
-use Rattle.cfi_entry.specs.Fdes.{Fde}
-use Rattle.cfi_unwind.specs.Scan.{chosen_fde}
-use Rattle.gimli_cfi.specs.EhFrameHdr.{header_of}
-use Rattle.gimli_cfi.specs.RowsByHeader.{FoundByHeader}
-use Rattle.cfi_unwind.specs.AddressRow.{IsRowOfFound}
+use Rattle.gimli_cfi.specs.SectionSources.{IsGivenRow}
 use Rattle.cfi_programs.specs.declared.rows.command_line.Storage.{Storage}
 use Rattle.cfi_programs.specs.declared.rows.command_line.Storage.TheVariants.{OnHeap, Growing}
 use Rattle.cfi_programs.specs.declared.rows.command_line.Request.{Request}
 use Rattle.cfi_programs.specs.RowsCommandLine.{request_of}
 use Rattle.cfi_programs.specs.Input.{Bytes, bytes_by}
 use Rattle.cfi_programs.specs.Runs.{Tool}
-use Rattle.cfi_programs.specs.SectionOfWords.{header_section_of, section_of}
+use Rattle.cfi_programs.specs.SectionOfWords.{given_by}
 use Rattle.cfi_programs.specs.AnswerLines.{answer_line, text_style}
 use Rattle.cfi_programs.specs.declared.register_names.RegisterNames.TheVariants.{Numbers}
 
@@ -34,26 +30,13 @@ room_of Growing = room None None false
 
 -- ---- the answer
 
--- the FDE for the address, or the refusal in its place; the base is that of the header, where there
--- is one
-abbrev pub FoundByBase : Request → Bytes → Option ℕ → Result Fde Error → Type 0
-FoundByBase request bytes None found =
-    found ≡ chosen_fde (section_of request.words bytes.section) request.address
-FoundByBase request bytes (Some base) found =
-    FoundByHeader (section_of request.words bytes.section) request.address
-    (header_section_of request.words base bytes.header)
-    (header_of (header_section_of request.words base bytes.header)) found
-
--- What may be answered to a request: the row of the FDE that is found, or the first refusal on the
--- way. Only an instruction that may allocate may be refused for lack of it; where the room is fixed
--- none is.
-pub record IsAnswer (room : Room) (request : Request) (bytes : Bytes)
-    (answer : Result (Row ℕ) Error) : Type 0 where
-  pub found : Result Fde Error
-  pub finds : FoundByBase request bytes request.words.header found
-  pub answers :
-      IsRowOfFound room.rule_limit room.stack_limit room.copies_free
-      (section_of request.words bytes.section) request.address found answer
+-- What may be answered to a request: the row for the address in the section, by the table of the
+-- header where there is one, or the first refusal on the way. Only an instruction that may allocate
+-- may be refused for lack of it; where the room is fixed none is.
+abbrev pub IsAnswer : Room → Request → Bytes → Result (Row ℕ) Error → Type 0
+IsAnswer room request bytes answer =
+    IsGivenRow room.rule_limit room.stack_limit room.copies_free
+    (given_by request.words bytes.section bytes.header) request.address answer
 
 -- ---- the line
 

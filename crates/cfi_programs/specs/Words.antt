@@ -1,19 +1,19 @@
 -- The words of the command line that say of what kind a section is, and where it lies.
-use Rattle.std.specs.Prelude.{◌≡◌, ℕ, ◌^◌, Bool, ◌&&◌, Option, Some, None, List, [], ◌∷◌, length}
+use Rattle.std.specs.Prelude.{refl, ℕ, ◌^◌, Bool, ◌&&◌, Option, Some, None, List, [], ◌∷◌, length}
 use Rattle.std.specs.Prelude.{take, drop, map, nat_le, nat_lt, codes, if◌then◌else◌}
 use Rattle.std.specs.Borrow.{Bor}
 use Rattle.std.specs.Char.{is_ascii_digit, is_ascii_hexdigit}
 use Rattle.std.specs.List.{list_all}
-use Rattle.std.specs.Option.{option_and_then, option_map, IsSome}
+use Rattle.std.specs.Option.{option_and_then, option_map}
 use Rattle.std.specs.Str.{bytes_eq}
 use Rattle.std.specs.Str.Parse.{digits_value}
-use Rattle.cfi_read_core.specs.Addresses.{IsAddressSize}
+use Rattle.cfi_read_core.specs.declared.address.AddressSize.{AddressSize}
 use Rattle.cfi_read_core.specs.declared.common.Vendor.{Vendor}
 use Rattle.cfi_read_core.specs.declared.common.Vendor.TheVariants as vendors
 use Rattle.cfi_read_core.specs.declared.endianity.RunTimeEndian.{RunTimeEndian}
 use Rattle.cfi_read_core.specs.declared.endianity.RunTimeEndian.TheVariants.{Little, Big}
-use Rattle.cfi_programs.specs.declared.words.Kind.{Kind}
-use Rattle.cfi_programs.specs.declared.words.Kind.TheVariants.{DebugFrame, EhFrame}
+use Rattle.gimli_cfi.specs.declared.source.SectionKind.{SectionKind}
+use Rattle.gimli_cfi.specs.declared.source.SectionKind.TheVariants.{DebugFrame, EhFrame}
 use Rattle.cfi_programs.specs.declared.words.SectionWords.{SectionWords}
 
 -- ---- texts
@@ -85,7 +85,7 @@ set_data_base words digits =
     (once_given words.data_base (number digits))
 
 -- only .eh_frame has a header
-abbrev pub set_header : SectionWords → List ℕ → Kind → Option SectionWords
+abbrev pub set_header : SectionWords → List ℕ → SectionKind → Option SectionWords
 set_header words digits DebugFrame = None
 set_header words digits EhFrame =
     option_map (λ n. record words { header = Some n }) (once_given words.header (number digits))
@@ -111,7 +111,7 @@ each_word read (word ∷ words) value = option_and_then (each_word read words) (
 
 -- ---- the first words
 
-abbrev pub kind_of : List ℕ → Option Kind
+abbrev pub kind_of : List ℕ → Option SectionKind
 kind_of word =
     if bytes_eq word (codes "debug_frame") then Some DebugFrame
     else if bytes_eq word (codes "eh_frame") then Some EhFrame else None
@@ -121,12 +121,12 @@ order_of word =
     if bytes_eq word (codes "le") then Some Little
     else if bytes_eq word (codes "be") then Some Big else None
 
-abbrev pub size_of : List ℕ → Option ℕ
+abbrev pub size_of : List ℕ → Option AddressSize
 size_of word =
-    if bytes_eq word (codes "1") then Some 1
-    else if bytes_eq word (codes "2") then Some 2
-    else if bytes_eq word (codes "4") then Some 4
-    else if bytes_eq word (codes "8") then Some 8
+    if bytes_eq word (codes "1") then Some (record { bytes = 1; sized = refl })
+    else if bytes_eq word (codes "2") then Some (record { bytes = 2; sized = refl })
+    else if bytes_eq word (codes "4") then Some (record { bytes = 4; sized = refl })
+    else if bytes_eq word (codes "8") then Some (record { bytes = 8; sized = refl })
     else None
 
 infixl 10 ◌>>=◌
@@ -148,8 +148,3 @@ first_words kind order size = do
     vendor = vendors.Default;
     header = None;
   })
-
--- What holds of the words of each section: the size of an address is known, and only .eh_frame has
--- a header.
-abbrev pub AreRead : SectionWords → Type 0
-AreRead words = IsAddressSize words.address_size × (IsSome words.header → words.kind ≡ EhFrame)

@@ -8,30 +8,26 @@ ghost use Rattle.cfi_programs.specs.Words.{first_words, kind_of, order_of, size_
 ghost use Rattle.cfi_programs.specs.Words.{once_given, section_word};
 ghost use Rattle.cfi_programs.specs.Words.{set_data_base, set_header, set_section};
 ghost use Rattle.cfi_programs.specs.Words.{set_text, set_vendor};
+ghost use Rattle.cfi_programs.specs.SectionOfWords.{bases_of, given_by, header_of};
+ghost use Rattle.gimli_cfi.specs.SectionSources.{source_view};
 
-use gimli_cfi::{BaseAddresses, RunTimeEndian, SectionBaseAddresses, Vendor};
+use gimli_cfi::{
+    AddressSize, BaseAddresses, RunTimeEndian, SectionBaseAddresses, SectionKind, SectionSource,
+    Vendor,
+};
 use std::alloc::{AllocError, Global};
 use std::rt::Env;
 use std::{env, io};
-
-/// The section that the input holds.
-#[derive(Clone, Copy)]
-pub enum Kind {
-    /// `.debug_frame` (DWARF 5 section 6.4).
-    DebugFrame,
-    /// `.eh_frame` (LSB Core, "The .eh_frame section").
-    EhFrame,
-}
 
 /// What the words say of the section.
 #[derive(Clone, Copy)]
 pub struct SectionWords {
     /// The section that the input holds.
-    pub kind: Kind,
+    pub kind: SectionKind,
     /// Its byte order.
     pub endian: RunTimeEndian,
-    /// The size of an address in bytes: 1, 2, 4 or 8.
-    pub address_size: u8,
+    /// The size of an address.
+    pub address_size: AddressSize,
     /// The address of the section.
     pub section: Option<u64>,
     /// The base of text.
@@ -45,18 +41,29 @@ pub struct SectionWords {
 }
 
 impl SectionWords {
+    /// Returns the section that these bytes are, with its header where the words have the address
+    /// of one. The bytes are borrowed, not copied.
+    pub fn source<'input>(
+        &self,
+        section: &'input [u8],
+        header: &'input [u8],
+    ) -> SectionSource<'input>
+        ensures { source_view result ≡ given_by self.now section.now header.now }
+    {
+        SectionSource {
+            kind: self.kind,
+            endian: self.endian,
+            address_size: self.address_size,
+            vendor: self.vendor,
+            bases: self.bases(),
+            bytes: section,
+            header: self.header_of(header),
+        }
+    }
+
     /// Returns the bases of the pointers in the section's entries, and of those in its header.
-    pub fn bases(&self) -> BaseAddresses
-        ensures section { result.eh_frame ≡ record {
-          section = self.now.section;
-          text = self.now.text;
-          data_base = self.now.data_base;
-        } }
-        ensures header { result.eh_frame_hdr ≡ record {
-          section = self.now.header;
-          text = self.now.text;
-          data_base = self.now.header;
-        } }
+    fn bases(&self) -> BaseAddresses
+        ensures { result ≡ bases_of self.now }
     {
         BaseAddresses {
             eh_frame_hdr: SectionBaseAddresses {
@@ -69,6 +76,16 @@ impl SectionWords {
                 text: self.text,
                 data_base: self.data_base,
             },
+        }
+    }
+
+    /// Returns the header of these bytes, where the words have its address.
+    fn header_of<'input>(&self, header: &'input [u8]) -> Option<&'input [u8]>
+        ensures { option_map (λ bytes. bytes.now) result ≡ header_of self.now header.now }
+    {
+        match self.header {
+            Some(_) => Some(header),
+            None => None,
         }
     }
 }
@@ -105,13 +122,13 @@ pub fn first(kind: &str, order: &str, size: &str) -> Option<SectionWords>
 }
 
 /// Returns the kind of section that a word names; `None` for other words.
-fn kind_named(word: &str) -> Option<Kind>
+fn kind_named(word: &str) -> Option<SectionKind>
     ensures { result ≡ kind_of word.now }
 {
     if word == "debug_frame" {
-        Some(Kind::DebugFrame)
+        Some(SectionKind::DebugFrame)
     } else if word == "eh_frame" {
-        Some(Kind::EhFrame)
+        Some(SectionKind::EhFrame)
     } else {
         None
     }
@@ -131,17 +148,17 @@ fn order_named(word: &str) -> Option<RunTimeEndian>
 }
 
 /// Returns the address size that a word names; `None` for other words.
-fn size_named(word: &str) -> Option<u8>
+fn size_named(word: &str) -> Option<AddressSize>
     ensures { result ≡ size_of word.now }
 {
     if word == "1" {
-        Some(1)
+        Some(AddressSize::new(1))
     } else if word == "2" {
-        Some(2)
+        Some(AddressSize::new(2))
     } else if word == "4" {
-        Some(4)
+        Some(AddressSize::new(4))
     } else if word == "8" {
-        Some(8)
+        Some(AddressSize::new(8))
     } else {
         None
     }
@@ -226,8 +243,8 @@ fn with_header(words: SectionWords, digits: &str) -> Option<SectionWords>
     ensures { result ≡ set_header words digits.now words.kind }
 {
     match words.kind {
-        Kind::DebugFrame => None,
-        Kind::EhFrame => {
+        SectionKind::DebugFrame => None,
+        SectionKind::EhFrame => {
             let header = once(words.header, digits)?;
             Some(SectionWords {
                 header: Some(header),

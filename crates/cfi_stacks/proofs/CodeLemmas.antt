@@ -27,10 +27,10 @@ same_order low (m ∷ ms) = ap (λ (b : Bool). begins_from low m && b) (same_ord
 abbrev Spans : MappedCode → Module → Type 0
 Spans mapped m = (m.start ≡ mapped.start) × (m.end ≡ mapped.end)
 
-spans_of : (mapped : MappedCode) (number : ℕ) (code : KnownCode) (bias : Option ℕ) (m : Module) → option_map (loaded_module number code.object.frames code.table mapped) bias ≡ Some m → Spans mapped m
+spans_of : (mapped : MappedCode) (number : ℕ) (code : KnownCode) (bias : Option ℕ) (m : Module) → option_map (loaded_module number code.object.section code.object.header code.table mapped) bias ≡ Some m → Spans mapped m
 spans_of mapped number code None m e = cc
 spans_of mapped number code (Some bias) m e =
-    let is : m ≡ loaded_module number code.object.frames code.table mapped bias = cc in
+    let is : m ≡ loaded_module number code.object.section code.object.header code.table mapped bias = cc in
     (ap (λ (x : Module). x.start) is, ap (λ (x : Module). x.end) is)
 
 spans_in : (mapped : MappedCode) (number : ℕ) (o : Option KnownCode) (m : Module) → option_and_then (λ code. module_of number code.object code.table mapped) o ≡ Some m → Spans mapped m

@@ -6,7 +6,9 @@ use Rattle.cfi_read_core.specs.declared.common.Vendor.TheVariants.{Default}
 use Rattle.cfi_read_core.specs.declared.endianity.RunTimeEndian.TheVariants.{Little}
 use Rattle.cfi_read_core.specs.Numbers.{unsigned}
 use Rattle.cfi_elf.specs.Segments.{minus}
-use Rattle.cfi_programs.specs.declared.words.Kind.TheVariants.{EhFrame}
+use Rattle.gimli_cfi.specs.SectionSources.{GivenSection, given_header, given_section}
+use Rattle.gimli_cfi.specs.declared.source.SectionKind.TheVariants.{EhFrame}
+use Rattle.cfi_files.specs.CallFrames.{bases_at}
 use Rattle.cfi_step.specs.CompiledSteps.{address_in_file}
 use Rattle.cfi_stacks.specs.declared.registers.SampleMachine.TheVariants.{X86_64, AArch64}
 use Rattle.cfi_stacks.specs.declared.sample_stack.NoFrames.{NoFrames}
@@ -33,25 +35,22 @@ names = refl
 
 -- ---- modules
 
--- file 3, with .eh_frame at 0x2040, its header at 0x2010 and .text at 0x1000; mapped 0x7f0000000000 higher
+-- .eh_frame at 0x2040, its header at 0x2010 and .text at 0x1000
+abbrev frames : GivenSection
+frames = record {
+  kind = EhFrame;
+  endian = Little;
+  address_size = 8;
+  vendor = Default;
+  bases = bases_at (Some 0x2040) (Some 0x1000) None (Some 0x2010);
+  bytes = 1 ∷ 2 ∷ [];
+  header = Some (3 ∷ []);
+}
+
+-- file 3 with these, mapped 0x7f0000000000 higher
 abbrev mapped_higher : Module
 mapped_higher =
-    loaded_module 3
-    (record {
-      words = record {
-        kind = EhFrame;
-        endian = Little;
-        address_size = 8;
-        section = Some 0x2040;
-        text = Some 0x1000;
-        data_base = None;
-        vendor = Default;
-        header = Some 0x2010;
-      };
-      section = 1 ∷ 2 ∷ [];
-      header = 3 ∷ [];
-    })
-    None
+    loaded_module 3 (given_section frames) (given_header frames) None
     (record { start = 0x7f0000001000; end = 0x7f0000002000; offset = 0x1000; object = Some 3 }) 0x7f0000000000
 
 its_bases : mapped_higher.section.bases ≡ record { section = Some 0x2040; text = Some 0x1000; data_base = None }

@@ -11,10 +11,9 @@ use Rattle.std.specs.Borrow.{Bor}
 use Rattle.std.specs.List.{starts_with}
 use Rattle.std.specs.Option.{option_and_then}
 use Rattle.cfi_compiled.specs.CompiledTables.{TableContents, IsCompiled}
-use Rattle.cfi_files.specs.CallFrames.{Frames}
+use Rattle.cfi_entry.specs.Sections.{Section}
 use Rattle.cfi_stacks.specs.declared.profile_files.OpenedFile.{OpenedFile}
 use Rattle.cfi_stacks.specs.KnownFiles.{KnownCode, KnownFile}
-use Rattle.cfi_stacks.specs.Modules.{file_section}
 use Rattle.cfi_stacks.specs.Objects.{Object, has_table, object_of}
 
 -- the bytes of names of the code
@@ -68,16 +67,16 @@ module _ {Handle : Type 0} (may_open : List ℕ → Option Handle → Type 0)
 -- ---- as files of a profile
 
 -- a compiled table of .eh_frame, in a storage of 192 rules and 4 rows; or none
-abbrev pub IsTableIf : Bool → Frames → Option TableContents → Type 0
-IsTableIf true frames table =
-    (made : TableContents) × IsCompiled (Some 192) (Some 4) (file_section frames) made
+abbrev pub IsTableIf : Bool → Section → Option TableContents → Type 0
+IsTableIf true section table =
+    (made : TableContents) × IsCompiled (Some 192) (Some 4) section made
     × (table ≡ Some made)
-IsTableIf false frames table = table ≡ None
+IsTableIf false section table = table ≡ None
 
 abbrev pub IsCodeOf : Option Object → Option KnownCode → Type 0
 IsCodeOf None code = code ≡ None
 IsCodeOf (Some object) code =
-    (table : Option TableContents) × IsTableIf (has_table object.frames) object.frames table
+    (table : Option TableContents) × IsTableIf (has_table object) object.section table
     × (code ≡ Some (record { object = object; table = table }))
 
 abbrev pub IsFileOf : Opened → KnownFile → Type 0

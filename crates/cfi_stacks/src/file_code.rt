@@ -69,7 +69,7 @@ impl<'run> FileCode<'run> {
         has_table: bool,
     ) -> Result<Option<CompiledTable>, AllocError>
         ensures { IfOk result (λ table.
-            IsTableIf has_table (object_view object.now).frames table) }
+            IsTableIf has_table (object_view object.now).section table) }
     {
         if !has_table {
             return Ok(None);

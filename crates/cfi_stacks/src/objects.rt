@@ -1,37 +1,25 @@
 //! Files of a profile as modules: their call frames, where a process has mapped them.
-ghost use Rattle.std.specs.Prelude.{◌≡◌, ⊤, option_map};
-ghost use Rattle.cfi_read_core.specs.AddressSizes.{size_in_bytes};
-ghost use Rattle.cfi_read_core.specs.ByteOrder.{is_big};
-ghost use Rattle.cfi_read_core.specs.SliceReaders.{slice_over, slice_position};
-ghost use Rattle.cfi_entry.specs.SectionViews.{eh_frame_address_size};
-ghost use Rattle.cfi_files.specs.CallFrames.{frames_view};
-ghost use Rattle.gimli_cfi.specs.HeaderViews.{header_reader, section_view, unparsed_view};
-ghost use Rattle.cfi_stacks.specs.Modules.{file_header, file_section};
+ghost use Rattle.std.specs.Prelude.{⊤};
 
 use crate::mappings::MappedCode;
 use cfi_compiled::CompiledTable;
 use cfi_elf::ElfFile;
-use cfi_files::{CallFrames, eh_frame};
-use cfi_programs::words::SectionWords;
+use cfi_files::eh_frame;
 use cfi_step::LoadedModule;
-use gimli_cfi::{BaseAddresses, EhFrame, EhFrameHdr, EndianSlice, Error, RunTimeEndian};
+use gimli_cfi::{
+    BaseAddresses, EhFrame, EhFrameHdr, EndianSlice, Error, RunTimeEndian, SectionSource,
+};
 use std::alloc::{AllocError, Global};
 
 /// A file of a profile: its segments and its call frames. The bytes are borrowed, not copied.
 pub struct Object<'file> {
     file: ElfFile<'file>,
-    frames: CallFrames<'file>,
     /// `.eh_frame`.
     frame: EhFrame<EndianSlice<'file, RunTimeEndian>>,
     /// `.eh_frame_hdr`, if there is one.
     header: Option<EhFrameHdr<EndianSlice<'file, RunTimeEndian>>>,
     /// Where both are in the file's addresses.
     bases: BaseAddresses,
-    ghost section: { section_view (slice_position is_big) frame bases
-        ≡ file_section (frames_view frames) },
-    ghost headed: { option_map (λ header. unparsed_view (slice_position is_big) header
-        (size_in_bytes (eh_frame_address_size frame)) bases) header
-        ≡ file_header (frames_view frames) },
 }
 
 impl Clone for Object<'_> {
@@ -47,14 +35,13 @@ impl Clone for Object<'_> {
 impl Copy for Object<'_> {}
 
 impl<'file> Object<'file> {
-    ghost use Rattle.std.specs.Prelude.{◌≡◌, Some, IfErr, IfOk, IfSome, option_map, true};
-    ghost use Rattle.cfi_read_core.specs.Addresses.{is_sized};
+    ghost use Rattle.std.specs.Prelude.{◌≡◌, Some, IfErr, IfOk, IfSome, option_map};
     ghost use Rattle.cfi_compiled.specs.CompiledTables.{IsCompiled};
     ghost use Rattle.cfi_elf.specs.ElfFiles.{file_view};
-    ghost use Rattle.cfi_files.specs.CallFrames.{frames_view};
-    ghost use Rattle.cfi_stacks.specs.Modules.{file_section, loaded_module, module_view};
+    ghost use Rattle.cfi_stacks.specs.Modules.{loaded_module, module_view};
     ghost use Rattle.cfi_stacks.specs.Objects.{HasFramesOf, bias_of, has_table, module_of};
-    ghost use Rattle.cfi_stacks.specs.Objects.{object_of, object_view};
+    ghost use Rattle.cfi_stacks.specs.Objects.{object_of, object_view, object_with};
+    ghost use Rattle.gimli_cfi.specs.SectionSources.{source_view};
     ghost use Rattle.gimli_cfi.specs.Words.{OutOfMemory};
 
     /// The file that these bytes are. Returns `None` where they are no ELF file, and where the file
@@ -72,22 +59,16 @@ impl<'file> Object<'file> {
         }
     }
 
-    /// The file with these call frames.
-    fn with_frames(file: ElfFile<'file>, frames: CallFrames<'file>) -> Object<'file>
-        requires { is_sized frames.words.address_size ≡ true }
+    /// The file with this `.eh_frame`.
+    fn with_frames(file: ElfFile<'file>, frames: SectionSource<'file>) -> Object<'file>
         ensures { object_view result
-            ≡ record { file = file_view file.entry; frames = frames_view frames.entry } }
+            ≡ object_with (file_view file.entry) (source_view frames.entry) }
     {
-        let words = &frames.words;
-        let mut frame = EhFrame::new(frames.section, words.endian);
-        frame.set_address_size(words.address_size);
-        frame.set_vendor(words.vendor);
         Object {
             file,
-            frames,
-            frame,
-            header: header_of(words, frames.header),
-            bases: words.bases(),
+            frame: frames.eh_frame(),
+            header: frames.header(),
+            bases: frames.bases,
         }
     }
 
@@ -117,16 +98,16 @@ impl<'file> Object<'file> {
     /// Whether the file has a compiled table: where it has no header, so that each row that isn't
     /// kept would be found by a scan of the section. Does not allocate.
     pub fn has_table(&self) -> bool
-        ensures { result ≡ has_table (object_view self.now).frames }
+        ensures { result ≡ has_table (object_view self.now) }
     {
-        self.frames.words.header.is_none()
+        self.header.is_none()
     }
 
     /// Returns the compiled table of the file's `.eh_frame`, at the addresses that the file has.
     /// Fails with `OutOfMemory`, only where memory is refused.
     pub fn compile(&self, alloc: Global) -> Result<CompiledTable, Error>
         ensures table { IfOk result (IsCompiled (Some 192) (Some 4)
-            (file_section (object_view self.now).frames)) }
+            (object_view self.now).section) }
         ensures err { IfErr result (λ error. error ≡ OutOfMemory) }
     {
         CompiledTable::new(alloc, &self.frame, &self.bases)
@@ -158,8 +139,9 @@ impl<'file> Object<'file> {
         table: Option<&'a CompiledTable>,
         mapped: &MappedCode,
     ) -> LoadedModule<'a, EndianSlice<'file, RunTimeEndian>>
-        ensures module { module_view result ≡ loaded_module number (object_view self.now).frames
-            (option_map (λ table. table.now) table.entry) mapped.now bias }
+        ensures module { module_view result ≡ loaded_module number (object_view self.now).section
+            (object_view self.now).header (option_map (λ table. table.now) table.entry) mapped.now
+            bias }
         ensures frames { HasFramesOf number self.now result }
     {
         LoadedModule {
@@ -172,19 +154,5 @@ impl<'file> Object<'file> {
             bases: self.bases,
             compiled: table,
         }
-    }
-}
-
-/// The header of these bytes, if the words have one.
-fn header_of<'file>(
-    words: &SectionWords,
-    bytes: &'file [u8],
-) -> Option<EhFrameHdr<EndianSlice<'file, RunTimeEndian>>>
-    ensures { option_map (λ header. slice_position is_big (header_reader header)) result
-        ≡ option_map (λ base. slice_over bytes.now (is_big words.now.endian)) words.now.header }
-{
-    match words.header {
-        Some(_) => Some(EhFrameHdr::new(bytes, words.endian)),
-        None => None,
     }
 }

@@ -1,15 +1,12 @@
 //! Verdicts over memory: faithful tables, each fault of others, other bases and byte orders, a
 //! failing output.
-ghost use Rattle.std.specs.Prelude.{◌≡◌};
-ghost use Rattle.gimli_cfi.specs.Words.{IsAddressSize};
-
 use cfi_programs::check::output_line::write_verdict;
 use cfi_programs::check::table_check::{Verdict, check};
 use cfi_programs::style::Format;
-use cfi_programs::words::{Kind, SectionWords};
+use cfi_programs::words::SectionWords;
 use cfi_tests_bytes::bytes_of;
-use gimli_cfi::{RunTimeEndian, Vendor};
-use std::alloc::Global;
+use gimli_cfi::{AddressSize, RunTimeEndian, SectionKind, Vendor};
+use std::alloc::{AllocError, Global};
 use std::io;
 use std::io::{ErrorKind, Write};
 use std::process::Abort;
@@ -66,17 +63,19 @@ version 2 | CIE FDE1 | 02 1b 03 3b fc000000 01000000 ROW1 | header: refused Unkn
 empty header | CIE FDE1 | | header: refused UnexpectedEof
 ";
 
-/// A section of addresses of 8 bytes, in little-endian byte order.
-const SECTION: SectionWords = SectionWords {
-    kind: Kind::EhFrame,
-    endian: RunTimeEndian::Little,
-    address_size: 8,
-    section: Some(0x2000),
-    text: None,
-    data_base: None,
-    vendor: Vendor::Default,
-    header: None,
-};
+/// A section of addresses of 8 bytes, in little-endian byte order, with its header at 0x1f00.
+fn words() -> SectionWords {
+    SectionWords {
+        kind: SectionKind::EhFrame,
+        endian: RunTimeEndian::Little,
+        address_size: AddressSize::new(8),
+        section: Some(0x2000),
+        text: None,
+        data_base: None,
+        vendor: Vendor::Default,
+        header: Some(0x1f00),
+    }
+}
 
 /// The section of three FDEs.
 const THREE_FDES: &str = "CIE FDE1 FDE2 FDE3";
@@ -108,19 +107,19 @@ fn status_of(line: &str) -> u8 {
     if line.starts_with("faithful ") { 0 } else { 1 }
 }
 
-/// The verdict on a header at 0x1f00.
+/// The verdict on a header, which there is.
 fn verdict_on(
     alloc: Global,
     words: &SectionWords,
     section: &str,
     header: &str,
-) -> Result<Verdict, Fail>
-    requires sized { IsAddressSize words.now.address_size }
-    requires of_eh_frame { words.now.kind ≡ Kind.EhFrame }
-{
+) -> Result<Verdict, Fail> {
     let section = written_out(alloc, section)?;
     let header = written_out(alloc, header)?;
-    Ok(check(words, 0x1f00, section.as_slice(), header.as_slice()))
+    match check(&words.source(section.as_slice(), header.as_slice())) {
+        Some(verdict) => Ok(verdict),
+        None => Err(AllocError.into()),
+    }
 }
 
 /// Compares the line of a verdict, and its status.
@@ -140,10 +139,7 @@ fn expect_of_three(
     rt: &(impl Abort + AllocGlobal),
     words: &SectionWords,
     line: &str,
-) -> Result<(), Fail>
-    requires sized { IsAddressSize words.now.address_size }
-    requires of_eh_frame { words.now.kind ≡ Kind.EhFrame }
-{
+) -> Result<(), Fail> {
     let verdict = verdict_on(rt.alloc(), words, THREE_FDES, THREE_ROWS)?;
     expect_line(rt, verdict, line)
 }
@@ -163,7 +159,7 @@ fn expect_each(rt: &(impl Abort + AllocGlobal), cases: &str) -> Result<(), Fail>
             assert_eq!(rt; case, "");
             continue;
         };
-        let verdict = verdict_on(rt.alloc(), &SECTION, section, header)?;
+        let verdict = verdict_on(rt.alloc(), &words(), section, header)?;
         expect_line(rt, verdict, line)?;
     }
     Ok(())
@@ -183,13 +179,13 @@ fn each_fault(rt: HostRuntime) -> Result<(), Fail> {
 fn other_bases(rt: HostRuntime) -> Result<(), Fail> {
     let later = SectionWords {
         section: Some(0x2008),
-        ..SECTION
+        ..words()
     };
     let missed = "FDE 0x18: no row starts at 0x1008 and leads to it";
     expect_of_three(&rt, &later, missed)?;
     let nowhere = SectionWords {
         section: None,
-        ..SECTION
+        ..words()
     };
     let refused = "FDE 0x18: refused PcRelativePointerButSectionBaseIsUndefined";
     expect_of_three(&rt, &nowhere, refused)
@@ -200,14 +196,14 @@ fn other_bases(rt: HostRuntime) -> Result<(), Fail> {
 fn other_vendor_and_size(rt: HostRuntime) -> Result<(), Fail> {
     let of_aarch64 = SectionWords {
         vendor: Vendor::AArch64,
-        ..SECTION
+        ..words()
     };
     expect_of_three(&rt, &of_aarch64, "faithful 3")?;
     let narrow = SectionWords {
-        address_size: 4,
+        address_size: AddressSize::new(4),
         text: Some(1),
         data_base: Some(2),
-        ..SECTION
+        ..words()
     };
     expect_of_three(&rt, &narrow, "faithful 3")
 }
@@ -224,7 +220,7 @@ const BIG_ENDIAN: (&str, &str) = (
 fn byte_orders(rt: HostRuntime) -> Result<(), Fail> {
     let big_endian = SectionWords {
         endian: RunTimeEndian::Big,
-        ..SECTION
+        ..words()
     };
     let (section, header) = BIG_ENDIAN;
     let verdict = verdict_on(rt.alloc(), &big_endian, section, header)?;
@@ -279,7 +275,7 @@ const CHECKED: [(&str, &str); 2] = [
 #[test]
 fn a_failed_write(rt: HostRuntime) -> Result<(), Fail> {
     for (header, line) in &CHECKED {
-        let verdict = verdict_on(rt.alloc(), &SECTION, THREE_FDES, header)?;
+        let verdict = verdict_on(rt.alloc(), &words(), THREE_FDES, header)?;
         check_outputs(&rt, verdict, line);
     }
     Ok(())

@@ -1,36 +1,38 @@
 //! Sections printed over memory, whose rows were worked out by hand.
-ghost use Rattle.cfi_programs.specs.Words.{AreRead};
-
 use cfi_elf::FunctionNames;
 use cfi_files::compiled::print_compiled;
-use cfi_programs::dump::print::{print_bytes, print_rows};
+use cfi_programs::dump::print::print_source;
 use cfi_programs::dump::{AskedRows, Printed};
 use cfi_programs::register_names::RegisterNames;
 use cfi_programs::style::{Format, Style};
-use cfi_programs::words::{Kind, SectionWords};
+use cfi_programs::words::SectionWords;
 use cfi_tests_bytes::bytes_of;
-use gimli_cfi::{RunTimeEndian, Vendor};
+use gimli_cfi::{AddressSize, RunTimeEndian, SectionKind, Vendor};
 use std::alloc::AllocError;
 use std::process::Abort;
 use std::test::Fail;
 
 /// `.debug_frame` of addresses of 8 bytes, in little-endian byte order.
-const DEBUG_FRAME: SectionWords = SectionWords {
-    kind: Kind::DebugFrame,
-    endian: RunTimeEndian::Little,
-    address_size: 8,
-    section: None,
-    text: None,
-    data_base: None,
-    vendor: Vendor::Default,
-    header: None,
-};
+fn debug_frame() -> SectionWords {
+    SectionWords {
+        kind: SectionKind::DebugFrame,
+        endian: RunTimeEndian::Little,
+        address_size: AddressSize::new(8),
+        section: None,
+        text: None,
+        data_base: None,
+        vendor: Vendor::Default,
+        header: None,
+    }
+}
 
 /// `.eh_frame` of the same.
-const EH_FRAME: SectionWords = SectionWords {
-    kind: Kind::EhFrame,
-    ..DEBUG_FRAME
-};
+fn eh_frame() -> SectionWords {
+    SectionWords {
+        kind: SectionKind::EhFrame,
+        ..debug_frame()
+    }
+}
 
 /// Three rows of `.debug_frame` (DWARF 5 section 6.4.2): a function that pushes register 6, then
 /// makes it the frame pointer.
@@ -160,31 +162,23 @@ fn prints(
     words: &SectionWords,
     digits: &str,
     text: &str,
-) -> Result<(), Fail>
-    requires { AreRead words.now }
-{
+) -> Result<(), Fail> {
     let bytes = bytes_of(rt.alloc(), digits)?;
     let names = RegisterNames::Numbers;
     let mut output = Vec::new(rt.alloc());
-    let status = print_bytes(
-        rt.alloc(),
-        names,
-        printed,
-        words,
-        bytes.as_slice(),
-        &mut output,
-    )?;
+    let source = words.source(bytes.as_slice(), &[]);
+    let status = print_source(rt.alloc(), names, printed, &source, &mut output)?;
     expect(rt, output.as_slice(), status, text)
 }
 
 #[test]
 fn entries_and_rows(rt: HostRuntime) -> Result<(), Fail> {
     let entries = Printed::Entries;
-    prints(&rt, entries, &DEBUG_FRAME, THREE_ROWS, THREE_ROWS_PRINTED)?;
-    prints(&rt, entries, &DEBUG_FRAME, REFUSED, REFUSED_PRINTED)?;
+    prints(&rt, entries, &debug_frame(), THREE_ROWS, THREE_ROWS_PRINTED)?;
+    prints(&rt, entries, &debug_frame(), REFUSED, REFUSED_PRINTED)?;
     let of_letters = SectionWords {
         section: Some(0x2000),
-        ..EH_FRAME
+        ..eh_frame()
     };
     prints(&rt, entries, &of_letters, LETTERS, LETTERS_PRINTED)
 }
@@ -193,7 +187,7 @@ fn entries_and_rows(rt: HostRuntime) -> Result<(), Fail> {
 fn each_instruction(rt: HostRuntime) -> Result<(), Fail> {
     let of_aarch64 = SectionWords {
         vendor: Vendor::AArch64,
-        ..DEBUG_FRAME
+        ..debug_frame()
     };
     prints(
         &rt,
@@ -210,7 +204,8 @@ fn a_compiled_table(rt: HostRuntime) -> Result<(), Fail> {
     let bytes = bytes_of(alloc, THREE_ROWS)?;
     let mut output = Vec::new(alloc);
     let numbers = RegisterNames::Numbers;
-    let status = print_compiled(alloc, numbers, &DEBUG_FRAME, bytes.as_slice(), &mut output)?;
+    let source = debug_frame().source(bytes.as_slice(), &[]);
+    let status = print_compiled(alloc, numbers, &source, &mut output)?;
     expect(&rt, output.as_slice(), status, THREE_ROWS_COMPILED)
 }
 
@@ -218,8 +213,8 @@ fn a_compiled_table(rt: HostRuntime) -> Result<(), Fail> {
 fn an_empty_section(rt: HostRuntime) -> Result<(), Fail> {
     let big_endian = SectionWords {
         endian: RunTimeEndian::Big,
-        address_size: 4,
-        ..EH_FRAME
+        address_size: AddressSize::new(4),
+        ..eh_frame()
     };
     prints(&rt, Printed::Entries, &big_endian, "", "")
 }
@@ -228,9 +223,9 @@ fn an_empty_section(rt: HostRuntime) -> Result<(), Fail> {
 fn entries_that_are_refused(rt: HostRuntime) -> Result<(), Fail> {
     let entries = Printed::Entries;
     let cut = "refused UnexpectedEof\n";
-    prints(&rt, entries, &DEBUG_FRAME, "0500", cut)?;
+    prints(&rt, entries, &debug_frame(), "0500", cut)?;
     let no_cie = "fde 0x0 length=4\nrefused NotCieId\n";
-    prints(&rt, entries, &EH_FRAME, "04000000 04000000", no_cie)
+    prints(&rt, entries, &eh_frame(), "04000000 04000000", no_cie)
 }
 
 /// Addresses, and the rows of the FDEs that contain them; of all FDEs, where there is no address.
@@ -257,7 +252,7 @@ fn prints_rows(
     text: &str,
 ) -> Result<(), Fail> {
     let bytes = bytes_of(rt.alloc(), digits)?;
-    let section = bytes.as_slice();
+    let source = debug_frame().source(bytes.as_slice(), &[]);
     let Style { names, format } = style;
     let asked = AskedRows {
         address,
@@ -265,7 +260,8 @@ fn prints_rows(
         format,
     };
     let mut output = Vec::new(rt.alloc());
-    let status = print_rows(rt.alloc(), names, asked, &DEBUG_FRAME, section, &mut output)?;
+    let printed = Printed::Rows(asked);
+    let status = print_source(rt.alloc(), names, printed, &source, &mut output)?;
     expect(rt, output.as_slice(), status, text)
 }
 

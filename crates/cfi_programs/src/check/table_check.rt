@@ -1,14 +1,12 @@
 //! Whether the table of a header lists the FDEs of its section faithfully.
-ghost use Rattle.std.specs.Prelude.{◌≡◌};
 ghost use Rattle.cfi_read_core.specs.Addresses.{IsAddressSize};
 ghost use Rattle.gimli_cfi.specs.EhFrameHdr.{header_section};
 ghost use Rattle.gimli_cfi.specs.HeaderViews.{section_view};
-ghost use Rattle.cfi_programs.specs.SectionOfWords.{header_section_of, section_of};
-ghost use Rattle.cfi_programs.specs.CheckVerdicts.{IsVerdict};
+ghost use Rattle.gimli_cfi.specs.SectionSources.{source_view};
+ghost use Rattle.cfi_programs.specs.CheckVerdicts.{IsVerdict, IsVerdictOf};
 
-use crate::words::{Kind, SectionWords};
 use gimli_cfi::hdr::{FaithfulTable, Unfaithful};
-use gimli_cfi::{BaseAddresses, EhFrame, EhFrameHdr, Error, Reader};
+use gimli_cfi::{BaseAddresses, EhFrame, EhFrameHdr, Error, Reader, SectionSource};
 
 /// The result of a check.
 #[derive(Clone, Copy)]
@@ -23,26 +21,14 @@ pub enum Verdict {
     Refused(Error),
 }
 
-/// Checks the table of the header, which lies at this address, against the section of `.eh_frame`.
-///
-/// `section` and `header` are their bytes. What the words say of an address of a header doesn't
-/// count. Does not allocate.
-pub fn check(words: &SectionWords, header_address: u64, section: &[u8], header: &[u8]) -> Verdict
-    requires sized { IsAddressSize words.now.address_size }
-    requires of_eh_frame { words.now.kind ≡ Kind.EhFrame }
-    ensures { IsVerdict (section_of words.now section.now)
-        (header_section_of words.now header_address header.now) result }
+/// Checks the table of the section's header against the section. Returns `None` where there is no
+/// header. Does not allocate.
+pub fn check(source: &SectionSource<'_>) -> Option<Verdict>
+    ensures { IsVerdictOf (source_view source.now) result }
 {
-    let words = SectionWords {
-        header: Some(header_address),
-        ..*words
-    };
-    let bases = words.bases();
-    let mut frame = EhFrame::new(section, words.endian);
-    frame.set_address_size(words.address_size);
-    frame.set_vendor(words.vendor);
-    let header = EhFrameHdr::new(header, words.endian);
-    check_by_header(&header, words.address_size, &frame, &bases)
+    let header = source.header()?;
+    let size = source.address_size.bytes();
+    Some(check_by_header(&header, size, &source.eh_frame(), &source.bases))
 }
 
 /// Checks the table of the header against the section. Does not allocate.

@@ -3,7 +3,7 @@ use Rattle.cfi_read_core.specs.ReaderCalls.{map_ok}
 use Rattle.cfi_elf.specs.ElfFiles.{file_view}
 use Rattle.cfi_elf.specs.ErrorNames.{name_of_elf}
 use Rattle.cfi_files.specs.declared.finding.Finding.TheVariants.{NoTable}
-use Rattle.cfi_files.specs.CallFrames.{frames_view}
+use Rattle.gimli_cfi.specs.SectionSources.{source_view}
 use Rattle.cfi_files.specs.FileOutputs.{IsCheck, refused}
 use Rattle.cfi_files.specs.Findings.{found_line}
 use Rattle.cfi_files.specs.Found.{eh_frame_in}
@@ -15,12 +15,12 @@ returns-in-None g c =
     let format = c.args.format in
     let line = found_line format NoTable (codes "no call frames") in
     checks_found (IsCheck format (eh_frame_in (file_view c.args.file.now))) NoTable line _ _ c.write_found.result
-    (subst (λ part. IsCheck format part NoTable line) c.in-None.ensures.frames (refl, refl)) c.write_found.ensures.line c.write_found.ensures.found
+    (subst (λ part. IsCheck format part NoTable line) c.in-None.ensures (refl, refl)) c.write_found.ensures.line c.write_found.ensures.found
 
 pub returns-in-Some-Err : goal.returns-in-Some-Err
 returns-in-Some-Err g c =
     let format = c.args.format in
     let line = found_line format NoTable (refused (name_of_elf c.in-Some-Err.error)) in
     checks_found (IsCheck format (eh_frame_in (file_view c.args.file.now))) NoTable line _ _ c.write_found-in-Some-Err.result
-    (subst (λ part. IsCheck format part NoTable line) c.in-Some-Err.ensures.frames
-    (subst (λ found. IsCheck format (Some (map_ok frames_view found)) NoTable line) (sym c.in-Some-Err.field-0-is) (refl, refl))) (rw c.name.ensures at c.write_found-in-Some-Err.ensures.line) c.write_found-in-Some-Err.ensures.found
+    (subst (λ part. IsCheck format part NoTable line) c.in-Some-Err.ensures
+    (subst (λ found. IsCheck format (Some (map_ok source_view found)) NoTable line) (sym c.in-Some-Err.field-0-is) (refl, refl))) (rw c.name.ensures at c.write_found-in-Some-Err.ensures.line) c.write_found-in-Some-Err.ensures.found
