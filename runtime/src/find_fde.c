@@ -1,0 +1,25 @@
+/* The FDE of an address, for programs that ask libgcc_s for it. */
+#include "unwinder.h"
+
+struct dwarf_eh_bases {
+    void *text, *data, *function;
+};
+
+EXPORT const void *_Unwind_Find_FDE(void *pc, struct dwarf_eh_bases *bases);
+
+const void *_Unwind_Find_FDE(void *pc, struct dwarf_eh_bases *bases) {
+    CfiModule module;
+    CfiFunction function;
+    if (!find_function((uint64_t)pc, &module, &function))
+        return NULL;
+    bases->text = (void *)module.bases.text;
+    bases->data = (void *)module.bases.data_base;
+    bases->function = (void *)function.start;
+    return module.eh_frame + function.fde;
+}
+
+/* pc is a return address. */
+void *_Unwind_FindEnclosingFunction(void *pc) {
+    struct dwarf_eh_bases bases;
+    return _Unwind_Find_FDE((char *)pc - 1, &bases) ? bases.function : NULL;
+}

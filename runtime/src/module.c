@@ -1,0 +1,151 @@
+/* The loaded module of an address, and where its .eh_frame and .eh_frame_hdr lie. Nothing is kept from one call to the next, so
+ * a library that is loaded where another was never meets what was known of that one. */
+#include <dlfcn.h>
+#include <elf.h>
+#include <link.h>
+#include <string.h>
+
+#include "unwinder.h"
+
+enum { PAGE = 4096, BEGINNING = 8 /* of the header: its version, three encodings, and a distance */ };
+
+/* The program headers of a module, and what to add to their addresses. */
+struct headers {
+    uint64_t bias;
+    const ElfW(Phdr) * all;
+    size_t count;
+};
+
+static uint64_t start_of(const struct headers *headers, size_t i) {
+    return headers->bias + headers->all[i].p_vaddr;
+}
+
+/* The first of the headers that has the type and whose bytes in the file have the address. */
+static const ElfW(Phdr) * header_with(const struct headers *headers, uint32_t type, uint64_t address) {
+    for (size_t i = 0; i < headers->count; i++)
+        if (headers->all[i].p_type == type && address - start_of(headers, i) < headers->all[i].p_filesz)
+            return &headers->all[i];
+    return NULL;
+}
+
+/* Where the section lies, as the header says: linkers write its distance from there. 0 where they didn't. */
+static uint64_t section_by(uint64_t header) {
+    const uint8_t *bytes = (const uint8_t *)header;
+    int32_t distance;
+    if (bytes[0] != 1 || bytes[1] != 0x1b) /* the version; DW_EH_PE_pcrel | DW_EH_PE_sdata4 */
+        return 0;
+    memcpy(&distance, bytes + 4, sizeof distance);
+    return header + 4 + (uint64_t)(int64_t)distance;
+}
+
+/* Writes where the sections lie: the section up to the end of its segment, for its own length stands nowhere in memory. */
+static bool find_sections(const struct headers *headers, uint64_t header, CfiModule *module) {
+    const ElfW(Phdr) *of_header = header_with(headers, PT_GNU_EH_FRAME, header);
+    if (!of_header || headers->bias + of_header->p_vaddr != header || of_header->p_filesz < BEGINNING)
+        return false;
+    uint64_t section = section_by(header);
+    const ElfW(Phdr) *segment = section ? header_with(headers, PT_LOAD, section) : NULL;
+    if (!segment)
+        return false;
+    module->eh_frame = (const uint8_t *)section;
+    module->eh_frame_len = headers->bias + segment->p_vaddr + segment->p_filesz - section;
+    module->header = (const uint8_t *)header;
+    module->header_len = of_header->p_filesz;
+    module->bases = (CfiBases){.section = section, .header = header, .aarch64 = IS_AARCH64, .address_size = 8};
+    return true;
+}
+
+/* ---- by dl_iterate_phdr, which takes the loader's lock */
+
+struct wanted {
+    uint64_t address;
+    CfiModule *module;
+    bool is_found;
+};
+
+static int look_in(struct dl_phdr_info *info, size_t size, void *data) {
+    struct wanted *wanted = data;
+    struct headers headers = {info->dlpi_addr, info->dlpi_phdr, info->dlpi_phnum};
+    uint64_t header = 0, end = 0, start = UINT64_MAX;
+    bool is_inside = false;
+    (void)size;
+    for (size_t i = 0; i < headers.count; i++) {
+        const ElfW(Phdr) *each = &headers.all[i];
+        uint64_t from = start_of(&headers, i);
+        if (each->p_type == PT_GNU_EH_FRAME)
+            header = from;
+        if (each->p_type != PT_LOAD)
+            continue;
+        is_inside |= wanted->address - from < each->p_memsz;
+        start = from < start ? from : start;
+        end = from + each->p_memsz > end ? from + each->p_memsz : end;
+    }
+    if (!is_inside)
+        return 0;
+    *wanted->module = (CfiModule){.start = start, .end = end};
+    wanted->is_found = header && find_sections(&headers, header, wanted->module);
+    return 1;
+}
+
+static bool find_by_iteration(uint64_t address, CfiModule *module) {
+    struct wanted wanted = {address, module, false};
+    dl_iterate_phdr(look_in, &wanted);
+    return wanted.is_found;
+}
+
+/* ---- by _dl_find_object, which takes none */
+
+#if defined(DLFO_STRUCT_HAS_EH_DBASE) && !defined(WITHOUT_FIND_OBJECT)
+
+__attribute__((weak)) int _dl_find_object(void *address, struct dl_find_object *result);
+
+/* The program headers, where they stand in the page that the module begins with, behind the ELF header. Linkers put them there;
+ * tools that change files may not. */
+static bool headers_in_first_page(const struct dl_find_object *object, struct headers *headers) {
+    uint64_t start = (uint64_t)object->dlfo_map_start;
+    const ElfW(Ehdr) *file = object->dlfo_map_start;
+    if (memcmp(file->e_ident, ELFMAG, SELFMAG) != 0 || file->e_phentsize != sizeof(ElfW(Phdr)))
+        return false;
+    *headers = (struct headers){.count = file->e_phnum};
+    if (file->e_phoff > PAGE || headers->count * sizeof(ElfW(Phdr)) > PAGE - file->e_phoff)
+        return false;
+    headers->all = (const ElfW(Phdr) *)(start + file->e_phoff);
+    for (size_t i = 0; i < headers->count; i++)
+        if (headers->all[i].p_type == PT_LOAD) {
+            headers->bias = start - (headers->all[i].p_vaddr & -(uint64_t)PAGE);
+            return headers->all[i].p_offset < PAGE;
+        }
+    return false;
+}
+
+bool find_module(uint64_t address, CfiModule *module) {
+    struct dl_find_object object;
+    struct headers headers;
+    if (!_dl_find_object)
+        return find_by_iteration(address, module);
+    if (_dl_find_object((void *)address, &object) != 0 || !object.dlfo_eh_frame)
+        return false;
+    *module = (CfiModule){.start = (uint64_t)object.dlfo_map_start, .end = (uint64_t)object.dlfo_map_end};
+    if (headers_in_first_page(&object, &headers) && find_sections(&headers, (uint64_t)object.dlfo_eh_frame, module))
+        return true;
+    return find_by_iteration(address, module);
+}
+
+#else
+
+bool find_module(uint64_t address, CfiModule *module) {
+    return find_by_iteration(address, module);
+}
+
+#endif
+
+static int look_for_code(struct dl_phdr_info *info, size_t size, void *data) {
+    struct headers headers = {info->dlpi_addr, info->dlpi_phdr, info->dlpi_phnum};
+    const ElfW(Phdr) *segment = header_with(&headers, PT_LOAD, *(const uint64_t *)data);
+    (void)size;
+    return segment && (segment->p_flags & (PF_R | PF_X)) == (PF_R | PF_X);
+}
+
+bool is_readable_code(uint64_t address) {
+    return dl_iterate_phdr(look_for_code, &address) != 0;
+}
