@@ -30,8 +30,7 @@ static union {
     char bytes[REGION];
 } reserve;
 static _Alignas(ALIGNMENT) char reserve_stack[STACK];
-static atomic_flag is_reserve_taken = ATOMIC_FLAG_INIT;
-static _Atomic(void *) reserve_thread;
+static _Atomic(void *) reserve_thread; /* that has it: the address of its own, or NULL */
 
 /* ---- memory for the library: these three are the toolchain's bridge to malloc, in whose place they stand */
 
@@ -115,7 +114,6 @@ static void give_back(void *all) {
 /* In a forked child no other thread has the reserve. */
 static void give_reserve(void) {
     atomic_store(&reserve_thread, NULL);
-    atomic_flag_clear(&is_reserve_taken);
 }
 
 __attribute__((constructor)) static void begin(void) {
@@ -126,11 +124,13 @@ __attribute__((constructor)) static void begin(void) {
 /* The reserve, once no other thread has it. A signal handler in the thread that has it gets none. */
 static struct workspace *take_reserve(void) {
     struct workspace *workspace = &reserve.workspace;
-    if (atomic_load(&reserve_thread) == &own)
-        return NULL;
-    while (atomic_flag_test_and_set(&is_reserve_taken))
+    void *has_it = NULL;
+    while (!atomic_compare_exchange_weak(&reserve_thread, &has_it, &own)) {
+        if (has_it == &own)
+            return NULL;
+        has_it = NULL;
         sched_yield();
-    atomic_store(&reserve_thread, &own);
+    }
     if (workspace->context.live || make(workspace, reserve_stack)) {
         workspace->windows = (struct windows){0}; /* the other thread's stacks */
         return workspace;
