@@ -5,6 +5,7 @@
 
 enum {
     ITERATIONS = 10000, /* how many operations an expression may do */
+    NEAR = 1 << 16,     /* on one stack */
     TRIES = 64          /* how often a step may name memory that was not known to be mapped */
 };
 
@@ -67,8 +68,9 @@ enum found step_in(struct _Unwind_Context *frame, const CfiModule *module) {
     if (!workspace)
         return CORRUPT;
     CfiEnd end;
-    /* rows of procedure linkage tables read it */
-    frame->registers[frame->own][PROGRAM_COUNTER] = (CfiValue){frame->pc, true};
+    /* A call overwrites it, so a row without a rule for it does not give the frame itself once more. Rows of procedure linkage
+     * tables read the pc; they are the innermost or interrupted. */
+    frame->registers[frame->own][RETURN_ADDRESS] = (CfiValue){frame->pc, frame->is_interrupted};
     enum found found = found_by(step(workspace, frame, module, &end), &end);
     give_workspace(workspace);
     return found;
@@ -110,15 +112,17 @@ static bool find_module_of(struct _Unwind_Context *frame) {
     return frame->is_loaded;
 }
 
-/* Whether the caller's stack pointer is none that a caller can have. It is above the frame's, unless a signal or the frame
- * itself switched to another stack; these are far from each other. */
-static bool does_not_rise(const struct _Unwind_Context *frame) {
-    uint64_t own = frame->cfa, up = frame->registers[!frame->own][STACK_POINTER].value;
-    if (frame->facts.is_signal_trampoline || up > own)
+/* Whether the caller has a stack pointer that no caller can have. It is the CFA, unless a signal interrupted the caller; and
+ * above the frame's own and what the frame has pushed, unless the frame switched to another stack, far from there. */
+static bool is_out_of_order(const struct _Unwind_Context *frame) {
+    uint64_t own = frame->cfa, up = frame->registers[!frame->own][STACK_POINTER].value, pushed = frame->caller.args_size;
+    if (frame->facts.is_signal_trampoline)
         return false;
-    if (up == own)
-        return frame->caller.pc == frame->pc;
-    return own - up < 4096;
+    if (up != frame->caller.cfa)
+        return true;
+    if (own - up < NEAR)
+        return own != up || frame->caller.pc == frame->pc;
+    return up - own < NEAR && (pushed % sizeof pushed != 0 || pushed >= up - own);
 }
 
 enum found find_caller(struct _Unwind_Context *frame) {
@@ -129,7 +133,7 @@ enum found find_caller(struct _Unwind_Context *frame) {
         found = find_module_of(frame) ? step_in(frame, &frame->module) : step_in_registered(frame);
         if (found == AT_END && step_from_trampoline(frame))
             found = FOUND;
-        if (found == FOUND && does_not_rise(frame))
+        if (found == FOUND && is_out_of_order(frame))
             found = CORRUPT;
     }
     frame->function = frame->facts.start;

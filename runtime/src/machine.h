@@ -9,7 +9,7 @@
 
 /* REGISTERS: the rows' registers. GCC_REGISTERS: for how many GCC's contexts have room (see unwinder.h). BELOW: how many bytes
  * below the stack pointer belong to a frame (the red zone of System V). */
-enum { STACK_POINTER = 7, PROGRAM_COUNTER = 16, REGISTERS = 17, GCC_REGISTERS = 18, BELOW = 128 };
+enum { STACK_POINTER = 7, RETURN_ADDRESS = 16, REGISTERS = 17, GCC_REGISTERS = 18, BELOW = 128 };
 
 /* rbx rbp rsp r12 r13 r14 r15, as entry_x86_64.S saves them. */
 #define SAVED_REGISTERS {3, 6, STACK_POINTER, 12, 13, 14, 15}
@@ -26,7 +26,7 @@ static const uint64_t SIGNATURE = 0;
 #elif defined(__aarch64__)
 
 /* 0 to 30 are x0 to x30, 34 says whether the return address is signed, 72 to 79 are d8 to d15. */
-enum { STACK_POINTER = 31, PROGRAM_COUNTER = 32, REGISTERS = 80, GCC_REGISTERS = 98, BELOW = 0 };
+enum { STACK_POINTER = 31, RETURN_ADDRESS = 30, REGISTERS = 80, GCC_REGISTERS = 98, BELOW = 0 };
 
 #define SAVED_REGISTERS {19, 20, 21, 22, 23, 24, 25, 26, 27, 28, 29, 30, STACK_POINTER, 72, 73, 74, 75, 76, 77, 78, 79}
 enum { SAVED = 21 };

@@ -58,7 +58,7 @@ _Unwind_Reason_Code call_personality(struct _Unwind_Context *frame, _Unwind_Acti
         address = *(const uint64_t *)address;
     }
     _Unwind_Personality_Fn personality = (_Unwind_Personality_Fn)address;
-    if (!find_lsda(frame) || !is_personality(personality))
+    if (!address || !find_lsda(frame) || !is_personality(personality))
         return _URC_FATAL_PHASE1_ERROR;
     return personality(1, actions, exception->exception_class, exception, frame);
 }
