@@ -6,6 +6,7 @@
 enum {
     ITERATIONS = 10000, /* how many operations an expression may do */
     NEAR = 1 << 16,     /* on one stack */
+    BEFORE = 1024,      /* registers are saved within so many bytes below the CFA */
     TRIES = 64          /* how often a step may name memory that was not known to be mapped */
 };
 
@@ -38,15 +39,35 @@ static CfiMemory memory_of(const CfiWindow *windows, size_t count) {
                        .address_size = 8};
 }
 
+/* Whether a register that calls preserve was lost: the library takes one whose memory it can't read for unknown. */
+static bool lost_register(const struct _Unwind_Context *frame) {
+    static const uint8_t saved[SAVED] = SAVED_REGISTERS;
+    for (int i = 0; i < SAVED; i++)
+        if (frame->registers[frame->own][saved[i]].known && !frame->registers[!frame->own][saved[i]].known)
+            return true;
+    return false;
+}
+
+/* The memory that a step which ended so would have read too; 0 where there is none. */
+static uint64_t missed_by(const struct _Unwind_Context *frame, uint32_t kind, const CfiEnd *end) {
+    if (kind == CFI_END_UNREADABLE_MEMORY)
+        return end->refused;
+    return kind == CFI_END_NONE && lost_register(frame) ? frame->caller.cfa - BEFORE : 0;
+}
+
 /* The library's step. Memory that it names and that was not known is looked for, and then it steps again. */
 static uint32_t step(struct workspace *workspace, struct _Unwind_Context *frame, const CfiModule *module, CfiEnd *end) {
     CfiValue *registers = frame->registers[frame->own], *caller = frame->registers[!frame->own];
+    struct windows *known = &workspace->windows;
+    if (!is_known(known, frame->cfa - BELOW) && !add_window(known, frame->cfa - BELOW))
+        add_window(known, frame->cfa);
     for (int tries = 0;; tries++) {
         CfiWindow view[WINDOWS];
-        CfiMemory memory = memory_of(view, windows_above(&workspace->windows, frame->cfa, view));
+        CfiMemory memory = memory_of(view, windows_above(known, frame->cfa, view));
         uint32_t kind = cfi_step(&workspace->context, module, &memory, frame->pc, frame->is_interrupted, registers,
                                  REGISTERS, caller, REGISTERS, &frame->facts, &frame->caller, end);
-        if (kind != CFI_END_UNREADABLE_MEMORY || tries == TRIES || !add_window(&workspace->windows, end->refused))
+        uint64_t missed = missed_by(frame, kind, end);
+        if (!missed || tries == TRIES || !add_window(known, missed))
             return kind;
     }
 }

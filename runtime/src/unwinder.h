@@ -98,7 +98,10 @@ struct windows {
 /* The windows that a frame with this stack pointer may read: nothing below it in its own stack. Returns how many. */
 HIDDEN size_t windows_above(const struct windows *known, uint64_t stack_pointer, CfiWindow view[WINDOWS]);
 
-/* Makes the memory at the address known, if it is mapped and was not known. */
+/* Whether the memory at the address is known to be mapped. */
+HIDDEN bool is_known(const struct windows *known, uint64_t address);
+
+/* Makes the memory at the address and around it known, if it is mapped and was not known. */
 HIDDEN bool add_window(struct windows *known, uint64_t address);
 
 /* ---- what a thread needs for a step (workspace.c) */

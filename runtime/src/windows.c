@@ -12,7 +12,7 @@
 
 extern void *__libc_stack_end __attribute__((weak));
 
-enum { PAGE = 4096, PART = 1 << 16, WORD = 8 };
+enum { PAGE = 4096, PART = 1 << 16, GAP = 1 << 24, WORD = 8 };
 
 /* The most that a stack has. Nothing is mapped so near below the first thread's. */
 static const uint64_t FIRST_STACK = (uint64_t)1 << 27, OTHER_STACK = (uint64_t)1 << 30;
@@ -81,20 +81,34 @@ static CfiWindow merged(struct windows *known, uint64_t start, uint64_t end) {
     return window_of(start, end);
 }
 
-bool add_window(struct windows *known, uint64_t address) {
-    if (address < PAGE || address > UINT64_MAX - PART - PAGE)
-        return false;
-    uint64_t start = page_of(address);
+/* Where the unknown memory begins that is made known for the address: at the end of the window before it, if all between is
+ * mapped, or a page before it, since a frame's registers are saved below its return address. */
+static uint64_t start_before(const struct windows *known, uint64_t address) {
+    uint64_t page = page_of(address);
     for (unsigned i = 0; i < known->count; i++) {
-        const CfiWindow *window = &known->list[i];
-        if (window->base <= address && address < end_of(window)) {
-            if (address + WORD <= end_of(window))
-                return false; /* it is below the stack pointer */
-            start = end_of(window);
-        }
+        uint64_t end = end_of(&known->list[i]);
+        if (end <= page && page - end < GAP && is_mapped(end, page + PAGE))
+            return end;
     }
-    uint64_t end = mapped_from(start);
-    if (end <= start)
+    return is_mapped(page - PAGE, page) ? page - PAGE : page;
+}
+
+bool is_known(const struct windows *known, uint64_t address) {
+    for (unsigned i = 0; i < known->count; i++)
+        if (address - known->list[i].base < known->list[i].len)
+            return true;
+    return false;
+}
+
+bool add_window(struct windows *known, uint64_t address) {
+    if (address < 2 * PAGE || address > UINT64_MAX - 2 * PART)
+        return false;
+    if (is_known(known, address)) /* the number may end behind the window, else it is below the stack pointer */
+        address += WORD - 1;
+    if (is_known(known, address))
+        return false;
+    uint64_t start = start_before(known, address), end = mapped_from(page_of(address));
+    if (end <= page_of(address))
         return false;
     CfiWindow window = merged(known, start, end);
     unsigned at = known->count < WINDOWS ? known->count++ : known->next++ % WINDOWS;

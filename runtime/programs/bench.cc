@@ -1,0 +1,125 @@
+// Times of throws and backtraces: usage: bench CHAIN DEPTHS THREADS LIBRARIES
+//
+// CHAIN says what the frames are of: functions (each frame another function), libraries (the frames go round all LIBRARIES) or
+// backtrace (_Unwind_Backtrace over frames of functions). LIBRARIES m0.so, m1.so .. of the working folder are loaded. DEPTHS are
+// numbers of frames, with commas between them. For each, the least mean of some rounds, in nanoseconds.
+#include <algorithm>
+#include <atomic>
+#include <dlfcn.h>
+#include <stdio.h>
+#include <stdlib.h>
+#include <string.h>
+#include <string>
+#include <thread>
+#include <time.h>
+#include <unwind.h>
+#include <vector>
+
+#define NOINLINE __attribute__((noinline, noclone))
+
+static double now() {
+    struct timespec time;
+    clock_gettime(CLOCK_MONOTONIC, &time);
+    return time.tv_sec * 1e9 + time.tv_nsec;
+}
+
+static bool traces;
+
+static _Unwind_Reason_Code go_on(_Unwind_Context *context, void *sum) {
+    *(_Unwind_Ptr *)sum += _Unwind_GetIP(context);
+    return _URC_NO_REASON;
+}
+
+static int bottom(int n) {
+    _Unwind_Ptr sum = 0;
+    if (!traces)
+        throw n;
+    _Unwind_Backtrace(go_on, &sum);
+    return (int)sum;
+}
+
+template <int N> struct Chain {
+    static NOINLINE int go(int frames) {
+        if (frames <= 0)
+            return bottom(frames);
+        int result = Chain<N + 1>::go(frames - 1);
+        if (N % 3 == 0)
+            __asm__ volatile("" : "+r"(result) : : "rbx", "r12", "r13");
+        if (N % 3 == 1) {
+            char room[40 + N % 7 * 32];
+            __asm__ volatile("" : "+r"(result) : "r"(room) : "rbx");
+        }
+        return result + 1;
+    }
+};
+template <> struct Chain<1001> {
+    static NOINLINE int go(int frames) { return bottom(frames); }
+};
+
+typedef int Step(int frames, const void *all, int next, int count);
+static std::vector<Step *> steps;
+
+static int through_libraries(int frames) {
+    return frames <= 0 ? bottom(frames) : steps[0](frames - 1, steps.data(), 1, (int)steps.size());
+}
+
+static int (*chain)(int) = Chain<0>::go;
+
+static double mean_of(int frames, int rounds) {
+    double begin = now();
+    for (int i = 0; i < rounds; i++)
+        try {
+            chain(frames);
+        } catch (int) {
+        }
+    return (now() - begin) / rounds;
+}
+
+static double mean_in_threads(int frames, int rounds, int threads) {
+    std::vector<std::thread> all;
+    std::vector<double> took(threads);
+    std::atomic<int> ready{0};
+    for (double &each : took)
+        all.emplace_back([&, frames, rounds, threads] {
+            mean_of(frames, 3);
+            ready++;
+            while (ready < threads)
+                ;
+            each = mean_of(frames, rounds);
+        });
+    double sum = 0;
+    for (int i = 0; i < threads; i++) {
+        all[i].join();
+        sum += took[i];
+    }
+    return sum / threads;
+}
+
+int main(int count, char **arguments) {
+    if (count < 5)
+        return 2;
+    int threads = atoi(arguments[3]);
+    for (int i = 0; i < atoi(arguments[4]); i++) {
+        void *library = dlopen(("./m" + std::to_string(i) + ".so").c_str(), RTLD_NOW);
+        if (!library) {
+            puts(dlerror());
+            return 1;
+        }
+        steps.push_back((Step *)dlsym(library, "step"));
+    }
+    if (!strcmp(arguments[1], "libraries"))
+        chain = through_libraries;
+    traces = !strcmp(arguments[1], "backtrace");
+    double first = now();
+    mean_of(10, 1);
+    first = now() - first;
+    printf("first %.0f", first);
+    for (char *depth = strtok(arguments[2], ","); depth; depth = strtok(nullptr, ",")) {
+        int frames = atoi(depth), rounds = 5 + 40000 / (frames + 20);
+        double best = 1e18;
+        for (int round = 0; round < 5; round++)
+            best = std::min(best, threads == 1 ? mean_of(frames, rounds) : mean_in_threads(frames, rounds, threads));
+        printf("  %d: %.0f", frames, best);
+    }
+    printf("\n");
+}
