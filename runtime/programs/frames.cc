@@ -64,6 +64,38 @@ NOINLINE static long keep(long a, long b, long c, long d, long e) {
     return 0;
 }
 
+NOINLINE static void thrower(int n) { throw n; }
+
+// Whether a handler has its registers, where no frame below has saved them but the runtime's.
+NOINLINE static bool are_kept(int a, int b, int c, int d, int e) {
+    __asm__ volatile("" : "+r"(a), "+r"(b), "+r"(c), "+r"(d), "+r"(e));
+    try {
+        thrower(a);
+    } catch (int n) {
+        __asm__ volatile("" : "+r"(a), "+r"(b), "+r"(c), "+r"(d), "+r"(e));
+        return n == a && a == 1 && b == 2 && c == 3 && d == 4 && e == 5;
+    }
+    return false;
+}
+
+// The first throw of a process from each place of a page: saved registers lie in two of them.
+static void at_page_boundaries() {
+    int kept = 0;
+    fflush(stdout);
+    for (int i = 0; i < 256; i++) {
+        pid_t child = fork();
+        if (child == 0) {
+            volatile char *room = (volatile char *)alloca(16 * i + 16);
+            room[0] = 1;
+            _exit(are_kept(1, 2, 3, 4, 5));
+        }
+        int status = 0;
+        waitpid(child, &status, 0);
+        kept += WIFEXITED(status) && WEXITSTATUS(status) == 1;
+    }
+    printf("registers are kept at %d places\n", kept);
+}
+
 static void forget(_Unwind_Reason_Code code, _Unwind_Exception *exception) {
     printf("deleted with %d\n", code);
     free(exception);
@@ -167,16 +199,17 @@ static void *throw_on_little(void *) {
 static void little_stack() {
     pthread_attr_t attributes;
     pthread_attr_init(&attributes);
-    pthread_attr_setstacksize(&attributes, 16384);
+    pthread_attr_setstacksize(&attributes, 32768);
     pthread_t thread;
     pthread_create(&thread, &attributes, throw_on_little, nullptr);
     pthread_join(thread, nullptr);
-    printf("on a stack of 16 kB %d\n", alive);
+    printf("on a stack of 32 kB %d\n", alive);
     alive = 0;
 }
 
 int main() {
     setvbuf(stdout, nullptr, _IOLBF, 0);
+    at_page_boundaries();
     rows();
     printf("kept %ld\n", keep(1, 2, 3, 4, 5));
     foreign_exceptions();
