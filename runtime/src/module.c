@@ -38,6 +38,18 @@ static uint64_t section_by(uint64_t header) {
     return header + 4 + (uint64_t)(int64_t)distance;
 }
 
+/* Writes the first address of the module, and the first after it. */
+static void find_ends(const struct headers *headers, CfiModule *module) {
+    *module = (CfiModule){.start = UINT64_MAX};
+    for (size_t i = 0; i < headers->count; i++) {
+        uint64_t start = start_of(headers, i), end = start + headers->all[i].p_memsz;
+        if (headers->all[i].p_type != PT_LOAD)
+            continue;
+        module->start = start < module->start ? start : module->start;
+        module->end = end > module->end ? end : module->end;
+    }
+}
+
 /* Writes where the sections lie: the section up to the end of its segment, for its own length stands nowhere in memory. */
 static bool find_sections(const struct headers *headers, uint64_t header, CfiModule *module) {
     const ElfW(Phdr) *of_header = header_with(headers, PT_GNU_EH_FRAME, header);
@@ -47,6 +59,7 @@ static bool find_sections(const struct headers *headers, uint64_t header, CfiMod
     const ElfW(Phdr) *segment = section ? header_with(headers, PT_LOAD, section) : NULL;
     if (!segment)
         return false;
+    find_ends(headers, module);
     module->eh_frame = (const uint8_t *)section;
     module->eh_frame_len = headers->bias + segment->p_vaddr + segment->p_filesz - section;
     module->header = (const uint8_t *)header;
@@ -66,23 +79,17 @@ struct wanted {
 static int look_in(struct dl_phdr_info *info, size_t size, void *data) {
     struct wanted *wanted = data;
     struct headers headers = {info->dlpi_addr, info->dlpi_phdr, info->dlpi_phnum};
-    uint64_t header = 0, end = 0, start = UINT64_MAX;
+    uint64_t header = 0;
     bool is_inside = false;
     (void)size;
     for (size_t i = 0; i < headers.count; i++) {
-        const ElfW(Phdr) *each = &headers.all[i];
-        uint64_t from = start_of(&headers, i);
-        if (each->p_type == PT_GNU_EH_FRAME)
-            header = from;
-        if (each->p_type != PT_LOAD)
-            continue;
-        is_inside |= wanted->address - from < each->p_memsz;
-        start = from < start ? from : start;
-        end = from + each->p_memsz > end ? from + each->p_memsz : end;
+        if (headers.all[i].p_type == PT_GNU_EH_FRAME)
+            header = start_of(&headers, i);
+        if (headers.all[i].p_type == PT_LOAD)
+            is_inside |= wanted->address - start_of(&headers, i) < headers.all[i].p_memsz;
     }
     if (!is_inside)
         return 0;
-    *wanted->module = (CfiModule){.start = start, .end = end};
     wanted->is_found = header && find_sections(&headers, header, wanted->module);
     return 1;
 }
@@ -125,7 +132,6 @@ bool find_module(uint64_t address, CfiModule *module) {
         return find_by_iteration(address, module);
     if (_dl_find_object((void *)address, &object) != 0 || !object.dlfo_eh_frame)
         return false;
-    *module = (CfiModule){.start = (uint64_t)object.dlfo_map_start, .end = (uint64_t)object.dlfo_map_end};
     if (headers_in_first_page(&object, &headers) && find_sections(&headers, (uint64_t)object.dlfo_eh_frame, module))
         return true;
     return find_by_iteration(address, module);
