@@ -2,7 +2,8 @@
 //
 // CHAIN says what the frames are of: functions (each frame another function), libraries (the frames go round all LIBRARIES) or
 // backtrace (_Unwind_Backtrace over frames of functions). LIBRARIES m0.so, m1.so .. of the working folder are loaded. DEPTHS are
-// numbers of frames, with commas between them. For each, the least mean of some rounds, in nanoseconds.
+// numbers of frames, with commas between them. For each, the least mean of some rounds, in nanoseconds: of the thread's own time
+// if there is one thread, else of the clock.
 #include <algorithm>
 #include <atomic>
 #include <dlfcn.h>
@@ -17,9 +18,11 @@
 
 #define NOINLINE __attribute__((noinline, noclone))
 
+static clockid_t used_clock = CLOCK_THREAD_CPUTIME_ID;
+
 static double now() {
     struct timespec time;
-    clock_gettime(CLOCK_MONOTONIC, &time);
+    clock_gettime(used_clock, &time);
     return time.tv_sec * 1e9 + time.tv_nsec;
 }
 
@@ -99,6 +102,8 @@ int main(int count, char **arguments) {
     if (count < 5)
         return 2;
     int threads = atoi(arguments[3]);
+    if (threads > 1)
+        used_clock = CLOCK_MONOTONIC;
     for (int i = 0; i < atoi(arguments[4]); i++) {
         void *library = dlopen(("./m" + std::to_string(i) + ".so").c_str(), RTLD_NOW);
         if (!library) {
@@ -115,7 +120,7 @@ int main(int count, char **arguments) {
     first = now() - first;
     printf("first %.0f", first);
     for (char *depth = strtok(arguments[2], ","); depth; depth = strtok(nullptr, ",")) {
-        int frames = atoi(depth), rounds = 5 + 40000 / (frames + 20);
+        int frames = atoi(depth), rounds = 5 + 20000 / (frames + 20);
         double best = 1e18;
         for (int round = 0; round < 5; round++)
             best = std::min(best, threads == 1 ? mean_of(frames, rounds) : mean_in_threads(frames, rounds, threads));

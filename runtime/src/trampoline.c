@@ -1,5 +1,6 @@
 /* A signal's trampoline that has no unwind information, as some programs make their own: it is known by its code, and what was
  * interrupted by the kernel's frame above it. */
+#include <signal.h>
 #include <string.h>
 #include <ucontext.h>
 
@@ -7,35 +8,55 @@
 
 #if defined(__x86_64__)
 
-/* Whether the code is that of a trampoline: mov $__NR_rt_sigreturn, %rax; syscall. Only a loaded module's code is read. */
-static bool is_trampoline(uint64_t pc) {
-    static const uint8_t code[] = {0x48, 0xc7, 0xc0, 0x0f, 0, 0, 0, 0x0f, 0x05};
-    return is_readable_code(pc) && memcmp((const void *)pc, code, sizeof code) == 0;
+/* mov $__NR_rt_sigreturn, %rax; syscall */
+static const uint8_t CODE[] = {0x48, 0xc7, 0xc0, 0x0f, 0, 0, 0, 0x0f, 0x05};
+
+static bool may_be_code(uint64_t pc) {
+    return is_readable_code(pc);
 }
 
-bool step_from_trampoline(struct _Unwind_Context *frame) {
-    static const struct {
-        uint8_t number, place;
-    } saved[] = {{0, REG_RAX}, {1, REG_RDX}, {2, REG_RCX}, {3, REG_RBX}, {4, REG_RSI}, {5, REG_RDI},
-                 {6, REG_RBP}, {7, REG_RSP}, {8, REG_R8}, {9, REG_R9}, {10, REG_R10}, {11, REG_R11},
-                 {12, REG_R12}, {13, REG_R13}, {14, REG_R14}, {15, REG_R15}, {16, REG_RIP}};
-    if (!is_trampoline(frame->pc))
-        return false;
-    const ucontext_t *interrupted = (const ucontext_t *)frame->cfa;
-    for (size_t i = 0; i < sizeof saved / sizeof *saved; i++) {
-        uint64_t value = (uint64_t)interrupted->uc_mcontext.gregs[saved[i].place];
-        frame->registers[!frame->own][saved[i].number] = (CfiValue){value, true};
-    }
-    frame->facts = (CfiFunction){.start = frame->pc, .is_signal_trampoline = true};
-    frame->caller = (CfiCaller){.pc = (uint64_t)interrupted->uc_mcontext.gregs[REG_RIP], .is_interrupted = true};
-    return true;
+/* Writes the registers that were interrupted, and returns their pc. */
+static uint64_t read_interrupted(uint64_t stack_pointer, CfiValue *registers) {
+    static const uint8_t places[] = {REG_RAX, REG_RDX, REG_RCX, REG_RBX, REG_RSI, REG_RDI, REG_RBP, REG_RSP,
+                                     REG_R8, REG_R9, REG_R10, REG_R11, REG_R12, REG_R13, REG_R14, REG_R15};
+    const ucontext_t *interrupted = (const ucontext_t *)stack_pointer;
+    for (size_t k = 0; k < sizeof places; k++)
+        registers[k] = (CfiValue){(uint64_t)interrupted->uc_mcontext.gregs[places[k]], true};
+    return (uint64_t)interrupted->uc_mcontext.gregs[REG_RIP];
 }
 
-#else
+#elif defined(__aarch64__)
 
-bool step_from_trampoline(struct _Unwind_Context *frame) {
-    (void)frame;
-    return false;
+/* mov x8, #__NR_rt_sigreturn; svc #0: the kernel's own has no unwind information, so that this is looked for. */
+static const uint32_t CODE[] = {0xd2801168, 0xd4000001};
+
+/* It is in no module where there is no vDSO. */
+static bool may_be_code(uint64_t pc) {
+    return pc % sizeof *CODE == 0 && is_mapped(pc & -(uint64_t)4096, (pc & -(uint64_t)4096) + 4096);
+}
+
+static uint64_t read_interrupted(uint64_t stack_pointer, CfiValue *registers) {
+    const struct {
+        siginfo_t info;
+        ucontext_t context;
+    } *saved = (const void *)stack_pointer;
+    const mcontext_t *interrupted = &saved->context.uc_mcontext;
+    const struct fpsimd_context *vectors = (const void *)interrupted->__reserved;
+    for (int k = 0; k < 31; k++)
+        registers[k] = (CfiValue){interrupted->regs[k], true};
+    registers[STACK_POINTER] = (CfiValue){interrupted->sp, true};
+    for (int k = 8; k < 16 && vectors->head.magic == FPSIMD_MAGIC; k++)
+        registers[64 + k] = (CfiValue){(uint64_t)vectors->vregs[k], true};
+    return interrupted->pc;
 }
 
 #endif
+
+bool step_from_trampoline(struct _Unwind_Context *frame) {
+    if (!may_be_code(frame->pc) || memcmp((const void *)frame->pc, CODE, sizeof CODE) != 0)
+        return false;
+    uint64_t pc = read_interrupted(frame->cfa, frame->registers[!frame->own]);
+    frame->facts = (CfiFunction){.start = frame->pc, .is_signal_trampoline = true};
+    frame->caller = (CfiCaller){.pc = pc, .is_interrupted = true};
+    return true;
+}

@@ -98,6 +98,9 @@ struct windows {
 /* The windows that a frame with this stack pointer may read: nothing below it in its own stack. Returns how many. */
 HIDDEN size_t windows_above(const struct windows *known, uint64_t stack_pointer, CfiWindow view[WINDOWS]);
 
+/* Whether all pages from start to end are mapped. */
+HIDDEN bool is_mapped(uint64_t start, uint64_t end);
+
 /* Whether the memory at the address is known to be mapped. */
 HIDDEN bool is_known(const struct windows *known, uint64_t address);
 

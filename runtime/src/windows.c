@@ -29,8 +29,8 @@ static CfiWindow window_of(uint64_t start, uint64_t end) {
     return (CfiWindow){.base = start, .bytes = (const uint8_t *)start, .len = end - start};
 }
 
-/* Whether all pages are mapped. Of the advices this is the one that changes nothing. */
-static bool is_mapped(uint64_t start, uint64_t end) {
+/* Of the advices this is the one that changes nothing. */
+bool is_mapped(uint64_t start, uint64_t end) {
     int was = errno;
     bool is = madvise((void *)start, end - start, MADV_NORMAL) == 0;
     errno = was;
