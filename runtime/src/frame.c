@@ -89,9 +89,12 @@ enum found step_in(struct _Unwind_Context *frame, const CfiModule *module) {
     if (!workspace)
         return CORRUPT;
     CfiEnd end;
-    /* A call overwrites it, so a row without a rule for it does not give the frame itself once more. Rows of procedure linkage
-     * tables read the pc; they are the innermost or interrupted. */
-    frame->registers[frame->own][RETURN_ADDRESS] = (CfiValue){frame->pc, frame->is_interrupted};
+    /* A call overwrites it, so a row without a rule for it does not give the frame itself once more. On x86-64 it stands for
+     * the pc, which rows of procedure linkage tables read: their frames are interrupted ones. */
+    CfiValue *return_address = &frame->registers[frame->own][RETURN_ADDRESS];
+    return_address->known = frame->is_interrupted;
+    if (!IS_AARCH64)
+        return_address->value = frame->pc;
     enum found found = found_by(step(workspace, frame, module, &end), &end);
     give_workspace(workspace);
     return found;
