@@ -1,4 +1,4 @@
--- A file of 32 bits, the most significant byte first, by computation; headers and symbols of 64 bits.
+-- A file of 32 bits, the most significant byte first, by computation; headers and symbols of 64 bits, some of a real program.
 use Rattle.std.proofs.Common.{◌≡◌, ℕ, ◌+◌, ◌-◌, ◌*◌, List, [], ◌∷◌, codes, false, Option, Some, None, Result, Ok, Err, refl, ap, ◌∙◌}
 use Rattle.std.specs.Prelude.{nat_lt, if◌then◌else◌, take, drop}
 use Rattle.cfi_read_core.specs.declared.endianity.RunTimeEndian.TheVariants.{Big}
@@ -6,7 +6,7 @@ use Rattle.cfi_elf.specs.declared.error.ElfError.{ElfError}
 use Rattle.cfi_elf.specs.declared.error.ElfError.TheVariants.{NotElf, HeaderCut, NotRead, SectionTableOutOfBounds, NameOutOfBounds, NameNotTerminated}
 use Rattle.cfi_elf.specs.declared.file_header.Class.TheVariants.{Elf32, Elf64}
 use Rattle.cfi_elf.specs.Results.{and_then}
-use Rattle.cfi_elf.specs.Headers.{program_header, symbol}
+use Rattle.cfi_elf.specs.Headers.{file_header, program_header, section_header, symbol}
 use Rattle.cfi_elf.specs.ElfFiles.{File, elf_file, elf_file_of, file_by, header_bytes, identification}
 use Rattle.cfi_elf.specs.Images.{Image, Part, bytes_at, whole}
 use Rattle.cfi_elf.specs.Sections.{first_section_header, section_count, section_table, contents, name_at, name_section, names_at, section_names, is_named, header_named, section_named, address_of, section_address, debug_frame}
@@ -179,7 +179,21 @@ unterminated : name_at (0 ∷ 0x61 ∷ []) 1 ≡ Err NameNotTerminated
 unfolding computing
 unterminated = refl
 
--- ---- of 64 bits, the least significant byte first
+-- ---- of 64 bits, the least significant byte first: of a program of Debian 12 (true), and what readelf prints of it
+
+header_of_64_bits : file_header Elf64 false (bytes_behind None (codes "7f454c4602010100000000000000000003003e0001000000d0230000000000004000000000000000908300000000000000000000400038000d0040001f001e00"))
+    ≡ record {
+      kind = record { e_type = 3; e_machine = 62; e_version = 1 };
+      offsets = record { e_phoff = 64; e_shoff = 33680 };
+      sizes = record { e_phentsize = 56; e_phnum = 13; e_shentsize = 64; e_shnum = 31; e_shstrndx = 30 };
+    }
+unfolding computing
+header_of_64_bits = refl
+
+section_of_64_bits : section_header Elf64 false (bytes_behind None (codes "c2000000010000000200000000000000006e000000000000006e000000000000600d000000000000000000000000000008000000000000000000000000000000"))
+    ≡ record { sh_name = 194; sh_type = 1; sh_flags = 2; sh_addr = 0x6e00; sh_offset = 0x6e00; sh_size = 0xd60; sh_link = 0; sh_info = 0 }
+unfolding computing
+section_of_64_bits = refl
 
 segment_of_64_bits : program_header Elf64 false (bytes_behind None (codes "0100000005000000000200000000000000124000000000000012400000000000300000000000000040000000000000000010000000000000"))
     ≡ record { p_type = 1; p_flags = 5; p_offset = 0x200; p_vaddr = 0x401200; p_filesz = 0x30 }
