@@ -1,6 +1,7 @@
 mod Counts
 mod Faithful
 mod HeldThere
+pub mod Laws
 mod Names
 mod PointerPairs
 mod RuleWrites

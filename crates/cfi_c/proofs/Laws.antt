@@ -1,0 +1,44 @@
+-- The frames of cfi_unwind are those of cfi_step again and again: where the memory is one window, the bytes of the stack, a
+-- step of cfi_step is one of the walk (IsStepInModule, of which IsWalkForC is made).
+use Rattle.std.proofs.Common.{◌≡◌, ◌∙◌, ℕ, Bool, List, [], ◌∷◌, Option, Some, None, refl, ap, subst}
+use Rattle.cfi_expression.specs.Frames.{Frame}
+use Rattle.cfi_step.specs.declared.abi.Abi.{Abi}
+use Rattle.cfi_step.specs.declared.function.FunctionStep.{FunctionStep}
+use Rattle.cfi_step.specs.Walks.{State, address_of}
+use Rattle.cfi_c.specs.declared.memory.CfiMemory.{CfiMemory}
+use Rattle.cfi_c.specs.declared.memory.CfiWindow.{CfiWindow}
+use Rattle.cfi_c.specs.declared.stack.CfiModule.{CfiModule}
+use Rattle.cfi_c.specs.declared.stack.CfiStack.{CfiStack}
+use Rattle.cfi_c.specs.PassedMemories.{abi_in, first_of, number_in_memory, number_in_window, number_in_windows}
+use Rattle.cfi_c.specs.PassedStacks.{abi_of, memory_of}
+use Rattle.cfi_c.specs.StackFrames.{IsStepByFde, IsStepInModule, frame_of}
+use Rattle.cfi_c.specs.SteppedFrames.{IsStepFrom, frame_in}
+
+abbrev pub window_of : CfiStack → CfiWindow
+window_of stack = record { base = stack.base; bytes = stack.bytes }
+
+-- the memory is the stack's bytes, under its ABI
+abbrev pub IsOfStack : CfiMemory → CfiStack → Type 0
+IsOfStack memory stack =
+    (memory.windows.now ≡ window_of stack ∷ []) × (memory.big_endian ≡ stack.big_endian) × (memory.address_size ≡ stack.address_size) × (abi_in memory ≡ abi_of stack)
+
+first_alone : (o : Option ℕ) → first_of o None ≡ o
+first_alone None = refl
+first_alone (Some n) = refl
+
+module _ (memory : CfiMemory) (stack : CfiStack) (is : IsOfStack memory stack) where
+  same_number : (a size : ℕ) → number_in_memory memory a size ≡ memory_of stack a size
+  same_number a size =
+      ap (λ (b : Bool). number_in_windows b memory.windows.now a size) is.1
+      ∙ (ap (λ (ws : List CfiWindow). number_in_windows stack.big_endian ws a size) is.0 ∙ first_alone (number_in_window stack.big_endian (window_of stack) a size))
+
+  same_frame : (s : State) → frame_in memory s.registers ≡ frame_of stack s
+  same_frame s = λ i. record { registers = s.registers; memory = λ a size. same_number a size i; size = is.2 i }
+
+  pub step_of_walk : (loaded : CfiModule) (s : State) (step : FunctionStep) (caller : List (Option ℕ))
+      → IsStepFrom loaded memory (address_of s) s.registers step caller → IsStepInModule stack loaded s step.caller caller
+  step_of_walk loaded s step caller made = (
+    made.0,
+    subst (λ (f : Frame). IsStepByFde f (abi_of stack) loaded (address_of s) made.0 step.caller caller) (same_frame s)
+    (subst (λ (b : Abi). IsStepByFde (frame_in memory s.registers) b loaded (address_of s) made.0 step.caller caller) is.3 made.1),
+  )
