@@ -40,5 +40,5 @@ module _ (memory : CfiMemory) (stack : CfiStack) (is : IsOfStack memory stack) w
   step_of_walk loaded s step caller made = (
     made.0,
     subst (λ (f : Frame). IsStepByFde f (abi_of stack) loaded (address_of s) made.0 step.caller caller) (same_frame s)
-    (subst (λ (b : Abi). IsStepByFde (frame_in memory s.registers) b loaded (address_of s) made.0 step.caller caller) is.3 made.1),
+        (subst (λ (b : Abi). IsStepByFde (frame_in memory s.registers) b loaded (address_of s) made.0 step.caller caller) is.3 made.1),
   )
