@@ -300,7 +300,8 @@ size_t cfi_unwind(CfiContext *context, const CfiModule *modules, size_t modules_
  *
  * registers[k] and caller_registers[k] have DWARF's number k. Those from 256 on aren't read, and aren't known of a caller. On
  * x86-64 register 16 is the pc: pass it, since rows of procedure linkage tables read it. Only the bytes of memory that the
- * rules name are read, and the module's sections. */
+ * rules name are read, and the module's sections. A register of the caller that is saved outside of the windows isn't known:
+ * that is no error, so pass what memory there is. */
 uint32_t cfi_step(CfiContext *context, const CfiModule *module, const CfiMemory *memory, uint64_t pc, bool is_interrupted,
                   const CfiValue *registers, size_t registers_len, CfiValue *caller_registers, size_t caller_registers_len,
                   CfiFunction *function, CfiCaller *caller, CfiEnd *end);
