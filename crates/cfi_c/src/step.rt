@@ -28,6 +28,9 @@ use std::mem;
 /// The kind of an end where there is a caller.
 const NONE: u32 = 17;
 
+/// For so many registers little of the stack is taken.
+const FEW: usize = 32;
+
 /// The caller of a frame.
 #[repr(C)]
 #[derive(Clone, Copy)]
@@ -147,7 +150,75 @@ fn step_sized(
 }
 
 /// The step from a frame with these values of registers. Writes those of the caller.
+///
+/// Few registers, as those of x86-64, take little of the stack: a signal handler may have a small one.
 fn step_by_values(
+    context: &mut Context,
+    module: &CfiModule<'_>,
+    memory: &CfiMemory<'_>,
+    address: u64,
+    registers: &[CfiValue],
+    caller_registers: &mut [CfiValue],
+) -> FunctionStep
+    requires size { IsAddressSize memory.now.address_size }
+    requires room { length registers.now ≤ 256 }
+    ensures step { IsStepWith module.now memory.now address (map known_value registers.now)
+        result caller_registers.new }
+    ensures unwritten { OnErr result.caller (caller_registers.new ≡ caller_registers.old) }
+{
+    if registers.len() <= FEW && caller_registers.len() <= FEW {
+        step_by_few(
+            context,
+            module,
+            memory,
+            address,
+            registers,
+            caller_registers,
+        )
+    } else {
+        step_by_many(
+            context,
+            module,
+            memory,
+            address,
+            registers,
+            caller_registers,
+        )
+    }
+}
+
+/// The same for at most 32 registers.
+#[inline(never)]
+fn step_by_few(
+    context: &mut Context,
+    module: &CfiModule<'_>,
+    memory: &CfiMemory<'_>,
+    address: u64,
+    registers: &[CfiValue],
+    caller_registers: &mut [CfiValue],
+) -> FunctionStep
+    requires size { IsAddressSize memory.now.address_size }
+    requires room { length registers.now ≤ 32 }
+    requires caller_room { length caller_registers.old ≤ 32 }
+    ensures step { IsStepWith module.now memory.now address (map known_value registers.now)
+        result caller_registers.new }
+    ensures unwritten { OnErr result.caller (caller_registers.new ≡ caller_registers.old) }
+{
+    let mut known = [None; FEW];
+    let mut found = [None; FEW];
+    let known = &mut known[..registers.len()];
+    let found = &mut found[..caller_registers.len()];
+    write_values(registers, known);
+    let step = step_from(context, module, memory, address, known, found);
+    if step.caller.is_ok() {
+        write_registers(found, caller_registers);
+    }
+    step
+}
+
+/// The same for any number of them.
+#[inline(never)]
+fn step_by_many(
     context: &mut Context,
     module: &CfiModule<'_>,
     memory: &CfiMemory<'_>,

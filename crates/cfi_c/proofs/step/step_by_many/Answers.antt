@@ -3,7 +3,7 @@ use Rattle.std.specs.Prelude.{is_ok}
 use Rattle.std.proofs.lemmas.List.{length-take}
 use Rattle.cfi_c.specs.SteppedFrames.{AreValues, IsStepFrom}
 use Rattle.cfi_c.proofs.SteppedValues.{if_not_ok, if_ok}
-use Rattle.cfi_c.proofs.step.step_by_values.Goals as goal
+use Rattle.cfi_c.proofs.step.step_by_many.Goals as goal
 
 pub returns-then-is_ok-clause-step : goal.returns-then-is_ok-clause-step
 returns-then-is_ok-clause-step c =
