@@ -151,7 +151,8 @@ fn step_sized(
 
 /// The step from a frame with these values of registers. Writes those of the caller.
 ///
-/// Few registers, as those of x86-64, take little of the stack: a signal handler may have a small one.
+/// Few registers, as those of x86-64, take little of the stack, which a signal handler may have
+/// little of.
 fn step_by_values(
     context: &mut Context,
     module: &CfiModule<'_>,
