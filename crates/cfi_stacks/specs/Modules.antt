@@ -11,7 +11,8 @@ use Rattle.cfi_read_core.specs.ByteOrder.{is_big}
 use Rattle.cfi_read_core.specs.SliceReaders.{EndianSlice, slice_position}
 use Rattle.cfi_entry.specs.Sections.{Section}
 use Rattle.cfi_entry.specs.SectionViews.{eh_frame_address_size}
-use Rattle.gimli_cfi.specs.Words.{BaseAddresses, EhFrame, EhFrameHdr}
+use Rattle.gimli_cfi.specs.Words.{BaseAddresses, EhFrame}
+use Rattle.gimli_cfi.specs.declared.hdr.header.EhFrameHdr.{EhFrameHdr}
 use Rattle.gimli_cfi.specs.EhFrameHdr.{HeaderSection}
 use Rattle.gimli_cfi.specs.HeaderViews.{section_view, unparsed_view}
 use Rattle.cfi_compiled.specs.CompiledTables.{TableContents}

@@ -1,5 +1,5 @@
 //! Files of a profile as modules: their call frames, where a process has mapped them.
-ghost use Rattle.std.specs.Prelude.{⊤};
+ghost use Rattle.std.specs.Prelude.{◌≡◌, ⊤};
 
 use crate::mappings::MappedCode;
 use cfi_compiled::CompiledTable;
@@ -35,7 +35,7 @@ impl Clone for Object<'_> {
 impl Copy for Object<'_> {}
 
 impl<'file> Object<'file> {
-    ghost use Rattle.std.specs.Prelude.{◌≡◌, Some, IfErr, IfOk, IfSome, option_map};
+    ghost use Rattle.std.specs.Prelude.{Some, IfErr, IfOk, IfSome, option_map};
     ghost use Rattle.cfi_compiled.specs.CompiledTables.{IsCompiled};
     ghost use Rattle.cfi_elf.specs.ElfFiles.{file_view};
     ghost use Rattle.cfi_stacks.specs.Modules.{loaded_module, module_view};
