@@ -2,3 +2,4 @@ pub mod Cases
 pub mod Shifts
 pub mod Running
 pub mod Worked
+pub mod Laws
