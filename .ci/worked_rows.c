@@ -73,8 +73,8 @@ static int print_rule(char *out, const CfiRule *rule) {
 /* The answer in the program's words. */
 static void print_answer(char *out, const CfiRow *row, const CfiRule *rules) {
     if (row->status != CFI_Ok) {
-        uint8_t name[64] = {0};
-        cfi_status_name(row->status, name, sizeof name - 1);
+        uint8_t name[64];
+        cfi_status_name(row->status, name, sizeof name);
         sprintf(out, "refused %s", (char *)name);
         return;
     }
@@ -233,7 +233,7 @@ static void check_tables(void) {
 static void check_names(void) {
     uint8_t name[64];
 #define CHECK_NAME(number, text) \
-    expect(cfi_status_name(number, name, sizeof name) == strlen(#text) && !memcmp(name, #text, strlen(#text)), #text);
+    expect(cfi_status_name(number, name, sizeof name) == strlen(#text) && !memcmp(name, #text, sizeof #text), #text);
     CFI_REFUSALS(CHECK_NAME)
     CHECK_NAME(0, Ok)
     CHECK_NAME(32, NoContext)
@@ -242,6 +242,43 @@ static void check_names(void) {
     CHECK_NAME(-1, Unknown)
     memset(name, GUARD, sizeof name);
     expect(cfi_status_name(CFI_StackFull, name, 5) == 9 && !memcmp(name, "Stack", 5) && name[5] == GUARD, "a short name");
+    expect(cfi_version() == CFI_VERSION, "the version");
+}
+
+/* A CIE and the FDEs of 0x1000 to 0x1010, 0x1010 to 0x1020 and 0x1020 to 0x1040, at 0x18, 0x2c and 0x40 of a section at
+ * 0x2000; the header of its table, at 0x1f00, up to the count; and its rows. */
+static const char listed[] = "140000000000000001" "7a5200017810011b0c070890010000" "100000001c000000e0efffff1000000000000000"
+                             "1000000030000000dcefffff1000000000410e10" "1000000044000000d8efffff2000000000000000";
+static const char head[] = "011b033bfc000000", row_1[] = "00f1ffff18010000", row_2[] = "10f1ffff2c010000",
+                  row_3[] = "20f1ffff40010000";
+
+/* Checks the table of these rows, and compares the kind and what goes with it. */
+static void check_verdict(const char *count, const char *rows, uint8_t size, CfiVerdict due) {
+    uint8_t section[sizeof listed / 2], header[64];
+    char text[129];
+    CfiBases bases = {.section = 0x2000, .header = 0x1f00, .address_size = size};
+    CfiVerdict verdict = {.kind = GUARD};
+    int before = calls_for_memory;
+    snprintf(text, sizeof text, "%s%s%s", *count ? head : "-", count, rows);
+    size_t header_len = unhex(text, header);
+    uint32_t kind = cfi_check_table(section, unhex(listed, section), header, header_len, &bases, &verdict);
+    expect(kind == due.kind && verdict.kind == kind && verdict.status == due.status && verdict.refused == due.refused
+               && verdict.first == due.first && verdict.second == due.second && verdict.third == due.third,
+           "another verdict on a table");
+    expect(calls_for_memory == before, "memory was asked for by cfi_check_table");
+}
+
+static void check_verdicts(void) {
+    char rows[64];
+    snprintf(rows, sizeof rows, "%s%s%s", row_1, row_2, row_3);
+    check_verdict("03000000", rows, 8, (CfiVerdict){.kind = CFI_FAITHFUL, .first = 3});
+    check_verdict("03000000", rows, 3, (CfiVerdict){.kind = CFI_HEADER_REFUSED, .status = CFI_UnsupportedAddressSize, .refused = 3});
+    check_verdict("", "", 8, (CfiVerdict){.kind = CFI_NO_TABLE});
+    check_verdict("00000000", "", 8, (CfiVerdict){.kind = CFI_NO_TABLE});
+    snprintf(rows, sizeof rows, "%s%s", row_1, row_3);
+    check_verdict("02000000", rows, 8, (CfiVerdict){.kind = CFI_FDE_WITHOUT_ROW, .first = 0x2c, .second = 0x1010});
+    snprintf(rows, sizeof rows, "%s%s", row_3, row_1);
+    check_verdict("02000000", rows, 8, (CfiVerdict){.kind = CFI_NOT_RISING, .first = 1, .second = 0x1020, .third = 0x1000});
 }
 
 int main(void) {
@@ -252,6 +289,7 @@ int main(void) {
     CfiTable table = {0};
     check_contexts();
     check_tables();
+    check_verdicts();
     check_names();
     expect(cfi_context_new(&context) == CFI_Ok, "a context");
     while (fgets(line, sizeof line, stdin)) {

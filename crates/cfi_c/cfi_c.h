@@ -31,6 +31,9 @@
 extern "C" {
 #endif
 
+/* 10,000 times the first number of the version, 100 times the second, and the third. */
+#define CFI_VERSION 100 /* 0.1.0 */
+
 /* Status 0 is a row; the others are the refusals of the library, by its names, 32 where there is no
  * context, and 33 where there is no table. */
 #define CFI_REFUSALS(X) \
@@ -239,6 +242,29 @@ typedef struct {
     int32_t status; /* by CFI_END_NO_ROW, CFI_END_UNREADABLE and CFI_END_NOT_WALKED, else 0 */
 } CfiEnd;
 
+/* What a check of a header's table found. Behind each kind is what CfiVerdict has. From 2 to 4, 6 and 7 the status is the
+ * refusal, with what it carries in refused; else both are 0. */
+typedef enum {
+    CFI_FAITHFUL = 0,       /* a row by the table is that by a scan for every address; first: how many rows it has */
+    CFI_NO_TABLE = 1,       /* there is no header, or it has no rows */
+    CFI_HEADER_REFUSED = 2, /* the header can't be read before its rows */
+    CFI_UNSEARCHABLE = 3,   /* its rows have a format that can't be searched, or its pointer to .eh_frame is indirect */
+    CFI_ROW_REFUSED = 4,    /* a row can't be read; first: its index */
+    CFI_NOT_RISING = 5,     /* a row doesn't start above the one before it; its index, the start before, its own */
+    CFI_ENTRY_REFUSED = 6,  /* a scan can't read an entry; first: its offset */
+    CFI_FDE_REFUSED = 7,    /* an FDE or its CIE can't be read; first: the FDE's offset */
+    CFI_FDE_WITHOUT_ROW = 8, /* an FDE has no row; its offset, its first address */
+    CFI_OVERLAP = 9,        /* an FDE contains the start of the next row; its offset, its end, that start */
+    CFI_FEWER_FDES = 10     /* there are fewer FDEs than rows; first: rows, second: FDEs */
+} CfiVerdictKind;
+
+typedef struct {
+    uint64_t first, second, third; /* 0 where the kind says nothing of it */
+    uint64_t refused;
+    uint32_t kind;                 /* CfiVerdictKind */
+    int32_t status;
+} CfiVerdict;
+
 /* Makes a context, and frees one that was there. CFI_OutOfMemory where malloc fails: then the one that was there stays. */
 int32_t cfi_context_new(CfiContext *context);
 
@@ -257,6 +283,12 @@ int32_t cfi_row_by_scan(CfiContext *context, const uint8_t *section, size_t sect
 int32_t cfi_row_by_table(CfiContext *context, const uint8_t *eh_frame, size_t eh_frame_len, const uint8_t *header,
                          size_t header_len, const CfiBases *bases, uint64_t address, CfiRow *row, CfiRule *rules,
                          size_t rules_len);
+
+/* Checks whether the table of .eh_frame_hdr lists the FDEs of .eh_frame faithfully, and writes what it found. Returns
+ * verdict->kind: CFI_FAITHFUL only where cfi_row_by_table has for every address the row that cfi_row_by_scan has, and a reason
+ * only where it holds. bases->debug_frame isn't read. A size of an address that is none is CFI_HEADER_REFUSED. */
+uint32_t cfi_check_table(const uint8_t *eh_frame, size_t eh_frame_len, const uint8_t *header, size_t header_len,
+                         const CfiBases *bases, CfiVerdict *verdict);
 
 /* The rows of many addresses, each as cfi_row_by_table answers it, or as cfi_row_by_scan where header_len is 0: rows[i],
  * and the per_row rules from rules[i * per_row] on, are those of addresses[i]. Returns how many are answered: as many as
@@ -306,9 +338,12 @@ uint32_t cfi_step(CfiContext *context, const CfiModule *module, const CfiMemory 
                   const CfiValue *registers, size_t registers_len, CfiValue *caller_registers, size_t caller_registers_len,
                   CfiFunction *function, CfiCaller *caller, CfiEnd *end);
 
-/* Writes the name of a status, as in "UnexpectedEof", as far as there is room for it, without a zero at its end. Returns
- * how long it is. "Unknown" for a number that is no status. */
+/* Writes the name of a status, as in "UnexpectedEof", and a zero after it, as far as there is room. Returns how long the name
+ * is, without the zero; 64 bytes have room for each. "Unknown" for a number that is no status. */
 size_t cfi_status_name(int32_t status, uint8_t *name, size_t name_len);
+
+/* CFI_VERSION of the header that the library was built with. */
+uint32_t cfi_version(void);
 
 #ifdef __cplusplus
 }

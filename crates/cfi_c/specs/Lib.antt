@@ -7,6 +7,7 @@ pub mod WrittenRows
 pub mod AddressRows
 pub mod ManyAddresses
 pub mod TableRows
+pub mod TableVerdicts
 pub mod PassedStacks
 pub mod StackFrames
 pub mod PassedMemories

@@ -9,7 +9,7 @@
 --     IsUnwound live modules stack pc registers frames new count end      what C gets, with a
 --         context or none
 use Rattle.std.specs.Prelude.{◌≡◌, ℕ, pos, Bool, true, false, List, take, Option, Some, None}
-use Rattle.std.specs.Prelude.{Result, Ok, Err, IfOk}
+use Rattle.std.specs.Prelude.{Result, IfOk}
 use Rattle.std.specs.Int.{w16, cast_unsigned}
 use Rattle.cfi_read_core.specs.declared.error.Error.{Error}
 use Rattle.cfi_read_core.specs.declared.error.Error.TheVariants.{UnsupportedAddressSize}

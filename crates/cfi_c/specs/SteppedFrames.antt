@@ -5,7 +5,7 @@
 --     IsStepOf live .. old new step      the step with the values that C passes and gets, or why
 --         there is none
 --     IsStepped live .. function old_caller caller end      what C gets, with a context or none
-use Rattle.std.specs.Prelude.{◌≡◌, ℕ, ◌<◌, pos, Bool, true, false, List, length, take, Option, Some}
+use Rattle.std.specs.Prelude.{◌≡◌, ℕ, ◌<◌, Bool, true, false, List, length, take, Option, Some}
 use Rattle.std.specs.Prelude.{None, Result, Ok, Err, IfOk, OnErr, is_some, slice_index_or}
 use Rattle.cfi_read_core.specs.declared.error.Error.{Error}
 use Rattle.cfi_read_core.specs.declared.error.Error.TheVariants.{UnsupportedAddressSize}

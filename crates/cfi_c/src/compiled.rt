@@ -1,5 +1,5 @@
 //! Rows of compiled tables.
-ghost use Rattle.std.specs.Prelude.{◌≡◌, None, IfOk, length, true, false};
+ghost use Rattle.std.specs.Prelude.{◌≡◌, None, IfOk, length};
 ghost use Rattle.std.specs.Option.{option_map};
 ghost use Rattle.cfi_read_core.specs.Addresses.{IsAddressSize};
 ghost use Rattle.cfi_read_core.specs.ReaderCalls.{map_ok};
@@ -9,13 +9,13 @@ ghost use Rattle.cfi_c.specs.PassedSections.{lent};
 ghost use Rattle.cfi_c.specs.WrittenRows.{IsRules, rule_at};
 ghost use Rattle.cfi_c.specs.TableRows.{IsTableMade, IsTableOf, IsTableRow, table_in, unplaced};
 
-use crate::find::{bases_of, endian_of, is_sized, vendor_of};
+use crate::find::{is_sized, source_of};
 use crate::refusal::{NO_TABLE, number_of, value_of};
 use crate::table::CfiTable;
 use crate::written::{cfa_row, rule_of};
 use crate::{CfiBases, CfiRow, CfiRule};
 use cfi_compiled::{CompiledRow, CompiledTable};
-use gimli_cfi::{DebugFrame, EhFrame, Error, Register, RegisterRule};
+use gimli_cfi::{CallFrameSection, Error, Register, RegisterRule};
 use std::alloc::Global;
 use std::mem;
 
@@ -84,39 +84,11 @@ fn compile(alloc: Global, section: &[u8], bases: &CfiBases) -> Result<CompiledTa
     requires { IsAddressSize bases.now.address_size }
     ensures { IfOk result (IsTableOf bases.now section.now) }
 {
-    if bases.debug_frame {
-        compile_debug_frame(alloc, section, bases)
-    } else {
-        compile_eh_frame(alloc, section, bases)
+    let source = source_of(section, None, bases);
+    match source.section() {
+        CallFrameSection::DebugFrame(frame) => CompiledTable::new(alloc, &frame, &source.bases),
+        CallFrameSection::EhFrame(frame) => CompiledTable::new(alloc, &frame, &source.bases),
     }
-}
-
-/// Makes the compiled table of `.debug_frame`.
-fn compile_debug_frame(
-    alloc: Global,
-    section: &[u8],
-    bases: &CfiBases,
-) -> Result<CompiledTable, Error>
-    requires size { IsAddressSize bases.now.address_size }
-    requires kind { bases.now.debug_frame ≡ true }
-    ensures { IfOk result (IsTableOf bases.now section.now) }
-{
-    let mut frame = DebugFrame::new(section, endian_of(bases));
-    frame.set_address_size(bases.address_size);
-    frame.set_vendor(vendor_of(bases));
-    CompiledTable::new(alloc, &frame, &bases_of(bases))
-}
-
-/// Makes the compiled table of `.eh_frame`.
-fn compile_eh_frame(alloc: Global, section: &[u8], bases: &CfiBases) -> Result<CompiledTable, Error>
-    requires size { IsAddressSize bases.now.address_size }
-    requires kind { bases.now.debug_frame ≡ false }
-    ensures { IfOk result (IsTableOf bases.now section.now) }
-{
-    let mut frame = EhFrame::new(section, endian_of(bases));
-    frame.set_address_size(bases.address_size);
-    frame.set_vendor(vendor_of(bases));
-    CompiledTable::new(alloc, &frame, &bases_of(bases))
 }
 
 /// Lends the table that is held.

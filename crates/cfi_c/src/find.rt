@@ -1,17 +1,17 @@
-//! Finds the row of an address in the sections that C passes.
-ghost use Rattle.std.specs.Prelude.{◌≡◌, ◌↔◌, Some, IsTrue, true, false};
+//! The sections that C passes, and the row of an address in them.
+ghost use Rattle.std.specs.Prelude.{◌≡◌, ◌↔◌, Some, IsTrue};
 ghost use Rattle.cfi_read_core.specs.ByteOrder.{is_big};
 ghost use Rattle.cfi_read_core.specs.Addresses.{IsAddressSize};
 ghost use Rattle.cfi_read_core.specs.ReaderCalls.{map_ok};
-ghost use Rattle.cfi_unwind.specs.AddressRow.{row_by_scan};
-ghost use Rattle.cfi_c.specs.AddressRows.{IsSizedAnswer, IsTableAnswer};
-ghost use Rattle.cfi_c.specs.PassedSections.{section_of, eh_frame_of, header_of, vendor_of, lent};
+ghost use Rattle.gimli_cfi.specs.SectionSources.{source_view};
+ghost use Rattle.cfi_c.specs.AddressRows.{IsSizedAnswer};
+ghost use Rattle.cfi_c.specs.PassedSections.{kind_beside, lent, passed, vendor_of};
 
 use crate::CfiBases;
 use crate::context::Context;
 use gimli_cfi::{
-    BaseAddresses, DebugFrame, EhFrame, EhFrameHdr, Error, RunTimeEndian, SectionBaseAddresses,
-    StoreOnHeap, UnwindContextStorage, UnwindTableRow, Vendor, row_by_header, row_by_scan,
+    AddressSize, BaseAddresses, Error, RunTimeEndian, SectionBaseAddresses, SectionKind,
+    SectionSource, StoreOnHeap, UnwindContextStorage, UnwindTableRow, Vendor,
 };
 
 type FoundRow = UnwindTableRow<usize, <StoreOnHeap as UnwindContextStorage<usize>>::Rules>;
@@ -31,10 +31,7 @@ pub fn find_row<'ctx>(
     if !is_sized(bases.address_size) {
         return Err(Error::UnsupportedAddressSize(bases.address_size));
     }
-    match header {
-        None => by_scan(context, section, bases, address),
-        Some(header) => by_table(context, section, header, bases, address),
-    }
+    source_of(section, header, bases).row(context, address)
 }
 
 /// Returns whether addresses may have this size.
@@ -44,85 +41,35 @@ pub fn is_sized(size: u8) -> bool
     size == 1 || size == 2 || size == 4 || size == 8
 }
 
-/// Finds the row by a scan of the section.
-fn by_scan<'ctx>(
-    context: &'ctx mut Context,
-    section: &[u8],
+/// The section that C passes, with all that it says of it.
+pub fn source_of<'a>(
+    section: &'a [u8],
+    header: Option<&'a [u8]>,
     bases: &CfiBases,
-    address: u64,
-) -> Result<&'ctx FoundRow, Error>
+) -> SectionSource<'a>
     requires { IsAddressSize bases.now.address_size }
-    ensures { map_ok (λ row. row.now) result
-        ≡ row_by_scan (Some 192) (Some 4) (section_of bases.now section.now) address }
+    ensures { source_view result ≡ passed bases.now section.now (lent header.entry) }
 {
-    if bases.debug_frame {
-        scan_debug_frame(context, section, bases, address)
-    } else {
-        scan_eh_frame(context, section, bases, address)
+    SectionSource {
+        kind: kind_beside(header, bases),
+        endian: endian_of(bases),
+        address_size: AddressSize::new(bases.address_size),
+        vendor: vendor_of(bases),
+        bases: bases_of(bases),
+        bytes: section,
+        header,
     }
 }
 
-/// Finds the row by a scan of `.debug_frame`.
-fn scan_debug_frame<'ctx>(
-    context: &'ctx mut Context,
-    section: &[u8],
-    bases: &CfiBases,
-    address: u64,
-) -> Result<&'ctx FoundRow, Error>
-    requires size { IsAddressSize bases.now.address_size }
-    requires kind { bases.now.debug_frame ≡ true }
-    ensures { map_ok (λ row. row.now) result
-        ≡ row_by_scan (Some 192) (Some 4) (section_of bases.now section.now) address }
+/// Which section it is: beside a header it is `.eh_frame`, whatever C says.
+fn kind_beside(header: Option<&[u8]>, bases: &CfiBases) -> SectionKind
+    ensures { result ≡ kind_beside bases.now.debug_frame (lent header.entry) }
 {
-    let mut frame = DebugFrame::new(section, endian_of(bases));
-    frame.set_address_size(bases.address_size);
-    frame.set_vendor(vendor_of(bases));
-    row_by_scan(&frame, &bases_of(bases), context, address)
-}
-
-/// Finds the row by a scan of `.eh_frame`.
-fn scan_eh_frame<'ctx>(
-    context: &'ctx mut Context,
-    section: &[u8],
-    bases: &CfiBases,
-    address: u64,
-) -> Result<&'ctx FoundRow, Error>
-    requires size { IsAddressSize bases.now.address_size }
-    requires kind { bases.now.debug_frame ≡ false }
-    ensures { map_ok (λ row. row.now) result
-        ≡ row_by_scan (Some 192) (Some 4) (section_of bases.now section.now) address }
-{
-    let mut frame = EhFrame::new(section, endian_of(bases));
-    frame.set_address_size(bases.address_size);
-    frame.set_vendor(vendor_of(bases));
-    row_by_scan(&frame, &bases_of(bases), context, address)
-}
-
-/// Finds the row by the table of the header.
-fn by_table<'ctx>(
-    context: &'ctx mut Context,
-    section: &[u8],
-    header: &[u8],
-    bases: &CfiBases,
-    address: u64,
-) -> Result<&'ctx FoundRow, Error>
-    requires { IsAddressSize bases.now.address_size }
-    ensures { IsTableAnswer (eh_frame_of bases.now section.now)
-        (header_of bases.now header.now) address (map_ok (λ row. row.now) result) }
-{
-    let known = bases_of(bases);
-    let mut frame = EhFrame::new(section, endian_of(bases));
-    frame.set_address_size(bases.address_size);
-    frame.set_vendor(vendor_of(bases));
-    let header = EhFrameHdr::new(header, endian_of(bases));
-    row_by_header(
-        &header,
-        bases.address_size,
-        &frame,
-        &known,
-        context,
-        address,
-    )
+    match header {
+        Some(_) => SectionKind::EhFrame,
+        None if bases.debug_frame => SectionKind::DebugFrame,
+        None => SectionKind::EhFrame,
+    }
 }
 
 /// Returns the byte order of the sections.

@@ -11,6 +11,7 @@ ghost use Rattle.cfi_c.specs.WrittenRows.{SameAround};
 ghost use Rattle.cfi_c.specs.ManyAddresses.{IsCount, AreAnswered};
 ghost use Rattle.cfi_c.specs.PassedSections.{header_in, lent};
 
+mod check;
 mod compiled;
 mod context;
 mod find;
@@ -34,6 +35,9 @@ use refusal::{NO_CONTEXT, name_of, number_of};
 use std::alloc::Global;
 use std::mem;
 use written::write_answer;
+
+/// The version 0.1.0.
+const VERSION: u32 = 100;
 
 /// The addresses of the sections, and how their numbers are read.
 #[repr(C)]
@@ -215,14 +219,24 @@ pub extern "C" fn cfi_rows(
     count
 }
 
-/// Writes the name of a status, as much of it as fits, and returns its length in bytes: `Ok` for 0,
-/// `NoContext` for `NO_CONTEXT`, `Unknown` for a number that is not a status.
+/// The version of the library: 10,000 times its first number, 100 times its second, and its third.
+#[unsafe(no_mangle)]
+pub extern "C" fn cfi_version() -> u32
+    ensures { result ≡ 100 }
+{
+    VERSION
+}
+
+/// Writes the name of a status and a zero after it, as much of both as fits, and returns the length
+/// of the name in bytes: `Ok` for 0, `NoContext` for `NO_CONTEXT`, `Unknown` for a number that is
+/// not a status.
 #[unsafe(no_mangle)]
 pub extern "C" fn cfi_status_name(status: i32, name: &mut [u8]) -> usize
     ensures length { result ≡ length (status_name status) }
     ensures written { (k : ℕ) → k < length name.new → k < length (status_name status) →
         slice_index_or name.new k 0 ≡ slice_index_or (status_name status) k 0 }
-    ensures rest { (k : ℕ) → length (status_name status) ≤ k →
+    ensures ended { slice_index_or name.new (length (status_name status)) 0 ≡ 0 }
+    ensures rest { (k : ℕ) → length (status_name status) < k →
         slice_index_or name.new k 0 ≡ slice_index_or name.old k 0 }
     ensures refusals { (e : Error) → status_name (number e) ≡ name_of e }
 {
@@ -231,6 +245,9 @@ pub extern "C" fn cfi_status_name(status: i32, name: &mut [u8]) -> usize
         if k < name.len() {
             name[k] = text[k];
         }
+    }
+    if text.len() < name.len() {
+        name[text.len()] = 0;
     }
     text.len()
 }

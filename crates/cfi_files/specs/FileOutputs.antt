@@ -22,8 +22,8 @@ use Rattle.gimli_cfi.specs.EhFrameHdr.{HeaderSection}
 use Rattle.gimli_cfi.specs.SectionSources.{GivenSection, given_header, given_section}
 use Rattle.cfi_programs.specs.Lines.{Line}
 use Rattle.cfi_programs.specs.Words.{texts}
-use Rattle.cfi_programs.specs.declared.check.table_check.Verdict.{Verdict}
-use Rattle.cfi_programs.specs.CheckVerdicts.{IsVerdict}
+use Rattle.gimli_cfi.specs.declared.hdr.verdict.Verdict.{Verdict}
+use Rattle.gimli_cfi.specs.CheckVerdicts.{IsVerdict}
 use Rattle.cfi_programs.specs.CheckLines.{verdict_line}
 use Rattle.cfi_programs.specs.declared.dump.printed.Printed.TheVariants as listed
 use Rattle.cfi_programs.specs.DumpProgramOutput.{IsPrinted, format_of}

@@ -4,8 +4,8 @@ use Rattle.cfi_programs.specs.Lines.{Line, line}
 use Rattle.cfi_programs.specs.CheckLines.{finding_text}
 use Rattle.cfi_programs.specs.declared.style.Format.{Format}
 use Rattle.cfi_programs.specs.WriterOutput.{Writes}
-use Rattle.cfi_programs.specs.declared.check.table_check.Verdict.{Verdict}
-use Rattle.cfi_programs.specs.declared.check.table_check.Verdict.TheVariants as verdicts
+use Rattle.gimli_cfi.specs.declared.hdr.verdict.Verdict.{Verdict}
+use Rattle.gimli_cfi.specs.declared.hdr.verdict.Verdict.TheVariants as verdicts
 use Rattle.cfi_files.specs.declared.finding.Finding.{Finding}
 use Rattle.cfi_files.specs.declared.finding.Finding.TheVariants.{Faithful, Unfaithful, NoTable}
 use Rattle.cfi_files.specs.declared.finding.Finding.TheVariants.{Unreadable}

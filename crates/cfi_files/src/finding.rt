@@ -6,8 +6,8 @@ ghost use Rattle.cfi_files.specs.Findings.{finding_of, found_line, has_table, is
 ghost use Rattle.cfi_files.specs.Findings.{name_of_finding, status_of};
 
 use cfi_programs::check::output_line::write_finding;
-use cfi_programs::check::table_check::Verdict;
 use cfi_programs::style::Format;
+use gimli_cfi::Verdict;
 use std::io;
 use std::io::Write;
 

@@ -9,7 +9,6 @@ use crate::finding::{Finding, finding_of, found, write_found};
 use crate::sections::eh_frame_part;
 use cfi_elf::ElfFile;
 use cfi_programs::check::output_line::write_verdict;
-use cfi_programs::check::table_check::check;
 use cfi_programs::style::Format;
 use gimli_cfi::SectionSource;
 use std::io;
@@ -47,7 +46,7 @@ fn check_frames<W: Write>(
         (given_header (source_view frames.now)) finding line)
         (W.contents output.old) (W.contents output.new) result }
 {
-    match check(frames) {
+    match frames.check() {
         None => write_found(output, format, Finding::NoTable, "no header", ""),
         Some(verdict) => found(finding_of(verdict), write_verdict(output, format, verdict)),
     }

@@ -14,7 +14,6 @@ pub mod RowsCommandLineLemmas
 pub mod RowsAnswerLemmas
 mod RowsOnHeap
 mod CheckPrinted
-pub mod CheckVerdictLemmas
 pub mod DumpRowsWritten
 pub mod ReadingsWritten
 pub mod DumpInstructionsWritten

@@ -9,8 +9,8 @@ use Rattle.cfi_programs.specs.Lines.{Line, address_text, line}
 use Rattle.cfi_programs.specs.JsonLines.{json_number}
 use Rattle.cfi_programs.specs.declared.style.Format.{Format}
 use Rattle.cfi_programs.specs.declared.style.Format.TheVariants.{Text, Json}
-use Rattle.cfi_programs.specs.declared.check.table_check.Verdict.{Verdict}
-use Rattle.cfi_programs.specs.declared.check.table_check.Verdict.TheVariants as verdicts
+use Rattle.gimli_cfi.specs.declared.hdr.verdict.Verdict.{Verdict}
+use Rattle.gimli_cfi.specs.declared.hdr.verdict.Verdict.TheVariants as verdicts
 
 -- where an error is, and its name
 abbrev pub refused_text : List ℕ → Error → List ℕ

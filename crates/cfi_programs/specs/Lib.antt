@@ -13,7 +13,6 @@ pub mod Runs
 pub mod RowsCommandLine
 pub mod RowsProgramOutput
 pub mod RowsPlainLines
-pub mod CheckVerdicts
 pub mod CheckLines
 pub mod ReadingTexts
 pub mod DumpEntryLines

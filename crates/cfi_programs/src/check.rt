@@ -1,4 +1,3 @@
-//! Whether the table of a header is faithful to its section, and the line that says so.
+//! The line that says whether the table of a header is faithful to its section.
 
 pub mod output_line;
-pub mod table_check;

@@ -1,11 +1,10 @@
 //! Verdicts over memory: faithful tables, each fault of others, other bases and byte orders, a
 //! failing output.
 use cfi_programs::check::output_line::write_verdict;
-use cfi_programs::check::table_check::{Verdict, check};
 use cfi_programs::style::Format;
 use cfi_programs::words::SectionWords;
 use cfi_tests_bytes::bytes_of;
-use gimli_cfi::{AddressSize, RunTimeEndian, SectionKind, Vendor};
+use gimli_cfi::{AddressSize, RunTimeEndian, SectionKind, Vendor, Verdict};
 use std::alloc::{AllocError, Global};
 use std::io;
 use std::io::{ErrorKind, Write};
@@ -116,7 +115,7 @@ fn verdict_on(
 ) -> Result<Verdict, Fail> {
     let section = written_out(alloc, section)?;
     let header = written_out(alloc, header)?;
-    match check(&words.source(section.as_slice(), header.as_slice())) {
+    match words.source(section.as_slice(), header.as_slice()).check() {
         Some(verdict) => Ok(verdict),
         None => Err(AllocError.into()),
     }

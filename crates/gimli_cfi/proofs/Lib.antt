@@ -27,4 +27,5 @@ pub mod EntryEnds
 pub mod Passed
 pub mod Certificates
 pub mod SourceSections
+pub mod CheckVerdictLemmas
 pub mod Callers

@@ -187,6 +187,7 @@ pub use Rattle.gimli_cfi.specs.RowsByHeader.{FoundByHeader, IsRowByHeader}
 
 pub use Rattle.gimli_cfi.specs.SectionSources.{GivenSection, source_view, given_section, given_as}
 pub use Rattle.gimli_cfi.specs.SectionSources.{given_header, section_made, IsGivenRow}
+pub use Rattle.gimli_cfi.specs.CheckVerdicts.{IsVerdict, IsVerdictOf}
 pub use Rattle.gimli_cfi.specs.declared.source.SectionSource.{SectionSource}
 -- ---- whether a table is faithful to its section
 

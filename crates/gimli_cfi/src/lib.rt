@@ -33,7 +33,7 @@ pub use entry::{
 };
 pub use hdr::{
     EhFrameHdr, EhHdrTable, EhHdrTableIter, FaithfulTable, ParsedEhFrameHdr, StartSource,
-    TableStarts, Unfaithful, check_table, fde_by_header, row_by_header, row_by_table,
+    TableStarts, Unfaithful, Verdict, check_table, fde_by_header, row_by_header, row_by_table,
     search_starts,
 };
 pub use instruction::{

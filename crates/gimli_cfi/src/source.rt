@@ -11,7 +11,8 @@ ghost use Rattle.cfi_state.specs.RowExpressions.{HasExpressionsIn};
 ghost use Rattle.cfi_entry.specs.Sections.{position_of, section_of};
 ghost use Rattle.cfi_unwind.specs.AddressRow.{IsRowByScan};
 
-use crate::hdr::{EhFrameHdr, row_by_header};
+use crate::hdr::verdict::check_by_header;
+use crate::hdr::{EhFrameHdr, Verdict, row_by_header};
 use crate::table::row_by_scan;
 use cfi_parts::pointer::BaseAddresses;
 use cfi_read_core::address::AddressSize;
@@ -101,6 +102,7 @@ impl Clone for SectionSource<'_> {
 impl Copy for SectionSource<'_> {}
 
 impl<'input> SectionSource<'input> {
+    ghost use Rattle.gimli_cfi.specs.CheckVerdicts.{IsVerdictOf};
     ghost use Rattle.gimli_cfi.specs.HeaderViews.{section_view, unparsed_view};
     ghost use Rattle.gimli_cfi.specs.SectionSources.{IsGivenRow, given_as, given_header};
     ghost use Rattle.gimli_cfi.specs.SectionSources.{given_section, section_made, source_view};
@@ -153,6 +155,16 @@ impl<'input> SectionSource<'input> {
                 Some(EhFrameHdr::new(header, self.endian))
             }
         }
+    }
+
+    /// Checks the table of the section's header against the section, as `check_table`. Returns
+    /// `None` where there is no header. Does not allocate.
+    pub fn check(&self) -> Option<Verdict>
+        ensures { IsVerdictOf (source_view self.now) result }
+    {
+        let header = self.header()?;
+        let size = self.address_size.bytes();
+        Some(check_by_header(&header, size, &self.eh_frame(), &self.bases))
     }
 
     /// Returns the unwind row of the address, borrowed from the context: by the table of the

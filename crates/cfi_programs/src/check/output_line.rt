@@ -5,13 +5,11 @@ ghost use Rattle.cfi_programs.specs.CheckLines.{faithful_object, finding_text, r
 ghost use Rattle.cfi_programs.specs.CheckLines.{reasoned, verdict_in, verdict_line};
 ghost use Rattle.cfi_programs.specs.CheckLines.{verdict_object, verdict_status, verdict_text};
 
-use crate::check::table_check::Verdict;
 use crate::json::push_number;
 use crate::lines::{Address, write_between, write_part, write_text};
 use crate::style::Format;
 use crate::text::{Text, push};
-use gimli_cfi::Error;
-use gimli_cfi::hdr::Unfaithful;
+use gimli_cfi::{Error, Unfaithful, Verdict};
 use std::io::Write;
 use std::{fmt, io};
 

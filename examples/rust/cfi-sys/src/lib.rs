@@ -237,6 +237,103 @@ pub struct CfiEnd {
     pub status: i32,
 }
 
+/// Some bytes of memory, from the address `base` on.
+#[repr(C)]
+#[derive(Clone, Copy, Debug)]
+pub struct CfiWindow {
+    /// The address of the first byte.
+    pub base: u64,
+    /// The bytes.
+    pub bytes: *const u8,
+    /// How many there are.
+    pub len: usize,
+}
+
+/// Memory, as far as it is there, and what the ABI says: as `CfiStack`, with any number of windows, in any order.
+#[repr(C)]
+#[derive(Clone, Copy, Debug)]
+pub struct CfiMemory {
+    /// The windows.
+    pub windows: *const CfiWindow,
+    /// How many there are.
+    pub windows_len: usize,
+    /// The bits of a return address that hold its signature (AArch64).
+    pub signature_mask: u64,
+    /// How many operations an expression may do.
+    pub max_iterations: u32,
+    /// The stack pointer's number: 7 on x86-64, 31 on AArch64.
+    pub stack_pointer: u16,
+    /// The order of the bytes of the memory.
+    pub big_endian: bool,
+    /// 1, 2, 4 or 8.
+    pub address_size: u8,
+}
+
+/// What an FDE and its CIE say of a function, beside its rows.
+#[repr(C)]
+#[derive(Clone, Copy, Debug, Default)]
+pub struct CfiFunction {
+    /// Its first address.
+    pub start: u64,
+    /// The first address after it.
+    pub end: u64,
+    /// The language-specific data area; 0 where there is none.
+    pub lsda: u64,
+    /// The personality routine; 0 where there is none.
+    pub personality: u64,
+    /// The offset of the FDE in the section.
+    pub fde: u64,
+    /// The register that has the return address.
+    pub return_address: u16,
+    /// Whether there is an FDE; else all of this is 0.
+    pub is_known: bool,
+    /// Whether there is an LSDA.
+    pub has_lsda: bool,
+    /// Whether there is a personality routine.
+    pub has_personality: bool,
+    /// Whether `lsda` is the address of the pointer.
+    pub lsda_is_indirect: bool,
+    /// Whether `personality` is the address of the pointer.
+    pub personality_is_indirect: bool,
+    /// Whether a signal interrupted the caller.
+    pub is_signal_trampoline: bool,
+}
+
+/// The caller of a frame.
+#[repr(C)]
+#[derive(Clone, Copy, Debug, Default)]
+pub struct CfiCaller {
+    /// The canonical frame address of the frame itself.
+    pub cfa: u64,
+    /// The pc of the caller; 0 if the frame is the outermost one.
+    pub pc: u64,
+    /// Bytes of arguments that the frame has pushed.
+    pub args_size: u64,
+    /// Whether a signal interrupted the caller.
+    pub is_interrupted: bool,
+}
+
+/// What a check of a header's table found.
+#[repr(C)]
+#[derive(Clone, Copy, Debug, Default)]
+pub struct CfiVerdict {
+    /// What the kind says: how many rows, the index of a row, or the offset of an entry.
+    pub first: u64,
+    /// A start, a first address, an end, or how many FDEs there are.
+    pub second: u64,
+    /// A start.
+    pub third: u64,
+    /// What an error carries, else 0.
+    pub refused: u64,
+    /// `CfiVerdictKind` of the header.
+    pub kind: u32,
+    /// The error of what can't be read, else 0.
+    pub status: i32,
+}
+
+/// The version that these declarations are of, as `cfi_version` tells it.
+pub const CFI_VERSION: u32 = 100;
+
 extern "C" {
     /// Makes a context, and frees one that was there.
     ///
@@ -345,7 +442,45 @@ extern "C" {
         frames_len: usize,
         end: *mut CfiEnd,
     ) -> usize;
-    /// Writes the name of a status, as in "UnexpectedEof", as far as there is room for it, without a zero at its end.
+    /// Writes the caller of one frame, and what the FDE of its pc says.
+    ///
+    /// # Safety
+    ///
+    /// As the head of the crate asks.
+    pub fn cfi_step(
+        context: *mut CfiContext,
+        module: *const CfiModule,
+        memory: *const CfiMemory,
+        pc: u64,
+        is_interrupted: bool,
+        registers: *const CfiValue,
+        registers_len: usize,
+        caller_registers: *mut CfiValue,
+        caller_registers_len: usize,
+        function: *mut CfiFunction,
+        caller: *mut CfiCaller,
+        end: *mut CfiEnd,
+    ) -> u32;
+    /// Checks whether the table of `.eh_frame_hdr` lists the FDEs of `.eh_frame` faithfully.
+    ///
+    /// # Safety
+    ///
+    /// As the head of the crate asks.
+    pub fn cfi_check_table(
+        eh_frame: *const u8,
+        eh_frame_len: usize,
+        header: *const u8,
+        header_len: usize,
+        bases: *const CfiBases,
+        verdict: *mut CfiVerdict,
+    ) -> u32;
+    /// The version of the library.
+    ///
+    /// # Safety
+    ///
+    /// As the head of the crate asks.
+    pub fn cfi_version() -> u32;
+    /// Writes the name of a status, as in "UnexpectedEof", and a zero after it, as far as there is room.
     ///
     /// # Safety
     ///

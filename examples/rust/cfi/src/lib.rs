@@ -3,7 +3,8 @@
 //! A safe interface to the C library of gimli_cfi, whose answers are proved for all bytes and all addresses. A section
 //! is a slice with its address ([`Section`]); nothing is kept of it after a call. A [`Context`] looks up the [`Row`] of
 //! an address, by the table of the section's header or by a scan; a [`Table`] is made of a section once, and has the
-//! rows of all its addresses. [`Context::unwind`] goes from frame to frame of a stack.
+//! rows of all its addresses. [`Section::check`] tells whether the header's table is
+//! faithful. [`Context::unwind`] goes from frame to frame of a stack.
 //!
 //! ```
 //! use cfi::{Cfa, Context, Rule, Section};
@@ -28,6 +29,7 @@ mod row;
 mod section;
 mod stack;
 mod table;
+mod verdict;
 
 pub use context::Context;
 pub use error::{Error, ErrorKind};
@@ -35,6 +37,7 @@ pub use row::{Cfa, Row, Rule};
 pub use section::Section;
 pub use stack::{End, Frame, Module, Registers, Stack};
 pub use table::Table;
+pub use verdict::Verdict;
 
 /// What a call returns: a value, or an error of the section.
 pub type Result<T> = std::result::Result<T, Error>;

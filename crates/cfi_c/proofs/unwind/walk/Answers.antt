@@ -1,4 +1,4 @@
-use Rattle.std.proofs.Common.{◌≡◌, Bool, rules, true}
+use Rattle.std.proofs.Common.{◌≡◌, rules, true}
 use Rattle.std.specs.Prelude.{is_none}
 use Rattle.cfi_expression.specs.Windows.{number_in}
 use Rattle.cfi_c.proofs.StepsInModules.{if_none}

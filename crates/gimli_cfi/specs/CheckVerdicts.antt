@@ -4,9 +4,9 @@ use Rattle.cfi_entry.specs.Sections.{Section}
 use Rattle.gimli_cfi.specs.EhFrameHdr.{Header, HeaderSection, header_of}
 use Rattle.gimli_cfi.specs.SectionSources.{GivenSection, given_header, given_section}
 use Rattle.gimli_cfi.specs.TableCheck.{IsReason, Listing, ListsFaithfully}
-use Rattle.cfi_programs.specs.declared.check.table_check.Verdict.{Verdict}
-use Rattle.cfi_programs.specs.declared.check.table_check.Verdict.TheVariants.{Faithful, Unfaithful}
-use Rattle.cfi_programs.specs.declared.check.table_check.Verdict.TheVariants.{NoTable, Refused}
+use Rattle.gimli_cfi.specs.declared.hdr.verdict.Verdict.{Verdict}
+use Rattle.gimli_cfi.specs.declared.hdr.verdict.Verdict.TheVariants.{Faithful, Unfaithful}
+use Rattle.gimli_cfi.specs.declared.hdr.verdict.Verdict.TheVariants.{NoTable, Refused}
 
 -- The header is read and has rows: the table that is checked, with its section.
 pub record IsChecked (section : Section) (header : HeaderSection) (listing : Listing) : Type 0 where

@@ -5,8 +5,8 @@ use Rattle.gimli_cfi.specs.EhFrameHdr.{Header, HeaderSection, header_of}
 use Rattle.gimli_cfi.specs.SectionSources.{GivenSection, given_as, given_header, given_section}
 use Rattle.gimli_cfi.specs.TableCheck.{Listing}
 use Rattle.gimli_cfi.proofs.SourceSections.{of_eh_frame}
-use Rattle.cfi_programs.specs.declared.check.table_check.Verdict.{Verdict}
-use Rattle.cfi_programs.specs.CheckVerdicts.{IsChecked, IsVerdict, IsVerdictIf, IsVerdictOf}
+use Rattle.gimli_cfi.specs.declared.hdr.verdict.Verdict.{Verdict}
+use Rattle.gimli_cfi.specs.CheckVerdicts.{IsChecked, IsVerdict, IsVerdictIf, IsVerdictOf}
 
 pub is_checked : (section : Section) (header : HeaderSection) (read : Header) (l : Listing) → Ok read ≡ header_of header → Some l.table ≡ read.table → read.eh_frame ≡ l.eh_frame → l.header ≡ header → l.section ≡ section
     → IsChecked section header l

@@ -1,14 +1,18 @@
-//! Whether the table of a header lists the FDEs of its section faithfully.
+//! What a check of a header says.
 ghost use Rattle.cfi_read_core.specs.Addresses.{IsAddressSize};
+ghost use Rattle.gimli_cfi.specs.CheckVerdicts.{IsVerdict};
 ghost use Rattle.gimli_cfi.specs.EhFrameHdr.{header_section};
 ghost use Rattle.gimli_cfi.specs.HeaderViews.{section_view};
-ghost use Rattle.gimli_cfi.specs.SectionSources.{source_view};
-ghost use Rattle.cfi_programs.specs.CheckVerdicts.{IsVerdict, IsVerdictOf};
 
-use gimli_cfi::hdr::{FaithfulTable, Unfaithful};
-use gimli_cfi::{BaseAddresses, EhFrame, EhFrameHdr, Error, Reader, SectionSource};
+use crate::hdr::faithful_table::FaithfulTable;
+use crate::hdr::header::EhFrameHdr;
+use crate::hdr::unfaithful::Unfaithful;
+use cfi_parts::pointer::BaseAddresses;
+use cfi_read_core::{Error, Reader};
+use cfi_unwind::unwind_section::EhFrame;
 
-/// The result of a check.
+/// What the check of a header's table against its section says (LSB Core, "The .eh_frame_hdr
+/// section").
 #[derive(Clone, Copy)]
 pub enum Verdict {
     /// The table lists the FDEs of the section faithfully, in so many rows.
@@ -21,18 +25,8 @@ pub enum Verdict {
     Refused(Error),
 }
 
-/// Checks the table of the section's header against the section. Returns `None` where there is no
-/// header. Does not allocate.
-pub fn check(source: &SectionSource<'_>) -> Option<Verdict>
-    ensures { IsVerdictOf (source_view source.now) result }
-{
-    let header = source.header()?;
-    let size = source.address_size.bytes();
-    Some(check_by_header(&header, size, &source.eh_frame(), &source.bases))
-}
-
 /// Checks the table of the header against the section. Does not allocate.
-fn check_by_header<R: Reader>(
+pub(crate) fn check_by_header<R: Reader>(
     header: &EhFrameHdr<R>,
     address_size: u8,
     frame: &EhFrame<R>,

@@ -1,8 +1,8 @@
 use Rattle.std.proofs.Common.{ap, sym, refl, ◌∙◌}
 use Rattle.gimli_cfi.specs.EhFrameHdr.{header_section}
 use Rattle.gimli_cfi.specs.HeaderViews.{header_section_view, header_view, listing_view}
-use Rattle.cfi_programs.proofs.CheckVerdictLemmas.{is_checked}
-use Rattle.cfi_programs.proofs.check.table_check.check_by_header.Goals as goal
+use Rattle.gimli_cfi.proofs.CheckVerdictLemmas.{is_checked}
+use Rattle.gimli_cfi.proofs.hdr.verdict.check_by_header.Goals as goal
 
 pub returns-in-Ok-new : goal.returns-in-Ok-new
 returns-in-Ok-new g c =
