@@ -14,7 +14,8 @@ use Rattle.clap.specs.declared.error.kind.ErrorKind.TheVariants.{DisplayHelp, Di
 use Rattle.clap.specs.declared.error.kind.ErrorKind.TheVariants.{OutOfMemory}
 use Rattle.cfi_programs.specs.Lines.{Line}
 use Rattle.cfi_programs.specs.WriterOutput.{IsBeginning, Writes}
-use Rattle.cfi_files.specs.FileOutputs.{AreLeft, IsNamedCheck, IsOwed}
+use Rattle.cfi_object.specs.FileParts.{AreLeft}
+use Rattle.cfi_files.specs.FileOutputs.{IsNamedCheck, IsOwed}
 use Rattle.cfi_files.specs.Findings.{has_table, is_faithful}
 use Rattle.cfi_files.specs.declared.finding.Finding.{Finding}
 use Rattle.cfi_files.specs.declared.finding.Finding.TheVariants.{Unreadable}

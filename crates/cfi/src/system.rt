@@ -2,9 +2,8 @@
 ghost use Rattle.std.specs.Prelude.{◌≡◌, ◌≢◌, ℕ, ⊤, List, Option, None, IfErr, IfOk, length, map};
 ghost use Rattle.std.specs.Prelude.{option_map, refl, string_bytes};
 
-use cfi_files::FileInput;
-use cfi_files::input::copy_part;
-use cfi_programs::input::{InputError, read_all};
+use cfi_object::input::{copy_part, read_all};
+use cfi_object::{FileInput, InputError};
 use clap::Error;
 use std::alloc::{AllocGlobal, Global};
 use std::fs::File;

@@ -2,8 +2,8 @@
 use Rattle.std.proofs.Common.{◌≡◌, List, [], ◌∷◌, ◌++◌, ap}
 use Rattle.cfi_compiled.specs.FrameParts.{parts_of_frame}
 use Rattle.cfi_compiled.specs.Steps.{Step}
+use Rattle.cfi_object.specs.declared.register_names.RegisterNames.{RegisterNames}
 use Rattle.cfi_files.specs.CompiledTexts.{step_text, steps_text}
-use Rattle.cfi_programs.specs.declared.register_names.RegisterNames.{RegisterNames}
 
 pub one_more : (names : RegisterNames) (before after : List Step) (step : Step) → before ≡ step ∷ after → steps_text names before ≡ step_text names step.start (parts_of_frame step.frame) ++ steps_text names after
 unfolding steps_text

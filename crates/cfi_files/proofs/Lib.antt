@@ -2,8 +2,5 @@ pub mod Joined
 pub mod FoundParts
 pub mod WordLines
 pub mod CompiledWritten
-pub mod Splices
-pub mod ReadParts
 pub mod SameOutputs
-pub mod SameFrames
 pub mod WholeOutputs

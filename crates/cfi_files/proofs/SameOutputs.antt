@@ -10,21 +10,21 @@ use Rattle.cfi_elf.specs.Images.{Image}
 use Rattle.cfi_elf.specs.Results.{and_then, first_by}
 use Rattle.cfi_elf.specs.SymbolTables.{SymbolTable, is_symbol_named, symbol_address, symbol_table, symbols, value_of}
 use Rattle.cfi_programs.specs.Lines.{Line}
-use Rattle.cfi_programs.specs.Words.{number, texts}
-use Rattle.cfi_programs.specs.declared.register_names.RegisterNames.{RegisterNames}
+use Rattle.cfi_object.specs.Numbers.{number}
+use Rattle.cfi_programs.specs.Words.{texts}
+use Rattle.cfi_object.specs.declared.register_names.RegisterNames.{RegisterNames}
 use Rattle.cfi_programs.specs.declared.style.Style.{Style}
 use Rattle.gimli_cfi.specs.SectionSources.{GivenSection}
+use Rattle.cfi_object.specs.CallFrames.{debug_frame_of, eh_frame_of}
+use Rattle.cfi_object.specs.Targets.{address_by_symbol, behind_symbol, is_plus, sum_of, number_or_symbol, symbol_named, target_address}
 use Rattle.cfi_files.specs.declared.request.Printed.{Printed}
 use Rattle.cfi_files.specs.declared.request.Printed.TheVariants.{Row, Rows, Dump, Table}
 use Rattle.cfi_files.specs.declared.sections.SectionPrinted.{SectionPrinted}
 use Rattle.cfi_files.specs.declared.sections.SectionPrinted.TheVariants.{Compiled, Listed}
 use Rattle.cfi_programs.specs.declared.dump.printed.Printed.TheVariants.{Entries, Rows as AllRows}
-use Rattle.cfi_files.specs.CallFrames.{debug_frame_of, eh_frame_of}
 use Rattle.cfi_files.specs.FileLines.{out_of_memory}
-use Rattle.cfi_files.specs.FileParts.{needs_symbols}
-use Rattle.cfi_files.specs.FileOutputs.{AreFdeRows, AreParts, AreRows, AreRowsAt, AreSections, IsNamed, styled}
+use Rattle.cfi_files.specs.FileOutputs.{AreFdeRows, AreParts, AreRows, AreRowsAt, AreSections, IsNamed, needs_symbols, styled}
 use Rattle.cfi_files.specs.RowOutputs.{AreWordLines, IsRowLine, IsRowOfFile, IsWordLine}
-use Rattle.cfi_files.specs.Targets.{address_by_symbol, behind_symbol, is_plus, sum_of, number_or_symbol, symbol_named, target_address}
 
 module _ (file : File) (image : Image) where
   -- the other file

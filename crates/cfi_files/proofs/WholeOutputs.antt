@@ -9,14 +9,14 @@ use Rattle.cfi_elf.proofs.Images.{in_whole, same_symbol_table}
 use Rattle.cfi_programs.specs.Lines.{Line}
 use Rattle.cfi_programs.specs.declared.style.Format.{Format}
 use Rattle.gimli_cfi.specs.SectionSources.{GivenSection}
+use Rattle.cfi_object.specs.FileParts.{HasAll, IsEnoughOf}
+use Rattle.cfi_object.specs.MachineNames.{names_in}
+use Rattle.cfi_object.proofs.SameFrames.{same_debug, same_eh_frame}
 use Rattle.cfi_files.specs.declared.finding.Finding.{Finding}
 use Rattle.cfi_files.specs.declared.request.Request.{Request}
 use Rattle.cfi_files.specs.FileLines.{PrintsSome}
-use Rattle.cfi_files.specs.FileOutputs.{ChecksInput, IsCheck, IsCheckOfParsed, IsOfParsed, PrintsOwed}
-use Rattle.cfi_files.specs.FileParts.{HasAll, IsEnoughOf, needs_symbols}
+use Rattle.cfi_files.specs.FileOutputs.{ChecksInput, IsCheck, IsCheckOfParsed, IsOfParsed, PrintsOwed, needs_symbols}
 use Rattle.cfi_files.specs.Findings.{ChecksSome}
-use Rattle.cfi_files.specs.MachineNames.{names_in}
-use Rattle.cfi_files.proofs.SameFrames.{same_debug, same_eh_frame}
 use Rattle.cfi_files.proofs.SameOutputs.{same_output}
 
 output_of : (request : Request) (bytes : List ℕ) (file : File) → IsImageOf file.image bytes → HasAll (needs_symbols request.printed) file → (line : Line) → IsOfParsed request (Ok file) line → IsOfParsed request (Ok (in_whole bytes file)) line

@@ -18,7 +18,7 @@ use Rattle.cfi_programs.specs.DumpProgramOutput.{text_output}
 use Rattle.cfi_programs.specs.Lines.{Line, address_text, refusal_in}
 use Rattle.cfi_programs.specs.declared.style.Format.TheVariants.{Text}
 use Rattle.cfi_programs.specs.RowLines.{cfa_text, parts_rules}
-use Rattle.cfi_programs.specs.declared.register_names.RegisterNames.{RegisterNames}
+use Rattle.cfi_object.specs.declared.register_names.RegisterNames.{RegisterNames}
 
 -- what comes before the rules
 abbrev pub step_head : RegisterNames → ℕ → Parts ℕ → List ℕ

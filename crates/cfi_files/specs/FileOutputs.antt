@@ -7,8 +7,8 @@
 --         written, with its status
 --     ChecksNamed format name input old new result      the check of an input, and its line, was
 --         written
-use Rattle.std.specs.Prelude.{◌≡◌, ◌⊎◌, ℕ, List, ◌++◌, Option, Some, None, Result, Ok, Err, IfSome}
-use Rattle.std.specs.Prelude.{codes}
+use Rattle.std.specs.Prelude.{◌≡◌, ◌⊎◌, ℕ, Bool, true, false, List, ◌++◌, Option, Some, None}
+use Rattle.std.specs.Prelude.{Result, Ok, Err, codes}
 use Rattle.std.specs.Borrow.{Bor}
 use Rattle.cfi_elf.specs.declared.error.ElfError.{ElfError}
 use Rattle.cfi_elf.specs.declared.function_names.FunctionNames.{FunctionNames}
@@ -27,10 +27,13 @@ use Rattle.gimli_cfi.specs.CheckVerdicts.{IsVerdict}
 use Rattle.cfi_programs.specs.CheckLines.{verdict_line}
 use Rattle.cfi_programs.specs.declared.dump.printed.Printed.TheVariants as listed
 use Rattle.cfi_programs.specs.DumpProgramOutput.{IsPrinted, format_of}
-use Rattle.cfi_programs.specs.declared.register_names.RegisterNames.{RegisterNames}
+use Rattle.cfi_object.specs.declared.register_names.RegisterNames.{RegisterNames}
 use Rattle.cfi_programs.specs.declared.style.Format.{Format}
 use Rattle.cfi_programs.specs.declared.style.Format.TheVariants.{Text}
 use Rattle.cfi_programs.specs.declared.style.Style.{Style}
+use Rattle.cfi_object.specs.MachineNames.{names_in}
+use Rattle.cfi_object.specs.Targets.{target_address}
+use Rattle.cfi_object.specs.FileParts.{AreLeft}
 use Rattle.cfi_files.specs.declared.request.Request.{Request}
 use Rattle.cfi_files.specs.declared.request.Printed.{Printed}
 use Rattle.cfi_files.specs.declared.request.Printed.TheVariants.{Row, Rows, Dump, Table}
@@ -45,8 +48,6 @@ use Rattle.cfi_files.specs.FileLines.{no_address, no_call_frames, out_of_memory,
 use Rattle.cfi_files.specs.FileLines.{wrong_input}
 use Rattle.cfi_files.specs.Found.{debug_frame_in, eh_frame_in}
 use Rattle.cfi_files.specs.RowOutputs.{AreWordLines}
-use Rattle.cfi_files.specs.MachineNames.{names_in}
-use Rattle.cfi_files.specs.Targets.{target_address}
 
 -- ---- sections
 
@@ -177,6 +178,14 @@ format_for (Rows word format) = format
 format_for Dump = Text
 format_for Table = Text
 
+-- whether the symbols of the file are needed: the rows have the names of functions, and words name
+-- symbols
+abbrev pub needs_symbols : Printed → Bool
+needs_symbols (Row words format) = true
+needs_symbols (Rows word format) = true
+needs_symbols Dump = false
+needs_symbols Table = false
+
 abbrev pub styled : RegisterNames → Format → Style
 styled names format = record { names = names; format = format }
 
@@ -208,10 +217,6 @@ IsOwed request bytes printed =
     ⊎ (printed ≡ wrong_input (format_for request.printed)))
 
 -- ---- what was written for an input
-
--- the bytes are all that a reader has left, where it is known what that is
-abbrev pub AreLeft : Option (List ℕ) → List ℕ → Type 0
-AreLeft known bytes = IfSome known (λ left. bytes ≡ left)
 
 -- for some bytes, which are those of the input where these are known
 abbrev pub PrintsOwed :

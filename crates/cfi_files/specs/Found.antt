@@ -6,8 +6,8 @@ use Rattle.cfi_elf.specs.ElfFiles.{File}
 use Rattle.cfi_read_core.specs.ReaderCalls.{map_ok}
 use Rattle.gimli_cfi.specs.SectionSources.{GivenSection, source_view}
 use Rattle.gimli_cfi.specs.declared.source.SectionSource.{SectionSource}
+use Rattle.cfi_object.specs.CallFrames.{debug_frame_of, eh_frame_of}
 use Rattle.cfi_files.specs.declared.row.FrameSections.{FrameSections}
-use Rattle.cfi_files.specs.CallFrames.{debug_frame_of, eh_frame_of}
 
 abbrev pub eh_frame_in : File → Option (Result GivenSection ElfError)
 eh_frame_in file = result_transpose (eh_frame_of file)

@@ -15,10 +15,10 @@ use Rattle.cfi_elf.specs.ElfFiles.{File}
 use Rattle.cfi_programs.specs.Lines.{Line, refusal_in}
 use Rattle.cfi_programs.specs.AnswerLines.{answer_line}
 use Rattle.cfi_programs.specs.declared.style.Style.{Style}
+use Rattle.cfi_object.specs.Targets.{target_address}
 use Rattle.cfi_files.specs.FileLines.{InTurn, elf_refusal, no_address, no_call_frames}
 use Rattle.cfi_files.specs.FileLines.{out_of_memory}
 use Rattle.cfi_files.specs.Found.{debug_frame_in, eh_frame_in}
-use Rattle.cfi_files.specs.Targets.{target_address}
 
 -- ---- in a section, where the unwind has room for 192 rules and 4 rows
 

@@ -14,8 +14,8 @@ ghost use Rattle.cfi_files.specs.CompiledTexts.{IsCompiledText, error_text, step
 ghost use Rattle.cfi_files.specs.CompiledTexts.{steps_text};
 
 use cfi_compiled::{CompiledRow, CompiledStep, CompiledTable};
+use cfi_object::register_names::RegisterNames;
 use cfi_programs::lines::{Address, write_part, write_refusal, write_text};
-use cfi_programs::register_names::RegisterNames;
 use cfi_programs::row_line::{HasRules, number_behind, push_frame, write_by_number};
 use cfi_programs::text::{Text, push, push_address};
 use gimli_cfi::{

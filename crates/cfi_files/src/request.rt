@@ -1,7 +1,6 @@
 //! What is printed of a file.
 ghost use Rattle.std.specs.Prelude.{◌≡◌};
-ghost use Rattle.cfi_files.specs.FileOutputs.{format_for};
-ghost use Rattle.cfi_files.specs.FileParts.{needs_symbols};
+ghost use Rattle.cfi_files.specs.FileOutputs.{format_for, needs_symbols};
 
 use cfi_programs::style::Format;
 

@@ -8,9 +8,9 @@ use Rattle.cfi_read_core.specs.declared.error.Error.{Error}
 use Rattle.cfi_read_core.specs.declared.instruction.CallFrameInstruction.TheVariants as variant
 use Rattle.cfi_parts.specs.Instructions.{Instruction}
 use Rattle.cfi_parts.specs.InstructionReaders.{items}
+use Rattle.cfi_object.specs.declared.register_names.RegisterNames.{RegisterNames}
 use Rattle.cfi_programs.specs.ReadingTexts.{item_text}
 use Rattle.cfi_programs.specs.DumpInstructionLines.{instruction_line, instructions_text}
-use Rattle.cfi_programs.specs.declared.register_names.RegisterNames.{RegisterNames}
 use Rattle.cfi_programs.specs.declared.style.Format.TheVariants.{Text as AsText}
 use Rattle.cfi_programs.specs.WriterOutput.{IsBeginning, Writes}
 use Rattle.cfi_programs.proofs.ReadingsWritten.{none_left, one_more}

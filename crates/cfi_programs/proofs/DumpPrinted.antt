@@ -4,12 +4,12 @@ use Rattle.cfi_read_core.specs.declared.error.Error.TheVariants.{UnknownAugmenta
 use Rattle.cfi_read_core.specs.declared.instruction.CallFrameInstruction.TheVariants as variant
 use Rattle.cfi_entry.specs.Fdes.{Fde}
 use Rattle.cfi_entry.specs.Sections.{Section}
+use Rattle.cfi_object.specs.declared.register_names.RegisterNames.TheVariants.{Numbers, X86_64}
 use Rattle.cfi_programs.specs.DumpInstructionLines.{instruction_line}
 use Rattle.cfi_programs.specs.DumpRowTexts.{addresses_line, fde_rows_text, is_asked_for}
 use Rattle.cfi_programs.specs.FunctionLines.{function_text}
 use Rattle.cfi_programs.specs.AnswerLines.{text_style}
 use Rattle.cfi_programs.specs.declared.style.Format.TheVariants.{Text as AsText}
-use Rattle.cfi_programs.specs.declared.register_names.RegisterNames.TheVariants.{Numbers, X86_64}
 use Rattle.cfi_programs.proofs.Computing.{computing}
 
 -- ---- the rows of an FDE of addresses of four bytes, whatever its other fields are

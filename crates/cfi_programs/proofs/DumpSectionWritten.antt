@@ -13,13 +13,13 @@ use Rattle.cfi_unwind.specs.Scan.{read_fde}
 use Rattle.cfi_unwind.specs.declared.entry.entries.EntryFields.{EntryFields}
 use Rattle.cfi_unwind.specs.declared.entry.entries.EntryFields.TheVariants as code
 use Rattle.cfi_entry.specs.Sections.{Section, section_of}
+use Rattle.cfi_object.specs.declared.register_names.RegisterNames.{RegisterNames}
 use Rattle.cfi_programs.specs.WriterOutput.{IsBeginning, Writes}
 use Rattle.cfi_programs.proofs.WrittenLemmas.{IsGiven, beginning_then, given_all, given_first, given_then, writes_last, writes_refused}
 use Rattle.cfi_programs.specs.DumpSectionTexts.{fde_text}
 use Rattle.cfi_programs.specs.ReadingTexts.{item_text, readings_text}
 use Rattle.cfi_programs.proofs.ReadingsWritten.{none_left, one_more}
 use Rattle.cfi_programs.specs.DumpRowTexts.{fde_rows_text}
-use Rattle.cfi_programs.specs.declared.register_names.RegisterNames.{RegisterNames}
 use Rattle.cfi_programs.specs.declared.style.Format.{Format}
 use Rattle.cfi_programs.specs.declared.style.Style.{Style}
 

@@ -7,10 +7,10 @@ use Rattle.cfi_state.specs.declared.table.rules.RegisterRule.{RegisterRule}
 use Rattle.cfi_state.specs.declared.table.rules.RegisterRule.TheVariants as rules
 use Rattle.cfi_state.specs.Row.{Row}
 use Rattle.std.specs.FinMap as map
+use Rattle.cfi_object.specs.declared.register_names.RegisterNames.TheVariants.{X86_64}
 use Rattle.cfi_programs.specs.JsonLines.{escaped, json_addresses, json_function, json_head, json_number, json_rule, json_section, separated}
 use Rattle.cfi_programs.specs.Lines.{reason_line, refusal_in}
 use Rattle.cfi_programs.specs.RowLines.{rules_by}
-use Rattle.cfi_programs.specs.declared.register_names.RegisterNames.TheVariants.{X86_64}
 use Rattle.cfi_programs.specs.declared.style.Format.TheVariants.{Json}
 use Rattle.cfi_programs.proofs.Computing.{computing}
 

@@ -1,9 +1,9 @@
 -- The members of the rules of a row in JSON, one after the other.
 use Rattle.std.proofs.Common.{◌≡◌, ◌∙◌, ℕ, ◌+◌, ◌-◌, ◌<◌, Bool, true, false, List, [], ◌++◌, Option, Some, refl, ap}
 use Rattle.cfi_state.specs.declared.table.rules.RegisterRule.{RegisterRule}
+use Rattle.cfi_object.specs.declared.register_names.RegisterNames.{RegisterNames}
 use Rattle.cfi_programs.specs.JsonLines.{json_rule, separated}
 use Rattle.cfi_programs.specs.RowLines.{rules_by}
-use Rattle.cfi_programs.specs.declared.register_names.RegisterNames.{RegisterNames}
 use Rattle.cfi_programs.proofs.RowLineLemmas.{rules_with}
 
 separated_more : (is_first : Bool) (names : RegisterNames) (register : ℕ) (rule : RegisterRule ℕ) (more : List ℕ) →

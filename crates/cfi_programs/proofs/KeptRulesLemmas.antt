@@ -4,8 +4,8 @@ use Rattle.std.specs.FinMap.{get}
 use Rattle.cfi_read_core.specs.declared.common.Register.{Register}
 use Rattle.cfi_state.specs.RulePairs.{rules_of, IsRising}
 use Rattle.cfi_state.specs.declared.table.rules.RegisterRule.{RegisterRule}
+use Rattle.cfi_object.specs.declared.register_names.RegisterNames.{RegisterNames}
 use Rattle.cfi_programs.specs.RowLines.{ruled, rules_by}
-use Rattle.cfi_programs.specs.declared.register_names.RegisterNames.{RegisterNames}
 use Rattle.cfi_programs.proofs.RowLineLemmas.{get_of_none, rules_none, rules_rise}
 
 abbrev Pairs : Type 0

@@ -9,7 +9,6 @@ mod KeptRulesLemmas
 pub mod WordLemmas
 pub mod WrittenLemmas
 mod RowsPrinted
-mod RegistersNamed
 pub mod RowsCommandLineLemmas
 pub mod RowsAnswerLemmas
 mod RowsOnHeap

@@ -1,9 +1,9 @@
 -- Words, input and lines, by computation.
 use Rattle.std.proofs.Common.{◌≡◌, [], ◌∷◌, ◌++◌, Some, None, refl, codes}
 use Rattle.cfi_read_core.specs.declared.error.Error.TheVariants.{NoUnwindInfoForAddress}
+use Rattle.cfi_object.specs.Numbers.{number}
 use Rattle.cfi_programs.specs.Input.{bytes_by}
 use Rattle.cfi_programs.specs.Lines.{address_text, refusal_line}
-use Rattle.cfi_programs.specs.Words.{number}
 use Rattle.cfi_programs.proofs.Computing.{computing}
 
 -- ---- numbers

@@ -6,13 +6,13 @@ use Rattle.cfi_state.specs.declared.table.rules.RegisterRule.TheVariants as rule
 use Rattle.cfi_read_core.specs.declared.common.Vendor.TheVariants as vendors
 use Rattle.cfi_read_core.specs.declared.endianity.RunTimeEndian.TheVariants.{Little, Big}
 use Rattle.gimli_cfi.specs.declared.source.SectionKind.TheVariants.{DebugFrame, EhFrame}
+use Rattle.cfi_object.specs.declared.register_names.RegisterNames.TheVariants.{Numbers, X86_64}
 use Rattle.cfi_programs.specs.declared.rows.command_line.Storage.TheVariants.{OnHeap, Growing}
 use Rattle.std.specs.FinMap as map
 use Rattle.cfi_state.specs.declared.table.rules.CfaRule.{CfaRule}
 use Rattle.cfi_state.specs.Row.{Row}
 use Rattle.cfi_programs.specs.RowsCommandLine.{request_of}
 use Rattle.cfi_programs.specs.RowLines.{row_head, ruled, rules_by}
-use Rattle.cfi_programs.specs.declared.register_names.RegisterNames.TheVariants.{Numbers, X86_64}
 use Rattle.cfi_programs.proofs.Computing.{computing}
 
 -- ---- words

@@ -12,11 +12,11 @@ use Rattle.cfi_read_core.specs.declared.instruction.CallFrameInstruction.TheVari
 use Rattle.cfi_read_core.specs.declared.instruction.UnwindExpression.{UnwindExpression}
 use Rattle.cfi_read_core.specs.ReadFunctions.{Readings}
 use Rattle.cfi_parts.specs.Instructions.{Instruction}
+use Rattle.cfi_object.specs.RegisterNames.{register_text}
+use Rattle.cfi_object.specs.declared.register_names.RegisterNames.{RegisterNames}
 use Rattle.cfi_programs.specs.Lines.{address_text}
 use Rattle.cfi_programs.specs.ReadingTexts.{readings_text}
 use Rattle.cfi_programs.specs.RowLines.{expression_text}
-use Rattle.cfi_programs.specs.RegisterNames.{register_text}
-use Rattle.cfi_programs.specs.declared.register_names.RegisterNames.{RegisterNames}
 use Rattle.cfi_programs.specs.declared.style.Format.TheVariants.{Text as AsText}
 
 -- A register among the operands.

@@ -6,11 +6,11 @@ use Rattle.cfi_entry.specs.Entries.{Entry, entries}
 use Rattle.cfi_entry.specs.Sections.{Section}
 use Rattle.cfi_elf.specs.FunctionNames.{name_in}
 use Rattle.cfi_read_core.specs.declared.error.Error.TheVariants.{OutOfMemory}
+use Rattle.cfi_object.specs.declared.register_names.RegisterNames.{RegisterNames}
 use Rattle.cfi_programs.specs.Lines.{Line, refusal_in}
 use Rattle.cfi_programs.specs.declared.style.Format.{Format}
 use Rattle.cfi_programs.specs.declared.style.Format.TheVariants.{Text as AsText}
 use Rattle.cfi_programs.specs.declared.style.Style.{Style}
-use Rattle.cfi_programs.specs.declared.register_names.RegisterNames.{RegisterNames}
 use Rattle.cfi_programs.specs.declared.dump.printed.AskedRows.{AskedRows}
 use Rattle.cfi_programs.specs.declared.dump.printed.Printed.{Printed}
 use Rattle.cfi_programs.specs.declared.dump.printed.Printed.TheVariants as printing

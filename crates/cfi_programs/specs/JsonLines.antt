@@ -11,11 +11,11 @@ use Rattle.std.specs.Fmt.{decimal, digit_glyph}
 use Rattle.cfi_state.specs.declared.table.rules.RegisterRule.{RegisterRule}
 use Rattle.cfi_state.specs.Machine.{Parts}
 use Rattle.cfi_state.specs.Row.{Row}
+use Rattle.cfi_object.specs.RegisterNames.{register_text}
+use Rattle.cfi_object.specs.declared.register_names.RegisterNames.{RegisterNames}
 use Rattle.cfi_programs.specs.Lines.{address_text}
 use Rattle.cfi_programs.specs.FunctionLines.{shown}
-use Rattle.cfi_programs.specs.RegisterNames.{register_text}
 use Rattle.cfi_programs.specs.RowLines.{cfa_text, rule_text, rules_by}
-use Rattle.cfi_programs.specs.declared.register_names.RegisterNames.{RegisterNames}
 
 -- ---- numbers and strings
 

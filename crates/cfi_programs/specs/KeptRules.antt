@@ -4,9 +4,9 @@ use Rattle.std.specs.FinMap as map
 use Rattle.cfi_read_core.specs.declared.common.Register.{Register}
 use Rattle.cfi_state.specs.RulePairs.{rules_of}
 use Rattle.cfi_state.specs.declared.table.rules.RegisterRule.{RegisterRule}
+use Rattle.cfi_object.specs.declared.register_names.RegisterNames.{RegisterNames}
 use Rattle.cfi_programs.specs.RowLines.{ruled, rules_by}
 use Rattle.cfi_programs.specs.declared.kept_rules.KeptRules.{KeptRules}
-use Rattle.cfi_programs.specs.declared.register_names.RegisterNames.{RegisterNames}
 
 abbrev pub kept_rules : KeptRules → List (Register × RegisterRule ℕ)
 kept_rules kept = kept.rules.items

@@ -2,7 +2,6 @@ pub mod Words
 pub mod SectionOfWords
 pub mod Input
 pub mod Lines
-pub mod RegisterNames
 pub mod RowLines
 pub mod FunctionLines
 pub mod JsonLines

@@ -3,12 +3,12 @@ use Rattle.std.specs.Prelude.{ℕ, Ok, Err, Result, refl}
 use Rattle.std.proofs.Common.{lit≤, subst, sym}
 use Rattle.cfi_read_core.specs.declared.error.Error.{Error}
 use Rattle.cfi_state.specs.Row.{Row}
+use Rattle.cfi_object.specs.declared.register_names.RegisterNames.TheVariants.{Numbers}
 use Rattle.cfi_programs.specs.Input.{Bytes}
 use Rattle.cfi_programs.specs.Lines.{Line}
 use Rattle.cfi_programs.specs.AnswerLines.{answer_line, text_style}
 use Rattle.cfi_programs.specs.Runs.{IsPlain}
 use Rattle.cfi_programs.specs.declared.rows.command_line.Request.{Request}
-use Rattle.cfi_programs.specs.declared.register_names.RegisterNames.TheVariants.{Numbers}
 use Rattle.cfi_programs.specs.RowsProgramOutput.{rows_tool}
 
 plain_answer : (answer : Result (Row ℕ) Error) → IsPlain (answer_line (text_style Numbers) answer)

@@ -3,6 +3,7 @@ use Rattle.std.specs.Prelude.{◌≡◌, ℕ, Bool, true, false, Option, Some, N
 use Rattle.cfi_read_core.specs.declared.error.Error.{Error}
 use Rattle.cfi_state.specs.Row.{Row}
 use Rattle.gimli_cfi.specs.SectionSources.{IsGivenRow}
+use Rattle.cfi_object.specs.declared.register_names.RegisterNames.TheVariants.{Numbers}
 use Rattle.cfi_programs.specs.declared.rows.command_line.Storage.{Storage}
 use Rattle.cfi_programs.specs.declared.rows.command_line.Storage.TheVariants.{OnHeap, Growing}
 use Rattle.cfi_programs.specs.declared.rows.command_line.Request.{Request}
@@ -11,7 +12,6 @@ use Rattle.cfi_programs.specs.Input.{Bytes, bytes_by}
 use Rattle.cfi_programs.specs.Runs.{Tool}
 use Rattle.cfi_programs.specs.SectionOfWords.{given_by}
 use Rattle.cfi_programs.specs.AnswerLines.{answer_line, text_style}
-use Rattle.cfi_programs.specs.declared.register_names.RegisterNames.TheVariants.{Numbers}
 
 -- ---- the room for an unwind
 

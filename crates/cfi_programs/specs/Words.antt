@@ -1,12 +1,9 @@
 -- The words of the command line that say of what kind a section is, and where it lies.
-use Rattle.std.specs.Prelude.{refl, ℕ, ◌^◌, Bool, ◌&&◌, Option, Some, None, List, [], ◌∷◌, length}
-use Rattle.std.specs.Prelude.{take, drop, map, nat_le, nat_lt, codes, if◌then◌else◌}
+use Rattle.std.specs.Prelude.{refl, ℕ, Option, Some, None, List, [], ◌∷◌, map, codes}
+use Rattle.std.specs.Prelude.{if◌then◌else◌}
 use Rattle.std.specs.Borrow.{Bor}
-use Rattle.std.specs.Char.{is_ascii_digit, is_ascii_hexdigit}
-use Rattle.std.specs.List.{list_all}
 use Rattle.std.specs.Option.{option_and_then, option_map}
 use Rattle.std.specs.Str.{bytes_eq}
-use Rattle.std.specs.Str.Parse.{digits_value}
 use Rattle.cfi_read_core.specs.declared.address.AddressSize.{AddressSize}
 use Rattle.cfi_read_core.specs.declared.common.Vendor.{Vendor}
 use Rattle.cfi_read_core.specs.declared.common.Vendor.TheVariants as vendors
@@ -14,6 +11,7 @@ use Rattle.cfi_read_core.specs.declared.endianity.RunTimeEndian.{RunTimeEndian}
 use Rattle.cfi_read_core.specs.declared.endianity.RunTimeEndian.TheVariants.{Little, Big}
 use Rattle.gimli_cfi.specs.declared.source.SectionKind.{SectionKind}
 use Rattle.gimli_cfi.specs.declared.source.SectionKind.TheVariants.{DebugFrame, EhFrame}
+use Rattle.cfi_object.specs.Numbers.{after_prefix, number}
 use Rattle.cfi_programs.specs.declared.words.SectionWords.{SectionWords}
 
 -- ---- texts
@@ -25,40 +23,6 @@ texts words = map (λ word. word.now) words
 -- the same of words that may not be readable
 abbrev pub texts_given : Option (Bor (List (Bor (List ℕ)))) → Option (List (List ℕ))
 texts_given words = option_map (λ list. texts list.now) words
-
--- what comes after the start of a word that begins with it
-abbrev pub after_prefix : List ℕ → List ℕ → Option (List ℕ)
-after_prefix start word =
-    if bytes_eq (take (length start) word) start then Some (drop (length start) word) else None
-
--- ---- numbers
-
-abbrev pub has_length : ℕ → List ℕ → Bool
-has_length most digits = nat_le 1 (length digits) && nat_le (length digits) most
-
-abbrev pub below_2_64 : ℕ → Option ℕ
-below_2_64 n = if nat_lt n (2 ^ 64) then Some n else None
-
--- 1 to 16 digits of either case, after 0x
-abbrev pub hexadecimal_number : List ℕ → Option ℕ
-hexadecimal_number digits =
-    if has_length 16 digits && list_all is_ascii_hexdigit digits
-    then Some (digits_value 16 digits)
-    else None
-
--- 1 to 20 digits
-abbrev pub decimal_number : List ℕ → Option ℕ
-decimal_number digits =
-    if has_length 20 digits && list_all is_ascii_digit digits
-    then below_2_64 (digits_value 10 digits)
-    else None
-
-abbrev pub number_after : List ℕ → Option (List ℕ) → Option ℕ
-number_after word (Some digits) = hexadecimal_number digits
-number_after word None = decimal_number word
-
-abbrev pub number : List ℕ → Option ℕ
-number word = number_after word (after_prefix (codes "0x") word)
 
 -- ---- the words after the first ones, each at most once
 

@@ -9,58 +9,10 @@ ghost use Rattle.cfi_programs.specs.Input.{BeginsWithDigit, BeginsWithNoDigit};
 ghost use Rattle.cfi_programs.specs.Input.{bytes_by, bytes_of, decoded_bytes, without_spaces};
 ghost use Rattle.cfi_programs.specs.Input.{is_line_feed, is_space};
 
+use cfi_object::input::{InputError, read_all};
 use hex::FromHex;
 use std::alloc::Global;
 use std::io::Read;
-
-/// How many bytes a read asks for.
-const CHUNK: usize = 16384;
-
-/// How many bytes there is room for before the first read. A system gives memory as it is used.
-const ROOM: usize = 1 << 20;
-
-/// Why there are no bytes.
-#[derive(Clone, Copy)]
-pub enum InputError {
-    /// A read failed.
-    Unreadable,
-    /// The text is not hexadecimal.
-    NotHexadecimal,
-    /// An allocation failed.
-    OutOfMemory,
-}
-
-/// Reads the input to its end. An interrupted read is a failed one.
-pub fn read_all<R: Read>(alloc: Global, input: &mut R) -> Result<Vec<u8>, InputError>
-    ensures all { IfOk result (λ bytes. IfSome (R.remaining input.old) (λ xs. bytes.items ≡ xs)) }
-    ensures refused { IfErr result (λ e.
-        (e ≡ InputError.Unreadable) ⊎ (e ≡ InputError.OutOfMemory)) }
-{
-    let mut bytes = room(alloc);
-    let mut chunk = [0u8; CHUNK];
-    for _ in 0..u64::MAX {
-        match input.read(&mut chunk) {
-            Ok(0) => return Ok(bytes),
-            Ok(n) => {
-                if bytes.extend_from_slice(&chunk[..n]).is_err() {
-                    return Err(InputError::OutOfMemory);
-                }
-            }
-            Err(_) => return Err(InputError::Unreadable),
-        }
-    }
-    Err(InputError::Unreadable)
-}
-
-/// Returns an empty vector, with room for the input of a small file where there is memory for it.
-fn room(alloc: Global) -> Vec<u8>
-    ensures { result.items ≡ [] }
-{
-    match Vec::with_capacity(alloc, ROOM) {
-        Ok(bytes) => bytes,
-        Err(_) => Vec::new(alloc),
-    }
-}
 
 /// Reads the input to its end, and then decodes it.
 pub fn read_sections<R: Read>(

@@ -6,9 +6,9 @@ ghost use Rattle.cfi_programs.specs.WriterOutput.{Writes, WritesBehind};
 
 use crate::json::push_number;
 use crate::lines::write_text;
-use crate::register_names::RegisterNames;
 use crate::row_line::{HasRules, make_room, push_cfa, push_register, push_rule};
 use crate::text::{Text, push, push_address};
+use cfi_object::register_names::RegisterNames;
 use gimli_cfi::{ArrayLike, Register, RegisterRule, UnwindTableRow};
 use std::io::Write;
 use std::{fmt, io};

@@ -5,15 +5,15 @@ ghost use Rattle.std.specs.FinMap as map;
 ghost use Rattle.cfi_read_core.specs.ReaderCalls.{map_ok};
 ghost use Rattle.cfi_state.specs.RegisterRuleIters.{rules_left};
 ghost use Rattle.cfi_state.specs.RulePairs.{IsRising, rules_of};
+ghost use Rattle.cfi_object.specs.declared.register_names.RegisterNames.{RegisterNames};
 ghost use Rattle.cfi_programs.specs.AnswerLines.{answer_line, text_style};
 ghost use Rattle.cfi_programs.specs.KeptRules.{AreKept, kept_rules, kept_text};
 ghost use Rattle.cfi_programs.specs.RowLines.{ruled, rules_by};
-ghost use Rattle.cfi_programs.specs.declared.register_names.RegisterNames.{RegisterNames};
 
-use crate::register_names::RegisterNames;
 use crate::row_line::{is_rising, push_next, push_ruled};
 use crate::text::Text;
 use arrayvec::ArrayVec;
+use cfi_object::register_names::RegisterNames;
 use gimli_cfi::{ArrayLike, Error, Register, RegisterRule, RegisterRuleIter, UnwindTableRow};
 use std::fmt;
 use std::marker::Model;
@@ -156,7 +156,7 @@ pub(crate) struct KeptRows {
 impl Model for KeptRows {
     ghost use Rattle.std.specs.List.{All};
     ghost use Rattle.cfi_programs.specs.KeptRules.{AreKept};
-    ghost use Rattle.cfi_programs.specs.declared.register_names.RegisterNames.{RegisterNames};
+    ghost use Rattle.cfi_object.specs.declared.register_names.RegisterNames.{RegisterNames};
 
     ghost Value = { RegisterNames };
 

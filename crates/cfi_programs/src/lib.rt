@@ -11,7 +11,6 @@ pub mod json;
 mod json_row;
 mod kept_rules;
 pub mod lines;
-pub mod register_names;
 pub mod row_line;
 pub mod rows;
 pub mod run;

@@ -7,21 +7,21 @@ ghost use Rattle.cfi_read_core.specs.ReaderCalls.{map_ok};
 ghost use Rattle.cfi_state.specs.RegisterRuleIters.{rules_left};
 ghost use Rattle.cfi_state.specs.RulePairs.{IsRising, rules_of};
 ghost use Rattle.gimli_cfi.specs.Words.{Parts};
+ghost use Rattle.cfi_object.specs.RegisterNames.{register_text};
+ghost use Rattle.cfi_object.specs.declared.register_names.RegisterNames.TheVariants.{X86_64};
 ghost use Rattle.cfi_programs.specs.KeptRules.{AreKept, kept_rules};
 ghost use Rattle.cfi_programs.specs.WriterOutput.{Prints, Writes, WritesBehind};
 ghost use Rattle.cfi_programs.specs.AnswerLines.{answer_line, row_in, text_style};
 ghost use Rattle.cfi_programs.specs.RowLines.{cfa_text, expression_text};
-ghost use Rattle.cfi_programs.specs.RegisterNames.{register_text};
-ghost use Rattle.cfi_programs.specs.declared.register_names.RegisterNames.TheVariants.{X86_64};
 ghost use Rattle.cfi_programs.specs.RowLines.{offset_text, parts_rules, row_head};
 ghost use Rattle.cfi_programs.specs.RowLines.{row_text, rule_text, ruled, rules_by};
 
 use crate::json_row::write_json_row;
 use crate::kept_rules::KeptRules;
 use crate::lines::{write_refusal_in, write_text};
-use crate::register_names::RegisterNames;
 use crate::style::{Format, Style};
 use crate::text::{Text, push, push_address, push_decimal, push_signed};
+use cfi_object::register_names::RegisterNames;
 use gimli_cfi::{
     ArrayLike, CfaRule, Error, Register, RegisterRule, RegisterRuleIter, UnwindExpression,
     UnwindTableRow,

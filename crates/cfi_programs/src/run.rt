@@ -7,9 +7,10 @@ ghost use Rattle.cfi_programs.specs.Runs.{IsAskedFor, IsPlain, PrintsAnswer, Pri
 ghost use Rattle.cfi_programs.specs.Runs.{PrintsRun, asked_for, tool_of};
 ghost use Rattle.cfi_programs.specs.Words.{texts, texts_given};
 
-use crate::input::{InputError, Sections};
+use crate::input::Sections;
 use crate::lines::{write_refusal, write_wrong_hexadecimal, write_wrong_input, write_wrong_words};
 use crate::words::{texts_of, words_after_name};
+use cfi_object::InputError;
 use gimli_cfi::Error;
 use std::alloc::Global;
 use std::io;

@@ -1,6 +1,6 @@
 //! How answers are printed: the form of the lines, and the names of registers.
 
-use crate::register_names::RegisterNames;
+use cfi_object::register_names::RegisterNames;
 
 /// The form of what is printed.
 #[derive(Clone, Copy, Debug, PartialEq, Eq)]

@@ -1,20 +1,17 @@
 //! The words of the command line that say what a section is and which addresses it has.
 ghost use Rattle.std.specs.Prelude.{◌≡◌, IfOk, map, option_map, string_bytes};
-ghost use Rattle.std.specs.Char.{is_ascii_digit, is_ascii_hexdigit};
-ghost use Rattle.std.specs.List.{list_all};
-ghost use Rattle.cfi_programs.specs.Words.{after_prefix, texts};
-ghost use Rattle.cfi_programs.specs.Words.{decimal_number, hexadecimal_number, number};
+ghost use Rattle.cfi_object.specs.Numbers.{number};
+ghost use Rattle.cfi_programs.specs.Words.{texts};
 ghost use Rattle.cfi_programs.specs.Words.{first_words, kind_of, order_of, size_of};
 ghost use Rattle.cfi_programs.specs.Words.{once_given, section_word};
 ghost use Rattle.cfi_programs.specs.Words.{set_data_base, set_header, set_section};
 ghost use Rattle.cfi_programs.specs.Words.{set_text, set_vendor};
-ghost use Rattle.cfi_programs.specs.SectionOfWords.{bases_of, given_by, header_of};
+ghost use Rattle.cfi_programs.specs.SectionOfWords.{given_by, header_of};
 ghost use Rattle.gimli_cfi.specs.SectionSources.{source_view};
 
-use gimli_cfi::{
-    AddressSize, BaseAddresses, RunTimeEndian, SectionBaseAddresses, SectionKind, SectionSource,
-    Vendor,
-};
+use cfi_object::numbers::after_prefix;
+use cfi_object::{bases_at, number_in};
+use gimli_cfi::{AddressSize, RunTimeEndian, SectionKind, SectionSource, Vendor};
 use std::alloc::{AllocError, Global};
 use std::rt::Env;
 use std::{env, io};
@@ -55,27 +52,9 @@ impl SectionWords {
             endian: self.endian,
             address_size: self.address_size,
             vendor: self.vendor,
-            bases: self.bases(),
+            bases: bases_at(self.section, self.text, self.data_base, self.header),
             bytes: section,
             header: self.header_of(header),
-        }
-    }
-
-    /// Returns the bases of the pointers in the section's entries, and of those in its header.
-    fn bases(&self) -> BaseAddresses
-        ensures { result ≡ bases_of self.now }
-    {
-        BaseAddresses {
-            eh_frame_hdr: SectionBaseAddresses {
-                section: self.header,
-                text: self.text,
-                data_base: self.header,
-            },
-            eh_frame: SectionBaseAddresses {
-                section: self.section,
-                text: self.text,
-                data_base: self.data_base,
-            },
         }
     }
 
@@ -262,56 +241,4 @@ fn once(before: Option<u64>, digits: &str) -> Option<u64>
         None => number_in(digits),
         Some(_) => None,
     }
-}
-
-/// Returns what comes after `start` in a word that begins with it.
-pub fn after_prefix<'w>(word: &'w str, start: &str) -> Option<&'w str>
-    ensures { option_map (λ rest. rest.now) result ≡ after_prefix start.now word.now }
-{
-    word.strip_prefix(start)
-}
-
-/// Parses a number: `0x` and 1 to 16 hexadecimal digits, or 1 to 20 decimal digits of a value below
-/// 2^64. `None` for other words.
-pub fn number_in(word: &str) -> Option<u64>
-    ensures { result ≡ number word.now }
-{
-    match after_prefix(word, "0x") {
-        Some(digits) => hexadecimal(digits),
-        None => decimal(word),
-    }
-}
-
-/// Parses 1 to 16 hexadecimal digits; `None` for other words.
-fn hexadecimal(digits: &str) -> Option<u64>
-    ensures { result ≡ hexadecimal_number digits.now }
-{
-    if digits.is_empty() || digits.len() > 16 || !all_hexadecimal(digits.as_bytes()) {
-        return None;
-    }
-    u64::from_str_radix(digits, 16).ok()
-}
-
-/// Parses 1 to 20 decimal digits of a value below 2^64; `None` for other words.
-fn decimal(digits: &str) -> Option<u64>
-    ensures { result ≡ decimal_number digits.now }
-{
-    if digits.is_empty() || digits.len() > 20 || !all_decimal(digits.as_bytes()) {
-        return None;
-    }
-    u64::from_str_radix(digits, 10).ok()
-}
-
-/// Returns whether each byte is a hexadecimal digit.
-fn all_hexadecimal(digits: &[u8]) -> bool
-    ensures { result ≡ list_all is_ascii_hexdigit digits.now }
-{
-    digits.iter().all(|digit| digit.is_ascii_hexdigit())
-}
-
-/// Returns whether each byte is a decimal digit.
-fn all_decimal(digits: &[u8]) -> bool
-    ensures { result ≡ list_all is_ascii_digit digits.now }
-{
-    digits.iter().all(|digit| digit.is_ascii_digit())
 }

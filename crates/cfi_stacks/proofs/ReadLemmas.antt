@@ -3,7 +3,7 @@ use Rattle.std.proofs.Common.{◌≡◌, ◌∙◌, ℕ, List, [], ◌∷◌, �
 use Rattle.cfi_perf.specs.declared.error.PerfError.{PerfError}
 use Rattle.cfi_perf.specs.Events.{Record}
 use Rattle.cfi_perf.specs.Records.{Records, error_item, items, no_records, with_first}
-use Rattle.cfi_files.specs.FileOutputs.{AreLeft}
+use Rattle.cfi_object.specs.FileParts.{AreLeft}
 
 -- records before the others
 abbrev pub behind_these : List Record → Records → Records

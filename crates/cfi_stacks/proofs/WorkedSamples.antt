@@ -8,7 +8,7 @@ use Rattle.cfi_read_core.specs.Numbers.{unsigned}
 use Rattle.cfi_elf.specs.Segments.{minus}
 use Rattle.gimli_cfi.specs.SectionSources.{GivenSection, given_header, given_section}
 use Rattle.gimli_cfi.specs.declared.source.SectionKind.TheVariants.{EhFrame}
-use Rattle.cfi_files.specs.CallFrames.{bases_at}
+use Rattle.cfi_object.specs.CallFrames.{bases_at}
 use Rattle.cfi_step.specs.CompiledSteps.{address_in_file}
 use Rattle.cfi_stacks.specs.declared.registers.SampleMachine.TheVariants.{X86_64, AArch64}
 use Rattle.cfi_stacks.specs.declared.sample_stack.NoFrames.{NoFrames}

@@ -21,7 +21,7 @@ use Rattle.cfi_elf.specs.declared.error.ElfError.{ElfError}
 use Rattle.cfi_elf.specs.ElfFiles.{File, elf_file, file_view}
 use Rattle.cfi_compiled.specs.CompiledTables.{TableContents}
 use Rattle.cfi_elf.specs.Segments.{address_of_offset, minus}
-use Rattle.cfi_files.specs.CallFrames.{eh_frame_of}
+use Rattle.cfi_object.specs.CallFrames.{eh_frame_of}
 use Rattle.cfi_step.specs.declared.module.LoadedModule.{LoadedModule}
 use Rattle.cfi_stacks.specs.declared.mappings.MappedCode.{MappedCode}
 use Rattle.cfi_stacks.specs.declared.objects.Object.{Object as ObjectOfCode}

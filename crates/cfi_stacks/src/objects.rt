@@ -4,7 +4,7 @@ ghost use Rattle.std.specs.Prelude.{◌≡◌, ⊤};
 use crate::mappings::MappedCode;
 use cfi_compiled::CompiledTable;
 use cfi_elf::ElfFile;
-use cfi_files::eh_frame;
+use cfi_object::eh_frame;
 use cfi_step::LoadedModule;
 use gimli_cfi::{
     BaseAddresses, EhFrame, EhFrameHdr, EndianSlice, Error, RunTimeEndian, SectionSource,
@@ -46,7 +46,7 @@ impl<'file> Object<'file> {
 
     /// The file that these bytes are. Returns `None` where they are no ELF file, and where the file
     /// has no `.eh_frame` or its headers can't be read (`cfi_elf::ElfFile::parse`,
-    /// `cfi_files::eh_frame`). Does not allocate.
+    /// `cfi_object::eh_frame`). Does not allocate.
     pub fn of(bytes: &'file [u8]) -> Option<Object<'file>>
         ensures { option_map object_view result ≡ object_of bytes.now }
     {

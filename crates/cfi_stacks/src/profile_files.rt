@@ -11,8 +11,8 @@ ghost use Rattle.cfi_stacks.specs.Replays.{code_name, is_among, names_of, with_n
 use crate::file_code::FileCode;
 use crate::names::Name;
 use crate::objects::Object;
+use cfi_object::input::{InputError, read_all};
 use cfi_perf::{Event, Record};
-use cfi_programs::input::{InputError, read_all};
 use std::alloc::{AllocError, Global};
 use std::io::Read;
 

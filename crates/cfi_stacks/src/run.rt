@@ -1,7 +1,7 @@
 //! The stacks of a profile that a reader gives.
 ghost use Rattle.std.specs.Prelude.{◌≡◌, ◌⊎◌, ℕ, List, [], Ok, IfOk, map};
 ghost use Rattle.cfi_files.specs.FileLines.{PrintsSome};
-ghost use Rattle.cfi_files.specs.FileOutputs.{AreLeft};
+ghost use Rattle.cfi_object.specs.FileParts.{AreLeft};
 ghost use Rattle.cfi_perf.specs.Events.{record_view};
 ghost use Rattle.cfi_perf.specs.Profiles.{profile_view};
 ghost use Rattle.cfi_perf.specs.Records.{records_left};
@@ -24,8 +24,8 @@ use crate::profile_files::{
 use crate::registers::SampleMachine;
 use crate::replay::Replay;
 use crate::sample_text::{Room, print_sample};
+use cfi_object::input::{InputError, read_all};
 use cfi_perf::{Event, PerfError, Profile, Record, Records};
-use cfi_programs::input::{InputError, read_all};
 use cfi_programs::lines::{write_part, write_refusal, write_text, write_wrong_input};
 use gimli_cfi::Error;
 use std::alloc::{AllocError, Global};

@@ -5,8 +5,8 @@ mod extensions;
 mod failing;
 mod header;
 
+use cfi_object::register_names::RegisterNames;
 use cfi_parts::instruction::UnwindExpression;
-use cfi_programs::register_names::RegisterNames;
 use cfi_programs::row_line::{push_frame, push_ruled};
 use cfi_programs::rows::run::run;
 use cfi_programs::text::{Text, push, push_address};

@@ -13,7 +13,7 @@ ghost use Rattle.cfi_programs.specs.DumpEntryLines.{partial_fde_line};
 ghost use Rattle.cfi_programs.specs.DumpEntryLines.{personality_text, signal_text, target_text};
 
 use crate::lines::{Address, write_part};
-use crate::register_names::RegisterNames;
+use cfi_object::register_names::RegisterNames;
 use gimli_cfi::{CommonInformationEntry, DwEhPe, FrameDescriptionEntry, Pointer, Reader};
 use std::fmt::{Display, Formatter};
 use std::io::Write;

@@ -12,8 +12,8 @@ ghost use Rattle.cfi_programs.specs.RowLines.{expression_text};
 
 use crate::dump::section::write_refused;
 use crate::lines::write_part;
-use crate::register_names::RegisterNames;
 use crate::style::Format;
+use cfi_object::register_names::RegisterNames;
 use gimli_cfi::{
     CallFrameInstruction as Instruction, CallFrameInstructionIter, Reader, Register, Result,
     UnwindExpression,

@@ -8,7 +8,7 @@ ghost use Rattle.cfi_programs.specs.DumpProgramOutput.{IsPrinted};
 use crate::dump::printed::Printed;
 use crate::dump::section::write_section;
 use crate::lines::write_refusal_in;
-use crate::register_names::RegisterNames;
+use cfi_object::register_names::RegisterNames;
 use gimli_cfi::{
     BaseAddresses, CallFrameSection, Reader, SectionSource, UnwindContext, UnwindSection,
 };

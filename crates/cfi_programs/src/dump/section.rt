@@ -31,10 +31,10 @@ use crate::dump::instruction_line::write_instructions;
 use crate::dump::printed::Printed;
 use crate::kept_rules::{KeptRows, LineRoom};
 use crate::lines::{write_refusal_in, write_text};
-use crate::register_names::RegisterNames;
 use crate::row_line::{FULL_OF_LINES, write_answer, write_apart, write_out};
 use crate::style::{Format, Style};
 use crate::text::Text;
+use cfi_object::register_names::RegisterNames;
 use gimli_cfi::{
     _UnwindSectionPrivate, BaseAddresses, CieCache, CieOrFde, CommonInformationEntry, Error,
     FrameDescriptionEntry, PartialFrameDescriptionEntry, Reader, Result, UnwindContext,

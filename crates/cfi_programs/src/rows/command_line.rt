@@ -5,7 +5,8 @@ ghost use Rattle.cfi_programs.specs.RowsCommandLine.{first_words, option_word, o
 ghost use Rattle.cfi_programs.specs.RowsCommandLine.{request_of, set_storage};
 
 use crate::words;
-use crate::words::{SectionWords, number_in};
+use crate::words::SectionWords;
+use cfi_object::number_in;
 
 /// Where an unwind keeps its rows.
 #[derive(Clone, Copy)]

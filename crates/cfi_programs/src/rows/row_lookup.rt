@@ -6,10 +6,10 @@ ghost use Rattle.cfi_programs.specs.Runs.{PrintsAnswer};
 
 use crate::input::Sections;
 use crate::lines::write_refusal;
-use crate::register_names::RegisterNames;
 use crate::row_line::write_answer;
 use crate::rows::command_line::{Request, Storage};
 use crate::style::{Format, Style};
+use cfi_object::register_names::RegisterNames;
 use gimli_cfi::{
     Error, StoreGrowing, StoreOnHeap, UnwindContext, UnwindContextStorage, UnwindTableRow,
 };

@@ -6,10 +6,11 @@ ghost use Rattle.cfi_programs.specs.RowsPlainLines.{plain};
 ghost use Rattle.cfi_programs.specs.Runs.{PrintsRun, asked_for};
 ghost use Rattle.cfi_programs.specs.Words.{texts_given};
 
-use crate::input::{InputError, Sections, read_sections};
+use crate::input::{Sections, read_sections};
 use crate::rows::command_line::{Request, parse};
 use crate::rows::row_lookup::print_answer;
 use crate::run::{ProgramRequest, run_program};
+use cfi_object::InputError;
 use std::alloc::Global;
 use std::io;
 use std::io::{Read, Write};

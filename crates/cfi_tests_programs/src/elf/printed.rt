@@ -3,9 +3,9 @@
 ghost use Rattle.std.specs.Prelude.{None};
 
 use super::bytes::{LITTLE_64, changed};
-use cfi_files::input::copy_part;
-use cfi_files::{FileInput, Finding, Printed, Request, check_file, run_on_file};
-use cfi_programs::input::InputError;
+use cfi_files::{Finding, Printed, Request, check_file, run_on_file};
+use cfi_object::input::copy_part;
+use cfi_object::{FileInput, InputError};
 use cfi_programs::style::Format;
 use cfi_tests_bytes::bytes_of;
 use std::alloc::Global;

@@ -1,9 +1,9 @@
 use Rattle.std.proofs.Common.{inl, inr, refl, codes}
 use Rattle.cfi_read_core.specs.RefusalNames.{name_of}
 use Rattle.cfi_read_core.specs.declared.error.Error.TheVariants.{OutOfMemory}
+use Rattle.cfi_object.specs.FileParts.{image_of}
 use Rattle.cfi_files.specs.declared.finding.Finding.TheVariants.{NoTable, Unreadable}
 use Rattle.cfi_files.specs.FileOutputs.{IsCheckOfInput, refused}
-use Rattle.cfi_files.specs.FileParts.{image_of}
 use Rattle.cfi_files.specs.Findings.{found_line}
 use Rattle.cfi_files.proofs.Joined.{checks_found, for_input}
 use Rattle.cfi_files.proofs.WholeOutputs.{checked_parts}

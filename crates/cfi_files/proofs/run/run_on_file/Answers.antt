@@ -1,7 +1,7 @@
 use Rattle.std.proofs.Common.{inl, inr, refl}
+use Rattle.cfi_object.specs.FileParts.{image_of}
 use Rattle.cfi_files.specs.FileLines.{out_of_memory, wrong_input}
 use Rattle.cfi_files.specs.FileOutputs.{format_for}
-use Rattle.cfi_files.specs.FileParts.{image_of}
 use Rattle.cfi_files.proofs.Joined.{for_input}
 use Rattle.cfi_files.proofs.WholeOutputs.{printed_parts}
 use Rattle.cfi_files.proofs.run.run_on_file.Goals as goal

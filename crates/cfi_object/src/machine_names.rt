@@ -1,0 +1,49 @@
+//! The names of registers in what is printed of a file.
+ghost use Rattle.std.specs.Prelude.{◌≡◌};
+ghost use Rattle.cfi_elf.specs.ElfFiles.{file_view};
+ghost use Rattle.cfi_object.specs.MachineNames.{names_in, register_names_of};
+
+use crate::register_names::RegisterNames;
+use cfi_elf::ElfFile;
+
+const EM_386: u16 = 3;
+
+const EM_PPC64: u16 = 21;
+
+const EM_S390: u16 = 22;
+
+const EM_ARM: u16 = 40;
+
+const EM_X86_64: u16 = 62;
+
+const EM_AARCH64: u16 = 183;
+
+const EM_RISCV: u16 = 243;
+
+/// Returns how registers are named in what is printed of the file: by its machine, or by number
+/// where `raw` is true.
+pub fn names_in(file: &ElfFile<'_>, raw: bool) -> RegisterNames
+    ensures { result ≡ names_in (file_view file.now) raw }
+{
+    if raw {
+        RegisterNames::Numbers
+    } else {
+        register_names_of(file.header().kind.e_machine)
+    }
+}
+
+/// Returns the names of the registers of a machine; numbers for one that has no table.
+fn register_names_of(e_machine: u16) -> RegisterNames
+    ensures { result ≡ register_names_of e_machine }
+{
+    match e_machine {
+        EM_386 => RegisterNames::I386,
+        EM_PPC64 => RegisterNames::PowerPc64,
+        EM_S390 => RegisterNames::S390x,
+        EM_ARM => RegisterNames::Arm,
+        EM_X86_64 => RegisterNames::X86_64,
+        EM_AARCH64 => RegisterNames::AArch64,
+        EM_RISCV => RegisterNames::RiscV,
+        _ => RegisterNames::Numbers,
+    }
+}

@@ -1,0 +1,200 @@
+//! The names of registers, by the machine.
+ghost use Rattle.std.specs.Prelude.{◌≡◌, ◌++◌, Some};
+ghost use Rattle.cfi_object.specs.RegisterNames.{aarch64, arm, i386, name_text, powerpc64, riscv};
+ghost use Rattle.cfi_object.specs.RegisterNames.{register_text, s390x, x86_64};
+ghost use Rattle.std.specs.Fmt.{decimal};
+
+use std::fmt;
+use std::fmt::{Display, Formatter};
+
+/// How registers are named.
+#[derive(Clone, Copy, PartialEq, Eq)]
+pub enum RegisterNames {
+    /// By number: `r` and the DWARF number.
+    Numbers,
+    /// By the System V psABI of x86-64.
+    X86_64,
+    /// By the System V psABI of the Intel386.
+    I386,
+    /// By DWARF for the Arm 64-bit architecture.
+    AArch64,
+    /// By DWARF for the Arm architecture.
+    Arm,
+    /// By the RISC-V psABI.
+    RiscV,
+    /// By the s390x psABI.
+    S390x,
+    /// By the 64-bit ELF V2 ABI of Power.
+    PowerPc64,
+}
+
+/// The name of a register: a text, and a number behind it where there is one.
+#[derive(Clone, Copy)]
+pub struct RegisterName {
+    /// The text.
+    pub text: &'static str,
+    /// The number behind it.
+    pub number: Option<u16>,
+}
+
+impl Display for RegisterName {
+    ghost output = { λ name. Some (name_text name) };
+
+    fn fmt<W: fmt::Write>(&self, f: &mut Formatter<W>) -> fmt::Result {
+        f.write_str(self.text)?;
+        match self.number {
+            Some(number) => write!(f, "{number}"),
+            None => Ok(()),
+        }
+    }
+}
+
+impl RegisterNames {
+    /// Returns the name of the register that has this DWARF number: its name in the psABI of the
+    /// machine, or else `r` and the number. Does not allocate.
+    pub fn name(self, register: u16) -> RegisterName
+        ensures { name_text result ≡ register_text self register }
+    {
+        match self {
+            RegisterNames::Numbers => counted("r", register),
+            RegisterNames::X86_64 => x86_64(register),
+            RegisterNames::I386 => i386(register),
+            RegisterNames::AArch64 => aarch64(register),
+            RegisterNames::Arm => arm(register),
+            RegisterNames::RiscV => riscv(register),
+            RegisterNames::S390x => s390x(register),
+            RegisterNames::PowerPc64 => powerpc64(register),
+        }
+    }
+}
+
+/// Returns the text alone.
+fn alone(text: &'static str) -> RegisterName
+    ensures { name_text result ≡ text.now }
+{
+    RegisterName { text, number: None }
+}
+
+/// Returns the text and the number behind it.
+fn counted(text: &'static str, number: u16) -> RegisterName
+    ensures { name_text result ≡ text.now ++ decimal number }
+{
+    RegisterName {
+        text,
+        number: Some(number),
+    }
+}
+
+/// Returns the name of a register of x86-64.
+fn x86_64(register: u16) -> RegisterName
+    ensures { name_text result ≡ x86_64 register }
+{
+    match register {
+        0 => alone("rax"),
+        1 => alone("rdx"),
+        2 => alone("rcx"),
+        3 => alone("rbx"),
+        4 => alone("rsi"),
+        5 => alone("rdi"),
+        6 => alone("rbp"),
+        7 => alone("rsp"),
+        16 => alone("ra"),
+        17..=32 => counted("xmm", register - 17),
+        _ => counted("r", register),
+    }
+}
+
+/// Returns the name of a register of i386.
+fn i386(register: u16) -> RegisterName
+    ensures { name_text result ≡ i386 register }
+{
+    match register {
+        0 => alone("eax"),
+        1 => alone("ecx"),
+        2 => alone("edx"),
+        3 => alone("ebx"),
+        4 => alone("esp"),
+        5 => alone("ebp"),
+        6 => alone("esi"),
+        7 => alone("edi"),
+        8 => alone("ra"),
+        9 => alone("eflags"),
+        _ => counted("r", register),
+    }
+}
+
+/// Returns the name of a register of AArch64.
+fn aarch64(register: u16) -> RegisterName
+    ensures { name_text result ≡ aarch64 register }
+{
+    match register {
+        0..=30 => counted("x", register),
+        31 => alone("sp"),
+        34 => alone("ra_sign_state"),
+        64..=95 => counted("v", register - 64),
+        _ => counted("r", register),
+    }
+}
+
+/// Returns the name of a register of Arm.
+fn arm(register: u16) -> RegisterName
+    ensures { name_text result ≡ arm register }
+{
+    match register {
+        13 => alone("sp"),
+        14 => alone("lr"),
+        15 => alone("pc"),
+        256..=287 => counted("d", register - 256),
+        _ => counted("r", register),
+    }
+}
+
+/// Returns the name of a register of RISC-V.
+fn riscv(register: u16) -> RegisterName
+    ensures { name_text result ≡ riscv register }
+{
+    match register {
+        0..=31 => counted("x", register),
+        32..=63 => counted("f", register - 32),
+        _ => counted("r", register),
+    }
+}
+
+/// Returns the name of a register of s390x.
+fn s390x(register: u16) -> RegisterName
+    ensures { name_text result ≡ s390x register }
+{
+    match register {
+        16 => alone("f0"),
+        17 => alone("f2"),
+        18 => alone("f4"),
+        19 => alone("f6"),
+        20 => alone("f1"),
+        21 => alone("f3"),
+        22 => alone("f5"),
+        23 => alone("f7"),
+        24 => alone("f8"),
+        25 => alone("f10"),
+        26 => alone("f12"),
+        27 => alone("f14"),
+        28 => alone("f9"),
+        29 => alone("f11"),
+        30 => alone("f13"),
+        31 => alone("f15"),
+        _ => counted("r", register),
+    }
+}
+
+/// Returns the name of a register of PowerPC of 64 bits.
+fn powerpc64(register: u16) -> RegisterName
+    ensures { name_text result ≡ powerpc64 register }
+{
+    match register {
+        32..=63 => counted("f", register - 32),
+        65 => alone("lr"),
+        66 => alone("ctr"),
+        68..=75 => counted("cr", register - 68),
+        77..=108 => counted("v", register - 77),
+        _ => counted("r", register),
+    }
+}
