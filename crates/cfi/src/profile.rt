@@ -2,7 +2,7 @@
 ghost use Rattle.std.specs.Prelude.{◌⊎◌, IsNone};
 
 use crate::system::System;
-use cfi_stacks::Opener;
+use cfi_processes::Opener;
 use std::str;
 
 /// The files of a system, by the names that a profile has for them.

@@ -9,12 +9,12 @@ use Rattle.cfi_read_core.specs.SliceReaders.{EndianSlice, slice_position}
 use Rattle.cfi_step.specs.declared.cached_rows.CachedRow.{CachedRow}
 use Rattle.cfi_step.specs.declared.walk.StackFrame.{StackFrame}
 use Rattle.cfi_step.specs.CachedRows.{AreAlike, AreCachedFor, AreNumbered, KeepsFor}
-use Rattle.cfi_stacks.specs.declared.file_code.FileCode.{FileCode}
-use Rattle.cfi_stacks.specs.declared.profile_files.ProfileFile.{ProfileFile}
+use Rattle.cfi_processes.specs.declared.file_code.FileCode.{FileCode}
+use Rattle.cfi_processes.specs.declared.profile_files.ProfileFile.{ProfileFile}
+use Rattle.cfi_processes.specs.FileModules.{AreOfFiles, IsOfFiles}
+use Rattle.cfi_processes.specs.SampleStacks.{HasRoom}
 use Rattle.cfi_stacks.specs.declared.sample_text.Room.{Room}
-use Rattle.cfi_stacks.specs.FileModules.{AreOfFiles, IsOfFiles}
 use Rattle.cfi_stacks.specs.Rooms.{AreKeptFor, IsRoomFor, KeepsNoRows}
-use Rattle.cfi_stacks.specs.SampleStacks.{HasRoom}
 
 -- a room without rows is one for any files
 pub room_for_all : (files : List ProfileFile) (room : Room) → HasRoom room.frames.items → KeepsNoRows room → IsRoomFor files room

@@ -12,11 +12,11 @@ use Rattle.cfi_programs.specs.WriterOutput.{IsBeginning, Prints}
 use Rattle.cfi_programs.proofs.WrittenLemmas.{appends_then, beginning_then, none_yet, writes_refused}
 use Rattle.cfi_programs.proofs.DumpSectionWritten.{last_written}
 use Rattle.cfi_files.specs.FileLines.{PrintsSome}
-use Rattle.cfi_stacks.specs.declared.mappings.MappedCode.{MappedCode}
-use Rattle.cfi_stacks.specs.declared.registers.SampleMachine.{SampleMachine}
-use Rattle.cfi_stacks.specs.KnownFiles.{KnownFile}
+use Rattle.cfi_processes.specs.declared.mappings.MappedCode.{MappedCode}
+use Rattle.cfi_processes.specs.declared.registers.SampleMachine.{SampleMachine}
+use Rattle.cfi_processes.specs.KnownFiles.{KnownFile}
+use Rattle.cfi_processes.specs.Replays.{after}
 use Rattle.cfi_stacks.specs.ProfileOutputs.{AreStacks, IsPrinted, IsTextOf, ended, nothing_mapped}
-use Rattle.cfi_stacks.specs.Replays.{after}
 
 abbrev pub State : Type 0
 State = ℕ → List MappedCode

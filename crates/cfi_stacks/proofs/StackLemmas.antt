@@ -5,8 +5,9 @@ use Rattle.std.proofs.lemmas.List.{drop_all}
 use Rattle.std.specs.List.{flat_map, list_all}
 use Rattle.cfi_programs.specs.FunctionLines.{shown}
 use Rattle.cfi_programs.proofs.WrittenLemmas.{IsGiven}
-use Rattle.cfi_stacks.specs.Names.{is_printable}
-use Rattle.cfi_stacks.specs.StackTexts.{Site, file_text, function_text}
+use Rattle.cfi_processes.specs.Names.{is_printable}
+use Rattle.cfi_processes.specs.Sites.{Site}
+use Rattle.cfi_stacks.specs.StackTexts.{file_text, function_text}
 
 -- ---- a name
 

@@ -1,16 +1,4 @@
-pub mod Mappings
-pub mod Histories
-pub mod Processes
-pub mod Registers
-pub mod Modules
-pub mod Objects
-pub mod SampleStacks
-pub mod Names
 pub mod StackTexts
 pub mod Reasons
-pub mod KnownFiles
-pub mod FileModules
-pub mod OpenedFiles
-pub mod Replays
 pub mod Rooms
 pub mod ProfileOutputs

@@ -28,16 +28,16 @@ use Rattle.cfi_step.specs.declared.module.LoadedModule.{LoadedModule}
 use Rattle.cfi_step.specs.declared.walk.StackFrame.{StackFrame}
 use Rattle.cfi_step.specs.declared.walk.Walk.{Walk}
 use Rattle.cfi_step.specs.Steps.{row_address}
-use Rattle.cfi_stacks.specs.declared.mappings.MappedCode.{MappedCode}
-use Rattle.cfi_stacks.specs.declared.registers.SampleMachine.{SampleMachine}
-use Rattle.cfi_stacks.specs.declared.sample_stack.NoFrames.{NoFrames}
-use Rattle.cfi_stacks.specs.KnownFiles.{KnownFile, modules_in, site_of}
-use Rattle.cfi_stacks.specs.Modules.{module_view}
-use Rattle.cfi_stacks.specs.OpenedFiles.{AreFilesOf, AreOpened, Opened}
+use Rattle.cfi_processes.specs.declared.mappings.MappedCode.{MappedCode}
+use Rattle.cfi_processes.specs.declared.registers.SampleMachine.{SampleMachine}
+use Rattle.cfi_processes.specs.declared.sample_stack.NoFrames.{NoFrames}
+use Rattle.cfi_processes.specs.KnownFiles.{KnownFile, modules_in, site_of}
+use Rattle.cfi_processes.specs.Modules.{module_view}
+use Rattle.cfi_processes.specs.OpenedFiles.{AreFilesOf, AreOpened, Opened}
+use Rattle.cfi_processes.specs.Registers.{machine_named}
+use Rattle.cfi_processes.specs.Replays.{after, names_of}
+use Rattle.cfi_processes.specs.SampleStacks.{HasRoom, IsUnwound, Room}
 use Rattle.cfi_stacks.specs.Reasons.{reason_line, reason_of, reason_without}
-use Rattle.cfi_stacks.specs.Registers.{machine_named}
-use Rattle.cfi_stacks.specs.Replays.{after, names_of}
-use Rattle.cfi_stacks.specs.SampleStacks.{HasRoom, IsUnwound, Room}
 use Rattle.cfi_stacks.specs.StackTexts.{head_line, site_line}
 
 -- ---- a sample

@@ -20,11 +20,11 @@ use Rattle.cfi_expression.specs.declared.error.FrameError.TheVariants.{Architect
 use Rattle.cfi_step.specs.declared.walk.End.{End}
 use Rattle.cfi_step.specs.declared.walk.End.TheVariants.{Outermost, NoModule, Failed, NotRising}
 use Rattle.cfi_step.specs.declared.walk.End.TheVariants.{NoRoom}
+use Rattle.cfi_processes.specs.declared.sample_stack.NoFrames.{NoFrames}
+use Rattle.cfi_processes.specs.declared.sample_stack.NoFrames.TheVariants.{NoRegisters, OtherAbi}
+use Rattle.cfi_processes.specs.declared.sample_stack.NoFrames.TheVariants.{NoProgramCounter}
+use Rattle.cfi_processes.specs.declared.sample_stack.NoFrames.TheVariants.{NoStackPointer}
 use Rattle.cfi_stacks.specs.declared.reasons.Reason.{Reason as ReasonOfCode}
-use Rattle.cfi_stacks.specs.declared.sample_stack.NoFrames.{NoFrames}
-use Rattle.cfi_stacks.specs.declared.sample_stack.NoFrames.TheVariants.{NoRegisters, OtherAbi}
-use Rattle.cfi_stacks.specs.declared.sample_stack.NoFrames.TheVariants.{NoProgramCounter}
-use Rattle.cfi_stacks.specs.declared.sample_stack.NoFrames.TheVariants.{NoStackPointer}
 
 -- the name of a variant, and the error of the call frames that it carries
 pub record Reason : Type 0 where

@@ -12,10 +12,10 @@ use Rattle.cfi_read_core.specs.SliceReaders.{EndianSlice, slice_position}
 use Rattle.cfi_step.specs.declared.cached_rows.CachedRow.{CachedRow}
 use Rattle.cfi_step.specs.declared.module.LoadedModule.{LoadedModule}
 use Rattle.cfi_step.specs.CachedRows.{AreCachedIn, AreEmpty}
-use Rattle.cfi_stacks.specs.declared.profile_files.ProfileFile.{ProfileFile}
+use Rattle.cfi_processes.specs.declared.profile_files.ProfileFile.{ProfileFile}
+use Rattle.cfi_processes.specs.FileModules.{IsOfFiles}
+use Rattle.cfi_processes.specs.SampleStacks.{HasRoom}
 use Rattle.cfi_stacks.specs.declared.sample_text.Room.{Room}
-use Rattle.cfi_stacks.specs.FileModules.{IsOfFiles}
-use Rattle.cfi_stacks.specs.SampleStacks.{HasRoom}
 
 abbrev pub KeepsNoRows : Room → Type 0
 KeepsNoRows room = AreEmpty room.cache.items

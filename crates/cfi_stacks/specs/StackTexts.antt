@@ -1,15 +1,13 @@
 -- The text of a sample's stack.
---     Site, site_view      where the code of a frame is, and that of the code
 --     head_line pid tid time      the line of the thread and the time
---     without_function site      the same, less its function
 --     site_line raw site      the line of a frame, raw or with its function
 use Rattle.std.specs.Prelude.{ℕ, ◌-◌, ◌/◌, ◌%◌, Bool, List, [], ◌∷◌, ◌++◌, Option, Some, None}
-use Rattle.std.specs.Prelude.{codes, false, length, map, option_map, take, if◌then◌else◌}
+use Rattle.std.specs.Prelude.{codes, false, length, map, take, if◌then◌else◌}
 use Rattle.std.specs.Fmt.{decimal, digits}
-use Rattle.cfi_elf.specs.FunctionPlaces.{Place, place_view}
+use Rattle.cfi_elf.specs.FunctionPlaces.{Place}
 use Rattle.cfi_programs.specs.FunctionLines.{shown}
 use Rattle.cfi_programs.specs.Lines.{address_text}
-use Rattle.cfi_stacks.specs.declared.stack_lines.Site.{Site as SiteOfCode}
+use Rattle.cfi_processes.specs.Sites.{Site}
 
 -- behind as much of the fill as makes it as long
 abbrev pub filled : List ℕ → List ℕ → List ℕ
@@ -29,23 +27,6 @@ head_line pid tid time =
     ++ (codes ":" ++ 10 ∷ [])
 
 -- ---- a frame
-
--- the place in the file that is mapped at an address, the function whose bytes have it, and the
--- file's name
-pub record Site : Type 0 where
-  pub place : ℕ
-  pub function : Option Place
-  pub file : Option (List ℕ)
-
-abbrev pub site_view : SiteOfCode → Site
-site_view site = record {
-  place = site.place;
-  function = option_map place_view site.function;
-  file = option_map (λ name. name.bytes.now) site.file;
-}
-
-abbrev pub without_function : Site → Site
-without_function site = record site { function = None }
 
 abbrev pub unknown : List ℕ
 unknown = codes "[unknown]"

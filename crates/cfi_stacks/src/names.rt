@@ -1,42 +1,13 @@
 //! Names that are printed.
 ghost use Rattle.std.specs.Prelude.{◌≡◌, ◌++◌, OnOk, map};
-ghost use Rattle.std.specs.List.{list_all};
 ghost use Rattle.cfi_programs.specs.FunctionLines.{shown};
 ghost use Rattle.cfi_programs.specs.WriterOutput.{Writes};
-ghost use Rattle.cfi_stacks.specs.Names.{is_printable};
 
+use cfi_processes::names::{Name, is_printable};
 use cfi_programs::lines::write_text;
 use cfi_programs::text::{Text, push};
 use std::io::Write;
 use std::{fmt, io};
-
-/// A name, and whether each of its bytes is printable ASCII, which is looked at once.
-#[derive(Clone, Copy, Debug)]
-pub struct Name<'run> {
-    bytes: &'run [u8],
-    is_plain: bool,
-    ghost checked: { is_plain ≡ list_all is_printable bytes.now },
-}
-
-impl<'run> Name<'run> {
-    /// The name of these bytes, each of which is looked at. Does not allocate.
-    pub fn new(bytes: &'run [u8]) -> Name<'run>
-        ensures { result.bytes ≡ bytes.entry }
-    {
-        Name {
-            bytes,
-            is_plain: is_plain(bytes),
-        }
-    }
-
-    /// The bytes of the name.
-    #[inline(always)]
-    pub fn bytes(&self) -> &'run [u8]
-        ensures { result ≡ self.now.bytes }
-    {
-        self.bytes
-    }
-}
 
 /// Writes a name. A byte that isn't printable ASCII is written as a question mark, so that no file
 /// steers a terminal.
@@ -79,13 +50,6 @@ pub fn push_known_name(text: &mut Text, name: Name<'_>) -> fmt::Result
     }
 }
 
-/// Whether each byte of a name is printable ASCII.
-fn is_plain(name: &[u8]) -> bool
-    ensures { result ≡ list_all is_printable name.now }
-{
-    name.iter().all(|byte| is_printable(*byte))
-}
-
 /// Writes a name byte by byte.
 fn write_shown<W: Write>(output: &mut W, name: &[u8]) -> io::Result<()>
     ensures { Writes (W.contents output.old) (W.contents output.new) result
@@ -102,11 +66,4 @@ fn shown(byte: u8) -> u8
     ensures { result ≡ shown byte }
 {
     if is_printable(byte) { byte } else { b'?' }
-}
-
-/// Returns whether a byte is a printable character of ASCII.
-fn is_printable(byte: u8) -> bool
-    ensures { result ≡ is_printable byte }
-{
-    0x20 <= byte && byte < 0x7f
 }

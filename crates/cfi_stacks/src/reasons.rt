@@ -5,7 +5,7 @@ ghost use Rattle.cfi_programs.specs.WriterOutput.{Writes};
 ghost use Rattle.cfi_stacks.specs.Reasons.{reason_line, reason_of, reason_of_error};
 ghost use Rattle.cfi_stacks.specs.Reasons.{reason_view, reason_without};
 
-use crate::sample_stack::NoFrames;
+use cfi_processes::sample_stack::NoFrames;
 use cfi_programs::lines::write_part;
 use cfi_step::{End, FrameError};
 use gimli_cfi::Error;

@@ -7,25 +7,26 @@ ghost use Rattle.cfi_perf.specs.Profiles.{profile_view};
 ghost use Rattle.cfi_perf.specs.Records.{records_left};
 ghost use Rattle.cfi_programs.specs.Runs.{out_of_memory};
 ghost use Rattle.cfi_programs.specs.WriterOutput.{Prints, Writes};
-ghost use Rattle.cfi_stacks.specs.KnownFiles.{known_view};
-ghost use Rattle.cfi_stacks.specs.OpenedFiles.{opened_view, texts};
+ghost use Rattle.cfi_processes.specs.KnownFiles.{known_view};
+ghost use Rattle.cfi_processes.specs.OpenedFiles.{opened_view, texts};
+ghost use Rattle.cfi_processes.specs.Replays.{AreModulesFor, HasOwnModules, files_in};
+ghost use Rattle.cfi_processes.specs.Replays.{files_of, replayed};
+ghost use Rattle.cfi_processes.specs.SampleStacks.{HasRoom};
 ghost use Rattle.cfi_stacks.specs.ProfileOutputs.{IsOfNamed, IsOfOpened, IsOfProfile};
 ghost use Rattle.cfi_stacks.specs.ProfileOutputs.{IsOfRecords, IsOfSorted};
 ghost use Rattle.cfi_stacks.specs.ProfileOutputs.{IsOutput, IsOwed, IsPrinted, IsSortedOf};
 ghost use Rattle.cfi_stacks.specs.ProfileOutputs.{IsTextOf, ended, perf_refusal};
 ghost use Rattle.cfi_stacks.specs.ProfileOutputs.{unknown_machine};
-ghost use Rattle.cfi_stacks.specs.Replays.{AreModulesFor, HasOwnModules, files_in, replayed};
 ghost use Rattle.cfi_stacks.specs.Rooms.{IsRoomFor, KeepsNoRows};
-ghost use Rattle.cfi_stacks.specs.SampleStacks.{HasRoom};
 
-use crate::profile_files::{
-    OpenedFile, Opener, ProfileFile, mapped_names, profile_files, read_files,
-};
-use crate::registers::SampleMachine;
-use crate::replay::Replay;
 use crate::sample_text::{Room, print_sample};
 use cfi_object::input::{InputError, read_all};
 use cfi_perf::{Event, PerfError, Profile, Record, Records};
+use cfi_processes::profile_files::{
+    OpenedFile, Opener, ProfileFile, mapped_names, profile_files, read_files,
+};
+use cfi_processes::registers::SampleMachine;
+use cfi_processes::replay::Replay;
 use cfi_programs::lines::{write_part, write_refusal, write_text, write_wrong_input};
 use gimli_cfi::Error;
 use std::alloc::{AllocError, Global};
@@ -325,12 +326,12 @@ fn print_followed<W: Write>(
 ) -> io::Result<()>
     requires modules { AreModulesFor (record_view item.now).event replay.now }
     requires own { HasOwnModules replay.now }
-    requires cached { IsRoomFor replay.now.files.now room.old }
+    requires cached { IsRoomFor (files_of replay.now) room.old }
     ensures printed { (text : List ℕ)
         × Writes (W.contents output.old) (W.contents output.new) result text
         × IsTextOf raw machine (files_in replay.now) (replayed replay.now) item.now.time
         (record_view item.now).event text }
-    ensures cached { IsRoomFor replay.now.files.now room.new }
+    ensures cached { IsRoomFor (files_of replay.now) room.new }
 {
     match item.event {
         Event::Sample(sample) => print_sample(

@@ -3,20 +3,20 @@ ghost use Rattle.std.specs.Prelude.{◌≡◌, ◌≤◌, ℕ, IfOk, List, lengt
 ghost use Rattle.cfi_perf.specs.Samples.{sample_view};
 ghost use Rattle.cfi_programs.specs.WriterOutput.{Writes};
 ghost use Rattle.cfi_step.specs.CachedRows.{AreEmpty};
-ghost use Rattle.cfi_stacks.specs.FileModules.{AreOfFiles};
-ghost use Rattle.cfi_stacks.specs.KnownFiles.{known_view, modules_in, site_of};
-ghost use Rattle.cfi_stacks.specs.Mappings.{AreInOrder};
-ghost use Rattle.cfi_stacks.specs.Modules.{module_view};
+ghost use Rattle.cfi_processes.specs.FileModules.{AreOfFiles};
+ghost use Rattle.cfi_processes.specs.KnownFiles.{known_view, modules_in, site_of};
+ghost use Rattle.cfi_processes.specs.Mappings.{AreInOrder};
+ghost use Rattle.cfi_processes.specs.Modules.{module_view};
 ghost use Rattle.cfi_stacks.specs.ProfileOutputs.{IsStackText, sample_text, stack_text, walk_text};
 ghost use Rattle.cfi_stacks.specs.Rooms.{IsRoomFor};
 ghost use Rattle.cfi_stacks.specs.StackTexts.{site_line};
 
-use crate::process_code::{FileModule, ProcessCode};
 use crate::reasons::{reason_of, reason_without, write_reason};
-use crate::registers::SampleMachine;
-use crate::sample_stack::{NoFrames, unwind_sample};
 use crate::stack_lines::{LineRoom, write_head, write_site_line};
 use cfi_perf::Sample;
+use cfi_processes::process_code::{FileModule, ProcessCode};
+use cfi_processes::registers::SampleMachine;
+use cfi_processes::sample_stack::{NoFrames, unwind_sample};
 use cfi_programs::lines::write_text;
 use cfi_step::{CachedRow, Modules, StackFrame, Walk, row_address};
 use gimli_cfi::{Error, UnwindContext};
@@ -53,7 +53,7 @@ pub struct Room {
 impl Room {
     ghost use Rattle.std.specs.Prelude.{◌≡◌, IfOk};
     ghost use Rattle.cfi_stacks.specs.Rooms.{KeepsNoRows};
-    ghost use Rattle.cfi_stacks.specs.SampleStacks.{HasRoom};
+    ghost use Rattle.cfi_processes.specs.SampleStacks.{HasRoom};
 
     /// Room for `FRAMES` frames and `ROWS` rows; none is kept. Fails where memory is refused.
     pub fn new(alloc: Global) -> Result<Room, Error>

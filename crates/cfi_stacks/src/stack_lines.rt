@@ -1,14 +1,16 @@
 //! The lines of a sample's stack.
 ghost use Rattle.std.specs.Prelude.{◌≡◌, ◌++◌, OnOk, Some, codes, option_map};
 ghost use Rattle.cfi_elf.specs.FunctionPlaces.{place_view};
+ghost use Rattle.cfi_processes.specs.Sites.{site_view};
 ghost use Rattle.cfi_programs.specs.Lines.{address_text};
 ghost use Rattle.cfi_programs.specs.WriterOutput.{Writes};
 ghost use Rattle.cfi_stacks.specs.StackTexts.{column_text, file_text, filled, frame_line};
 ghost use Rattle.cfi_stacks.specs.StackTexts.{function_text, head_line, place_line, seconds_text};
-ghost use Rattle.cfi_stacks.specs.StackTexts.{site_line, site_view};
+ghost use Rattle.cfi_stacks.specs.StackTexts.{site_line};
 
-use crate::names::{Name, push_known_name, push_name, write_known_name, write_name};
+use crate::names::{push_known_name, push_name, write_known_name, write_name};
 use cfi_elf::FunctionPlace;
+use cfi_processes::{Name, Site};
 use cfi_programs::lines::write_text;
 use cfi_programs::text::{Text, push, push_address, push_decimal};
 use std::io::Write;
@@ -16,17 +18,6 @@ use std::{fmt, io};
 
 /// How many bytes stand before the digits of an address: `0x`.
 const PREFIX: usize = 2;
-
-/// Where the code of a frame is, as far as it is known.
-#[derive(Clone, Copy, Debug)]
-pub struct Site<'run> {
-    /// The place in the file; where no file is mapped, the address.
-    pub place: u64,
-    /// The function whose bytes have the address.
-    pub function: Option<FunctionPlace<'run>>,
-    /// The name of the file that is mapped there.
-    pub file: Option<Name<'run>>,
-}
 
 /// Room for the line of a frame while it is put together, and for its number.
 #[derive(Drop)]

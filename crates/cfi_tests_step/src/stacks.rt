@@ -3,7 +3,8 @@
 //! `#`.
 ghost use Rattle.std.specs.Prelude.{⊤};
 
-use cfi_stacks::{Opener, unwind_profile};
+use cfi_processes::Opener;
+use cfi_stacks::unwind_profile;
 use cfi_tests_bytes::bytes_of;
 use std::process::Abort;
 use std::test::Fail;

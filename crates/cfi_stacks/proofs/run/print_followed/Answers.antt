@@ -1,5 +1,5 @@
 use Rattle.std.proofs.Common.{sym}
-use Rattle.cfi_stacks.proofs.ModuleLemmas.{still_of_files}
+use Rattle.cfi_processes.proofs.ModuleLemmas.{still_of_files}
 use Rattle.cfi_stacks.proofs.RoomLemmas.{still_room_for}
 use Rattle.cfi_stacks.proofs.run.print_followed.Goals as goal
 

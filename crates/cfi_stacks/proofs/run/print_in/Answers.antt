@@ -1,9 +1,9 @@
 use Rattle.std.proofs.Common.{◌≡◌, ◌∙◌, ℕ, ◌+◌, List, map, subst, sym, take}
 use Rattle.cfi_perf.specs.Events.{record_view}
-use Rattle.cfi_stacks.specs.declared.profile_files.ProfileFile.{ProfileFile}
-use Rattle.cfi_stacks.specs.KnownFiles.{known_view}
+use Rattle.cfi_processes.specs.declared.profile_files.ProfileFile.{ProfileFile}
+use Rattle.cfi_processes.specs.KnownFiles.{known_view}
+use Rattle.cfi_processes.specs.Replays.{after, replayed}
 use Rattle.cfi_stacks.specs.ProfileOutputs.{IsTextOf}
-use Rattle.cfi_stacks.specs.Replays.{after, replayed}
 use Rattle.cfi_stacks.specs.Rooms.{IsRoomFor}
 use Rattle.cfi_stacks.proofs.RoomLemmas.{room_for_all}
 use Rattle.cfi_stacks.proofs.RunLemmas.{all_records, broken, next_record, none_followed, one_followed, printed, refused}

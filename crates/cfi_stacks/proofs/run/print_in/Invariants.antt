@@ -1,7 +1,7 @@
 use Rattle.std.proofs.Common.{◌≡◌, map, take}
 use Rattle.cfi_perf.specs.Events.{record_view}
-use Rattle.cfi_stacks.specs.KnownFiles.{known_view}
-use Rattle.cfi_stacks.specs.Replays.{HasOwnModules, replayed}
+use Rattle.cfi_processes.specs.KnownFiles.{known_view}
+use Rattle.cfi_processes.specs.Replays.{HasOwnModules, replayed}
 use Rattle.cfi_stacks.specs.Rooms.{IsRoomFor}
 use Rattle.cfi_stacks.proofs.RunLemmas.{Followed}
 use Rattle.cfi_stacks.proofs.run.print_in.Given as goal

@@ -1,6 +1,6 @@
 use Rattle.std.proofs.Common.{[], ◌∷◌, ◌++◌, map}
 use Rattle.cfi_programs.proofs.DumpSectionWritten.{first_refused, last_written}
-use Rattle.cfi_stacks.specs.KnownFiles.{known_view}
+use Rattle.cfi_processes.specs.KnownFiles.{known_view}
 use Rattle.cfi_stacks.specs.ProfileOutputs.{walk_text}
 use Rattle.cfi_stacks.specs.StackTexts.{head_line}
 use Rattle.cfi_stacks.proofs.sample_text.print_found.Goals as goal

@@ -2,7 +2,7 @@ use Rattle.std.proofs.Common.{ℕ, ◌+◌, ap, drop, map, false, None}
 use Rattle.std.specs.List.{flat_map}
 use Rattle.cfi_programs.proofs.WrittenLemmas.{beginning_then, given_then, writes_refused}
 use Rattle.cfi_step.specs.declared.walk.StackFrame.{StackFrame}
-use Rattle.cfi_stacks.specs.KnownFiles.{known_view, site_of}
+use Rattle.cfi_processes.specs.KnownFiles.{known_view, site_of}
 use Rattle.cfi_stacks.specs.ProfileOutputs.{frame_text}
 use Rattle.cfi_stacks.specs.StackTexts.{site_line}
 use Rattle.cfi_stacks.proofs.StackLemmas.{next_line}

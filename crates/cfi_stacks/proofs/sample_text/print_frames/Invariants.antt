@@ -1,6 +1,6 @@
 use Rattle.std.proofs.Common.{drop, map}
 use Rattle.cfi_programs.proofs.WrittenLemmas.{IsGiven}
-use Rattle.cfi_stacks.specs.KnownFiles.{known_view}
+use Rattle.cfi_processes.specs.KnownFiles.{known_view}
 use Rattle.cfi_stacks.specs.ProfileOutputs.{stack_text}
 use Rattle.cfi_stacks.proofs.sample_text.print_frames.Given as goal
 

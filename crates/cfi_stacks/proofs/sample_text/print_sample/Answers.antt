@@ -1,10 +1,10 @@
 use Rattle.std.proofs.Common.{◌∙◌, ap, length, map, refl, rules}
 use Rattle.cfi_perf.specs.Samples.{sample_view}
 use Rattle.cfi_step.specs.ModuleLists.{module_list}
-use Rattle.cfi_stacks.specs.KnownFiles.{known_view}
-use Rattle.cfi_stacks.specs.Modules.{module_view}
+use Rattle.cfi_processes.specs.KnownFiles.{known_view}
+use Rattle.cfi_processes.specs.Modules.{module_view}
+use Rattle.cfi_processes.proofs.CodeLemmas.{modules_sorted}
 use Rattle.cfi_stacks.specs.ProfileOutputs.{sample_text}
-use Rattle.cfi_stacks.proofs.CodeLemmas.{modules_sorted}
 use Rattle.cfi_stacks.proofs.RoomLemmas.{numbered_before, room_after, rows_after, rows_before}
 use Rattle.cfi_stacks.proofs.sample_text.print_sample.Goals as goal
 

@@ -1,7 +1,7 @@
 use Rattle.std.proofs.Common.{Option, map, subst, take}
 use Rattle.cfi_programs.specs.WriterOutput.{Writes}
 use Rattle.cfi_programs.proofs.DumpSectionWritten.{first_refused, last_written}
-use Rattle.cfi_stacks.specs.KnownFiles.{known_view}
+use Rattle.cfi_processes.specs.KnownFiles.{known_view}
 use Rattle.cfi_stacks.specs.ProfileOutputs.{stack_text}
 use Rattle.cfi_stacks.specs.Reasons.{Reason, reason_line, reason_of}
 use Rattle.cfi_stacks.proofs.sample_text.print_walk.Goals as goal

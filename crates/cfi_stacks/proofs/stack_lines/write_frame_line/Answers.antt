@@ -1,6 +1,7 @@
 use Rattle.std.proofs.Common.{codes}
 use Rattle.cfi_programs.proofs.DumpSectionWritten.{first_refused, last_written}
-use Rattle.cfi_stacks.specs.StackTexts.{column_text, file_text, function_text, site_view}
+use Rattle.cfi_processes.specs.Sites.{site_view}
+use Rattle.cfi_stacks.specs.StackTexts.{column_text, file_text, function_text}
 use Rattle.cfi_stacks.proofs.StackLemmas.{closing, from_file, from_function, from_parenthesis}
 use Rattle.cfi_stacks.proofs.stack_lines.write_frame_line.Goals as goal
 

@@ -1,0 +1,73 @@
+-- The files of a profile, gathered one after the other.
+use Rattle.std.proofs.Common.{◌≡◌, ◌∙◌, ℕ, ◌+◌, ◌<◌, ◌≤◌, ◌||◌, Bool, List, [], ◌∷◌, ◌++◌, Bor, Option, length, get_or, drop, map, not, cond, refl, sym, ap, subst, add-one, append-nil, append_assoc}
+use Rattle.std.proofs.Math.Seq.{drop-cons}
+use Rattle.std.proofs.lemmas.List.{drop_all}
+use Rattle.std.specs.List.{list_any, position_or_len, prefix_len}
+use Rattle.cfi_processes.specs.declared.profile_files.OpenedFile.{OpenedFile}
+use Rattle.cfi_processes.specs.KnownFiles.{KnownFile}
+use Rattle.cfi_processes.specs.OpenedFiles.{AreFilesOf, AreOpened, IsContents, IsFileOf, Opened, opened_view, texts}
+
+pub any_mapped : {X Y : Type 0} (f : X → Y) (p : Y → Bool) (xs : List X) → list_any (λ x. p (f x)) xs ≡ list_any p (map f xs)
+any_mapped f p [] = refl
+any_mapped f p (x ∷ xs) = ap (λ (b : Bool). p (f x) || b) (any_mapped f p xs)
+
+prefix_mapped : {X Y : Type 0} (f : X → Y) (q : Y → Bool) (xs : List X) → prefix_len (λ x. q (f x)) xs ≡ prefix_len q (map f xs)
+prefix_mapped f q [] = refl
+prefix_mapped f q (x ∷ xs) = ap (λ (n : ℕ). cond (q (f x)) (1 + n) 0) (prefix_mapped f q xs)
+
+pub place_mapped : {X Y : Type 0} (f : X → Y) (p : Y → Bool) (xs : List X) → position_or_len (λ x. p (f x)) xs ≡ position_or_len p (map f xs)
+place_mapped f p xs = prefix_mapped f (λ y. not (p y)) xs
+
+-- ---- opened
+
+module _ {Handle : Type 0} (may_open : List ℕ → Option Handle → Type 0) (remaining : Handle → Option (List ℕ)) where
+  -- with what is opened for the other names, the first files are those of all
+  pub record OpensOn (all left : List (List ℕ)) (first : List Opened) : Type 0 where
+    pub opens_on : (others : List Opened) → AreOpened may_open remaining left others → AreOpened may_open remaining all (first ++ others)
+
+  pub none_opened : (all : List (List ℕ)) → OpensOn all all []
+  none_opened all = record { opens_on = λ others are. are }
+
+  pub one_opened : (all : List (List ℕ)) (names : List (Bor (List ℕ))) (i : ℕ) (d : Bor (List ℕ)) (first next : List Opened) (bytes : Option (List ℕ)) → i < length names
+      → next ≡ first ++ record { name = (get_or names i d).now; bytes = bytes } ∷ [] → OpensOn all (texts (drop i names)) first → IsContents may_open remaining (get_or names i d).now bytes
+      → OpensOn all (texts (drop (i + 1) names)) next
+  one_opened all names i d first next bytes inside is so contents = record {
+    opens_on = λ others are.
+        let one : Opened = record { name = (get_or names i d).now; bytes = bytes } in
+        let left : texts (drop i names) ≡ (get_or names i d).now ∷ texts (drop (i + 1) names) = rw (drop-cons names i d, add-one) refl in
+        let whole = so.opens_on (one ∷ others) (subst (λ (names : List (List ℕ)). AreOpened may_open remaining names (one ∷ others)) (sym left) (bytes, others, contents, are, refl)) in
+        subst (λ (opened : List Opened). AreOpened may_open remaining all opened) (sym (ap (λ (front : List Opened). front ++ others) is ∙ append_assoc first (one ∷ []) others)) whole;
+  }
+
+  -- those of all names were opened
+  pub all_opened : (names : List (Bor (List ℕ))) (i : ℕ) (opened : List Opened) → length names ≤ i → OpensOn (texts names) (texts (drop i names)) opened → AreOpened may_open remaining (texts names) opened
+  all_opened names i opened behind so =
+      let none : texts (drop i names) ≡ [] = rw drop_all refl in
+      subst (λ (all : List Opened). AreOpened may_open remaining (texts names) all) (append-nil opened)
+      (so.opens_on [] (subst (λ (left : List (List ℕ)). AreOpened may_open remaining left []) (sym none) refl))
+
+-- ---- as files of the profile
+
+-- with the files of the others, the first are those of all
+pub record IsFilesOn (all left : List Opened) (first : List KnownFile) : Type 0 where
+  pub files_on : (others : List KnownFile) → AreFilesOf left others → AreFilesOf all (first ++ others)
+
+pub no_files : (all : List Opened) → IsFilesOn all all []
+no_files all = record { files_on = λ others are. are }
+
+pub one_file : (all : List Opened) (opened : List OpenedFile) (i : ℕ) (d : OpenedFile) (first next : List KnownFile) (file : KnownFile) → i < length opened
+    → next ≡ first ++ file ∷ [] → IsFilesOn all (map opened_view (drop i opened)) first → IsFileOf (opened_view (get_or opened i d)) file
+    → IsFilesOn all (map opened_view (drop (i + 1) opened)) next
+one_file all opened i d first next file inside is so one = record {
+  files_on = λ others are.
+      let left : map opened_view (drop i opened) ≡ opened_view (get_or opened i d) ∷ map opened_view (drop (i + 1) opened) = rw (drop-cons opened i d, add-one) refl in
+      let whole = so.files_on (file ∷ others) (subst (λ (left : List Opened). AreFilesOf left (file ∷ others)) (sym left) (file, others, one, are, refl)) in
+      subst (λ (files : List KnownFile). AreFilesOf all files) (sym (ap (λ (front : List KnownFile). front ++ others) is ∙ append_assoc first (file ∷ []) others)) whole;
+}
+
+pub all_files : (opened : List OpenedFile) (i : ℕ) (files : List KnownFile) → length opened ≤ i → IsFilesOn (map opened_view opened) (map opened_view (drop i opened)) files
+    → AreFilesOf (map opened_view opened) files
+all_files opened i files behind so =
+    let none : map opened_view (drop i opened) ≡ [] = rw drop_all refl in
+    subst (λ (all : List KnownFile). AreFilesOf (map opened_view opened) all) (append-nil files)
+    (so.files_on [] (subst (λ (left : List Opened). AreFilesOf left []) (sym none) refl))

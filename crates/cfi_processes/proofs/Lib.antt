@@ -1,0 +1,11 @@
+pub mod MappedOver
+pub mod MappedOrder
+pub mod AfterChanges
+pub mod ByPid
+pub mod Worked
+mod RegisterTables
+mod Unwinding
+mod WorkedSamples
+pub mod CodeLemmas
+pub mod ModuleLemmas
+mod FileLemmas

@@ -1,0 +1,13 @@
+pub mod Mappings
+pub mod Histories
+pub mod Processes
+pub mod Registers
+pub mod Modules
+pub mod Objects
+pub mod SampleStacks
+pub mod Names
+pub mod Sites
+pub mod KnownFiles
+pub mod FileModules
+pub mod OpenedFiles
+pub mod Replays

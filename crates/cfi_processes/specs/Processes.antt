@@ -1,0 +1,34 @@
+-- What is mapped in each process.
+--     mappings_of processes pid      what is mapped in a process, in the order of addresses
+--     IsChangedBy change old new      in each process the mappings after a change
+--     IsAfter changes processes      each address of each process belongs to the file and place
+--         that a history says
+--     Continues change old new      one more change after any history
+--     IsUnchanged old new      the same is mapped in each process
+use Rattle.std.specs.Prelude.{◌≡◌, ℕ, List, [], ◌∷◌, ◌++◌, unwrap_or}
+use Rattle.std.specs.Ordering.{nat_cmp}
+use Rattle.std.specs.BTreeMap.{get}
+use Rattle.cfi_processes.specs.declared.mappings.MappedCode.{MappedCode}
+use Rattle.cfi_processes.specs.declared.processes.Processes.{Processes}
+use Rattle.cfi_processes.specs.Mappings.{place_of}
+use Rattle.cfi_processes.specs.Histories.{Change, mappings_after, places_after}
+
+abbrev pub mappings_of : Processes → ℕ → List MappedCode
+mappings_of processes pid = unwrap_or (get nat_cmp processes.by_pid pid) []
+
+abbrev pub IsChangedBy : Change → Processes → Processes → Type 0
+IsChangedBy change old new =
+    (pid : ℕ) → mappings_of new pid ≡ mappings_after change (mappings_of old) pid
+
+abbrev pub IsUnchanged : Processes → Processes → Type 0
+IsUnchanged old new = (pid : ℕ) → mappings_of new pid ≡ mappings_of old pid
+
+-- ---- histories
+
+abbrev pub IsAfter : List Change → Processes → Type 0
+IsAfter changes processes =
+    (pid a : ℕ) → place_of (mappings_of processes pid) a ≡ places_after changes pid a
+
+abbrev pub Continues : Change → Processes → Processes → Type 0
+Continues change old new =
+    (past : List Change) → IsAfter past old → IsAfter (past ++ change ∷ []) new

@@ -1,0 +1,97 @@
+-- What the records of a profile say of processes, one after the other.
+--     names_of records      the names that executable mappings have, each once, in the order of the
+--         records
+--     after files event before      what is mapped in each process after a record
+--     replayed replay      what is mapped in each process, for a replay of the code
+--     files_of replay, loaded_in replay      its files, and its modules
+--     HasOwnModules replay      its modules are of its files
+use Rattle.std.specs.Prelude.{◌≡◌, ℕ, ◌+◌, ◌-◌, ◌^◌, Bool, List, [], ◌∷◌, ◌++◌, Option, Some, None}
+use Rattle.std.specs.Prelude.{fold, map, min, position, ⊤, if◌then◌else◌}
+use Rattle.std.specs.List.{list_any}
+use Rattle.std.specs.Str.{bytes_eq}
+use Rattle.cfi_read_core.specs.SliceReaders.{EndianSlice}
+use Rattle.cfi_read_core.specs.declared.endianity.RunTimeEndian.{RunTimeEndian}
+use Rattle.cfi_step.specs.declared.module.LoadedModule.{LoadedModule}
+use Rattle.cfi_perf.specs.Events.{Event, Mapping, Record, ForkEvent, MappingEvent, OtherEvent}
+use Rattle.cfi_perf.specs.Events.{ProgramEvent, SampleEvent}
+use Rattle.cfi_processes.specs.declared.mappings.MappedCode.{MappedCode}
+use Rattle.cfi_processes.specs.declared.profile_files.ProfileFile.{ProfileFile}
+use Rattle.cfi_processes.specs.declared.replay.Replay.{Replay}
+use Rattle.cfi_processes.specs.Histories.{Change, executed, forked, mapped, mappings_after}
+use Rattle.cfi_processes.specs.FileModules.{AreOfFiles}
+use Rattle.cfi_processes.specs.KnownFiles.{KnownFile, known_view, modules_in}
+use Rattle.cfi_processes.specs.Modules.{module_view}
+use Rattle.cfi_processes.specs.Processes.{mappings_of}
+
+-- ---- the files
+
+-- the name of a file that is mapped as code
+abbrev pub code_name : Event → Option (List ℕ)
+code_name (MappingEvent m) = if m.is_executable then Some m.name else None
+code_name (ProgramEvent p) = None
+code_name (ForkEvent f) = None
+code_name (SampleEvent s) = None
+code_name OtherEvent = None
+
+abbrev pub is_among : List (List ℕ) → List ℕ → Bool
+is_among names name = list_any (λ known. bytes_eq known name) names
+
+abbrev pub with_name : List (List ℕ) → Option (List ℕ) → List (List ℕ)
+with_name names None = names
+with_name names (Some name) = if is_among names name then names else names ++ name ∷ []
+
+abbrev pub names_of : List Record → List (List ℕ)
+names_of records = fold (λ names r. with_name names (code_name r.event)) [] records
+
+-- which of the files is mapped; none where it isn't mapped as code
+abbrev pub object_of : List KnownFile → Mapping → Option ℕ
+object_of files m =
+    if m.is_executable then position (λ file. bytes_eq file.name m.name) files else None
+
+-- up to the last address at most
+abbrev pub mapped_code : List KnownFile → Mapping → MappedCode
+mapped_code files m = record {
+  start = m.address;
+  end = min (m.address + m.length) (2 ^ 64 - 1);
+  offset = m.offset;
+  object = object_of files m;
+}
+
+-- ---- the processes
+
+abbrev pub change_of : List KnownFile → Event → Option Change
+change_of files (MappingEvent m) = Some (mapped m.pid (mapped_code files m))
+change_of files (ProgramEvent p) = if p.is_exec then Some (executed p.pid) else None
+change_of files (ForkEvent f) = Some (forked f.pid f.parent)
+change_of files (SampleEvent s) = None
+change_of files OtherEvent = None
+
+abbrev pub changed : Option Change → (ℕ → List MappedCode) → ℕ → List MappedCode
+changed None before pid = before pid
+changed (Some change) before pid = mappings_after change before pid
+
+abbrev pub after : List KnownFile → Event → (ℕ → List MappedCode) → ℕ → List MappedCode
+after files event before pid = changed (change_of files event) before pid
+
+-- ---- a replay of the code
+
+abbrev pub replayed : Replay → ℕ → List MappedCode
+replayed replay pid = mappings_of replay.processes pid
+
+abbrev pub files_of : Replay → List ProfileFile
+files_of replay = replay.files.now
+
+abbrev pub files_in : Replay → List KnownFile
+files_in replay = map known_view (files_of replay)
+
+abbrev pub loaded_in : Replay → List (LoadedModule (EndianSlice RunTimeEndian))
+loaded_in replay = replay.modules.items
+
+-- before a sample is unwound the modules are those of its process
+abbrev pub AreModulesFor : Event → Replay → Type 0
+AreModulesFor (SampleEvent s) replay =
+    map module_view (loaded_in replay) ≡ modules_in (files_in replay) (replayed replay s.pid)
+AreModulesFor _ replay = ⊤
+
+abbrev pub HasOwnModules : Replay → Type 0
+HasOwnModules replay = AreOfFiles (files_of replay) (loaded_in replay)

@@ -1,0 +1,28 @@
+//! The processes of a profile that `perf record` wrote, and the frames of its samples.
+//!
+//! `mappings` and `processes` follow what is mapped where in each process, `replay` by the records
+//! of a profile. `profile_files` opens the files that a profile names; `objects` and `file_code`
+//! make modules of them, and `process_code` finds the place of an address in them. `registers`
+//! finds perf's registers by DWARF's numbers, and `sample_stack` writes the frames of a sample.
+#![tactic(auto)]
+
+pub mod file_code;
+pub mod mappings;
+pub mod names;
+pub mod objects;
+pub mod process_code;
+pub mod processes;
+pub mod profile_files;
+pub mod registers;
+pub mod replay;
+pub mod sample_stack;
+
+pub use mappings::{MappedCode, Mappings};
+pub use names::Name;
+pub use objects::Object;
+pub use process_code::{ProcessCode, Site};
+pub use processes::Processes;
+pub use profile_files::Opener;
+pub use registers::SampleMachine;
+pub use replay::Replay;
+pub use sample_stack::{NoFrames, unwind_sample};

@@ -1,0 +1,203 @@
+//! The code of a process, as it is mapped.
+ghost use Rattle.std.specs.Prelude.{◌≡◌, ◌++◌, IfOk, IfSome, OnOk, Some, map, option_map, true};
+ghost use Rattle.std.specs.Option.{option_and_then};
+ghost use Rattle.cfi_elf.specs.FunctionPlaces.{place_view};
+ghost use Rattle.cfi_processes.specs.KnownFiles.{file_of, function_in, known_view, mapped_at};
+ghost use Rattle.cfi_processes.specs.KnownFiles.{module_at, module_in, modules_in};
+ghost use Rattle.cfi_processes.specs.KnownFiles.{nowhere, site_in, site_of};
+ghost use Rattle.cfi_processes.specs.FileModules.{AreOfFiles, IsOfFile, IsOfFiles};
+ghost use Rattle.cfi_processes.specs.Mappings.{AreInOrder, has_byte_at};
+ghost use Rattle.cfi_processes.specs.Modules.{module_view};
+ghost use Rattle.cfi_processes.specs.Sites.{site_view, without_function};
+
+use crate::mappings::MappedCode;
+use crate::names::Name;
+use crate::profile_files::ProfileFile;
+use cfi_elf::FunctionPlace;
+use cfi_step::LoadedModule;
+use gimli_cfi::{EndianSlice, RunTimeEndian};
+use std::alloc::AllocError;
+
+/// A module of a profile's file.
+pub type FileModule<'a, 'run> = LoadedModule<'a, EndianSlice<'run, RunTimeEndian>>;
+
+/// Where the code of a frame is, as far as it is known.
+#[derive(Clone, Copy, Debug)]
+pub struct Site<'run> {
+    /// The place in the file; where no file is mapped, the address.
+    pub place: u64,
+    /// The function whose bytes have the address.
+    pub function: Option<FunctionPlace<'run>>,
+    /// The name of the file that is mapped there.
+    pub file: Option<Name<'run>>,
+}
+
+/// What is mapped in a process, and the files of the profile.
+#[derive(Clone, Copy)]
+pub struct ProcessCode<'a, 'files, 'run> {
+    /// What is mapped, in the order of addresses.
+    pub mappings: &'a [MappedCode],
+    /// The files, to which the mappings' `object` counts.
+    pub files: &'files [ProfileFile<'run>],
+}
+
+impl<'a, 'files, 'run> ProcessCode<'a, 'files, 'run> {
+    /// Where an address is: in which function of which file.
+    pub fn site(&self, address: u64) -> Site<'run>
+        requires { AreInOrder 0 self.now.mappings.now }
+        ensures { site_view result
+            ≡ site_of (map known_view self.now.files.now) self.now.mappings.now address }
+    {
+        match self.mapped_at(address) {
+            Some(mapped) => self.site_in(mapped, address),
+            None => nowhere(address),
+        }
+    }
+
+    /// Where an address is that is mapped here.
+    fn site_in(&self, mapped: &MappedCode, address: u64) -> Site<'run>
+        ensures { site_view result ≡ site_in mapped.now address
+            (file_of (map known_view self.now.files.now) mapped.now) }
+    {
+        match self.file_of(mapped) {
+            Some(file) => Site {
+                function: function_in(file, mapped, address),
+                ..place_in(file, mapped, address)
+            },
+            None => nowhere(address),
+        }
+    }
+
+    /// Where an address is: in which file, without the function.
+    pub fn place(&self, address: u64) -> Site<'run>
+        requires { AreInOrder 0 self.now.mappings.now }
+        ensures { site_view result ≡ without_function
+            (site_of (map known_view self.now.files.now) self.now.mappings.now address) }
+    {
+        match self.mapped_at(address) {
+            Some(mapped) => self.place_at(mapped, address),
+            None => nowhere(address),
+        }
+    }
+
+    /// Where an address is that is mapped here, without the function.
+    fn place_at(&self, mapped: &MappedCode, address: u64) -> Site<'run>
+        ensures { site_view result ≡ without_function (site_in mapped.now address
+            (file_of (map known_view self.now.files.now) mapped.now)) }
+    {
+        match self.file_of(mapped) {
+            Some(file) => place_in(file, mapped, address),
+            None => nowhere(address),
+        }
+    }
+
+    /// The mapping that has the address.
+    fn mapped_at(&self, address: u64) -> Option<&'a MappedCode>
+        requires { AreInOrder 0 self.now.mappings.now }
+        ensures { option_map (λ mapped. mapped.now) result
+            ≡ mapped_at self.now.mappings.now address }
+    {
+        let index = self
+            .mappings
+            .partition_point(|mapped| mapped.end <= address);
+        let mapped = self.mappings.get(index)?;
+        if mapped.start <= address {
+            Some(mapped)
+        } else {
+            None
+        }
+    }
+
+    /// The file that is mapped.
+    fn file_of(&self, mapped: &MappedCode) -> Option<&'files ProfileFile<'run>>
+        ensures { option_map (λ file. known_view file.now) result
+            ≡ file_of (map known_view self.now.files.now) mapped.now }
+    {
+        self.files.get(mapped.object?)
+    }
+
+    /// Appends the modules of what is mapped. Fails where memory is refused.
+    pub fn push_modules(
+        &self,
+        modules: &mut Vec<FileModule<'files, 'run>>,
+    ) -> Result<(), AllocError>
+        ensures appended { OnOk result (map module_view modules.new.items
+            ≡ map module_view modules.old.items
+            ++ modules_in (map known_view self.now.files.now) self.now.mappings.now) }
+        ensures files { AreOfFiles self.now.files.now modules.old.items
+            → AreOfFiles self.now.files.now modules.new.items }
+    {
+        for mapped in self.mappings {
+            if let Some(module) = self.module_at(mapped) {
+                modules.push(module)?;
+            }
+        }
+        Ok(())
+    }
+
+    /// The module that is mapped.
+    fn module_at(&self, mapped: &MappedCode) -> Option<FileModule<'files, 'run>>
+        ensures module { option_map module_view result
+            ≡ module_at (map known_view self.now.files.now) mapped.now }
+        ensures file { IfSome result (IsOfFiles self.now.files.now) }
+    {
+        let number = mapped.object?;
+        module_in(self.files.get(number)?, number, mapped)
+    }
+}
+
+/// An address where no file is mapped.
+fn nowhere<'run>(address: u64) -> Site<'run>
+    ensures { site_view result ≡ nowhere address }
+{
+    Site {
+        place: address,
+        function: None,
+        file: None,
+    }
+}
+
+/// Where an address is that the file is mapped at, without the function.
+fn place_in<'run>(file: &ProfileFile<'run>, mapped: &MappedCode, address: u64) -> Site<'run>
+    ensures { site_view result
+        ≡ without_function (site_in mapped.now address (Some (known_view file.now))) }
+{
+    Site {
+        place: mapped
+            .offset
+            .wrapping_add(address.saturating_sub(mapped.start)),
+        function: None,
+        file: Some(file.name),
+    }
+}
+
+/// The function of a file that has the address.
+fn function_in<'run>(
+    file: &ProfileFile<'run>,
+    mapped: &MappedCode,
+    address: u64,
+) -> Option<FunctionPlace<'run>>
+    ensures { option_map place_view result
+        ≡ option_and_then (function_in mapped.now address) (known_view file.now).code }
+{
+    match &file.code {
+        Some(code) => code.function_at(mapped, address),
+        None => None,
+    }
+}
+
+/// The module that a file with this number is where it is mapped.
+fn module_in<'a, 'run>(
+    file: &'a ProfileFile<'run>,
+    number: usize,
+    mapped: &MappedCode,
+) -> Option<FileModule<'a, 'run>>
+    ensures module { option_map module_view result
+        ≡ module_in mapped.now number (known_view file.now) }
+    ensures file { IfSome result (IsOfFile number file.now) }
+{
+    match &file.code {
+        Some(code) => code.module(number, mapped),
+        None => None,
+    }
+}

@@ -1,0 +1,177 @@
+//! What the records of a profile say, one after the other.
+ghost use Rattle.std.specs.Prelude.{◌≡◌, map};
+ghost use Rattle.std.specs.Option.{ForSome};
+ghost use Rattle.cfi_processes.specs.KnownFiles.{known_view, modules_in};
+ghost use Rattle.cfi_processes.specs.Modules.{module_view};
+ghost use Rattle.cfi_processes.specs.Processes.{mappings_of};
+
+use crate::mappings::MappedCode;
+use crate::process_code::{FileModule, ProcessCode};
+use crate::processes::Processes;
+use crate::profile_files::ProfileFile;
+use cfi_perf::{Event, Fork, Mapping, Program, Record};
+use std::alloc::{AllocError, Global};
+
+/// The processes of a profile, as the records that were followed say, and the modules of one.
+#[derive(Drop)]
+pub struct Replay<'a, 'run> {
+    files: &'a [ProfileFile<'run>],
+    processes: Processes,
+    modules: Vec<FileModule<'a, 'run>>,
+    /// The process whose modules these are.
+    pid: Option<u32>,
+    ghost loaded: { ForSome pid (λ pid. map module_view modules.items
+        ≡ modules_in (map known_view files.now) (mappings_of processes pid)) },
+}
+
+impl<'a, 'run> Replay<'a, 'run> {
+    ghost use Rattle.std.specs.Prelude.{◌≡◌, ℕ, [], OnOk, map};
+    ghost use Rattle.cfi_perf.specs.Events.{ForkEvent, MappingEvent, ProgramEvent};
+    ghost use Rattle.cfi_perf.specs.Events.{mapping_view, program_view, record_view};
+    ghost use Rattle.cfi_processes.specs.KnownFiles.{known_view, modules_in};
+    ghost use Rattle.cfi_processes.specs.Modules.{module_view};
+    ghost use Rattle.cfi_processes.specs.Mappings.{AreInOrder};
+    ghost use Rattle.cfi_processes.specs.Replays.{AreModulesFor, HasOwnModules, after, files_in};
+    ghost use Rattle.cfi_processes.specs.Replays.{files_of, loaded_in, mapped_code, object_of};
+    ghost use Rattle.cfi_processes.specs.Replays.{replayed};
+
+    /// No process has anything mapped. Does not allocate.
+    pub fn new(alloc: Global, files: &'a [ProfileFile<'run>]) -> Replay<'a, 'run>
+        ensures nothing { (pid : ℕ) → replayed result pid ≡ [] }
+        ensures files { files_of result ≡ files.now }
+        ensures own { HasOwnModules result }
+    {
+        Replay {
+            files,
+            processes: Processes::new(alloc),
+            modules: Vec::new(alloc),
+            pid: None,
+        }
+    }
+
+    /// Follows a record. Before a sample, the modules are made those of its process. Fails where
+    /// memory is refused.
+    pub fn follow(&mut self, item: &Record<'_>) -> Result<(), AllocError>
+        ensures processes { OnOk result ((pid : ℕ) → replayed self.new pid
+            ≡ after (files_in self.old) (record_view item.now).event (replayed self.old) pid) }
+        ensures modules { OnOk result
+            (AreModulesFor (record_view item.now).event self.new) }
+        ensures own { HasOwnModules self.old → HasOwnModules self.new }
+        ensures files { files_of self.new ≡ files_of self.old }
+    {
+        match item.event {
+            Event::Mapping(mapping) => self.map(&mapping),
+            Event::Program(program) => {
+                self.run(&program);
+                Ok(())
+            }
+            Event::Fork(fork) => self.fork(&fork),
+            Event::Sample(sample) => self.load(sample.pid),
+            Event::Other => Ok(()),
+        }
+    }
+
+    /// What is mapped in a process, with the files.
+    pub fn code(&self, pid: u32) -> ProcessCode<'_, 'a, 'run>
+        ensures mappings { result.mappings.now ≡ replayed self.now pid }
+        ensures order { AreInOrder 0 result.mappings.now }
+        ensures files { result.files.now ≡ files_of self.now }
+    {
+        ProcessCode {
+            mappings: self.processes.mappings(pid),
+            files: self.files,
+        }
+    }
+
+    /// The modules of the process of the sample that was followed last.
+    pub fn modules(&self) -> &[FileModule<'a, 'run>]
+        ensures { result.now ≡ loaded_in self.now }
+    {
+        self.modules.as_slice()
+    }
+
+    /// A file is mapped.
+    fn map(&mut self, mapping: &Mapping<'_>) -> Result<(), AllocError>
+        ensures processes { OnOk result ((pid : ℕ) → replayed self.new pid
+            ≡ after (files_in self.old) (MappingEvent (mapping_view mapping.now))
+            (replayed self.old) pid) }
+        ensures same { self.new.modules ≡ self.old.modules }
+        ensures files { files_of self.new ≡ files_of self.old }
+    {
+        self.pid = None;
+        let new = self.mapped(mapping);
+        self.processes.map(mapping.pid, new)
+    }
+
+    /// A thread has a new name, and perhaps runs another program.
+    fn run(&mut self, program: &Program<'_>)
+        ensures processes { (pid : ℕ) → replayed self.new pid
+            ≡ after (files_in self.old) (ProgramEvent (program_view program.now))
+            (replayed self.old) pid }
+        ensures same { self.new.modules ≡ self.old.modules }
+        ensures files { files_of self.new ≡ files_of self.old }
+    {
+        if program.is_exec {
+            self.pid = None;
+            self.processes.exec(program.pid);
+        }
+    }
+
+    /// A process or thread was made.
+    fn fork(&mut self, fork: &Fork) -> Result<(), AllocError>
+        ensures processes { OnOk result ((pid : ℕ) → replayed self.new pid
+            ≡ after (files_in self.old) (ForkEvent fork.now) (replayed self.old) pid) }
+        ensures same { self.new.modules ≡ self.old.modules }
+        ensures files { files_of self.new ≡ files_of self.old }
+    {
+        self.pid = None;
+        self.processes.fork(fork.pid, fork.parent)
+    }
+
+    /// Where the file is mapped, up to the last address at most.
+    fn mapped(&self, mapping: &Mapping<'_>) -> MappedCode
+        ensures { result ≡ mapped_code (files_in self.now) (mapping_view mapping.now) }
+    {
+        MappedCode {
+            start: mapping.address,
+            end: mapping.address.saturating_add(mapping.length),
+            offset: mapping.offset,
+            object: self.object_of(mapping),
+        }
+    }
+
+    /// Which of the files is mapped; `None` where it isn't mapped as code.
+    fn object_of(&self, mapping: &Mapping<'_>) -> Option<usize>
+        ensures { result ≡ object_of (files_in self.now) (mapping_view mapping.now) }
+    {
+        if mapping.is_executable {
+            self.files
+                .iter()
+                .position(|file| file.name.bytes() == mapping.name)
+        } else {
+            None
+        }
+    }
+
+    /// Makes the modules of a process, unless they are here.
+    fn load(&mut self, pid: u32) -> Result<(), AllocError>
+        ensures modules { OnOk result (map module_view (loaded_in self.new)
+            ≡ modules_in (files_in self.new) (replayed self.new pid)) }
+        ensures own { HasOwnModules self.old → HasOwnModules self.new }
+        ensures processes { self.new.processes ≡ self.old.processes }
+        ensures files { files_of self.new ≡ files_of self.old }
+    {
+        if self.pid == Some(pid) {
+            return Ok(());
+        }
+        self.pid = None;
+        self.modules.clear();
+        let code = ProcessCode {
+            mappings: self.processes.mappings(pid),
+            files: self.files,
+        };
+        code.push_modules(&mut self.modules)?;
+        self.pid = Some(pid);
+        Ok(())
+    }
+}
