@@ -10,10 +10,10 @@ use Rattle.clap.specs.Words.{HasKind, Text, fault_of, kind_of}
 use Rattle.clap.specs.declared.error.Error.{Error}
 use Rattle.clap.specs.declared.error.kind.ErrorKind.TheVariants.{OutOfMemory}
 use Rattle.cfi_programs.specs.Lines.{Line}
-use Rattle.cfi_programs.specs.WriterOutput.{Prints, Writes}
+use Rattle.cfi_programs.specs.WriterOutput.{Prints, Writes, PrintsSome}
 use Rattle.cfi_programs.proofs.WrittenLemmas.{appends_then, beginning_then, given_part, keeps_is, none_yet, writes_refused}
 use Rattle.cfi_programs.proofs.DumpSectionWritten.{first_refused, last_written}
-use Rattle.cfi_files.specs.FileLines.{PrintsSome, file_label, under}
+use Rattle.cfi_files.specs.FileLines.{file_label, under}
 use Rattle.cfi_object.specs.FileParts.{AreLeft}
 use Rattle.cfi_files.specs.FileOutputs.{ChecksNamed, PrintsOwed}
 use Rattle.cfi_files.specs.Findings.{ChecksSome, found_line, has_table, is_faithful}

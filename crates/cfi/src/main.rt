@@ -4,7 +4,7 @@
 ghost use Rattle.std.specs.Prelude.{◌≡◌, ℕ, List, Option, Some, map};
 ghost use Rattle.std.specs.Io.KnownBytes.{Keeps};
 ghost use Rattle.clap.specs.Words.{kind_of};
-ghost use Rattle.cfi_files.specs.FileLines.{PrintsSome};
+ghost use Rattle.cfi_programs.specs.WriterOutput.{PrintsSome};
 ghost use Rattle.cfi.specs.CommandLine.{command_view};
 ghost use Rattle.cfi.specs.Process.{AreStacks, AreTallied, IsAnswer, IsPrint, IsStatusAfter};
 ghost use Rattle.cfi.specs.Process.{IsStatusOf, PrintsRun, disk_of};

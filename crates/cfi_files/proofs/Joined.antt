@@ -3,13 +3,13 @@ use Rattle.std.proofs.Common.{◌≡◌, ℕ, List, Option, Some, None, Result, 
 use Rattle.std.specs.Result.{IsErr}
 use Rattle.std.specs.Io.KnownBytes.{Appends}
 use Rattle.cfi_programs.specs.Lines.{Line}
-use Rattle.cfi_programs.specs.WriterOutput.{IsBeginning, Prints, Writes}
+use Rattle.cfi_programs.specs.WriterOutput.{IsBeginning, Prints, Writes, PrintsSome}
 use Rattle.cfi_programs.specs.JsonLines.{json_section}
 use Rattle.cfi_read_core.specs.ReaderCalls.{map_ok}
 use Rattle.cfi_programs.proofs.WrittenLemmas.{appends_then}
 use Rattle.cfi_programs.proofs.DumpSectionWritten.{first_refused, last_written}
 use Rattle.cfi_object.specs.FileParts.{AreLeft}
-use Rattle.cfi_files.specs.FileLines.{InTurn, IsUnder, PrintsSome, in_turn, under}
+use Rattle.cfi_files.specs.FileLines.{InTurn, IsUnder, in_turn, under}
 use Rattle.cfi_files.specs.Findings.{ChecksSome}
 use Rattle.cfi_files.specs.declared.finding.Finding.{Finding}
 

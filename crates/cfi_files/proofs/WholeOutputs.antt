@@ -14,7 +14,7 @@ use Rattle.cfi_object.specs.MachineNames.{names_in}
 use Rattle.cfi_object.proofs.SameFrames.{same_debug, same_eh_frame}
 use Rattle.cfi_files.specs.declared.finding.Finding.{Finding}
 use Rattle.cfi_files.specs.declared.request.Request.{Request}
-use Rattle.cfi_files.specs.FileLines.{PrintsSome}
+use Rattle.cfi_programs.specs.WriterOutput.{PrintsSome}
 use Rattle.cfi_files.specs.FileOutputs.{ChecksInput, IsCheck, IsCheckOfParsed, IsOfParsed, PrintsOwed, needs_symbols}
 use Rattle.cfi_files.specs.Findings.{ChecksSome}
 use Rattle.cfi_files.proofs.SameOutputs.{same_output}

@@ -15,7 +15,8 @@ use Rattle.cfi_programs.specs.Words.{texts}
 use Rattle.cfi_programs.proofs.WrittenLemmas.{appends_then, none_yet}
 use Rattle.cfi_programs.proofs.DumpSectionWritten.{first_refused, last_written}
 use Rattle.cfi_object.specs.Targets.{target_address}
-use Rattle.cfi_files.specs.FileLines.{PrintsSome, elf_refusal, in_turn, no_address, out_of_memory}
+use Rattle.cfi_programs.specs.WriterOutput.{PrintsSome}
+use Rattle.cfi_files.specs.FileLines.{elf_refusal, in_turn, no_address, out_of_memory}
 use Rattle.cfi_files.specs.RowOutputs.{AreWordLines, IsWordLine, no_lines}
 use Rattle.cfi_files.proofs.Joined.{IsGiven}
 

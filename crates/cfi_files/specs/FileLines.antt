@@ -1,5 +1,5 @@
 -- Lines that say why nothing is printed of a file, and outputs that are put together.
-use Rattle.std.specs.Prelude.{◌≡◌, ℕ, List, [], ◌∷◌, ◌++◌, Option, Result, codes, max}
+use Rattle.std.specs.Prelude.{◌≡◌, ℕ, List, [], ◌∷◌, ◌++◌, codes, max}
 use Rattle.cfi_elf.specs.declared.error.ElfError.{ElfError}
 use Rattle.cfi_elf.specs.ErrorNames.{name_of_elf}
 use Rattle.cfi_read_core.specs.declared.error.Error.TheVariants.{OutOfMemory}
@@ -7,7 +7,6 @@ use Rattle.cfi_programs.specs.Lines.{Line, reason_line, refusal_in, refused_line
 use Rattle.cfi_programs.specs.JsonLines.{escaped, json_section}
 use Rattle.cfi_programs.specs.declared.style.Format.{Format}
 use Rattle.cfi_programs.specs.declared.style.Format.TheVariants.{Text, Json}
-use Rattle.cfi_programs.specs.WriterOutput.{Prints}
 
 -- ---- lines, with their status, by the format
 
@@ -57,10 +56,3 @@ abbrev pub InTurn : (Line → Type 0) → (Line → Type 0) → Line → Type 0
 InTurn IsFirst IsSecond printed =
     (first : Line) × (second : Line) × IsFirst first × IsSecond second
     × (printed ≡ in_turn first second)
-
--- ---- what a writer was given
-
--- an output of which something holds, all of it or a beginning
-abbrev pub PrintsSome :
-    {E : Type 0} → (Line → Type 0) → Option (List ℕ) → Option (List ℕ) → Result ℕ E → Type 0
-PrintsSome Is old new result = (printed : Line) × Prints printed old new result × Is printed

@@ -43,7 +43,8 @@ use Rattle.cfi_files.specs.Findings.{ChecksSome, finding_of, found_line}
 use Rattle.cfi_files.specs.declared.sections.SectionPrinted.{SectionPrinted}
 use Rattle.cfi_files.specs.declared.sections.SectionPrinted.TheVariants as sections
 use Rattle.cfi_files.specs.CompiledTexts.{IsCompiledText}
-use Rattle.cfi_files.specs.FileLines.{IsUnder, InTurn, PrintsSome, elf_refusal, file_label}
+use Rattle.cfi_programs.specs.WriterOutput.{PrintsSome}
+use Rattle.cfi_files.specs.FileLines.{IsUnder, InTurn, elf_refusal, file_label}
 use Rattle.cfi_files.specs.FileLines.{no_address, no_call_frames, out_of_memory, section_line}
 use Rattle.cfi_files.specs.FileLines.{wrong_input}
 use Rattle.cfi_files.specs.Found.{debug_frame_in, eh_frame_in}

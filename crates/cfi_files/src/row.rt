@@ -4,7 +4,7 @@ ghost use Rattle.cfi_read_core.specs.ReaderCalls.{map_ok};
 ghost use Rattle.gimli_cfi.specs.SectionSources.{given_header, source_view};
 ghost use Rattle.cfi_programs.specs.Words.{texts};
 ghost use Rattle.cfi_object.specs.Targets.{target_address};
-ghost use Rattle.cfi_files.specs.FileLines.{PrintsSome};
+ghost use Rattle.cfi_programs.specs.WriterOutput.{PrintsSome};
 ghost use Rattle.cfi_files.specs.Found.{AreSectionsOf, part_view};
 ghost use Rattle.cfi_files.specs.RowOutputs.{AreWordLines, IsPartRow, IsRowByTableOrScan};
 ghost use Rattle.cfi_files.specs.RowOutputs.{IsRowLine, IsRowOr, IsWordLine};

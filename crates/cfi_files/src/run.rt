@@ -1,8 +1,8 @@
 //! What is printed of a file.
 ghost use Rattle.cfi_elf.specs.ElfFiles.{elf_file_of, file_view};
 ghost use Rattle.cfi_elf.specs.Images.{image_view};
-ghost use Rattle.cfi_programs.specs.WriterOutput.{Writes};
-ghost use Rattle.cfi_files.specs.FileLines.{PrintsSome, file_label};
+ghost use Rattle.cfi_programs.specs.WriterOutput.{Writes, PrintsSome};
+ghost use Rattle.cfi_files.specs.FileLines.{file_label};
 ghost use Rattle.cfi_files.specs.FileOutputs.{ChecksInput, ChecksNamed, IsCheckOfParsed};
 ghost use Rattle.cfi_files.specs.FileOutputs.{IsOfFile, IsOfParsed, PrintsOwed};
 ghost use Rattle.cfi_files.specs.Findings.{ChecksSome};

@@ -19,6 +19,11 @@ abbrev pub Prints : {E : Type 0} → Line → Option (List ℕ) → Option (List
 Prints printed old new result =
     Writes old new result printed.text × IfOk result (λ status. status ≡ printed.status)
 
+-- an output of which something holds, all of it or a beginning
+abbrev pub PrintsSome :
+    {E : Type 0} → (Line → Type 0) → Option (List ℕ) → Option (List ℕ) → Result ℕ E → Type 0
+PrintsSome Is old new result = (printed : Line) × Prints printed old new result × Is printed
+
 -- The text comes behind one that waits, of which a front may be written. Where the writer fails, a
 -- beginning of both has been written.
 abbrev pub WritesBehind :

@@ -8,10 +8,9 @@ use Rattle.cfi_perf.specs.declared.error.PerfError.{PerfError}
 use Rattle.cfi_perf.specs.declared.record.Record.{Record as RecordOfCode}
 use Rattle.cfi_perf.specs.Events.{Event, Record, record_view, ForkEvent, MappingEvent, OtherEvent, ProgramEvent, SampleEvent}
 use Rattle.cfi_programs.specs.Runs.{out_of_memory}
-use Rattle.cfi_programs.specs.WriterOutput.{IsBeginning, Prints}
+use Rattle.cfi_programs.specs.WriterOutput.{IsBeginning, Prints, PrintsSome}
 use Rattle.cfi_programs.proofs.WrittenLemmas.{appends_then, beginning_then, none_yet, writes_refused}
 use Rattle.cfi_programs.proofs.DumpSectionWritten.{last_written}
-use Rattle.cfi_files.specs.FileLines.{PrintsSome}
 use Rattle.cfi_processes.specs.declared.mappings.MappedCode.{MappedCode}
 use Rattle.cfi_processes.specs.declared.registers.SampleMachine.{SampleMachine}
 use Rattle.cfi_processes.specs.KnownFiles.{KnownFile}

@@ -1,12 +1,11 @@
 //! The stacks of a profile that a reader gives.
 ghost use Rattle.std.specs.Prelude.{◌≡◌, ◌⊎◌, ℕ, List, [], Ok, IfOk, map};
-ghost use Rattle.cfi_files.specs.FileLines.{PrintsSome};
 ghost use Rattle.cfi_object.specs.FileParts.{AreLeft};
 ghost use Rattle.cfi_perf.specs.Events.{record_view};
 ghost use Rattle.cfi_perf.specs.Profiles.{profile_view};
 ghost use Rattle.cfi_perf.specs.Records.{records_left};
 ghost use Rattle.cfi_programs.specs.Runs.{out_of_memory};
-ghost use Rattle.cfi_programs.specs.WriterOutput.{Prints, Writes};
+ghost use Rattle.cfi_programs.specs.WriterOutput.{Prints, Writes, PrintsSome};
 ghost use Rattle.cfi_processes.specs.KnownFiles.{known_view};
 ghost use Rattle.cfi_processes.specs.OpenedFiles.{opened_view, texts};
 ghost use Rattle.cfi_processes.specs.Replays.{AreModulesFor, HasOwnModules, files_in};

@@ -4,7 +4,7 @@ use Rattle.cfi_state.specs.Row.{Row}
 use Rattle.gimli_cfi.specs.EhFrameHdr.{HeaderSection}
 use Rattle.gimli_cfi.specs.SectionSources.{GivenSection, IsGivenRow, IsRowIn, given_header, given_section, source_view}
 use Rattle.cfi_programs.specs.AnswerLines.{answer_line}
-use Rattle.cfi_files.specs.FileLines.{PrintsSome}
+use Rattle.cfi_programs.specs.WriterOutput.{PrintsSome}
 use Rattle.cfi_files.specs.Found.{part_view}
 use Rattle.cfi_files.specs.RowOutputs.{IsByTable, IsRowByTableOrScan}
 use Rattle.cfi_files.proofs.row.print_eh_frame_row.Goals as goal
