@@ -1,21 +1,48 @@
 -- What clap makes of all words, beside what they ask for.
-use Rattle.std.proofs.Common.{◌≡◌, ◌∙◌, ◌≤◌, Bool, true, false, refl, sym, ap, ap₂, subst, inl, inr, cond, arith, codes, map, nat_eq, is_some, List, [], ◌∷◌, ◌++◌, append-nil, append_assoc, length, Option, Some, None, IsSome, true≢false}
+use Rattle.std.proofs.Common.{◌≡◌, ◌∙◌, ◌≤◌, ◌⊎◌, ◌||◌, Bool, true, false, refl, sym, ap, ap₂, subst, inl, inr, cond, arith, codes, map, nat_eq, is_some, List, [], ◌∷◌, ◌++◌, append-nil, append_assoc, length, Option, Some, None, IsSome, true≢false}
 use Rattle.std.specs.List.{fold}
 use Rattle.std.specs.Option.{option_and_then, option_map}
 use Rattle.std.specs.Borrow.{Bor}
 use Rattle.std.specs.Str.{bytes_eq}
 use Rattle.clap.specs.Lexer.{usize_max}
-use Rattle.clap.specs.Walk.{Held, Names, Step, Text, Walk, arg_by_long, arg_by_short, finished, idle, nothing_held, rows_after, settled, subcommand_met, walk, walk_from, walked, word_met}
-use Rattle.clap.specs.Simple.{App, Shape, built, entered, names_of}
+use Rattle.clap.specs.Walk.{Held, Names, Rule, Step, Text, Walk, arg_by_long, arg_by_short, finished, idle, nothing_held, reacted, rows_after, settled, subcommand_met, walk, walk_from, walked, word_met}
+use Rattle.clap.specs.Simple.{App, Shape, built, entered, filled, names_of, version_rule}
 use Rattle.clap.specs.Kinds.{HasKind, Kinds, or_else}
 use Rattle.clap.specs.Values.{kind_of}
 use Rattle.clap.specs.declared.error.Error.{Error}
-use Rattle.clap.specs.Faults.{check_fault, defaults_fault, entered_fault, fault_of, level_fault, settle_fault, step_fault, turn_fault, walk_fault, word_fault}
-use Rattle.clap.specs.declared.error.kind.ErrorKind.TheVariants.{InvalidSubcommand, OutOfMemory, UnknownArgument}
+use Rattle.clap.specs.Faults.{check_fault, defaults_fault, entered_fault, fault_of, level_fault, long_fault, settle_fault, short_fault, step_fault, turn_fault, walk_fault, word_fault}
+use Rattle.clap.specs.declared.error.kind.ErrorKind.TheVariants.{DisplayVersion, InvalidSubcommand, OutOfMemory, UnknownArgument}
 use Rattle.cfi.specs.CommandLine.{Asked, asked_by, asked_of, cfi_app, check_app, dump_app, format_names, row_app, rows_app, table_app, unwind_app}
 use Rattle.cfi.specs.Words.{Given, asked, check_of, dump_of, given, nothing, row_of, rows_of, table_of, unwind_of}
-use Rattle.cfi.proofs.FlagLemmas.{IsFault, fault_first, fault_next, flag_fails, held, is_flag, long_refused, no_fault, or_else-nil, plain_is_value, short_refused, value_met, value_passes}
-use Rattle.cfi.proofs.LevelLemmas.{Level, check_leaf, dump_leaf, file_and_more, file_and_one, files, help_by_name, leaf, level, one_file, row_leaf, rows_leaf, table_leaf, unwind_leaf}
+use Rattle.cfi.proofs.FlagLemmas.{IsFault, fault_first, fault_next, flag_fails, held, help, is_flag, long_refused, no_fault, or_else-nil, plain_is_value, short_refused, value_met, value_passes}
+use Rattle.cfi.proofs.LevelLemmas.{Level, check_leaf, dump_leaf, file_and_more, file_and_one, files, leaf, level, one_file, row_leaf, rows_leaf, table_leaf, unwind_leaf}
+
+-- ---- the flags of the top command: help and version
+
+abbrev version : Rule
+version = filled version_rule
+
+abbrev IsShown : Option Rule → Type 0
+IsShown found = (found ≡ None) ⊎ ((found ≡ Some help) ⊎ (found ≡ Some version))
+
+shown_by_name : (b c : Bool) → IsShown (cond (b || false) (Some help) (cond (c || false) (Some version) None))
+shown_by_name true c = inr (inl refl)
+shown_by_name false true = inr (inr refl)
+shown_by_name false false = inl refl
+
+long_shown : (c : List Rule) (again : Bool) (h : Held) (given : Option Text) (found : Option Rule) → IsShown found → IsFault (long_fault c again found given h)
+long_shown c again h given found (inl e) = long_refused c again h given found (inl e)
+long_shown c again h given found (inr (inl e)) = long_refused c again h given found (inr e)
+long_shown c again h None found (inr (inr e)) = rw e (fault_next (settle_fault c again h) (DisplayVersion ∷ []) (tt {0}))
+long_shown c again h (Some v) found (inr (inr e)) = rw e (tt {0})
+
+short_shown : (c : List Rule) (again : Bool) (h : Held) (next : Held → Kinds) (rest : Text) (found : Option Rule) → IsShown found
+    → IsFault (short_fault c again found rest h next)
+short_shown c again h next rest found (inl e) = short_refused c again h next rest found (inl e)
+short_shown c again h next rest found (inr (inl e)) = short_refused c again h next rest found (inr e)
+short_shown c again h next rest found (inr (inr e)) =
+    rw e (fault_first (or_else (settle_fault c again h) (DisplayVersion ∷ [])) (next (reacted c version [] h))
+    (fault_next (settle_fault c again h) (DisplayVersion ∷ []) (tt {0})))
 
 module _ (formats : Bor (List (Bor Text))) (are : map (λ name. name.now) formats.now ≡ format_names) where
   abbrev cfi_built : App
@@ -164,8 +191,10 @@ module _ (formats : Bor (List (Bor Text))) (are : map (λ name. name.now) format
           let met = word_met top.rules names false idle 1 word nothing_held in
           fails_by_turn program word rest
           (fault_first (word_fault top names false idle word nothing_held) (step_fault top 1 met.0 met.1) (flag_fails top names idle word [] None none d
-          (λ flag is. long_refused top.rules top.args_override_self (held [] None) flag.1 (arg_by_long top.rules flag.0) (help_by_name (bytes_eq (codes "help") flag.0)))
-          (λ x more next. short_refused top.rules top.args_override_self (held [] None) next more (arg_by_short top.rules x) (help_by_name (nat_eq 104 x))) f))
+          (λ flag is. long_shown top.rules top.args_override_self (held [] None) flag.1 (arg_by_long top.rules flag.0)
+          (shown_by_name (bytes_eq (codes "help") flag.0) (bytes_eq (codes "version") flag.0)))
+          (λ x more next. short_shown top.rules top.args_override_self (held [] None) next more (arg_by_short top.rules x)
+          (shown_by_name (nat_eq 104 x) (nat_eq 86 x))) f))
       by_flag false d f =
           let passes = value_passes top names idle word [] None none d f in
           let met = value_met top.rules names idle 1 word [] None none d f ∙ plain_is_value top.rules false word [] None in
@@ -176,6 +205,13 @@ module _ (formats : Bor (List (Bor Text))) (are : map (λ name. name.now) format
       by_dashes : (b : Bool) → bytes_eq word (45 ∷ 45 ∷ []) ≡ b → IsFault (fault_of (cfi_app formats) (program ∷ word ∷ rest))
       by_dashes true d = dashes_fail program word rest none d
       by_dashes false d = by_flag (is_flag word) d refl
+
+  -- the command help, whatever follows
+  help_fails : (program word : Text) (rest : List Text) → subcommand_met names idle word ≡ Some (codes "help") → IsFault (fault_of (cfi_app formats) (program ∷ word ∷ rest))
+  help_fails program word rest met =
+      let next = word_met top.rules names false idle 1 word nothing_held in
+      fails_by_turn program word rest
+      (fault_first (word_fault top names false idle word nothing_held) (step_fault top 1 next.0 next.1) (rw met (tt {0})))
 
   -- ---- all words
 
@@ -192,12 +228,17 @@ module _ (formats : Bor (List (Bor Text))) (are : map (λ name. name.now) format
       none_named None h = h
       none_named (Some values) h = h
 
+      by_help : (b : Bool) → bytes_eq (codes "row") word ≡ false → bytes_eq (codes "rows") word ≡ false → bytes_eq (codes "dump") word ≡ false → bytes_eq (codes "check") word ≡ false → bytes_eq (codes "table") word ≡ false
+          → bytes_eq (codes "unwind") word ≡ false → bytes_eq (codes "help") word ≡ b → IsFault (fault_of (cfi_app formats) (program ∷ word ∷ rest))
+      by_help true e0 e1 e2 e3 e4 e5 e = help_fails program word rest (rw (e0, e1, e2, e3, e4, e5, e) refl)
+      by_help false e0 e1 e2 e3 e4 e5 e = unknown program word rest (rw (e0, e1, e2, e3, e4, e5, e) refl)
+
       by_unwind : (b : Bool) → bytes_eq (codes "row") word ≡ false → bytes_eq (codes "rows") word ≡ false → bytes_eq (codes "dump") word ≡ false → bytes_eq (codes "check") word ≡ false → bytes_eq (codes "table") word ≡ false
           → bytes_eq (codes "unwind") word ≡ b → Judged (program ∷ word ∷ rest) (option_and_then (λ values. cond b (unwind_of values) None) (given false nothing rest))
       by_unwind true e0 e1 e2 e3 e4 e =
           judged (leaf formats unwind_app) (codes "unwind") (program ∷ word ∷ rest) rest (option_and_then unwind_of (given false nothing rest)) (unwind_is program word rest (rw (e0, e1, e2, e3, e4, e) refl))
           (level formats are (leaf formats unwind_app) (codes "unwind") rest one_file unwind_of (unwind_leaf formats) (refl, refl) few)
-      by_unwind false e0 e1 e2 e3 e4 e = none_named (given false nothing rest) (unknown program word rest (rw (e0, e1, e2, e3, e4, e) refl))
+      by_unwind false e0 e1 e2 e3 e4 e = none_named (given false nothing rest) (by_help (bytes_eq (codes "help") word) e0 e1 e2 e3 e4 e refl)
 
       by_table : (b : Bool) → bytes_eq (codes "row") word ≡ false → bytes_eq (codes "rows") word ≡ false → bytes_eq (codes "dump") word ≡ false → bytes_eq (codes "check") word ≡ false → bytes_eq (codes "table") word ≡ b
           → Judged (program ∷ word ∷ rest) (option_and_then (λ values. cond b (table_of values) (cond (bytes_eq (codes "unwind") word) (unwind_of values) None)) (given false nothing rest))

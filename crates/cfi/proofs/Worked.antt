@@ -1,9 +1,13 @@
 -- What some command lines ask for, computed from the definitions alone.
-use Rattle.std.proofs.Common.{◌≡◌, codes, refl, true, false, [], ◌∷◌, Some, None}
+use Rattle.std.proofs.Common.{◌≡◌, codes, refl, true, false, List, [], ◌∷◌, Some, None}
+use Rattle.std.specs.Borrow.{Bor}
 use Rattle.std.specs.Fmt.{digits}
 use Rattle.std.specs.Str.{chars}
+use Rattle.clap.specs.Words.{Text, fault_of}
+use Rattle.clap.specs.declared.error.kind.ErrorKind.TheVariants.{DisplayHelp, DisplayVersion, InvalidSubcommand}
+use Rattle.clap.proofs.OnLiterals.{clap_on_literals}
 use Rattle.cfi_programs.specs.declared.style.Format.TheVariants as form
-use Rattle.cfi.specs.CommandLine.{check, dump, row, rows, unwind}
+use Rattle.cfi.specs.CommandLine.{cfi_app, check, dump, row, rows, unwind}
 use Rattle.cfi.specs.Findings.{tally_in}
 use Rattle.cfi.specs.Words.{asked}
 
@@ -35,6 +39,34 @@ a_hyphen = refl
 
 help_is_no_command : asked (codes "cfi" ∷ codes "dump" ∷ codes "--help" ∷ []) ≡ None
 help_is_no_command = refl
+
+-- neither is the command help, nor the version
+help_alone : asked (codes "cfi" ∷ codes "help" ∷ []) ≡ None
+help_alone = refl
+
+help_of_a_command : asked (codes "cfi" ∷ codes "help" ∷ codes "row" ∷ []) ≡ None
+help_of_a_command = refl
+
+no_version : asked (codes "cfi" ∷ codes "--version" ∷ []) ≡ None
+no_version = refl
+
+-- and clap answers them
+version_shown : (formats : Bor (List (Bor Text))) → fault_of (cfi_app formats) (codes "cfi" ∷ codes "--version" ∷ []) ≡ DisplayVersion ∷ []
+unfolding clap_on_literals
+version_shown formats = refl
+
+short_version_shown : (formats : Bor (List (Bor Text))) → fault_of (cfi_app formats) (codes "cfi" ∷ codes "-V" ∷ []) ≡ DisplayVersion ∷ []
+unfolding clap_on_literals
+short_version_shown formats = refl
+
+help_shown : (formats : Bor (List (Bor Text))) → fault_of (cfi_app formats) (codes "cfi" ∷ codes "--help" ∷ []) ≡ DisplayHelp ∷ []
+unfolding clap_on_literals
+help_shown formats = refl
+
+-- the command help answers with help, or refuses the name that follows
+help_answered : (formats : Bor (List (Bor Text))) → fault_of (cfi_app formats) (codes "cfi" ∷ codes "help" ∷ codes "row" ∷ []) ≡ DisplayHelp ∷ InvalidSubcommand ∷ []
+unfolding clap_on_literals
+help_answered formats = refl
 
 -- flags stand among the arguments, and a format follows `=` or is the next word
 flags : asked (codes "cfi" ∷ codes "row" ∷ codes "a" ∷ codes "--format" ∷ codes "json" ∷ codes "0x10" ∷ codes "--raw" ∷ codes "main" ∷ []) ≡ Some (row true form.Json (codes "a") (codes "0x10" ∷ codes "main" ∷ []))

@@ -101,15 +101,15 @@ table_app = with_rule (with_rule (new_app (codes "table")) raw_rule) file_rule
 abbrev pub unwind_app : App
 unwind_app = with_rule (with_rule (new_app (codes "unwind")) raw_rule) file_rule
 
--- one of the subcommands has to be asked for, and there is none that is called help
+-- one of the subcommands has to be asked for; clap adds `help`, and `--version` where there is one
 abbrev pub top_app : App
 top_app =
     on_top
     (λ shape.
     record shape {
+      has_version = true;
       arg_required_else_help = true;
       subcommand_required = true;
-      disable_help_subcommand = true;
     })
     (new_app (codes "cfi"))
 

@@ -17,6 +17,9 @@ use clap::{Arg, ArgAction, ArgMatches, Error};
 use std::alloc::{AllocError, Global};
 use std::convert::AsStr;
 
+/// The version of this repository, as the file `VERSION` has it.
+const VERSION: &str = "0.1.0";
+
 /// What the words of a command line ask for. The texts are those of the words, and `raw` says that
 /// registers are printed by their numbers, and stacks without functions.
 #[derive(Drop)]
@@ -59,9 +62,9 @@ pub enum Command<'w> {
 
 /// Returns what the words ask for, of which the first is the program's name.
 ///
-/// An error where they ask for help or for nothing that the program does, or where memory is
-/// refused. `kinds` says which of these it is, by the kinds that clap defines for the words. The
-/// text of an error, help among them, is clap's, and no contract speaks of it.
+/// An error where they ask for help, for the version or for nothing that the program does, or where
+/// memory is refused. `kinds` says which of these it is, by the kinds that clap defines for the
+/// words. The text of an error, help among them, is clap's, and no contract speaks of it.
 pub fn command_of<'w, S: AsStr>(alloc: Global, words: &'w [S]) -> Result<Command<'w>, Error>
     ensures asked { IfOk result (λ command.
         asked (map S.text words.entry.now) ≡ Some (command_view command)) }
@@ -210,10 +213,10 @@ fn top<'w>(alloc: Global) -> Result<clap::Command<'w>, AllocError>
     ensures { IfOk result (IsApp top_app) }
 {
     let command = clap::Command::new(alloc, "cfi")
+        .version(VERSION)
         .about("Prints and checks the call frames of ELF files, and prints the stacks of profiles")
         .arg_required_else_help(true)
-        .subcommand_required(true)
-        .disable_help_subcommand(true);
+        .subcommand_required(true);
     command.bin_name("cfi")
 }
 
