@@ -25,7 +25,7 @@ pub struct Replay<'a, 'run> {
 }
 
 impl<'a, 'run> Replay<'a, 'run> {
-    ghost use Rattle.std.specs.Prelude.{◌≡◌, ℕ, [], OnOk, map};
+    ghost use Rattle.std.specs.Prelude.{◌≡◌, ◌≢◌, ℕ, [], OnOk, Some, map};
     ghost use Rattle.cfi_perf.specs.Events.{ForkEvent, MappingEvent, ProgramEvent};
     ghost use Rattle.cfi_perf.specs.Events.{mapping_view, program_view, record_view};
     ghost use Rattle.cfi_processes.specs.KnownFiles.{known_view, modules_in};
@@ -98,7 +98,7 @@ impl<'a, 'run> Replay<'a, 'run> {
         ensures same { self.new.modules ≡ self.old.modules }
         ensures files { files_of self.new ≡ files_of self.old }
     {
-        self.pid = None;
+        self.forget(mapping.pid);
         let new = self.mapped(mapping);
         self.processes.map(mapping.pid, new)
     }
@@ -112,7 +112,7 @@ impl<'a, 'run> Replay<'a, 'run> {
         ensures files { files_of self.new ≡ files_of self.old }
     {
         if program.is_exec {
-            self.pid = None;
+            self.forget(program.pid);
             self.processes.exec(program.pid);
         }
     }
@@ -124,8 +124,24 @@ impl<'a, 'run> Replay<'a, 'run> {
         ensures same { self.new.modules ≡ self.old.modules }
         ensures files { files_of self.new ≡ files_of self.old }
     {
-        self.pid = None;
+        // A thread was made, which has what its process has.
+        if fork.pid == fork.parent {
+            return Ok(());
+        }
+        self.forget(fork.pid);
         self.processes.fork(fork.pid, fork.parent)
+    }
+
+    /// Forgets that the modules are those of this process, since its mappings change.
+    fn forget(&mut self, changed: u32)
+        ensures other { self.new.pid ≢ Some changed }
+        ensures processes { self.new.processes ≡ self.old.processes }
+        ensures same { self.new.modules ≡ self.old.modules }
+        ensures files { files_of self.new ≡ files_of self.old }
+    {
+        if self.pid == Some(changed) {
+            self.pid = None;
+        }
     }
 
     /// Where the file is mapped, up to the last address at most.
