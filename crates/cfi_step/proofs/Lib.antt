@@ -6,3 +6,4 @@ pub mod SortedCode
 pub mod WorkedModules
 pub mod KeptRows
 pub mod Walking
+pub mod PackedKeeps

@@ -5,6 +5,8 @@ pub mod CodeRanges
 pub mod Modules
 pub mod Functions
 pub mod ModuleLists
+pub mod PackedRules
+pub mod PackedRows
 pub mod Slots
 pub mod CachedRows
 pub mod Walks

@@ -1,0 +1,19 @@
+-- A packed row that may have been kept is the row of an FDE.
+use Rattle.std.proofs.Common.{◌≡◌, ◌∙◌, ℕ, Bool, List, Option, Ok, inl, inr}
+use Rattle.cfi_state.specs.MappedStates.{map_row}
+use Rattle.cfi_state.specs.Row.{Row}
+use Rattle.cfi_entry.specs.Fdes.{Fde}
+use Rattle.cfi_entry.specs.Sections.{Section}
+use Rattle.cfi_unwind.specs.AddressRow.{IsRowOfFde}
+use Rattle.cfi_step.specs.declared.function.Function.{Function}
+use Rattle.cfi_step.specs.declared.packed_rows.PackedRow.{PackedRow}
+use Rattle.cfi_step.specs.Functions.{function_of}
+use Rattle.cfi_step.specs.PackedRows.{KeepsRow, KeepsRowOf}
+
+module _ (rule_limit stack_limit : Option ℕ) (copies_free : Bool) (section : Section) (a : ℕ) (fde : Fde) where
+  pub keeps_of : (file : ℕ) (row : Row ℕ) (function : Function) (old new : List PackedRow) →
+      IsRowOfFde rule_limit stack_limit copies_free section a fde (Ok (map_row (λ (n : ℕ). n) row)) → function ≡ function_of fde →
+      KeepsRow file a row.parts function old new → KeepsRowOf rule_limit stack_limit copies_free section a fde file old new
+  keeps_of file row function old new is_row is (inl same) = inl same
+  keeps_of file row function old new is_row is (inr (k, slot, written, holds)) =
+      inr (k, slot, written, λ other b h. let (of, at, says) = holds other b h in (of, at, (row, is_row, (says.0, says.1 ∙ is))))

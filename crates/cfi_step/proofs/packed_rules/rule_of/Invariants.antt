@@ -1,0 +1,10 @@
+use Rattle.std.proofs.Common.{◌≡◌, drop, map}
+use Rattle.std.specs.FinMap.{get}
+use Rattle.gimli_cfi.specs.Words.{rules_of}
+use Rattle.cfi_step.specs.PackedRules.{pair_of}
+use Rattle.cfi_step.proofs.packed_rules.rule_of.Given as goal
+
+-- the register's rule is among those that are left
+abbrev pub invariant-loop-rule : goal.invariant-loop-rule
+invariant-loop-rule l =
+    get (rules_of (map pair_of (drop l.rule-index l.rules))) l.register ≡ get (rules_of (map pair_of l.rules)) l.register

@@ -1,0 +1,141 @@
+-- Rows that are kept with what their FDEs say of their functions, each by its file and its address
+-- in the file (DWARF 5 section 6.4.1; LSB Core, "The Frame Description Entry Format").
+--     parts_packed row, function_packed row      what a packed row says of the caller, and of the
+--         function
+--     HoldsRow file a row      it is the row of an address of a file
+--     HoldsAtMost file a parts function row      it is the row that says this, or none
+--     KeepsRow file a parts function old new      a row that says this may have been kept
+--     SaysRowOf .. section a fde row      the row says what the FDE has for the address
+--     KeepsFound .. section a found file old new      what the FDE that is found has for the
+--         address may have been kept
+--     IsKept .. loaded a file old new      what the FDE that the module has for an address of the
+--         file has may have been kept
+--     AreEmpty rows      none is a row
+use Rattle.std.specs.Prelude.{◌≡◌, ◌⊎◌, ℕ, Bool, false, true, List, map, Option, Some, None, Result}
+use Rattle.std.specs.Prelude.{Ok, Err, IfOk, slice_set}
+use Rattle.std.specs.List.{All}
+use Rattle.cfi_read_core.specs.declared.error.Error.{Error}
+use Rattle.cfi_read_core.specs.ReadFunctions.{Position}
+use Rattle.cfi_parts.specs.declared.pointer.Pointer.{Pointer}
+use Rattle.cfi_parts.specs.declared.pointer.Pointer.TheVariants.{Direct, Indirect}
+use Rattle.cfi_parts.specs.Pointers.{pointer_value}
+use Rattle.cfi_state.specs.declared.table.rules.CfaRule.TheVariants as cfa
+use Rattle.cfi_state.specs.Machine.{Parts}
+use Rattle.cfi_state.specs.MappedStates.{map_row}
+use Rattle.cfi_state.specs.Row.{Row}
+use Rattle.cfi_state.specs.RulePairs.{rules_of}
+use Rattle.cfi_entry.specs.Fdes.{Covers, Fde}
+use Rattle.cfi_entry.specs.Sections.{Section}
+use Rattle.cfi_unwind.specs.AddressRow.{IsRowOfFde}
+use Rattle.cfi_step.specs.declared.function.Function.{Function}
+use Rattle.cfi_step.specs.declared.module.LoadedModule.{LoadedModule}
+use Rattle.cfi_step.specs.declared.packed_rows.PackedRow.{PackedRow}
+use Rattle.cfi_step.specs.declared.packed_rows.PointerKind.{PointerKind}
+use Rattle.cfi_step.specs.declared.packed_rows.PointerKind.TheVariants as pointer
+use Rattle.cfi_step.specs.declared.packed_rows.SmallNumbers.{SmallNumbers}
+use Rattle.cfi_step.specs.declared.row_cache.RowCache.{RowCache}
+use Rattle.cfi_step.specs.Functions.{function_of}
+use Rattle.cfi_step.specs.Modules.{IsFoundIn, module_section}
+use Rattle.cfi_step.specs.PackedRules.{numbered, pair_of}
+
+-- ---- a packed row
+
+abbrev pub parts_packed : PackedRow → Parts ℕ
+parts_packed row = record {
+  cfa = cfa.RegisterAndOffset (numbered row.numbers.cfa_register) row.numbers.cfa_offset;
+  rules = rules_of (map pair_of row.rules.items);
+  args_size = row.numbers.args_size;
+}
+
+abbrev pub pointer_of : PointerKind → ℕ → Option Pointer
+pointer_of pointer.Absent a = None
+pointer_of pointer.Direct a = Some (Direct a)
+pointer_of pointer.Indirect a = Some (Indirect a)
+
+abbrev pub kind_of : Option Pointer → PointerKind
+kind_of None = pointer.Absent
+kind_of (Some (Direct a)) = pointer.Direct
+kind_of (Some (Indirect a)) = pointer.Indirect
+
+abbrev pub address_of : Option Pointer → ℕ
+address_of None = 0
+address_of (Some p) = pointer_value p
+
+-- the small numbers are those of the row and of the function
+abbrev pub AreNumbersOf : Parts ℕ → Function → SmallNumbers → Type 0
+AreNumbersOf parts function n =
+    (cfa.RegisterAndOffset (numbered n.cfa_register) n.cfa_offset ≡ parts.cfa)
+    × (n.args_size ≡ parts.args_size) × (numbered n.return_address ≡ function.return_address)
+    × (n.fde ≡ function.offset)
+
+abbrev pub function_packed : PackedRow → Function
+function_packed row = record {
+  start = row.start;
+  end = row.end;
+  lsda = pointer_of row.lsda_kind row.lsda;
+  personality = pointer_of row.personality_kind row.personality;
+  return_address = numbered row.numbers.return_address;
+  is_signal_trampoline = row.is_signal_trampoline;
+  offset = row.numbers.fde;
+}
+
+-- the address is one that the file has
+abbrev pub HoldsRow : ℕ → ℕ → PackedRow → Type 0
+HoldsRow file a row = (row.is_kept ≡ true) × (row.file ≡ file) × (row.address ≡ a)
+
+-- ---- a row is kept
+
+abbrev pub Says : Parts ℕ → Function → PackedRow → Type 0
+Says parts function row = (parts_packed row ≡ parts) × (function_packed row ≡ function)
+
+-- this row of the address, or none
+abbrev pub HoldsAtMost : ℕ → ℕ → Parts ℕ → Function → PackedRow → Type 0
+HoldsAtMost file a parts function row =
+    (other b : ℕ) → HoldsRow other b row → (other ≡ file) × (b ≡ a) × Says parts function row
+
+-- one row at most is written
+abbrev pub KeepsRow :
+    ℕ → ℕ → Parts ℕ → Function → List PackedRow → List PackedRow → Type 0
+KeepsRow file a parts function old new =
+    (new ≡ old) ⊎ ((k : ℕ) × (row : PackedRow) × (new ≡ slice_set old k row)
+    × HoldsAtMost file a parts function row)
+
+-- ---- rows of an FDE
+
+module _ (rule_limit stack_limit : Option ℕ) (copies_free : Bool) (section : Section) (a : ℕ) where
+  -- the row says what the FDE has for the address
+  abbrev pub SaysRowOf : Fde → PackedRow → Type 0
+  SaysRowOf fde row =
+      (found : Row ℕ)
+      × IsRowOfFde rule_limit stack_limit copies_free section a fde
+      (Ok (map_row (λ (n : ℕ). n) found))
+      × Says found.parts (function_of fde) row
+
+  -- one row at most is written, and then is that of this address of the file, or none
+  abbrev pub KeepsRowOf : Fde → ℕ → List PackedRow → List PackedRow → Type 0
+  KeepsRowOf fde file old new =
+      (new ≡ old) ⊎ ((k : ℕ) × (row : PackedRow) × (new ≡ slice_set old k row)
+      × ((other b : ℕ) → HoldsRow other b row → (other ≡ file) × (b ≡ a) × SaysRowOf fde row))
+
+  abbrev pub KeepsFound : Result Fde Error → ℕ → List PackedRow → List PackedRow → Type 0
+  KeepsFound (Ok fde) file old new = KeepsRowOf fde file old new
+  KeepsFound (Err e) file old new = new ≡ old
+
+-- ---- a cache
+
+abbrev pub rows_in : RowCache → List PackedRow
+rows_in cache = cache.rows.items
+
+abbrev pub AreEmpty : List PackedRow → Type 0
+AreEmpty rows = All (λ row. row.is_kept ≡ false) rows
+
+-- the row of the FDE that the module has for an address of the file may have been kept
+module _ {R : Type 0} (position : R → Position) (size : ℕ) (rule_limit stack_limit : Option ℕ)
+    (copies_free : Bool) where
+  abbrev pub IsKept :
+      LoadedModule R → ℕ → ℕ → List PackedRow → List PackedRow → Type 0
+  IsKept loaded a file old new =
+      (found : Result Fde Error) × IsFoundIn position size loaded a found
+      × IfOk found (λ fde. Covers fde a)
+      × KeepsFound rule_limit stack_limit copies_free (module_section position size loaded) a found
+      file old new

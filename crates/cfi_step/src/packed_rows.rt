@@ -1,0 +1,265 @@
+//! Rows in 128 bytes, with what their FDEs say of their functions.
+ghost use Rattle.std.specs.Prelude.{◌≡◌, IfSome};
+ghost use Rattle.cfi_step.specs.PackedRows.{AreNumbersOf, address_of, kind_of, pointer_of};
+
+use crate::function::Function;
+use crate::packed_rules::{PackedRule, RULES, pack_rules};
+use arrayvec::ArrayVec;
+use gimli_cfi::{ArrayLike, CfaRule, Pointer, Register, RegisterRule, UnwindTableRow};
+
+/// What a pointer leads to.
+#[derive(Clone, Copy, Debug, PartialEq, Eq)]
+pub enum PointerKind {
+    /// There is none.
+    Absent,
+    /// The address that it has.
+    Direct,
+    /// The one that stands there.
+    Indirect,
+}
+
+/// The numbers of a row and of its function that are mostly small.
+#[derive(Clone, Copy, Debug)]
+pub struct SmallNumbers {
+    /// The offset of the FDE in the section.
+    pub fde: u32,
+    /// How far the CFA is from the value of a register.
+    pub cfa_offset: i32,
+    /// How many bytes of arguments the frame has pushed.
+    pub args_size: u16,
+    /// That register.
+    pub cfa_register: u8,
+    /// The register that holds the return address.
+    pub return_address: u8,
+}
+
+/// A row of an unwind table with what its FDE says of the function (DWARF 5 section 6.4.1), or
+/// none. It has at most 14 rules of registers, and is 128 bytes.
+#[derive(Drop)]
+pub struct PackedRow {
+    file: u64,
+    address: u64,
+    start: u64,
+    end: u64,
+    lsda: u64,
+    personality: u64,
+    numbers: SmallNumbers,
+    lsda_kind: PointerKind,
+    personality_kind: PointerKind,
+    is_signal_trampoline: bool,
+    is_kept: bool,
+    rules: ArrayVec<PackedRule, RULES>,
+}
+
+impl PackedRow {
+    ghost use Rattle.std.specs.Prelude.{◌≡◌, ◌↔◌, IsTrue, false};
+    ghost use Rattle.cfi_step.specs.PackedRows.{HoldsAtMost, HoldsRow, function_packed};
+    ghost use Rattle.cfi_step.specs.PackedRows.{parts_packed};
+
+    /// No row. Does not allocate.
+    pub fn new() -> PackedRow
+        ensures { result.is_kept ≡ false }
+    {
+        PackedRow {
+            file: 0,
+            address: 0,
+            start: 0,
+            end: 0,
+            lsda: 0,
+            personality: 0,
+            numbers: SmallNumbers {
+                fde: 0,
+                cfa_offset: 0,
+                args_size: 0,
+                cfa_register: 0,
+                return_address: 0,
+            },
+            lsda_kind: PointerKind::Absent,
+            personality_kind: PointerKind::Absent,
+            is_signal_trampoline: false,
+            is_kept: false,
+            rules: ArrayVec::new(),
+        }
+    }
+
+    /// Forgets the row.
+    #[inline]
+    pub fn clear(&mut self)
+        ensures { self.new.is_kept ≡ false }
+    {
+        self.is_kept = false;
+    }
+
+    /// Whether it is the row of the address of the file.
+    #[inline(always)]
+    pub fn is_of(&self, file: u64, address: u64) -> bool
+        ensures { IsTrue result ↔ HoldsRow file address self.now }
+    {
+        self.address == address && self.file == file && self.is_kept
+    }
+
+    /// Whether that row couldn't be kept.
+    pub fn is_refused(&self, file: u64, address: u64) -> bool {
+        self.address == address && self.file == file && !self.is_kept
+    }
+
+    /// The register from which the CFA is counted.
+    #[inline(always)]
+    pub fn cfa_register(&self) -> u8
+        ensures { result ≡ self.now.numbers.cfa_register }
+    {
+        self.numbers.cfa_register
+    }
+
+    /// How far the CFA is from the register's value.
+    #[inline(always)]
+    pub fn cfa_offset(&self) -> i64
+        ensures { result ≡ self.now.numbers.cfa_offset }
+    {
+        i64::from(self.numbers.cfa_offset)
+    }
+
+    /// The rules of registers. If a register occurs twice, its first rule holds.
+    #[inline(always)]
+    pub fn rules(&self) -> &[PackedRule]
+        ensures { result.now ≡ self.now.rules.items }
+    {
+        self.rules.as_slice()
+    }
+
+    /// The register that holds the return address.
+    #[inline(always)]
+    pub fn return_address(&self) -> u8
+        ensures { result ≡ self.now.numbers.return_address }
+    {
+        self.numbers.return_address
+    }
+
+    /// Whether the function is a signal trampoline.
+    #[inline(always)]
+    pub fn is_signal_trampoline(&self) -> bool
+        ensures { result ≡ self.now.is_signal_trampoline }
+    {
+        self.is_signal_trampoline
+    }
+
+    /// How many bytes of arguments the frame has pushed (`DW_CFA_GNU_args_size`).
+    #[inline(always)]
+    pub fn args_size(&self) -> u64
+        ensures { result ≡ (parts_packed self.now).args_size }
+    {
+        u64::from(self.numbers.args_size)
+    }
+
+    /// What the FDE says of the function.
+    #[inline(always)]
+    pub fn function(&self) -> Function
+        ensures { result ≡ function_packed self.now }
+    {
+        Function {
+            start: self.start,
+            end: self.end,
+            lsda: pointer_of(self.lsda_kind, self.lsda),
+            personality: pointer_of(self.personality_kind, self.personality),
+            return_address: Register(u16::from(self.numbers.return_address)),
+            is_signal_trampoline: self.is_signal_trampoline,
+            offset: u64::from(self.numbers.fde),
+        }
+    }
+
+    /// Is then the row of the address of the file, if it has few rules and small numbers, and else
+    /// none.
+    pub fn keep<A: ArrayLike<Item = (Register, RegisterRule<usize>)>>(
+        &mut self,
+        file: u64,
+        address: u64,
+        row: &UnwindTableRow<usize, A>,
+        function: &Function,
+    )
+        ensures { HoldsAtMost file address row.now.parts function.now self.new }
+    {
+        self.file = file;
+        self.address = address;
+        self.is_kept = false;
+        let Some(numbers) = small_numbers(row, function) else {
+            return;
+        };
+        if pack_rules(row.registers().as_slice(), &mut self.rules) {
+            self.numbers = numbers;
+            self.start = function.start;
+            self.end = function.end;
+            self.lsda_kind = kind_of(function.lsda);
+            self.lsda = address_of(function.lsda);
+            self.personality_kind = kind_of(function.personality);
+            self.personality = address_of(function.personality);
+            self.is_signal_trampoline = function.is_signal_trampoline;
+            self.is_kept = true;
+        }
+    }
+}
+
+/// The small numbers of a row and of its function; `None` if one is too large, or if the CFA is
+/// that of an expression.
+fn small_numbers<A: ArrayLike<Item = (Register, RegisterRule<usize>)>>(
+    row: &UnwindTableRow<usize, A>,
+    function: &Function,
+) -> Option<SmallNumbers>
+    ensures { IfSome result (AreNumbersOf row.now.parts function.now) }
+{
+    let CfaRule::RegisterAndOffset { register, offset } = *row.cfa() else {
+        return None;
+    };
+    let (Ok(cfa_register), Ok(cfa_offset)) = (u8::try_from(register.0), i32::try_from(offset))
+    else {
+        return None;
+    };
+    let (Ok(args_size), Ok(fde)) = (
+        u16::try_from(row.saved_args_size()),
+        u32::try_from(function.offset),
+    ) else {
+        return None;
+    };
+    let Ok(return_address) = u8::try_from(function.return_address.0) else {
+        return None;
+    };
+    Some(SmallNumbers {
+        fde,
+        cfa_offset,
+        args_size,
+        cfa_register,
+        return_address,
+    })
+}
+
+/// The pointer of this kind, with this address.
+#[inline(always)]
+fn pointer_of(kind: PointerKind, address: u64) -> Option<Pointer>
+    ensures { result ≡ pointer_of kind address }
+{
+    match kind {
+        PointerKind::Absent => None,
+        PointerKind::Direct => Some(Pointer::Direct(address)),
+        PointerKind::Indirect => Some(Pointer::Indirect(address)),
+    }
+}
+
+/// What the pointer leads to.
+fn kind_of(pointer: Option<Pointer>) -> PointerKind
+    ensures { result ≡ kind_of pointer }
+{
+    match pointer {
+        None => PointerKind::Absent,
+        Some(Pointer::Direct(_address)) => PointerKind::Direct,
+        Some(Pointer::Indirect(_address)) => PointerKind::Indirect,
+    }
+}
+
+/// The address that a pointer has; 0 if there is none.
+fn address_of(pointer: Option<Pointer>) -> u64
+    ensures { result ≡ address_of pointer }
+{
+    match pointer {
+        None => 0,
+        Some(pointer) => pointer.pointer(),
+    }
+}

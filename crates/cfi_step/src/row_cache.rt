@@ -1,0 +1,150 @@
+//! A cache of packed rows.
+ghost use Rattle.std.specs.Prelude.{◌≡◌, ◌*◌, IfOk, IfSome, length};
+ghost use Rattle.std.specs.List.{Contains};
+ghost use Rattle.cfi_step.specs.PackedRows.{AreEmpty, HoldsRow, KeepsRow, rows_in};
+
+use crate::function::Function;
+use crate::packed_rows::PackedRow;
+use gimli_cfi::{ArrayLike, Error, Register, RegisterRule, UnwindTableRow};
+use std::alloc::Global;
+
+/// 2 ^ 64 divided by the golden ratio: what addresses are multiplied with to be spread.
+const SPREAD: u64 = 0x9e37_79b9_7f4a_7c15;
+
+/// How many rows a set has: an address of a file has its place in one of them.
+const WAYS: usize = 4;
+
+/// Rows by their files and addresses, four in each set, with what their FDEs say of their
+/// functions.
+#[derive(Drop)]
+pub struct RowCache {
+    rows: Vec<PackedRow>,
+    next: usize,
+}
+
+impl RowCache {
+    ghost use Rattle.std.specs.Prelude.{◌≡◌, ◌*◌, IfOk, IfSome, length};
+    ghost use Rattle.std.specs.List.{Contains};
+    ghost use Rattle.cfi_step.specs.PackedRows.{AreEmpty, HoldsRow, KeepsRow, rows_in};
+
+    /// A cache for four rows in each of so many sets, without one. Fails with `OutOfMemory` if they
+    /// cannot be allocated.
+    pub fn new(alloc: Global, sets: usize) -> gimli_cfi::Result<RowCache>
+        ensures empty { IfOk result (λ cache. AreEmpty (rows_in cache)) }
+        ensures room { IfOk result (λ cache. length (rows_in cache) ≡ sets * 4) }
+    {
+        let Some(count) = sets.checked_mul(WAYS) else {
+            return Err(Error::OutOfMemory);
+        };
+        let Ok(mut rows) = Vec::with_capacity(alloc, count) else {
+            return Err(Error::OutOfMemory);
+        };
+        for _ in 0..count {
+            if rows.push(PackedRow::new()).is_err() {
+                return Err(Error::OutOfMemory);
+            }
+        }
+        Ok(RowCache { rows, next: 0 })
+    }
+
+    /// Forgets all rows. Does not allocate.
+    pub fn clear(&mut self)
+        ensures { AreEmpty (rows_in self.new) }
+    {
+        clear_rows(self.rows.as_mut_slice());
+    }
+
+    /// The row of the address of the file, if it is held.
+    #[inline(always)]
+    pub fn held(&self, file: u64, address: u64) -> Option<&PackedRow>
+        ensures { IfSome result (λ row.
+            HoldsRow file address row.now × Contains (rows_in self.now) row.now) }
+    {
+        row_in(self.rows.as_slice(), file, address)
+    }
+
+    /// Whether the row of the address of the file couldn't be packed when it was found last, as far
+    /// as that is remembered.
+    pub fn is_refused(&self, file: u64, address: u64) -> bool {
+        is_refused_in(self.rows.as_slice(), file, address)
+    }
+
+    /// Holds the row of the address of the file in place of another, if it has few rules and small
+    /// numbers; else the other is forgotten.
+    pub fn keep<A: ArrayLike<Item = (Register, RegisterRule<usize>)>>(
+        &mut self,
+        file: u64,
+        address: u64,
+        row: &UnwindTableRow<usize, A>,
+        function: &Function,
+    )
+        ensures { KeepsRow file address row.now.parts function.now
+            (rows_in self.old) (rows_in self.new) }
+    {
+        let way = self.next % WAYS;
+        self.next = self.next.wrapping_add(1);
+        keep_in(self.rows.as_mut_slice(), way, file, address, row, function);
+    }
+}
+
+/// Forgets each row.
+fn clear_rows(rows: &mut [PackedRow])
+    ensures { AreEmpty rows.new }
+{
+    for row in rows {
+        row.clear();
+    }
+}
+
+/// The row of the address of the file, if it is in its set.
+#[inline(always)]
+fn row_in(rows: &[PackedRow], file: u64, address: u64) -> Option<&PackedRow>
+    ensures { IfSome result (λ row. HoldsRow file address row.now × Contains rows.now row.now) }
+{
+    let first = set_of(file, address, rows.len() / WAYS).wrapping_mul(WAYS);
+    for way in 0..WAYS {
+        let index = first.wrapping_add(way);
+        if index < rows.len() && rows[index].is_of(file, address) {
+            return Some(&rows[index]);
+        }
+    }
+    None
+}
+
+/// Whether a row of the set was refused for the address of the file.
+fn is_refused_in(rows: &[PackedRow], file: u64, address: u64) -> bool {
+    let first = set_of(file, address, rows.len() / WAYS).wrapping_mul(WAYS);
+    for way in 0..WAYS {
+        let index = first.wrapping_add(way);
+        if index < rows.len() && rows[index].is_refused(file, address) {
+            return true;
+        }
+    }
+    false
+}
+
+/// Keeps the row in its set, in place of the one there.
+fn keep_in<A: ArrayLike<Item = (Register, RegisterRule<usize>)>>(
+    rows: &mut [PackedRow],
+    way: usize,
+    file: u64,
+    address: u64,
+    row: &UnwindTableRow<usize, A>,
+    function: &Function,
+)
+    ensures { KeepsRow file address row.now.parts function.now rows.old rows.new }
+{
+    let first = set_of(file, address, rows.len() / WAYS).wrapping_mul(WAYS);
+    let index = first.wrapping_add(way);
+    if index < rows.len() {
+        rows[index].keep(file, address, row, function);
+    }
+}
+
+/// The set for an address of a file. Each row holds both, so any would do.
+#[inline(always)]
+fn set_of(file: u64, address: u64, count: usize) -> usize {
+    let mixed = address.wrapping_add(file.wrapping_mul(SPREAD));
+    let spread = mixed.wrapping_mul(SPREAD) >> 32;
+    (spread.wrapping_mul(count as u64) >> 32) as usize
+}
