@@ -1,5 +1,5 @@
 /* Unwinds stacks whose frames were worked out by hand, through the C library, by cfi_unwind and by cfi_step again and again, and
- * prints which differ. The bytes behind the frames are checked. Linked with --wrap=malloc, --wrap=realloc, --wrap=free. */
+ * prints which differ. Each step is also made by cfi_step_cached: without a cache, by one that is empty, and by one with the row. The bytes behind the frames are checked. Linked with --wrap=malloc, --wrap=realloc, --wrap=free. */
 #include <inttypes.h>
 #include <stdio.h>
 #include <stdlib.h>
@@ -65,7 +65,7 @@ static const Stack STACKS[] = {
      {{0x5001, 0x7008, true, true}, {0x2000, 0x7010, true, true}}, {0, CFI_END_OUTERMOST, 0}},
 };
 
-static int failures, stacks, calls_for_memory;
+static int failures, stacks, calls_for_memory, memory_is_refused;
 
 void *__real_malloc(size_t size);
 void *__real_realloc(void *at, size_t size);
@@ -73,7 +73,7 @@ void __real_free(void *at);
 
 void *__wrap_malloc(size_t size) {
     calls_for_memory++;
-    return __real_malloc(size);
+    return memory_is_refused ? NULL : __real_malloc(size);
 }
 
 void *__wrap_realloc(void *at, size_t size) {
@@ -141,6 +141,110 @@ static const CfiModule *module_of(const Process *p, uint64_t address) {
     return NULL;
 }
 
+/* A step as cfi_step and cfi_step_cached write it; without a cache it is cfi_step's. */
+typedef struct {
+    uint32_t kind;
+    CfiValue registers[REGISTERS];
+    CfiFunction function;
+    CfiCaller caller;
+    CfiEnd end;
+} Step;
+
+static Step step_of(CfiContext *context, CfiCache *cache, uint64_t file, const CfiModule *module, const CfiMemory *memory,
+                    const CfiFrame *frame, const CfiValue *registers, size_t count) {
+    Step step;
+    memset(&step, 0, sizeof step);
+    step.kind = cache ? cfi_step_cached(context, cache, file, module, memory, frame->pc, frame->is_interrupted, registers, count,
+                                        step.registers, count, &step.function, &step.caller, &step.end)
+                      : cfi_step(context, module, memory, frame->pc, frame->is_interrupted, registers, count, step.registers,
+                                 count, &step.function, &step.caller, &step.end);
+    return step;
+}
+
+static int is_value(const CfiValue *value, const CfiValue *due) {
+    return value->known == due->known && value->value == due->value;
+}
+
+static int is_step(const Step *step, const Step *due) {
+    const CfiFunction *f = &step->function, *g = &due->function;
+    const CfiCaller *c = &step->caller, *d = &due->caller;
+    for (size_t k = 0; k < REGISTERS; k++)
+        if (!is_value(&step->registers[k], &due->registers[k]))
+            return 0;
+    return step->kind == due->kind && step->end.kind == due->end.kind && step->end.status == due->end.status &&
+           step->end.refused == due->end.refused && f->start == g->start && f->end == g->end && f->lsda == g->lsda &&
+           f->personality == g->personality && f->fde == g->fde && f->return_address == g->return_address &&
+           f->is_known == g->is_known && f->has_lsda == g->has_lsda && f->has_personality == g->has_personality &&
+           f->lsda_is_indirect == g->lsda_is_indirect && f->personality_is_indirect == g->personality_is_indirect &&
+           f->is_signal_trampoline == g->is_signal_trampoline && c->cfa == d->cfa && c->pc == d->pc &&
+           c->args_size == d->args_size && c->is_interrupted == d->is_interrupted;
+}
+
+/* The number of the file: another one where the module is. */
+static uint64_t file_of(const CfiModule *module, const CfiMemory *memory) {
+    return (module->header_len ? 2 : 0) + (memory->address_size == 8 ? 0 : 4);
+}
+
+static CfiCache cache;
+
+/* Whether the step with a cache is that without: by none, by an empty one, and by the row that it then has. */
+static int is_cached(CfiContext *context, uint64_t file, const CfiModule *module, const CfiMemory *memory, const CfiFrame *frame,
+                     const CfiValue *registers, size_t count) {
+    CfiCache none = {0}, *caches[4] = {NULL, &none, &cache, &cache};
+    Step steps[4];
+    int same = 1;
+    for (size_t i = 0; i < 4; i++) {
+        steps[i] = step_of(context, caches[i], file, module, memory, frame, registers, count);
+        same = same && is_step(&steps[i], &steps[0]);
+    }
+    return same;
+}
+
+/* A CIE as the first one, and an FDE 0x1000 to 0x1010 whose row has thirteen rules, with a CFA of r7 and a number that is to come. */
+static const char *const MANY_RULES = "1000000000000000 0100017810 0c0708 9001 0000"
+                                      "3000000018000000 0010000000000000 1000000000000000 0e%s"
+                                      "8002 8103 8204 8305 8606 8807 8908 8a09 8b0a 8c0b 8d0c 8e0d 0000";
+
+/* Rows with thirteen rules of two modules, which have one address but other numbers of their files; and no memory for a cache. */
+static void check_many_rules(CfiContext *context) {
+    static uint8_t sections[2][128], bytes[128];
+    CfiModule modules[2];
+    CfiWindow window = {0x7000, bytes, sizeof bytes};
+    CfiMemory memory = {&window, 1, 0, 100, 7, false, 8};
+    CfiFrame frame = {.pc = 0x1008, .is_interrupted = true};
+    CfiValue registers[REGISTERS];
+    CfiCache other = {0};
+    for (size_t i = 0; i < sizeof bytes; i++)
+        bytes[i] = i;
+    for (size_t k = 0; k < REGISTERS; k++)
+        registers[k] = (CfiValue){k == 7 ? 0x7000 : 2 * k, k != 9};
+    for (size_t i = 0; i < 2; i++) {
+        char text[256];
+        sprintf(text, MANY_RULES, i ? "70" : "78");
+        memset(&modules[i], 0, sizeof modules[i]);
+        modules[i].start = 0x1000, modules[i].end = 0x1010, modules[i].eh_frame = sections[i];
+        modules[i].eh_frame_len = unhex(text, sections[i]), modules[i].bases.section = 0x8000;
+    }
+    for (uint64_t round = 0; round < 4; round++) {
+        const CfiModule *module = &modules[round % 2];
+        Step step = step_of(context, &cache, 8 + round % 2, module, &memory, &frame, registers, REGISTERS);
+        uint64_t cfa = round % 2 ? 0x7070 : 0x7078;
+        stacks++;
+        if (!is_cached(context, 8 + round % 2, module, &memory, &frame, registers, REGISTERS) || step.caller.cfa != cfa ||
+            step.kind != CFI_END_NONE || step.registers[7].value != cfa || step.registers[14].known != true) {
+            failures++;
+            printf("c library: thirteen rules, round %d: cfa %#" PRIx64 "\n", (int)round, step.caller.cfa);
+        }
+    }
+    memory_is_refused = 1;
+    if (cfi_cache_new(4, &other) != CFI_OutOfMemory || other.live || cfi_cache_new(4, &cache) != CFI_OutOfMemory || !cache.live ||
+        cfi_cache_new(SIZE_MAX / 2, &other) != CFI_OutOfMemory) {
+        failures++;
+        printf("c library: a cache without memory\n");
+    }
+    memory_is_refused = 0;
+}
+
 /* The same frames by cfi_step, over a memory of two windows that part the stack's bytes at the first eight. */
 static int are_steps(CfiContext *context, const Process *p, const Stack *s) {
     const CfiStack *k = &p->stack;
@@ -160,6 +264,8 @@ static int are_steps(CfiContext *context, const Process *p, const Stack *s) {
         if (end.kind == CFI_END_NO_MODULE && module) {
             cfi_step(context, module, &memory, frame.pc, frame.is_interrupted, registers, p->registers_len, found,
                      p->registers_len, &function, &caller, &end);
+            if (!is_cached(context, file_of(module, &memory), module, &memory, &frame, registers, p->registers_len))
+                return 0;
             if (function.is_known != (end.kind != CFI_END_NOT_WALKED && end.kind != CFI_END_NO_ROW))
                 return 0;
         }
@@ -205,7 +311,7 @@ int main(void) {
     static Process p;
     CfiContext none = {0}, context = {0};
     const Stack *first = &STACKS[0];
-    if (cfi_context_new(&context) != CFI_Ok)
+    if (cfi_context_new(&context) != CFI_Ok || cfi_cache_new(64, &cache) != CFI_Ok)
         return 1;
     for (size_t i = 0; i < sizeof STACKS / sizeof STACKS[0]; i++) {
         begin(&p, &STACKS[i]);
@@ -234,6 +340,9 @@ int main(void) {
                                  {3, CFI_END_NOT_WALKED, CFI_UnsupportedAddressSize}});
     check(&none, &p, &(Stack){"no context", NULL, first->pc, 3, 0, {{0, 0, false, false}},
                               {0, CFI_END_NOT_WALKED, CFI_NoContext}});
+    cfi_cache_clear(&cache);
+    check_many_rules(&context);
+    cfi_cache_free(&cache);
     cfi_context_free(&context);
     printf("c library: %d worked stacks, %d failures\n", stacks, failures);
     return failures != 0;

@@ -10,16 +10,20 @@
  * A table is made of one section, by cfi_table_new, asked for any number of addresses, and freed by cfi_table_free. Only
  * the first takes memory. Whoever asks one section for many addresses makes a table of it.
  *
+ * A cache is made by cfi_cache_new, used by cfi_step_cached, and freed by cfi_cache_free. Only the first takes memory. Whoever
+ * steps from frames of the same places again and again has one.
+ *
  * All other memory is the caller's, and is read or written only during a call; nothing of it is kept. Pointers are not
  * null, also where a length is 0 and in structs, and what is written overlaps nothing else that is handed in. What they
  * point to is aligned as C aligns its type. A bool is 0 or 1.
  *
- * Calls with different contexts and tables may run at the same time. A context stays on the thread that made it. A table
- * may be handed to another thread, by a lock, a thread's start or join, or a SeqCst atomic; one call at a time has it. The
- * calls that make or free a context or a table are made neither from a signal handler nor in the forked child of a process
- * with threads. The others call neither malloc nor free, take no lock, and keep nothing outside of what they are passed: they
- * may be made there, with a context and tables that no interrupted call has. A handler that does not return loses the context
- * of the call that it interrupted. malloc and free are those of one allocator, and align as C asks. */
+ * Calls with different contexts, tables and caches may run at the same time. A context and a cache stay on the thread that
+ * made them. A table may be handed to another thread, by a lock, a thread's start or join, or a SeqCst atomic; one call at a
+ * time has it. The calls that make or free a context, a table or a cache are made neither from a signal handler nor in the
+ * forked child of a process with threads. The others call neither malloc nor free, take no lock, and keep nothing outside of
+ * what they are passed: they may be made there, with a context, tables and a cache that no interrupted call has. A handler
+ * that does not return loses the context and the cache of the call that it interrupted. malloc and free are those of one
+ * allocator, and align as C asks. */
 #ifndef CFI_C_H
 #define CFI_C_H
 
@@ -91,6 +95,12 @@ typedef struct {
     void *at;
     bool live;
 } CfiTable;
+
+/* A cache of rows, or none: all zero, as `CfiCache cache = {0};` makes it. It is the library's as a context is. */
+typedef struct {
+    void *at;
+    bool live;
+} CfiCache;
 
 /* Where the sections lie, and how their numbers are read. */
 typedef struct {
@@ -233,7 +243,7 @@ typedef enum {
     CFI_END_TOO_MANY_ITERATIONS = 14,
     CFI_END_ARCHITECTURAL_RULE = 15,
     CFI_END_NOT_WALKED = 16, /* no frame is written: status is CFI_NoContext, or CFI_UnsupportedAddressSize: the size */
-    CFI_END_NONE = 17        /* by cfi_step alone: there is a caller */
+    CFI_END_NONE = 17        /* by cfi_step and cfi_step_cached alone: there is a caller */
 } CfiEndKind;
 
 typedef struct {
@@ -337,6 +347,29 @@ size_t cfi_unwind(CfiContext *context, const CfiModule *modules, size_t modules_
 uint32_t cfi_step(CfiContext *context, const CfiModule *module, const CfiMemory *memory, uint64_t pc, bool is_interrupted,
                   const CfiValue *registers, size_t registers_len, CfiValue *caller_registers, size_t caller_registers_len,
                   CfiFunction *function, CfiCaller *caller, CfiEnd *end);
+
+/* Makes a cache for sets * 4 rows, without one, and frees the cache that was there. A row takes 128 bytes. CFI_OutOfMemory where
+ * malloc fails: then the one that was there stays. */
+int32_t cfi_cache_new(size_t sets, CfiCache *cache);
+
+/* Frees the cache; without one it does nothing. Then there is none. */
+void cfi_cache_free(CfiCache *cache);
+
+/* Forgets all rows of the cache, which keeps its memory. */
+void cfi_cache_clear(CfiCache *cache);
+
+/* As cfi_step in all that it returns and writes, with a cache of rows: a frame whose row the cache has is stepped from without
+ * its FDE, its header or an instruction; else the row is found as by cfi_step, and kept if it is a plain one, as compilers
+ * write them: at most 14 rules, none of them an expression. Which row is replaced is open. Without a cache it is cfi_step.
+ *
+ * file is the caller's number for the module's file: all modules that are passed with this cache and this number have the same
+ * eh_frame, header and bases, and the size of an address is the same with all numbers. Whoever closes a module, and then uses
+ * its number for another, calls cfi_cache_clear before. Otherwise the caller that is found may be that of another module's row;
+ * nothing else is read or written then than by cfi_step. */
+uint32_t cfi_step_cached(CfiContext *context, CfiCache *cache, uint64_t file, const CfiModule *module, const CfiMemory *memory,
+                         uint64_t pc, bool is_interrupted, const CfiValue *registers, size_t registers_len,
+                         CfiValue *caller_registers, size_t caller_registers_len, CfiFunction *function, CfiCaller *caller,
+                         CfiEnd *end);
 
 /* Writes the name of a status, as in "UnexpectedEof", and a zero after it, as far as there is room. Returns how long the name
  * is, without the zero; 64 bytes have room for each. "Unknown" for a number that is no status. */

@@ -1,14 +1,18 @@
 -- The frames of cfi_unwind are those of cfi_step again and again: where the memory is one window, the bytes of the stack, a
--- step of cfi_step is one of the walk (IsStepInModule, of which IsWalkForC is made).
-use Rattle.std.proofs.Common.{◌≡◌, ◌∙◌, ℕ, Bool, List, [], ◌∷◌, Option, Some, None, refl, ap, subst}
+-- step of cfi_step is one of the walk (IsStepInModule, of which IsWalkForC is made). A cache that is empty is right for all modules, and stays
+-- right over steps whose modules have the call frames of the files whose numbers they have: each is the step of cfi_step (IsStepped).
+use Rattle.std.proofs.Common.{◌≡◌, ◌∙◌, ℕ, Bool, List, [], ◌∷◌, Option, Some, None, refl, sym, ap, subst, true≢false}
 use Rattle.cfi_expression.specs.Frames.{Frame}
 use Rattle.cfi_step.specs.declared.abi.Abi.{Abi}
 use Rattle.cfi_step.specs.declared.function.FunctionStep.{FunctionStep}
+use Rattle.cfi_step.specs.declared.packed_rows.PackedRow.{PackedRow}
+use Rattle.cfi_step.specs.PackedRows.{AreEmpty}
 use Rattle.cfi_step.specs.Walks.{State, address_of}
 use Rattle.cfi_c.specs.declared.memory.CfiMemory.{CfiMemory}
 use Rattle.cfi_c.specs.declared.memory.CfiWindow.{CfiWindow}
 use Rattle.cfi_c.specs.declared.stack.CfiModule.{CfiModule}
 use Rattle.cfi_c.specs.declared.stack.CfiStack.{CfiStack}
+use Rattle.cfi_c.specs.CachedSteps.{AreAlike, IsCachedFor, KeepsFor}
 use Rattle.cfi_c.specs.PassedMemories.{abi_in, first_of, number_in_memory, number_in_window, number_in_windows}
 use Rattle.cfi_c.specs.PassedStacks.{abi_of, memory_of}
 use Rattle.cfi_c.specs.StackFrames.{IsStepByFde, IsStepInModule, frame_of}
@@ -42,3 +46,13 @@ module _ (memory : CfiMemory) (stack : CfiStack) (is : IsOfStack memory stack) w
     subst (λ (f : Frame). IsStepByFde f (abi_of stack) loaded (address_of s) made.0 step.caller caller) (same_frame s)
         (subst (λ (b : Abi). IsStepByFde (frame_in memory s.registers) b loaded (address_of s) made.0 step.caller caller) is.3 made.1),
   )
+
+-- ---- a cache of rows
+
+pub empty_for_all : (size file : ℕ) (loaded : CfiModule) (rows : List PackedRow) → AreEmpty rows → IsCachedFor size file loaded rows
+empty_for_all size file loaded rows empty k d inside a holds = absurd (true≢false (sym holds.0 ∙ empty k d inside))
+
+pub right_after_two : (size : ℕ) (one two other : ℕ) (first second another : CfiModule) (old next new : List PackedRow)
+    → KeepsFor size one first old next → KeepsFor size two second next new → (one ≡ other → AreAlike size first another) → (two ≡ other → AreAlike size second another)
+    → IsCachedFor size other another old → IsCachedFor size other another new
+right_after_two size one two other first second another old next new keeps then alike alike_then right = then other another alike_then (keeps other another alike right)

@@ -1,8 +1,13 @@
+mod CachedSteps
 mod Counts
 mod Faithful
+mod FirstWindows
 mod HeldThere
 pub mod Laws
 mod Names
+mod PackedReads
+mod PackedValues
+mod PackedWrites
 mod PointerPairs
 mod RuleWrites
 mod Sections

@@ -34,7 +34,7 @@ use Rattle.cfi_c.specs.PassedStacks.{abi_of, sized}
 use Rattle.cfi_c.specs.StackFrames.{IsFdeBy, IsStepByFde, IsStepInModule, frame_of}
 
 module _ {R : Type 0} (position : R → Position) (size : ℕ) (loaded : LoadedModule R) (bases : CfiBases) (bytes : List ℕ) (same : section_view position loaded.frame loaded.bases ≡ eh_frame_of bases bytes) where
-  found_by : (made : Option (EhFrameHdr R)) (passed : Option (List ℕ))
+  pub found_by : (made : Option (EhFrameHdr R)) (passed : Option (List ℕ))
       → option_map (λ header. unparsed_view position header size loaded.bases) made ≡ option_map (header_of bases) passed
       → (a : ℕ) (found : Result Fde Error) → IsFoundBy position size loaded made a found → IsFdeBy bases bytes passed a found
   found_by None None headers a found is = is ∙ ap (λ s. chosen_fde s a) same

@@ -13,3 +13,7 @@ pub mod StackFrames
 pub mod PassedMemories
 pub mod SteppedFrames
 pub mod PassedSteps
+pub mod HeldCaches
+pub mod FirstWindows
+pub mod PackedSteps
+pub mod CachedSteps

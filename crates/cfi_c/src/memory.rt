@@ -1,6 +1,8 @@
 //! Memory in several windows, as C passes it.
 ghost use Rattle.std.specs.Prelude.{◌≡◌};
 ghost use Rattle.cfi_read_core.specs.Addresses.{IsAddressSize};
+ghost use Rattle.cfi_read_core.specs.ByteOrder.{is_big};
+ghost use Rattle.cfi_read_core.specs.SliceReaders.{slice_over, slice_position};
 ghost use Rattle.cfi_c.specs.PassedMemories.{abi_in, number_in_window};
 
 use cfi_step::{Abi, Memory, Window};
@@ -51,16 +53,28 @@ fn read_in(window: &CfiWindow<'_>, big_endian: bool, address: u64, size: u8) -> 
     requires { IsAddressSize size }
     ensures { result ≡ number_in_window big_endian window.now address size }
 {
+    window_of(window, big_endian).read(address, size)
+}
+
+/// The bytes of a window as memory, in which numbers have this order.
+#[inline(always)]
+pub fn window_of<'a>(
+    window: &CfiWindow<'a>,
+    big_endian: bool,
+) -> Window<EndianSlice<'a, RunTimeEndian>>
+    ensures base { result.base ≡ window.now.base }
+    ensures bytes { slice_position is_big result.bytes
+        ≡ slice_over window.now.bytes.now big_endian }
+{
     let endian = if big_endian {
         RunTimeEndian::Big
     } else {
         RunTimeEndian::Little
     };
-    let window = Window {
+    Window {
         base: window.base,
         bytes: EndianSlice::new(window.bytes, endian),
-    };
-    window.read(address, size)
+    }
 }
 
 /// What the ABI says.

@@ -101,7 +101,7 @@ pub struct CfiEnd {
 }
 
 /// The value of the register.
-fn known_value(register: CfiValue) -> Option<u64>
+pub fn known_value(register: CfiValue) -> Option<u64>
     ensures { result ≡ known_value register }
 {
     if register.known {

@@ -26,7 +26,7 @@ use std::alloc::Global;
 use std::mem;
 
 /// The kind of an end where there is a caller.
-const NONE: u32 = 17;
+pub const NONE: u32 = 17;
 
 /// For so many registers little of the stack is taken.
 const FEW: usize = 32;
@@ -279,7 +279,7 @@ fn write_registers(found: &[Option<u64>], registers: &mut [CfiValue])
 }
 
 /// The value of a register as C sees it.
-fn written_value(value: Option<u64>) -> CfiValue
+pub fn written_value(value: Option<u64>) -> CfiValue
     ensures { result ≡ written_value value }
 {
     match value {
@@ -322,7 +322,7 @@ fn end_after(step: Result<FunctionStep, CfiEnd>) -> CfiEnd
 }
 
 /// The caller as C sees it, if one is found.
-fn caller_or(old: CfiCaller, caller: Result<Caller, FrameError>) -> CfiCaller
+pub fn caller_or(old: CfiCaller, caller: Result<Caller, FrameError>) -> CfiCaller
     ensures { result ≡ caller_or old caller }
 {
     match caller {
@@ -337,7 +337,7 @@ fn caller_or(old: CfiCaller, caller: Result<Caller, FrameError>) -> CfiCaller
 }
 
 /// Why there is no caller, or that there is one.
-fn end_by(caller: Result<Caller, FrameError>) -> CfiEnd
+pub fn end_by(caller: Result<Caller, FrameError>) -> CfiEnd
     ensures { result ≡ end_by caller }
 {
     match caller {

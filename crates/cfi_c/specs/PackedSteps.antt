@@ -1,0 +1,104 @@
+-- The caller of one frame by a packed row, as C gets it. A packed row has no expressions, so it is
+-- the caller for whatever bytes a section has.
+--     IsCallerBy memory registers row caller      what a step returns by a row
+--     AreOfCaller memory registers row cfa new      the registers of the caller
+--     IsPackedStep memory registers row old new step      a step by a row, which writes registers
+--     IsSteppedBy memory registers row old new function old_caller caller end      what C gets
+--     IsSteppedByHeld .. file a rows ..      the same by one of these rows, that of an address of a
+--         file
+use Rattle.std.specs.Prelude.{◌≡◌, ℕ, false, List, length, map, Option, Some, None, Result, Ok}
+use Rattle.std.specs.Prelude.{Err, IfOk, OnErr}
+use Rattle.std.specs.FinMap as map
+use Rattle.std.specs.List.{Contains}
+use Rattle.cfi_read_core.specs.declared.common.Register.{Register}
+use Rattle.cfi_read_core.specs.ReadFunctions.{Position}
+use Rattle.cfi_state.specs.Machine.{Parts}
+use Rattle.cfi_state.specs.declared.table.rules.RegisterRule.{RegisterRule}
+use Rattle.cfi_expression.specs.declared.error.FrameError.{FrameError}
+use Rattle.cfi_expression.specs.declared.error.FrameError.TheVariants.{UnknownRegister}
+use Rattle.cfi_expression.specs.Frames.{Frame}
+use Rattle.cfi_expression.specs.Stacks.{map_value}
+use Rattle.cfi_step.specs.declared.packed_rows.PackedRow.{PackedRow}
+use Rattle.cfi_step.specs.declared.step.Caller.{Caller}
+use Rattle.cfi_step.specs.Callers.{AreRecovered, is_signed, return_address, return_by}
+use Rattle.cfi_step.specs.PackedRows.{HoldsRow, function_packed, parts_packed}
+use Rattle.cfi_step.specs.PackedRules.{numbered}
+use Rattle.cfi_step.specs.Steps.{caller_by}
+use Rattle.cfi_c.specs.declared.function.CfiFunction.{CfiFunction}
+use Rattle.cfi_c.specs.declared.memory.CfiMemory.{CfiMemory}
+use Rattle.cfi_c.specs.declared.stack.CfiEnd.{CfiEnd}
+use Rattle.cfi_c.specs.declared.stack.CfiValue.{CfiValue}
+use Rattle.cfi_c.specs.declared.step.CfiCaller.{CfiCaller}
+use Rattle.cfi_c.specs.PassedMemories.{abi_in}
+use Rattle.cfi_c.specs.PassedStacks.{known_value}
+use Rattle.cfi_c.specs.SteppedFrames.{AreValues, caller_or, end_by, frame_in, written_function}
+
+-- ---- the frame
+
+-- the values of registers that are passed
+abbrev pub values_of : List CfiValue → List (Option ℕ)
+values_of registers = map known_value registers
+
+-- the pc that a register holds, if it is known
+abbrev pub IsPcOf : Option ℕ → Register → Result (Option ℕ) FrameError → Type 0
+IsPcOf (Some a) ra pc = pc ≡ Ok (Some a)
+IsPcOf None ra pc = pc ≡ Err (UnknownRegister ra)
+
+module _ (memory : CfiMemory) (registers : List CfiValue) where
+  abbrev pub frame_of : Frame
+  frame_of = frame_in memory (values_of registers)
+
+  -- the pc by the rule of its register, where no rule says that it is signed
+  abbrev pub IsPcBy :
+      ℕ → ℕ → Option (RegisterRule ℕ) → Result (Option ℕ) FrameError → Type 0
+  IsPcBy cfa ra given pc =
+      (bytes : Position) (parts : Parts ℕ) → is_signed (map.get parts.rules 34) ≡ false → pc
+      ≡ return_by frame_of bytes (abi_in memory) (λ (n : ℕ). n) parts cfa (numbered ra) given
+
+  module _ (row : PackedRow) where
+    abbrev pub IsCallerBy : Result Caller FrameError → Type 0
+    IsCallerBy caller =
+        (bytes : Position) → caller
+        ≡ caller_by frame_of bytes (abi_in memory) (λ (n : ℕ). n)
+        (numbered row.numbers.return_address) row.is_signal_trampoline (parts_packed row)
+
+    -- the same from the CFA on
+    abbrev pub IsCallerFrom : ℕ → Result Caller FrameError → Type 0
+    IsCallerFrom cfa caller =
+        (bytes : Position) → caller
+        ≡ map_value
+        (λ pc. record {
+          cfa = cfa;
+          pc = pc;
+          is_interrupted = row.is_signal_trampoline;
+          args_size = (parts_packed row).args_size;
+        })
+        (return_address frame_of bytes (abi_in memory) (λ (n : ℕ). n) (parts_packed row) cfa
+        (numbered row.numbers.return_address))
+
+    abbrev pub AreOfCaller : ℕ → List CfiValue → Type 0
+    AreOfCaller cfa new =
+        ((bytes : Position) → AreRecovered frame_of bytes (abi_in memory) (λ (n : ℕ). n)
+        (parts_packed row) cfa (length new) (values_of new))
+        × AreValues (values_of new) new
+
+    -- where no caller is found, nothing is written
+    abbrev pub IsPackedStep :
+        List CfiValue → List CfiValue → Result Caller FrameError → Type 0
+    IsPackedStep old new step =
+        IsCallerBy step × IfOk step (λ c. AreOfCaller c.cfa new) × OnErr step (new ≡ old)
+
+    abbrev pub IsSteppedBy :
+        List CfiValue → List CfiValue → CfiFunction → CfiCaller → CfiCaller → CfiEnd → Type 0
+    IsSteppedBy old new function old_caller caller end =
+        (step : Result Caller FrameError) × IsPackedStep old new step
+        × (function ≡ written_function (Some (function_packed row)))
+        × (caller ≡ caller_or old_caller step)
+        × (end ≡ end_by step)
+
+abbrev pub IsSteppedByHeld :
+    CfiMemory → ℕ → ℕ → List PackedRow → List CfiValue → List CfiValue → List CfiValue →
+    CfiFunction → CfiCaller → CfiCaller → CfiEnd → Type 0
+IsSteppedByHeld memory file a rows registers old new function old_caller caller end =
+    (row : PackedRow) × HoldsRow file a row × Contains rows row
+    × IsSteppedBy memory registers row old new function old_caller caller end

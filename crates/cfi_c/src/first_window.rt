@@ -1,0 +1,61 @@
+//! The window of memory from which most is read.
+ghost use Rattle.std.specs.Prelude.{◌≡◌, Some, IfSome};
+ghost use Rattle.cfi_read_core.specs.ByteOrder.{is_big};
+ghost use Rattle.cfi_read_core.specs.SliceReaders.{slice_position};
+ghost use Rattle.cfi_c.specs.FirstWindows.{IsFirstOf};
+
+use crate::memory::{CfiMemory, window_of};
+use cfi_step::{Memory, Window};
+use gimli_cfi::{EndianSlice, ReaderAddress, RunTimeEndian};
+
+/// The first window of memory, if addresses have eight bytes, as most have. It has most of what is
+/// read.
+#[derive(Drop)]
+pub struct FirstWindow<'a> {
+    window: Option<Window<EndianSlice<'a, RunTimeEndian>>>,
+}
+
+impl<'a> FirstWindow<'a> {
+    ghost use Rattle.std.specs.Prelude.{◌≡◌, Some, IfSome};
+    ghost use Rattle.cfi_expression.specs.Arithmetic.{displaced};
+    ghost use Rattle.cfi_c.specs.declared.memory.CfiMemory.{CfiMemory};
+    ghost use Rattle.cfi_c.specs.FirstWindows.{IsFirst};
+    ghost use Rattle.cfi_c.specs.PassedMemories.{number_in_memory};
+
+    /// The first window of the memory.
+    #[inline(always)]
+    pub fn of(memory: &CfiMemory<'a>) -> FirstWindow<'a>
+        ensures { IsFirst memory.now result }
+    {
+        FirstWindow {
+            window: first_of(memory),
+        }
+    }
+
+    /// The number that is saved at the CFA plus an offset, if the window has it.
+    #[inline(always)]
+    pub fn number_at(&self, cfa: u64, offset: i16) -> Option<u64>
+        ensures { (memory : CfiMemory) → IsFirst memory self.now → IfSome result (λ n.
+            number_in_memory memory (displaced memory.address_size cfa offset) memory.address_size
+            ≡ Some n) }
+    {
+        match &self.window {
+            Some(window) => {
+                let distance = i64::from(offset).cast_unsigned();
+                window.read(cfa.wrapping_add_sized(distance, 8), 8)
+            }
+            None => None,
+        }
+    }
+}
+
+/// The first window, if it can be read at once.
+#[inline(always)]
+fn first_of<'a>(memory: &CfiMemory<'a>) -> Option<Window<EndianSlice<'a, RunTimeEndian>>>
+    ensures { IfSome result (λ w. IsFirstOf memory.now (slice_position is_big w.bytes) w.base) }
+{
+    if memory.address_size != 8 || memory.windows.is_empty() {
+        return None;
+    }
+    Some(window_of(&memory.windows[0], memory.big_endian))
+}

@@ -1,0 +1,403 @@
+//! The caller of one frame, by a packed row, from C's values to C's values.
+ghost use Rattle.std.specs.Prelude.{◌≡◌, ◌≤◌, ℕ, List, Ok, length, slice_set};
+ghost use Rattle.std.specs.Option.{option_map};
+ghost use Rattle.cfi_read_core.specs.Addresses.{IsAddressSize};
+ghost use Rattle.cfi_read_core.specs.ReadFunctions.{Position};
+ghost use Rattle.cfi_expression.specs.Arithmetic.{displaced};
+ghost use Rattle.cfi_expression.specs.Frames.{known};
+ghost use Rattle.cfi_expression.specs.declared.error.FrameError.TheVariants.{UnknownRegister};
+ghost use Rattle.cfi_step.specs.Callers.{by_rule, cfa_of, given, return_address, saved_at};
+ghost use Rattle.cfi_step.specs.Callers.{without_rule};
+ghost use Rattle.cfi_step.specs.PackedRows.{parts_packed};
+ghost use Rattle.cfi_step.specs.PackedRules.{numbered, pair_of};
+ghost use Rattle.cfi_c.specs.FirstWindows.{IsFirst};
+ghost use Rattle.cfi_c.specs.declared.stack.CfiValue.{CfiValue};
+ghost use Rattle.cfi_c.specs.PackedSteps.{AreOfCaller, IsCallerBy, IsCallerFrom, IsPcBy, IsPcOf};
+ghost use Rattle.cfi_c.specs.PackedSteps.{IsSteppedBy, frame_of, values_of};
+ghost use Rattle.cfi_c.specs.PassedMemories.{abi_in, number_in_memory};
+ghost use Rattle.cfi_c.specs.SteppedFrames.{AreValues, caller_or, end_at};
+ghost use Rattle.cfi_c.specs.SteppedFrames.{written_value};
+
+use crate::first_window::FirstWindow;
+use crate::function::{CfiFunction, written_function};
+use crate::memory::CfiMemory;
+use crate::stack::{CfiEnd, CfiValue, failed_end, known_value};
+use crate::step::{CfiCaller, NONE};
+use cfi_step::packed_rules::rule_of;
+use cfi_step::{Caller, FrameError, Memory, PackedRow, PackedRule};
+use gimli_cfi::{ReaderAddress, Register};
+
+/// Writes the caller of a frame by a packed row, its registers, and what the row says of the
+/// function.
+#[inline(always)]
+pub fn step_by_packed(
+    row: &PackedRow,
+    memory: &CfiMemory<'_>,
+    registers: &[CfiValue],
+    caller_registers: &mut [CfiValue],
+    function: &mut CfiFunction,
+    caller: &mut CfiCaller,
+    end: &mut CfiEnd,
+)
+    requires size { IsAddressSize memory.now.address_size }
+    requires room { length registers.now ≤ 256 }
+    requires caller_room { length caller_registers.old ≤ 256 }
+    ensures { IsSteppedBy memory.now registers.now row.now caller_registers.old
+        caller_registers.new function.new caller.old caller.new end.new }
+{
+    *function = written_function(Some(row.function()));
+    let first = FirstWindow::of(memory);
+    match caller_by(row, memory, &first, registers) {
+        Ok(found) => {
+            write_registers(row, memory, &first, registers, found.cfa, caller_registers);
+            write_caller(caller, found);
+            write_end(end, found.pc);
+        }
+        Err(error) => *end = failed_end(error),
+    }
+}
+
+/// Writes where the caller goes on.
+#[inline(always)]
+fn write_caller(caller: &mut CfiCaller, found: Caller)
+    ensures { caller.new ≡ caller_or caller.old (Ok found) }
+{
+    // a field at a time, as in `write_into`
+    caller.cfa = found.cfa;
+    caller.pc = found.pc.unwrap_or(0);
+    caller.args_size = found.args_size;
+    caller.is_interrupted = found.is_interrupted;
+}
+
+/// Writes that there is a caller, or that the frame is the outermost one.
+#[inline(always)]
+fn write_end(end: &mut CfiEnd, pc: Option<u64>)
+    ensures { end.new ≡ end_at pc }
+{
+    end.refused = 0;
+    end.kind = if pc.is_some() { NONE } else { 0 };
+    end.status = 0;
+}
+
+/// The caller.
+#[inline(always)]
+fn caller_by(
+    row: &PackedRow,
+    memory: &CfiMemory<'_>,
+    first: &FirstWindow<'_>,
+    registers: &[CfiValue],
+) -> Result<Caller, FrameError>
+    requires size { IsAddressSize memory.now.address_size }
+    requires first { IsFirst memory.now first.now }
+    requires room { length registers.now ≤ 256 }
+    ensures { IsCallerBy memory.now registers.now row.now result }
+{
+    match frame_address(row, memory, registers) {
+        Ok(cfa) => caller_from(row, memory, first, registers, cfa),
+        Err(error) => Err(error),
+    }
+}
+
+/// The caller of a frame with this CFA.
+#[inline(always)]
+fn caller_from(
+    row: &PackedRow,
+    memory: &CfiMemory<'_>,
+    first: &FirstWindow<'_>,
+    registers: &[CfiValue],
+    cfa: u64,
+) -> Result<Caller, FrameError>
+    requires size { IsAddressSize memory.now.address_size }
+    requires first { IsFirst memory.now first.now }
+    ensures { IsCallerFrom memory.now registers.now row.now cfa result }
+{
+    match caller_pc(row, memory, first, registers, cfa) {
+        Ok(pc) => Ok(Caller {
+            cfa,
+            pc,
+            is_interrupted: row.is_signal_trampoline(),
+            args_size: row.args_size(),
+        }),
+        Err(error) => Err(error),
+    }
+}
+
+/// The canonical frame address.
+#[inline(always)]
+fn frame_address(
+    row: &PackedRow,
+    memory: &CfiMemory<'_>,
+    registers: &[CfiValue],
+) -> Result<u64, FrameError>
+    requires size { IsAddressSize memory.now.address_size }
+    ensures { (bytes : Position) → result ≡ cfa_of (frame_of memory.now registers.now) bytes
+        (abi_in memory.now) (λ (n : ℕ). n) (parts_packed row.now).cfa }
+{
+    match known(registers, row.cfa_register()) {
+        Some(value) => Ok(displaced(value, row.cfa_offset(), memory.address_size)),
+        None => Err(unknown(row.cfa_register())),
+    }
+}
+
+/// The pc of the caller; `None` if the frame is the outermost one.
+#[inline(always)]
+fn caller_pc(
+    row: &PackedRow,
+    memory: &CfiMemory<'_>,
+    first: &FirstWindow<'_>,
+    registers: &[CfiValue],
+    cfa: u64,
+) -> Result<Option<u64>, FrameError>
+    requires size { IsAddressSize memory.now.address_size }
+    requires first { IsFirst memory.now first.now }
+    ensures { (bytes : Position) → result ≡ return_address (frame_of memory.now registers.now)
+        bytes (abi_in memory.now) (λ (n : ℕ). n) (parts_packed row.now) cfa
+        (numbered row.now.numbers.return_address) }
+{
+    let register = row.return_address();
+    let rule = rule_of(row.rules(), register);
+    // most rules
+    if let Some(PackedRule::Offset(_register, offset)) = rule {
+        if let Some(pc) = first.number_at(cfa, offset) {
+            return Ok(Some(pc));
+        }
+    }
+    pc_by_rule(rule, memory, registers, cfa, register)
+}
+
+/// The pc of the caller, by the rule of the register that holds it.
+#[inline(never)]
+fn pc_by_rule(
+    rule: Option<PackedRule>,
+    memory: &CfiMemory<'_>,
+    registers: &[CfiValue],
+    cfa: u64,
+    register: u8,
+) -> Result<Option<u64>, FrameError>
+    requires size { IsAddressSize memory.now.address_size }
+    ensures { IsPcBy memory.now registers.now cfa register
+        (option_map (λ rule. (pair_of rule).1) rule) result }
+{
+    match rule {
+        Some(PackedRule::Undefined(_register)) => Ok(None),
+        Some(PackedRule::SameValue(_register)) => pc_of(known(registers, register), register),
+        Some(PackedRule::Offset(_register, offset)) => saved_at(
+            memory,
+            displaced(cfa, i64::from(offset), memory.address_size),
+        ),
+        Some(PackedRule::ValOffset(_register, offset)) => Ok(Some(displaced(
+            cfa,
+            i64::from(offset),
+            memory.address_size,
+        ))),
+        Some(PackedRule::Register(_register, other)) => pc_of(known(registers, other), register),
+        None => pc_of(without_rule(memory, registers, cfa, register), register),
+    }
+}
+
+/// The pc of the caller, if the register that holds it is known.
+fn pc_of(value: Option<u64>, register: u8) -> Result<Option<u64>, FrameError>
+    ensures { IsPcOf value (numbered register) result }
+{
+    match value {
+        Some(pc) => Ok(Some(pc)),
+        None => Err(unknown(register)),
+    }
+}
+
+/// The address that is saved at an address.
+fn saved_at(memory: &CfiMemory<'_>, address: u64) -> Result<Option<u64>, FrameError>
+    requires size { IsAddressSize memory.now.address_size }
+    ensures { (registers : List CfiValue) → result
+        ≡ saved_at (frame_of memory.now registers) address }
+{
+    match memory.read(address, memory.address_size) {
+        Some(value) => Ok(Some(value)),
+        None => Err(FrameError::UnreadableMemory(address)),
+    }
+}
+
+/// The value of a register that has no rule: the CFA for the stack pointer, else its own.
+fn without_rule(
+    memory: &CfiMemory<'_>,
+    registers: &[CfiValue],
+    cfa: u64,
+    register: u8,
+) -> Option<u64>
+    ensures { (bytes : Position) → Ok result ≡ without_rule (frame_of memory.now registers.now)
+        bytes (abi_in memory.now) (λ (n : ℕ). n) cfa register }
+{
+    if u16::from(register) == memory.stack_pointer {
+        Some(cfa)
+    } else {
+        known(registers, register)
+    }
+}
+
+/// Writes the registers of the caller of a frame with this CFA.
+#[inline(always)]
+fn write_registers(
+    row: &PackedRow,
+    memory: &CfiMemory<'_>,
+    first: &FirstWindow<'_>,
+    registers: &[CfiValue],
+    cfa: u64,
+    caller: &mut [CfiValue],
+)
+    requires size { IsAddressSize memory.now.address_size }
+    requires first { IsFirst memory.now first.now }
+    requires caller_room { length caller.old ≤ 256 }
+    ensures { AreOfCaller memory.now registers.now row.now cfa caller.new }
+{
+    copy_values(registers, caller);
+    write_at(caller, usize::from(memory.stack_pointer), Some(cfa));
+    // from the last rule to the first, which is the one that holds if a register has two
+    let rules = row.rules();
+    for index in (0..rules.len()).rev() {
+        write_by_rule(rules[index], memory, first, registers, cfa, caller);
+    }
+}
+
+/// Writes the value that a register has in the caller, by its rule, if there is room.
+#[inline(always)]
+fn write_by_rule(
+    rule: PackedRule,
+    memory: &CfiMemory<'_>,
+    first: &FirstWindow<'_>,
+    registers: &[CfiValue],
+    cfa: u64,
+    caller: &mut [CfiValue],
+)
+    requires size { IsAddressSize memory.now.address_size }
+    requires first { IsFirst memory.now first.now }
+    ensures { (bytes : Position) → caller.new ≡ slice_set caller.old (pair_of rule).0.0
+        (written_value (given (by_rule (frame_of memory.now registers.now) bytes
+        (abi_in memory.now) (λ (n : ℕ). n) cfa (pair_of rule).0.0 (pair_of rule).1))) }
+{
+    let value = value_of(rule, memory, first, registers, cfa);
+    write_value(caller, rule.register(), value);
+}
+
+/// The value that a register has in the caller, by its rule; `None` also if it can't be read.
+#[inline(always)]
+fn value_of(
+    rule: PackedRule,
+    memory: &CfiMemory<'_>,
+    first: &FirstWindow<'_>,
+    registers: &[CfiValue],
+    cfa: u64,
+) -> Option<u64>
+    requires size { IsAddressSize memory.now.address_size }
+    requires first { IsFirst memory.now first.now }
+    ensures { (bytes : Position) → result ≡ given (by_rule (frame_of memory.now registers.now)
+        bytes (abi_in memory.now) (λ (n : ℕ). n) cfa (pair_of rule).0.0 (pair_of rule).1) }
+{
+    match rule {
+        PackedRule::Offset(_register, offset) => saved_value(memory, first, cfa, offset),
+        PackedRule::Undefined(_register) => None,
+        PackedRule::SameValue(register) => known(registers, register),
+        PackedRule::ValOffset(_register, offset) => {
+            Some(displaced(cfa, i64::from(offset), memory.address_size))
+        }
+        PackedRule::Register(_register, other) => known(registers, other),
+    }
+}
+
+/// The number that is saved at the CFA plus an offset, if it can be read.
+#[inline(always)]
+fn saved_value(
+    memory: &CfiMemory<'_>,
+    first: &FirstWindow<'_>,
+    cfa: u64,
+    offset: i16,
+) -> Option<u64>
+    requires size { IsAddressSize memory.now.address_size }
+    requires first { IsFirst memory.now first.now }
+    ensures { result ≡ number_in_memory memory.now
+        (displaced memory.now.address_size cfa offset) memory.now.address_size }
+{
+    // most numbers
+    if let Some(number) = first.number_at(cfa, offset) {
+        return Some(number);
+    }
+    let size = memory.address_size;
+    memory.read(displaced(cfa, i64::from(offset), size), size)
+}
+
+/// Writes what is known of each register for which there is room.
+#[inline(always)]
+fn copy_values(registers: &[CfiValue], caller: &mut [CfiValue])
+    ensures { AreValues (values_of registers.now) caller.new }
+{
+    let count = registers.len().min(caller.len());
+    for k in 0..count {
+        write_at(caller, k, known_value(registers[k]));
+    }
+    for rest in count..caller.len() {
+        write_at(caller, rest, None);
+    }
+}
+
+/// Writes the value of a register by its number, if there is room.
+#[inline(always)]
+fn write_value(caller: &mut [CfiValue], register: u8, value: Option<u64>)
+    ensures { caller.new ≡ slice_set caller.old register (written_value value) }
+{
+    write_at(caller, usize::from(register), value);
+}
+
+/// Writes a value if there is room.
+#[inline(always)]
+fn write_at(caller: &mut [CfiValue], index: usize, value: Option<u64>)
+    ensures { caller.new ≡ slice_set caller.old index (written_value value) }
+{
+    if index < caller.len() {
+        write_into(&mut caller[index], value);
+    }
+}
+
+/// Writes the value of a register: a field at a time, so that the bytes between them aren't copied.
+#[inline(always)]
+fn write_into(into: &mut CfiValue, value: Option<u64>)
+    ensures { into.new ≡ written_value value }
+{
+    match value {
+        Some(value) => {
+            into.value = value;
+            into.known = true;
+        }
+        None => {
+            into.value = 0;
+            into.known = false;
+        }
+    }
+}
+
+/// The value of a register, where it is known.
+#[inline(always)]
+fn known(registers: &[CfiValue], register: u8) -> Option<u64>
+    ensures { result ≡ known (values_of registers.now) register }
+{
+    let index = usize::from(register);
+    if index < registers.len() {
+        known_value(registers[index])
+    } else {
+        None
+    }
+}
+
+/// The error for a register whose value isn't known.
+fn unknown(register: u8) -> FrameError
+    ensures { result ≡ UnknownRegister (numbered register) }
+{
+    FrameError::UnknownRegister(Register(u16::from(register)))
+}
+
+/// An address plus a number with a sign, modulo the size.
+#[inline(always)]
+fn displaced(address: u64, offset: i64, size: u8) -> u64
+    requires { IsAddressSize size }
+    ensures { result ≡ displaced size address offset }
+{
+    address.wrapping_add_sized(offset.cast_unsigned(), size)
+}
