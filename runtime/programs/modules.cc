@@ -1,4 +1,4 @@
-// Libraries that come and go: usage: modules LIBRARY LIBRARY
+// Libraries that come and go: usage: modules LIBRARY LIBRARY.., in pairs
 #include <atomic>
 #include <dlfcn.h>
 #include <link.h>
@@ -8,12 +8,12 @@
 
 static void thrower(int n) { throw n; }
 
-// The second library lies where the first did, with the same header but other rows.
+// The second library of a pair lies where the first did, with the same header but other rows.
 static void at_one_place(char **names) {
     unsigned long last = 0;
     int same = 0, caught = 0;
     for (int i = 0; i < 100; i++) {
-        void *library = dlopen(names[1 + i % 2], RTLD_NOW);
+        void *library = dlopen(names[i % 2], RTLD_NOW);
         struct link_map *map = nullptr;
         if (!library || dlinfo(library, RTLD_DI_LINKMAP, &map)) {
             printf("%s\n", dlerror());
@@ -50,7 +50,7 @@ static void at_once(char **names) {
     };
     std::thread one(throws), two(throws);
     for (int i = 0; i < 200; i++) {
-        void *library = dlopen(names[1 + i % 2], RTLD_NOW);
+        void *library = dlopen(names[i % 2], RTLD_NOW);
         auto catches = library ? (int (*)(int))dlsym(library, "catches") : nullptr;
         if (!catches || catches(5) != (i % 2 ? 334 : 206))
             wrong++;
@@ -66,6 +66,9 @@ static void at_once(char **names) {
 int main(int count, char **names) {
     if (count < 3)
         return 2;
-    at_one_place(names);
-    at_once(names);
+    for (int i = 1; i + 1 < count; i += 2) {
+        at_one_place(names + i);
+        is_over = false;
+        at_once(names + i);
+    }
 }

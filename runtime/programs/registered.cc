@@ -38,6 +38,11 @@ struct Made {
         memcpy(frame + 32, &code, 8);
     }
     ~Made() { munmap(code, 4096); }
+    // takes so many bytes of the stack: other rows at the same place
+    void take(unsigned char bytes) {
+        code[3] = code[19] = bytes;
+        frame[24 + 26] = (unsigned char)(bytes + 8);
+    }
     int call() {
         try {
             ((void (*)())code)();
@@ -60,6 +65,15 @@ int main() {
         __deregister_frame(made.frame);
     }
     printf("found after that %d\n", _Unwind_Find_FDE(made.code + 5, new dwarf_eh_bases) != nullptr);
+    for (int i = 0; i < 20; i++) {
+        made.take((unsigned char)(8 + i % 3 * 16));
+        __register_frame(made.frame);
+        if (made.call() != 77 || made.call() != 77)
+            printf("wrong\n");
+        __deregister_frame(made.frame);
+    }
+    printf("with other rows at one place\n");
+    made.take(8);
     void *table[] = {made.frame, other.frame, nullptr};
     __register_frame_table(table);
     printf("by a table %d %d\n", made.call(), other.call());

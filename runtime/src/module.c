@@ -1,5 +1,5 @@
-/* The loaded module of an address, and where its .eh_frame and .eh_frame_hdr lie. Nothing is kept from one call to the next, so
- * a library that is loaded where another was never meets what was known of that one. */
+/* The loaded module of an address, where its .eh_frame and .eh_frame_hdr lie, and by what its file is told from others: its
+ * build id, or else how many modules were unloaded before. Nothing is kept here from one call to the next (see known.c). */
 #include <dlfcn.h>
 #include <elf.h>
 #include <link.h>
@@ -7,7 +7,7 @@
 
 #include "unwinder.h"
 
-enum { PAGE = 4096, BEGINNING = 8 /* of the header: its version, three encodings, and a distance */ };
+enum { BEGINNING = 8 /* of the header: its version, three encodings, and a distance */ };
 
 /* The program headers of a module, and what to add to their addresses. */
 struct headers {
@@ -68,11 +68,64 @@ static bool find_sections(const struct headers *headers, uint64_t header, CfiMod
     return true;
 }
 
+/* ---- by what a file is told from others */
+
+/* The build id that a segment of notes has, in the page that the module begins with, where linkers put it. Ids of less than
+ * LEAST bytes are no checksums of files. */
+static void find_id_in(uint64_t notes, uint64_t length, struct loaded *loaded) {
+    enum { LEAST = 8 };
+    while (length >= sizeof(ElfW(Nhdr))) {
+        const ElfW(Nhdr) *note = (const ElfW(Nhdr) *)notes;
+        uint64_t name = notes + sizeof *note, id = name + (((uint64_t)note->n_namesz + 3) & -(uint64_t)4);
+        uint64_t next = id + (((uint64_t)note->n_descsz + 3) & -(uint64_t)4);
+        if (next - notes > length)
+            return;
+        if (note->n_type == NT_GNU_BUILD_ID && note->n_namesz == 4 && memcmp((const void *)name, ELF_NOTE_GNU, 4) == 0 &&
+            note->n_descsz >= LEAST && note->n_descsz <= ID && id + ID - loaded->module.start <= PAGE) {
+            loaded->id_length = (uint8_t)note->n_descsz;
+            loaded->id_at = (uint16_t)(id - loaded->module.start);
+            memcpy(loaded->id, (const void *)id, note->n_descsz);
+            return;
+        }
+        length -= next - notes;
+        notes = next;
+    }
+}
+
+static void find_id(const struct headers *headers, struct loaded *loaded) {
+    for (size_t i = 0; i < headers->count && !loaded->id_length; i++) {
+        uint64_t start = start_of(headers, i), length = headers->all[i].p_memsz;
+        const ElfW(Phdr) *segment = headers->all[i].p_type == PT_NOTE ? header_with(headers, PT_LOAD, start) : NULL;
+        if (segment && length <= headers->bias + segment->p_vaddr + segment->p_filesz - start)
+            find_id_in(start, length, loaded);
+    }
+}
+
+static int read_unloads(struct dl_phdr_info *info, size_t size, void *unloads) {
+    *(uint64_t *)unloads = size >= offsetof(struct dl_phdr_info, dlpi_subs) + sizeof info->dlpi_subs ? info->dlpi_subs : 0;
+    return 1;
+}
+
+/* Takes the loader's lock. */
+static uint64_t count_unloads(void) {
+    uint64_t unloads = 0;
+    dl_iterate_phdr(read_unloads, &unloads);
+    return unloads;
+}
+
+static bool find_parts(const struct headers *headers, uint64_t header, struct loaded *loaded) {
+    *loaded = (struct loaded){0};
+    if (!find_sections(headers, header, &loaded->module))
+        return false;
+    find_id(headers, loaded);
+    return true;
+}
+
 /* ---- by dl_iterate_phdr, which takes the loader's lock */
 
 struct wanted {
     uint64_t address;
-    CfiModule *module;
+    struct loaded *loaded;
     bool is_found;
 };
 
@@ -90,12 +143,12 @@ static int look_in(struct dl_phdr_info *info, size_t size, void *data) {
     }
     if (!is_inside)
         return 0;
-    wanted->is_found = header && find_sections(&headers, header, wanted->module);
+    wanted->is_found = header && find_parts(&headers, header, wanted->loaded);
     return 1;
 }
 
-static bool find_by_iteration(uint64_t address, CfiModule *module) {
-    struct wanted wanted = {address, module, false};
+static bool find_by_iteration(uint64_t address, struct loaded *loaded) {
+    struct wanted wanted = {address, loaded, false};
     dl_iterate_phdr(look_in, &wanted);
     return wanted.is_found;
 }
@@ -125,25 +178,62 @@ static bool headers_in_first_page(const struct dl_find_object *object, struct he
     return false;
 }
 
-bool find_module(uint64_t address, CfiModule *module) {
+static bool find_mapped(uint64_t address, struct loaded *loaded) {
     struct dl_find_object object;
     struct headers headers;
     if (!_dl_find_object)
-        return find_by_iteration(address, module);
+        return find_by_iteration(address, loaded);
     if (_dl_find_object((void *)address, &object) != 0 || !object.dlfo_eh_frame)
         return false;
-    if (headers_in_first_page(&object, &headers) && find_sections(&headers, (uint64_t)object.dlfo_eh_frame, module))
+    if (headers_in_first_page(&object, &headers) && find_parts(&headers, (uint64_t)object.dlfo_eh_frame, loaded)) {
+        loaded->map_start = (uint64_t)object.dlfo_map_start;
+        loaded->map_end = (uint64_t)object.dlfo_map_end;
+        loaded->record = object.dlfo_link_map;
         return true;
-    return find_by_iteration(address, module);
+    }
+    return find_by_iteration(address, loaded);
+}
+
+/* The first page is read: it has the headers. */
+bool is_still(const struct loaded *loaded, uint64_t address) {
+    struct dl_find_object object;
+    if (!loaded->id_length || loaded->map_start != loaded->module.start)
+        return false;
+    if (!_dl_find_object || _dl_find_object((void *)address, &object) != 0)
+        return false;
+    return (uint64_t)object.dlfo_map_start == loaded->map_start && (uint64_t)object.dlfo_map_end == loaded->map_end &&
+           object.dlfo_link_map == loaded->record && object.dlfo_eh_frame == (const void *)loaded->module.header &&
+           memcmp((const void *)(loaded->map_start + loaded->id_at), loaded->id, loaded->id_length) == 0;
 }
 
 #else
 
-bool find_module(uint64_t address, CfiModule *module) {
-    return find_by_iteration(address, module);
+bool is_still(const struct loaded *loaded, uint64_t address) {
+    (void)loaded, (void)address;
+    return false;
+}
+
+static bool find_mapped(uint64_t address, struct loaded *loaded) {
+    return find_by_iteration(address, loaded);
 }
 
 #endif
+
+bool find_loaded(uint64_t address, struct loaded *loaded) {
+    if (!find_mapped(address, loaded))
+        return false;
+    if (!loaded->id_length)
+        loaded->unloads = count_unloads();
+    return true;
+}
+
+bool find_module(uint64_t address, CfiModule *module) {
+    struct loaded loaded;
+    bool is_found = find_mapped(address, &loaded);
+    if (is_found)
+        *module = loaded.module;
+    return is_found;
+}
 
 static int look_for_code(struct dl_phdr_info *info, size_t size, void *data) {
     struct headers headers = {info->dlpi_addr, info->dlpi_phdr, info->dlpi_phnum};

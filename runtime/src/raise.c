@@ -15,102 +15,103 @@ HIDDEN _Unwind_Reason_Code backtrace(_Unwind_Trace_Fn trace, void *argument, con
 
 /* What tells a frame from all others of the stack; GCC's unwinder computes the same. The stack pointer alone is that of a
  * signal's trampoline too. */
-static uint64_t identity(const struct _Unwind_Context *frame) {
-    return frame->cfa - frame->is_interrupted;
+static uint64_t identity(const struct walk *walk) {
+    return walk->frame->cfa - walk->frame->is_interrupted;
 }
 
 /* Enters the landing pad that a personality chose, so many calls above the entry. */
-_Noreturn static void install(const struct _Unwind_Context *frame, const struct entry *entry, uint64_t calls) {
+_Noreturn static void install(const struct walk *walk, const struct entry *entry, uint64_t calls) {
     static const uint8_t loaded[LOADED] = LOADED_REGISTERS;
+    const struct _Unwind_Context *frame = walk->frame;
     struct landing landing = {.pc = frame->pc, .shadow_stack = entry->shadow_stack + 8 * (calls + 1)};
-    if (!may_land(frame))
+    if (!may_land(walk))
         abort();
     for (int i = 0; i < LOADED; i++)
-        landing.registers[i] = frame->value[loaded[i]] + (loaded[i] == STACK_POINTER ? frame->args_size : 0);
+        landing.registers[i] = frame->registers[loaded[i]].value + (loaded[i] == STACK_POINTER ? frame->args_size : 0);
     land(&landing);
 }
 
 /* Phase 1: goes up to the frame that handles the exception. */
-static _Unwind_Reason_Code search(struct _Unwind_Exception *exception, struct _Unwind_Context *frame) {
+static _Unwind_Reason_Code search(struct _Unwind_Exception *exception, struct walk *walk) {
     for (;;) {
-        enum found found = find_caller(frame);
+        enum found found = find_caller(walk);
         if (found != FOUND)
             return found == AT_END ? _URC_END_OF_STACK : _URC_FATAL_PHASE1_ERROR;
-        _Unwind_Reason_Code code = call_personality(frame, _UA_SEARCH_PHASE, exception);
+        _Unwind_Reason_Code code = call_personality(walk, _UA_SEARCH_PHASE, exception);
         if (code == _URC_HANDLER_FOUND)
             return code;
         if (code != _URC_CONTINUE_UNWIND)
             return _URC_FATAL_PHASE1_ERROR;
-        go_up(frame);
+        go_up(walk);
     }
 }
 
 /* Phase 2: the cleanups up to the handler, whose frame private_2 tells. Returns where one is to be entered, or on an error. */
-static _Unwind_Reason_Code clean_up(struct _Unwind_Exception *exception, struct _Unwind_Context *frame, uint64_t *calls) {
+static _Unwind_Reason_Code clean_up(struct _Unwind_Exception *exception, struct walk *walk, uint64_t *calls) {
     for (*calls = 0;; ++*calls) {
-        if (find_caller(frame) != FOUND)
+        if (find_caller(walk) != FOUND)
             return _URC_FATAL_PHASE2_ERROR;
-        _Unwind_Action handler = identity(frame) == exception->private_2 ? _UA_HANDLER_FRAME : 0;
-        _Unwind_Reason_Code code = call_personality(frame, _UA_CLEANUP_PHASE | handler, exception);
+        _Unwind_Action handler = identity(walk) == exception->private_2 ? _UA_HANDLER_FRAME : 0;
+        _Unwind_Reason_Code code = call_personality(walk, _UA_CLEANUP_PHASE | handler, exception);
         if (code == _URC_INSTALL_CONTEXT)
             return code;
         /* a handler's frame that has no handler now: the personality contradicts itself */
         if (code != _URC_CONTINUE_UNWIND || handler)
             return _URC_FATAL_PHASE2_ERROR;
-        go_up(frame);
+        go_up(walk);
     }
 }
 
 /* Phase 2 of forced unwinding: private_1 is the function that is asked at each frame whether to stop, private_2 its
  * argument. */
-static _Unwind_Reason_Code clean_up_forced(struct _Unwind_Exception *exception, struct _Unwind_Context *frame,
+static _Unwind_Reason_Code clean_up_forced(struct _Unwind_Exception *exception, struct walk *walk,
                                            uint64_t *calls) {
     _Unwind_Stop_Fn stop = (_Unwind_Stop_Fn)exception->private_1;
     void *argument = (void *)exception->private_2;
     for (*calls = 0;; ++*calls) {
-        enum found found = find_caller(frame);
+        enum found found = find_caller(walk);
         if (found == CORRUPT)
             return _URC_FATAL_PHASE2_ERROR;
         _Unwind_Action actions = _UA_FORCE_UNWIND | _UA_CLEANUP_PHASE | (found == AT_END ? _UA_END_OF_STACK : 0);
-        if (stop(1, actions, exception->exception_class, exception, frame, argument) != _URC_NO_REASON)
+        if (stop(1, actions, exception->exception_class, exception, walk->frame, argument) != _URC_NO_REASON)
             return _URC_FATAL_PHASE2_ERROR;
         if (found == AT_END)
             return _URC_END_OF_STACK;
-        _Unwind_Reason_Code code = call_personality(frame, _UA_FORCE_UNWIND | _UA_CLEANUP_PHASE, exception);
+        _Unwind_Reason_Code code = call_personality(walk, _UA_FORCE_UNWIND | _UA_CLEANUP_PHASE, exception);
         if (code == _URC_INSTALL_CONTEXT)
             return code;
         if (code != _URC_CONTINUE_UNWIND)
             return _URC_FATAL_PHASE2_ERROR;
-        go_up(frame);
+        go_up(walk);
     }
 }
 
 _Unwind_Reason_Code raise_exception(struct _Unwind_Exception *exception, const struct entry *entry) {
-    struct _Unwind_Context frame;
+    struct walk walk;
     uint64_t calls;
-    first_frame(&frame, entry);
-    _Unwind_Reason_Code code = search(exception, &frame);
+    begin_walk(&walk, entry);
+    _Unwind_Reason_Code code = search(exception, &walk);
     if (code != _URC_HANDLER_FOUND)
         return code;
     exception->private_1 = 0;
-    exception->private_2 = identity(&frame);
-    first_frame(&frame, entry);
-    code = clean_up(exception, &frame, &calls);
+    exception->private_2 = identity(&walk);
+    first_frame(&walk, entry);
+    code = clean_up(exception, &walk, &calls);
     if (code != _URC_INSTALL_CONTEXT)
         return code;
-    install(&frame, entry, calls);
+    install(&walk, entry, calls);
 }
 
 /* After a cleanup: there is no way back. */
 void resume(struct _Unwind_Exception *exception, const struct entry *entry) {
-    struct _Unwind_Context frame;
+    struct walk walk;
     uint64_t calls;
-    first_frame(&frame, entry);
+    begin_walk(&walk, entry);
     _Unwind_Reason_Code code =
-        exception->private_1 ? clean_up_forced(exception, &frame, &calls) : clean_up(exception, &frame, &calls);
+        exception->private_1 ? clean_up_forced(exception, &walk, &calls) : clean_up(exception, &walk, &calls);
     if (code != _URC_INSTALL_CONTEXT)
         abort();
-    install(&frame, entry, calls);
+    install(&walk, entry, calls);
 }
 
 _Unwind_Reason_Code resume_or_rethrow(struct _Unwind_Exception *exception, const struct entry *entry) {
@@ -122,28 +123,28 @@ _Unwind_Reason_Code resume_or_rethrow(struct _Unwind_Exception *exception, const
 
 _Unwind_Reason_Code forced_unwind(struct _Unwind_Exception *exception, _Unwind_Stop_Fn stop, void *argument,
                                   const struct entry *entry) {
-    struct _Unwind_Context frame;
+    struct walk walk;
     uint64_t calls;
-    first_frame(&frame, entry);
+    begin_walk(&walk, entry);
     exception->private_1 = (uint64_t)stop;
     exception->private_2 = (uint64_t)argument;
-    _Unwind_Reason_Code code = clean_up_forced(exception, &frame, &calls);
+    _Unwind_Reason_Code code = clean_up_forced(exception, &walk, &calls);
     if (code != _URC_INSTALL_CONTEXT)
         return code;
-    install(&frame, entry, calls);
+    install(&walk, entry, calls);
 }
 
 /* The last call of trace is for the frame that has no caller. */
 _Unwind_Reason_Code backtrace(_Unwind_Trace_Fn trace, void *argument, const struct entry *entry) {
-    struct _Unwind_Context frame;
-    first_frame(&frame, entry);
+    struct walk walk;
+    begin_walk(&walk, entry);
     for (;;) {
-        enum found found = find_caller(&frame);
-        if (found == CORRUPT || trace(&frame, argument) != _URC_NO_REASON)
+        enum found found = find_caller(&walk);
+        if (found == CORRUPT || trace(walk.frame, argument) != _URC_NO_REASON)
             return _URC_FATAL_PHASE1_ERROR;
         if (found == AT_END)
             return _URC_END_OF_STACK;
-        go_up(&frame);
+        go_up(&walk);
     }
 }
 

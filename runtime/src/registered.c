@@ -9,15 +9,20 @@
 
 #include "unwinder.h"
 
+/* Files of loaded modules have smaller numbers. */
+static const uint64_t REGISTERED = (uint64_t)1 << 63;
+
 struct section {
     _Atomic(struct section *) next;
     const void *begin; /* what was registered: the section, or a table of sections */
     void *object;
+    uint64_t file; /* its number: another for each registration */
     CfiModule module;
 };
 
 static _Atomic(struct section *) sections;
 static atomic_uint readers;
+static _Atomic(uint64_t) registrations;
 static pthread_mutex_t changing = PTHREAD_MUTEX_INITIALIZER;
 
 /* How long a section is: entries begin with their lengths, and one of length 0 ends it. */
@@ -49,6 +54,7 @@ static void add(const void *begin, const uint8_t *section, void *object, uint64_
         return;
     added->begin = begin;
     added->object = object;
+    added->file = REGISTERED | atomic_fetch_add(&registrations, 1);
     added->module = (CfiModule){.end = UINT64_MAX, .eh_frame = section, .eh_frame_len = length_of(section), .header = section};
     added->module.bases = (CfiBases){
         .section = (uint64_t)section, .text = text, .data_base = data, .aarch64 = IS_AARCH64, .address_size = 8};
@@ -93,13 +99,13 @@ bool find_registered_function(uint64_t address, CfiModule *module, CfiFunction *
     return is_found;
 }
 
-enum found step_in_registered(struct _Unwind_Context *frame) {
+enum found step_in_registered(struct walk *walk) {
     enum found found = AT_END;
     if (!atomic_load(&sections))
         return found;
     atomic_fetch_add(&readers, 1);
     for (struct section *each = atomic_load(&sections); each && found == AT_END; each = each->next)
-        found = step_in(frame, &each->module);
+        found = step_in(walk, &each->module, each->file);
     atomic_fetch_sub(&readers, 1);
     return found;
 }

@@ -52,11 +52,12 @@ static uint64_t read_interrupted(uint64_t stack_pointer, CfiValue *registers) {
 
 #endif
 
-bool step_from_trampoline(struct _Unwind_Context *frame) {
-    if (!may_be_code(frame->pc) || memcmp((const void *)frame->pc, CODE, sizeof CODE) != 0)
+bool step_from_trampoline(struct walk *walk) {
+    uint64_t at = walk->frame->pc;
+    if (!may_be_code(at) || memcmp((const void *)at, CODE, sizeof CODE) != 0)
         return false;
-    uint64_t pc = read_interrupted(frame->cfa, frame->registers[!frame->own]);
-    frame->facts = (CfiFunction){.start = frame->pc, .is_signal_trampoline = true};
-    frame->caller = (CfiCaller){.pc = pc, .is_interrupted = true};
+    uint64_t pc = read_interrupted(walk->frame->cfa, walk->up->registers);
+    walk->facts = (CfiFunction){.start = at, .is_signal_trampoline = true};
+    walk->caller = (CfiCaller){.pc = pc, .is_interrupted = true};
     return true;
 }

@@ -12,7 +12,7 @@
 
 extern void *__libc_stack_end __attribute__((weak));
 
-enum { PAGE = 4096, PART = 1 << 16, GAP = 1 << 24, WORD = 8 };
+enum { PART = 1 << 16, GAP = 1 << 24, WORD = 8 };
 
 /* The most that a stack has. Nothing is mapped so near below the first thread's. */
 static const uint64_t FIRST_STACK = (uint64_t)1 << 27, OTHER_STACK = (uint64_t)1 << 30;
@@ -52,17 +52,17 @@ static uint64_t mapped_from(uint64_t page) {
     return end;
 }
 
-size_t windows_above(const struct windows *known, uint64_t stack_pointer, CfiWindow view[WINDOWS]) {
+void view_from(const struct windows *known, uint64_t stack_pointer, struct view *view) {
     uint64_t lowest = stack_pointer - BELOW;
+    view->count = known->count;
     for (unsigned i = 0; i < known->count; i++) {
         const CfiWindow *window = &known->list[i];
-        view[i] = *window;
+        view->list[i] = *window;
         if (window->base <= lowest && lowest < end_of(window)) {
-            view[i] = view[0];
-            view[0] = window_of(lowest, end_of(window)); /* the one that is read most */
+            view->list[i] = view->list[0];
+            view->list[0] = window_of(lowest, end_of(window)); /* the one that is read most */
         }
     }
-    return known->count;
 }
 
 /* Takes out the windows that overlap or touch these pages, and returns the pages with them. */

@@ -1,6 +1,6 @@
-/* What a thread needs to step: a context of the library. It is mapped at the thread's first throw, and given back at the
- * thread's end. A signal handler that interrupts a throw takes another one. If there is no memory, all threads share one
- * that the library holds in reserve. */
+/* What a thread needs to step: a context of the library, a cache of rows, and the modules that it knows. It is mapped at the
+ * thread's first throw, and given back at its end. A signal handler that interrupts a throw takes another one. If there is no
+ * memory, all threads share one that the library holds in reserve. */
 #include <errno.h>
 #include <pthread.h>
 #include <sched.h>
@@ -9,27 +9,31 @@
 #include "unwinder.h"
 
 enum {
-    NESTED = 4,              /* a throw, and handlers of signals that interrupt each other */
-    MEMORY = 128 * 1024,     /* for a context */
-    STACK = 512 * 1024,      /* for the call that makes it: more than a thread may have */
-    ALIGNMENT = 16,
-    REGION = sizeof(struct workspace) + MEMORY
+    LINE = 64,           /* a row takes two lines of the processor's cache */
+    SETS = 160,          /* of four rows: so that 128 kB of all this are touched */
+    ROWS = SETS * 4 * 128,
+    CONTEXT = 64 * 1024, /* more than a context takes */
+    MEMORY = CONTEXT + ROWS,
+    STACK = 512 * 1024,  /* on which they are made: more than a thread may have */
+    AWAY = 1 << 21,      /* so far from other stacks that valgrind sees one of its own */
+    TOUCHED = 38 * 1024 + ROWS, TOUCHED_STACK = 168 * 1024 /* as far as they take them now */
 };
 
-#define LOCAL __thread __attribute__((tls_model("initial-exec")))
+/* Pages are touched only when they are needed: the first modules are in two. */
+struct region {
+    struct workspace workspace;
+    _Alignas(LINE) char memory[MEMORY];
+    struct known_modules modules;
+};
 
-static LOCAL struct workspace *own[NESTED];
+LOCAL struct workspace *own_workspaces[NESTED];
 static LOCAL struct workspace *made; /* while its context is made: whose memory the library takes */
 
 static pthread_key_t key;
 static bool has_key;
 
-/* The pages of these are touched only when they are needed. */
-static union {
-    struct workspace workspace;
-    char bytes[REGION];
-} reserve;
-static _Alignas(ALIGNMENT) char reserve_stack[STACK];
+static struct region reserve;
+static _Alignas(LINE) char reserve_stack[STACK];
 static _Atomic(void *) reserve_thread; /* that has it: the address of its own, or NULL */
 
 /* ---- memory for the library: these three are the toolchain's bridge to malloc, in whose place they stand */
@@ -43,10 +47,10 @@ HIDDEN Tried rattle_alloc(size_t length, size_t alignment);
 HIDDEN Tried rattle_realloc(void *block, size_t kept, size_t length, size_t alignment);
 HIDDEN void rattle_dealloc(void *block);
 
-/* Alignments are divisors of 16. A context is made once and given back whole, so nothing is freed alone. */
+/* Alignments are divisors of 16. What is made is made once and given back whole, so nothing is freed alone. */
 Tried rattle_alloc(size_t length, size_t alignment) {
     static char nothing;
-    size_t size = (length + ALIGNMENT) & -(size_t)ALIGNMENT;
+    size_t size = (length + LINE) & -(size_t)LINE;
     (void)alignment;
     if (!made || size < length || (size_t)(made->end - made->free) < size)
         return (Tried){false, &nothing};
@@ -68,14 +72,36 @@ void rattle_dealloc(void *block) {
 
 /* ---- workspaces */
 
-/* Makes a workspace of a region of zeros, on a stack of STACK bytes. */
-static bool make(struct workspace *workspace, char *stack) {
-    struct workspace *was = made;
-    uint64_t memory = ((uint64_t)(workspace + 1) + ALIGNMENT - 1) & -(uint64_t)ALIGNMENT;
-    workspace->free = (char *)memory;
-    workspace->end = (char *)workspace + REGION;
+/* Has the kernel make pages that will be touched, all at once, if it can. */
+static void touch(void *start, size_t size) {
+#ifdef MADV_POPULATE_WRITE
+    int was = errno;
+    uint64_t first = (uint64_t)start & -(uint64_t)PAGE;
+    madvise((void *)first, (uint64_t)start + size - first, MADV_POPULATE_WRITE);
+    errno = was;
+#else
+    (void)start, (void)size;
+#endif
+}
+
+/* Without memory for the cache there is none: then each row is found anew. */
+static int32_t fill(struct workspace *workspace) {
+    int32_t status = cfi_context_new(&workspace->context);
+    if (status == CFI_Ok)
+        cfi_cache_new(SETS, &workspace->cache);
+    return status;
+}
+
+/* Makes the workspace of a region of zeros, on a stack of STACK bytes. */
+static bool make(struct region *region, char *stack) {
+    struct workspace *was = made, *workspace = &region->workspace;
+    workspace->modules = &region->modules;
+    workspace->free = region->memory;
+    workspace->end = region->memory + MEMORY;
+    touch(region, offsetof(struct region, memory) + TOUCHED);
+    touch(stack + STACK - TOUCHED_STACK, TOUCHED_STACK);
     made = workspace;
-    int32_t status = call_on_stack(cfi_context_new, &workspace->context, stack + STACK);
+    int32_t status = call_on_stack(fill, workspace, stack + STACK);
     made = was;
     return status == CFI_Ok;
 }
@@ -88,15 +114,15 @@ static void *map(size_t size) {
 }
 
 static struct workspace *map_workspace(void) {
-    struct workspace *workspace = map(REGION);
-    char *stack = workspace ? map(STACK) : NULL;
-    bool is_made = stack && make(workspace, stack);
+    struct region *region = map(sizeof *region);
+    char *stack = region ? map(AWAY + STACK + AWAY) : NULL;
+    bool is_made = stack && make(region, stack + AWAY);
     if (stack)
-        munmap(stack, STACK);
+        munmap(stack, AWAY + STACK + AWAY);
     if (is_made)
-        return workspace;
-    if (workspace)
-        munmap(workspace, REGION);
+        return &region->workspace;
+    if (region)
+        munmap(region, sizeof *region);
     return NULL;
 }
 
@@ -107,7 +133,7 @@ static void give_back(void *all) {
         struct workspace *workspace = each[i];
         each[i] = NULL;
         if (workspace)
-            munmap(workspace, REGION);
+            munmap(workspace, sizeof(struct region));
     }
 }
 
@@ -125,14 +151,16 @@ __attribute__((constructor)) static void begin(void) {
 static struct workspace *take_reserve(void) {
     struct workspace *workspace = &reserve.workspace;
     void *has_it = NULL;
-    while (!atomic_compare_exchange_weak(&reserve_thread, &has_it, &own)) {
-        if (has_it == &own)
+    while (!atomic_compare_exchange_weak(&reserve_thread, &has_it, &own_workspaces)) {
+        if (has_it == &own_workspaces)
             return NULL;
         has_it = NULL;
         sched_yield();
     }
-    if (workspace->context.live || make(workspace, reserve_stack)) {
+    if (workspace->context.live || make(&reserve, reserve_stack)) {
         workspace->windows = (struct windows){0}; /* the other thread's stacks */
+        workspace->view = (struct view){0};
+        forget_modules(workspace->modules); /* its calls have numbers of their own */
         return workspace;
     }
     give_reserve();
@@ -144,19 +172,19 @@ static struct workspace *keep_new(int i) {
     struct workspace *workspace = map_workspace();
     if (!workspace)
         return NULL;
-    if (own[i]) {
-        munmap(workspace, REGION);
-        return own[i];
+    if (own_workspaces[i]) {
+        munmap(workspace, sizeof(struct region));
+        return own_workspaces[i];
     }
-    own[i] = workspace;
+    own_workspaces[i] = workspace;
     if (has_key && !pthread_getspecific(key))
-        pthread_setspecific(key, own);
+        pthread_setspecific(key, own_workspaces);
     return workspace;
 }
 
-struct workspace *take_workspace(void) {
+struct workspace *take_other_workspace(void) {
     for (int i = 0; i < NESTED; i++) {
-        struct workspace *workspace = own[i];
+        struct workspace *workspace = own_workspaces[i];
         if (workspace && workspace->is_busy)
             continue;
         if (!workspace)
@@ -170,10 +198,7 @@ struct workspace *take_workspace(void) {
     return take_reserve();
 }
 
-void give_workspace(struct workspace *workspace) {
-    atomic_signal_fence(memory_order_seq_cst);
+void give_other_back(const struct workspace *workspace) {
     if (workspace == &reserve.workspace)
         give_reserve();
-    else
-        workspace->is_busy = false;
 }

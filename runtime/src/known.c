@@ -1,0 +1,69 @@
+/* The modules that a thread met, each with the number of its file, so that the rows of a file are kept as long as it is loaded.
+ *
+ * A library may be closed, and another be loaded in its place. So each module is found anew in each call that meets it, and
+ * has another number than before unless it lies at the same addresses with the same build id. Within a call it isn't looked for
+ * again: it has a frame on the stack. A number is never taken twice. */
+#include <string.h>
+
+#include "unwinder.h"
+
+enum { PAGE_BITS = 12 };
+
+static unsigned place_of(uint64_t number) {
+    return (unsigned)((number >> PAGE_BITS) * 0x9e3779b97f4a7c15 >> 54) % PLACES;
+}
+
+void forget_modules(struct known_modules *known) {
+    known->count = 0;
+    memset(known->by_page, 0, sizeof known->by_page);
+    memset(known->by_start, 0, sizeof known->by_start);
+}
+
+static bool is_same(const struct loaded *one, const struct loaded *other) {
+    const CfiModule *a = &one->module, *b = &other->module;
+    return a->start == b->start && a->end == b->end && a->eh_frame == b->eh_frame && a->eh_frame_len == b->eh_frame_len &&
+           a->header == b->header && a->header_len == b->header_len && one->id_length == other->id_length &&
+           one->unloads == other->unloads && memcmp(one->id, other->id, sizeof one->id) == 0;
+}
+
+/* The module that begins there as it was known, or room for it, with no number. */
+static struct known_module *at_start(struct known_modules *known, uint64_t start) {
+    if (known->count == KNOWN_MODULES)
+        forget_modules(known);
+    unsigned place = place_of(start);
+    for (; known->by_start[place]; place = (place + 1) % PLACES) {
+        struct known_module *module = &known->all[known->by_start[place] - 1];
+        if (module->loaded.module.start == start)
+            return module;
+    }
+    struct known_module *module = &known->all[known->count++];
+    known->by_start[place] = (uint16_t)known->count;
+    module->file = 0;
+    return module;
+}
+
+static struct known_module *look_for(struct known_modules *known, uint64_t call, uint64_t address) {
+    struct loaded loaded;
+    if (!find_loaded(address, &loaded))
+        return NULL;
+    struct known_module *module = at_start(known, loaded.module.start);
+    if (!module->file || !is_same(&module->loaded, &loaded)) {
+        module->loaded = loaded;
+        module->file = ++known->files;
+    }
+    module->call = call;
+    return module;
+}
+
+const struct known_module *find_known(struct known_modules *known, uint64_t call, uint64_t address) {
+    uint16_t *by_page = &known->by_page[place_of(address)];
+    struct known_module *module = *by_page ? &known->all[*by_page - 1] : NULL;
+    if (module && is_in(&module->loaded.module, address) && (module->call == call || is_still(&module->loaded, address))) {
+        module->call = call;
+        return module;
+    }
+    module = look_for(known, call, address);
+    if (module)
+        *by_page = (uint16_t)(module - known->all + 1);
+    return module;
+}
