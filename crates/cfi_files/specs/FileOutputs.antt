@@ -39,7 +39,7 @@ use Rattle.cfi_files.specs.declared.request.Printed.{Printed}
 use Rattle.cfi_files.specs.declared.request.Printed.TheVariants.{Row, Rows, Dump, Table}
 use Rattle.cfi_files.specs.declared.finding.Finding.{Finding}
 use Rattle.cfi_files.specs.declared.finding.Finding.TheVariants.{NoTable, Unreadable}
-use Rattle.cfi_files.specs.Findings.{ChecksSome, finding_of, found_line}
+use Rattle.cfi_files.specs.Findings.{ChecksSome, finding_of, finding_without, found_line}
 use Rattle.cfi_files.specs.declared.sections.SectionPrinted.{SectionPrinted}
 use Rattle.cfi_files.specs.declared.sections.SectionPrinted.TheVariants as sections
 use Rattle.cfi_files.specs.CompiledTexts.{IsCompiledText}
@@ -122,7 +122,7 @@ IsCheck format (Some (Err e)) finding printed =
 abbrev pub IsCheckOfParsed : Format → Result File ElfError → Finding → Line → Type 0
 IsCheckOfParsed format (Ok file) finding printed = IsCheck format (eh_frame_in file) finding printed
 IsCheckOfParsed format (Err e) finding printed =
-    IsFound format NoTable (refused (name_of_elf e)) finding printed
+    IsFound format (finding_without e) (refused (name_of_elf e)) finding printed
 
 -- or that there was no memory, or the input can't be read
 abbrev pub IsCheckOfInput : Format → List ℕ → Finding → Line → Type 0

@@ -8,18 +8,22 @@ use Rattle.gimli_cfi.specs.declared.hdr.verdict.Verdict.{Verdict}
 use Rattle.gimli_cfi.specs.declared.hdr.verdict.Verdict.TheVariants as verdicts
 use Rattle.cfi_files.specs.declared.finding.Finding.{Finding}
 use Rattle.cfi_files.specs.declared.finding.Finding.TheVariants.{Faithful, Unfaithful, NoTable}
-use Rattle.cfi_files.specs.declared.finding.Finding.TheVariants.{Unreadable}
+use Rattle.cfi_files.specs.declared.finding.Finding.TheVariants.{OtherFile, Unreadable}
+use Rattle.cfi_elf.specs.declared.error.ElfError.{ElfError}
+use Rattle.cfi_elf.specs.declared.error.ElfError.TheVariants.{NotElf}
 
 abbrev pub has_table : Finding → Bool
 has_table Faithful = true
 has_table Unfaithful = true
 has_table NoTable = false
+has_table OtherFile = false
 has_table Unreadable = false
 
 abbrev pub is_faithful : Finding → Bool
 is_faithful Faithful = true
 is_faithful Unfaithful = false
 is_faithful NoTable = false
+is_faithful OtherFile = false
 is_faithful Unreadable = false
 
 -- the status of a run that found this
@@ -27,12 +31,14 @@ abbrev pub status_of : Finding → ℕ
 status_of Faithful = 0
 status_of Unfaithful = 1
 status_of NoTable = 1
+status_of OtherFile = 0
 status_of Unreadable = 2
 
 abbrev pub name_of_finding : Finding → List ℕ
 name_of_finding Faithful = codes "faithful"
 name_of_finding Unfaithful = codes "unfaithful"
 name_of_finding NoTable = codes "no table"
+name_of_finding OtherFile = codes "not ELF"
 name_of_finding Unreadable = codes "unreadable"
 
 -- the end of the line of a file, for a reason
@@ -45,6 +51,11 @@ finding_of (verdicts.Faithful rows) = Faithful
 finding_of (verdicts.Unfaithful reason) = Unfaithful
 finding_of verdicts.NoTable = NoTable
 finding_of (verdicts.Refused error) = Unfaithful
+
+-- a file that can't be read for this error; others than ELF files are no fault of their own
+abbrev pub finding_without : ElfError → Finding
+finding_without NotElf = OtherFile
+finding_without _ = NoTable
 
 -- an output and what was found, of which something holds: all of it was written or a beginning, and
 -- that is answered

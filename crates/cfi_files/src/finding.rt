@@ -2,9 +2,10 @@
 ghost use Rattle.std.specs.Prelude.{◌≡◌, ◌++◌, IfOk};
 ghost use Rattle.cfi_read_core.specs.ReaderCalls.{map_ok};
 ghost use Rattle.cfi_programs.specs.WriterOutput.{Writes};
-ghost use Rattle.cfi_files.specs.Findings.{finding_of, found_line, has_table, is_faithful};
-ghost use Rattle.cfi_files.specs.Findings.{name_of_finding, status_of};
+ghost use Rattle.cfi_files.specs.Findings.{finding_of, finding_without, found_line, has_table};
+ghost use Rattle.cfi_files.specs.Findings.{is_faithful, name_of_finding, status_of};
 
+use cfi_elf::ElfError;
 use cfi_programs::check::output_line::write_finding;
 use cfi_programs::style::Format;
 use gimli_cfi::Verdict;
@@ -20,6 +21,8 @@ pub enum Finding {
     Unfaithful,
     /// The file has no table, or no part of it can be had.
     NoTable,
+    /// The file isn't an ELF file.
+    OtherFile,
     /// The file can't be read.
     Unreadable,
 }
@@ -39,8 +42,8 @@ impl Finding {
         matches!(self, Finding::Faithful)
     }
 
-    /// Returns the status of a run that found this: 0 where the table is faithful, 2 where the file
-    /// can't be read, and else 1.
+    /// Returns the status of a run that found this: 0 where the table is faithful or the file isn't
+    /// an ELF file, 2 where the file can't be read, and else 1.
     pub fn status(&self) -> u8
         ensures { result ≡ status_of self.now }
     {
@@ -48,6 +51,7 @@ impl Finding {
             Finding::Faithful => 0,
             Finding::Unfaithful => 1,
             Finding::NoTable => 1,
+            Finding::OtherFile => 0,
             Finding::Unreadable => 2,
         }
     }
@@ -60,6 +64,7 @@ impl Finding {
             Finding::Faithful => "faithful",
             Finding::Unfaithful => "unfaithful",
             Finding::NoTable => "no table",
+            Finding::OtherFile => "not ELF",
             Finding::Unreadable => "unreadable",
         }
     }
@@ -74,6 +79,16 @@ pub(crate) fn finding_of(verdict: Verdict) -> Finding
         Verdict::NoTable => Finding::NoTable,
         Verdict::Unfaithful(_) => Finding::Unfaithful,
         Verdict::Refused(_) => Finding::Unfaithful,
+    }
+}
+
+/// Returns what a file comes to that can't be read for this error.
+pub(crate) fn finding_without(error: ElfError) -> Finding
+    ensures { result ≡ finding_without error }
+{
+    match error {
+        ElfError::NotElf => Finding::OtherFile,
+        _ => Finding::NoTable,
     }
 }
 

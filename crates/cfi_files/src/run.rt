@@ -7,7 +7,7 @@ ghost use Rattle.cfi_files.specs.FileOutputs.{ChecksInput, ChecksNamed, IsCheckO
 ghost use Rattle.cfi_files.specs.FileOutputs.{IsOfFile, IsOfParsed, PrintsOwed};
 ghost use Rattle.cfi_files.specs.Findings.{ChecksSome};
 
-use crate::finding::{Finding, write_found};
+use crate::finding::{Finding, finding_without, write_found};
 use crate::lines::{write_elf_refusal, write_wrong_input};
 use crate::request::{Printed, Request};
 use crate::row::print_words;
@@ -171,6 +171,9 @@ fn check_image<W: Write>(image: Image<'_>, format: Format, output: &mut W) -> io
 {
     match ElfFile::of_image(image) {
         Ok(file) => check_table(&file, format, output),
-        Err(error) => { write_found(output, format, Finding::NoTable, "refused ", error.name()) }
+        Err(error) => {
+            let finding = finding_without(error);
+            write_found(output, format, finding, "refused ", error.name())
+        }
     }
 }

@@ -3,6 +3,7 @@
 --     eh_frame_of file      .eh_frame, by its name or else by the segment of its header
 --     debug_frame_of file      .debug_frame
 use Rattle.std.specs.Prelude.{ℕ, List, Option, Some, None, Result, Ok, Err, option_map, codes}
+use Rattle.std.specs.Prelude.{length, ◌==◌, if◌then◌else◌}
 use Rattle.std.specs.Result.{result_ok}
 use Rattle.cfi_read_core.specs.declared.error.Error.{Error}
 use Rattle.cfi_read_core.specs.ByteOrder.{is_big}
@@ -116,9 +117,15 @@ frames_by_segment file = do
 
 -- ---- the two sections
 
+-- none where the file has no bytes of it, as where its type is SHT_NOBITS
+unfoldable pub frames_named : File → Section → Result (Option GivenSection) ElfError
+frames_named file section =
+    if length section.bytes == 0 then Ok None
+    else (named_frames file section >>= λ frames. Ok (Some frames))
+
 -- by its name where a section has it, and else by the segment
 abbrev pub by_name_or_segment : File → Option Section → Result (Option GivenSection) ElfError
-by_name_or_segment file (Some section) = named_frames file section >>= λ frames. Ok (Some frames)
+by_name_or_segment file (Some section) = frames_named file section
 by_name_or_segment file None = frames_by_segment file
 
 unfoldable pub eh_frame_of : File → Result (Option GivenSection) ElfError

@@ -1,8 +1,8 @@
 -- The number that a word is.
---     number word      0x and 1 to 16 hexadecimal digits, or 1 to 20 decimal ones of a value below
---         2^64
-use Rattle.std.specs.Prelude.{ℕ, ◌^◌, Bool, ◌&&◌, Option, Some, None, List, length, take, drop}
-use Rattle.std.specs.Prelude.{nat_le, nat_lt, codes, if◌then◌else◌}
+--     number word      0x and 1 to 16 hexadecimal digits; 2 to 16 of which the first is 0; or 1 to
+--         20 decimal ones of a value below 2^64
+use Rattle.std.specs.Prelude.{ℕ, ◌^◌, Bool, ◌&&◌, Option, Some, None, List, [], ◌∷◌, length, take}
+use Rattle.std.specs.Prelude.{drop, nat_le, nat_lt, codes, if◌then◌else◌}
 use Rattle.std.specs.Char.{is_ascii_digit, is_ascii_hexdigit}
 use Rattle.std.specs.List.{list_all}
 use Rattle.std.specs.Str.{bytes_eq}
@@ -19,7 +19,7 @@ has_length most digits = nat_le 1 (length digits) && nat_le (length digits) most
 abbrev pub below_2_64 : ℕ → Option ℕ
 below_2_64 n = if nat_lt n (2 ^ 64) then Some n else None
 
--- 1 to 16 digits of either case, after 0x
+-- 1 to 16 digits of either case
 abbrev pub hexadecimal_number : List ℕ → Option ℕ
 hexadecimal_number digits =
     if has_length 16 digits && list_all is_ascii_hexdigit digits
@@ -33,9 +33,15 @@ decimal_number digits =
     then below_2_64 (digits_value 10 digits)
     else None
 
+-- with a leading zero it is hexadecimal, as nm(1) prints addresses
+abbrev pub without_prefix : List ℕ → Option (List ℕ) → Option ℕ
+without_prefix word (Some (digit ∷ digits)) = hexadecimal_number word
+without_prefix word (Some []) = decimal_number word
+without_prefix word None = decimal_number word
+
 abbrev pub number_after : List ℕ → Option (List ℕ) → Option ℕ
 number_after word (Some digits) = hexadecimal_number digits
-number_after word None = decimal_number word
+number_after word None = without_prefix word (after_prefix (codes "0") word)
 
 abbrev pub number : List ℕ → Option ℕ
 number word = number_after word (after_prefix (codes "0x") word)

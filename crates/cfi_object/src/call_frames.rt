@@ -7,7 +7,8 @@ ghost use Rattle.cfi_elf.specs.ElfFiles.{address_size_of, class_of_file, file_vi
 ghost use Rattle.cfi_elf.specs.Sections.{section_view};
 ghost use Rattle.cfi_object.specs.CallFrames.{bases_at, data_base, debug_frame_of};
 ghost use Rattle.cfi_object.specs.CallFrames.{eh_frame_address, eh_frame_at, eh_frame_of};
-ghost use Rattle.cfi_object.specs.CallFrames.{frames_by_header, frames_by_segment, named_frames};
+ghost use Rattle.cfi_object.specs.CallFrames.{frames_by_header, frames_by_segment};
+ghost use Rattle.cfi_object.specs.CallFrames.{frames_named, named_frames};
 ghost use Rattle.cfi_object.specs.CallFrames.{section_in};
 
 use cfi_elf::{ElfError, ElfFile, Section};
@@ -16,7 +17,8 @@ use gimli_cfi::{
 };
 
 /// The section `.eh_frame`, with its address, the bases of text and of data, and its header.
-/// Returns `None` where the file has no such section.
+/// Returns `None` where the file has no such section, or no bytes of it, as a file that was split
+/// off for a debugger.
 ///
 /// The section is found by its name. The base of text is then the address of `.text`, that of data
 /// the address of `.got.plt`, or of `.got` where there is none, and the header is `.eh_frame_hdr`.
@@ -32,9 +34,24 @@ pub fn eh_frame<'file>(file: &ElfFile<'file>) -> Result<Option<SectionSource<'fi
     ensures { map_ok (option_map source_view) result ≡ eh_frame_of (file_view file.now) }
 {
     match file.section(b".eh_frame")? {
-        Some(section) => Ok(Some(named_frames(file, section)?)),
+        Some(section) => frames_named(file, section),
         None => frames_by_segment(file),
     }
+}
+
+/// `.eh_frame`, found by its name, if it has bytes in the file.
+#[tactic(auto, unfolding(crate::specs::CallFrames::frames_named))]
+fn frames_named<'file>(
+    file: &ElfFile<'file>,
+    section: Section<'file>,
+) -> Result<Option<SectionSource<'file>>, ElfError>
+    ensures { map_ok (option_map source_view) result
+        ≡ frames_named (file_view file.now) (section_view section.entry) }
+{
+    if section.bytes.is_empty() {
+        return Ok(None);
+    }
+    Ok(Some(named_frames(file, section)?))
 }
 
 /// The section `.debug_frame`, with no address and no bases: its pointers are absolute. Returns

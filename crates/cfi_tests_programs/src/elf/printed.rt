@@ -362,6 +362,9 @@ fn checks(rt: HostRuntime) -> Result<(), Fail> {
         "a file: refused HeaderCut\n",
         Finding::NoTable,
     )?;
+    let script = b"#!/bin/sh\n".as_slice();
+    let other = "a file: refused NotElf\n";
+    finds(&rt, text, &mut &*script, other, Finding::OtherFile)?;
     let line = "a file: wrong input\n";
     finds(&rt, text, &mut Endless, line, Finding::Unreadable)
 }
