@@ -196,7 +196,7 @@ unfolding computing
 section_of_64_bits = refl
 
 segment_of_64_bits : program_header Elf64 false (bytes_behind None (codes "0100000005000000000200000000000000124000000000000012400000000000300000000000000040000000000000000010000000000000"))
-    ≡ record { p_type = 1; p_flags = 5; p_offset = 0x200; p_vaddr = 0x401200; p_filesz = 0x30 }
+    ≡ record { p_type = 1; p_flags = 5; p_offset = 0x200; p_vaddr = 0x401200; p_filesz = 0x30; p_memsz = 0x30 }
 unfolding computing
 segment_of_64_bits = refl
 

@@ -11,7 +11,7 @@ use Rattle.cfi_read_core.specs.ByteOrder.{is_big}
 use Rattle.cfi_elf.specs.declared.error.ElfError.{ElfError}
 use Rattle.cfi_elf.specs.declared.error.ElfError.TheVariants.{NotElf, HeaderCut, UnknownClass}
 use Rattle.cfi_elf.specs.declared.error.ElfError.TheVariants.{UnknownDataEncoding, UnknownVersion}
-use Rattle.cfi_elf.specs.declared.error.ElfError.TheVariants.{Relocatable, Core}
+use Rattle.cfi_elf.specs.declared.error.ElfError.TheVariants.{Relocatable, Core, NotCore}
 use Rattle.cfi_elf.specs.declared.file_header.Class.{Class}
 use Rattle.cfi_elf.specs.declared.file_header.Class.TheVariants.{Elf32, Elf64}
 use Rattle.cfi_elf.specs.declared.file_header.Identification.{Identification}
@@ -84,16 +84,27 @@ with_addresses file =
 unfoldable pub header_bytes : Image → Result (List ℕ) ElfError
 header_bytes image = bytes_at image 0 (min image.length 64) HeaderCut
 
--- the file of an image by these bytes, or the first error
-unfoldable pub file_by : Image → List ℕ → Result File ElfError
-file_by image bytes =
+-- a core file
+abbrev pub only_core : File → Result File ElfError
+only_core file =
+    let kind = file.header.kind in
+    unless ((not (kind.e_version == 1), UnknownVersion kind.e_version)
+    ∷ (not (kind.e_type == 4), NotCore kind.e_type) ∷ []) file
+
+-- the file of an image by these bytes, whatever its type and version, or the first error
+unfoldable pub any_file : Image → List ℕ → Result File ElfError
+any_file image bytes =
     and_then (identification bytes) (λ ident.
     if nat_lt (length bytes) (file_header_bytes ident.class) then Err HeaderCut
-    else with_addresses (record {
+    else Ok (record {
       image = image;
       identification = ident;
       header = file_header ident.class (is_big ident.«data») bytes;
     }))
+
+-- the program or library
+unfoldable pub file_by : Image → List ℕ → Result File ElfError
+file_by image bytes = and_then (any_file image bytes) with_addresses
 
 -- the file of an image
 unfoldable pub elf_file_of : Image → Result File ElfError
@@ -102,6 +113,12 @@ elf_file_of image = and_then (header_bytes image) (file_by image)
 -- the file of these bytes
 abbrev pub elf_file : List ℕ → Result File ElfError
 elf_file bytes = elf_file_of (whole bytes)
+
+-- the core file of these bytes
+unfoldable pub core_file : List ℕ → Result File ElfError
+core_file bytes =
+    let image = whole bytes in
+    and_then (header_bytes image) (λ header. and_then (any_file image header) only_core)
 
 -- ---- what the header says for call frames
 

@@ -1,5 +1,6 @@
 -- Bytes, and records of them whose fields have names.
 --     part bytes offset size      size bytes from an offset on, if there are so many
+--     first_bytes n bytes      the first n bytes, if there are so many
 --     before_zero bytes      the bytes before the first zero, if there is one
 --     number_at big bytes offset width      the number that so many bytes from an offset on are
 --     field big bytes fields name      the number in the field of this name
@@ -16,6 +17,9 @@ part bytes offset size =
     if nat_le (offset + size) (length bytes)
     then Some (slice_range bytes offset (offset + size))
     else None
+
+abbrev pub first_bytes : ℕ → List ℕ → Option (List ℕ)
+first_bytes n bytes = if nat_le n (length bytes) then Some (take n bytes) else None
 
 abbrev pub before_zero : List ℕ → Option (List ℕ)
 before_zero bytes = option_map (λ n. take n bytes) (position (λ x. x == 0) bytes)

@@ -51,6 +51,7 @@ program_header class big bytes =
       p_offset = value (codes "p_offset");
       p_vaddr = value (codes "p_vaddr");
       p_filesz = value (codes "p_filesz");
+      p_memsz = value (codes "p_memsz");
     }
 
 abbrev pub symbol : Class → Bool → List ℕ → Symbol

@@ -70,6 +70,14 @@ program_header_fields class =
     ∷ row class (codes "p_align") 28 w32 48 w64
     ∷ []
 
+-- Elf32_Nhdr, Elf64_Nhdr
+abbrev pub note_header_fields : List Field
+note_header_fields =
+    row Elf32 (codes "n_namesz") 0 w32 0 w32
+    ∷ row Elf32 (codes "n_descsz") 4 w32 4 w32
+    ∷ row Elf32 (codes "n_type") 8 w32 8 w32
+    ∷ []
+
 -- Elf32_Sym, Elf64_Sym
 abbrev pub symbol_fields : Class → List Field
 symbol_fields class =

@@ -8,6 +8,8 @@ pub mod ElfFiles
 pub mod Sections
 pub mod FoundSections
 pub mod Segments
+pub mod SegmentLists
+pub mod Notes
 pub mod Symbols
 pub mod SymbolTables
 pub mod FunctionPlaces

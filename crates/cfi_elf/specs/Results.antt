@@ -33,6 +33,11 @@ abbrev pub or_else : {A : Type 0} → Option A → Option A → Option A
 or_else (Some x) other = Some x
 or_else None other = other
 
+-- this, where there is nothing
+abbrev pub or_this : {A : Type 0} → A → Option A → A
+or_this other (Some x) = x
+or_this other None = other
+
 -- ---- the first that passes a test which can fail
 
 abbrev pub if_passed :

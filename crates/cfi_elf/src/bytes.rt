@@ -2,11 +2,11 @@
 ghost use Rattle.std.specs.Prelude.{◌≡◌, ◌+◌, ◌*◌, ◌<◌, ◌≤◌, ◌==◌, IfSome, MatchOption, drop};
 ghost use Rattle.std.specs.Prelude.{length, option_map, position, slice_get};
 ghost use Rattle.std.specs.Int.{w8, w16, w32, w64};
-ghost use Rattle.cfi_elf.specs.Fields.{before_zero, entries, number_at, part};
+ghost use Rattle.cfi_elf.specs.Fields.{before_zero, entries, first_bytes, number_at, part};
 
 /// The `size` bytes from the offset on, or `None` where there are fewer.
 #[inline(always)]
-pub(crate) fn part(bytes: &[u8], offset: u64, size: u64) -> Option<&[u8]>
+pub fn part(bytes: &[u8], offset: u64, size: u64) -> Option<&[u8]>
     ensures { option_map (λ found. found.now) result ≡ part bytes.now offset size }
 {
     let end = offset.checked_add(size)?;
@@ -18,7 +18,7 @@ pub(crate) fn part(bytes: &[u8], offset: u64, size: u64) -> Option<&[u8]>
 
 /// The bytes from the offset on; none where it is past the end.
 #[inline(always)]
-pub(crate) fn bytes_from(bytes: &[u8], offset: u64) -> &[u8]
+pub fn bytes_from(bytes: &[u8], offset: u64) -> &[u8]
     ensures { result.now ≡ drop offset bytes.now }
 {
     if offset < bytes.len() as u64 {
@@ -28,8 +28,20 @@ pub(crate) fn bytes_from(bytes: &[u8], offset: u64) -> &[u8]
     }
 }
 
+/// The first `count` bytes, or `None` where there are fewer.
+pub fn first_bytes(bytes: &[u8], count: u32) -> Option<&[u8]>
+    ensures { option_map (λ found. found.now) result ≡ first_bytes count bytes.now }
+{
+    let count = count as usize;
+    if count <= bytes.len() {
+        Some(&bytes[..count])
+    } else {
+        None
+    }
+}
+
 /// The bytes before the first zero, or `None` where there is none.
-pub(crate) fn before_zero(bytes: &[u8]) -> Option<&[u8]>
+pub fn before_zero(bytes: &[u8]) -> Option<&[u8]>
     ensures { option_map (λ found. found.now) result ≡ before_zero bytes.now }
 {
     let length = first_zero(bytes)?;
@@ -46,7 +58,7 @@ fn first_zero(bytes: &[u8]) -> Option<usize>
 
 /// The entry at an index of a table whose entries have this size, or `None` where it has fewer.
 #[inline(always)]
-pub(crate) fn entry(table: &[u8], size: u64, index: usize) -> Option<&[u8]>
+pub fn entry(table: &[u8], size: u64, index: usize) -> Option<&[u8]>
     requires { 0 < size }
     ensures value { option_map (λ found. found.now) result
         ≡ slice_get (entries size table.now) index }
@@ -60,7 +72,7 @@ pub(crate) fn entry(table: &[u8], size: u64, index: usize) -> Option<&[u8]>
 
 /// How many bytes `count` entries of `size` bytes have, or `None` where that is more than this
 /// length.
-pub(crate) fn size_of(count: u64, size: u64, length: u64) -> Option<u64>
+pub fn size_of(count: u64, size: u64, length: u64) -> Option<u64>
     ensures { MatchOption result (length < count * size) (λ n. n ≡ count * size) }
 {
     count.checked_mul(size)
@@ -68,15 +80,15 @@ pub(crate) fn size_of(count: u64, size: u64, length: u64) -> Option<u64>
 
 /// The bytes of a record, and their order.
 #[derive(Clone, Copy)]
-pub(crate) struct Record<'input> {
-    pub(crate) bytes: &'input [u8],
-    pub(crate) big_endian: bool,
+pub struct Record<'input> {
+    pub bytes: &'input [u8],
+    pub big_endian: bool,
 }
 
 impl Record<'_> {
     /// The number in the byte at an offset.
     #[inline(always)]
-    pub(crate) fn byte(&self, at: usize) -> u8
+    pub fn byte(&self, at: usize) -> u8
         requires { at + 1 ≤ length self.now.bytes.now }
         ensures { result ≡ number_at self.now.big_endian self.now.bytes.now at w8 }
     {
@@ -90,7 +102,7 @@ impl Record<'_> {
 
     /// The number in the two bytes from an offset on.
     #[inline(always)]
-    pub(crate) fn half(&self, at: usize) -> u16
+    pub fn half(&self, at: usize) -> u16
         requires { at + 2 ≤ length self.now.bytes.now }
         ensures { result ≡ number_at self.now.big_endian self.now.bytes.now at w16 }
     {
@@ -104,7 +116,7 @@ impl Record<'_> {
 
     /// The number in the four bytes from an offset on.
     #[inline(always)]
-    pub(crate) fn word(&self, at: usize) -> u32
+    pub fn word(&self, at: usize) -> u32
         requires { at + 4 ≤ length self.now.bytes.now }
         ensures { result ≡ number_at self.now.big_endian self.now.bytes.now at w32 }
     {
@@ -119,7 +131,7 @@ impl Record<'_> {
 
     /// The number in the eight bytes from an offset on.
     #[inline(always)]
-    pub(crate) fn xword(&self, at: usize) -> u64
+    pub fn xword(&self, at: usize) -> u64
         requires { at + 8 ≤ length self.now.bytes.now }
         ensures { result ≡ number_at self.now.big_endian self.now.bytes.now at w64 }
     {

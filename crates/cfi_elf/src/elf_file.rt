@@ -1,9 +1,9 @@
 //! An ELF file, by its header.
 ghost use Rattle.std.specs.Prelude.{◌≡◌};
 ghost use Rattle.cfi_read_core.specs.ReaderCalls.{map_ok};
-ghost use Rattle.cfi_elf.specs.ElfFiles.{address_size_of, class_of_file, elf_file, elf_file_of};
-ghost use Rattle.cfi_elf.specs.ElfFiles.{file_by, file_view, header_bytes, is_big_file, vendor_of};
-ghost use Rattle.cfi_elf.specs.ElfFiles.{with_addresses};
+ghost use Rattle.cfi_elf.specs.ElfFiles.{address_size_of, any_file, class_of_file, core_file};
+ghost use Rattle.cfi_elf.specs.ElfFiles.{elf_file, elf_file_of, file_by, file_view, header_bytes};
+ghost use Rattle.cfi_elf.specs.ElfFiles.{is_big_file, only_core, vendor_of, with_addresses};
 ghost use Rattle.cfi_elf.specs.Images.{image_view};
 
 use crate::bytes::Record;
@@ -58,6 +58,19 @@ impl<'input> ElfFile<'input> {
     {
         let bytes = header_bytes(&image)?;
         file_by(image, bytes)
+    }
+
+    /// Reads the header of the core file that these bytes are.
+    ///
+    /// Fails as `parse`, but with `NotCore` for a file of any other type. Does not allocate.
+    #[tactic(auto, unfolding(crate::specs::ElfFiles::core_file))]
+    pub fn parse_core(bytes: &'input [u8]) -> Result<ElfFile<'input>, ElfError>
+        ensures { map_ok file_view result ≡ core_file bytes.now }
+    {
+        let image = Image::whole(bytes);
+        let header = header_bytes(&image)?;
+        let file = any_file(image, header)?;
+        only_core(file)
     }
 
     /// What was read of the file.
@@ -137,10 +150,19 @@ fn header_bytes<'input>(image: &Image<'input>) -> Result<&'input [u8], ElfError>
     image.bytes_at(0, image.length.min(LONGEST_HEADER), ElfError::HeaderCut)
 }
 
-/// The file of an image, by the bytes of its header.
+/// The program or library of an image, by the bytes of its header.
 #[tactic(auto, unfolding(crate::specs::ElfFiles::file_by))]
 fn file_by<'input>(image: Image<'input>, bytes: &[u8]) -> Result<ElfFile<'input>, ElfError>
     ensures { map_ok file_view result ≡ file_by (image_view image.entry) bytes.now }
+{
+    let file = any_file(image, bytes)?;
+    with_addresses(file)
+}
+
+/// The file of an image, by the bytes of its header, whatever its type and version.
+#[tactic(auto, unfolding(crate::specs::ElfFiles::any_file))]
+fn any_file<'input>(image: Image<'input>, bytes: &[u8]) -> Result<ElfFile<'input>, ElfError>
+    ensures { map_ok file_view result ≡ any_file (image_view image.entry) bytes.now }
 {
     let identification = read_identification(bytes)?;
     if bytes.len() < file_header_size(identification.class) {
@@ -151,11 +173,24 @@ fn file_by<'input>(image: Image<'input>, bytes: &[u8]) -> Result<ElfFile<'input>
         big_endian: identification.data.is_big_endian(),
     };
     let header = parse_file_header(identification.class, fields);
-    with_addresses(ElfFile {
+    Ok(ElfFile {
         image,
         identification,
         header,
     })
+}
+
+/// The file, if its header is of the known version and it is a core file.
+fn only_core(file: ElfFile<'_>) -> Result<ElfFile<'_>, ElfError>
+    ensures { map_ok file_view result ≡ only_core (file_view file.entry) }
+{
+    if file.header.kind.e_version != EV_CURRENT {
+        return Err(ElfError::UnknownVersion(file.header.kind.e_version));
+    }
+    if file.header.kind.e_type != ET_CORE {
+        return Err(ElfError::NotCore(file.header.kind.e_type));
+    }
+    Ok(file)
 }
 
 /// The file, if its header is of the known version and its sections have addresses.

@@ -22,6 +22,8 @@ pub enum ElfError {
     Relocatable,
     /// A core file (`ET_CORE`).
     Core,
+    /// Not a core file. Carries `e_type`.
+    NotCore(u16),
     /// `e_shentsize` is not the size of a section header. Carries `e_shentsize`.
     SectionEntrySize(u16),
     /// The section header table goes past the end of the file.
@@ -42,6 +44,8 @@ pub enum ElfError {
     ProgramTableOutOfBounds,
     /// The file's bytes of a segment go past the end of the file.
     SegmentOutOfBounds,
+    /// Notes go on with bytes that are no whole note.
+    NoteCut,
     /// Bytes are needed that no part of the image has. Carries where in the file they begin, and
     /// how many they are.
     NotRead { offset: u64, size: u64 },
@@ -72,6 +76,7 @@ impl ElfError {
             ElfError::UnknownVersion(_) => "UnknownVersion",
             ElfError::Relocatable => "Relocatable",
             ElfError::Core => "Core",
+            ElfError::NotCore(_) => "NotCore",
             ElfError::SectionEntrySize(_) => "SectionEntrySize",
             ElfError::SectionTableOutOfBounds => "SectionTableOutOfBounds",
             ElfError::NoNameSection(_) => "NoNameSection",
@@ -82,6 +87,7 @@ impl ElfError {
             ElfError::ProgramEntrySize(_) => "ProgramEntrySize",
             ElfError::ProgramTableOutOfBounds => "ProgramTableOutOfBounds",
             ElfError::SegmentOutOfBounds => "SegmentOutOfBounds",
+            ElfError::NoteCut => "NoteCut",
             ElfError::NotRead { .. } => "NotRead",
         }
     }
@@ -92,9 +98,9 @@ impl ElfError {
             ElfError::UnknownClass(byte) | ElfError::UnknownDataEncoding(byte) => Some(u32::from(
                 byte,
             )),
-            ElfError::SectionEntrySize(size) | ElfError::ProgramEntrySize(size) => Some(u32::from(
-                size,
-            )),
+            ElfError::NotCore(half)
+            | ElfError::SectionEntrySize(half)
+            | ElfError::ProgramEntrySize(half) => Some(u32::from(half)),
             ElfError::UnknownVersion(number) | ElfError::NoNameSection(number) => Some(number),
             _ => None,
         }
@@ -110,6 +116,7 @@ impl ElfError {
             ElfError::UnknownVersion(_) => "unknown version ",
             ElfError::Relocatable => "a relocatable file has no addresses",
             ElfError::Core => "a core file has no sections",
+            ElfError::NotCore(_) => "not a core file, but of type ",
             ElfError::SectionEntrySize(_) => "section headers of size ",
             ElfError::SectionTableOutOfBounds =>
                 "the section header table goes past the file's end",
@@ -122,6 +129,7 @@ impl ElfError {
             ElfError::ProgramTableOutOfBounds =>
                 "the program header table goes past the file's end",
             ElfError::SegmentOutOfBounds => "a segment goes past the file's end",
+            ElfError::NoteCut => "a note is cut",
             ElfError::NotRead { .. } => "bytes of the file have not been read",
         }
     }

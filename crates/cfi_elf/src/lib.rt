@@ -3,10 +3,11 @@
 //! (System V ABI, chapter 4 "Object Files" and chapter 5 "Program Loading and Dynamic Linking").
 //!
 //! `image` is a file that may be read by parts. `elf_file` reads the file header, `sections` finds
-//! sections by name, `segments` what is loaded at an address, `symbols` addresses by name and
-//! functions by address. Nothing is copied, and only the lists of functions are allocated.
+//! sections by name, `segments` what is loaded at an address, `notes` what notes say, `symbols`
+//! addresses by name and functions by address. Nothing is copied, and only the lists of functions
+//! are allocated.
 
-mod bytes;
+pub mod bytes;
 pub mod elf_file;
 pub mod error;
 pub mod file_header;
@@ -14,10 +15,11 @@ mod function_names;
 mod function_place;
 mod functions;
 pub mod image;
-mod program_header;
+pub mod notes;
+pub mod program_header;
 mod section_header;
 mod sections;
-mod segments;
+pub mod segments;
 mod symbol;
 mod symbols;
 
@@ -27,4 +29,7 @@ pub use file_header::{Class, FileHeader};
 pub use function_names::FunctionNames;
 pub use function_place::FunctionPlace;
 pub use image::{FilePart, Image};
+pub use notes::{Note, Notes};
+pub use program_header::ProgramHeader;
+pub use segments::Segments;
 pub use symbols::Function;

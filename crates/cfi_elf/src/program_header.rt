@@ -14,6 +14,7 @@ pub struct ProgramHeader {
     pub p_offset: u64,
     pub p_vaddr: u64,
     pub p_filesz: u64,
+    pub p_memsz: u64,
 }
 
 /// The size of a program header in bytes.
@@ -52,6 +53,7 @@ fn program_header_32(fields: Record<'_>) -> ProgramHeader
         p_offset: u64::from(fields.word(4)),
         p_vaddr: u64::from(fields.word(8)),
         p_filesz: u64::from(fields.word(16)),
+        p_memsz: u64::from(fields.word(20)),
     }
 }
 
@@ -67,5 +69,6 @@ fn program_header_64(fields: Record<'_>) -> ProgramHeader
         p_offset: fields.xword(8),
         p_vaddr: fields.xword(16),
         p_filesz: fields.xword(32),
+        p_memsz: fields.xword(40),
     }
 }

@@ -1,9 +1,10 @@
 //! What a file has loaded at an address, and where its bytes are loaded, by its program headers
 //! (System V ABI chapter 5, "Program Header", "Program Loading").
-ghost use Rattle.std.specs.Prelude.{◌≡◌, find, option_map, slice_get};
+ghost use Rattle.std.specs.Prelude.{◌≡◌, ⊤, find, option_map, slice_get};
 ghost use Rattle.cfi_read_core.specs.ReaderCalls.{map_ok};
 ghost use Rattle.cfi_elf.specs.ElfFiles.{file_view};
 ghost use Rattle.cfi_elf.specs.Sections.{section_view};
+ghost use Rattle.cfi_elf.specs.SegmentLists.{segments, segments_left};
 ghost use Rattle.cfi_elf.specs.Segments.{address_of_offset, eh_frame_hdr_segment, is_code_at};
 ghost use Rattle.cfi_elf.specs.Segments.{is_loaded_at, is_wanted, loaded_address, loaded_bytes};
 ghost use Rattle.cfi_elf.specs.Segments.{page_offset, program_headers, program_table};
@@ -13,6 +14,7 @@ use crate::bytes::{bytes_from, entry};
 use crate::elf_file::{ElfFile, Section};
 use crate::error::ElfError;
 use crate::program_header::{ProgramHeader, parse_program_header, program_header_size};
+use std::alloc::AllocError;
 
 const PN_XNUM: u16 = 0xffff;
 
@@ -36,7 +38,59 @@ enum Wanted {
     CodeAt(u64),
 }
 
+/// An iterator over the program headers of a file, in their order.
+#[derive(Copy, Debug)]
+pub struct Segments<'input> {
+    file: ElfFile<'input>,
+    table: &'input [u8],
+    index: usize,
+}
+
+impl Clone for Segments<'_> {
+    ghost is_clone = { λ x y. y ≡ x };
+
+    ghost is_infallible = { λ _. ⊤ };
+
+    #[inline(always)]
+    fn clone(&self) -> std::result::Result<Self, AllocError> {
+        Ok(*self)
+    }
+}
+
+impl<'input> Iterator for Segments<'input> {
+    ghost use Rattle.std.specs.Iterator.{YieldsFirstBy, item_count};
+
+    type Item = ProgramHeader;
+
+    ghost next_gives = { YieldsFirstBy (λ header. header) segments_left };
+
+    ghost remaining = { item_count segments_left };
+
+    fn next(&mut self) -> Option<ProgramHeader> {
+        let header = self.file.program_header_in(self.table, self.index)?;
+        self.index += 1;
+        Some(header)
+    }
+}
+
 impl<'input> ElfFile<'input> {
+    /// Iterates over the program headers, in their order; over none where the file has none.
+    ///
+    /// Fails with `ProgramEntrySize` or `ProgramTableOutOfBounds`, and with
+    /// `SectionTableOutOfBounds` if their number is in section 0 and that goes past the file's end.
+    /// Does not allocate (System V ABI chapter 5, "Program Header").
+    #[tactic(auto, unfolding(crate::specs::SegmentLists::segments))]
+    pub fn segments(&self) -> Result<Segments<'input>, ElfError>
+        ensures { map_ok segments_left result ≡ segments (file_view self.now) }
+    {
+        let table = self.program_table()?;
+        Ok(Segments {
+            file: *self,
+            table,
+            index: 0,
+        })
+    }
+
     /// The segment of type `PT_GNU_EH_FRAME`: the address and the bytes of `.eh_frame_hdr`, which
     /// need no section headers. Returns `None` where the file has no such segment.
     ///
@@ -134,7 +188,7 @@ impl<'input> ElfFile<'input> {
 
     /// The bytes of the program headers; none where the file has none.
     #[tactic(auto, unfolding(crate::specs::Segments::program_table))]
-    fn program_table(&self) -> Result<&'input [u8], ElfError>
+    pub(crate) fn program_table(&self) -> Result<&'input [u8], ElfError>
         ensures { map_ok (λ table. table.now) result ≡ program_table (file_view self.now) }
     {
         let offset = self.header.offsets.e_phoff;
@@ -163,7 +217,7 @@ impl<'input> ElfFile<'input> {
     }
 
     /// The bytes of a segment in the file.
-    fn segment_bytes(&self, header: &ProgramHeader) -> Result<&'input [u8], ElfError>
+    pub(crate) fn segment_bytes(&self, header: &ProgramHeader) -> Result<&'input [u8], ElfError>
         ensures { map_ok (λ bytes. bytes.now) result
             ≡ segment_bytes (file_view self.now) header.now }
     {

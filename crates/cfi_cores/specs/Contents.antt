@@ -1,0 +1,105 @@
+-- What the notes of a core file say (core(5), "notes" of linux/elfcore.h and uapi/linux/elf.h).
+--     Contents      threads, the files that were mapped, and the error that ended the notes
+--     followed_by first others      what both say: nothing follows an error, and the first list of
+--         files counts
+--     of_headers machine bytes headers      what the notes of a file's segments say
+use Rattle.std.specs.Prelude.{ℕ, Bool, true, false, not, List, [], ◌∷◌, ◌++◌, map, codes, Option}
+use Rattle.std.specs.Prelude.{Some, None, Vec, option_map, nat_eq, ◌==◌, if◌then◌else◌}
+use Rattle.std.specs.Cmp.Lexicographic.{pointwise}
+use Rattle.cfi_elf.specs.declared.program_header.ProgramHeader.{ProgramHeader}
+use Rattle.cfi_elf.specs.Notes.{Note, Notes, notes_of}
+use Rattle.cfi_elf.specs.Results.{or_else}
+use Rattle.cfi_processes.specs.declared.registers.SampleMachine.{SampleMachine}
+use Rattle.cfi_cores.specs.declared.contents.Contents.{Contents as ContentsOfCode}
+use Rattle.cfi_cores.specs.declared.error.CoreError.{CoreError}
+use Rattle.cfi_cores.specs.declared.mapped_files.CoreMapping.{CoreMapping as MappingOfCode}
+use Rattle.cfi_cores.specs.declared.thread.CoreThread.{CoreThread as ThreadOfCode}
+use Rattle.cfi_cores.specs.declared.error.CoreError.TheVariants.{NoteCut, ThreadCut, FilesCut}
+use Rattle.cfi_cores.specs.CoreThreads.{CoreThread, thread_in, thread_view}
+use Rattle.cfi_cores.specs.MappedFiles.{CoreMapping, files_in, list_view}
+use Rattle.cfi_cores.specs.CoreSegments.{bytes_of}
+
+pub record Contents : Type 0 where
+  pub threads : List CoreThread
+  pub mapped : Option (List CoreMapping)
+  pub error : Option CoreError
+
+-- what the code has of it
+abbrev pub contents_view : ContentsOfCode → Contents
+contents_view c = record {
+  threads = map thread_view c.threads.items;
+  mapped = option_map list_view c.mapped;
+  error = c.error;
+}
+
+-- ---- one after the other
+
+abbrev pub nothing : Contents
+nothing = record { threads = []; mapped = None; error = None }
+
+abbrev pub ended_by : CoreError → Contents
+ended_by error = record { threads = []; mapped = None; error = Some error }
+
+abbrev pub unless_ended : Option CoreError → Contents → Contents → Contents
+unless_ended (Some error) first others = first
+unless_ended None first others = record {
+  threads = first.threads ++ others.threads;
+  mapped = or_else first.mapped others.mapped;
+  error = others.error;
+}
+
+abbrev pub followed_by : Contents → Contents → Contents
+followed_by first others = unless_ended first.error first others
+
+-- ---- what a note says
+
+abbrev pub of_thread : Option CoreThread → Contents
+of_thread (Some thread) = record { threads = thread ∷ []; mapped = None; error = None }
+of_thread None = ended_by ThreadCut
+
+abbrev pub of_files : Option (List CoreMapping) → Contents
+of_files (Some files) = record { threads = []; mapped = Some files; error = None }
+of_files None = ended_by FilesCut
+
+-- NT_PRSTATUS is 1, NT_FILE is 0x46494c45
+abbrev pub of_note : SampleMachine → Note → Contents
+of_note machine note =
+    if not (pointwise nat_eq note.name (codes "CORE")) then nothing
+    else if note.kind == 1 then of_thread (thread_in machine note.desc)
+    else if note.kind == 0x46494c45 then of_files (files_in note.desc)
+    else nothing
+
+-- ---- what notes say
+
+abbrev pub cut_end : Bool → Contents
+cut_end true = ended_by NoteCut
+cut_end false = nothing
+
+abbrev pub of_notes : SampleMachine → List Note → Contents → Contents
+of_notes machine [] end = end
+of_notes machine (note ∷ notes) end = followed_by (of_note machine note) (of_notes machine notes end)
+
+-- the notes of these bytes, and the error where they are cut
+abbrev pub of_all : SampleMachine → Notes → Contents
+of_all machine all = of_notes machine all.notes (cut_end all.is_cut)
+
+abbrev pub of_segment : SampleMachine → List ℕ → Contents
+of_segment machine bytes = of_all machine (notes_of false bytes)
+
+-- PT_NOTE is 4
+abbrev pub of_header : SampleMachine → List ℕ → ProgramHeader → Contents
+of_header machine bytes header =
+    if header.p_type == 4 then of_segment machine (bytes_of bytes header) else nothing
+
+abbrev pub of_headers : SampleMachine → List ℕ → List ProgramHeader → Contents
+of_headers machine bytes [] = nothing
+of_headers machine bytes (header ∷ headers) =
+    followed_by (of_header machine bytes header) (of_headers machine bytes headers)
+
+-- ---- what the code found in a note
+
+abbrev pub thread_found : Option ThreadOfCode → Option CoreThread
+thread_found found = option_map thread_view found
+
+abbrev pub files_found : Option (Vec ℕ MappingOfCode) → Option (List CoreMapping)
+files_found found = option_map list_view found

@@ -1,0 +1,81 @@
+-- The segments of a core file that were loaded (System V ABI chapter 5, "Program Header").
+--     bytes_of bytes header      the bytes of a segment, as far as the file has them
+--     loaded_in bytes header      the segment of a header of type PT_LOAD
+--     AreInOrder segments      none begins at a lower address than the one before it
+--     number_at memory a size      the number of so many bytes at an address
+use Rattle.std.specs.Prelude.{◌≡◌, ℕ, Bool, false, not, List, drop, take, map, bit_and, Option, Some}
+use Rattle.std.specs.Prelude.{None, nat_le, ◌==◌, if◌then◌else◌}
+use Rattle.std.specs.List.{filter, last_or}
+use Rattle.std.specs.List.Sorted.{IsNonDecreasingBy, IsSortedByKey, IsStableByKey}
+use Rattle.std.specs.Option.{option_and_then}
+use Rattle.std.specs.Ordering.{nat_cmp}
+use Rattle.cfi_read_core.specs.SliceReaders.{slice_over}
+use Rattle.cfi_elf.specs.declared.program_header.ProgramHeader.{ProgramHeader}
+use Rattle.cfi_elf.specs.Results.{or_else}
+use Rattle.cfi_expression.specs.Windows.{number_in}
+use Rattle.cfi_cores.specs.declared.memory.CoreSegment.{CoreSegment as SegmentOfCode}
+use Rattle.cfi_cores.specs.declared.memory.CoreMemory.{CoreMemory as MemoryOfCode}
+
+-- Bytes of memory from an address on.
+pub record CoreSegment : Type 0 where
+  pub start : ℕ
+  pub bytes : List ℕ
+  pub is_executable : Bool
+
+-- what a segment of the code is
+abbrev pub segment_view : SegmentOfCode → CoreSegment
+segment_view s =
+    record { start = s.start; bytes = s.bytes.now; is_executable = s.is_executable }
+
+-- ---- the segments of a file
+
+abbrev pub bytes_of : List ℕ → ProgramHeader → List ℕ
+bytes_of bytes header = take header.p_filesz (drop header.p_offset bytes)
+
+-- PT_LOAD is 1, PF_X is 1
+abbrev pub loaded_in : List ℕ → ProgramHeader → Option CoreSegment
+loaded_in bytes header =
+    if header.p_type == 1
+    then Some (record {
+      start = header.p_vaddr;
+      bytes = bytes_of bytes header;
+      is_executable = not (bit_and header.p_flags 1 == 0);
+    })
+    else None
+
+-- ---- in the order of their addresses
+
+abbrev pub AreInOrder : List SegmentOfCode → Type 0
+AreInOrder segments = IsNonDecreasingBy (λ s. s.start) segments
+
+-- those of `found` by rising addresses; those of one address stay in their order
+pub record AreSorted (found sorted : List CoreSegment) : Type 0 where
+  pub by_start : IsSortedByKey (λ s. s.start) nat_cmp sorted
+  pub stable : IsStableByKey (λ s. s.start) nat_cmp found sorted
+
+-- ---- the memory
+
+-- Segments of a core, and what was mapped where it has no bytes.
+pub record CoreMemory : Type 0 where
+  pub dumped : List CoreSegment
+  pub mapped : List CoreSegment
+
+abbrev pub memory_view : MemoryOfCode → CoreMemory
+memory_view m =
+    record { dumped = map segment_view m.dumped.now; mapped = map segment_view m.mapped.now }
+
+-- the number of so many bytes at an address, if the segment has all of them
+abbrev pub number_of : ℕ → ℕ → CoreSegment → Option ℕ
+number_of a size s = number_in (slice_over s.bytes false) s.start a size
+
+-- the last segment that begins at or below an address
+abbrev pub last_upto : ℕ → List CoreSegment → Option CoreSegment
+last_upto a segments = last_or None (filter (λ s. nat_le s.start a) segments)
+
+abbrev pub number_among : List CoreSegment → ℕ → ℕ → Option ℕ
+number_among segments a size = option_and_then (number_of a size) (last_upto a segments)
+
+-- where the core doesn't have all bytes, what was mapped there
+abbrev pub number_at : CoreMemory → ℕ → ℕ → Option ℕ
+number_at memory a size =
+    or_else (number_among memory.dumped a size) (number_among memory.mapped a size)

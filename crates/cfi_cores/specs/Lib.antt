@@ -1,0 +1,7 @@
+pub mod ErrorNames
+pub mod CoreRegisters
+pub mod CoreThreads
+pub mod MappedFiles
+pub mod CoreSegments
+pub mod Contents
+pub mod CoreFiles

@@ -1,0 +1,161 @@
+//! What the notes of a core file say.
+ghost use Rattle.std.specs.Prelude.{◌≡◌, IfOk, OnOk};
+ghost use Rattle.cfi_elf.specs.Notes.{note_view};
+ghost use Rattle.cfi_elf.specs.SegmentLists.{segments_left};
+ghost use Rattle.cfi_cores.specs.Contents.{contents_view, ended_by, files_found, followed_by};
+ghost use Rattle.cfi_cores.specs.Contents.{nothing, of_files, of_header, of_headers, of_note};
+ghost use Rattle.cfi_cores.specs.Contents.{of_segment, of_thread, thread_found};
+
+use crate::error::CoreError;
+use crate::mapped_files::{CoreMapping, files_in};
+use crate::segments::bytes_of;
+use crate::thread::{CoreThread, thread_in};
+use cfi_elf::{Note, Notes, ProgramHeader, Segments};
+use cfi_processes::SampleMachine;
+use cfi_read_core::RunTimeEndian;
+use std::alloc::{AllocError, Global};
+
+const PT_NOTE: u32 = 4;
+
+const NT_PRSTATUS: u32 = 1;
+
+const NT_FILE: u32 = 0x4649_4c45;
+
+/// What notes say, up to the error that ended them, if one did.
+#[derive(Drop)]
+pub(crate) struct Contents<'run> {
+    /// The threads, in the order of the notes.
+    pub(crate) threads: Vec<CoreThread<'run>>,
+    /// The files that were mapped, by the first note that tells of them.
+    pub(crate) mapped: Option<Vec<CoreMapping<'run>>>,
+    pub(crate) error: Option<CoreError>,
+}
+
+/// What the notes of a core file say: those of its segments of type `PT_NOTE`, in the order of
+/// their headers. Fails where memory is refused.
+pub(crate) fn read_contents<'run>(
+    alloc: Global,
+    machine: SampleMachine,
+    bytes: &'run [u8],
+    headers: Segments<'run>,
+) -> Result<Contents<'run>, AllocError>
+    ensures { IfOk result (λ contents. contents_view contents
+        ≡ of_headers machine bytes.now (segments_left headers.entry)) }
+{
+    let mut contents = Contents::new(alloc);
+    for header in headers {
+        contents.read_header(alloc, machine, bytes, &header)?;
+    }
+    Ok(contents)
+}
+
+impl<'run> Contents<'run> {
+    /// Nothing yet.
+    fn new(alloc: Global) -> Self
+        ensures { contents_view result ≡ nothing }
+    {
+        Contents {
+            threads: Vec::new(alloc),
+            mapped: None,
+            error: None,
+        }
+    }
+
+    /// Reads the notes of a segment too, if it has notes.
+    fn read_header(
+        &mut self,
+        alloc: Global,
+        machine: SampleMachine,
+        bytes: &'run [u8],
+        header: &ProgramHeader,
+    ) -> Result<(), AllocError>
+        ensures { OnOk result (contents_view self.new
+            ≡ followed_by (contents_view self.old) (of_header machine bytes.now header.now)) }
+    {
+        if header.p_type == PT_NOTE {
+            self.read_segment(alloc, machine, bytes_of(bytes, header))?;
+        }
+        Ok(())
+    }
+
+    /// Reads these notes too.
+    fn read_segment(
+        &mut self,
+        alloc: Global,
+        machine: SampleMachine,
+        bytes: &'run [u8],
+    ) -> Result<(), AllocError>
+        ensures { OnOk result (contents_view self.new
+            ≡ followed_by (contents_view self.old) (of_segment machine bytes.now)) }
+    {
+        for note in Notes::new(bytes, RunTimeEndian::Little) {
+            match note {
+                Ok(note) => self.read_note(alloc, machine, &note)?,
+                Err(_) => self.end(CoreError::NoteCut),
+            }
+        }
+        Ok(())
+    }
+
+    /// Reads this note too.
+    fn read_note(
+        &mut self,
+        alloc: Global,
+        machine: SampleMachine,
+        note: &Note<'run>,
+    ) -> Result<(), AllocError>
+        ensures { OnOk result (contents_view self.new
+            ≡ followed_by (contents_view self.old) (of_note machine (note_view note.now))) }
+    {
+        if self.error.is_some() || note.name != b"CORE".as_slice() {
+            return Ok(());
+        }
+        match note.kind {
+            NT_PRSTATUS => self.push_thread(thread_in(machine, note.desc))?,
+            NT_FILE => self.map_files(files_in(alloc, note.desc)?),
+            _ => {}
+        }
+        Ok(())
+    }
+
+    /// Takes the thread of a note too, or the error that it has too few bytes.
+    fn push_thread(&mut self, thread: Option<CoreThread<'run>>) -> Result<(), AllocError>
+        ensures { OnOk result (contents_view self.new
+            ≡ followed_by (contents_view self.old) (of_thread (thread_found thread.entry))) }
+    {
+        match thread {
+            Some(thread) => {
+                if self.error.is_none() {
+                    self.threads.push(thread)?;
+                }
+            }
+            None => self.end(CoreError::ThreadCut),
+        }
+        Ok(())
+    }
+
+    /// Takes the files of a note too, or the error that it has too few bytes.
+    fn map_files(&mut self, files: Option<Vec<CoreMapping<'run>>>)
+        ensures { contents_view self.new
+            ≡ followed_by (contents_view self.old) (of_files (files_found files.entry)) }
+    {
+        match files {
+            Some(files) => {
+                if self.error.is_none() && self.mapped.is_none() {
+                    self.mapped = Some(files);
+                }
+            }
+            None => self.end(CoreError::FilesCut),
+        }
+    }
+
+    /// Ends what is read with this error, if no other has ended it before.
+    fn end(&mut self, error: CoreError)
+        ensures { contents_view self.new
+            ≡ followed_by (contents_view self.old) (ended_by error) }
+    {
+        if self.error.is_none() {
+            self.error = Some(error);
+        }
+    }
+}

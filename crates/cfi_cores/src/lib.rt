@@ -1,0 +1,23 @@
+//! Core files of Linux: their threads, what was mapped, and the memory.
+//!
+//! A core file is an ELF file of type `ET_CORE`. Its segments of type `PT_NOTE` have the registers
+//! of each thread (`NT_PRSTATUS`) and the files that were mapped (`NT_FILE`), those of type
+//! `PT_LOAD` the memory. `core_file` reads it, `contents` its notes, `thread` and `mapped_files`
+//! what these say; `registers` finds a thread's registers by DWARF's numbers, and `memory` reads
+//! the memory.
+#![tactic(auto)]
+
+mod contents;
+pub mod core_file;
+pub mod error;
+pub mod mapped_files;
+pub mod memory;
+mod registers;
+mod segments;
+pub mod thread;
+
+pub use core_file::{Core, read_core};
+pub use error::CoreError;
+pub use mapped_files::CoreMapping;
+pub use memory::{CoreMemory, CoreSegment};
+pub use thread::CoreThread;

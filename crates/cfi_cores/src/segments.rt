@@ -1,0 +1,58 @@
+//! The bytes of a core file's segments.
+ghost use Rattle.std.specs.Prelude.{◌≡◌, IfOk, map, option_map};
+ghost use Rattle.std.specs.List.{filter_map};
+ghost use Rattle.cfi_elf.specs.SegmentLists.{segments_left};
+ghost use Rattle.cfi_cores.specs.CoreSegments.{bytes_of, loaded_in, segment_view};
+
+use crate::memory::CoreSegment;
+use cfi_elf::bytes::bytes_from;
+use cfi_elf::{ProgramHeader, Segments};
+use std::alloc::{AllocError, Global};
+
+const PT_LOAD: u32 = 1;
+
+const PF_X: u32 = 1;
+
+/// The bytes of a segment, as far as the file has them.
+pub(crate) fn bytes_of<'run>(bytes: &'run [u8], header: &ProgramHeader) -> &'run [u8]
+    ensures { result.now ≡ bytes_of bytes.now header.now }
+{
+    let found = bytes_from(bytes, header.p_offset);
+    if header.p_filesz < found.len() as u64 {
+        &found[..header.p_filesz as usize]
+    } else {
+        found
+    }
+}
+
+/// The segments that are loaded, in the order of their headers. Fails where memory is refused.
+pub(crate) fn loaded_segments<'run>(
+    alloc: Global,
+    bytes: &'run [u8],
+    headers: Segments<'run>,
+) -> Result<Vec<CoreSegment<'run>>, AllocError>
+    ensures { IfOk result (λ list. map segment_view list.items
+        ≡ filter_map (loaded_in bytes.now) (segments_left headers.entry)) }
+{
+    let mut list = Vec::new(alloc);
+    for header in headers {
+        if let Some(segment) = loaded_in(bytes, &header) {
+            list.push(segment)?;
+        }
+    }
+    Ok(list)
+}
+
+/// The segment of a header, if it is loaded.
+fn loaded_in<'run>(bytes: &'run [u8], header: &ProgramHeader) -> Option<CoreSegment<'run>>
+    ensures { option_map segment_view result ≡ loaded_in bytes.now header.now }
+{
+    if header.p_type != PT_LOAD {
+        return None;
+    }
+    Some(CoreSegment {
+        start: header.p_vaddr,
+        bytes: bytes_of(bytes, header),
+        is_executable: header.p_flags & PF_X != 0,
+    })
+}

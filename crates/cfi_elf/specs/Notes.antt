@@ -1,0 +1,155 @@
+-- Notes (System V ABI chapter 5, "Note Section").
+--     notes_of big bytes      the notes of these bytes in order, and whether bytes follow them that
+--         are no whole note
+--     notes_left walk      those that an iterator of the code has left
+--     build_id file      what the first note says that has an identification of the file
+use Rattle.std.specs.Prelude.{◌≡◌, ℕ, ◌+◌, ◌*◌, ◌/◌, zero, suc, Bool, true, false, ◌&&◌, List, []}
+use Rattle.std.specs.Prelude.{◌∷◌, ◌++◌, length, drop, take, map, find, codes, Option, Some, None}
+use Rattle.std.specs.Prelude.{Result, Ok, Err, option_map, nat_eq, nat_le, nat_lt, ◌==◌}
+use Rattle.std.specs.Prelude.{if◌then◌else◌}
+use Rattle.std.specs.Cmp.Lexicographic.{pointwise}
+use Rattle.std.specs.Option.{option_and_then}
+use Rattle.cfi_elf.specs.declared.error.ElfError.{ElfError}
+use Rattle.cfi_elf.specs.declared.error.ElfError.TheVariants.{NoteCut}
+use Rattle.cfi_elf.specs.declared.notes.First.{First as FirstOfCode}
+use Rattle.cfi_elf.specs.declared.notes.Note.{Note as NoteOfCode}
+use Rattle.cfi_elf.specs.declared.notes.NoteHeader.{NoteHeader}
+use Rattle.cfi_elf.specs.declared.notes.Notes.{Notes as NotesOfCode}
+use Rattle.cfi_elf.specs.declared.program_header.ProgramHeader.{ProgramHeader}
+use Rattle.cfi_elf.specs.ElfFiles.{File, is_big_file}
+use Rattle.cfi_elf.specs.Fields.{before_zero, field, first_bytes}
+use Rattle.cfi_elf.specs.Layouts.{note_header_fields}
+use Rattle.cfi_elf.specs.Results.{and_then, or_this}
+use Rattle.cfi_elf.specs.Segments.{program_headers, program_table, segment_bytes}
+
+-- ---- one note
+
+pub record Note : Type 0 where
+  pub name : List ℕ
+  pub kind : ℕ
+  pub desc : List ℕ
+
+abbrev pub note_view : NoteOfCode → Note
+note_view note = record { name = note.name.now; kind = note.kind; desc = note.desc.now }
+
+abbrev pub note_header : Bool → List ℕ → NoteHeader
+note_header big bytes =
+    let value = field big bytes note_header_fields in
+    record {
+      n_namesz = value (codes "n_namesz");
+      n_descsz = value (codes "n_descsz");
+      n_type = value (codes "n_type");
+    }
+
+-- n bytes with those that pad them to a multiple of four
+abbrev pub padded : ℕ → ℕ
+padded n = (n + 3) / 4 * 4
+
+-- a name ends before its first zero, if it has one
+abbrev pub name_in : List ℕ → List ℕ
+name_in bytes = or_this bytes (before_zero bytes)
+
+-- The first note, and the bytes that follow.
+pub record First : Type 0 where
+  pub note : Note
+  pub others : List ℕ
+
+abbrev pub first_view : FirstOfCode → First
+first_view f = record { note = note_view f.note; others = f.others.now }
+
+-- the name, the bytes that pad it, what the note says, and what pads that, which may be cut
+abbrev pub note_by : NoteHeader → List ℕ → Option First
+note_by header names =
+    let descs = drop (padded header.n_namesz) names in
+    option_and_then (λ name. option_map (λ desc. record {
+      note = record { name = name_in name; kind = header.n_type; desc = desc };
+      others = drop (padded header.n_descsz) descs;
+    }) (first_bytes header.n_descsz descs)) (first_bytes header.n_namesz names)
+
+-- the header has twelve bytes
+unfoldable pub first_note : Bool → List ℕ → Option First
+first_note big bytes =
+    if nat_lt (length bytes) 12 then None
+    else note_by (note_header big bytes) (drop 12 bytes)
+
+-- ---- all notes
+
+-- Notes in order, and whether bytes follow them that are no whole note.
+pub record Notes : Type 0 where
+  pub notes : List Note
+  pub is_cut : Bool
+
+abbrev pub no_notes : Bool → Notes
+no_notes is_cut = record { notes = []; is_cut = is_cut }
+
+abbrev pub with_first : Note → Notes → Notes
+with_first note others = record { notes = note ∷ others.notes; is_cut = others.is_cut }
+
+-- the first note, and those of the bytes that follow
+abbrev pub notes_with : Option First → (List ℕ → Notes) → Notes
+notes_with None others = no_notes true
+notes_with (Some found) others = with_first found.note (others found.others)
+
+-- at most n
+unfoldable pub notes_up_to : ℕ → Bool → List ℕ → Notes
+notes_up_to zero big bytes = no_notes false
+notes_up_to (suc n) big bytes =
+    if length bytes == 0 then no_notes false
+    else notes_with (first_note big bytes) (notes_up_to n big)
+
+-- all: each takes a byte at least
+abbrev pub notes_of : Bool → List ℕ → Notes
+notes_of big bytes = notes_up_to (length bytes) big bytes
+
+-- ---- as the items of an iterator
+
+abbrev pub cut_item : Bool → List (Result Note ElfError)
+cut_item true = Err NoteCut ∷ []
+cut_item false = []
+
+-- each note, and the error
+abbrev pub items : Notes → List (Result Note ElfError)
+items all = map Ok all.notes ++ cut_item all.is_cut
+
+abbrev pub notes_left : NotesOfCode → Notes
+notes_left walk = notes_of walk.big_endian walk.bytes.now
+
+-- What `next` returned: the first of the notes that were left, or the error that ends them. After
+-- an error none are left.
+abbrev pub Meets : Result (Option Note) ElfError → Notes → Notes → Type 0
+Meets (Ok None) old new = (old ≡ no_notes false) × (new ≡ no_notes false)
+Meets (Ok (Some note)) old new = old ≡ with_first note new
+Meets (Err e) old new =
+    (e ≡ NoteCut) × (old ≡ no_notes true) × (new ≡ no_notes false)
+
+-- ---- the identification of a file's build
+
+-- whether a note is named GNU, and of type NT_GNU_BUILD_ID (3)
+abbrev pub is_build_id : Note → Bool
+is_build_id note = (note.kind == 3) && pointwise nat_eq note.name (codes "GNU")
+
+abbrev pub build_id_in : Bool → List ℕ → Option (List ℕ)
+build_id_in big bytes = option_map (λ note. note.desc) (find is_build_id (notes_of big bytes).notes)
+
+-- that of one segment; PT_NOTE is 4
+unfoldable pub build_id_of : File → ProgramHeader → Result (Option (List ℕ)) ElfError
+build_id_of file header =
+    if header.p_type == 4
+    then and_then (segment_bytes file header) (λ bytes. Ok (build_id_in (is_big_file file) bytes))
+    else Ok None
+
+-- this, or what the others give
+abbrev pub or_others :
+    Option (List ℕ) → Result (Option (List ℕ)) ElfError → Result (Option (List ℕ)) ElfError
+or_others (Some id) others = Ok (Some id)
+or_others None others = others
+
+-- the first, or the first error before it
+abbrev pub build_id_among : File → List ProgramHeader → Result (Option (List ℕ)) ElfError
+build_id_among file [] = Ok None
+build_id_among file (header ∷ headers) =
+    and_then (build_id_of file header) (λ found. or_others found (build_id_among file headers))
+
+unfoldable pub build_id : File → Result (Option (List ℕ)) ElfError
+build_id file =
+    and_then (program_table file) (λ table. build_id_among file (program_headers file table))
