@@ -1,0 +1,4 @@
+mod RegisterPlaces
+mod LastSegments
+mod Sequences
+mod MappingSteps

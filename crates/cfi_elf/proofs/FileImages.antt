@@ -11,7 +11,7 @@ use Rattle.cfi_elf.specs.declared.section_header.SectionHeader.{SectionHeader}
 use Rattle.cfi_elf.specs.Headers.{file_header, file_header_bytes}
 use Rattle.cfi_elf.specs.Images.{Image, IsImageOf, IsRead, bytes_at, if_read, whole}
 use Rattle.cfi_elf.specs.Results.{and_then, if_found, meaning, or_else, or_missing}
-use Rattle.cfi_elf.specs.ElfFiles.{File, byte_orders, classes, elf_file, elf_file_of, file_by, header_bytes, ident, identification, magic, with_addresses}
+use Rattle.cfi_elf.specs.ElfFiles.{File, any_file, byte_orders, classes, elf_file, elf_file_of, file_by, header_bytes, ident, identification, magic, with_addresses}
 use Rattle.cfi_elf.specs.Sections.{Section, address_of, contents, header_named, section_address, section_named, section_of}
 use Rattle.cfi_elf.proofs.SameResults.{Same, ok_read, same_err, same_if, same_ok, same_or_missing, same_then, then_read}
 use Rattle.cfi_elf.proofs.Images.{in_whole, same_bytes_at}
@@ -44,22 +44,31 @@ cut_then : {A : Type 0} (b : Bool) (r r' : Result File ElfError) (g g' : File �
 cut_then true r r' g g' same = refl
 cut_then false r r' g g' same = same
 
+any_then : {A : Type 0} (image image' : Image) (bytes : List ℕ) (g g' : File → Result A ElfError) →
+    ((ident : Identification) (header : FileHeader) → g (record { image = image; identification = ident; header = header }) ≡ g' (record { image = image'; identification = ident; header = header })) →
+    and_then (any_file image bytes) g ≡ and_then (any_file image' bytes) g'
+unfolding any_file
+any_then image image' bytes g g' same =
+    let header = λ (ident : Identification). file_header ident.class (is_big ident.«data») bytes in
+    let file : Image → Identification → Result File ElfError = λ image ident. Ok (record { image = image; identification = ident; header = header ident }) in
+    let short = λ (ident : Identification). nat_lt (length bytes) (file_header_bytes ident.class) in
+    let made = λ (image : Image) (ident : Identification). (if short ident then Err HeaderCut else file image ident) in
+    then_regrouped (identification bytes) (made image) g
+    ∙ (then_each (identification bytes) (λ ident. and_then (made image ident) g) (λ ident. and_then (made image' ident) g')
+    (λ ident. cut_then (short ident) (file image ident) (file image' ident) g g' (same ident (header ident)))
+    ∙ sym (then_regrouped (identification bytes) (made image') g'))
+
 file_then : {A : Type 0} (image image' : Image) (bytes : List ℕ) (g g' : File → Result A ElfError) →
     ((ident : Identification) (header : FileHeader) → g (record { image = image; identification = ident; header = header }) ≡ g' (record { image = image'; identification = ident; header = header })) →
     and_then (file_by image bytes) g ≡ and_then (file_by image' bytes) g'
 unfolding file_by
 file_then image image' bytes g g' same =
-    let header = λ (ident : Identification). file_header ident.class (is_big ident.«data») bytes in
-    let file = λ (image : Image) (ident : Identification). with_addresses (record { image = image; identification = ident; header = header ident }) in
-    let short = λ (ident : Identification). nat_lt (length bytes) (file_header_bytes ident.class) in
-    let made = λ (image : Image) (ident : Identification). (if short ident then Err HeaderCut else file image ident) in
-    then_regrouped (identification bytes) (made image) g
-    ∙ (then_each (identification bytes) (λ ident. and_then (made image ident) g) (λ ident. and_then (made image' ident) g')
-    (λ ident.
-    let kind = (header ident).kind in
-    cut_then (short ident) (file image ident) (file image' ident) g g'
-    (addressed (not (kind.e_version == 1)) (kind.e_type == 1) (kind.e_type == 4) (UnknownVersion kind.e_version) _ _ g g' (same ident (header ident))))
-    ∙ sym (then_regrouped (identification bytes) (made image') g'))
+    then_regrouped (any_file image bytes) with_addresses g
+    ∙ (any_then image image' bytes (λ f. and_then (with_addresses f) g) (λ f. and_then (with_addresses f) g')
+    (λ ident header.
+    let kind = header.kind in
+    addressed (not (kind.e_version == 1)) (kind.e_type == 1) (kind.e_type == 4) (UnknownVersion kind.e_version) _ _ g g' (same ident header))
+    ∙ sym (then_regrouped (any_file image' bytes) with_addresses g'))
 
 -- ---- the header needs no more bytes
 
@@ -80,12 +89,16 @@ same_addressed file =
     same_if (not (file.header.kind.e_version == 1)) (same_err (UnknownVersion file.header.kind.e_version) refl)
     (same_if (file.header.kind.e_type == 1) (same_err Relocatable refl) (same_if (file.header.kind.e_type == 4) (same_err Core refl) (same_ok file)))
 
-same_by_header : (image : Image) (bytes : List ℕ) → Same (file_by image bytes) (file_by image bytes)
-unfolding file_by
-same_by_header image bytes =
+same_any : (image : Image) (bytes : List ℕ) → Same (any_file image bytes) (any_file image bytes)
+unfolding any_file
+same_any image bytes =
     same_then (same_identification bytes) (λ ident.
     same_if (nat_lt (length bytes) (file_header_bytes ident.class)) (same_err HeaderCut refl)
-    (same_addressed (record { image = image; identification = ident; header = file_header ident.class (is_big ident.«data») bytes })))
+    (same_ok (record { image = image; identification = ident; header = file_header ident.class (is_big ident.«data») bytes })))
+
+same_by_header : (image : Image) (bytes : List ℕ) → Same (file_by image bytes) (file_by image bytes)
+unfolding file_by
+same_by_header image bytes = same_then (same_any image bytes) same_addressed
 
 -- ---- the file
 

@@ -8,6 +8,7 @@ pub mod Images
 pub mod FileImages
 mod FoundSections
 mod FunctionLists
+pub mod NoteSteps
 mod FileKinds
 mod NearestFunctions
 mod Worked

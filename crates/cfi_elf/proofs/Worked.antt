@@ -1,22 +1,24 @@
 -- A file of 32 bits, the most significant byte first, by computation; headers and symbols of 64 bits, some of a real program.
-use Rattle.std.proofs.Common.{◌≡◌, ℕ, ◌+◌, ◌-◌, ◌*◌, List, [], ◌∷◌, codes, false, Option, Some, None, Result, Ok, Err, refl, ap, ◌∙◌}
+use Rattle.std.proofs.Common.{◌≡◌, ℕ, ◌+◌, ◌-◌, ◌*◌, ◌++◌, List, [], ◌∷◌, codes, true, false, Option, Some, None, Result, Ok, Err, refl, ap, ◌∙◌}
 use Rattle.std.specs.Prelude.{nat_lt, if◌then◌else◌, take, drop}
 use Rattle.cfi_read_core.specs.declared.endianity.RunTimeEndian.TheVariants.{Big}
 use Rattle.cfi_elf.specs.declared.error.ElfError.{ElfError}
-use Rattle.cfi_elf.specs.declared.error.ElfError.TheVariants.{NotElf, HeaderCut, NotRead, SectionTableOutOfBounds, NameOutOfBounds, NameNotTerminated}
+use Rattle.cfi_elf.specs.declared.error.ElfError.TheVariants.{NotElf, HeaderCut, NotCore, NotRead, SectionTableOutOfBounds, NameOutOfBounds, NameNotTerminated}
 use Rattle.cfi_elf.specs.declared.file_header.Class.TheVariants.{Elf32, Elf64}
 use Rattle.cfi_elf.specs.Results.{and_then}
 use Rattle.cfi_elf.specs.Headers.{file_header, program_header, section_header, symbol}
-use Rattle.cfi_elf.specs.ElfFiles.{File, elf_file, elf_file_of, file_by, header_bytes, identification}
+use Rattle.cfi_elf.specs.ElfFiles.{File, any_file, core_file, elf_file, elf_file_of, file_by, header_bytes, identification}
 use Rattle.cfi_elf.specs.Images.{Image, Part, bytes_at, whole}
 use Rattle.cfi_elf.specs.Sections.{first_section_header, section_count, section_table, contents, name_at, name_section, names_at, section_names, is_named, header_named, section_named, address_of, section_address, debug_frame}
 use Rattle.cfi_elf.specs.Segments.{segment_count, program_table, wanted_segment, loaded_bytes, eh_frame_hdr_segment, address_of_offset}
+use Rattle.cfi_elf.specs.SegmentLists.{segments}
+use Rattle.cfi_elf.specs.Notes.{build_id, build_id_in, build_id_of, first_note, notes_of, notes_up_to}
 use Rattle.cfi_elf.specs.SymbolTables.{Function}
 use Rattle.cfi_elf.specs.FunctionNames.{first_name, named_function, place_among}
 
 -- to name it on an `unfolding` line is to open all these
 unfoldable computing : ℕ
-unfolding bytes_at header_bytes file_by identification elf_file_of first_section_header section_count section_table contents name_at name_section names_at section_names is_named header_named section_named address_of section_address debug_frame segment_count program_table wanted_segment loaded_bytes eh_frame_hdr_segment address_of_offset
+unfolding bytes_at header_bytes any_file file_by core_file identification elf_file_of first_section_header section_count section_table contents name_at name_section names_at section_names is_named header_named section_named address_of section_address debug_frame segment_count program_table wanted_segment loaded_bytes eh_frame_hdr_segment address_of_offset segments first_note notes_up_to build_id_of build_id
 computing = 0
 
 -- the bytes of hexadecimal text, whose letters are small
@@ -122,7 +124,20 @@ not_with_the_segment : of_worked (λ file. address_of_offset file 0x58) ≡ Ok N
 unfolding computing
 not_with_the_segment = says (λ file. address_of_offset file 0x58) ∙ refl
 
+its_segments : of_worked segments
+    ≡ Ok (record { p_type = 1; p_flags = 5; p_offset = 0x54; p_vaddr = 0x1054; p_filesz = 4; p_memsz = 8 } ∷ [])
+unfolding computing
+its_segments = says segments ∙ refl
+
+no_build_id : of_worked build_id ≡ Ok None
+unfolding computing
+no_build_id = says build_id ∙ refl
+
 -- ---- cut, and changed
+
+no_core_file : core_file worked_header ≡ Err (NotCore 2)
+unfolding computing
+no_core_file = refl
 
 a_header_less_a_byte : elf_file (take 51 worked_header) ≡ Err HeaderCut
 unfolding computing
@@ -196,7 +211,7 @@ unfolding computing
 section_of_64_bits = refl
 
 segment_of_64_bits : program_header Elf64 false (bytes_behind None (codes "0100000005000000000200000000000000124000000000000012400000000000300000000000000040000000000000000010000000000000"))
-    ≡ record { p_type = 1; p_flags = 5; p_offset = 0x200; p_vaddr = 0x401200; p_filesz = 0x30; p_memsz = 0x30 }
+    ≡ record { p_type = 1; p_flags = 5; p_offset = 0x200; p_vaddr = 0x401200; p_filesz = 0x30; p_memsz = 0x40 }
 unfolding computing
 segment_of_64_bits = refl
 
@@ -204,6 +219,43 @@ symbol_of_64_bits : symbol Elf64 false (bytes_behind None (codes "01000000120007
     ≡ record { st_name = 1; st_value = 0x401200; st_size = 0x30; st_info = 0x12; st_shndx = 7 }
 unfolding computing
 symbol_of_64_bits = refl
+
+-- ---- notes: that with the build id of a program of Debian 12 (true), as readelf -n prints it
+
+abbrev gnu_note : List ℕ
+gnu_note = bytes_behind None (codes "040000001400000003000000474e5500c89156ebdabf859f4ee70cb0c303004dccf1ae51")
+
+abbrev its_id : List ℕ
+its_id = bytes_behind None (codes "c89156ebdabf859f4ee70cb0c303004dccf1ae51")
+
+one_note : notes_of false gnu_note ≡ record { notes = record { name = codes "GNU"; kind = 3; desc = its_id } ∷ []; is_cut = false }
+unfolding computing
+one_note = refl
+
+its_build_id : build_id_in false gnu_note ≡ Some its_id
+unfolding computing
+its_build_id = refl
+
+-- names of three and five bytes are padded by one and three, what the first says by two, and behind the last nothing need follow
+padded_notes : notes_of false (bytes_behind None (codes "0300000002000000070000004142000001020000") ++ bytes_behind None (codes "05000000010000000900000043444546000000000a"))
+    ≡ record {
+      notes = record { name = codes "AB"; kind = 7; desc = 1 ∷ 2 ∷ [] } ∷ record { name = codes "CDEF"; kind = 9; desc = 10 ∷ [] } ∷ [];
+      is_cut = false;
+    }
+unfolding computing
+padded_notes = refl
+
+big_note : notes_of true (bytes_behind None (codes "000000010000000100000007414141410a")) ≡ record { notes = record { name = codes "A"; kind = 7; desc = 10 ∷ [] } ∷ []; is_cut = false }
+unfolding computing
+big_note = refl
+
+a_note_less_a_byte : notes_of false (gnu_note ++ take 35 gnu_note) ≡ record { notes = record { name = codes "GNU"; kind = 3; desc = its_id } ∷ []; is_cut = true }
+unfolding computing
+a_note_less_a_byte = refl
+
+no_notes_there : notes_of false [] ≡ record { notes = []; is_cut = false }
+unfolding computing
+no_notes_there = refl
 
 -- ---- names of functions
 

@@ -4,8 +4,8 @@
 --     notes_left walk      those that an iterator of the code has left
 --     build_id file      what the first note says that has an identification of the file
 use Rattle.std.specs.Prelude.{◌≡◌, ℕ, ◌+◌, ◌*◌, ◌/◌, zero, suc, Bool, true, false, ◌&&◌, List, []}
-use Rattle.std.specs.Prelude.{◌∷◌, ◌++◌, length, drop, take, map, find, codes, Option, Some, None}
-use Rattle.std.specs.Prelude.{Result, Ok, Err, option_map, nat_eq, nat_le, nat_lt, ◌==◌}
+use Rattle.std.specs.Prelude.{◌∷◌, ◌++◌, length, drop, map, find, codes, Option, Some, None}
+use Rattle.std.specs.Prelude.{Result, Ok, Err, option_map, nat_eq, nat_lt, ◌==◌}
 use Rattle.std.specs.Prelude.{if◌then◌else◌}
 use Rattle.std.specs.Cmp.Lexicographic.{pointwise}
 use Rattle.std.specs.Option.{option_and_then}
@@ -20,7 +20,8 @@ use Rattle.cfi_elf.specs.ElfFiles.{File, is_big_file}
 use Rattle.cfi_elf.specs.Fields.{before_zero, field, first_bytes}
 use Rattle.cfi_elf.specs.Layouts.{note_header_fields}
 use Rattle.cfi_elf.specs.Results.{and_then, or_this}
-use Rattle.cfi_elf.specs.Segments.{program_headers, program_table, segment_bytes}
+use Rattle.cfi_elf.specs.SegmentLists.{segments}
+use Rattle.cfi_elf.specs.Segments.{segment_bytes}
 
 -- ---- one note
 
@@ -151,5 +152,4 @@ build_id_among file (header ∷ headers) =
     and_then (build_id_of file header) (λ found. or_others found (build_id_among file headers))
 
 unfoldable pub build_id : File → Result (Option (List ℕ)) ElfError
-build_id file =
-    and_then (program_table file) (λ table. build_id_among file (program_headers file table))
+build_id file = and_then (segments file) (build_id_among file)

@@ -3,14 +3,16 @@ ghost use Rattle.std.specs.Prelude.{◌≡◌, ◌≤◌, ⊤, length, option_ma
 ghost use Rattle.cfi_read_core.specs.ByteOrder.{is_big};
 ghost use Rattle.cfi_read_core.specs.ReaderCalls.{map_ok};
 ghost use Rattle.cfi_elf.specs.ElfFiles.{file_view};
-ghost use Rattle.cfi_elf.specs.Notes.{Meets, build_id, build_id_in, build_id_of, first_note};
-ghost use Rattle.cfi_elf.specs.Notes.{first_view, is_build_id, name_in, note_header, note_view};
-ghost use Rattle.cfi_elf.specs.Notes.{notes_left, notes_of, padded};
+ghost use Rattle.cfi_elf.specs.Notes.{Meets, build_id, build_id_among, build_id_in, build_id_of};
+ghost use Rattle.cfi_elf.specs.Notes.{first_note, first_view, is_build_id, name_in, note_header};
+ghost use Rattle.cfi_elf.specs.Notes.{note_view, notes_left, notes_of, padded};
+ghost use Rattle.cfi_elf.specs.SegmentLists.{segments_left};
 
 use crate::bytes::{Record, before_zero, bytes_from, first_bytes};
 use crate::elf_file::ElfFile;
 use crate::error::ElfError;
 use crate::program_header::ProgramHeader;
+use crate::segments::Segments;
 use cfi_read_core::{Endianity, RunTimeEndian};
 use std::alloc::AllocError;
 
@@ -127,7 +129,16 @@ impl<'input> ElfFile<'input> {
     pub fn build_id(&self) -> Result<Option<&'input [u8]>, ElfError>
         ensures { map_ok (option_map (λ id. id.now)) result ≡ build_id (file_view self.now) }
     {
-        for header in self.segments()? {
+        let headers = self.segments()?;
+        self.build_id_among(headers)
+    }
+
+    /// The same of the segments of these headers.
+    fn build_id_among(&self, headers: Segments<'input>) -> Result<Option<&'input [u8]>, ElfError>
+        ensures { map_ok (option_map (λ id. id.now)) result
+            ≡ build_id_among (file_view self.now) (segments_left headers.entry) }
+    {
+        for header in headers {
             if let Some(id) = self.build_id_of(&header)? {
                 return Ok(Some(id));
             }

@@ -67,7 +67,13 @@ impl<'input> Iterator for Segments<'input> {
     ghost remaining = { item_count segments_left };
 
     fn next(&mut self) -> Option<ProgramHeader> {
-        let header = self.file.program_header_in(self.table, self.index)?;
+        // There are fewer headers than bytes.
+        if self.index >= self.table.len() {
+            return None;
+        }
+        let Some(header) = self.file.program_header_in(self.table, self.index) else {
+            return None;
+        };
         self.index += 1;
         Some(header)
     }

@@ -1,0 +1,106 @@
+-- What notes say, one after the other.
+use Rattle.std.proofs.Common.{◌≡◌, ◌∙◌, ◌++◌, List, [], ◌∷◌, Option, Some, None, Result, Ok, Err, refl, sym, ap, ap₂, append_assoc, append-nil}
+use Rattle.cfi_elf.specs.declared.error.ElfError.{ElfError}
+use Rattle.cfi_elf.specs.declared.program_header.ProgramHeader.{ProgramHeader}
+use Rattle.cfi_elf.specs.Notes.{Note, Notes, items}
+use Rattle.cfi_elf.specs.Results.{or_else}
+use Rattle.cfi_elf.proofs.NoteSteps.{error_is, first_is, none_are}
+use Rattle.cfi_processes.specs.declared.registers.SampleMachine.{SampleMachine}
+use Rattle.cfi_cores.specs.declared.error.CoreError.{CoreError}
+use Rattle.cfi_cores.specs.declared.error.CoreError.TheVariants.{NoteCut}
+use Rattle.cfi_cores.specs.Contents.{Contents, ended_by, followed_by, nothing, of_all, of_files, of_note, of_thread}
+use Rattle.cfi_cores.specs.CoreThreads.{CoreThread}
+use Rattle.cfi_cores.specs.MappedFiles.{CoreMapping}
+
+-- ---- laws
+
+abbrev with_error : Contents → Option CoreError → Contents
+with_error a error = record { threads = a.threads; mapped = a.mapped; error = error }
+
+or_else_assoc : {A : Type 0} (x y z : Option A) → or_else (or_else x y) z ≡ or_else x (or_else y z)
+or_else_assoc (Some a) y z = refl
+or_else_assoc None y z = refl
+
+or_else_none : {A : Type 0} (x : Option A) → or_else x None ≡ x
+or_else_none (Some a) = refl
+or_else_none None = refl
+
+assoc : (a b c : Contents) → followed_by (followed_by a b) c ≡ followed_by a (followed_by b c)
+assoc a b c = by a.error b.error
+  where
+    by : (x y : Option CoreError) → followed_by (followed_by (with_error a x) (with_error b y)) c ≡ followed_by (with_error a x) (followed_by (with_error b y) c)
+    by (Some e) y = refl
+    by None (Some e) = refl
+    by None None =
+        ap₂ (λ (threads : List CoreThread) (mapped : Option (List CoreMapping)). record { threads = threads; mapped = mapped; error = c.error })
+        (append_assoc a.threads b.threads c.threads) (or_else_assoc a.mapped b.mapped c.mapped)
+
+pub nothing_more : (a : Contents) → a ≡ followed_by a nothing
+nothing_more a = by a.error
+  where
+    by : (x : Option CoreError) → with_error a x ≡ followed_by (with_error a x) nothing
+    by (Some e) = refl
+    by None =
+        sym (ap₂ (λ (threads : List CoreThread) (mapped : Option (List CoreMapping)). record { threads = threads; mapped = mapped; error = None })
+        (append-nil a.threads) (or_else_none a.mapped))
+
+-- ---- nothing follows an error
+
+pub over : (a b : Contents) (e : CoreError) → a.error ≡ Some e → a ≡ followed_by a b
+over a b e is = by a.error is
+  where
+    by : (x : Option CoreError) → x ≡ Some e → with_error a x ≡ followed_by (with_error a x) b
+    by (Some e') is = refl
+    by None is = absurd (cc)
+
+-- ---- without an error so far
+
+module _ (a : Contents) (none : a.error ≡ None) where
+  as_none : a ≡ with_error a None
+  as_none = ap (with_error a) none
+
+  after : (b : Contents) → followed_by (with_error a None) b ≡ followed_by a b
+  after b = ap (λ (x : Contents). followed_by x b) (sym as_none)
+
+  pub end_added : (e : CoreError) → with_error a (Some e) ≡ followed_by a (ended_by e)
+  end_added e =
+      sym (ap₂ (λ (threads : List CoreThread) (mapped : Option (List CoreMapping)). record { threads = threads; mapped = mapped; error = Some e })
+      (append-nil a.threads) (or_else_none a.mapped)) ∙ after (ended_by e)
+
+  pub thread_added : (t : CoreThread) (threads : List CoreThread) → threads ≡ a.threads ++ t ∷ [] → record { threads = threads; mapped = a.mapped; error = a.error } ≡ followed_by a (of_thread (Some t))
+  thread_added t threads pushed =
+      ap₂ (λ (threads : List CoreThread) (error : Option CoreError). record { threads = threads; mapped = a.mapped; error = error }) pushed none
+      ∙ (ap (λ (mapped : Option (List CoreMapping)). record { threads = a.threads ++ t ∷ []; mapped = mapped; error = None }) (sym (or_else_none a.mapped))
+      ∙ after (of_thread (Some t)))
+
+  pub files_added : (files : List CoreMapping) → a.mapped ≡ None → record { threads = a.threads; mapped = Some files; error = a.error } ≡ followed_by a (of_files (Some files))
+  files_added files unmapped =
+      ap₂ (λ (threads : List CoreThread) (error : Option CoreError). record { threads = threads; mapped = Some files; error = error }) (sym (append-nil a.threads)) none
+      ∙ (ap (λ (mapped : Option (List CoreMapping)). record { threads = a.threads ++ []; mapped = or_else mapped (Some files); error = None }) (sym unmapped)
+      ∙ after (of_files (Some files)))
+
+  pub files_passed : (files known : List CoreMapping) → a.mapped ≡ Some known → a ≡ followed_by a (of_files (Some files))
+  files_passed files known mapped =
+      as_none
+      ∙ (ap₂ (λ (threads : List CoreThread) (m : Option (List CoreMapping)). record { threads = threads; mapped = m; error = None }) (sym (append-nil a.threads))
+      (mapped ∙ ap (λ (m : Option (List CoreMapping)). or_else m (Some files)) (sym mapped))
+      ∙ after (of_files (Some files)))
+
+-- ---- loops over them
+
+pub one_read : (old new one rest all whole : Contents) → new ≡ followed_by old one → all ≡ followed_by one rest → followed_by old all ≡ whole → followed_by new rest ≡ whole
+one_read old new one rest all whole is split before =
+    ap (λ (a : Contents). followed_by a rest) is ∙ (assoc old one rest ∙ (ap (followed_by old) (sym split) ∙ before))
+
+pub all_read : (old all whole : Contents) → all ≡ nothing → followed_by old all ≡ whole → old ≡ whole
+all_read old all whole none before = nothing_more old ∙ (ap (followed_by old) (sym none) ∙ before)
+
+module _ (machine : SampleMachine) where
+  pub note_first : (old new : Notes) (note : Note) → items old ≡ Ok note ∷ items new → of_all machine old ≡ followed_by (of_note machine note) (of_all machine new)
+  note_first old new note e = ap (of_all machine) (first_is old new note e)
+
+  pub cut_first : (old new : Notes) (error : ElfError) → items old ≡ Err error ∷ items new → of_all machine old ≡ followed_by (ended_by NoteCut) (of_all machine new)
+  cut_first old new error e = ap (of_all machine) (error_is old new error e)
+
+  pub no_note : (old : Notes) → items old ≡ [] → of_all machine old ≡ nothing
+  no_note old e = ap (of_all machine) (none_are old e)

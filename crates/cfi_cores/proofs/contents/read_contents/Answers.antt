@@ -1,0 +1,16 @@
+use Rattle.std.proofs.Common.{ap}
+use Rattle.cfi_elf.specs.SegmentLists.{segments_left}
+use Rattle.cfi_cores.specs.Contents.{Contents, contents_view, followed_by, of_header, of_headers}
+use Rattle.cfi_cores.proofs.Sequences.{all_read, one_read}
+use Rattle.cfi_cores.proofs.contents.read_contents.Goals as goal
+
+pub loop-header-init : goal.loop-header-init
+loop-header-init c = ap (λ (a : Contents). followed_by a (of_headers c.args.machine c.args.bytes.now (segments_left c.args.headers))) c.new.ensures
+
+pub loop-header-preserved : goal.loop-header-preserved
+loop-header-preserved c =
+    one_read (contents_view c.loop-header.contents) _ (of_header c.args.machine c.args.bytes.now c.in-Some.header) _ _ _
+    c.in_ok-read_header.ensures (ap (of_headers c.args.machine c.args.bytes.now) c.in-Some.ensures.steps) c.loop-header.invariant
+
+pub returns : goal.returns
+returns c = all_read _ _ _ (ap (of_headers c.args.machine c.args.bytes.now) c.in-None.ensures.steps.0) c.loop-header.invariant
