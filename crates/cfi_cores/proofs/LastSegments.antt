@@ -2,7 +2,7 @@
 use Rattle.std.proofs.Common.{◌≡◌, ℕ, zero, suc, ◌-◌, ◌<◌, ◌≤◌, Bool, true, false, List, [], ◌∷◌, length, get_or, map, Option, Some, None, cond, nat_le, refl, ap, ◌∙◌, arith}
 use Rattle.std.specs.List.{filter, last_or}
 use Rattle.std.proofs.lemmas.Bool.{cond-true, cond-false}
-use Rattle.cfi_cores.specs.declared.memory.CoreSegment.{CoreSegment as SegmentOfCode}
+use Rattle.cfi_cores.specs.declared.segments.CoreSegment.{CoreSegment as SegmentOfCode}
 use Rattle.cfi_cores.specs.CoreSegments.{CoreSegment, last_upto, segment_view}
 
 module _ {X Y : Type 0} (view : X → Y) (p : Y → Bool) where

@@ -2,3 +2,5 @@ mod RegisterPlaces
 mod LastSegments
 mod Sequences
 mod MappingSteps
+mod CoreResults
+mod Worked

@@ -1,7 +1,10 @@
 -- The mapped files, entry by entry.
-use Rattle.std.proofs.Common.{◌≡◌, ◌∙◌, ◌+◌, ◌++◌, ℕ, List, [], ◌∷◌, Option, Some, None, option_map, length, drop, refl, sym, ap, append_assoc, append-nil}
+use Rattle.std.proofs.Common.{◌≡◌, ◌∙◌, ◌+◌, ◌/◌, ◌≤◌, ◌++◌, arith, ℕ, List, [], ◌∷◌, Option, Some, None, option_map, length, drop, refl, sym, ap, append_assoc, append-nil}
 use Rattle.std.specs.Option.{option_and_then}
-use Rattle.cfi_elf.specs.Fields.{before_zero}
+use Rattle.std.proofs.Math.Nat.{div-le_self}
+use Rattle.std.proofs.lemmas.List.{drop_all}
+use Rattle.std.proofs.lemmas.List.FromFn.{length-map-range_with_len}
+use Rattle.cfi_elf.specs.Fields.{before_zero, entries, entry_at}
 use Rattle.cfi_cores.specs.MappedFiles.{CoreMapping, mapping_by, mappings}
 
 -- mappings before the others
@@ -15,6 +18,13 @@ none_first (Some found) = refl
 one_more : (first : List CoreMapping) (m : CoreMapping) (others : Option (List CoreMapping)) → behind_these (first ++ m ∷ []) others ≡ behind_these first (option_map (λ found. m ∷ found) others)
 one_more first m None = refl
 one_more first m (Some found) = ap {B = Option (List CoreMapping)} Some (append_assoc first (m ∷ []) found)
+
+-- at the latest when there were as many as bytes
+pub no_entries : (size : ℕ) (bytes : List ℕ) (index : ℕ) → length bytes ≤ index → drop index (entries size bytes) ≡ []
+no_entries size bytes index up =
+    let n : length (entries size bytes) ≡ length bytes / size = length-map-range_with_len (entry_at size bytes) 0 (length bytes / size) in
+    let few = div-le_self (length bytes) size in
+    drop_all index (entries size bytes) (omega (arith, n, few, up))
 
 module _ (page_size : ℕ) (first : List CoreMapping) (all : List (List ℕ)) (names : List ℕ) (whole : Option (List CoreMapping))
     (so : behind_these first (mappings page_size all names) ≡ whole) where

@@ -44,48 +44,6 @@ nothing_more a = by a.error
         sym (ap₂ (λ (threads : List CoreThread) (mapped : Option (List CoreMapping)). record { threads = threads; mapped = mapped; error = None })
         (append-nil a.threads) (or_else_none a.mapped))
 
--- ---- nothing follows an error
-
-pub over : (a b : Contents) (e : CoreError) → a.error ≡ Some e → a ≡ followed_by a b
-over a b e is = by a.error is
-  where
-    by : (x : Option CoreError) → x ≡ Some e → with_error a x ≡ followed_by (with_error a x) b
-    by (Some e') is = refl
-    by None is = absurd (cc)
-
--- ---- without an error so far
-
-module _ (a : Contents) (none : a.error ≡ None) where
-  as_none : a ≡ with_error a None
-  as_none = ap (with_error a) none
-
-  after : (b : Contents) → followed_by (with_error a None) b ≡ followed_by a b
-  after b = ap (λ (x : Contents). followed_by x b) (sym as_none)
-
-  pub end_added : (e : CoreError) → with_error a (Some e) ≡ followed_by a (ended_by e)
-  end_added e =
-      sym (ap₂ (λ (threads : List CoreThread) (mapped : Option (List CoreMapping)). record { threads = threads; mapped = mapped; error = Some e })
-      (append-nil a.threads) (or_else_none a.mapped)) ∙ after (ended_by e)
-
-  pub thread_added : (t : CoreThread) (threads : List CoreThread) → threads ≡ a.threads ++ t ∷ [] → record { threads = threads; mapped = a.mapped; error = a.error } ≡ followed_by a (of_thread (Some t))
-  thread_added t threads pushed =
-      ap₂ (λ (threads : List CoreThread) (error : Option CoreError). record { threads = threads; mapped = a.mapped; error = error }) pushed none
-      ∙ (ap (λ (mapped : Option (List CoreMapping)). record { threads = a.threads ++ t ∷ []; mapped = mapped; error = None }) (sym (or_else_none a.mapped))
-      ∙ after (of_thread (Some t)))
-
-  pub files_added : (files : List CoreMapping) → a.mapped ≡ None → record { threads = a.threads; mapped = Some files; error = a.error } ≡ followed_by a (of_files (Some files))
-  files_added files unmapped =
-      ap₂ (λ (threads : List CoreThread) (error : Option CoreError). record { threads = threads; mapped = Some files; error = error }) (sym (append-nil a.threads)) none
-      ∙ (ap (λ (mapped : Option (List CoreMapping)). record { threads = a.threads ++ []; mapped = or_else mapped (Some files); error = None }) (sym unmapped)
-      ∙ after (of_files (Some files)))
-
-  pub files_passed : (files known : List CoreMapping) → a.mapped ≡ Some known → a ≡ followed_by a (of_files (Some files))
-  files_passed files known mapped =
-      as_none
-      ∙ (ap₂ (λ (threads : List CoreThread) (m : Option (List CoreMapping)). record { threads = threads; mapped = m; error = None }) (sym (append-nil a.threads))
-      (mapped ∙ ap (λ (m : Option (List CoreMapping)). or_else m (Some files)) (sym mapped))
-      ∙ after (of_files (Some files)))
-
 -- ---- loops over them
 
 pub one_read : (old new one rest all whole : Contents) → new ≡ followed_by old one → all ≡ followed_by one rest → followed_by old all ≡ whole → followed_by new rest ≡ whole

@@ -101,5 +101,5 @@ of_headers machine bytes (header ∷ headers) =
 abbrev pub thread_found : Option ThreadOfCode → Option CoreThread
 thread_found found = option_map thread_view found
 
-abbrev pub files_found : Option (Vec ℕ MappingOfCode) → Option (List CoreMapping)
+abbrev pub files_found : {A : Type 0} → Option (Vec MappingOfCode A) → Option (List CoreMapping)
 files_found found = option_map list_view found

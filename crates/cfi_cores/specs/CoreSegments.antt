@@ -2,7 +2,8 @@
 --     bytes_of bytes header      the bytes of a segment, as far as the file has them
 --     loaded_in bytes header      the segment of a header of type PT_LOAD
 --     AreInOrder segments      none begins at a lower address than the one before it
---     number_at memory a size      the number of so many bytes at an address
+--     number_among segments a size      the number of so many bytes at an address, by the last
+--         segment that begins at or below it
 use Rattle.std.specs.Prelude.{◌≡◌, ℕ, Bool, false, not, List, drop, take, map, bit_and, Option, Some}
 use Rattle.std.specs.Prelude.{None, nat_le, ◌==◌, if◌then◌else◌}
 use Rattle.std.specs.List.{filter, last_or}
@@ -11,10 +12,8 @@ use Rattle.std.specs.Option.{option_and_then}
 use Rattle.std.specs.Ordering.{nat_cmp}
 use Rattle.cfi_read_core.specs.SliceReaders.{slice_over}
 use Rattle.cfi_elf.specs.declared.program_header.ProgramHeader.{ProgramHeader}
-use Rattle.cfi_elf.specs.Results.{or_else}
 use Rattle.cfi_expression.specs.Windows.{number_in}
-use Rattle.cfi_cores.specs.declared.memory.CoreSegment.{CoreSegment as SegmentOfCode}
-use Rattle.cfi_cores.specs.declared.memory.CoreMemory.{CoreMemory as MemoryOfCode}
+use Rattle.cfi_cores.specs.declared.segments.CoreSegment.{CoreSegment as SegmentOfCode}
 
 -- Bytes of memory from an address on.
 pub record CoreSegment : Type 0 where
@@ -50,19 +49,14 @@ AreInOrder segments = IsNonDecreasingBy (λ s. s.start) segments
 
 -- those of `found` by rising addresses; those of one address stay in their order
 pub record AreSorted (found sorted : List CoreSegment) : Type 0 where
-  pub by_start : IsSortedByKey (λ s. s.start) nat_cmp sorted
-  pub stable : IsStableByKey (λ s. s.start) nat_cmp found sorted
+  pub read : List SegmentOfCode
+  pub ordered : List SegmentOfCode
+  pub are : map segment_view read ≡ found
+  pub by_start : IsSortedByKey (λ s. s.start) nat_cmp ordered
+  pub stable : IsStableByKey (λ s. s.start) nat_cmp read ordered
+  pub view : map segment_view ordered ≡ sorted
 
--- ---- the memory
-
--- Segments of a core, and what was mapped where it has no bytes.
-pub record CoreMemory : Type 0 where
-  pub dumped : List CoreSegment
-  pub mapped : List CoreSegment
-
-abbrev pub memory_view : MemoryOfCode → CoreMemory
-memory_view m =
-    record { dumped = map segment_view m.dumped.now; mapped = map segment_view m.mapped.now }
+-- ---- numbers in them
 
 -- the number of so many bytes at an address, if the segment has all of them
 abbrev pub number_of : ℕ → ℕ → CoreSegment → Option ℕ
@@ -74,8 +68,3 @@ last_upto a segments = last_or None (filter (λ s. nat_le s.start a) segments)
 
 abbrev pub number_among : List CoreSegment → ℕ → ℕ → Option ℕ
 number_among segments a size = option_and_then (number_of a size) (last_upto a segments)
-
--- where the core doesn't have all bytes, what was mapped there
-abbrev pub number_at : CoreMemory → ℕ → ℕ → Option ℕ
-number_at memory a size =
-    or_else (number_among memory.dumped a size) (number_among memory.mapped a size)

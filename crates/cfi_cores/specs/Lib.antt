@@ -3,5 +3,6 @@ pub mod CoreRegisters
 pub mod CoreThreads
 pub mod MappedFiles
 pub mod CoreSegments
+pub mod CoreMemories
 pub mod Contents
 pub mod CoreFiles

@@ -13,11 +13,12 @@ pub mod error;
 pub mod mapped_files;
 pub mod memory;
 mod registers;
-mod segments;
+pub mod segments;
 pub mod thread;
 
 pub use core_file::{Core, read_core};
 pub use error::CoreError;
 pub use mapped_files::CoreMapping;
-pub use memory::{CoreMemory, CoreSegment};
+pub use memory::CoreMemory;
+pub use segments::CoreSegment;
 pub use thread::CoreThread;

@@ -1,35 +1,12 @@
 //! The memory of a core file.
 ghost use Rattle.std.specs.Prelude.{◌≡◌, ⊤, map};
 ghost use Rattle.cfi_read_core.specs.Addresses.{IsAddressSize};
-ghost use Rattle.cfi_cores.specs.CoreSegments.{AreInOrder, number_among, number_at, segment_view};
-ghost use Rattle.cfi_cores.specs.CoreSegments.{number_of};
+ghost use Rattle.cfi_cores.specs.CoreSegments.{AreInOrder, number_among, number_of, segment_view};
 
+use crate::segments::CoreSegment;
 use cfi_expression::{Memory, Window};
 use cfi_read_core::{EndianSlice, RunTimeEndian};
 use std::alloc::AllocError;
-
-/// Bytes of memory from an address on: a segment of a core file, or a part of a file that was
-/// mapped.
-#[derive(Copy, Debug)]
-pub struct CoreSegment<'run> {
-    /// The address of the first byte.
-    pub start: u64,
-    /// The bytes, as far as the file has them.
-    pub bytes: &'run [u8],
-    /// Whether they may be executed (`PF_X`).
-    pub is_executable: bool,
-}
-
-impl Clone for CoreSegment<'_> {
-    ghost is_clone = { λ x y. y ≡ x };
-
-    ghost is_infallible = { λ _. ⊤ };
-
-    #[inline(always)]
-    fn clone(&self) -> Result<Self, AllocError> {
-        Ok(*self)
-    }
-}
 
 /// The memory of a core file: its segments, and for what they don't have the files that were
 /// mapped there, since a core file has no copy of code, or only its first page.
@@ -59,7 +36,7 @@ impl Clone for CoreMemory<'_> {
 impl Copy for CoreMemory<'_> {}
 
 impl<'run> CoreMemory<'run> {
-    ghost use Rattle.cfi_cores.specs.CoreSegments.{memory_view};
+    ghost use Rattle.cfi_cores.specs.CoreMemories.{memory_view};
 
     /// The memory of these segments, as `Core` has them, and of these parts of mapped files. Both
     /// are in the order of their addresses.
@@ -76,7 +53,7 @@ impl<'run> CoreMemory<'run> {
 }
 
 impl Memory for CoreMemory<'_> {
-    ghost use Rattle.cfi_cores.specs.CoreSegments.{memory_view};
+    ghost use Rattle.cfi_cores.specs.CoreMemories.{memory_view, number_at};
 
     ghost number_at = { λ memory address size. number_at (memory_view memory) address size };
 

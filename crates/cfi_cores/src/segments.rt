@@ -1,10 +1,9 @@
-//! The bytes of a core file's segments.
-ghost use Rattle.std.specs.Prelude.{◌≡◌, IfOk, map, option_map};
+//! The segments of a core file.
+ghost use Rattle.std.specs.Prelude.{◌≡◌, ⊤, IfOk, map, option_map};
 ghost use Rattle.std.specs.List.{filter_map};
 ghost use Rattle.cfi_elf.specs.SegmentLists.{segments_left};
 ghost use Rattle.cfi_cores.specs.CoreSegments.{bytes_of, loaded_in, segment_view};
 
-use crate::memory::CoreSegment;
 use cfi_elf::bytes::bytes_from;
 use cfi_elf::{ProgramHeader, Segments};
 use std::alloc::{AllocError, Global};
@@ -12,6 +11,29 @@ use std::alloc::{AllocError, Global};
 const PT_LOAD: u32 = 1;
 
 const PF_X: u32 = 1;
+
+/// Bytes of memory from an address on: a segment of a core file, or a part of a file that was
+/// mapped.
+#[derive(Copy, Debug)]
+pub struct CoreSegment<'run> {
+    /// The address of the first byte.
+    pub start: u64,
+    /// The bytes, as far as the file has them.
+    pub bytes: &'run [u8],
+    /// Whether they may be executed (`PF_X`).
+    pub is_executable: bool,
+}
+
+impl Clone for CoreSegment<'_> {
+    ghost is_clone = { λ x y. y ≡ x };
+
+    ghost is_infallible = { λ _. ⊤ };
+
+    #[inline(always)]
+    fn clone(&self) -> Result<Self, AllocError> {
+        Ok(*self)
+    }
+}
 
 /// The bytes of a segment, as far as the file has them.
 pub(crate) fn bytes_of<'run>(bytes: &'run [u8], header: &ProgramHeader) -> &'run [u8]
