@@ -1,11 +1,7 @@
 use Rattle.std.proofs.Common.{ap}
-use Rattle.cfi_elf.specs.SegmentLists.{segments_left}
-use Rattle.cfi_cores.specs.Contents.{Contents, contents_view, followed_by, of_header, of_headers}
+use Rattle.cfi_cores.specs.Contents.{contents_view, of_header, of_headers}
 use Rattle.cfi_cores.proofs.Sequences.{all_read, one_read}
 use Rattle.cfi_cores.proofs.contents.read_contents.Goals as goal
-
-pub loop-header-init : goal.loop-header-init
-loop-header-init c = ap (λ (a : Contents). followed_by a (of_headers c.args.machine c.args.bytes.now (segments_left c.args.headers))) c.new-contents.ensures
 
 pub loop-header-preserved : goal.loop-header-preserved
 loop-header-preserved c =

@@ -11,13 +11,13 @@ returns-in_err-file-clause-core c =
 
 pub returns-in_err-machine-clause-core : goal.returns-in_err-machine-clause-core
 returns-in_err-machine-clause-core c =
-    let gives : c.from_residual.result ≡ Err c.in_err-machine.field-0.0 = search rules in
-    no_machine c.args.bytes.now (file_view c.in_ok-file.file) c.in_ok-file.ensures c.in_err-machine.field-0.0 c.from_residual.result c.in_err-machine.ensures gives
+    let gives : c.from_residual-in_err-machine.result ≡ Err c.in_err-machine.field-0.0 = search rules in
+    no_machine c.args.bytes.now (file_view c.in_ok-file.file) c.in_ok-file.ensures c.in_err-machine.field-0.0 c.from_residual-in_err-machine.result c.in_err-machine.ensures gives
 
 pub returns-in_err-headers-clause-core : goal.returns-in_err-headers-clause-core
 returns-in_err-headers-clause-core c =
-    let gives : c.from_residual.result ≡ Err c.in_err-headers.field-0.0 = search rules in
-    no_headers c.args.bytes.now (file_view c.in_ok-file.file) c.in_ok-file.ensures c.in_ok-machine.machine c.in_ok-machine.ensures c.in_err-headers.field-0.0 c.from_residual.result c.in_err-headers.ensures gives
+    let gives : c.from_residual-in_err-headers.result ≡ Err c.in_err-headers.field-0.0 = search rules in
+    no_headers c.args.bytes.now (file_view c.in_ok-file.file) c.in_ok-file.ensures c.in_ok-machine.machine c.in_ok-machine.ensures c.in_err-headers.field-0.0 c.from_residual-in_err-headers.result c.in_err-headers.ensures gives
 
 pub returns-in-Ok-clause-core : goal.returns-in-Ok-clause-core
 returns-in-Ok-clause-core c =
