@@ -77,7 +77,8 @@ cut_end false = nothing
 
 abbrev pub of_notes : SampleMachine → List Note → Contents → Contents
 of_notes machine [] end = end
-of_notes machine (note ∷ notes) end = followed_by (of_note machine note) (of_notes machine notes end)
+of_notes machine (note ∷ notes) end =
+    followed_by (of_note machine note) (of_notes machine notes end)
 
 -- the notes of these bytes, and the error where they are cut
 abbrev pub of_all : SampleMachine → Notes → Contents

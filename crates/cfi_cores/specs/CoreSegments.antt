@@ -4,8 +4,8 @@
 --     AreInOrder segments      none begins at a lower address than the one before it
 --     number_among segments a size      the number of so many bytes at an address, by the last
 --         segment that begins at or below it
-use Rattle.std.specs.Prelude.{◌≡◌, ℕ, Bool, false, not, List, drop, take, map, bit_and, Option, Some}
-use Rattle.std.specs.Prelude.{None, nat_le, ◌==◌, if◌then◌else◌}
+use Rattle.std.specs.Prelude.{◌≡◌, ℕ, Bool, false, not, List, drop, take, map, bit_and, Option}
+use Rattle.std.specs.Prelude.{Some, None, nat_le, ◌==◌, if◌then◌else◌}
 use Rattle.std.specs.List.{filter, last_or}
 use Rattle.std.specs.List.Sorted.{IsNonDecreasingBy, IsSortedByKey, IsStableByKey}
 use Rattle.std.specs.Option.{option_and_then}

@@ -45,5 +45,5 @@ thread_in machine desc =
 abbrev pub register_of : SampleMachine → CoreThread → ℕ → Option ℕ
 register_of machine thread k =
     option_and_then (λ place.
-    option_map (λ bytes. number_at false bytes 0 w64) (slice_get (entries 8 thread.registers) place))
-    (core_place machine k)
+    option_map (λ bytes. number_at false bytes 0 w64)
+    (slice_get (entries 8 thread.registers) place)) (core_place machine k)

@@ -5,8 +5,8 @@ ghost use Rattle.cfi_elf.specs.ElfFiles.{file_view};
 ghost use Rattle.cfi_elf.specs.Results.{or_this};
 ghost use Rattle.cfi_elf.specs.SegmentLists.{segments_left};
 ghost use Rattle.cfi_cores.specs.CoreSegments.{AreInOrder};
-ghost use Rattle.cfi_cores.specs.CoreFiles.{IsCore, IsSortedCore, core_elf, core_headers, core_view};
-ghost use Rattle.cfi_cores.specs.CoreFiles.{core_with, machine_of};
+ghost use Rattle.cfi_cores.specs.CoreFiles.{IsCore, IsSortedCore, core_elf, core_headers};
+ghost use Rattle.cfi_cores.specs.CoreFiles.{core_view, core_with, machine_of};
 ghost use Rattle.cfi_cores.specs.MappedFiles.{list_view};
 
 use crate::contents::read_contents;

@@ -25,13 +25,7 @@ pub(crate) fn core_place(machine: SampleMachine, register: usize) -> Option<usiz
 {
     match machine {
         SampleMachine::X86_64 => x86_64_place(register),
-        SampleMachine::AArch64 => {
-            if register < 33 {
-                Some(register)
-            } else {
-                None
-            }
-        }
+        SampleMachine::AArch64 => { if register < 33 { Some(register) } else { None } }
     }
 }
 
