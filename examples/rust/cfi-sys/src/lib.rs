@@ -97,6 +97,16 @@ pub struct CfiTable {
     pub live: bool,
 }
 
+/// A cache of rows, or none: all zero. It is the library's as a context is.
+#[repr(C)]
+#[derive(Debug)]
+pub struct CfiCache {
+    /// The library's.
+    pub at: *mut c_void,
+    /// Whether there is a cache.
+    pub live: bool,
+}
+
 /// Where the sections lie, and how their numbers are read.
 #[repr(C)]
 #[derive(Clone, Copy, Debug, Default)]
@@ -473,6 +483,45 @@ extern "C" {
         header_len: usize,
         bases: *const CfiBases,
         verdict: *mut CfiVerdict,
+    ) -> u32;
+    /// Makes a cache of rows, four in each set, and frees one that was there.
+    ///
+    /// # Safety
+    ///
+    /// As the head of the crate asks.
+    pub fn cfi_cache_new(sets: usize, cache: *mut CfiCache) -> i32;
+    /// Frees the cache.
+    ///
+    /// # Safety
+    ///
+    /// As the head of the crate asks.
+    pub fn cfi_cache_free(cache: *mut CfiCache);
+    /// Forgets all rows of the cache.
+    ///
+    /// # Safety
+    ///
+    /// As the head of the crate asks.
+    pub fn cfi_cache_clear(cache: *mut CfiCache);
+    /// As `cfi_step`, by the row that the cache holds for the file and the address, if it does.
+    ///
+    /// # Safety
+    ///
+    /// As the head of the crate asks.
+    pub fn cfi_step_cached(
+        context: *mut CfiContext,
+        cache: *mut CfiCache,
+        file: u64,
+        module: *const CfiModule,
+        memory: *const CfiMemory,
+        pc: u64,
+        is_interrupted: bool,
+        registers: *const CfiValue,
+        registers_len: usize,
+        caller_registers: *mut CfiValue,
+        caller_registers_len: usize,
+        function: *mut CfiFunction,
+        caller: *mut CfiCaller,
+        end: *mut CfiEnd,
     ) -> u32;
     /// The version of the library.
     ///
