@@ -2,8 +2,7 @@
 --     IsFirstOf memory bytes base      what is read of a window whose bytes begin at `base` is what
 --         is read of the memory, whose numbers have eight bytes
 --     IsFirst memory first      the same of the window, if there is one
-use Rattle.std.specs.Prelude.{◌≡◌, ℕ, Some, IfSome}
-use Rattle.cfi_read_core.specs.ByteOrder.{is_big}
+use Rattle.std.specs.Prelude.{◌≡◌, ℕ, false, Some, IfSome}
 use Rattle.cfi_read_core.specs.ReadFunctions.{Position}
 use Rattle.cfi_read_core.specs.SliceReaders.{slice_position}
 use Rattle.cfi_expression.specs.Windows.{number_in}
@@ -18,4 +17,4 @@ IsFirstOf memory bytes base =
 
 abbrev pub IsFirst : CfiMemory → FirstWindow → Type 0
 IsFirst memory first =
-    IfSome first.window (λ w. IsFirstOf memory (slice_position is_big w.bytes) w.base)
+    IfSome first.window (λ w. IsFirstOf memory (slice_position (λ _. false) w.bytes) w.base)

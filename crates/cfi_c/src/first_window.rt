@@ -1,18 +1,17 @@
 //! The window of memory from which most is read.
-ghost use Rattle.std.specs.Prelude.{◌≡◌, Some, IfSome};
-ghost use Rattle.cfi_read_core.specs.ByteOrder.{is_big};
+ghost use Rattle.std.specs.Prelude.{◌≡◌, Some, IfSome, false};
 ghost use Rattle.cfi_read_core.specs.SliceReaders.{slice_position};
 ghost use Rattle.cfi_c.specs.FirstWindows.{IsFirstOf};
 
-use crate::memory::{CfiMemory, window_of};
+use crate::memory::CfiMemory;
 use cfi_step::{Memory, Window};
-use gimli_cfi::{EndianSlice, ReaderAddress, RunTimeEndian};
+use gimli_cfi::{EndianSlice, LittleEndian, ReaderAddress};
 
-/// The first window of memory, if addresses have eight bytes, as most have. It has most of what is
-/// read.
+/// The first window of memory, if addresses have eight bytes, the least significant one first, as
+/// most have. It has most of what is read.
 #[derive(Drop)]
 pub struct FirstWindow<'a> {
-    window: Option<Window<EndianSlice<'a, RunTimeEndian>>>,
+    window: Option<Window<EndianSlice<'a, LittleEndian>>>,
 }
 
 impl<'a> FirstWindow<'a> {
@@ -51,11 +50,15 @@ impl<'a> FirstWindow<'a> {
 
 /// The first window, if it can be read at once.
 #[inline(always)]
-fn first_of<'a>(memory: &CfiMemory<'a>) -> Option<Window<EndianSlice<'a, RunTimeEndian>>>
-    ensures { IfSome result (λ w. IsFirstOf memory.now (slice_position is_big w.bytes) w.base) }
+fn first_of<'a>(memory: &CfiMemory<'a>) -> Option<Window<EndianSlice<'a, LittleEndian>>>
+    ensures { IfSome result (λ w. IsFirstOf memory.now (slice_position (λ _. false) w.bytes) w.base) }
 {
-    if memory.address_size != 8 || memory.windows.is_empty() {
+    if memory.address_size != 8 || memory.big_endian || memory.windows.is_empty() {
         return None;
     }
-    Some(window_of(&memory.windows[0], memory.big_endian))
+    let window = &memory.windows[0];
+    Some(Window {
+        base: window.base,
+        bytes: EndianSlice::new(window.bytes, LittleEndian),
+    })
 }

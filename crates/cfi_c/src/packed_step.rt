@@ -274,8 +274,12 @@ fn write_by_rule(
         (written_value (given (by_rule (frame_of memory.now registers.now) bytes
         (abi_in memory.now) (λ (n : ℕ). n) cfa (pair_of rule).0.0 (pair_of rule).1))) }
 {
+    let register = rule.register();
+    if usize::from(register) >= caller.len() {
+        return;
+    }
     let value = value_of(rule, memory, first, registers, cfa);
-    write_value(caller, rule.register(), value);
+    write_value(caller, register, value);
 }
 
 /// The value that a register has in the caller, by its rule; `None` also if it can't be read.
@@ -292,8 +296,29 @@ fn value_of(
     ensures { (bytes : Position) → result ≡ given (by_rule (frame_of memory.now registers.now)
         bytes (abi_in memory.now) (λ (n : ℕ). n) cfa (pair_of rule).0.0 (pair_of rule).1) }
 {
+    // most rules
+    if let PackedRule::Offset(_register, offset) = rule {
+        if let Some(number) = first.number_at(cfa, offset) {
+            return Some(number);
+        }
+    }
+    value_by_rule(rule, memory, registers, cfa)
+}
+
+/// The same, whatever the rule is.
+#[inline(never)]
+fn value_by_rule(
+    rule: PackedRule,
+    memory: &CfiMemory<'_>,
+    registers: &[CfiValue],
+    cfa: u64,
+) -> Option<u64>
+    requires size { IsAddressSize memory.now.address_size }
+    ensures { (bytes : Position) → result ≡ given (by_rule (frame_of memory.now registers.now)
+        bytes (abi_in memory.now) (λ (n : ℕ). n) cfa (pair_of rule).0.0 (pair_of rule).1) }
+{
     match rule {
-        PackedRule::Offset(_register, offset) => saved_value(memory, first, cfa, offset),
+        PackedRule::Offset(_register, offset) => saved_value(memory, cfa, offset),
         PackedRule::Undefined(_register) => None,
         PackedRule::SameValue(register) => known(registers, register),
         PackedRule::ValOffset(_register, offset) => {
@@ -304,22 +329,11 @@ fn value_of(
 }
 
 /// The number that is saved at the CFA plus an offset, if it can be read.
-#[inline(always)]
-fn saved_value(
-    memory: &CfiMemory<'_>,
-    first: &FirstWindow<'_>,
-    cfa: u64,
-    offset: i16,
-) -> Option<u64>
+fn saved_value(memory: &CfiMemory<'_>, cfa: u64, offset: i16) -> Option<u64>
     requires size { IsAddressSize memory.now.address_size }
-    requires first { IsFirst memory.now first.now }
     ensures { result ≡ number_in_memory memory.now
         (displaced memory.now.address_size cfa offset) memory.now.address_size }
 {
-    // most numbers
-    if let Some(number) = first.number_at(cfa, offset) {
-        return Some(number);
-    }
     let size = memory.address_size;
     memory.read(displaced(cfa, i64::from(offset), size), size)
 }
