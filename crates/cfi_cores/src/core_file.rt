@@ -28,7 +28,7 @@ const EM_AARCH64: u16 = 183;
 pub struct Core<'run> {
     /// The machine (`e_machine`).
     pub machine: SampleMachine,
-    /// The threads, in the order of the notes; the first is the one that was given a signal.
+    /// The threads, in the order of the notes.
     pub threads: Vec<CoreThread<'run>>,
     /// The files that were mapped, in the order of the first note that tells of them.
     pub mapped: Vec<CoreMapping<'run>>,
