@@ -1,7 +1,6 @@
 mod CachedSteps
 mod Counts
 mod Faithful
-mod FirstWindows
 mod HeldThere
 pub mod Laws
 mod Names

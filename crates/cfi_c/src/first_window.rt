@@ -51,7 +51,8 @@ impl<'a> FirstWindow<'a> {
 /// The first window, if it can be read at once.
 #[inline(always)]
 fn first_of<'a>(memory: &CfiMemory<'a>) -> Option<Window<EndianSlice<'a, LittleEndian>>>
-    ensures { IfSome result (λ w. IsFirstOf memory.now (slice_position (λ _. false) w.bytes) w.base) }
+    ensures { IfSome result (λ w.
+        IsFirstOf memory.now (slice_position (λ _. false) w.bytes) w.base) }
 {
     if memory.address_size != 8 || memory.big_endian || memory.windows.is_empty() {
         return None;

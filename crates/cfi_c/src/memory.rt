@@ -58,10 +58,7 @@ fn read_in(window: &CfiWindow<'_>, big_endian: bool, address: u64, size: u8) -> 
 
 /// The bytes of a window as memory, in which numbers have this order.
 #[inline(always)]
-pub fn window_of<'a>(
-    window: &CfiWindow<'a>,
-    big_endian: bool,
-) -> Window<EndianSlice<'a, RunTimeEndian>>
+fn window_of<'a>(window: &CfiWindow<'a>, big_endian: bool) -> Window<EndianSlice<'a, RunTimeEndian>>
     ensures base { result.base ≡ window.now.base }
     ensures bytes { slice_position is_big result.bytes
         ≡ slice_over window.now.bytes.now big_endian }

@@ -254,14 +254,14 @@ fn write_registers(
     // from the last rule to the first, which is the one that holds if a register has two
     let rules = row.rules();
     for index in (0..rules.len()).rev() {
-        write_by_rule(rules[index], memory, first, registers, cfa, caller);
+        write_by_rule(&rules[index], memory, first, registers, cfa, caller);
     }
 }
 
 /// Writes the value that a register has in the caller, by its rule, if there is room.
 #[inline(always)]
 fn write_by_rule(
-    rule: PackedRule,
+    rule: &PackedRule,
     memory: &CfiMemory<'_>,
     first: &FirstWindow<'_>,
     registers: &[CfiValue],
@@ -270,9 +270,9 @@ fn write_by_rule(
 )
     requires size { IsAddressSize memory.now.address_size }
     requires first { IsFirst memory.now first.now }
-    ensures { (bytes : Position) → caller.new ≡ slice_set caller.old (pair_of rule).0.0
+    ensures { (bytes : Position) → caller.new ≡ slice_set caller.old (pair_of rule.now).0.0
         (written_value (given (by_rule (frame_of memory.now registers.now) bytes
-        (abi_in memory.now) (λ (n : ℕ). n) cfa (pair_of rule).0.0 (pair_of rule).1))) }
+        (abi_in memory.now) (λ (n : ℕ). n) cfa (pair_of rule.now).0.0 (pair_of rule.now).1))) }
 {
     let register = rule.register();
     if usize::from(register) >= caller.len() {
@@ -285,7 +285,7 @@ fn write_by_rule(
 /// The value that a register has in the caller, by its rule; `None` also if it can't be read.
 #[inline(always)]
 fn value_of(
-    rule: PackedRule,
+    rule: &PackedRule,
     memory: &CfiMemory<'_>,
     first: &FirstWindow<'_>,
     registers: &[CfiValue],
@@ -294,10 +294,10 @@ fn value_of(
     requires size { IsAddressSize memory.now.address_size }
     requires first { IsFirst memory.now first.now }
     ensures { (bytes : Position) → result ≡ given (by_rule (frame_of memory.now registers.now)
-        bytes (abi_in memory.now) (λ (n : ℕ). n) cfa (pair_of rule).0.0 (pair_of rule).1) }
+        bytes (abi_in memory.now) (λ (n : ℕ). n) cfa (pair_of rule.now).0.0 (pair_of rule.now).1) }
 {
     // most rules
-    if let PackedRule::Offset(_register, offset) = rule {
+    if let PackedRule::Offset(_register, offset) = *rule {
         if let Some(number) = first.number_at(cfa, offset) {
             return Some(number);
         }
@@ -308,16 +308,16 @@ fn value_of(
 /// The same, whatever the rule is.
 #[inline(never)]
 fn value_by_rule(
-    rule: PackedRule,
+    rule: &PackedRule,
     memory: &CfiMemory<'_>,
     registers: &[CfiValue],
     cfa: u64,
 ) -> Option<u64>
     requires size { IsAddressSize memory.now.address_size }
     ensures { (bytes : Position) → result ≡ given (by_rule (frame_of memory.now registers.now)
-        bytes (abi_in memory.now) (λ (n : ℕ). n) cfa (pair_of rule).0.0 (pair_of rule).1) }
+        bytes (abi_in memory.now) (λ (n : ℕ). n) cfa (pair_of rule.now).0.0 (pair_of rule.now).1) }
 {
-    match rule {
+    match *rule {
         PackedRule::Offset(_register, offset) => saved_value(memory, cfa, offset),
         PackedRule::Undefined(_register) => None,
         PackedRule::SameValue(register) => known(registers, register),

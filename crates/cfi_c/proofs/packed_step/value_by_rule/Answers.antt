@@ -10,7 +10,7 @@ pub returns-in-Offset : goal.returns-in-Offset
 returns-in-Offset c =
     let memory = c.args.memory.now in
     let offset = c.in-Offset.offset in
-    let is : c.args.rule ≡ Offset c.in-Offset._register offset = search rules in
+    let is : c.args.rule.now ≡ Offset c.in-Offset._register offset = search rules in
     let fits : FitsSigned w16 offset = search rules in
-    given_saved memory c.args.registers.now c.args.cfa c.args.rule c.in-Offset._register offset is c.requires.size c.saved_value.result
+    given_saved memory c.args.registers.now c.args.cfa c.args.rule.now c.in-Offset._register offset is c.requires.size c.saved_value.result
     (sym (c.saved_value.ensures ∙ ap (λ (z : ℤ). number_in_memory memory (displaced memory.address_size c.args.cfa z) memory.address_size) (to_z-of_z w16 offset fits)))
