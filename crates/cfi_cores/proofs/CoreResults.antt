@@ -1,5 +1,5 @@
 -- What is returned of a core file, step by step.
-use Rattle.std.proofs.Common.{◌≡◌, ◌∙◌, List, ℕ, Result, Ok, Err, inl, refl, sym, ap, subst}
+use Rattle.std.proofs.Common.{◌≡◌, ◌∙◌, List, ℕ, Result, Ok, Err, inl, refl, ap, subst}
 use Rattle.cfi_elf.specs.declared.program_header.ProgramHeader.{ProgramHeader}
 use Rattle.cfi_elf.specs.ElfFiles.{File}
 use Rattle.cfi_processes.specs.declared.registers.SampleMachine.{SampleMachine}

@@ -1,14 +1,13 @@
 -- What notes say, one after the other.
-use Rattle.std.proofs.Common.{◌≡◌, ◌∙◌, ◌++◌, List, [], ◌∷◌, Option, Some, None, Result, Ok, Err, refl, sym, ap, ap₂, append_assoc, append-nil}
+use Rattle.std.proofs.Common.{◌≡◌, ◌∙◌, List, [], ◌∷◌, Option, Some, None, Ok, Err, refl, sym, ap, ap₂, append_assoc, append-nil}
 use Rattle.cfi_elf.specs.declared.error.ElfError.{ElfError}
-use Rattle.cfi_elf.specs.declared.program_header.ProgramHeader.{ProgramHeader}
 use Rattle.cfi_elf.specs.Notes.{Note, Notes, items}
 use Rattle.cfi_elf.specs.Results.{or_else}
 use Rattle.cfi_elf.proofs.NoteSteps.{error_is, first_is, none_are}
 use Rattle.cfi_processes.specs.declared.registers.SampleMachine.{SampleMachine}
 use Rattle.cfi_cores.specs.declared.error.CoreError.{CoreError}
 use Rattle.cfi_cores.specs.declared.error.CoreError.TheVariants.{NoteCut}
-use Rattle.cfi_cores.specs.Contents.{Contents, ended_by, followed_by, nothing, of_all, of_files, of_note, of_thread}
+use Rattle.cfi_cores.specs.Contents.{Contents, ended_by, followed_by, nothing, of_all, of_note}
 use Rattle.cfi_cores.specs.CoreThreads.{CoreThread}
 use Rattle.cfi_cores.specs.MappedFiles.{CoreMapping}
 

@@ -2,7 +2,7 @@
 --     core_of bytes      what the file has, with its segments in the order of their headers
 --     IsCore bytes result      it is returned with its segments by rising addresses; it can't be
 --         read; or memory is refused
-use Rattle.std.specs.Prelude.{◌≡◌, ◌⊎◌, ℕ, Bool, true, false, ◌||◌, List, [], map, Result, Ok, Err}
+use Rattle.std.specs.Prelude.{◌≡◌, ◌⊎◌, ℕ, true, false, ◌||◌, List, [], map, Result, Ok, Err}
 use Rattle.std.specs.Prelude.{Option, ◌==◌, if◌then◌else◌}
 use Rattle.std.specs.List.{filter_map}
 use Rattle.cfi_elf.specs.declared.error.ElfError.{ElfError}

@@ -2,7 +2,7 @@ use Rattle.std.proofs.Common.{◌∙◌, ◌∷◌, [], ◌+◌, ◌++◌, ap, a
 use Rattle.std.proofs.lemmas.List.{map_push}
 use Rattle.cfi_elf.specs.Fields.{entries}
 use Rattle.cfi_elf.proofs.EntrySteps.{next_left, none_is}
-use Rattle.cfi_cores.specs.MappedFiles.{CoreMapping, list_view, mapping_view, mappings}
+use Rattle.cfi_cores.specs.MappedFiles.{CoreMapping, list_view, mapping_view}
 use Rattle.cfi_cores.proofs.MappingSteps.{no_entries, no_entry, no_name, one_entry}
 use Rattle.cfi_cores.proofs.mapped_files.mappings.Goals as goal
 
