@@ -8,4 +8,4 @@ mod Unwinding
 mod WorkedSamples
 pub mod CodeLemmas
 pub mod ModuleLemmas
-mod FileLemmas
+pub mod FileLemmas

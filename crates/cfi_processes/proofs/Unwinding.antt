@@ -1,10 +1,9 @@
--- A walk over the copy of a stack, from the innermost frame of a sample.
-use Rattle.std.proofs.Common.{◌≡◌, ◌∙◌, ◌≤◌, ℕ, Bool, true, List, length, drop, take, Option, None, Result, Ok, refl, ap, sym, subst}
+-- A walk over any memory, and over the copy of a stack, from the innermost frame of a sample.
+use Rattle.std.proofs.Common.{◌≡◌, ◌∙◌, ℕ, Bool, List, Option, Result, Ok, refl, ap, sym, subst}
 use Rattle.cfi_read_core.specs.ReadFunctions.{Position}
 use Rattle.cfi_step.specs.declared.abi.Abi.{Abi}
 use Rattle.cfi_step.specs.declared.module.LoadedModule.{LoadedModule}
 use Rattle.cfi_step.specs.declared.walk.End.{End}
-use Rattle.cfi_step.specs.declared.walk.End.TheVariants.{NoRoom}
 use Rattle.cfi_step.specs.declared.walk.StackFrame.{StackFrame}
 use Rattle.cfi_step.specs.declared.walk.Walk.{Walk}
 use Rattle.cfi_step.specs.Walks.{State, IsWalkAmong}
@@ -13,7 +12,7 @@ use Rattle.cfi_processes.specs.declared.sample_stack.Innermost.{Innermost}
 use Rattle.cfi_processes.specs.declared.sample_stack.NoFrames.{NoFrames}
 use Rattle.cfi_perf.specs.Samples.{UserRegisters, UserState}
 use Rattle.cfi_processes.specs.Registers.{abi_of}
-use Rattle.cfi_processes.specs.SampleStacks.{IsUnwound, IsUnwoundFrom, IsWalkFrom, Room, and_then, beginning_by, beginning_of, innermost_of, known_registers, memory_of, of_64_bits}
+use Rattle.cfi_processes.specs.SampleStacks.{IsUnwound, IsUnwoundFrom, IsWalkFrom, IsWalkOver, Room, and_then, beginning_by, beginning_of, innermost_of, known_registers, memory_of, of_64_bits}
 
 -- ---- where a walk begins
 
@@ -33,33 +32,24 @@ module _ {R T : Type 0} (position : R → Position) (number : T → ℕ) (rule_l
   WalkOver modules memory size abi = IsWalkAmong position number memory size abi rule_limit stack_limit copies_free modules
 
   -- of 64 bits, with the ABI of the machine
-  pub as_sampled : (modules : List (LoadedModule R)) (machine : SampleMachine) (memory memory' : ℕ → ℕ → Option ℕ) (size : ℕ) (abi : Abi)
-      → memory ≡ memory' → size ≡ 8 → abi ≡ abi_of machine → (s : State) (frames : List StackFrame) (end : End) (registers caller : List (Option ℕ))
+  pub of_machine : (modules : List (LoadedModule R)) (machine : SampleMachine) (memory : ℕ → ℕ → Option ℕ) (size : ℕ) (abi : Abi)
+      → size ≡ 8 → abi ≡ abi_of machine → (s : State) (frames : List StackFrame) (end : End) (registers caller : List (Option ℕ))
       → WalkOver modules memory size abi s frames end registers caller
-      → IsWalkFrom position number rule_limit stack_limit copies_free modules machine memory' s frames end registers caller
-  as_sampled modules machine memory memory' size abi memories sizes abis s frames end registers caller is =
-      subst (λ (m : ℕ → ℕ → Option ℕ). WalkOver modules m 8 (abi_of machine) s frames end registers caller) memories
-      (subst (λ (n : ℕ). WalkOver modules memory n (abi_of machine) s frames end registers caller) sizes
-      (subst (λ (a : Abi). WalkOver modules memory size a s frames end registers caller) abis is))
+      → IsWalkFrom position number rule_limit stack_limit copies_free modules machine memory s frames end registers caller
+  of_machine modules machine memory size abi sizes abis s frames end registers caller is =
+      subst (λ (n : ℕ). WalkOver modules memory n (abi_of machine) s frames end registers caller) sizes
+      (subst (λ (a : Abi). WalkOver modules memory size a s frames end registers caller) abis is)
 
   module _ (modules : List (LoadedModule R)) (machine : SampleMachine) (user : UserState) (old new : Room) where
     -- where a sample has a beginning, its frames are those from there on
     pub unwound : (registers : UserRegisters) (innermost : Innermost) (known : List (Option ℕ)) (walk : Walk)
         → Ok registers ≡ of_64_bits user.registers → Ok innermost ≡ innermost_of machine registers → known ≡ known_registers machine registers
-        → IsWalkFrom position number rule_limit stack_limit copies_free modules machine (memory_of user.stack innermost.stack_pointer)
-        (record { at = record { pc = innermost.pc; is_interrupted = true; callee_cfa = None }; registers = known; caller = old.caller })
-        (take walk.count new.frames) walk.end new.registers new.caller
-        → drop walk.count new.frames ≡ drop walk.count old.frames → walk.count ≤ length new.frames → (walk.end ≡ NoRoom → walk.count ≡ length new.frames)
+        → IsWalkOver position number rule_limit stack_limit copies_free modules machine (memory_of user.stack innermost.stack_pointer) innermost.pc known old walk new
         → IsUnwound position number rule_limit stack_limit copies_free modules machine user old (Ok walk) new
-    unwound registers innermost known walk is_64 is_innermost are_known walks rest count full =
+    unwound registers innermost known walk is_64 is_innermost are_known walks =
         subst (IsUnwoundFrom position number rule_limit stack_limit copies_free modules machine user.stack old (Ok walk) new)
         (sym (beginning_at machine user registers innermost (sym is_64) (sym is_innermost))) (
           walk,
           refl,
-          (
-            subst (λ (rs : List (Option ℕ)). IsWalkFrom position number rule_limit stack_limit copies_free modules machine (memory_of user.stack innermost.stack_pointer)
-                (record { at = record { pc = innermost.pc; is_interrupted = true; callee_cfa = None }; registers = rs; caller = old.caller })
-                (take walk.count new.frames) walk.end new.registers new.caller) are_known walks,
-            (rest, count, full),
-          ),
+          subst (λ (rs : List (Option ℕ)). IsWalkOver position number rule_limit stack_limit copies_free modules machine (memory_of user.stack innermost.stack_pointer) innermost.pc rs old walk new) are_known walks,
         )

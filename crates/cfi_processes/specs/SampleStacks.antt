@@ -3,6 +3,8 @@
 --     innermost_of machine registers      the pc and the stack pointer
 --     known_registers machine registers      the registers under DWARF's numbers
 --     start_of machine user      the innermost frame of a sample, or why it has none
+--     IsWalkOver .. modules machine memory pc registers old walk new      a walk over any memory,
+--         from a pc and the registers of its frame
 --     IsUnwound .. modules machine user old result new      what is returned and written
 --     HasRoom frames      there is room for as many frames as a stack may have
 use Rattle.std.specs.Prelude.{◌≡◌, ℕ, Bool, true, false, List, length, take, map, Option, Some}
@@ -99,17 +101,24 @@ module _ {R T : Type 0} (position : R → Position) (number : T → ℕ)
       IsWalkAmong position number memory 8 (abi_of machine) rule_limit stack_limit copies_free
       modules
 
+  -- from a pc and the registers of its frame, over a memory
+  abbrev pub IsWalkOver :
+      (ℕ → ℕ → Option ℕ) → ℕ → List (Option ℕ) → Room → Walk → Room → Type 0
+  IsWalkOver memory pc registers old walk new =
+      IsWalkFrom memory
+      (record {
+        at = record { pc = pc; is_interrupted = true; callee_cfa = None };
+        registers = registers;
+        caller = old.caller;
+      })
+      (take walk.count new.frames) walk.end new.registers new.caller
+      × AreWritten walk old.frames new.frames
+
   module _ (stack : List ℕ) (old : Room) (result : Result Walk NoFrames) (new : Room) where
     abbrev pub IsWalked : Beginning → Walk → Type 0
     IsWalked start walk =
-        IsWalkFrom (memory_of stack start.innermost.stack_pointer)
-        (record {
-          at = record { pc = start.innermost.pc; is_interrupted = true; callee_cfa = None };
-          registers = start.registers;
-          caller = old.caller;
-        })
-        (take walk.count new.frames) walk.end new.registers new.caller
-        × AreWritten walk old.frames new.frames
+        IsWalkOver (memory_of stack start.innermost.stack_pointer) start.innermost.pc
+        start.registers old walk new
 
     abbrev pub IsUnwoundFrom : Result Beginning NoFrames → Type 0
     IsUnwoundFrom (Ok start) = (walk : Walk) × (result ≡ Ok walk) × IsWalked start walk

@@ -3,7 +3,8 @@
 //! `mappings` and `processes` follow what is mapped where in each process, `replay` by the records
 //! of a profile. `profile_files` opens the files that a profile names; `objects` and `file_code`
 //! make modules of them, and `process_code` finds the place of an address in them. `registers`
-//! finds perf's registers by DWARF's numbers, and `sample_stack` writes the frames of a sample.
+//! finds perf's registers by DWARF's numbers, `stack_walk` writes the frames of a stack over any
+//! memory, and `sample_stack` those of a sample.
 #![tactic(auto)]
 
 pub mod file_code;
@@ -16,6 +17,7 @@ pub mod profile_files;
 pub mod registers;
 pub mod replay;
 pub mod sample_stack;
+pub mod stack_walk;
 
 pub use mappings::{MappedCode, Mappings};
 pub use names::Name;
@@ -26,3 +28,4 @@ pub use profile_files::Opener;
 pub use registers::SampleMachine;
 pub use replay::Replay;
 pub use sample_stack::{NoFrames, unwind_sample};
+pub use stack_walk::unwind_from;

@@ -63,7 +63,10 @@ pub fn mapped_names<'run>(
 }
 
 /// Appends a name, unless it is there.
-fn push_name<'run>(names: &mut Vec<&'run [u8]>, name: Option<&'run [u8]>) -> Result<(), AllocError>
+pub fn push_name<'run>(
+    names: &mut Vec<&'run [u8]>,
+    name: Option<&'run [u8]>,
+) -> Result<(), AllocError>
     ensures { OnOk result (texts names.new.items
         ≡ with_name (texts names.old.items) (option_map (λ name. name.now) name.entry)) }
 {

@@ -1,19 +1,18 @@
 //! The frames of a sample, from its copy of the stack.
-ghost use Rattle.std.specs.Prelude.{◌≡◌, ◌≤◌, None, drop, length, take, true};
+ghost use Rattle.std.specs.Prelude.{◌≡◌, None, length, true};
 ghost use Rattle.cfi_read_core.specs.ReaderCalls.{map_ok};
 ghost use Rattle.cfi_step.specs.CachedRows.{AreCachedFor, AreNumbered, KeepsFor};
 ghost use Rattle.cfi_step.specs.ModuleLists.{module_list};
 ghost use Rattle.cfi_processes.specs.Registers.{register_count};
-ghost use Rattle.cfi_processes.specs.SampleStacks.{IsUnwound, IsWalkFrom, innermost_of};
+ghost use Rattle.cfi_processes.specs.SampleStacks.{IsUnwound, IsWalkOver, innermost_of};
 ghost use Rattle.cfi_processes.specs.SampleStacks.{known_register, known_registers, memory_of};
 ghost use Rattle.cfi_processes.specs.SampleStacks.{of_64_bits};
 ghost use Rattle.cfi_perf.specs.Samples.{registers_view, user_view};
 
 use crate::registers::SampleMachine;
+use crate::stack_walk::unwind_from;
 use cfi_perf::{UserRegisters, UserState};
-use cfi_step::{
-    AddressSize, CachedRow, End, Modules, Process, StackFrame, Walk, Window, unwind_cached,
-};
+use cfi_step::{CachedRow, Modules, StackFrame, Walk, Window};
 use gimli_cfi::{EndianSlice, Reader, RunTimeEndian, UnwindContext, UnwindContextStorage};
 
 /// `PERF_SAMPLE_REGS_ABI_64`: the registers are those of a 64-bit program.
@@ -104,18 +103,12 @@ fn walk_from<R: Reader<Offset = usize>, S: UnwindContextStorage<usize>>(
     requires numbered { AreNumbered (module_list modules) }
     requires cached { AreCachedFor R.position 8 S.Rules.limit S.Stack.limit S.Rules.copies_free
         (module_list modules) cache.old }
-    ensures walk { IsWalkFrom R.position (λ n. n)
+    ensures walk { IsWalkOver R.position (λ n. n)
         S.Rules.limit S.Stack.limit S.Rules.copies_free (module_list modules.entry) machine
-        (memory_of stack.now innermost.stack_pointer)
-        (record {
-          at = record { pc = innermost.pc; is_interrupted = true; callee_cfa = None };
-          registers = registers.old;
-          caller = caller.old;
-        })
-        (take result.count frames.new) result.end registers.new caller.new }
-    ensures rest { drop result.count frames.new ≡ drop result.count frames.old }
-    ensures count { result.count ≤ length frames.new }
-    ensures full { result.end ≡ End.NoRoom → result.count ≡ length frames.new }
+        (memory_of stack.now innermost.stack_pointer) innermost.pc registers.old
+        (record { registers = registers.old; caller = caller.old; frames = frames.old })
+        result
+        (record { registers = registers.new; caller = caller.new; frames = frames.new }) }
     ensures kept { KeepsFor R.position 8 S.Rules.limit S.Stack.limit S.Rules.copies_free
         (module_list modules.entry) cache.old cache.new }
     ensures cached { AreCachedFor R.position 8 S.Rules.limit S.Stack.limit S.Rules.copies_free
@@ -125,17 +118,13 @@ fn walk_from<R: Reader<Offset = usize>, S: UnwindContextStorage<usize>>(
         base: innermost.stack_pointer,
         bytes: EndianSlice::new(stack, RunTimeEndian::Little),
     };
-    let process = Process {
+    unwind_from(
         modules,
-        memory: &memory,
-        address_size: AddressSize::new(8),
-        abi: machine.abi(),
-    };
-    unwind_cached(
-        &process,
+        machine,
+        &memory,
+        innermost.pc,
         cache,
         ctx,
-        innermost.pc,
         registers,
         caller,
         frames,

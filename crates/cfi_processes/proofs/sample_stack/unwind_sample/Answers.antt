@@ -12,4 +12,4 @@ returns-clause-unwound g c =
     (record { registers = c.walk_from.new.registers; caller = c.walk_from.new.caller; frames = c.walk_from.new.frames })
     (registers_view c.in_ok-sampled.sampled) c.in_ok-innermost.innermost c.write_registers.new.known c.walk_from.result
     c.in_ok-sampled.ensures c.in_ok-innermost.ensures c.write_registers.ensures
-    c.walk_from.ensures.walk c.walk_from.ensures.rest c.walk_from.ensures.count c.walk_from.ensures.full
+    c.walk_from.ensures.walk
