@@ -2,3 +2,6 @@ mod RoomLemmas
 mod RunLemmas
 mod StackLemmas
 mod ReadLemmas
+mod ThreadLemmas
+mod CoreLemmas
+mod CoreRunLemmas

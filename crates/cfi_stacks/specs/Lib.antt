@@ -2,3 +2,5 @@ pub mod StackTexts
 pub mod Reasons
 pub mod Rooms
 pub mod ProfileOutputs
+pub mod ThreadStacks
+pub mod CoreOutputs

@@ -1,7 +1,8 @@
--- The text of a sample's stack.
---     head_line pid tid time      the line of the thread and the time
+-- The text of the stack of a sample, or of a thread of a core file.
+--     head_line pid tid time      the line of a sample's thread and time
+--     thread_line tid signal      the line of a core file's thread and the signal that it got
 --     site_line raw site      the line of a frame, raw or with its function
-use Rattle.std.specs.Prelude.{ℕ, ◌-◌, ◌/◌, ◌%◌, Bool, List, [], ◌∷◌, ◌++◌, Option, Some, None}
+use Rattle.std.specs.Prelude.{ℕ, ◌-◌, ◌/◌, ◌%◌, ◌==◌, Bool, List, [], ◌∷◌, ◌++◌, Option, Some, None}
 use Rattle.std.specs.Prelude.{codes, false, length, map, take, if◌then◌else◌}
 use Rattle.std.specs.Fmt.{decimal, digits}
 use Rattle.cfi_elf.specs.FunctionPlaces.{Place}
@@ -25,6 +26,13 @@ abbrev pub head_line : ℕ → ℕ → ℕ → List ℕ
 head_line pid tid time =
     decimal pid ++ codes "/" ++ decimal tid ++ codes " " ++ seconds_text time
     ++ (codes ":" ++ 10 ∷ [])
+
+-- where it got none, its number is 0
+abbrev pub signal_text : ℕ → List ℕ
+signal_text signal = if signal == 0 then [] else codes " signal " ++ decimal signal
+
+abbrev pub thread_line : ℕ → ℕ → List ℕ
+thread_line tid signal = codes "thread " ++ decimal tid ++ (signal_text signal ++ 10 ∷ [])
 
 -- ---- a frame
 

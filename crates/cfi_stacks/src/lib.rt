@@ -1,13 +1,20 @@
-//! The stacks of a profile that `perf record` wrote, as they are printed.
+//! The stacks of a profile that `perf record` wrote, and those of a core file, as they are printed.
 //!
 //! `run` prints the stacks of a profile, `sample_text` that of a sample: the lines of its frames
-//! (`stack_lines`, `names`), and the reason why there are no more (`reasons`).
+//! (`stack_lines`, `names`), and the reason why there are no more (`reasons`). `core_run` prints
+//! the stacks of a core file, `core_text` that of a thread, whose frames `thread_stack` writes;
+//! `core_files` has what the files of a core say of its process.
 #![tactic(auto)]
 
+pub mod core_files;
+pub mod core_run;
+mod core_text;
 mod names;
 pub mod reasons;
 pub mod run;
 mod sample_text;
 pub mod stack_lines;
+pub mod thread_stack;
 
+pub use core_run::print_core;
 pub use run::unwind_profile;

@@ -29,7 +29,7 @@ use std::io::Write;
 const FRAMES: usize = 4096;
 
 /// As many registers as the machine with most of them has.
-const REGISTERS: usize = 33;
+pub(crate) const REGISTERS: usize = 33;
 
 /// How many rows are kept. In most recorded profiles of x86-64 programs the rows of 80 to 100 of
 /// 100 frames are held by half as many slots that are emptied when the process changes.
@@ -41,13 +41,13 @@ const NO_FRAME: StackFrame = StackFrame {
     cfa: None,
 };
 
-/// What the stacks of all samples are unwound in.
+/// What the stacks of all samples, or of all threads, are unwound in.
 #[derive(Drop)]
 pub struct Room {
-    context: UnwindContext<usize>,
-    frames: Vec<StackFrame>,
-    cache: Vec<CachedRow>,
-    line: LineRoom,
+    pub(crate) context: UnwindContext<usize>,
+    pub(crate) frames: Vec<StackFrame>,
+    pub(crate) cache: Vec<CachedRow>,
+    pub(crate) line: LineRoom,
 }
 
 impl Room {
@@ -166,7 +166,7 @@ fn print_found<W: Write>(
 }
 
 /// Prints the frames of a walk and why there are no more, or why there are none.
-fn print_walk<W: Write>(
+pub(crate) fn print_walk<W: Write>(
     raw: bool,
     code: &ProcessCode<'_, '_, '_>,
     found: Result<Walk, NoFrames>,

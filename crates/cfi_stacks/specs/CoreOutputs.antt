@@ -1,0 +1,183 @@
+-- Which output is right for a core file.
+--     code_names segments mapped      the names of the files that are mapped as code
+--     mappings_of files segments mapped      what is mapped as code, with the files' numbers
+--     AreWindows opened mapped windows      what the files have of the memory, by its addresses
+--     IsThreadText raw machine files list memory thread text      the text of a thread's stack
+--     IsPrinted raw files memory core line      those of all threads, and then the error that ended
+--         the notes
+--     IsOutput raw may_open remaining bytes line      the output of a core file of these bytes,
+--         whose files may be opened so
+use Rattle.std.specs.Prelude.{◌≡◌, ◌⊎◌, ℕ, ◌-◌, ◌==◌, ◌||◌, Bool, true, false, List, [], ◌∷◌, ◌++◌}
+use Rattle.std.specs.Prelude.{Option, Some, None, Result, Ok, Err, codes, drop, find, fold, map}
+use Rattle.std.specs.Prelude.{not, position, take, if◌then◌else◌}
+use Rattle.std.specs.List.{filter_map, list_all}
+use Rattle.std.specs.Option.{option_and_then, option_map}
+use Rattle.std.specs.Str.{bytes_eq}
+use Rattle.cfi_read_core.specs.declared.endianity.RunTimeEndian.{RunTimeEndian}
+use Rattle.cfi_read_core.specs.ByteOrder.{is_big}
+use Rattle.cfi_read_core.specs.SliceReaders.{EndianSlice, slice_position}
+use Rattle.cfi_programs.specs.Lines.{Line, line, wrong_input}
+use Rattle.cfi_programs.specs.Runs.{out_of_memory}
+use Rattle.cfi_step.specs.declared.module.LoadedModule.{LoadedModule}
+use Rattle.cfi_step.specs.declared.walk.StackFrame.{StackFrame}
+use Rattle.cfi_step.specs.declared.walk.Walk.{Walk}
+use Rattle.cfi_processes.specs.declared.mappings.MappedCode.{MappedCode}
+use Rattle.cfi_processes.specs.declared.registers.SampleMachine.{SampleMachine}
+use Rattle.cfi_processes.specs.declared.sample_stack.NoFrames.{NoFrames}
+use Rattle.cfi_processes.specs.KnownFiles.{KnownFile, modules_in}
+use Rattle.cfi_processes.specs.Mappings.{mapped_over}
+use Rattle.cfi_processes.specs.Modules.{module_view}
+use Rattle.cfi_processes.specs.OpenedFiles.{AreFilesOf, AreOpened, Opened}
+use Rattle.cfi_processes.specs.Replays.{with_name}
+use Rattle.cfi_processes.specs.SampleStacks.{HasRoom, Room}
+use Rattle.cfi_cores.specs.declared.error.CoreError.{CoreError}
+use Rattle.cfi_cores.specs.CoreFiles.{Core, IsSortedCore, core_of}
+use Rattle.cfi_cores.specs.CoreMemories.{number_at}
+use Rattle.cfi_cores.specs.CoreSegments.{AreSorted, CoreSegment}
+use Rattle.cfi_cores.specs.CoreThreads.{CoreThread}
+use Rattle.cfi_cores.specs.ErrorNames.{name_of_core}
+use Rattle.cfi_cores.specs.MappedFiles.{CoreMapping}
+use Rattle.cfi_stacks.specs.ProfileOutputs.{walk_text}
+use Rattle.cfi_stacks.specs.StackTexts.{thread_line}
+use Rattle.cfi_stacks.specs.ThreadStacks.{IsUnwound}
+
+-- ---- a thread
+
+-- behind a line with its number and its signal, and before an empty line
+abbrev pub thread_text :
+    Bool → List KnownFile → List MappedCode → CoreThread → Result Walk NoFrames → List StackFrame →
+    List ℕ
+thread_text raw files list thread result room =
+    thread_line thread.tid thread.signal ++ (walk_text raw files list result room ++ 10 ∷ [])
+
+module _ (raw : Bool) (machine : SampleMachine) (files : List KnownFile) (list : List MappedCode)
+    (memory : ℕ → ℕ → Option ℕ) where
+  -- by the modules that are mapped, in a room for 4096 frames and a storage of 192 rules and 4 rows
+  abbrev pub IsThreadText : CoreThread → List ℕ → Type 0
+  IsThreadText thread text =
+      (modules : List (LoadedModule (EndianSlice RunTimeEndian))) × (old : Room)
+      × (result : Result Walk NoFrames) × (new : Room)
+      × (map module_view modules ≡ modules_in files list) × HasRoom old.frames
+      × IsUnwound (slice_position is_big) (λ n. n) (Some 192) (Some 4) true modules machine memory
+      thread old result new
+      × (text ≡ thread_text raw files list thread result new.frames)
+
+  abbrev pub AreThreadTexts : List CoreThread → List ℕ → Type 0
+  AreThreadTexts [] text = text ≡ []
+  AreThreadTexts (thread ∷ threads) text =
+      (first : List ℕ) × (others : List ℕ) × IsThreadText thread first
+      × AreThreadTexts threads others × (text ≡ first ++ others)
+
+-- ---- what is mapped as code
+
+-- not code where a segment of the core begins that isn't executable; gcore writes none of code
+abbrev pub is_code : List CoreSegment → CoreMapping → Bool
+is_code segments m =
+    list_all (λ segment. segment.is_executable || not (segment.start == m.start)) segments
+
+abbrev pub code_name : List CoreSegment → CoreMapping → Option (List ℕ)
+code_name segments m = if is_code segments m then Some m.name else None
+
+-- each once, in the order of the mappings
+abbrev pub code_names : List CoreSegment → List CoreMapping → List (List ℕ)
+code_names segments mapped = fold (λ names m. with_name names (code_name segments m)) [] mapped
+
+-- with the number of its file among those that were opened
+abbrev pub mapped_code : List KnownFile → CoreMapping → MappedCode
+mapped_code files m = record {
+  start = m.start;
+  end = m.end;
+  offset = m.offset;
+  object = position (λ file. bytes_eq file.name m.name) files;
+}
+
+abbrev pub with_mapping :
+    List KnownFile → List CoreSegment → List MappedCode → CoreMapping → List MappedCode
+with_mapping files segments list m =
+    if is_code segments m then mapped_over (mapped_code files m) list else list
+
+abbrev pub mappings_of :
+    List KnownFile → List CoreSegment → List CoreMapping → List MappedCode
+mappings_of files segments mapped = fold (with_mapping files segments) [] mapped
+
+-- ---- what the files have of the memory
+
+abbrev pub part_of : CoreMapping → List ℕ → CoreSegment
+part_of m bytes = record {
+  start = m.start;
+  bytes = take (m.end - m.start) (drop m.offset bytes);
+  is_executable = false;
+}
+
+abbrev pub bytes_named : List Opened → List ℕ → Option (List ℕ)
+bytes_named opened name =
+    option_and_then (λ one. one.bytes) (find (λ one. bytes_eq one.name name) opened)
+
+abbrev pub file_window : List Opened → CoreMapping → Option CoreSegment
+file_window opened m = option_map (part_of m) (bytes_named opened m.name)
+
+-- by rising addresses
+abbrev pub AreWindows : List Opened → List CoreMapping → List CoreSegment → Type 0
+AreWindows opened mapped windows = AreSorted (filter_map (file_window opened) mapped) windows
+
+-- ---- all threads
+
+abbrev pub core_refusal : CoreError → Line
+core_refusal error = line (codes "refused " ++ name_of_core error) 1
+
+-- behind the stacks
+abbrev pub ended : List ℕ → Option CoreError → Line
+ended text None = record { text = text; status = 0 }
+ended text (Some error) = record { text = text ++ (core_refusal error).text; status = 1 }
+
+module _ (raw : Bool) (files : List KnownFile) (memory : ℕ → ℕ → Option ℕ) (core : Core) where
+  abbrev pub AreOfThreads : List CoreThread → List ℕ → Type 0
+  AreOfThreads =
+      AreThreadTexts raw core.machine files (mappings_of files core.segments core.mapped) memory
+
+  -- or memory was refused behind the first of them
+  abbrev pub IsPrinted : Line → Type 0
+  IsPrinted printed =
+      ((text : List ℕ) × AreOfThreads core.threads text × (printed ≡ ended text core.error))
+      ⊎ ((n : ℕ) × (text : List ℕ) × AreOfThreads (take n core.threads) text
+      × (printed ≡ record { text = text ++ out_of_memory.text; status = 1 }))
+
+-- ---- a core file
+
+abbrev pub memory_of : Core → List CoreSegment → ℕ → ℕ → Option ℕ
+memory_of core windows = number_at (record { dumped = core.segments; mapped = windows })
+
+-- in the memory that the core and the files have
+abbrev pub IsOfFiles : Bool → Core → List Opened → List KnownFile → Line → Type 0
+IsOfFiles raw core opened files printed =
+    (windows : List CoreSegment) × AreWindows opened core.mapped windows
+    × IsPrinted raw files (memory_of core windows) core printed
+
+-- by files that were opened
+abbrev pub IsOfOpened : Bool → Core → List Opened → Line → Type 0
+IsOfOpened raw core opened printed =
+    (files : List KnownFile) × AreFilesOf opened files × IsOfFiles raw core opened files printed
+
+module _ (raw : Bool) {Handle : Type 0} (may_open : List ℕ → Option Handle → Type 0)
+    (remaining : Handle → Option (List ℕ)) where
+  -- by the files of these names
+  abbrev pub IsOfNamed : Core → List (List ℕ) → Line → Type 0
+  IsOfNamed core names printed =
+      (opened : List Opened) × AreOpened may_open remaining names opened
+      × IsOfOpened raw core opened printed
+
+  abbrev pub IsOfCore : Core → Line → Type 0
+  IsOfCore core printed = IsOfNamed core (code_names core.segments core.mapped) printed
+
+  abbrev pub IsOfRead : Result Core CoreError → Line → Type 0
+  IsOfRead (Err e) printed = printed ≡ core_refusal e
+  IsOfRead (Ok found) printed =
+      (core : Core) × IsSortedCore found core × IsOfCore core printed
+
+  -- or memory was refused before the first stack
+  abbrev pub IsOutput : List ℕ → Line → Type 0
+  IsOutput bytes printed = IsOfRead (core_of bytes) printed ⊎ (printed ≡ out_of_memory)
+
+  -- or the input can't be read
+  abbrev pub IsOwed : List ℕ → Line → Type 0
+  IsOwed bytes printed = IsOutput bytes printed ⊎ (printed ≡ wrong_input)

@@ -1,0 +1,231 @@
+//! What the files of a core have of its process: the code, and the memory that the core lacks.
+ghost use Rattle.std.specs.Prelude.{◌≡◌, IfOk, map, option_map, take};
+ghost use Rattle.std.specs.List.{filter_map};
+ghost use Rattle.cfi_cores.specs.CoreSegments.{AreInOrder, segment_view};
+ghost use Rattle.cfi_cores.specs.CoreFiles.{core_view};
+ghost use Rattle.cfi_cores.specs.MappedFiles.{mapping_view};
+ghost use Rattle.cfi_processes.specs.FileModules.{AreOfFiles};
+ghost use Rattle.cfi_processes.specs.KnownFiles.{known_view, modules_in};
+ghost use Rattle.cfi_processes.specs.Modules.{module_view};
+ghost use Rattle.cfi_processes.specs.OpenedFiles.{opened_view, texts};
+ghost use Rattle.cfi_stacks.specs.CoreOutputs.{AreWindows, bytes_named, code_name, code_names};
+ghost use Rattle.cfi_stacks.specs.CoreOutputs.{file_window, is_code, mapped_code, mappings_of};
+ghost use Rattle.cfi_stacks.specs.CoreOutputs.{part_of};
+
+use cfi_cores::{Core, CoreMapping, CoreSegment};
+use cfi_elf::bytes::bytes_from;
+use cfi_processes::mappings::{MappedCode, Mappings};
+use cfi_processes::process_code::{FileModule, ProcessCode};
+use cfi_processes::profile_files::{OpenedFile, ProfileFile, push_name};
+use std::alloc::{AllocError, Global};
+
+/// What is mapped as code in the process of a core, the modules of that, and what the files have of
+/// its memory.
+#[derive(Drop)]
+pub struct CoreCode<'a, 'run> {
+    /// What is mapped as code.
+    pub mappings: Mappings,
+    /// The modules of that.
+    pub modules: Vec<FileModule<'a, 'run>>,
+    /// What the files have of the memory, in the order of addresses.
+    pub windows: Vec<CoreSegment<'run>>,
+}
+
+/// The names of the files that are mapped as code, each once, in the order of the mappings. Fails
+/// where memory is refused.
+pub fn code_names<'run>(
+    alloc: Global,
+    segments: &[CoreSegment<'_>],
+    mapped: &[CoreMapping<'run>],
+) -> Result<Vec<&'run [u8]>, AllocError>
+    ensures { IfOk result (λ names. texts names.items
+        ≡ code_names (map segment_view segments.now) (map mapping_view mapped.now)) }
+{
+    let mut names = Vec::new(alloc);
+    for mapping in mapped {
+        push_name(&mut names, code_name(segments, mapping))?;
+    }
+    Ok(names)
+}
+
+/// The name of the file that is mapped, if it is mapped as code.
+fn code_name<'run>(segments: &[CoreSegment<'_>], mapping: &CoreMapping<'run>) -> Option<&'run [u8]>
+    ensures { option_map (λ name. name.now) result
+        ≡ code_name (map segment_view segments.now) (mapping_view mapping.now) }
+{
+    if is_code(segments, mapping) {
+        Some(mapping.name)
+    } else {
+        None
+    }
+}
+
+/// Whether code may be mapped: no segment of the core begins there that isn't executable.
+fn is_code(segments: &[CoreSegment<'_>], mapping: &CoreMapping<'_>) -> bool
+    ensures { result ≡ is_code (map segment_view segments.now) (mapping_view mapping.now) }
+{
+    segments.iter().all(|segment| segment.is_executable || segment.start != mapping.start)
+}
+
+/// What is mapped as code, its modules, and what the files have of the memory. Fails where memory
+/// is refused.
+pub fn core_code<'a, 'run>(
+    alloc: Global,
+    core: &Core<'_>,
+    opened: &'run [OpenedFile<'_>],
+    files: &'a [ProfileFile<'run>],
+) -> Result<CoreCode<'a, 'run>, AllocError>
+    ensures mappings { IfOk result (λ code. code.mappings ≡ mappings_of
+        (map known_view files.now) (core_view core.now).segments (core_view core.now).mapped) }
+    ensures modules { IfOk result (λ code. map module_view code.modules.items
+        ≡ modules_in (map known_view files.now) code.mappings) }
+    ensures files { IfOk result (λ code. AreOfFiles files.now code.modules.items) }
+    ensures windows { IfOk result (λ code. AreWindows (map opened_view opened.now)
+        (core_view core.now).mapped (map segment_view code.windows.items)) }
+    ensures in_order { IfOk result (λ code. AreInOrder code.windows.items) }
+{
+    let mappings = mapped_code(
+        alloc,
+        core.segments.as_slice(),
+        core.mapped.as_slice(),
+        files,
+    )?;
+    let modules = modules_of(alloc, mappings.as_slice(), files)?;
+    let windows = file_windows(alloc, core.mapped.as_slice(), opened)?;
+    Ok(CoreCode {
+        mappings,
+        modules,
+        windows,
+    })
+}
+
+/// What is mapped as code. Fails where memory is refused.
+fn mapped_code(
+    alloc: Global,
+    segments: &[CoreSegment<'_>],
+    mapped: &[CoreMapping<'_>],
+    files: &[ProfileFile<'_>],
+) -> Result<Mappings, AllocError>
+    ensures { IfOk result (λ mappings. mappings ≡ mappings_of (map known_view files.now)
+        (map segment_view segments.now) (map mapping_view mapped.now)) }
+{
+    let mut mappings = Mappings::new(alloc);
+    for mapping in mapped {
+        if is_code(segments, mapping) {
+            mappings.map(alloc, mapped_in(files, mapping))?;
+        }
+    }
+    Ok(mappings)
+}
+
+/// What is mapped, with the number of its file.
+fn mapped_in(files: &[ProfileFile<'_>], mapping: &CoreMapping<'_>) -> MappedCode
+    ensures { result ≡ mapped_code (map known_view files.now) (mapping_view mapping.now) }
+{
+    MappedCode {
+        start: mapping.start,
+        end: mapping.end,
+        offset: mapping.offset,
+        object: files
+            .iter()
+            .position(|file| file.name.bytes() == mapping.name),
+    }
+}
+
+/// The modules of what is mapped. Fails where memory is refused.
+fn modules_of<'a, 'run>(
+    alloc: Global,
+    mappings: &[MappedCode],
+    files: &'a [ProfileFile<'run>],
+) -> Result<Vec<FileModule<'a, 'run>>, AllocError>
+    ensures modules { IfOk result (λ modules. map module_view modules.items
+        ≡ modules_in (map known_view files.now) mappings.now) }
+    ensures files { IfOk result (λ modules. AreOfFiles files.now modules.items) }
+{
+    let mut modules = Vec::new(alloc);
+    let code = ProcessCode { mappings, files };
+    code.push_modules(&mut modules)?;
+    Ok(modules)
+}
+
+/// What the files have of the memory, in the order of addresses. Fails where memory is refused.
+fn file_windows<'run>(
+    alloc: Global,
+    mapped: &[CoreMapping<'_>],
+    opened: &'run [OpenedFile<'_>],
+) -> Result<Vec<CoreSegment<'run>>, AllocError>
+    ensures windows { IfOk result (λ windows. AreWindows (map opened_view opened.now)
+        (map mapping_view mapped.now) (map segment_view windows.items)) }
+    ensures in_order { IfOk result (λ windows. AreInOrder windows.items) }
+{
+    let mut windows = mapped_windows(alloc, mapped, opened)?;
+    windows.sort_by_key(|window| window.start)?;
+    Ok(windows)
+}
+
+/// What the files have of the memory, in the order of the mappings. Fails where memory is refused.
+fn mapped_windows<'run>(
+    alloc: Global,
+    mapped: &[CoreMapping<'_>],
+    opened: &'run [OpenedFile<'_>],
+) -> Result<Vec<CoreSegment<'run>>, AllocError>
+    ensures { IfOk result (λ windows. map segment_view windows.items
+        ≡ filter_map (file_window (map opened_view opened.now)) (map mapping_view mapped.now)) }
+{
+    let mut windows = Vec::new(alloc);
+    for mapping in mapped {
+        if let Some(window) = file_window(opened, mapping) {
+            windows.push(window)?;
+        }
+    }
+    Ok(windows)
+}
+
+/// What the file has of the memory where it is mapped, if it could be read.
+fn file_window<'run>(
+    opened: &'run [OpenedFile<'_>],
+    mapping: &CoreMapping<'_>,
+) -> Option<CoreSegment<'run>>
+    ensures { option_map segment_view result
+        ≡ file_window (map opened_view opened.now) (mapping_view mapping.now) }
+{
+    match bytes_named(opened, mapping.name) {
+        Some(bytes) => Some(part_of(mapping, bytes)),
+        None => None,
+    }
+}
+
+/// The bytes of the file with this name, if it could be read.
+fn bytes_named<'run>(opened: &'run [OpenedFile<'_>], name: &[u8]) -> Option<&'run [u8]>
+    ensures { option_map (λ bytes. bytes.now) result
+        ≡ bytes_named (map opened_view opened.now) name.now }
+{
+    let found = opened.iter().find(|one| one.name == name)?;
+    match &found.bytes {
+        Some(bytes) => Some(bytes.as_slice()),
+        None => None,
+    }
+}
+
+/// What of the bytes of a file is mapped.
+fn part_of<'run>(mapping: &CoreMapping<'_>, bytes: &'run [u8]) -> CoreSegment<'run>
+    ensures { segment_view result ≡ part_of (mapping_view mapping.now) bytes.now }
+{
+    let size = mapping.end.saturating_sub(mapping.start);
+    CoreSegment {
+        start: mapping.start,
+        bytes: at_most(size, bytes_from(bytes, mapping.offset)),
+        is_executable: false,
+    }
+}
+
+/// The first bytes, at most so many.
+fn at_most(size: u64, bytes: &[u8]) -> &[u8]
+    ensures { result.now ≡ take size bytes.now }
+{
+    if size < bytes.len() as u64 {
+        &bytes[..size as usize]
+    } else {
+        bytes
+    }
+}

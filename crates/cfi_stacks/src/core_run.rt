@@ -1,0 +1,248 @@
+//! The stacks of a core file that a reader gives.
+ghost use Rattle.std.specs.Prelude.{◌≡◌, ◌⊎◌, ℕ, [], List, map};
+ghost use Rattle.cfi_cores.specs.CoreSegments.{AreInOrder, segment_view};
+ghost use Rattle.cfi_cores.specs.CoreFiles.{core_view};
+ghost use Rattle.cfi_object.specs.FileParts.{AreLeft};
+ghost use Rattle.cfi_processes.specs.FileModules.{AreOfFiles};
+ghost use Rattle.cfi_processes.specs.KnownFiles.{known_view, modules_in};
+ghost use Rattle.cfi_processes.specs.Modules.{module_view};
+ghost use Rattle.cfi_processes.specs.OpenedFiles.{opened_view, texts};
+ghost use Rattle.cfi_processes.specs.SampleStacks.{HasRoom};
+ghost use Rattle.cfi_programs.specs.Runs.{out_of_memory};
+ghost use Rattle.cfi_programs.specs.WriterOutput.{Prints, PrintsSome};
+ghost use Rattle.cfi_stacks.specs.CoreOutputs.{IsOfCore, IsOfFiles, IsOfNamed, IsOfOpened};
+ghost use Rattle.cfi_stacks.specs.CoreOutputs.{IsOutput, IsOwed, IsPrinted, core_refusal, ended};
+ghost use Rattle.cfi_stacks.specs.CoreOutputs.{mappings_of, memory_of};
+ghost use Rattle.cfi_stacks.specs.Rooms.{KeepsNoRows};
+
+use crate::core_files::{CoreCode, code_names, core_code};
+use crate::core_text::print_thread;
+use crate::sample_text::Room;
+use cfi_cores::{Core, CoreError, CoreMemory, read_core};
+use cfi_object::input::{InputError, read_all};
+use cfi_processes::process_code::ProcessCode;
+use cfi_processes::profile_files::{OpenedFile, Opener, ProfileFile, profile_files, read_files};
+use cfi_programs::lines::{write_part, write_refusal, write_wrong_input};
+use gimli_cfi::Error;
+use std::alloc::Global;
+use std::io;
+use std::io::{Read, Write};
+
+/// Reads the core file to its end, and prints the stack of each thread, in the order of its notes.
+///
+/// For each there is a line with the thread and the signal that it got, a line for each frame,
+/// where there is a reason for which the last frame isn't the outermost one a line with it, and an
+/// empty line. The line of a frame has its place in a file, the function and the file; if it is
+/// `raw`, it has no function, and none is looked up. The files of code are opened by the names that
+/// the core file has for them; what it doesn't have of their memory is read in them.
+///
+/// Status 0: all threads are printed. Status 1: the core file, or the rest of its notes, can't be
+/// read, which prints `refused` and the name of the error; or memory is refused. Status 2: the
+/// input can't be read, which prints `wrong input`. Fails where the output can't be written: then a
+/// beginning has been written.
+///
+/// Allocates for the input, the files and what is mapped. Unwinding and printing don't allocate.
+pub fn print_core<O: Opener, R: Read, W: Write>(
+    alloc: Global,
+    raw: bool,
+    opener: &O,
+    input: &mut R,
+    output: &mut W,
+) -> io::Result<u8>
+    ensures { (bytes : List ℕ) × AreLeft (R.remaining input.old) bytes
+        × PrintsSome (λ line. IsOwed raw (O.may_open opener.now) O.File.remaining bytes line)
+        (W.contents output.old) (W.contents output.new) result }
+{
+    match read_all(alloc, input) {
+        Ok(bytes) => print_bytes(alloc, raw, opener, bytes.as_slice(), output),
+        Err(InputError::OutOfMemory) => write_refusal(output, Error::OutOfMemory),
+        Err(_) => write_wrong_input(output),
+    }
+}
+
+/// Prints the stacks of the core file that these bytes are.
+fn print_bytes<O: Opener, W: Write>(
+    alloc: Global,
+    raw: bool,
+    opener: &O,
+    bytes: &[u8],
+    output: &mut W,
+) -> io::Result<u8>
+    ensures { PrintsSome (λ line. IsOutput raw (O.may_open opener.now) O.File.remaining
+        bytes.now line)
+        (W.contents output.old) (W.contents output.new) result }
+{
+    match read_core(alloc, bytes) {
+        Ok(core) => print_read(alloc, raw, opener, &core, output),
+        Err(error) => write_core_refusal(output, error),
+    }
+}
+
+/// Opens the files of a core, and prints the stacks of its threads.
+fn print_read<O: Opener, W: Write>(
+    alloc: Global,
+    raw: bool,
+    opener: &O,
+    core: &Core<'_>,
+    output: &mut W,
+) -> io::Result<u8>
+    requires { AreInOrder core.now.segments.items }
+    ensures { PrintsSome (λ line. IsOfCore raw (O.may_open opener.now) O.File.remaining
+        (core_view core.now) line ⊎ (line ≡ out_of_memory))
+        (W.contents output.old) (W.contents output.new) result }
+{
+    match code_names(alloc, core.segments.as_slice(), core.mapped.as_slice()) {
+        Ok(names) => print_named(alloc, raw, opener, core, names.as_slice(), output),
+        Err(_) => write_refusal(output, Error::OutOfMemory),
+    }
+}
+
+/// Opens the files of these names, and prints the stacks of the threads.
+fn print_named<O: Opener, W: Write>(
+    alloc: Global,
+    raw: bool,
+    opener: &O,
+    core: &Core<'_>,
+    names: &[&[u8]],
+    output: &mut W,
+) -> io::Result<u8>
+    requires { AreInOrder core.now.segments.items }
+    ensures { PrintsSome (λ line. IsOfNamed raw (O.may_open opener.now) O.File.remaining
+        (core_view core.now) (texts names.now) line ⊎ (line ≡ out_of_memory))
+        (W.contents output.old) (W.contents output.new) result }
+{
+    match read_files(alloc, opener, names) {
+        Ok(opened) => print_opened(alloc, raw, core, opened.as_slice(), output),
+        Err(_) => write_refusal(output, Error::OutOfMemory),
+    }
+}
+
+/// Prints the stacks of the threads, by files that were opened.
+fn print_opened<W: Write>(
+    alloc: Global,
+    raw: bool,
+    core: &Core<'_>,
+    opened: &[OpenedFile<'_>],
+    output: &mut W,
+) -> io::Result<u8>
+    requires { AreInOrder core.now.segments.items }
+    ensures { PrintsSome (λ line. IsOfOpened raw (core_view core.now)
+        (map opened_view opened.now) line ⊎ (line ≡ out_of_memory))
+        (W.contents output.old) (W.contents output.new) result }
+{
+    match profile_files(alloc, opened) {
+        Ok(files) => print_by_files(alloc, raw, core, opened, files.as_slice(), output),
+        Err(_) => write_refusal(output, Error::OutOfMemory),
+    }
+}
+
+/// Prints the stacks of the threads, by the files, which were opened so.
+fn print_by_files<W: Write>(
+    alloc: Global,
+    raw: bool,
+    core: &Core<'_>,
+    opened: &[OpenedFile<'_>],
+    files: &[ProfileFile<'_>],
+    output: &mut W,
+) -> io::Result<u8>
+    requires { AreInOrder core.now.segments.items }
+    ensures { PrintsSome (λ line. IsOfFiles raw (core_view core.now) (map opened_view opened.now)
+        (map known_view files.now) line ⊎ (line ≡ out_of_memory))
+        (W.contents output.old) (W.contents output.new) result }
+{
+    match core_code(alloc, core, opened, files) {
+        Ok(code) => print_code(alloc, raw, core, files, &code, output),
+        Err(_) => write_refusal(output, Error::OutOfMemory),
+    }
+}
+
+/// Prints the stacks of the threads, by the code of the process.
+fn print_code<W: Write>(
+    alloc: Global,
+    raw: bool,
+    core: &Core<'_>,
+    files: &[ProfileFile<'_>],
+    code: &CoreCode<'_, '_>,
+    output: &mut W,
+) -> io::Result<u8>
+    requires mappings { code.now.mappings ≡ mappings_of (map known_view files.now)
+        (core_view core.now).segments (core_view core.now).mapped }
+    requires modules { map module_view code.now.modules.items
+        ≡ modules_in (map known_view files.now) code.now.mappings }
+    requires files { AreOfFiles files.now code.now.modules.items }
+    requires dumped { AreInOrder core.now.segments.items }
+    requires windows { AreInOrder code.now.windows.items }
+    ensures { PrintsSome (λ line. IsPrinted raw (map known_view files.now)
+        (memory_of (core_view core.now) (map segment_view code.now.windows.items))
+        (core_view core.now) line)
+        (W.contents output.old) (W.contents output.new) result }
+{
+    match Room::new(alloc) {
+        Ok(room) => print_threads(raw, core, files, code, room, output),
+        Err(_) => write_refusal(output, Error::OutOfMemory),
+    }
+}
+
+/// Prints the stacks of the threads in this room, and then the error that ended the notes.
+fn print_threads<W: Write>(
+    raw: bool,
+    core: &Core<'_>,
+    files: &[ProfileFile<'_>],
+    code: &CoreCode<'_, '_>,
+    room: Room,
+    output: &mut W,
+) -> io::Result<u8>
+    requires mappings { code.now.mappings ≡ mappings_of (map known_view files.now)
+        (core_view core.now).segments (core_view core.now).mapped }
+    requires modules { map module_view code.now.modules.items
+        ≡ modules_in (map known_view files.now) code.now.mappings }
+    requires files { AreOfFiles files.now code.now.modules.items }
+    requires dumped { AreInOrder core.now.segments.items }
+    requires windows { AreInOrder code.now.windows.items }
+    requires rows { KeepsNoRows room }
+    requires frames { HasRoom room.frames.items }
+    ensures { PrintsSome (λ line. IsPrinted raw (map known_view files.now)
+        (memory_of (core_view core.now) (map segment_view code.now.windows.items))
+        (core_view core.now) line)
+        (W.contents output.old) (W.contents output.new) result }
+{
+    let mut room = room;
+    let process = ProcessCode {
+        mappings: code.mappings.as_slice(),
+        files,
+    };
+    let memory = CoreMemory::new(core.segments.as_slice(), code.windows.as_slice());
+    let threads = core.threads.as_slice();
+    for thread in threads {
+        print_thread(
+            raw,
+            core.machine,
+            &process,
+            code.modules.as_slice(),
+            &memory,
+            thread,
+            &mut room,
+            output,
+        )?;
+    }
+    write_end(output, core.error)
+}
+
+/// Prints the error that ended the notes, if there is one, and returns the status.
+fn write_end<W: Write>(output: &mut W, error: Option<CoreError>) -> io::Result<u8>
+    ensures { Prints (ended [] error) (W.contents output.old) (W.contents output.new) result }
+{
+    match error {
+        None => Ok(0),
+        Some(error) => write_core_refusal(output, error),
+    }
+}
+
+/// Prints `refused` and the name of the error, and returns the status 1.
+fn write_core_refusal<W: Write>(output: &mut W, error: CoreError) -> io::Result<u8>
+    ensures { Prints (core_refusal error) (W.contents output.old) (W.contents output.new) result }
+{
+    let name = error.name();
+    write_part(output, format_args!("refused {name}\n"))?;
+    Ok(1)
+}

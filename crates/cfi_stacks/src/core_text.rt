@@ -1,0 +1,125 @@
+//! The text of a thread's stack.
+ghost use Rattle.std.specs.Prelude.{◌≡◌, ◌≤◌, ◌++◌, ℕ, IfOk, List, OnOk, length, map};
+ghost use Rattle.cfi_cores.specs.CoreMemories.{memory_view, number_at};
+ghost use Rattle.cfi_cores.specs.CoreThreads.{thread_view};
+ghost use Rattle.cfi_programs.specs.WriterOutput.{Writes};
+ghost use Rattle.cfi_processes.specs.FileModules.{AreOfFiles};
+ghost use Rattle.cfi_processes.specs.KnownFiles.{known_view, modules_in};
+ghost use Rattle.cfi_processes.specs.Mappings.{AreInOrder};
+ghost use Rattle.cfi_processes.specs.Modules.{module_view};
+ghost use Rattle.cfi_stacks.specs.CoreOutputs.{IsThreadText, thread_text};
+ghost use Rattle.cfi_stacks.specs.Rooms.{IsRoomFor};
+ghost use Rattle.cfi_stacks.specs.StackTexts.{signal_text, thread_line};
+
+use crate::sample_text::{REGISTERS, Room, print_walk};
+use crate::stack_lines::LineRoom;
+use crate::thread_stack::unwind_thread;
+use cfi_cores::{CoreMemory, CoreThread};
+use cfi_processes::process_code::{FileModule, ProcessCode};
+use cfi_processes::registers::SampleMachine;
+use cfi_processes::sample_stack::NoFrames;
+use cfi_programs::lines::write_text;
+use cfi_programs::text::{Text, push, push_decimal};
+use cfi_step::{Modules, StackFrame, Walk};
+use std::io::Write;
+use std::{fmt, io};
+
+/// Prints the stack of a thread: a line with its number and the signal that it got, a line for each
+/// frame, the reason why there are no more if the last one isn't the outermost, and an empty line.
+///
+/// If it is `raw`, the lines have no functions. The modules are those of what is mapped, and the
+/// rows that the room keeps are those of the files. There is room for 4096 frames. Does not
+/// allocate.
+pub fn print_thread<W: Write>(
+    raw: bool,
+    machine: SampleMachine,
+    code: &ProcessCode<'_, '_, '_>,
+    modules: &[FileModule<'_, '_>],
+    memory: &CoreMemory<'_>,
+    thread: &CoreThread<'_>,
+    room: &mut Room,
+    output: &mut W,
+) -> io::Result<()>
+    requires order { AreInOrder 0 code.now.mappings.now }
+    requires modules { map module_view modules.now
+        ≡ modules_in (map known_view code.now.files.now) code.now.mappings.now }
+    requires files { AreOfFiles code.now.files.now modules.now }
+    requires cached { IsRoomFor code.now.files.now room.old }
+    ensures printed { (text : List ℕ)
+        × Writes (W.contents output.old) (W.contents output.new) result text
+        × IsThreadText raw machine (map known_view code.now.files.now) code.now.mappings.now
+        (number_at (memory_view memory.now)) (thread_view thread.now) text }
+    ensures cached { IsRoomFor code.now.files.now room.new }
+{
+    let Ok(modules) = Modules::new(modules) else {
+        unreachable!()
+    };
+    let count = machine.register_count();
+    let mut registers = [None; REGISTERS];
+    let mut caller = [None; REGISTERS];
+    let frames = room.frames.as_mut_slice();
+    let found = unwind_thread(
+        modules,
+        machine,
+        thread,
+        memory,
+        room.cache.as_mut_slice(),
+        &mut room.context,
+        &mut registers[..count],
+        &mut caller[..count],
+        frames,
+    );
+    print_found(raw, code, thread, found, frames, &mut room.line, output)
+}
+
+/// Prints what was found of a thread's stack.
+fn print_found<W: Write>(
+    raw: bool,
+    code: &ProcessCode<'_, '_, '_>,
+    thread: &CoreThread<'_>,
+    found: Result<Walk, NoFrames>,
+    frames: &[StackFrame],
+    room: &mut LineRoom,
+    output: &mut W,
+) -> io::Result<()>
+    requires order { AreInOrder 0 code.now.mappings.now }
+    requires count { IfOk found (λ walk. walk.count ≤ length frames.now) }
+    ensures { Writes (W.contents output.old) (W.contents output.new) result
+        (thread_text raw (map known_view code.now.files.now) code.now.mappings.now
+        (thread_view thread.now) found frames.now) }
+{
+    write_thread(output, thread.tid, thread.signal)?;
+    print_walk(raw, code, found, frames, room, output)?;
+    write_text(output, b"\n")
+}
+
+/// Writes the line of a thread and of its signal.
+fn write_thread<W: Write>(output: &mut W, tid: u32, signal: u16) -> io::Result<()>
+    ensures { Writes (W.contents output.old) (W.contents output.new) result
+        (thread_line tid signal) }
+{
+    let mut text = Text::new();
+    push_thread(&mut text, tid, signal)?;
+    write_text(output, text.as_slice())
+}
+
+/// Appends what `write_thread` writes. Fails where there is no room.
+fn push_thread(text: &mut Text, tid: u32, signal: u16) -> fmt::Result
+    ensures { OnOk result (text.new.items ≡ text.old.items ++ thread_line tid signal) }
+{
+    push(text, b"thread ")?;
+    push_decimal(text, u64::from(tid))?;
+    push_signal(text, signal)?;
+    push(text, b"\n")
+}
+
+/// Appends the signal that a thread got, if it got one. Fails where there is no room.
+fn push_signal(text: &mut Text, signal: u16) -> fmt::Result
+    ensures { OnOk result (text.new.items ≡ text.old.items ++ signal_text signal) }
+{
+    if signal == 0 {
+        return Ok(());
+    }
+    push(text, b" signal ")?;
+    push_decimal(text, u64::from(signal))
+}
