@@ -10,8 +10,8 @@ use Rattle.clap.specs.Simple.{App, Shape, built_leaf, inherited, marked_built, w
 use Rattle.clap.specs.Kinds.{or_else}
 use Rattle.clap.specs.Faults.{check_fault, defaults_fault, level_fault}
 use Rattle.cfi_programs.specs.declared.style.Format.{Format}
-use Rattle.cfi.specs.CommandLine.{Asked, asked_of, cfi_app, check, check_app, dump, dump_app, file_in, format_in, format_names, raw_in, row, row_app, rows, rows_app, table, table_app, unwind, unwind_app, values_in}
-use Rattle.cfi.specs.Words.{Given, check_by, check_of, dump_by, dump_of, format_given, given, nothing, row_by, row_of, rows_by, rows_of, table_by, table_of, unwind_by, unwind_of}
+use Rattle.cfi.specs.CommandLine.{Asked, asked_of, cfi_app, check, check_app, dump, dump_app, file_in, format_in, format_names, raw_in, row, row_app, rows, rows_app, stack, stack_app, table, table_app, unwind, unwind_app, values_in}
+use Rattle.cfi.specs.Words.{Given, check_by, check_of, dump_by, dump_of, format_given, given, nothing, row_by, row_of, rows_by, rows_of, stack_by, stack_of, table_by, table_of, unwind_by, unwind_of}
 use Rattle.cfi.proofs.EndLemmas.{NoDefaults, format_is, found_at, lacks, missing, no_defaults, raw_defaults, raw_is, skips}
 use Rattle.cfi.proofs.FlagLemmas.{IsFault, fault_next, help, waiting}
 use Rattle.cfi.proofs.PlaceLemmas.{many, single}
@@ -91,6 +91,12 @@ unwind_refuses true raw arguments le = refl
 unwind_refuses false raw [] le = refl
 unwind_refuses false raw (f ∷ []) le = absurd (omega arith)
 unwind_refuses false raw (f ∷ x ∷ more) le = refl
+
+stack_refuses : (b raw : Bool) (arguments : List Text) → 2 ≤ length arguments → cond b None (stack_by raw arguments) ≡ None
+stack_refuses true raw arguments le = refl
+stack_refuses false raw [] le = refl
+stack_refuses false raw (f ∷ []) le = absurd (omega arith)
+stack_refuses false raw (f ∷ x ∷ more) le = refl
 
 module _ (names : Bor (List (Bor Text))) where
   -- ---- row
@@ -507,6 +513,70 @@ module _ (names : Bor (List (Bor Text))) where
     where
       without_format : (g : Given) → is_some g.format ≡ true → unwind_of g ≡ None
       without_format g h = ap (λ (b : Bool). cond b None (unwind_by g.raw g.arguments)) h
+
+  -- ---- stack
+
+  stack_place : (arguments : List Text) (position : ℕ) (now : Text → List Text) → one_file arguments position (now (codes "FILE")) (now (codes "ADDRESS"))
+      → Takes (leaf names stack_app) one_file stack_of arguments position now
+  stack_place [] position now h = inr (
+    single (codes "FILE") 1 true,
+    ap (arg_by_index (leaf names stack_app).rules) h.0,
+    record { id = codes "FILE"; index = 1; required = true; found = refl; kind = inl (refl, h.1) },
+    refl,
+    refl,
+    λ word. (ap (next_position (single (codes "FILE") 1 true)) h.0, ap (λ (x : List Text). x ++ word ∷ []) h.1),
+  )
+  stack_place (f ∷ []) position now h = inl (ap (arg_by_index (leaf names stack_app).rules) h.0, λ g le. stack_refuses (is_some g.format) g.raw g.arguments le)
+  stack_place (f ∷ x ∷ more) position now h = absurd h
+
+  abbrev stack_rules : List Rule
+  stack_rules = single (codes "FILE") 1 true ∷ help ∷ []
+
+  stack_plain : NoDefaults stack_rules
+  stack_plain = (refl, (refl, tt {0}))
+
+  stack_ends : (g : Given) (position : ℕ) (rs : List Row) (now : Text → List Text) → one_file g.arguments position (now (codes "FILE")) (now (codes "ADDRESS"))
+      → now (codes "raw") ≡ raw_values g.raw → now (codes "format") ≡ format_values g.format
+      → (arg_by_long (leaf names stack_app).rules (codes "raw") ≡ None → g.raw ≡ false) → (arg_by_long (leaf names stack_app).rules (codes "format") ≡ None → g.format ≡ None)
+      → Has rs now → Ends (leaf names stack_app) (codes "stack") rs (stack_of g)
+  stack_ends g position rs now placed raw format no_raw no_format has =
+      subst (λ (o : Option Format). Ends (leaf names stack_app) (codes "stack") rs (cond (is_some o) None (stack_by g.raw g.arguments))) (sym (no_format refl)) (go g.arguments placed)
+    where
+      at_end : (id : Text) (values : List Text) → bytes_eq (codes "raw") id ≡ false → now id ≡ values → at_id id (fold with_default rs (raw_here ∷ stack_rules)) ≡ line id values
+      at_end id values apart is = found_at id stack_rules rs now values stack_plain apart has is
+
+      lacking : (file : List Text) → now (codes "FILE") ≡ file
+          → check_fault (leaf names stack_app) (fold with_default rs (raw_here ∷ stack_rules)) false ≡ missing (lacks (line (codes "FILE") file) || false)
+      lacking file e = ap (λ (x : Option Row). missing (lacks x || false)) (at_end (codes "FILE") file refl e)
+
+      asks : (f : Text) → now (codes "FILE") ≡ f ∷ [] → asked_of (codes "stack", fold with_default rs (raw_here ∷ stack_rules)) ≡ stack g.raw f
+      asks f e =
+          let end = fold with_default rs (raw_here ∷ stack_rules) in
+          let is_raw : raw_in end ≡ g.raw = raw_is stack_rules rs now g.raw stack_plain has raw in
+          let is_file : file_in end ≡ f = ap (λ (o : Option Row). unwrap_or (option_and_then (λ r. slice_get r.values 0) o) []) (at_end (codes "FILE") (f ∷ []) refl e) in
+          λ i. stack (is_raw i) (is_file i)
+
+      go : (arguments : List Text) → one_file arguments position (now (codes "FILE")) (now (codes "ADDRESS")) → Ends (leaf names stack_app) (codes "stack") rs (stack_by g.raw arguments)
+      go [] h =
+          fault_next (defaults_fault rs (raw_here ∷ stack_rules)) (check_fault (leaf names stack_app) (fold with_default rs (raw_here ∷ stack_rules)) false)
+          (subst IsFault (sym (lacking [] h.1)) (tt {0}))
+      go (f ∷ []) h = (ap₂ or_else (raw_defaults stack_rules rs stack_plain) (lacking (f ∷ []) h.1), asks f h.1)
+      go (f ∷ x ∷ more) h = absurd h
+
+  pub stack_leaf : Leaf (leaf names stack_app) (codes "stack") names one_file stack_of
+  stack_leaf = record {
+    again = refl;
+    raw = inr refl;
+    format = inl (refl, without_format);
+    others = λ flag e d. rw e (help_by_name (bytes_eq (codes "help") flag));
+    short = λ x. help_by_name (nat_eq 104 x);
+    apart = λ position a e. apart_of (arg_by_index (leaf names stack_app).rules position) a e (one_apart (single (codes "FILE") 1 true) refl (nat_eq 1 position));
+    place = stack_place;
+    ends = stack_ends;
+  }
+    where
+      without_format : (g : Given) → is_some g.format ≡ true → stack_of g ≡ None
+      without_format g h = ap (λ (b : Bool). cond b None (stack_by g.raw g.arguments)) h
 
   -- ---- all words of a command
 

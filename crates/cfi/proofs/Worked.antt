@@ -7,7 +7,7 @@ use Rattle.clap.specs.Words.{Text, fault_of}
 use Rattle.clap.specs.declared.error.kind.ErrorKind.TheVariants.{DisplayHelp, DisplayVersion, InvalidSubcommand}
 use Rattle.clap.proofs.OnLiterals.{clap_on_literals}
 use Rattle.cfi_programs.specs.declared.style.Format.TheVariants as form
-use Rattle.cfi.specs.CommandLine.{cfi_app, check, dump, row, rows, unwind}
+use Rattle.cfi.specs.CommandLine.{cfi_app, check, dump, row, rows, stack, unwind}
 use Rattle.cfi.specs.Findings.{tally_in}
 use Rattle.cfi.specs.Words.{asked}
 
@@ -103,6 +103,15 @@ a_raw_profile = refl
 
 a_profile_has_no_format : asked (codes "cfi" ∷ codes "unwind" ∷ codes "--format=text" ∷ codes "perf.data" ∷ []) ≡ None
 a_profile_has_no_format = refl
+
+a_core : asked (codes "cfi" ∷ codes "stack" ∷ codes "core" ∷ []) ≡ Some (stack false (codes "core"))
+a_core = refl
+
+a_raw_core : asked (codes "cfi" ∷ codes "stack" ∷ codes "core" ∷ codes "--raw" ∷ []) ≡ Some (stack true (codes "core"))
+a_raw_core = refl
+
+one_core : asked (codes "cfi" ∷ codes "stack" ∷ codes "core" ∷ codes "a" ∷ []) ≡ None
+one_core = refl
 
 counted_object : tally_in form.Json 3 2 1 ≡ codes "{\"files\":3,\"tables\":2,\"faithful\":1}"
 unfolding digits

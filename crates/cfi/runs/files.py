@@ -1,9 +1,10 @@
 #!/usr/bin/env python3
-"""Writes the files of ../data that are made of the program calls: a copy whose table is wrong, and three profiles.
+"""Writes the files of ../data that are made of the program calls: a copy whose table is wrong, profiles, and core files.
 
 The profiles have the form of perf record (perf.data-file-format.txt), little-endian, for x86-64. Each has one event whose
 samples have the thread, the time, the registers rbp, rsp and rip, and a part of the stack. Files are named below
-/proc/self/cwd, which is the folder of the process that reads the profile.
+/proc/self/cwd, which is the folder of the process that reads the profile. So are those of the core files, which have the
+notes of Linux for x86-64.
 """
 import struct
 from pathlib import Path
@@ -77,6 +78,65 @@ of_large = profile(
     sample(7, 1_000_002_000, (0x7020, 0x7000, IN_INNER), STACK_OF_INNER),
 )
 
+# ---- core files
+
+PT_LOAD, PT_NOTE, EXECUTABLE, WRITABLE = 1, 4, 5, 6
+NT_PRSTATUS, NT_FILE = 1, 0x46494C45
+
+
+def padded(part):
+    return part.ljust(-(-len(part) // 4) * 4, b"\0")
+
+
+def note(kind, desc):
+    return struct.pack("<3I", 5, len(desc), kind) + padded(b"CORE\0") + padded(desc)
+
+
+def thread(tid, signal, rbp, rsp, rip):
+    """An elf_prstatus, whose registers are those of user_regs_struct."""
+    registers = [0] * 27
+    registers[4], registers[16], registers[19] = rbp, rip, rsp
+    head = struct.pack("<3IHxx2Q4I8Q", signal, 0, 0, signal, 0, 0, tid, 1, 1, 1, *[0] * 8)
+    return note(NT_PRSTATUS, head + struct.pack("<27QQ", *registers, 0))
+
+
+def files(*mapped):
+    """What is mapped: start, end and place of each, and the names."""
+    pages = (struct.pack("<3Q", start, end, place // 4096) for start, end, place, _ in mapped)
+    names = (FOLDER + name + b"\0" for *_, name in mapped)
+    return note(NT_FILE, struct.pack("<2Q", len(mapped), 4096) + b"".join(pages) + b"".join(names))
+
+
+def core(notes, *segments):
+    """Segments by their flags, address, size in memory, and the bytes that the file has of them."""
+    place = 64 + 56 * (1 + len(segments))
+    headers = struct.pack("<2I6Q", PT_NOTE, 4, place, 0, 0, len(notes), 0, 4)
+    parts = notes
+    for flags, address, size, words in segments:
+        had = struct.pack(f"<{len(words)}Q", *words)
+        headers += struct.pack("<2I6Q", PT_LOAD, flags, place + len(parts), address, 0, len(had), size, 1)
+        parts += had
+    ident = b"\x7fELF\2\1\1".ljust(16, b"\0")
+    return ident + struct.pack("<2HI3QI6H", 4, 62, 1, 0, 64, 0, 0, 64, 56, 1 + len(segments), 0, 0, 0) + headers + parts
+
+
+CODE = (EXECUTABLE, 0x400000, 4096, [])
+
+of_threads = core(
+    thread(8, 11, 0x7020, 0x7000, IN_INNER)
+    # The stack ends before the return address of outer.
+    + thread(7, 0, 0x9020, 0x9000, IN_INNER)
+    # Where nothing is mapped.
+    + thread(9, 0, 0x7020, 0x7000, 0x12345)
+    + files((0x400000, 0x401000, 0, b"calls")),
+    CODE,
+    (WRITABLE, 0x7000, 4096, STACK_OF_INNER),
+    (WRITABLE, 0x9000, 4096, STACK_OF_INNER[:5]),
+)
+
+# No mappings, and bytes behind the only thread that are no whole note.
+cut_off = core(thread(8, 11, 0x7020, 0x7000, IN_INNER) + bytes(5), CODE, (WRITABLE, 0x7000, 4096, STACK_OF_INNER))
+
 data = Path(__file__).resolve().parent.parent / "data"
 
 # The second row of the table of .eh_frame_hdr, at 0xcc, is of outer at 0x4000b7, which is -0x15 from there. It gets 0x4000b8.
@@ -88,3 +148,5 @@ struct.pack_into("<i", calls, 0xCC + 20, -0x14)
 (data / "calls.perf").write_bytes(of_calls)
 (data / "others.perf").write_bytes(of_others)
 (data / "large.perf").write_bytes(of_large)
+(data / "threads.core").write_bytes(of_threads)
+(data / "cut.core").write_bytes(cut_off)

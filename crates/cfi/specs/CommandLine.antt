@@ -34,6 +34,7 @@ pub data Asked : Type 0 where
   check : Format → List Text → Asked
   table : Bool → Text → Asked
   unwind : Bool → Text → Asked
+  stack : Bool → Text → Asked
 
 abbrev pub command_view : Command → Asked
 command_view (command.Row raw format file addresses) =
@@ -44,6 +45,7 @@ command_view (command.Dump raw file) = dump raw file.now
 command_view (command.Check format files) = check format (map (λ file. file.now) files.items)
 command_view (command.Table raw file) = table raw file.now
 command_view (command.Unwind raw file) = unwind raw file.now
+command_view (command.Stack raw file) = stack raw file.now
 
 -- ---- the commands as clap is told of them
 
@@ -101,6 +103,9 @@ table_app = with_rule (with_rule (new_app (codes "table")) raw_rule) file_rule
 abbrev pub unwind_app : App
 unwind_app = with_rule (with_rule (new_app (codes "unwind")) raw_rule) file_rule
 
+abbrev pub stack_app : App
+stack_app = with_rule (with_rule (new_app (codes "stack")) raw_rule) file_rule
+
 -- one of the subcommands has to be asked for; clap adds `help`, and `--version` where there is one
 abbrev pub top_app : App
 top_app =
@@ -119,12 +124,14 @@ cfi_app names =
     (with_subcommand
     (with_subcommand
     (with_subcommand
+    (with_subcommand
     (with_subcommand (with_subcommand top_app (row_app names).top)
     (rows_app names).top)
     dump_app.top)
     (check_app names).top)
     table_app.top)
-    unwind_app.top
+    unwind_app.top)
+    stack_app.top
 
 -- the command of clap is the one that is described so
 abbrev pub IsApp : App → ClapCommand → Type 0
@@ -157,6 +164,13 @@ abbrev pub format_in : List Row → Format
 format_in matches =
     if has_value (codes "format") (codes "json") matches then form.Json else form.Text
 
+-- a command that has one file
+abbrev pub of_one_file : Text → Bool → Text → Asked
+of_one_file name raw file =
+    if bytes_eq name (codes "table") then table raw file
+    else if bytes_eq name (codes "unwind") then unwind raw file
+    else stack raw file
+
 -- by the name and the matches of a subcommand
 abbrev pub asked_of : Text × List Row → Asked
 asked_of named =
@@ -168,8 +182,7 @@ asked_of named =
     (first_of (codes "ADDRESS") named.1)
     else if bytes_eq named.0 (codes "dump") then dump raw (file_in named.1)
     else if bytes_eq named.0 (codes "check") then check format (values_in (codes "FILE") named.1)
-    else if bytes_eq named.0 (codes "table") then table raw (file_in named.1)
-    else unwind raw (file_in named.1)
+    else of_one_file named.0 raw (file_in named.1)
 
 -- by the words
 abbrev pub asked_by : Bor (List (Bor Text)) → List Text → Option Asked

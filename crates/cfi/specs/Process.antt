@@ -20,11 +20,12 @@ use Rattle.cfi_files.specs.Findings.{has_table, is_faithful}
 use Rattle.cfi_files.specs.declared.finding.Finding.{Finding}
 use Rattle.cfi_files.specs.declared.finding.Finding.TheVariants.{Unreadable}
 use Rattle.cfi_files.specs.declared.request.Request.{Request}
+use Rattle.cfi_stacks.specs.CoreOutputs.{IsOwed as IsOwedOfCore}
 use Rattle.cfi_stacks.specs.ProfileOutputs.{IsOwed as IsOwedOfProfile}
 use Rattle.cfi.specs.CommandLine.{Asked, cfi_app, format_names}
 use Rattle.cfi.specs.Findings.{greatest_status, tally_in}
 use Rattle.cfi_programs.specs.declared.style.Format.{Format}
-use Rattle.cfi.specs.Tasks.{OfRequest, Task, check, of_request, print, task_for, unwind}
+use Rattle.cfi.specs.Tasks.{OfRequest, Task, check, of_request, print, stack, task_for, unwind}
 use Rattle.cfi.specs.Words.{asked}
 
 -- The files of a system: what a path may be opened to, or none where it can't be opened, and the
@@ -106,7 +107,7 @@ abbrev pub AreTallied : Disk → Format → List Text → Line → Type 0
 AreTallied disk format names printed =
     (checks : Checks) × AreChecks disk format names checks × (printed ≡ tallied format checks)
 
--- ---- what is printed of a profile
+-- ---- what is printed of a profile, and of a core file
 
 -- the files that it names; none is opened by a name that isn't UTF-8, or if the file isn't a
 -- regular one
@@ -123,12 +124,23 @@ abbrev pub AreStacks : Disk → Bool → Text → Line → Type 0
 AreStacks disk raw name printed =
     (opened : Option disk.Handle) × disk.MayOpen name opened × AreStacksOf disk raw opened printed
 
+abbrev pub AreThreadsOf : (disk : Disk) → Bool → Option disk.Handle → Line → Type 0
+AreThreadsOf disk raw None printed = printed ≡ nothing
+AreThreadsOf disk raw (Some file) printed =
+    (bytes : List ℕ) × AreLeft (disk.bytes_of file) bytes
+    × IsOwedOfCore raw (MayOpenNamed disk) disk.bytes_of bytes printed
+
+abbrev pub AreThreads : Disk → Bool → Text → Line → Type 0
+AreThreads disk raw name printed =
+    (opened : Option disk.Handle) × disk.MayOpen name opened × AreThreadsOf disk raw opened printed
+
 -- ---- a run
 
 abbrev pub IsAnswer : Disk → Task → Line → Type 0
 IsAnswer disk (print name what) printed = IsPrint disk name what printed
 IsAnswer disk (check names format) printed = AreTallied disk format names printed
 IsAnswer disk (unwind raw name) printed = AreStacks disk raw name printed
+IsAnswer disk (stack raw name) printed = AreThreads disk raw name printed
 
 -- the status after a text of clap's, which may be 0 after help; 2 where the text can't be written
 abbrev pub IsStatusAfter : ErrorKind → ℕ → Type 0

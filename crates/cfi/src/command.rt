@@ -6,8 +6,9 @@ ghost use Rattle.cfi.specs.CommandLine.{FailsAsCfi, IsApp, address_rule, address
 ghost use Rattle.cfi.specs.CommandLine.{cfi_app, check_app, command_view, dump_app, file_in};
 ghost use Rattle.cfi.specs.CommandLine.{file_rule, files_rule, format_in, format_names};
 ghost use Rattle.cfi.specs.CommandLine.{format_rule};
-ghost use Rattle.cfi.specs.CommandLine.{has_value, raw_in, raw_rule, row_app, rows_app, table_app};
-ghost use Rattle.cfi.specs.CommandLine.{top_app, unwind_app, values_in};
+ghost use Rattle.cfi.specs.CommandLine.{has_value, of_one_file, raw_in, raw_rule, row_app};
+ghost use Rattle.cfi.specs.CommandLine.{rows_app, table_app};
+ghost use Rattle.cfi.specs.CommandLine.{stack_app, top_app, unwind_app, values_in};
 ghost use Rattle.cfi.specs.Words.{asked};
 
 use cfi_programs::style::Format;
@@ -55,6 +56,11 @@ pub enum Command<'w> {
     },
     /// `unwind FILE`: the stack of each sample of a profile.
     Unwind {
+        raw: bool,
+        file: &'w str,
+    },
+    /// `stack FILE`: the stack of each thread of a core file.
+    Stack {
         raw: bool,
         file: &'w str,
     },
@@ -125,16 +131,21 @@ fn named<'w>(
             format: format_in(arguments),
             files: values_in(alloc, arguments, "FILE")?,
         })
-    } else if name == "table" {
-        Ok(Command::Table {
-            raw: raw_in(arguments),
-            file: file_in(arguments),
-        })
     } else {
-        Ok(Command::Unwind {
-            raw: raw_in(arguments),
-            file: file_in(arguments),
-        })
+        Ok(of_one_file(name, raw_in(arguments), file_in(arguments)))
+    }
+}
+
+/// Returns the command of this name, which has one file.
+fn of_one_file<'w>(name: &str, raw: bool, file: &'w str) -> Command<'w>
+    ensures { of_one_file name.now raw file.entry.now ≡ command_view result }
+{
+    if name == "table" {
+        Command::Table { raw, file }
+    } else if name == "unwind" {
+        Command::Unwind { raw, file }
+    } else {
+        Command::Stack { raw, file }
     }
 }
 
@@ -205,7 +216,8 @@ fn cfi<'w>(alloc: Global, formats: &'w [&'w str]) -> Result<clap::Command<'w>, A
         .subcommand(dump(alloc)?)?
         .subcommand(check(alloc, formats)?)?
         .subcommand(table(alloc)?)?
-        .subcommand(unwind(alloc)?)
+        .subcommand(unwind(alloc)?)?
+        .subcommand(stack(alloc)?)
 }
 
 /// Returns the program's own command, without those below it.
@@ -214,7 +226,7 @@ fn top<'w>(alloc: Global) -> Result<clap::Command<'w>, AllocError>
 {
     let command = clap::Command::new(alloc, "cfi")
         .version(VERSION)
-        .about("Prints and checks the call frames of ELF files, and prints the stacks of profiles")
+        .about("Prints and checks call frames of ELF files; prints stacks of profiles and cores")
         .arg_required_else_help(true)
         .subcommand_required(true);
     command.bin_name("cfi")
@@ -284,6 +296,16 @@ fn unwind<'w>(alloc: Global) -> Result<clap::Command<'w>, AllocError>
         .arg(profile(alloc))
 }
 
+/// Returns the command `stack`.
+fn stack<'w>(alloc: Global) -> Result<clap::Command<'w>, AllocError>
+    ensures { IfOk result (IsApp stack_app) }
+{
+    clap::Command::new(alloc, "stack")
+        .about("Prints the stack of each thread of a core file")
+        .arg(places_flag(alloc))?
+        .arg(core_file(alloc))
+}
+
 /// Returns the flag `--raw` of the commands that print registers.
 fn raw_flag<'w>(alloc: Global) -> Arg<'w>
     ensures rule { rule_of result ≡ raw_rule }
@@ -295,7 +317,7 @@ fn raw_flag<'w>(alloc: Global) -> Arg<'w>
         .action(ArgAction::SetTrue)
 }
 
-/// Returns the flag `--raw` of `unwind`.
+/// Returns the flag `--raw` of `unwind` and `stack`.
 fn places_flag<'w>(alloc: Global) -> Arg<'w>
     ensures rule { rule_of result ≡ raw_rule }
     ensures local { result.global ≡ false }
@@ -335,6 +357,16 @@ fn profile<'w>(alloc: Global) -> Arg<'w>
 {
     Arg::new(alloc, "FILE")
         .help("A profile of perf record: perf.data")
+        .required(true)
+}
+
+/// Returns the argument that names a core file.
+fn core_file<'w>(alloc: Global) -> Arg<'w>
+    ensures rule { rule_of result ≡ file_rule }
+    ensures local { result.global ≡ false }
+{
+    Arg::new(alloc, "FILE")
+        .help("A core file of a process that ended by a signal, or that gcore wrote")
         .required(true)
 }
 

@@ -1,4 +1,4 @@
-//! Prints and checks the call frames of ELF files, and prints the stacks of profiles.
+//! Prints and checks the call frames of ELF files; prints the stacks of profiles and core files.
 #![tactic(auto)]
 
 ghost use Rattle.std.specs.Prelude.{◌≡◌, ℕ, List, Option, Some, map};
@@ -6,8 +6,8 @@ ghost use Rattle.std.specs.Io.KnownBytes.{Keeps};
 ghost use Rattle.clap.specs.Words.{kind_of};
 ghost use Rattle.cfi_programs.specs.WriterOutput.{PrintsSome};
 ghost use Rattle.cfi.specs.CommandLine.{command_view};
-ghost use Rattle.cfi.specs.Process.{AreStacks, AreTallied, IsAnswer, IsPrint, IsStatusAfter};
-ghost use Rattle.cfi.specs.Process.{IsStatusOf, PrintsRun, disk_of};
+ghost use Rattle.cfi.specs.Process.{AreStacks, AreTallied, AreThreads, IsAnswer, IsPrint};
+ghost use Rattle.cfi.specs.Process.{IsStatusAfter, IsStatusOf, PrintsRun, disk_of};
 ghost use Rattle.cfi.specs.Tasks.{of_request, task_for};
 
 mod command;
@@ -18,7 +18,7 @@ mod task;
 
 use cfi_files::{Request, run_on_file};
 use cfi_programs::style::Format;
-use cfi_stacks::unwind_profile;
+use cfi_stacks::{print_core, unwind_profile};
 use clap::Error;
 use command::{Command, command_of};
 use files::{WRONG, check_files, count_findings, greatest_status, write_tally};
@@ -98,6 +98,7 @@ fn run_command<S: System, W: Write>(system: &S, command: &Command, output: &mut 
         Task::Print(file, request) => print_file(system, file, request, output),
         Task::Check(files, format) => print_checks(system, format, files, output),
         Task::Unwind(file, raw) => print_stacks(system, raw, file, output),
+        Task::Stack(file, raw) => print_threads(system, raw, file, output),
     }
 }
 
@@ -132,6 +133,24 @@ fn print_stacks<S: System, W: Write>(
     let opener = ProfileOpener { system };
     match system.open(file) {
         Some(mut input) => unwind_profile(system.alloc(), raw, &opener, &mut input, output),
+        None => Ok(WRONG),
+    }
+}
+
+/// Opens the core file, and prints the stacks of its threads, without functions if they are `raw`.
+fn print_threads<S: System, W: Write>(
+    system: &S,
+    raw: bool,
+    file: &str,
+    output: &mut W,
+) -> io::Result<u8>
+    ensures { PrintsSome (λ line. AreThreads (disk_of (S.may_open system.now) S.File.bytes)
+        raw file.now line)
+        (W.contents output.old) (W.contents output.new) result }
+{
+    let opener = ProfileOpener { system };
+    match system.open(file) {
+        Some(mut input) => print_core(system.alloc(), raw, &opener, &mut input, output),
         None => Ok(WRONG),
     }
 }

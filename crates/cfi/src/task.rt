@@ -16,6 +16,8 @@ pub enum Task<'c> {
     Check(&'c [&'c str], Format),
     /// Print the stack of each sample of this profile; without functions if true.
     Unwind(&'c str, bool),
+    /// Print the stack of each thread of this core file; without functions if true.
+    Stack(&'c str, bool),
 }
 
 /// Returns what the command is to do.
@@ -39,6 +41,7 @@ pub fn task_of<'c>(command: &'c Command<'c>) -> Task<'c>
         Command::Check { format, files } => Task::Check(files.as_slice(), *format),
         Command::Table { raw, file } => printed_of(file, Printed::Table, *raw),
         Command::Unwind { raw, file } => Task::Unwind(file, *raw),
+        Command::Stack { raw, file } => Task::Stack(file, *raw),
     }
 }
 
