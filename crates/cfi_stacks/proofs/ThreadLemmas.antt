@@ -110,10 +110,10 @@ module _ (raw : Bool) (files : List KnownFile) (memory : ℕ → ℕ → Option 
   )
 
 -- one more thread of the code
-pub next_thread : {A : Type 0} (view : A → CoreThread) (list : List A) (i : ℕ) (t : A) → t ≡ get_or list i t → i < length list → take (i + 1) (map view list) ≡ take i (map view list) ++ view t ∷ []
-next_thread view list i t is inside =
-    ap (λ (n : ℕ). take n (map view list)) (add-one i) ∙ (take-suc (map view list) i (view t) (rw (length-map list view) inside)
-    ∙ ap (λ (next : CoreThread). take i (map view list) ++ next ∷ []) (get_or-map view list i t (view t) inside ∙ ap view (sym is)))
+pub next_thread : {A : Type 0} (view : A → CoreThread) (list : List A) (i : ℕ) (d : A) → i < length list → take (i + 1) (map view list) ≡ take i (map view list) ++ view (get_or list i d) ∷ []
+next_thread view list i d inside =
+    ap (λ (n : ℕ). take n (map view list)) (add-one i) ∙ (take-suc (map view list) i (view d) (rw (length-map list view) inside)
+    ∙ ap (λ (next : CoreThread). take i (map view list) ++ next ∷ []) (get_or-map view list i d (view d) inside))
 
 -- those up to the end are all
 pub all_threads : {A : Type 0} (view : A → CoreThread) (list : List A) (i : ℕ) → length list ≤ i → take i (map view list) ≡ map view list

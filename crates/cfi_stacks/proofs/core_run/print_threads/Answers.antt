@@ -1,6 +1,7 @@
-use Rattle.std.proofs.Common.{◌≡◌, ◌∙◌, ◌+◌, ◌∷◌, ◌++◌, [], List, ap, ap₂, map, subst, take}
+use Rattle.std.proofs.Common.{◌≡◌, ◌∙◌, ◌+◌, ◌∷◌, ◌++◌, [], List, ap, ap₂, get_or, map, subst, take}
 use Rattle.cfi_cores.specs.CoreFiles.{core_view}
 use Rattle.cfi_cores.specs.CoreMemories.{memory_view}
+use Rattle.cfi_cores.specs.declared.thread.CoreThread.{CoreThread as ThreadOfCode}
 use Rattle.cfi_cores.specs.declared.segments.CoreSegment.{CoreSegment}
 use Rattle.cfi_cores.specs.CoreSegments.{segment_view}
 use Rattle.cfi_cores.specs.CoreThreads.{CoreThread, thread_view}
@@ -10,6 +11,9 @@ use Rattle.cfi_stacks.proofs.CoreRunLemmas.{text_there}
 use Rattle.cfi_stacks.proofs.RoomLemmas.{room_for_all}
 use Rattle.cfi_stacks.proofs.ThreadLemmas.{Printed, all_threads, broken, next_thread, none_printed, one_printed, printed}
 use Rattle.cfi_stacks.proofs.core_run.print_threads.Goals as goal
+
+no_thread : ThreadOfCode
+no_thread = record { tid = 0; signal = 0; registers = record { ref_ptr = (0, 0); now = [] } }
 
 pub loop-thread-init : goal.loop-thread-init
 loop-thread-init g c =
@@ -25,6 +29,7 @@ returns g c =
     (all_threads thread_view c.as_slice-threads.result.now c.loop-thread.thread-index c.loop-thread-test.false ∙ ap (map thread_view) c.as_slice-threads.ensures.value) c.loop-thread.invariant.0 c.write_end.ensures
 
 pub loop-thread-preserved : goal.loop-thread-preserved
+unfolding no_thread
 loop-thread-preserved g c =
     let core = core_view c.args.core.now in
     let files = map known_view c.args.files.now in
@@ -32,18 +37,19 @@ loop-thread-preserved g c =
     let memory = memory_of core windows in
     let threads = c.as_slice-threads.result.now in
     let i = c.loop-thread.thread-index in
-    let t = c.thread-item.result in
+    let t = get_or threads i no_thread in
     let (text, written, is) = c.in_ok-print_thread.ensures.printed in
     let mapped = c.as_slice.ensures.all ∙ c.requires.mappings in
     let lent : memory_view c.new-memory.result ≡ record { dumped = core.segments; mapped = windows } =
     c.new-memory.ensures ∙ ap₂ (λ (dumped lent : List CoreSegment). record { dumped = map segment_view dumped; mapped = map segment_view lent }) c.as_slice-2.ensures.value c.as_slice-3.ensures.value in (
       one_printed c.args.raw files memory core (take i (map thread_view threads)) (take (i + 1) (map thread_view threads)) (thread_view t) _ _ _ text
-          (next_thread thread_view threads i t c.thread-item.is c.loop-thread-test.true) c.loop-thread.invariant.0
+          (next_thread thread_view threads i no_thread c.loop-thread-test.true) c.loop-thread.invariant.0
           (text_there c.args.raw core.machine files c.as_slice.result.now (mappings_of files core.segments core.mapped) (memory_view c.new-memory.result) (record { dumped = core.segments; mapped = windows }) (thread_view t) text mapped lent is) written,
       c.in_ok-print_thread.ensures.cached,
     )
 
 pub returns-in_err-print_thread : goal.returns-in_err-print_thread
+unfolding no_thread
 returns-in_err-print_thread g c =
     let core = core_view c.args.core.now in
     let files = map known_view c.args.files.now in
@@ -51,13 +57,13 @@ returns-in_err-print_thread g c =
     let memory = memory_of core windows in
     let threads = c.as_slice-threads.result.now in
     let i = c.loop-thread.thread-index in
-    let t = c.thread-item.result in
+    let t = get_or threads i no_thread in
     let (text, begun, is) = c.in_err-print_thread.ensures.printed in
     let mapped = c.as_slice.ensures.all ∙ c.requires.mappings in
     let all : map thread_view threads ≡ core.threads = ap (map thread_view) c.as_slice-threads.ensures.value in
     let lent : memory_view c.new-memory.result ≡ record { dumped = core.segments; mapped = windows } =
     c.new-memory.ensures ∙ ap₂ (λ (dumped lent : List CoreSegment). record { dumped = map segment_view dumped; mapped = map segment_view lent }) c.as_slice-2.ensures.value c.as_slice-3.ensures.value in
     broken c.args.raw files memory core i (thread_view t) _ _ _ c.from_residual.result text c.from_residual.ensures.0
-    (subst (λ (ts : List CoreThread). take (i + 1) ts ≡ take i ts ++ thread_view t ∷ []) all (next_thread thread_view threads i t c.thread-item.is c.loop-thread-test.true))
+    (subst (λ (ts : List CoreThread). take (i + 1) ts ≡ take i ts ++ thread_view t ∷ []) all (next_thread thread_view threads i no_thread c.loop-thread-test.true))
     (subst (λ (ts : List CoreThread). Printed c.args.raw files memory core (take i ts) (g.W.Write.contents c.args.output.now) (g.W.Write.contents c.loop-thread.output)) all c.loop-thread.invariant.0)
     (text_there c.args.raw core.machine files c.as_slice.result.now (mappings_of files core.segments core.mapped) (memory_view c.new-memory.result) (record { dumped = core.segments; mapped = windows }) (thread_view t) text mapped lent is) begun
