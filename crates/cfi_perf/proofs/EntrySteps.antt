@@ -6,11 +6,11 @@ use Rattle.cfi_read_core.specs.declared.error.Error.{Error}
 use Rattle.cfi_read_core.specs.ReadFunctions.{Read, Source, Position, Outcome}
 use Rattle.cfi_perf.specs.declared.error.PerfError.{PerfError}
 use Rattle.cfi_perf.specs.declared.error.PerfError.TheVariants.{MixedEvents}
-use Rattle.cfi_perf.specs.declared.attribute.EventLayout.{EventLayout}
+use Rattle.cfi_perf.specs.declared.attribute.EventEntry.{EventEntry}
 use Rattle.cfi_perf.specs.Results.{entries, listed}
-use Rattle.cfi_perf.specs.Layouts.{same_layout}
+use Rattle.cfi_perf.specs.Layouts.{are_readable}
 
-one_more : (count index : ℕ) → index < count → count - index ≡ suc (count - (index + 1))
+pub one_more : (count index : ℕ) → index < count → count - index ≡ suc (count - (index + 1))
 one_more count index below = omega arith
 
 -- an entry that was read, and the others
@@ -47,17 +47,17 @@ pub entries_end : {A : Type 0} (count index : ℕ) (read : Read A) (source : Sou
 unfolding entries
 entries_end count index read source place passed = let none : count - index ≡ 0 = omega arith in ap (λ n. entries n read source place) none
 
--- ---- whether all have the layout of the first
+-- ---- whether all can be read with the first
 
 -- what comes of the others
-abbrev pub if_alike : EventLayout → List EventLayout → Result EventLayout PerfError
-if_alike first others = if list_all (same_layout first) others then Ok first else Err MixedEvents
+abbrev pub if_alike : EventEntry → List EventEntry → Result EventEntry PerfError
+if_alike first others = if list_all (are_readable first) others then Ok first else Err MixedEvents
 
-pub none_left : (first : EventLayout) (others : List EventLayout) → others ≡ [] → if_alike first others ≡ Ok first
+pub none_left : (first : EventEntry) (others : List EventEntry) → others ≡ [] → if_alike first others ≡ Ok first
 none_left first others none = ap (if_alike first) none
 
-pub one_same : (first x : EventLayout) (others : List EventLayout) → same_layout first x ≡ true → if_alike first (x ∷ others) ≡ if_alike first others
-one_same first x others same = ap (λ (b : Bool). if b && list_all (same_layout first) others then Ok first else Err MixedEvents) same
+pub one_same : (first x : EventEntry) (others : List EventEntry) → are_readable first x ≡ true → if_alike first (x ∷ others) ≡ if_alike first others
+one_same first x others same = ap (λ (b : Bool). if b && list_all (are_readable first) others then Ok first else Err MixedEvents) same
 
-pub one_other : (first x : EventLayout) (others : List EventLayout) → same_layout first x ≡ false → if_alike first (x ∷ others) ≡ Err MixedEvents
-one_other first x others other = ap (λ (b : Bool). if b && list_all (same_layout first) others then Ok first else Err MixedEvents) other
+pub one_other : (first x : EventEntry) (others : List EventEntry) → are_readable first x ≡ false → if_alike first (x ∷ others) ≡ Err MixedEvents
+one_other first x others other = ap (λ (b : Bool). if b && list_all (are_readable first) others then Ok first else Err MixedEvents) other

@@ -1,5 +1,6 @@
 pub mod Chains
 pub mod EntrySteps
+pub mod EventSteps
 pub mod ItemReads
 pub mod RecordSteps
 mod Registers

@@ -6,8 +6,8 @@ use Rattle.std.proofs.lemmas.List.{length-drop}
 use borrow.Author.Tests.{leb-true}
 use Rattle.cfi_perf.specs.declared.error.PerfError.{PerfError}
 use Rattle.cfi_perf.specs.declared.error.PerfError.TheVariants.{RecordCut, RecordSize}
-use Rattle.cfi_perf.specs.declared.attribute.EventLayout.{EventLayout}
 use Rattle.cfi_perf.specs.declared.records.RecordHeader.{RecordHeader}
+use Rattle.cfi_perf.specs.EventTables.{EventTable}
 use Rattle.cfi_perf.specs.Events.{Record}
 use Rattle.cfi_perf.specs.Results.{and_then, or_error, or_missing, part, read_from}
 use Rattle.cfi_perf.specs.Records.{First, Framed, Records, after_record, record_header, first_record, split_record, no_records, record_of, records_of, records_up_to, records_with, with_first}
@@ -80,15 +80,15 @@ behind_first (Err e) other = other
 same_behind : (first : Record) (others : List ℕ) (found : First) → ◌≡◌ {A = Result First PerfError} (Ok (record { first = first; others = others })) (Ok found) → length others ≡ length found.others
 same_behind first others found is = ap (λ (r : Result First PerfError). length (behind_first r others)) is
 
-module _ (layout : EventLayout) (big : Bool) where
+module _ (events : EventTable) (big : Bool) where
   abbrev with_frame : Framed → Record → Result First PerfError
   with_frame frame first = Ok (record { first = first; others = frame.others })
 
-  fewer : (bytes : List ℕ) (found : First) → first_record layout big bytes ≡ Ok found → length found.others < length bytes
+  fewer : (bytes : List ℕ) (found : First) → first_record events big bytes ≡ Ok found → length found.others < length bytes
   unfolding first_record
   fewer bytes found is =
-      let frame = gave (split_record big bytes) (λ frame. and_then (record_of layout big frame.header frame.body) (with_frame frame)) found is in
-      let first = gave (record_of layout big frame.value.header frame.value.body) (with_frame frame.value) found frame.gives in
+      let frame = gave (split_record big bytes) (λ frame. and_then (record_of events big frame.header frame.body) (with_frame frame)) found is in
+      let first = gave (record_of events big frame.value.header frame.value.body) (with_frame frame.value) found frame.gives in
       let count = same_behind first.value frame.value.others found first.gives in
       let less = framed_fewer big bytes frame.value frame.was in
       omega (arith, count, less)
@@ -102,37 +102,37 @@ module _ (layout : EventLayout) (big : Bool) where
   no_bytes : (bytes : List ℕ) (others : Records) → length bytes ≤ 0 → (if length bytes == 0 then no_records None else others) ≡ no_records None
   no_bytes bytes others none = let e : length bytes ≡ 0 = omega arith in rw e refl
 
-  same : (n m : ℕ) (bytes : List ℕ) → length bytes ≤ n → length bytes ≤ m → records_up_to n layout big bytes ≡ records_up_to m layout big bytes
+  same : (n m : ℕ) (bytes : List ℕ) → length bytes ≤ n → length bytes ≤ m → records_up_to n events big bytes ≡ records_up_to m events big bytes
   unfolding records_up_to
   same zero zero bytes below under = refl
-  same zero (suc m) bytes below under = sym (no_bytes bytes (records_with (first_record layout big bytes) (records_up_to m layout big)) below)
-  same (suc n) zero bytes below under = no_bytes bytes (records_with (first_record layout big bytes) (records_up_to n layout big)) under
+  same zero (suc m) bytes below under = sym (no_bytes bytes (records_with (first_record events big bytes) (records_up_to m events big)) below)
+  same (suc n) zero bytes below under = no_bytes bytes (records_with (first_record events big bytes) (records_up_to n events big)) under
   same (suc n) (suc m) bytes below under =
       ap (λ (others : Records). if length bytes == 0 then no_records None else others)
-      (with_same (first_record layout big bytes) (records_up_to n layout big) (records_up_to m layout big)
+      (with_same (first_record events big bytes) (records_up_to n events big) (records_up_to m events big)
       (λ found is. let less = fewer bytes found is in same n m found.others (omega (arith, less, below)) (omega (arith, less, under))))
 
   -- ---- one step
 
-  step : (bytes : List ℕ) → records_of layout big bytes ≡ (if length bytes == 0 then no_records None else records_with (first_record layout big bytes) (records_of layout big))
+  step : (bytes : List ℕ) → records_of events big bytes ≡ (if length bytes == 0 then no_records None else records_with (first_record events big bytes) (records_of events big))
   unfolding records_up_to
   step bytes =
       same (length bytes) (suc (length bytes)) bytes (omega arith) (omega arith)
       ∙ ap (λ (others : Records). if length bytes == 0 then no_records None else others)
-      (with_same (first_record layout big bytes) (records_up_to (length bytes) layout big) (records_of layout big)
+      (with_same (first_record events big bytes) (records_up_to (length bytes) events big) (records_of events big)
       (λ found is. let less = fewer bytes found is in same (length bytes) (length found.others) found.others (omega (arith, less)) (omega arith)))
 
-  pub none_met : (bytes : List ℕ) → (length bytes == 0) ≡ true → records_of layout big bytes ≡ no_records None
-  none_met bytes none = step bytes ∙ ap (λ (b : Bool). if b then no_records None else records_with (first_record layout big bytes) (records_of layout big)) none
+  pub none_met : (bytes : List ℕ) → (length bytes == 0) ≡ true → records_of events big bytes ≡ no_records None
+  none_met bytes none = step bytes ∙ ap (λ (b : Bool). if b then no_records None else records_with (first_record events big bytes) (records_of events big)) none
 
-  met : (bytes : List ℕ) (r : Result First PerfError) → (length bytes == 0) ≡ false → r ≡ first_record layout big bytes → records_of layout big bytes ≡ records_with r (records_of layout big)
+  met : (bytes : List ℕ) (r : Result First PerfError) → (length bytes == 0) ≡ false → r ≡ first_record events big bytes → records_of events big bytes ≡ records_with r (records_of events big)
   met bytes r some is =
       step bytes
-      ∙ (ap (λ (b : Bool). if b then no_records None else records_with (first_record layout big bytes) (records_of layout big)) some
-      ∙ ap (λ (r : Result First PerfError). records_with r (records_of layout big)) (sym is))
+      ∙ (ap (λ (b : Bool). if b then no_records None else records_with (first_record events big bytes) (records_of events big)) some
+      ∙ ap (λ (r : Result First PerfError). records_with r (records_of events big)) (sym is))
 
-  pub first_met : (bytes : List ℕ) (found : First) → (length bytes == 0) ≡ false → Ok found ≡ first_record layout big bytes → records_of layout big bytes ≡ with_first found.first (records_of layout big found.others)
+  pub first_met : (bytes : List ℕ) (found : First) → (length bytes == 0) ≡ false → Ok found ≡ first_record events big bytes → records_of events big bytes ≡ with_first found.first (records_of events big found.others)
   first_met bytes found some is = met bytes (Ok found) some is
 
-  pub error_met : (bytes : List ℕ) (e : PerfError) → (length bytes == 0) ≡ false → Err e ≡ first_record layout big bytes → records_of layout big bytes ≡ no_records (Some e)
+  pub error_met : (bytes : List ℕ) (e : PerfError) → (length bytes == 0) ≡ false → Err e ≡ first_record events big bytes → records_of events big bytes ≡ no_records (Some e)
   error_met bytes e some is = met bytes (Err e) some is

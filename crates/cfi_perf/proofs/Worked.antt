@@ -1,21 +1,24 @@
 -- A small profile of three records by computation, as perf script -D prints it: its header, its event, its records, and its architecture, in both byte orders.
 use Rattle.std.proofs.Common.{◌≡◌, ℕ, ◌+◌, ◌-◌, ◌*◌, List, [], ◌∷◌, ◌++◌, codes, true, false, Option, Some, None, Ok, Err, refl}
-use Rattle.std.specs.Prelude.{nat_lt, if◌then◌else◌, take}
+use Rattle.std.specs.Prelude.{Bool, nat_lt, if◌then◌else◌, take, replicate}
 use Rattle.cfi_read_core.specs.declared.endianity.RunTimeEndian.TheVariants.{Little, Big}
 use Rattle.cfi_read_core.specs.Numbers.{unsigned}
 use Rattle.cfi_perf.specs.declared.error.PerfError.TheVariants.{NotPerf, PipeMode, HeaderCut, HeaderSize, AttributesOutOfBounds, NoEvents, MixedEvents, FeatureOutOfBounds, RecordSize, RecordCut, Compressed}
+use Rattle.cfi_perf.specs.declared.attribute.EventEntry.{EventEntry}
 use Rattle.cfi_perf.specs.declared.attribute.EventLayout.{EventLayout}
-use Rattle.cfi_perf.specs.Results.{items, entries}
-use Rattle.cfi_perf.specs.Layouts.{sample_format, sample_id_all, chosen, event_layout, event, events, only_layout}
+use Rattle.cfi_perf.specs.Results.{items, entries, header_text}
+use Rattle.cfi_perf.specs.Layouts.{sample_format, sample_id_all, chosen, attribute, event, events, first_event}
+use Rattle.cfi_perf.specs.EventNames.{behind_others, described, described_name, description, generic_name}
+use Rattle.cfi_perf.specs.EventTables.{EventTable, event_of_id}
 use Rattle.cfi_perf.specs.FileHeaders.{byte_order, file_section, feature_bits, header_fields, file_header}
-use Rattle.cfi_perf.specs.Samples.{UserRegisters, register_of, thread, sample_numbers, passed_numbers, group_values, single_value, call_chain, raw_data, branch_stack, passed_lists, registers, copied_stack, stack, user_state, sample}
+use Rattle.cfi_perf.specs.Samples.{UserRegisters, register_of, thread, sample_numbers, processor, later_numbers, group_values, single_value, call_chain, raw_data, branch_stack, passed_lists, registers, copied_stack, stack, user_state, sample}
 use Rattle.cfi_perf.specs.Events.{MappingEvent, ProgramEvent, ForkEvent, SampleEvent, OtherEvent, mapped_range, mapping, mapping2, program, fork}
 use Rattle.cfi_perf.specs.Records.{record_header, split_record, sample_id_time, without_id, record_of, first_record, records_up_to, records_of}
-use Rattle.cfi_perf.specs.Profiles.{Profile, layout_by, profile, architecture, header_text}
+use Rattle.cfi_perf.specs.Profiles.{EventSection, Profile, events_by, profile, architecture, descriptions, event_table}
 
 -- to name it on an `unfolding` line is to open all these
 unfoldable computing : ℕ
-unfolding unsigned items entries sample_format sample_id_all chosen event_layout event file_section feature_bits header_fields file_header thread sample_numbers passed_numbers group_values single_value call_chain raw_data branch_stack passed_lists registers copied_stack stack user_state sample mapped_range mapping mapping2 program fork record_header split_record sample_id_time without_id record_of first_record records_up_to layout_by profile architecture header_text lib.Count.ones
+unfolding unsigned items entries sample_format sample_id_all chosen attribute event file_section feature_bits header_fields file_header thread sample_numbers processor later_numbers group_values single_value call_chain raw_data branch_stack passed_lists registers copied_stack stack user_state sample mapped_range mapping mapping2 program fork record_header split_record sample_id_time without_id record_of first_record records_up_to behind_others described description events_by profile architecture descriptions event_table header_text lib.Count.ones
 computing = 0
 
 -- the bytes of hexadecimal text, whose letters are small
@@ -75,37 +78,57 @@ nothing_behind_the_header = refl
 -- ---- the event
 
 abbrev worked_layout : EventLayout
-worked_layout = record { sample_type = 0x3127; read_format = 0; sample_id_all = true; branch_sample_type = 0; sample_regs_user = 0x181 }
+worked_layout = record { sample_type = 0x3127; sample_period = 10000; read_format = 0; sample_id_all = true; branch_sample_type = 0; sample_regs_user = 0x181 }
+
+abbrev worked_event : EventEntry
+worked_event = record { attribute = record { kind = 1; config = 0; layout = worked_layout }; ids = record { offset = 0; size = 0 } }
+
+-- it is cpu-clock, alone
+abbrev worked_table : Bool → EventTable
+worked_table big = record { big_endian = big; bytes = []; descriptions = []; entries = worked_event ∷ []; first = record { layout = worked_layout; name = codes "cpu-clock" }; is_alone = true }
 
 abbrev little_event : List ℕ
 little_event = hex (codes "01000000600000000000000000000000102700000000000027310000000000000000000000000000000004000000000000000000000000000000000000000000000000000000000000000000000000008101000000000000100000000000000000000000000000000000000000000000")
 
-little_events : events false 112 little_event ≡ worked_layout ∷ []
+little_events : events false 112 little_event ≡ worked_event ∷ []
 unfolding computing
 little_events = refl
 
 abbrev big_event : List ℕ
 big_event = hex (codes "00000001000000600000000000000000000000000000271000000000000031270000000000000000000020000000000000000000000000000000000000000000000000000000000000000000000000000000000000000181000000100000000000000000000000000000000000000000")
 
-big_events : events true 112 big_event ≡ worked_layout ∷ []
+big_events : events true 112 big_event ≡ worked_event ∷ []
 unfolding computing
 big_events = refl
 
-no_events : only_layout [] ≡ Err NoEvents
+no_events : first_event [] ≡ Err NoEvents
 no_events = refl
 
-the_same_twice : only_layout (worked_layout ∷ worked_layout ∷ []) ≡ Ok worked_layout
+the_same_twice : first_event (worked_event ∷ worked_event ∷ []) ≡ Ok worked_event
 the_same_twice = refl
 
-other_registers : only_layout (worked_layout ∷ record worked_layout { sample_regs_user = 0x180 } ∷ []) ≡ Err MixedEvents
+-- an event with other registers can't be told apart, unless its records begin and end with its id
+abbrev with_layout : ℕ → ℕ → EventEntry
+with_layout sample_type registers = record { attribute = record { kind = 1; config = 2; layout = record worked_layout { sample_type = sample_type; sample_regs_user = registers } }; ids = record { offset = 0; size = 0 } }
+
+other_registers : first_event (worked_event ∷ with_layout 0x3127 0x180 ∷ []) ≡ Err MixedEvents
 other_registers = refl
+
+one_identified : first_event (worked_event ∷ with_layout 0x13127 0x180 ∷ []) ≡ Err MixedEvents
+one_identified = refl
+
+both_identified : first_event (with_layout 0x13127 0x181 ∷ with_layout 0x10127 0x180 ∷ []) ≡ Ok (with_layout 0x13127 0x181)
+both_identified = refl
+
+its_generic_name : generic_name worked_event.attribute ≡ codes "cpu-clock"
+its_generic_name = refl
 
 -- ---- the records
 
 abbrev little_program : List ℕ
 little_program = hex (codes "03000000022028000700000007000000610000000000000007000000070000000a00000000000000")
 
-little_program_read : records_of worked_layout false little_program ≡ record {
+little_program_read : records_of (worked_table false) false little_program ≡ record {
   records = record { time = 10; event = ProgramEvent (record { pid = 7; tid = 7; name = codes "a"; is_exec = true }) } ∷ [];
   error = None;
 }
@@ -115,7 +138,7 @@ little_program_read = refl
 abbrev little_mapping : List ℕ
 little_mapping = hex (codes "0a00000002006000070000000700000000004000000000000010000000000000002000000000000000000000000000000000000000000000000000000000000005000000020000002f62696e2f61000007000000070000000b00000000000000")
 
-little_mapping_read : records_of worked_layout false little_mapping ≡ record {
+little_mapping_read : records_of (worked_table false) false little_mapping ≡ record {
   records = record { time = 11; event = MappingEvent (record { pid = 7; address = 0x400000; length = 0x1000; offset = 0x2000; is_executable = true; name = codes "/bin/a" }) } ∷ [];
   error = None;
 }
@@ -128,8 +151,8 @@ little_sample = hex (codes "0900000002007800230140000000000007000000080000006300
 abbrev little_registers : UserRegisters
 little_registers = record { abi = 2; mask = 0x181; values = hex (codes "1100000000000000fe7f0000000000002301400000000000"); big_endian = false }
 
-little_sample_read : records_of worked_layout false little_sample ≡ record {
-  records = record { time = 99; event = SampleEvent (record { pid = 7; tid = 8; ip = 0x400123; user = record { registers = Some little_registers; stack = hex (codes "a0a1a2a3a4a5a6a7") } }) } ∷ [];
+little_sample_read : records_of (worked_table false) false little_sample ≡ record {
+  records = record { time = 99; event = SampleEvent (record { pid = 7; tid = 8; ip = 0x400123; cpu = None; period = 1; event = codes "cpu-clock"; user = record { registers = Some little_registers; stack = hex (codes "a0a1a2a3a4a5a6a7") } }) } ∷ [];
   error = None;
 }
 unfolding computing
@@ -142,7 +165,7 @@ little_sp = refl
 abbrev big_program : List ℕ
 big_program = hex (codes "0000000320020028000000070000000761000000000000000000000700000007000000000000000a")
 
-big_program_read : records_of worked_layout true big_program ≡ record {
+big_program_read : records_of (worked_table true) true big_program ≡ record {
   records = record { time = 10; event = ProgramEvent (record { pid = 7; tid = 7; name = codes "a"; is_exec = true }) } ∷ [];
   error = None;
 }
@@ -152,7 +175,7 @@ big_program_read = refl
 abbrev big_mapping : List ℕ
 big_mapping = hex (codes "0000000a00020060000000070000000700000000004000000000000000001000000000000000200000000000000000000000000000000000000000000000000000000005000000022f62696e2f6100000000000700000007000000000000000b")
 
-big_mapping_read : records_of worked_layout true big_mapping ≡ record {
+big_mapping_read : records_of (worked_table true) true big_mapping ≡ record {
   records = record { time = 11; event = MappingEvent (record { pid = 7; address = 0x400000; length = 0x1000; offset = 0x2000; is_executable = true; name = codes "/bin/a" }) } ∷ [];
   error = None;
 }
@@ -165,8 +188,8 @@ big_sample = hex (codes "0000000900020078000000000040012300000007000000080000000
 abbrev big_registers : UserRegisters
 big_registers = record { abi = 2; mask = 0x181; values = hex (codes "00000000000000110000000000007ffe0000000000400123"); big_endian = true }
 
-big_sample_read : records_of worked_layout true big_sample ≡ record {
-  records = record { time = 99; event = SampleEvent (record { pid = 7; tid = 8; ip = 0x400123; user = record { registers = Some big_registers; stack = hex (codes "a0a1a2a3a4a5a6a7") } }) } ∷ [];
+big_sample_read : records_of (worked_table true) true big_sample ≡ record {
+  records = record { time = 99; event = SampleEvent (record { pid = 7; tid = 8; ip = 0x400123; cpu = None; period = 1; event = codes "cpu-clock"; user = record { registers = Some big_registers; stack = hex (codes "a0a1a2a3a4a5a6a7") } }) } ∷ [];
   error = None;
 }
 unfolding computing
@@ -180,60 +203,60 @@ no_register_1 : register_of little_registers 1 ≡ None
 unfolding computing
 no_register_1 = refl
 
-a_new_process : records_of worked_layout false (hex (codes "0700000000003000090000000700000009000000070000000c0000000000000007000000070000000c00000000000000")) ≡ record { records = record { time = 12; event = ForkEvent (record { pid = 9; parent = 7; tid = 9 }) } ∷ []; error = None }
+a_new_process : records_of (worked_table false) false (hex (codes "0700000000003000090000000700000009000000070000000c0000000000000007000000070000000c00000000000000")) ≡ record { records = record { time = 12; event = ForkEvent (record { pid = 9; parent = 7; tid = 9; parent_tid = 7 }) } ∷ []; error = None }
 unfolding computing
 a_new_process = refl
 
 -- of PERF_RECORD_MMAP
-mapped_data : records_of worked_layout false (hex (codes "010000000220400007000000070000000000600000000000001000000000000000000000000000002f6400000000000007000000070000000d00000000000000")) ≡ record { records = record { time = 13; event = MappingEvent (record { pid = 7; address = 0x600000; length = 0x1000; offset = 0; is_executable = false; name = codes "/d" }) } ∷ []; error = None }
+mapped_data : records_of (worked_table false) false (hex (codes "010000000220400007000000070000000000600000000000001000000000000000000000000000002f6400000000000007000000070000000d00000000000000")) ≡ record { records = record { time = 13; event = MappingEvent (record { pid = 7; address = 0x600000; length = 0x1000; offset = 0; is_executable = false; name = codes "/d" }) } ∷ []; error = None }
 unfolding computing
 mapped_data = refl
 
-mapped_code : records_of worked_layout false (hex (codes "010000000200400007000000070000000000600000000000001000000000000000000000000000002f6400000000000007000000070000000d00000000000000")) ≡ record { records = record { time = 13; event = MappingEvent (record { pid = 7; address = 0x600000; length = 0x1000; offset = 0; is_executable = true; name = codes "/d" }) } ∷ []; error = None }
+mapped_code : records_of (worked_table false) false (hex (codes "010000000200400007000000070000000000600000000000001000000000000000000000000000002f6400000000000007000000070000000d00000000000000")) ≡ record { records = record { time = 13; event = MappingEvent (record { pid = 7; address = 0x600000; length = 0x1000; offset = 0; is_executable = true; name = codes "/d" }) } ∷ []; error = None }
 unfolding computing
 mapped_code = refl
 
 -- PERF_RECORD_LOST has a time; a record of perf has none
-two_others : records_of worked_layout false (hex (codes "02000000000028000100000000000000010000000000000007000000070000000e000000000000004400000000000800")) ≡ record { records = record { time = 14; event = OtherEvent } ∷ record { time = 0; event = OtherEvent } ∷ []; error = None }
+two_others : records_of (worked_table false) false (hex (codes "02000000000028000100000000000000010000000000000007000000070000000e000000000000004400000000000800")) ≡ record { records = record { time = 14; event = OtherEvent } ∷ record { time = 0; event = OtherEvent } ∷ []; error = None }
 unfolding computing
 two_others = refl
 
 -- four bytes of trace behind PERF_RECORD_AUXTRACE
-passed_trace : records_of worked_layout false (hex (codes "470000000000300004000000000000000000000000000000000000000000000000000000000000000000000000000000010203044400000000000800")) ≡ record { records = record { time = 0; event = OtherEvent } ∷ record { time = 0; event = OtherEvent } ∷ []; error = None }
+passed_trace : records_of (worked_table false) false (hex (codes "470000000000300004000000000000000000000000000000000000000000000000000000000000000000000000000000010203044400000000000800")) ≡ record { records = record { time = 0; event = OtherEvent } ∷ record { time = 0; event = OtherEvent } ∷ []; error = None }
 unfolding computing
 passed_trace = refl
 
-cut_trace : records_of worked_layout false (hex (codes "470000000000300004000000000000000000000000000000000000000000000000000000000000000000000000000000010203")) ≡ record { records = []; error = Some RecordCut }
+cut_trace : records_of (worked_table false) false (hex (codes "470000000000300004000000000000000000000000000000000000000000000000000000000000000000000000000000010203")) ≡ record { records = []; error = Some RecordCut }
 unfolding computing
 cut_trace = refl
 
 -- after a record comes one that is smaller than its header
-a_record_of_seven_bytes : records_of worked_layout false (hex (codes "44000000000008004400000000000700")) ≡ record { records = record { time = 0; event = OtherEvent } ∷ []; error = Some (RecordSize 7) }
+a_record_of_seven_bytes : records_of (worked_table false) false (hex (codes "44000000000008004400000000000700")) ≡ record { records = record { time = 0; event = OtherEvent } ∷ []; error = Some (RecordSize 7) }
 unfolding computing
 a_record_of_seven_bytes = refl
 
-cut_header : records_of worked_layout false (hex (codes "44000000000008")) ≡ record { records = []; error = Some RecordCut }
+cut_header : records_of (worked_table false) false (hex (codes "44000000000008")) ≡ record { records = []; error = Some RecordCut }
 unfolding computing
 cut_header = refl
 
-cut_record : records_of worked_layout false (hex (codes "0700000000003000090000000700000009000000070000000c0000000000000007000000070000000c000000000000")) ≡ record { records = []; error = Some RecordCut }
+cut_record : records_of (worked_table false) false (hex (codes "0700000000003000090000000700000009000000070000000c0000000000000007000000070000000c000000000000")) ≡ record { records = []; error = Some RecordCut }
 unfolding computing
 cut_record = refl
 
 -- a record of the right size for the thread and time, and not for its fields
-cut_fields : records_of worked_layout false (hex (codes "0700000000002000090000000700000007000000070000000c00000000000000")) ≡ record { records = []; error = Some RecordCut }
+cut_fields : records_of (worked_table false) false (hex (codes "0700000000002000090000000700000007000000070000000c00000000000000")) ≡ record { records = []; error = Some RecordCut }
 unfolding computing
 cut_fields = refl
 
-cut_id : records_of worked_layout false (hex (codes "02000000000010000100000000000000")) ≡ record { records = []; error = Some RecordCut }
+cut_id : records_of (worked_table false) false (hex (codes "02000000000010000100000000000000")) ≡ record { records = []; error = Some RecordCut }
 unfolding computing
 cut_id = refl
 
-unterminated_name : records_of worked_layout false (hex (codes "03000000000028000700000007000000616263646566676807000000070000000c00000000000000")) ≡ record { records = []; error = Some RecordCut }
+unterminated_name : records_of (worked_table false) false (hex (codes "03000000000028000700000007000000616263646566676807000000070000000c00000000000000")) ≡ record { records = []; error = Some RecordCut }
 unfolding computing
 unterminated_name = refl
 
-compressed : records_of worked_layout false (hex (codes "5100000000000800")) ≡ record { records = []; error = Some Compressed }
+compressed : records_of (worked_table false) false (hex (codes "5100000000000800")) ≡ record { records = []; error = Some Compressed }
 unfolding computing
 compressed = refl
 
@@ -242,9 +265,12 @@ compressed = refl
 abbrev behind : List ℕ
 behind = hex (codes "f8010000000000000c0000000000000004020000000000000c0000000000000008000000686f737400000000080000007838365f36340000")
 
+abbrev worked_section : EventSection
+worked_section = record { size = 112; count = 1; attrs = little_event; first = worked_event }
+
 -- with the sections of bits 3 and 6, whose places begin with those of the whole file
 abbrev worked_profile : ℕ → Profile
-worked_profile features = record { bytes = little_header ++ (little_event ++ (little_program ++ (little_mapping ++ (little_sample ++ behind)))); endian = Little; layout = worked_layout; features = features; records = []; behind = behind }
+worked_profile features = record { bytes = little_header ++ (little_event ++ (little_program ++ (little_mapping ++ (little_sample ++ behind)))); endian = Little; events = worked_section; features = features; records = []; behind = behind }
 
 its_architecture : architecture (worked_profile 0x48) ≡ Ok (Some (codes "x86_64"))
 unfolding computing
@@ -264,6 +290,72 @@ no_third_section = refl
 
 -- ---- the whole
 
-its_parts : profile (worked_profile 0x48).bytes ≡ Ok (record { bytes = (worked_profile 0x48).bytes; endian = Little; layout = worked_layout; features = 0x48; records = little_program ++ (little_mapping ++ little_sample); behind = behind })
+its_parts : profile (worked_profile 0x48).bytes ≡ Ok (record { bytes = (worked_profile 0x48).bytes; endian = Little; events = worked_section; features = 0x48; records = little_program ++ (little_mapping ++ little_sample); behind = behind })
 unfolding computing
 its_parts = refl
+
+-- ---- two events, as perf record left them with -e cpu-clock/call-graph=dwarf,stack-size=8/ -e page-faults --sample-cpu
+
+abbrev two_attrs : List ℕ
+two_attrs = hex (codes "01000000800000000000000000000000a00f000000000000afb101000000000014000000000000000337d661000000000000000000000000000000000000000000000000000000000000000000000000ff0fff0000000000080000000000000000000000000000000000000000000000000000000000000000000000000000006800000000000000200000000000000001000000800000000200000000000000a00f000000000000870101000000000014000000000000000314140000000000000000000000000000000000000000000000000000000000000000000000000000000000000000000000000000000000000000000000000000000000000000000000000000000000000000000000000088000000000000002000000000000000")
+
+-- the eight ids, behind the header's 104 bytes
+abbrev two_ids : List ℕ
+two_ids = replicate 104 0 ++ hex (codes "d000000000000000d100000000000000d200000000000000d300000000000000d400000000000000d500000000000000d600000000000000d700000000000000")
+
+abbrev two_names : List ℕ
+two_names = hex (codes "020000008000000001000000800000000000000000000000a00f000000000000afb101000000000014000000000000000337d661000000000000000000000000000000000000000000000000000000000000000000000000ff0fff00000000000800000000000000000000000000000000000000000000000000000000000000000000000000000004000000400000006370752d636c6f636b2f63616c6c2d67726170683d64776172662c737461636b2d73697a653d382f000000000000000000000000000000000000000000000000d000000000000000d100000000000000d200000000000000d30000000000000001000000800000000200000000000000a00f00000000000087010100000000001400000000000000031414000000000000000000000000000000000000000000000000000000000000000000000000000000000000000000000000000000000000000000000000000000000000000000000000000000000000000000000000000400000040000000706167652d6661756c74730000000000000000000000000000000000000000000000000000000000000000000000000000000000000000000000000000000000d400000000000000d500000000000000d600000000000000d700000000000000")
+
+first_name : described_name false two_names 0 ≡ Some (codes "cpu-clock/call-graph=dwarf,stack-size=8/")
+unfolding computing
+first_name = refl
+
+second_name : described_name false two_names 1 ≡ Some (codes "page-faults")
+unfolding computing
+second_name = refl
+
+no_third_name : described_name false two_names 2 ≡ None
+unfolding computing
+no_third_name = refl
+
+abbrev clock_layout : EventLayout
+clock_layout = record { sample_type = 0x1b1af; sample_period = 4000; read_format = 0x14; sample_id_all = true; branch_sample_type = 0; sample_regs_user = 0xff0fff }
+
+abbrev faults_layout : EventLayout
+faults_layout = record { sample_type = 0x10187; sample_period = 4000; read_format = 0x14; sample_id_all = true; branch_sample_type = 0; sample_regs_user = 0 }
+
+abbrev clock : EventEntry
+clock = record { attribute = record { kind = 1; config = 0; layout = clock_layout }; ids = record { offset = 104; size = 32 } }
+
+abbrev faults : EventEntry
+faults = record { attribute = record { kind = 1; config = 2; layout = faults_layout }; ids = record { offset = 136; size = 32 } }
+
+two_events : events false 144 two_attrs ≡ clock ∷ faults ∷ []
+unfolding computing
+two_events = refl
+
+told_apart : first_event (clock ∷ faults ∷ []) ≡ Ok clock
+told_apart = refl
+
+abbrev two : EventTable
+two = record { big_endian = false; bytes = two_ids; descriptions = two_names; entries = clock ∷ faults ∷ []; first = record { layout = clock_layout; name = codes "cpu-clock/call-graph=dwarf,stack-size=8/" }; is_alone = false }
+
+by_its_id : event_of_id two 214 ≡ Some (record { layout = faults_layout; name = codes "page-faults" })
+unfolding computing
+by_its_id = refl
+
+an_unknown_id : event_of_id two 216 ≡ None
+unfolding computing
+an_unknown_id = refl
+
+-- perf script prints it as `verylongprogram 17261/17261 [002]  2384.958796:          3 page-faults:`
+a_fault : records_of two false (hex (codes "0900000002003800d60000000000000070ebefe86e7f00006d4300006d43000065349f4a2b02000002000000000000000300000000000000")) ≡ record {
+  records = record { time = 2384958796901; event = SampleEvent (record { pid = 17261; tid = 17261; ip = 0x7f6ee8efeb70; cpu = Some 2; period = 3; event = codes "page-faults"; user = record { registers = None; stack = [] } }) } ∷ [];
+  error = None;
+}
+unfolding computing
+a_fault = refl
+
+a_thread : records_of two false (hex (codes "07000000000040006d4300006d4300006f4300006d4300004554474e2b0200006d4300006d430000a053474e2b0200000200000000000000d200000000000000")) ≡ record { records = record { time = 2385020146592; event = ForkEvent (record { pid = 17261; parent = 17261; tid = 17263; parent_tid = 17261 }) } ∷ []; error = None }
+unfolding computing
+a_thread = refl

@@ -120,10 +120,11 @@ program big misc fields =
     and_then (or_missing RecordCut (before_zero (drop 8 fields))) (λ name.
     Ok (record { pid = thread.pid; tid = thread.tid; name = name; is_exec = has_any 0x2000 misc })))
 
--- PERF_RECORD_FORK, up to the new thread
+-- PERF_RECORD_FORK, up to the thread that made it
 unfoldable pub fork : Read Fork
 fork = do
   pid ← unsigned w32
   parent ← unsigned w32
   tid ← unsigned w32
-  give (record { pid = pid; parent = parent; tid = tid })
+  parent_tid ← unsigned w32
+  give (record { pid = pid; parent = parent; tid = tid; parent_tid = parent_tid })

@@ -1,6 +1,7 @@
 -- What the events of a profile have their samples record (perf_event_open(2), "struct
 -- perf_event_attr").
-use Rattle.std.specs.Prelude.{ℕ, ◌-◌, ◌/◌, Bool, not, ◌&&◌, List, [], ◌∷◌, length, Result, Ok, Err}
+use Rattle.std.specs.Prelude.{ℕ, ◌-◌, ◌/◌, Bool, not, ◌&&◌, ◌||◌, List, [], ◌∷◌, length, Result}
+use Rattle.std.specs.Prelude.{Ok, Err}
 use Rattle.std.specs.Prelude.{◌==◌, bit_and, if◌then◌else◌}
 use Rattle.std.specs.List.{list_all}
 use Rattle.std.specs.Int.{w32, w64}
@@ -10,10 +11,13 @@ use Rattle.cfi_read_core.specs.Numbers.{unsigned}
 use Rattle.cfi_read_core.specs.SliceReaders.{slice_over}
 use Rattle.cfi_perf.specs.declared.error.PerfError.{PerfError}
 use Rattle.cfi_perf.specs.declared.error.PerfError.TheVariants.{NoEvents, MixedEvents}
+use Rattle.cfi_perf.specs.declared.attribute.Attribute.{Attribute}
+use Rattle.cfi_perf.specs.declared.attribute.EventEntry.{EventEntry}
 use Rattle.cfi_perf.specs.declared.attribute.EventLayout.{EventLayout}
 use Rattle.cfi_perf.specs.declared.attribute.SampleFormat.{SampleFormat}
 use Rattle.cfi_perf.specs.declared.attribute.Chosen.{Chosen}
 use Rattle.cfi_perf.specs.Results.{items, entries}
+use Rattle.cfi_perf.specs.FileHeaders.{file_section}
 
 -- ---- what a sample may have (enum perf_event_sample_format), as the bits of sample_type
 
@@ -85,7 +89,13 @@ sample_format = do
   sample_period ← unsigned w64
   sample_type ← unsigned w64
   read_format ← unsigned w64
-  give (record { sample_type = sample_type; read_format = read_format })
+  give (record {
+    kind = kind;
+    config = config;
+    sample_period = sample_period;
+    sample_type = sample_type;
+    read_format = read_format;
+  })
 
 unfoldable pub sample_id_all : Read Bool
 sample_id_all = do
@@ -103,29 +113,35 @@ chosen = do
   give (record { branch_sample_type = branch_sample_type; sample_regs_user = sample_regs_user })
 
 -- the first 88 bytes of an event's attributes
-unfoldable pub event_layout : Read EventLayout
-event_layout = do
+unfoldable pub attribute : Read Attribute
+attribute = do
   format ← sample_format
   with_id ← sample_id_all
   chosen' ← chosen
   give (record {
-    sample_type = format.sample_type;
-    read_format = format.read_format;
-    sample_id_all = with_id;
-    branch_sample_type = chosen'.branch_sample_type;
-    sample_regs_user = chosen'.sample_regs_user;
+    kind = format.kind;
+    config = format.config;
+    layout = record {
+      sample_type = format.sample_type;
+      sample_period = format.sample_period;
+      read_format = format.read_format;
+      sample_id_all = with_id;
+      branch_sample_type = chosen'.branch_sample_type;
+      sample_regs_user = chosen'.sample_regs_user;
+    };
   })
 
 -- an event of this size: its attributes, and where its ids are
-unfoldable pub event : ℕ → Read EventLayout
+unfoldable pub event : ℕ → Read EventEntry
 event size = do
-  layout ← event_layout
-  others ← items (size - 88) 1
-  give layout
+  attribute' ← attribute
+  others ← items (size - 104) 1
+  ids ← file_section
+  give (record { attribute = attribute'; ids = ids })
 
 -- ---- all events
 
-abbrev pub events : Bool → ℕ → List ℕ → List EventLayout
+abbrev pub events : Bool → ℕ → List ℕ → List EventEntry
 events big size bytes = entries (length bytes / size) (event size) (slice_over bytes big).source 0
 
 abbrev pub same_layout : EventLayout → EventLayout → Bool
@@ -136,8 +152,19 @@ same_layout a b =
     && ((a.branch_sample_type == b.branch_sample_type)
     && (a.sample_regs_user == b.sample_regs_user))))
 
--- the layout of the first event, if each other one has the same
-abbrev pub only_layout : List EventLayout → Result EventLayout PerfError
-only_layout [] = Err NoEvents
-only_layout (first ∷ others) =
-    if list_all (same_layout first) others then Ok first else Err MixedEvents
+-- whether a record says by itself of which of two events it is, before it is read by their layouts
+abbrev pub both_identified : EventLayout → EventLayout → Bool
+both_identified a b =
+    has PERF_SAMPLE_IDENTIFIER a && (has PERF_SAMPLE_IDENTIFIER b
+    && beq a.sample_id_all b.sample_id_all)
+
+abbrev pub are_readable : EventEntry → EventEntry → Bool
+are_readable a b =
+    same_layout a.attribute.layout b.attribute.layout
+    || both_identified a.attribute.layout b.attribute.layout
+
+-- the first event, if the records of each other one can be told from its own or are read as those
+abbrev pub first_event : List EventEntry → Result EventEntry PerfError
+first_event [] = Err NoEvents
+first_event (first ∷ others) =
+    if list_all (are_readable first) others then Ok first else Err MixedEvents

@@ -1,7 +1,9 @@
 pub mod ErrorNames
 pub mod Results
-pub mod Layouts
 pub mod FileHeaders
+pub mod Layouts
+pub mod EventNames
+pub mod EventTables
 pub mod Samples
 pub mod Events
 pub mod Records

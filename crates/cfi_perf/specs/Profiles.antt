@@ -1,40 +1,52 @@
 -- A profile, by its header (perf.data-file-format.txt).
 --     profile bytes      the profile of these bytes, or the first error
 --     profile_view p      what a `Profile` of the code is
-use Rattle.std.specs.Prelude.{ℕ, ◌+◌, ◌*◌, List, drop, Option, Some, None, Result, Ok, Err}
+use Rattle.std.specs.Prelude.{ℕ, ◌+◌, ◌*◌, ◌/◌, List, [], drop, length, Option, Some, None, Result}
+use Rattle.std.specs.Prelude.{Ok, Err}
 use Rattle.std.specs.Prelude.{count_ones, bit_and, nat_lt, ◌==◌, if◌then◌else◌}
-use Rattle.std.specs.Int.{w32}
 use Rattle.cfi_read_core.specs.declared.endianity.RunTimeEndian.{RunTimeEndian}
 use Rattle.cfi_read_core.specs.ByteOrder.{is_big}
-use Rattle.cfi_read_core.specs.ReadFunctions.{Read, ◌>>=◌}
-use Rattle.cfi_read_core.specs.Numbers.{unsigned}
+use Rattle.cfi_read_core.specs.SliceReaders.{slice_over}
 use Rattle.cfi_perf.specs.declared.error.PerfError.{PerfError}
 use Rattle.cfi_perf.specs.declared.error.PerfError.TheVariants.{AttributeSize}
 use Rattle.cfi_perf.specs.declared.error.PerfError.TheVariants.{AttributesOutOfBounds}
 use Rattle.cfi_perf.specs.declared.error.PerfError.TheVariants.{DataOutOfBounds, FeatureOutOfBounds}
-use Rattle.cfi_perf.specs.declared.attribute.EventLayout.{EventLayout}
+use Rattle.cfi_perf.specs.declared.attribute.EventEntry.{EventEntry}
 use Rattle.cfi_perf.specs.declared.file_header.FileHeader.{FileHeader}
+use Rattle.cfi_perf.specs.declared.profile.EventSection.{EventSection as EventSectionOfCode}
 use Rattle.cfi_perf.specs.declared.profile.Profile.{Profile as ProfileOfCode}
 use Rattle.cfi_perf.specs.Results.{and_then, or_error, or_missing, part, before_zero, read_from}
-use Rattle.cfi_perf.specs.Results.{items}
-use Rattle.cfi_perf.specs.Layouts.{events, only_layout}
+use Rattle.cfi_perf.specs.Results.{entries, header_text}
+use Rattle.cfi_perf.specs.Layouts.{event, events, first_event}
+use Rattle.cfi_perf.specs.EventNames.{event_name}
+use Rattle.cfi_perf.specs.EventTables.{EventTable}
 use Rattle.cfi_perf.specs.FileHeaders.{byte_order, file_header, file_section}
 use Rattle.cfi_perf.specs.Records.{Records, records_of}
+
+-- The part of the file with the events.
+pub record EventSection : Type 0 where
+  pub size : ℕ  -- of each
+  pub count : ℕ
+  pub attrs : List ℕ  -- the bytes of all
+  pub first : EventEntry
 
 pub record Profile : Type 0 where
   pub bytes : List ℕ
   pub endian : RunTimeEndian
-  pub layout : EventLayout
+  pub events : EventSection
   pub features : ℕ
   pub records : List ℕ  -- the bytes of the records
   pub behind : List ℕ  -- those that follow
 
--- what a `Profile` of the code is
+-- what these are in the code
+abbrev pub section_view : EventSectionOfCode → EventSection
+section_view s = record { size = s.size; count = s.count; attrs = s.attrs.now; first = s.first }
+
 abbrev pub profile_view : ProfileOfCode → Profile
 profile_view p = record {
   bytes = p.bytes.now;
   endian = p.endian;
-  layout = p.layout;
+  events = section_view p.events;
   features = p.features;
   records = p.records.now;
   behind = p.behind.now;
@@ -42,37 +54,40 @@ profile_view p = record {
 
 -- ---- reading it
 
--- What all events have their samples record. The attributes of an event have at least the 96 bytes
--- of PERF_ATTR_SIZE_VER3; 16 bytes follow them.
-unfoldable pub layout_by : RunTimeEndian → List ℕ → FileHeader → Result EventLayout PerfError
-layout_by endian bytes header =
+-- The attributes of an event have at least the 96 bytes of PERF_ATTR_SIZE_VER3; 16 bytes follow
+-- them.
+unfoldable pub events_by : RunTimeEndian → List ℕ → FileHeader → Result EventSection PerfError
+events_by endian bytes header =
     if nat_lt header.attr_size 112 then Err (AttributeSize header.attr_size)
     else and_then
     (or_missing AttributesOutOfBounds (part bytes header.attrs.offset header.attrs.size))
     (λ attrs.
-    only_layout (events (is_big endian) header.attr_size attrs))
+    and_then (first_event (events (is_big endian) header.attr_size attrs))
+    (λ first.
+    Ok (record {
+      size = header.attr_size;
+      count = length attrs / header.attr_size;
+      attrs = attrs;
+      first = first;
+    })))
 
 unfoldable pub profile : List ℕ → Result Profile PerfError
 profile bytes =
     and_then (byte_order bytes) (λ endian.
     and_then (file_header endian bytes) (λ header.
-    and_then (layout_by endian bytes header) (λ layout.
+    and_then (events_by endian bytes header) (λ events.
     and_then (or_missing DataOutOfBounds (part bytes header.records.offset header.records.size))
     (λ records.
     Ok (record {
       bytes = bytes;
       endian = endian;
-      layout = layout;
+      events = events;
       features = header.features;
       records = records;
       behind = drop (header.records.offset + header.records.size) bytes;
     })))))
 
 -- ---- what it says
-
--- the records in order, and the error that ended them
-abbrev pub profile_records : Profile → Records
-profile_records p = records_of p.layout (is_big p.endian) p.records
 
 -- The section of an index of those that stand behind the records. Each is a place in the file and a
 -- size, in the order of the feature bits that are set.
@@ -83,12 +98,6 @@ feature_section p index =
     (read_from (is_big p.endian) (drop (16 * index) p.behind) file_section))
     (λ place.
     or_missing FeatureOutOfBounds (part p.bytes place.offset place.size))
-
--- a text of the header: its size, and as many bytes, with zeros at the end
-unfoldable pub header_text : Read (List ℕ)
-header_text = do
-  size ← unsigned w32
-  items size 1
 
 abbrev pub text_in : Profile → List ℕ → Result (List ℕ) PerfError
 text_in p contents =
@@ -102,3 +111,35 @@ architecture p =
     if bit_and p.features 0x40 == 0 then Ok None
     else and_then (feature_section p (count_ones (bit_and p.features 0x3f))) (λ contents.
     and_then (text_in p contents) (λ name. Ok (Some name)))
+
+-- ---- its events and records
+
+-- nothing where this can't be read
+abbrev pub or_nothing : Result (List ℕ) PerfError → List ℕ
+or_nothing (Ok contents) = contents
+or_nothing (Err e) = []
+
+-- HEADER_EVENT_DESC is bit 12
+unfoldable pub descriptions : Profile → List ℕ
+descriptions p =
+    if bit_and p.features 0x1000 == 0 then []
+    else or_nothing (feature_section p (count_ones (bit_and p.features 0xfff)))
+
+unfoldable pub event_table : Profile → EventTable
+event_table p = record {
+  big_endian = is_big p.endian;
+  bytes = p.bytes;
+  descriptions = descriptions p;
+  entries =
+      entries p.events.count (event p.events.size)
+      (slice_over p.events.attrs (is_big p.endian)).source 0;
+  first = record {
+    layout = p.events.first.attribute.layout;
+    name = event_name (is_big p.endian) (descriptions p) 0 p.events.first.attribute;
+  };
+  is_alone = p.events.count == 1;
+}
+
+-- the records in order, and the error that ended them
+abbrev pub profile_records : Profile → Records
+profile_records p = records_of (event_table p) (is_big p.endian) p.records

@@ -1,5 +1,5 @@
 -- The records of a profile, one after the other.
---     records_of layout big bytes      the records of these bytes in order, and the error that
+--     records_of events big bytes      the records of these bytes in order, and the error that
 --         ended them
 --     records_left walk      those that an iterator of the code has left
 use Rattle.std.specs.Prelude.{◌≡◌, ℕ, ◌-◌, ◌*◌, zero, suc, Bool, not, ◌||◌, List, [], ◌∷◌, ◌++◌}
@@ -20,6 +20,8 @@ use Rattle.cfi_perf.specs.declared.records.First.{First as FirstOfCode}
 use Rattle.cfi_perf.specs.declared.records.WithoutId.{WithoutId as WithoutIdOfCode}
 use Rattle.cfi_perf.specs.Results.{and_then, or_error, or_missing, part, read_from}
 use Rattle.cfi_perf.specs.Layouts.{has, PERF_SAMPLE_TID, PERF_SAMPLE_TIME}
+use Rattle.cfi_perf.specs.EventTables.{EventTable, ProfileEvent, event_of_sample, layout_of_other}
+use Rattle.cfi_perf.specs.EventTables.{table_view}
 use Rattle.cfi_perf.specs.Samples.{TimedSample, number_if, sample}
 use Rattle.cfi_perf.specs.Events.{Record, Event, MappingEvent, ProgramEvent, ForkEvent, SampleEvent}
 use Rattle.cfi_perf.specs.Events.{OtherEvent, record_view, mapping, mapping2, program, fork}
@@ -86,12 +88,17 @@ split_id layout big body length' =
     (λ time.
     Ok (record { time = time; fields = take length' body }))
 
--- the records of perf itself, from 64 on, have none
-unfoldable pub without_id : EventLayout → Bool → ℕ → List ℕ → Result WithoutId PerfError
-without_id layout big kind body =
-    if not layout.sample_id_all || nat_le 64 kind then Ok (record { time = 0; fields = body })
-    else if nat_lt (length body) (sample_id_size layout) then Err RecordCut
+abbrev pub without_id_by : EventLayout → Bool → List ℕ → Result WithoutId PerfError
+without_id_by layout big body =
+    if nat_lt (length body) (sample_id_size layout) then Err RecordCut
     else split_id layout big body (length body - sample_id_size layout)
+
+-- the records of perf itself, from 64 on, have none
+unfoldable pub without_id : EventTable → Bool → ℕ → List ℕ → Result WithoutId PerfError
+without_id events big kind body =
+    if not events.first.layout.sample_id_all || nat_le 64 kind
+    then Ok (record { time = 0; fields = body })
+    else without_id_by (layout_of_other events body) big body
 
 -- ---- what a record says, by its type
 
@@ -109,16 +116,21 @@ event_of big header fields =
 abbrev pub sample_record : TimedSample → Record
 sample_record timed = record { time = timed.time; event = SampleEvent timed.sample }
 
-abbrev pub sample_in : EventLayout → Bool → List ℕ → Result Record PerfError
-sample_in layout big body =
-    map_ok sample_record (or_error RecordCut (read_from big body (sample layout)))
+abbrev pub sample_in : ProfileEvent → Bool → List ℕ → Result Record PerfError
+sample_in event big body =
+    map_ok sample_record (or_error RecordCut (read_from big body (sample event)))
+
+-- a sample of none of the events says nothing
+abbrev pub sample_of : Option ProfileEvent → Bool → List ℕ → Result Record PerfError
+sample_of None big body = Ok (record { time = 0; event = OtherEvent })
+sample_of (Some event) big body = sample_in event big body
 
 -- a sample (9), compressed records (81 and 83), or another record
-unfoldable pub record_of : EventLayout → Bool → RecordHeader → List ℕ → Result Record PerfError
-record_of layout big header body =
-    if header.kind == 9 then sample_in layout big body
+unfoldable pub record_of : EventTable → Bool → RecordHeader → List ℕ → Result Record PerfError
+record_of events big header body =
+    if header.kind == 9 then sample_of (event_of_sample events body) big body
     else if (header.kind == 81) || (header.kind == 83) then Err Compressed
-    else and_then (without_id layout big header.kind body) (λ found.
+    else and_then (without_id events big header.kind body) (λ found.
     and_then (event_of big header found.fields) (λ event.
     Ok (record { time = found.time; event = event })))
 
@@ -132,10 +144,10 @@ pub record First : Type 0 where
 abbrev pub first_view : FirstOfCode → First
 first_view f = record { first = record_view f.first; others = f.others.now }
 
-unfoldable pub first_record : EventLayout → Bool → List ℕ → Result First PerfError
-first_record layout big bytes =
+unfoldable pub first_record : EventTable → Bool → List ℕ → Result First PerfError
+first_record events big bytes =
     and_then (split_record big bytes) (λ found.
-    and_then (record_of layout big found.header found.body) (λ first.
+    and_then (record_of events big found.header found.body) (λ first.
     Ok (record { first = first; others = found.others })))
 
 -- Records in order, and the error that ended them, if one did.
@@ -155,15 +167,15 @@ records_with (Err e) others = no_records (Some e)
 records_with (Ok found) others = with_first found.first (others found.others)
 
 -- at most n
-unfoldable pub records_up_to : ℕ → EventLayout → Bool → List ℕ → Records
-records_up_to zero layout big bytes = no_records None
-records_up_to (suc n) layout big bytes =
+unfoldable pub records_up_to : ℕ → EventTable → Bool → List ℕ → Records
+records_up_to zero events big bytes = no_records None
+records_up_to (suc n) events big bytes =
     if length bytes == 0 then no_records None
-    else records_with (first_record layout big bytes) (records_up_to n layout big)
+    else records_with (first_record events big bytes) (records_up_to n events big)
 
 -- all: each takes a byte at least
-abbrev pub records_of : EventLayout → Bool → List ℕ → Records
-records_of layout big bytes = records_up_to (length bytes) layout big bytes
+abbrev pub records_of : EventTable → Bool → List ℕ → Records
+records_of events big bytes = records_up_to (length bytes) events big bytes
 
 -- ---- as the items of an iterator
 
@@ -178,7 +190,7 @@ items all = map Ok all.records ++ error_item all.error
 -- ---- the iterator of the code
 
 abbrev pub records_left : RecordsOfCode → Records
-records_left walk = records_of walk.layout (is_big walk.endian) walk.bytes.now
+records_left walk = records_of (table_view walk.events) (is_big walk.endian) walk.bytes.now
 
 -- What `next` returned: the first of the records that were left, or the error that ends them. After
 -- an error none are left.

@@ -2,8 +2,10 @@
 use Rattle.std.specs.Prelude.{ℕ, ◌+◌, ◌*◌, Bool, zero, suc, List, [], ◌∷◌, length, take, Option}
 use Rattle.std.specs.Prelude.{Some, None, Result, Ok, Err, option_map, position, nat_le}
 use Rattle.std.specs.Prelude.{slice_range, ◌==◌, if◌then◌else◌}
+use Rattle.std.specs.Int.{w32}
 use Rattle.cfi_read_core.specs.declared.error.Error.{Error}
 use Rattle.cfi_read_core.specs.ReadFunctions.{Read, Source, ◌>>=◌, bytes, offset}
+use Rattle.cfi_read_core.specs.Numbers.{unsigned}
 use Rattle.cfi_read_core.specs.ReaderCalls.{read_at}
 use Rattle.cfi_read_core.specs.SliceReaders.{slice_over}
 use Rattle.cfi_perf.specs.declared.error.PerfError.{PerfError}
@@ -46,6 +48,12 @@ unfoldable pub items : ℕ → ℕ → Read (List ℕ)
 items count size = do
   total ← offset (count * size)
   bytes total
+
+-- a text of the header: its size, and as many bytes, with zeros at the end
+unfoldable pub header_text : Read (List ℕ)
+header_text = do
+  size ← unsigned w32
+  items size 1
 
 -- ---- entries one after the other
 

@@ -12,7 +12,9 @@ use Rattle.cfi_perf.specs.declared.sample.UserState.{UserState as UserStateOfCod
 use Rattle.cfi_perf.specs.declared.sample.UserRegisters.{UserRegisters as UserRegistersOfCode}
 use Rattle.cfi_perf.specs.declared.sample_fields.Thread.{Thread}
 use Rattle.cfi_perf.specs.declared.sample_fields.SampleNumbers.{SampleNumbers}
+use Rattle.cfi_perf.specs.declared.sample_fields.LaterNumbers.{LaterNumbers}
 use Rattle.cfi_perf.specs.declared.sample_fields.TimedSample.{TimedSample as TimedSampleOfCode}
+use Rattle.cfi_perf.specs.EventTables.{ProfileEvent}
 use Rattle.cfi_perf.specs.Results.{items, read_from}
 use Rattle.cfi_perf.specs.Layouts.{has, has_any, PERF_SAMPLE_IP, PERF_SAMPLE_TID, PERF_SAMPLE_TIME}
 use Rattle.cfi_perf.specs.Layouts.{PERF_SAMPLE_ADDR, PERF_SAMPLE_READ, PERF_SAMPLE_CALLCHAIN}
@@ -39,6 +41,9 @@ pub record Sample : Type 0 where
   pub pid : ℕ
   pub tid : ℕ
   pub ip : ℕ
+  pub cpu : Option ℕ
+  pub period : ℕ
+  pub event : List ℕ  -- the name of its event
   pub user : UserState
 
 -- the value in a result
@@ -73,8 +78,15 @@ user_view user =
     record { registers = option_map registers_view user.registers; stack = user.stack.now }
 
 abbrev pub sample_view : SampleOfCode → Sample
-sample_view sample =
-    record { pid = sample.pid; tid = sample.tid; ip = sample.ip; user = user_view sample.user }
+sample_view sample = record {
+  pid = sample.pid;
+  tid = sample.tid;
+  ip = sample.ip;
+  cpu = sample.cpu;
+  period = sample.period;
+  event = sample.event.now;
+  user = user_view sample.user;
+}
 
 -- ---- fields that a sample may have
 
@@ -101,16 +113,33 @@ sample_numbers layout = do
   time ← number_if (has PERF_SAMPLE_TIME layout)
   give (record { ip = ip; thread = thread'; time = time })
 
--- ---- the fields from the time up to the registers, of which nothing is kept
+-- ---- the numbers behind the time, up to the counts
 
-unfoldable pub passed_numbers : EventLayout → Read Unit
-passed_numbers layout = do
+-- the processor, and four bytes that say nothing
+unfoldable pub processor : Read ℕ
+processor = do
+  cpu ← unsigned w32
+  res ← unsigned w32
+  give cpu
+
+abbrev pub processor_if : Bool → Read (Option ℕ)
+processor_if is_there = if is_there then processor >>= (λ cpu. give (Some cpu)) else give None
+
+-- where a sample doesn't say how many events it stands for, its event's attributes do
+abbrev pub period_of : EventLayout → Read ℕ
+period_of layout =
+    if has PERF_SAMPLE_PERIOD layout then unsigned w64 else give layout.sample_period
+
+unfoldable pub later_numbers : EventLayout → Read LaterNumbers
+later_numbers layout = do
   addr ← number_if (has PERF_SAMPLE_ADDR layout)
   id ← number_if (has PERF_SAMPLE_ID layout)
   stream_id ← number_if (has PERF_SAMPLE_STREAM_ID layout)
-  cpu ← number_if (has PERF_SAMPLE_CPU layout)
-  period ← number_if (has PERF_SAMPLE_PERIOD layout)
-  give tt
+  cpu ← processor_if (has PERF_SAMPLE_CPU layout)
+  period ← period_of layout
+  give (record { cpu = cpu; period = period })
+
+-- ---- the fields up to the registers, of which nothing is kept
 
 -- one count, or several under PERF_FORMAT_GROUP (8): each value has an id (PERF_FORMAT_ID, 4) and a
 -- count of lost samples (PERF_FORMAT_LOST, 16) if these are chosen; the times (1 and 2) stand once
@@ -235,18 +264,21 @@ pub record TimedSample : Type 0 where
 abbrev pub timed_view : TimedSampleOfCode → TimedSample
 timed_view timed = record { time = timed.time; sample = sample_view timed.sample }
 
-unfoldable pub sample : EventLayout → Read TimedSample
-sample layout = do
-  numbers ← sample_numbers layout
-  ids ← passed_numbers layout
-  lists ← passed_lists layout
-  user ← user_state layout
+unfoldable pub sample : ProfileEvent → Read TimedSample
+sample event = do
+  numbers ← sample_numbers event.layout
+  later ← later_numbers event.layout
+  lists ← passed_lists event.layout
+  user ← user_state event.layout
   give (record {
     time = numbers.time;
     sample = record {
       pid = numbers.thread.pid;
       tid = numbers.thread.tid;
       ip = numbers.ip;
+      cpu = later.cpu;
+      period = later.period;
+      event = event.name;
       user = user;
     };
   })

@@ -1,15 +1,17 @@
 //! What the events of a profile have their samples record (perf_event_open(2), `struct
 //! perf_event_attr`).
-ghost use Rattle.std.specs.Prelude.{◌≡◌, ◌≤◌};
+ghost use Rattle.std.specs.Prelude.{◌≡◌};
 ghost use Rattle.cfi_read_core.specs.ByteOrder.{is_big};
 ghost use Rattle.cfi_read_core.specs.ReaderCalls.{ReadsBy, ReadsValue};
 ghost use Rattle.cfi_read_core.specs.SliceReaders.{slice_position};
 ghost use Rattle.cfi_perf.specs.Results.{entries};
-ghost use Rattle.cfi_perf.specs.Layouts.{chosen, event, event_layout, has, has_any};
-ghost use Rattle.cfi_perf.specs.Layouts.{only_layout, same_layout, sample_format, sample_id_all};
+ghost use Rattle.cfi_perf.specs.Layouts.{are_readable, attribute, both_identified, chosen, event};
+ghost use Rattle.cfi_perf.specs.Layouts.{first_event, has, has_any, same_layout, sample_format};
+ghost use Rattle.cfi_perf.specs.Layouts.{sample_id_all};
 
 use crate::bytes::{Input, read_items};
 use crate::error::PerfError;
+use crate::file_header::{FileSection, read_file_section};
 use cfi_read_core::{Endianity, Reader, Result};
 
 pub(crate) const PERF_SAMPLE_IP: u64 = 1 << 0;
@@ -48,14 +50,18 @@ const SAMPLE_ID_ALL_LITTLE: u64 = 1 << 18;
 /// `sample_id_all` in a big-endian number: its bit fields begin at the most significant bit.
 const SAMPLE_ID_ALL_BIG: u64 = 1 << 45;
 
-/// The bytes of an event's attributes that are read.
-const LAYOUT_SIZE: u64 = 88;
+/// The bytes of an event that are read: those of its attributes up to the registers, and where its
+/// ids are.
+const READ_SIZE: u64 = 88 + 16;
 
 /// What the samples and the other records of an event have in them.
 #[derive(Clone, Copy, Debug, PartialEq, Eq)]
 pub struct EventLayout {
     /// The fields of a sample (`PERF_SAMPLE_IP` and others).
     pub sample_type: u64,
+    /// How many events a sample stands for that doesn't say so itself; a frequency where the kernel
+    /// chooses how many (`freq`), which samples then say.
+    pub sample_period: u64,
     /// The parts of a count (`PERF_FORMAT_ID` and others).
     pub read_format: u64,
     /// Whether records other than samples end with their thread and time too.
@@ -66,9 +72,30 @@ pub struct EventLayout {
     pub sample_regs_user: u64,
 }
 
-/// The formats of samples and counts.
+/// What an event is, and what its samples have in them.
+#[derive(Clone, Copy, Debug, PartialEq, Eq)]
+pub(crate) struct Attribute {
+    /// The kind of event (`PERF_TYPE_HARDWARE` and others).
+    pub(crate) kind: u32,
+    /// The event among those of its kind.
+    pub(crate) config: u64,
+    pub(crate) layout: EventLayout,
+}
+
+/// An event as the profile has it.
+#[derive(Clone, Copy, Debug, PartialEq, Eq)]
+pub(crate) struct EventEntry {
+    pub(crate) attribute: Attribute,
+    /// Where the ids are by which records name it.
+    pub(crate) ids: FileSection,
+}
+
+/// The event, and the formats of samples and counts.
 #[derive(Clone, Copy, Debug, PartialEq, Eq)]
 pub(crate) struct SampleFormat {
+    pub(crate) kind: u32,
+    pub(crate) config: u64,
+    pub(crate) sample_period: u64,
     pub(crate) sample_type: u64,
     pub(crate) read_format: u64,
 }
@@ -99,6 +126,26 @@ impl EventLayout {
             && self.branch_sample_type == other.branch_sample_type
             && self.sample_regs_user == other.sample_regs_user
     }
+
+    /// Returns whether records of both layouts say at a place that doesn't depend on the layout
+    /// which of them they have.
+    fn are_identified(&self, other: &EventLayout) -> bool
+        ensures { result ≡ both_identified self.now other.now }
+    {
+        self.has(PERF_SAMPLE_IDENTIFIER)
+            && other.has(PERF_SAMPLE_IDENTIFIER)
+            && self.sample_id_all == other.sample_id_all
+    }
+}
+
+impl EventEntry {
+    /// Returns whether the records of both events can be read.
+    fn is_readable_with(&self, other: &EventEntry) -> bool
+        ensures { result ≡ are_readable self.now other.now }
+    {
+        let layout = &other.attribute.layout;
+        self.attribute.layout.is_same(layout) || self.attribute.layout.are_identified(layout)
+    }
 }
 
 /// Whether one of these bits is set.
@@ -109,16 +156,15 @@ pub(crate) fn has_any(bits: u64, number: u64) -> bool
     number & bits != 0
 }
 
-/// The layout of `count` events of one size, if it is the same.
+/// The first of `count` events of one size, if the records of all can be read.
 ///
 /// Fails with `NoEvents` or `MixedEvents`.
-pub(crate) fn only_layout(
+pub(crate) fn first_event(
     count: u64,
     size: u64,
     events: Input<'_>,
-) -> std::result::Result<EventLayout, PerfError>
-    requires { 88 ≤ size }
-    ensures { result ≡ only_layout (entries count (event size)
+) -> std::result::Result<EventEntry, PerfError>
+    ensures { result ≡ first_event (entries count (event size)
         (slice_position is_big events.entry).source (slice_position is_big events.entry).place) }
 {
     let mut events = events;
@@ -129,10 +175,10 @@ pub(crate) fn only_layout(
         return Err(PerfError::NoEvents);
     };
     for index in 1..count {
-        let Ok(layout) = read_event(size, &mut events) else {
+        let Ok(other) = read_event(size, &mut events) else {
             return Ok(first);
         };
-        if !first.is_same(&layout) {
+        if !first.is_readable_with(&other) {
             return Err(PerfError::MixedEvents);
         }
     }
@@ -141,29 +187,34 @@ pub(crate) fn only_layout(
 
 /// Reads an event: its attributes, and where its ids are.
 #[tactic(auto, unfolding(crate::specs::Layouts::event))]
-fn read_event(size: u64, input: &mut Input<'_>) -> Result<EventLayout>
-    requires { 88 ≤ size }
+pub(crate) fn read_event(size: u64, input: &mut Input<'_>) -> Result<EventEntry>
     ensures { ReadsValue (slice_position is_big) (event size) input.old result input.new }
 {
-    let layout = read_event_layout(input)?;
-    let _others = read_items(size - LAYOUT_SIZE, 1, input)?;
-    Ok(layout)
+    let attribute = read_attribute(input)?;
+    let _others = read_items(size.saturating_sub(READ_SIZE), 1, input)?;
+    let ids = read_file_section(input)?;
+    Ok(EventEntry { attribute, ids })
 }
 
 /// Reads the attributes of an event as far as `sample_regs_user`.
-#[tactic(auto, unfolding(crate::specs::Layouts::event_layout))]
-fn read_event_layout<R: Reader>(input: &mut R) -> Result<EventLayout>
-    ensures { ReadsValue R.position event_layout input.old result input.new }
+#[tactic(auto, unfolding(crate::specs::Layouts::attribute))]
+fn read_attribute<R: Reader>(input: &mut R) -> Result<Attribute>
+    ensures { ReadsValue R.position attribute input.old result input.new }
 {
     let format = read_sample_format(input)?;
     let sample_id_all = read_sample_id_all(input)?;
     let chosen = read_chosen(input)?;
-    Ok(EventLayout {
-        sample_type: format.sample_type,
-        read_format: format.read_format,
-        sample_id_all,
-        branch_sample_type: chosen.branch_sample_type,
-        sample_regs_user: chosen.sample_regs_user,
+    Ok(Attribute {
+        kind: format.kind,
+        config: format.config,
+        layout: EventLayout {
+            sample_type: format.sample_type,
+            sample_period: format.sample_period,
+            read_format: format.read_format,
+            sample_id_all,
+            branch_sample_type: chosen.branch_sample_type,
+            sample_regs_user: chosen.sample_regs_user,
+        },
     })
 }
 
@@ -172,13 +223,16 @@ fn read_event_layout<R: Reader>(input: &mut R) -> Result<EventLayout>
 fn read_sample_format<R: Reader>(input: &mut R) -> Result<SampleFormat>
     ensures { ReadsValue R.position sample_format input.old result input.new }
 {
-    let _kind = input.read_u32()?;
+    let kind = input.read_u32()?;
     let _size = input.read_u32()?;
-    let _config = input.read_u64()?;
-    let _sample_period = input.read_u64()?;
+    let config = input.read_u64()?;
+    let sample_period = input.read_u64()?;
     let sample_type = input.read_u64()?;
     let read_format = input.read_u64()?;
     Ok(SampleFormat {
+        kind,
+        config,
+        sample_period,
         sample_type,
         read_format,
     })

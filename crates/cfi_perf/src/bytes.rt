@@ -4,7 +4,7 @@ ghost use Rattle.std.specs.Prelude.{option_map, position, take};
 ghost use Rattle.cfi_read_core.specs.ReaderCalls.{ReadsBy};
 ghost use Rattle.cfi_read_core.specs.ByteOrder.{is_big};
 ghost use Rattle.cfi_read_core.specs.SliceReaders.{slice_position};
-ghost use Rattle.cfi_perf.specs.Results.{before_zero, items, part};
+ghost use Rattle.cfi_perf.specs.Results.{before_zero, header_text, items, part};
 
 use cfi_read_core::{EndianSlice, Error, Reader, Result, RunTimeEndian};
 
@@ -79,4 +79,14 @@ pub(crate) fn read_items<'input>(
     };
     let found = input.split(total as usize)?;
     Ok(found.slice())
+}
+
+/// Reads a text of a profile's header, with the zeros at its end.
+#[tactic(auto, unfolding(crate::specs::Results::header_text))]
+pub(crate) fn read_header_text<'input>(input: &mut Input<'input>) -> Result<&'input [u8]>
+    ensures { ReadsBy (slice_position is_big) (λ text. text.now) header_text
+        input.old result input.new }
+{
+    let size = input.read_u32()?;
+    read_items(u64::from(size), 1, input)
 }

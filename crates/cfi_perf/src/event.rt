@@ -124,7 +124,7 @@ pub(crate) fn program(
     })
 }
 
-/// Reads the fields of `PERF_RECORD_FORK` up to the new thread.
+/// Reads the fields of `PERF_RECORD_FORK` up to the thread that made the new one.
 #[tactic(auto, unfolding(crate::specs::Events::fork))]
 pub(crate) fn read_fork<R: Reader>(input: &mut R) -> Result<Fork>
     ensures { ReadsValue R.position fork input.old result input.new }
@@ -132,5 +132,11 @@ pub(crate) fn read_fork<R: Reader>(input: &mut R) -> Result<Fork>
     let pid = input.read_u32()?;
     let parent = input.read_u32()?;
     let tid = input.read_u32()?;
-    Ok(Fork { pid, parent, tid })
+    let parent_tid = input.read_u32()?;
+    Ok(Fork {
+        pid,
+        parent,
+        tid,
+        parent_tid,
+    })
 }

@@ -6,13 +6,15 @@
 //! `tools/perf/Documentation/perf.data-file-format.txt`.
 //!
 //! `profile` reads the file header, `attribute` what the events' samples have in them, `records`
-//! iterates over the records, `record` and `sample` have what a record says. Nothing is allocated
-//! or copied.
+//! iterates over the records, `event_table` and `event_names` find the event of each, `record` and
+//! `sample` have what a record says. Nothing is allocated or copied.
 
 pub mod attribute;
 mod bytes;
 pub mod error;
 mod event;
+mod event_names;
+mod event_table;
 mod file_header;
 pub mod profile;
 pub mod record;

@@ -1,15 +1,17 @@
 //! A profile, by its header (`perf.data-file-format.txt`).
 ghost use Rattle.std.specs.Prelude.{◌≡◌, option_map};
-ghost use Rattle.cfi_read_core.specs.ReaderCalls.{ReadsBy, map_ok};
-ghost use Rattle.cfi_read_core.specs.ByteOrder.{is_big};
-ghost use Rattle.cfi_read_core.specs.SliceReaders.{slice_position};
-ghost use Rattle.cfi_perf.specs.Profiles.{architecture, feature_section, header_text, layout_by};
-ghost use Rattle.cfi_perf.specs.Profiles.{profile, profile_records, profile_view, text_in};
+ghost use Rattle.cfi_read_core.specs.ReaderCalls.{map_ok};
+ghost use Rattle.cfi_perf.specs.EventTables.{table_view};
+ghost use Rattle.cfi_perf.specs.Profiles.{architecture, descriptions, event_table, events_by};
+ghost use Rattle.cfi_perf.specs.Profiles.{feature_section, profile, profile_records};
+ghost use Rattle.cfi_perf.specs.Profiles.{profile_view, section_view, text_in};
 ghost use Rattle.cfi_perf.specs.Records.{records_left};
 
-use crate::attribute::{EventLayout, only_layout};
-use crate::bytes::{Input, before_zero, bytes_from, part, read_items};
+use crate::attribute::{EventEntry, EventLayout, first_event};
+use crate::bytes::{before_zero, bytes_from, part, read_header_text};
 use crate::error::PerfError;
+use crate::event_names::event_name;
+use crate::event_table::{EventTable, ProfileEvent};
 use crate::file_header::{FileHeader, byte_order, file_header, read_file_section};
 use crate::records::Records;
 use cfi_read_core::{EndianSlice, Reader, RunTimeEndian};
@@ -21,12 +23,26 @@ const LEAST_EVENT_SIZE: u64 = 96 + 16;
 /// The feature bit of the architecture's name.
 const HEADER_ARCH: u64 = 1 << 6;
 
+/// The feature bit of the events' names.
+const HEADER_EVENT_DESC: u64 = 1 << 12;
+
+/// The part of the file with the events.
+#[derive(Clone, Copy, Debug)]
+pub(crate) struct EventSection<'input> {
+    /// The size of each.
+    size: u64,
+    count: u64,
+    /// The bytes of all.
+    attrs: &'input [u8],
+    first: EventEntry,
+}
+
 /// A profile that `perf record` wrote, in either byte order. The bytes are borrowed, not copied.
 #[derive(Clone, Copy, Debug)]
 pub struct Profile<'input> {
     bytes: &'input [u8],
     endian: RunTimeEndian,
-    layout: EventLayout,
+    events: EventSection<'input>,
     features: u64,
     records: &'input [u8],
     behind: &'input [u8],
@@ -46,7 +62,7 @@ impl<'input> Profile<'input> {
     {
         let endian = byte_order(bytes)?;
         let header = file_header(endian, bytes)?;
-        let layout = layout_by(endian, bytes, &header)?;
+        let events = events_by(endian, bytes, &header)?;
         let Some(records) = part(bytes, header.records.offset, header.records.size) else {
             return Err(PerfError::DataOutOfBounds);
         };
@@ -54,7 +70,7 @@ impl<'input> Profile<'input> {
         Ok(Profile {
             bytes,
             endian,
-            layout,
+            events,
             features: header.features,
             records,
             behind: bytes_from(bytes, end),
@@ -69,12 +85,12 @@ impl<'input> Profile<'input> {
         self.endian
     }
 
-    /// What the samples and the other records have in them.
+    /// What the samples and the other records of the first event have in them.
     #[inline(always)]
     pub fn layout(&self) -> EventLayout
-        ensures { result ≡ (profile_view self.now).layout }
+        ensures { result ≡ (profile_view self.now).events.first.attribute.layout }
     {
-        self.layout
+        self.events.first.attribute.layout
     }
 
     /// The name of the machine's architecture, as `uname -m` prints it (`HEADER_ARCH`). Returns
@@ -101,7 +117,43 @@ impl<'input> Profile<'input> {
     pub fn records(&self) -> Records<'input>
         ensures { records_left result ≡ profile_records (profile_view self.now) }
     {
-        Records::new(self.records, self.endian, self.layout)
+        Records::new(self.records, self.endian, self.event_table())
+    }
+
+    /// The events.
+    #[tactic(auto, unfolding(crate::specs::Profiles::event_table))]
+    fn event_table(&self) -> EventTable<'input>
+        ensures { table_view result ≡ event_table (profile_view self.now) }
+    {
+        let descriptions = self.descriptions();
+        let attribute = &self.events.first.attribute;
+        EventTable {
+            endian: self.endian,
+            bytes: self.bytes,
+            descriptions,
+            attrs: self.events.attrs,
+            count: self.events.count,
+            size: self.events.size,
+            first: ProfileEvent {
+                layout: attribute.layout,
+                name: event_name(self.endian, descriptions, 0, attribute),
+            },
+        }
+    }
+
+    /// The section that names the events; nothing where there is none that can be read.
+    #[tactic(auto, unfolding(crate::specs::Profiles::descriptions))]
+    fn descriptions(&self) -> &'input [u8]
+        ensures { result.now ≡ descriptions (profile_view self.now) }
+    {
+        if self.features & HEADER_EVENT_DESC == 0 {
+            return &[];
+        }
+        let index = (self.features & (HEADER_EVENT_DESC - 1)).count_ones();
+        match self.feature_section(index) {
+            Ok(section) => section,
+            Err(_) => &[],
+        }
     }
 
     /// The section of an index of those behind the records.
@@ -136,31 +188,28 @@ impl<'input> Profile<'input> {
     }
 }
 
-/// What all events have their samples record.
-#[tactic(auto, unfolding(crate::specs::Profiles::layout_by))]
-fn layout_by(
+/// The events, if the records of all can be read.
+#[tactic(auto, unfolding(crate::specs::Profiles::events_by))]
+fn events_by<'input>(
     endian: RunTimeEndian,
-    bytes: &[u8],
+    bytes: &'input [u8],
     header: &FileHeader,
-) -> Result<EventLayout, PerfError>
-    ensures { result ≡ layout_by endian bytes.now header.now }
+) -> Result<EventSection<'input>, PerfError>
+    ensures { map_ok section_view result ≡ events_by endian bytes.now header.now }
 {
-    if header.attr_size < LEAST_EVENT_SIZE {
-        return Err(PerfError::AttributeSize(header.attr_size));
+    let size = header.attr_size;
+    if size < LEAST_EVENT_SIZE {
+        return Err(PerfError::AttributeSize(size));
     }
     let Some(attrs) = part(bytes, header.attrs.offset, header.attrs.size) else {
         return Err(PerfError::AttributesOutOfBounds);
     };
-    let count = attrs.len() as u64 / header.attr_size;
-    only_layout(count, header.attr_size, EndianSlice::new(attrs, endian))
-}
-
-/// Reads a text of the header, with the zeros at its end.
-#[tactic(auto, unfolding(crate::specs::Profiles::header_text))]
-fn read_header_text<'input>(input: &mut Input<'input>) -> cfi_read_core::Result<&'input [u8]>
-    ensures { ReadsBy (slice_position is_big) (λ text. text.now) header_text
-        input.old result input.new }
-{
-    let size = input.read_u32()?;
-    read_items(u64::from(size), 1, input)
+    let count = attrs.len() as u64 / size;
+    let first = first_event(count, size, EndianSlice::new(attrs, endian))?;
+    Ok(EventSection {
+        size,
+        count,
+        attrs,
+        first,
+    })
 }

@@ -68,6 +68,8 @@ pub struct Fork {
     pub parent: u32,
     /// The new thread.
     pub tid: u32,
+    /// The thread that made it.
+    pub parent_tid: u32,
 }
 
 impl Clone for Record<'_> {

@@ -2,17 +2,21 @@
 ghost use Rattle.std.specs.Prelude.{◌≡◌, ⊤, option_map};
 ghost use Rattle.cfi_read_core.specs.ByteOrder.{is_big};
 ghost use Rattle.cfi_read_core.specs.ReaderCalls.{ReadsValue, map_ok};
+ghost use Rattle.cfi_perf.specs.EventTables.{table_view};
+ghost use Rattle.cfi_perf.specs.EventTables.{event_view as event_of_table};
 ghost use Rattle.cfi_perf.specs.Events.{event_view, record_view};
 ghost use Rattle.cfi_perf.specs.Records.{Meets, after_record, event_of, first_record};
 ghost use Rattle.cfi_perf.specs.Records.{first_view, fork_event, framed_view};
 ghost use Rattle.cfi_perf.specs.Records.{record_header, record_of, records_left, records_of};
 ghost use Rattle.cfi_perf.specs.Records.{sample_id_size, sample_id_time, sample_in, split_id};
-ghost use Rattle.cfi_perf.specs.Records.{split_record, without_id, without_id_view};
+ghost use Rattle.cfi_perf.specs.Records.{sample_of, split_record, without_id, without_id_by};
+ghost use Rattle.cfi_perf.specs.Records.{without_id_view};
 
 use crate::attribute::{EventLayout, PERF_SAMPLE_TID, PERF_SAMPLE_TIME};
 use crate::bytes::{bytes_from, first_bytes, part};
 use crate::error::PerfError;
 use crate::event::{mapping, mapping2, program, read_fork};
+use crate::event_table::{EventTable, ProfileEvent};
 use crate::record::{Event, Record};
 use crate::sample_fields::{read_number_if, read_sample};
 use cfi_read_core::{EndianSlice, Reader, RunTimeEndian};
@@ -50,7 +54,7 @@ const SAMPLE_ID_FIELDS: u64 = 1 << 1 | 1 << 2 | 1 << 6 | 1 << 7 | 1 << 9 | 1 << 
 pub struct Records<'input> {
     bytes: &'input [u8],
     endian: RunTimeEndian,
-    layout: EventLayout,
+    events: EventTable<'input>,
 }
 
 impl Clone for Records<'_> {
@@ -67,13 +71,18 @@ impl Clone for Records<'_> {
 impl<'input> Records<'input> {
     /// The records of these bytes.
     #[inline(always)]
-    pub(crate) fn new(bytes: &'input [u8], endian: RunTimeEndian, layout: EventLayout) -> Self
-        ensures { records_left result ≡ records_of layout (is_big endian) bytes.now }
+    pub(crate) fn new(
+        bytes: &'input [u8],
+        endian: RunTimeEndian,
+        events: EventTable<'input>,
+    ) -> Self
+        ensures { records_left result
+            ≡ records_of (table_view events.entry) (is_big endian) bytes.now }
     {
         Records {
             bytes,
             endian,
-            layout,
+            events,
         }
     }
 
@@ -90,7 +99,7 @@ impl<'input> Records<'input> {
         if self.bytes.is_empty() {
             return Ok(None);
         }
-        match first_record(&self.layout, self.endian, self.bytes) {
+        match first_record(&self.events, self.endian, self.bytes) {
             Ok(found) => {
                 self.bytes = found.others;
                 Ok(Some(found.first))
@@ -154,14 +163,15 @@ pub(crate) struct WithoutId<'input> {
 /// Reads the first record of these bytes.
 #[tactic(auto, unfolding(crate::specs::Records::first_record))]
 fn first_record<'input>(
-    layout: &EventLayout,
+    events: &EventTable<'input>,
     endian: RunTimeEndian,
     bytes: &'input [u8],
 ) -> Result<First<'input>, PerfError>
-    ensures { map_ok first_view result ≡ first_record layout.now (is_big endian) bytes.now }
+    ensures { map_ok first_view result ≡ first_record (table_view events.now)
+        (is_big endian) bytes.now }
 {
     let found = split_record(endian, bytes)?;
-    let first = record_of(layout, endian, &found.header, found.body)?;
+    let first = record_of(events, endian, &found.header, found.body)?;
     Ok(First {
         first,
         others: found.others,
@@ -229,21 +239,21 @@ fn after_record<'input>(
 /// Reads what a record says, by its type.
 #[tactic(auto, unfolding(crate::specs::Records::record_of))]
 fn record_of<'input>(
-    layout: &EventLayout,
+    events: &EventTable<'input>,
     endian: RunTimeEndian,
     header: &RecordHeader,
     body: &'input [u8],
 ) -> Result<Record<'input>, PerfError>
     ensures { map_ok record_view result
-        ≡ record_of layout.now (is_big endian) header.now body.now }
+        ≡ record_of (table_view events.now) (is_big endian) header.now body.now }
 {
     if header.kind == PERF_RECORD_SAMPLE {
-        return sample_record(layout, endian, body);
+        return sample_of(events.event_of_sample(body), endian, body);
     }
     if header.kind == PERF_RECORD_COMPRESSED || header.kind == PERF_RECORD_COMPRESSED2 {
         return Err(PerfError::Compressed);
     }
-    let found = without_id(layout, endian, header.kind, body)?;
+    let found = without_id(events, endian, header.kind, body)?;
     let event = event_of(endian, header, found.fields)?;
     Ok(Record {
         time: found.time,
@@ -251,16 +261,35 @@ fn record_of<'input>(
     })
 }
 
-/// Reads a sample.
-fn sample_record<'input>(
-    layout: &EventLayout,
+/// Reads a sample of this event. A sample of none says nothing.
+fn sample_of<'input>(
+    event: Option<ProfileEvent<'input>>,
     endian: RunTimeEndian,
     body: &'input [u8],
 ) -> Result<Record<'input>, PerfError>
-    ensures { map_ok record_view result ≡ sample_in layout.now (is_big endian) body.now }
+    ensures { map_ok record_view result
+        ≡ sample_of (option_map event_of_table event.entry) (is_big endian) body.now }
+{
+    match event {
+        Some(event) => sample_record(&event, endian, body),
+        None => Ok(Record {
+            time: 0,
+            event: Event::Other,
+        }),
+    }
+}
+
+/// Reads a sample.
+fn sample_record<'input>(
+    event: &ProfileEvent<'input>,
+    endian: RunTimeEndian,
+    body: &'input [u8],
+) -> Result<Record<'input>, PerfError>
+    ensures { map_ok record_view result
+        ≡ sample_in (event_of_table event.now) (is_big endian) body.now }
 {
     let mut input = EndianSlice::new(body, endian);
-    match read_sample(layout, &mut input) {
+    match read_sample(event, &mut input) {
         Ok(timed) => Ok(Record {
             time: timed.time,
             event: Event::Sample(timed.sample),
@@ -300,20 +329,32 @@ fn fork_event(endian: RunTimeEndian, fields: &[u8]) -> Result<Event<'_>, PerfErr
 /// Splits the fields of a sample off the end of a record.
 #[tactic(auto, unfolding(crate::specs::Records::without_id))]
 fn without_id<'input>(
-    layout: &EventLayout,
+    events: &EventTable<'input>,
     endian: RunTimeEndian,
     kind: u32,
     body: &'input [u8],
 ) -> Result<WithoutId<'input>, PerfError>
     ensures { map_ok without_id_view result
-        ≡ without_id layout.now (is_big endian) kind body.now }
+        ≡ without_id (table_view events.now) (is_big endian) kind body.now }
 {
-    if !layout.sample_id_all || kind >= PERF_RECORD_USER_TYPE_START {
+    if !events.first.layout.sample_id_all || kind >= PERF_RECORD_USER_TYPE_START {
         return Ok(WithoutId {
             time: 0,
             fields: body,
         });
     }
+    without_id_by(&events.layout_of_other(body), endian, body)
+}
+
+/// Splits the fields of a sample off the end of a record of this layout.
+fn without_id_by<'input>(
+    layout: &EventLayout,
+    endian: RunTimeEndian,
+    body: &'input [u8],
+) -> Result<WithoutId<'input>, PerfError>
+    ensures { map_ok without_id_view result
+        ≡ without_id_by layout.now (is_big endian) body.now }
+{
     let size = sample_id_size(layout);
     let length = body.len() as u64;
     if length < size {

@@ -14,6 +14,13 @@ pub struct Sample<'input> {
     pub tid: u32,
     /// The address of the instruction, which may be the kernel's (`PERF_SAMPLE_IP`).
     pub ip: u64,
+    /// The processor (`PERF_SAMPLE_CPU`). `None` where its event doesn't record it.
+    pub cpu: Option<u32>,
+    /// How many events it stands for (`PERF_SAMPLE_PERIOD`), or else its event's `sample_period`.
+    pub period: u64,
+    /// The name of its event, as `perf record` left it (`HEADER_EVENT_DESC`); else the kernel's
+    /// name of an event of the processor's or its own, or `unknown`.
+    pub event: &'input [u8],
     /// The registers and the stack of user space.
     pub user: UserState<'input>,
 }

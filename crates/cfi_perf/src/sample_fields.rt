@@ -4,8 +4,10 @@ ghost use Rattle.cfi_read_core.specs.ByteOrder.{is_big};
 ghost use Rattle.cfi_read_core.specs.ReaderCalls.{ReadsBy, ReadsValue};
 ghost use Rattle.cfi_read_core.specs.SliceReaders.{slice_position};
 ghost use Rattle.cfi_perf.specs.Samples.{branch_size, branch_stack, call_chain, copied_stack};
-ghost use Rattle.cfi_perf.specs.Samples.{group_values, number_if, passed_if, passed_lists};
-ghost use Rattle.cfi_perf.specs.Samples.{passed_numbers, raw_data, read_values, registers};
+ghost use Rattle.cfi_perf.specs.EventTables.{event_view};
+ghost use Rattle.cfi_perf.specs.Samples.{group_values, later_numbers, number_if, passed_if};
+ghost use Rattle.cfi_perf.specs.Samples.{passed_lists, period_of, processor, processor_if};
+ghost use Rattle.cfi_perf.specs.Samples.{raw_data, read_values, registers};
 ghost use Rattle.cfi_perf.specs.Samples.{registers_by, registers_view, sample, sample_numbers};
 ghost use Rattle.cfi_perf.specs.Samples.{single_value, stack, stack_of_size, thread, thread_if};
 ghost use Rattle.cfi_perf.specs.Samples.{timed_view, user_registers, user_stack, user_state};
@@ -18,6 +20,7 @@ use crate::attribute::{
     PERF_SAMPLE_STREAM_ID, PERF_SAMPLE_TID, PERF_SAMPLE_TIME, has_any,
 };
 use crate::bytes::{Input, first_bytes, read_items};
+use crate::event_table::ProfileEvent;
 use crate::sample::{Sample, UserRegisters, UserState};
 use cfi_read_core::{Reader, Result};
 
@@ -48,6 +51,13 @@ pub(crate) struct SampleNumbers {
     pub(crate) time: u64,
 }
 
+/// The numbers behind the time of which a sample keeps something.
+#[derive(Clone, Copy, Debug, PartialEq, Eq)]
+pub(crate) struct LaterNumbers {
+    pub(crate) cpu: Option<u32>,
+    pub(crate) period: u64,
+}
+
 /// A sample and its time.
 #[derive(Clone, Copy, Debug)]
 pub(crate) struct TimedSample<'input> {
@@ -58,14 +68,15 @@ pub(crate) struct TimedSample<'input> {
 /// Reads a sample. Fails where its fields go past the end.
 #[tactic(auto, unfolding(crate::specs::Samples::sample))]
 pub(crate) fn read_sample<'input>(
-    layout: &EventLayout,
+    event: &ProfileEvent<'input>,
     input: &mut Input<'input>,
 ) -> Result<TimedSample<'input>>
-    ensures { ReadsBy (slice_position is_big) timed_view (sample layout.now)
+    ensures { ReadsBy (slice_position is_big) timed_view (sample (event_view event.now))
         input.old result input.new }
 {
+    let layout = &event.layout;
     let numbers = read_sample_numbers(layout, input)?;
-    pass_numbers(layout, input)?;
+    let later = read_later_numbers(layout, input)?;
     pass_lists(layout, input)?;
     let user = read_user_state(layout, input)?;
     Ok(TimedSample {
@@ -74,6 +85,9 @@ pub(crate) fn read_sample<'input>(
             pid: numbers.thread.pid,
             tid: numbers.thread.tid,
             ip: numbers.ip,
+            cpu: later.cpu,
+            period: later.period,
+            event: event.name,
             user,
         },
     })
@@ -121,17 +135,49 @@ fn read_sample_numbers<R: Reader>(layout: &EventLayout, input: &mut R) -> Result
     Ok(SampleNumbers { ip, thread, time })
 }
 
-/// Passes the numbers behind the time.
-#[tactic(auto, unfolding(crate::specs::Samples::passed_numbers))]
-fn pass_numbers<R: Reader>(layout: &EventLayout, input: &mut R) -> Result<()>
-    ensures { ReadsValue R.position (passed_numbers layout.now) input.old result input.new }
+/// Reads the numbers behind the time.
+#[tactic(auto, unfolding(crate::specs::Samples::later_numbers))]
+fn read_later_numbers<R: Reader>(layout: &EventLayout, input: &mut R) -> Result<LaterNumbers>
+    ensures { ReadsValue R.position (later_numbers layout.now) input.old result input.new }
 {
     let _addr = read_number_if(layout.has(PERF_SAMPLE_ADDR), input)?;
     let _id = read_number_if(layout.has(PERF_SAMPLE_ID), input)?;
     let _stream_id = read_number_if(layout.has(PERF_SAMPLE_STREAM_ID), input)?;
-    let _cpu = read_number_if(layout.has(PERF_SAMPLE_CPU), input)?;
-    let _period = read_number_if(layout.has(PERF_SAMPLE_PERIOD), input)?;
-    Ok(())
+    let cpu = read_processor_if(layout.has(PERF_SAMPLE_CPU), input)?;
+    let period = read_period(layout, input)?;
+    Ok(LaterNumbers { cpu, period })
+}
+
+/// Reads the processor, where the sample has it.
+fn read_processor_if<R: Reader>(is_there: bool, input: &mut R) -> Result<Option<u32>>
+    ensures { ReadsValue R.position (processor_if is_there) input.old result input.new }
+{
+    if !is_there {
+        return Ok(None);
+    }
+    let cpu = read_processor(input)?;
+    Ok(Some(cpu))
+}
+
+/// Reads the processor, and four bytes that say nothing.
+#[tactic(auto, unfolding(crate::specs::Samples::processor))]
+fn read_processor<R: Reader>(input: &mut R) -> Result<u32>
+    ensures { ReadsValue R.position processor input.old result input.new }
+{
+    let cpu = input.read_u32()?;
+    let _res = input.read_u32()?;
+    Ok(cpu)
+}
+
+/// Reads how many events the sample stands for, or else gives what the event's attributes say.
+fn read_period<R: Reader>(layout: &EventLayout, input: &mut R) -> Result<u64>
+    ensures { ReadsValue R.position (period_of layout.now) input.old result input.new }
+{
+    if layout.has(PERF_SAMPLE_PERIOD) {
+        input.read_u64()
+    } else {
+        Ok(layout.sample_period)
+    }
 }
 
 /// Passes what a sample has of counts, calls, raw data and branches.

@@ -1,0 +1,72 @@
+-- The name of an event behind those of others, and the event of an id, step by step.
+use Rattle.std.proofs.Common.{◌≡◌, ◌<◌, ◌≤◌, ◌+◌, ◌-◌, ◌/◌, ℕ, Bool, true, false, ◌∷◌, List, Option, Some, Ok, Err, length, sym, ap, ◌∙◌, arith}
+use Rattle.std.specs.Prelude.{◌==◌, ◌||◌, if◌then◌else◌}
+use Rattle.std.specs.List.{list_any}
+use Rattle.std.specs.Int.{w64}
+use Rattle.std.proofs.lemmas.Bool.{eq-eqb, ne_eqb}
+use Rattle.cfi_read_core.specs.declared.error.Error.{Error}
+use Rattle.cfi_read_core.specs.ReadFunctions.{Read, Source, Position, Outcome, carry_on}
+use Rattle.cfi_read_core.specs.Numbers.{unsigned}
+use Rattle.cfi_read_core.specs.SliceReaders.{slice_over}
+use Rattle.cfi_perf.specs.declared.attribute.EventEntry.{EventEntry}
+use Rattle.cfi_perf.specs.declared.file_header.FileSection.{FileSection}
+use Rattle.cfi_perf.specs.Results.{entries, part}
+use Rattle.cfi_perf.specs.EventNames.{behind_others}
+use Rattle.cfi_perf.specs.EventTables.{EventTable, first_with_id, has_id, numbered_event, numbers_in}
+use Rattle.cfi_perf.proofs.EntrySteps.{one_more}
+
+-- ---- what comes behind others
+
+pub all_others : {A : Type 0} (count : ℕ) (read : Read A) (source : Source) (place : ℕ) → behind_others (count - 0) read source place ≡ behind_others count read source place
+all_others count read source place = let all : count - 0 ≡ count = omega arith in ap (λ (n : ℕ). behind_others n read source place) all
+
+pub other_read : {A : Type 0} (count index : ℕ) (read : Read A) (old new : Position) (x : A) → index < count →
+    (read old.source old.place ≡ record { value = Ok x; place = new.place }) × (new.source ≡ old.source) →
+    behind_others (count - (index + 1)) read new.source new.place ≡ behind_others (count - index) read old.source old.place
+unfolding behind_others
+other_read {A = A} count index read old new x below (gives, same) =
+    sym (ap (λ (n : ℕ). behind_others n read old.source old.place) (one_more count index below)
+    ∙ (ap (λ (o : Outcome A). carry_on (λ (x : A). behind_others (count - (index + 1)) read) old.source o.value o.place) gives
+    ∙ ap (λ (s : Source). behind_others (count - (index + 1)) read s new.place) (sym same)))
+
+pub other_refused : {A : Type 0} (count index : ℕ) (read : Read A) (source : Source) (place place' : ℕ) (e : Error) → index < count →
+    read source place ≡ record { value = Err e; place = place' } → behind_others (count - index) read source place ≡ record { value = Err e; place = place' }
+unfolding behind_others
+other_refused {A = A} count index read source place place' e below gives =
+    ap (λ (n : ℕ). behind_others n read source place) (one_more count index below)
+    ∙ ap (λ (o : Outcome A). carry_on (λ (x : A). behind_others (count - (index + 1)) read) source o.value o.place) gives
+
+pub behind_all : {A : Type 0} (count index : ℕ) (read : Read A) (source : Source) (place : ℕ) → count ≤ index → behind_others (count - index) read source place ≡ read source place
+unfolding behind_others
+behind_all count index read source place passed = let none : count - index ≡ 0 = omega arith in ap (λ (n : ℕ). behind_others n read source place) none
+
+-- ---- all entries
+
+pub all_entries : {A : Type 0} (count : ℕ) (read : Read A) (made over : Position) → made ≡ over → entries (count - 0) read made.source made.place ≡ entries count read over.source over.place
+all_entries count read made over same =
+    let all : count - 0 ≡ count = omega arith in
+    ap (λ (n : ℕ). entries n read made.source made.place) all ∙ ap (λ (p : Position). entries count read p.source p.place) same
+
+-- ---- whether an id is among numbers
+
+abbrev pub has_number : ℕ → List ℕ → Bool
+has_number id numbers = list_any (λ known. known == id) numbers
+
+pub ids_found : (table : EventTable) (place : FileSection) (id : ℕ) (bytes : List ℕ) → Some bytes ≡ part table.bytes place.offset place.size →
+    has_number id (entries (length bytes / 8) (unsigned w64) (slice_over bytes table.big_endian).source 0) ≡ has_id table place id
+ids_found table place id bytes is = ap (λ (o : Option (List ℕ)). has_number id (numbers_in table.big_endian o)) is
+
+pub number_here : (id known : ℕ) (others : List ℕ) → known ≡ id → has_number id (known ∷ others) ≡ true
+number_here id known others is = ap (λ (b : Bool). b || has_number id others) (eq-eqb known id is)
+
+pub number_later : (id known : ℕ) (others : List ℕ) → (known ≡ id → ⊥) → has_number id (known ∷ others) ≡ has_number id others
+number_later id known others other = ap (λ (b : Bool). b || has_number id others) (ne_eqb known id other)
+
+-- ---- the event of an id
+
+module _ (table : EventTable) (id index : ℕ) (entry : EventEntry) (others : List EventEntry) where
+  pub event_here : has_id table entry.ids id ≡ true → first_with_id table id index (entry ∷ others) ≡ Some (numbered_event table index entry)
+  event_here is = ap (λ (b : Bool). if b then Some (numbered_event table index entry) else first_with_id table id (index + 1) others) is
+
+  pub event_later : has_id table entry.ids id ≡ false → first_with_id table id index (entry ∷ others) ≡ first_with_id table id (index + 1) others
+  event_later is = ap (λ (b : Bool). if b then Some (numbered_event table index entry) else first_with_id table id (index + 1) others) is
