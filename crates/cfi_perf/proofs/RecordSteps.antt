@@ -5,12 +5,12 @@ use Rattle.std.proofs.lemmas.Bool.{ltb-false}
 use Rattle.std.proofs.lemmas.List.{length-drop}
 use borrow.Author.Tests.{leb-true}
 use Rattle.cfi_perf.specs.declared.error.PerfError.{PerfError}
-use Rattle.cfi_perf.specs.declared.error.PerfError.TheVariants.{RecordCut, RecordSize}
+use Rattle.cfi_perf.specs.declared.error.PerfError.TheVariants.{DataOutOfBounds, RecordCut, RecordSize}
 use Rattle.cfi_perf.specs.declared.records.RecordHeader.{RecordHeader}
 use Rattle.cfi_perf.specs.EventTables.{EventTable}
 use Rattle.cfi_perf.specs.Events.{Record}
 use Rattle.cfi_perf.specs.Results.{and_then, or_error, or_missing, part, read_from}
-use Rattle.cfi_perf.specs.Records.{First, Framed, Records, after_record, record_header, first_record, split_record, no_records, record_of, records_of, records_up_to, records_with, with_first}
+use Rattle.cfi_perf.specs.Records.{First, Framed, Records, after_record, record_header, first_record, split_record, no_records, record_of, records_of, records_up_to, records_with, until_cut, with_first}
 use Rattle.cfi_perf.proofs.Chains.{gave, not_missing, not_refused}
 
 -- ---- a record takes a byte at least
@@ -136,3 +136,21 @@ module _ (events : EventTable) (big : Bool) where
 
   pub error_met : (bytes : List ℕ) (e : PerfError) → (length bytes == 0) ≡ false → Err e ≡ first_record events big bytes → records_of events big bytes ≡ no_records (Some e)
   error_met bytes e some is = met bytes (Err e) some is
+
+  -- ---- where the file ends before the records do
+
+  abbrev left : Bool → List ℕ → Records
+  left is_cut bytes = until_cut is_cut (records_of events big bytes)
+
+  pub none_left : (is_cut : Bool) (bytes : List ℕ) → (length bytes == 0) ≡ true → is_cut ≡ false → left is_cut bytes ≡ no_records None
+  none_left is_cut bytes none whole = ap (λ (b : Bool). left b bytes) whole ∙ none_met bytes none
+
+  pub cut_left : (is_cut : Bool) (bytes : List ℕ) → (length bytes == 0) ≡ true → is_cut ≡ true → left is_cut bytes ≡ no_records (Some DataOutOfBounds)
+  cut_left is_cut bytes none cut = ap (λ (b : Bool). left b bytes) cut ∙ ap (until_cut true) (none_met bytes none)
+
+  pub first_left : (is_cut : Bool) (bytes : List ℕ) (found : First) → (length bytes == 0) ≡ false → Ok found ≡ first_record events big bytes → left is_cut bytes ≡ with_first found.first (left is_cut found.others)
+  first_left is_cut bytes found some is = ap (until_cut is_cut) (first_met bytes found some is)
+
+  pub error_left : (is_cut : Bool) (bytes : List ℕ) (e e' : PerfError) → (length bytes == 0) ≡ false → Err e ≡ first_record events big bytes → Some e' ≡ (until_cut is_cut (no_records (Some e))).error →
+      left is_cut bytes ≡ no_records (Some e')
+  error_left is_cut bytes e e' some is ends = ap (until_cut is_cut) (error_met bytes e some is) ∙ ap no_records (sym ends)

@@ -3,7 +3,7 @@ use Rattle.std.proofs.Common.{◌≡◌, ℕ, ◌+◌, ◌-◌, ◌*◌, List, [
 use Rattle.std.specs.Prelude.{Bool, nat_lt, if◌then◌else◌, take, replicate}
 use Rattle.cfi_read_core.specs.declared.endianity.RunTimeEndian.TheVariants.{Little, Big}
 use Rattle.cfi_read_core.specs.Numbers.{unsigned}
-use Rattle.cfi_perf.specs.declared.error.PerfError.TheVariants.{NotPerf, PipeMode, HeaderCut, HeaderSize, AttributesOutOfBounds, NoEvents, MixedEvents, FeatureOutOfBounds, RecordSize, RecordCut, Compressed}
+use Rattle.cfi_perf.specs.declared.error.PerfError.TheVariants.{NotPerf, PipeMode, HeaderCut, HeaderSize, AttributesOutOfBounds, DataOutOfBounds, NoEvents, MixedEvents, FeatureOutOfBounds, RecordSize, RecordCut, Compressed}
 use Rattle.cfi_perf.specs.declared.attribute.EventEntry.{EventEntry}
 use Rattle.cfi_perf.specs.declared.attribute.EventLayout.{EventLayout}
 use Rattle.cfi_perf.specs.Results.{items, entries, header_text}
@@ -14,7 +14,7 @@ use Rattle.cfi_perf.specs.FileHeaders.{byte_order, file_section, feature_bits, h
 use Rattle.cfi_perf.specs.Samples.{UserRegisters, register_of, thread, sample_numbers, processor, later_numbers, group_values, single_value, call_chain, raw_data, branch_stack, passed_lists, registers, copied_stack, stack, user_state, sample}
 use Rattle.cfi_perf.specs.Events.{MappingEvent, ProgramEvent, ForkEvent, SampleEvent, OtherEvent, mapped_range, mapping, mapping2, program, fork}
 use Rattle.cfi_perf.specs.Records.{record_header, split_record, sample_id_time, without_id, record_of, first_record, records_up_to, records_of}
-use Rattle.cfi_perf.specs.Profiles.{EventSection, Profile, events_by, profile, architecture, descriptions, event_table}
+use Rattle.cfi_perf.specs.Profiles.{EventSection, Profile, events_by, profile, architecture, descriptions, event_table, machine_by, profile_records}
 
 -- to name it on an `unfolding` line is to open all these
 unfoldable computing : ℕ
@@ -270,7 +270,7 @@ worked_section = record { size = 112; count = 1; attrs = little_event; first = w
 
 -- with the sections of bits 3 and 6, whose places begin with those of the whole file
 abbrev worked_profile : ℕ → Profile
-worked_profile features = record { bytes = little_header ++ (little_event ++ (little_program ++ (little_mapping ++ (little_sample ++ behind)))); endian = Little; events = worked_section; features = features; records = []; behind = behind }
+worked_profile features = record { bytes = little_header ++ (little_event ++ (little_program ++ (little_mapping ++ (little_sample ++ behind)))); endian = Little; events = worked_section; features = features; records = []; is_cut = false; behind = behind }
 
 its_architecture : architecture (worked_profile 0x48) ≡ Ok (Some (codes "x86_64"))
 unfolding computing
@@ -290,7 +290,7 @@ no_third_section = refl
 
 -- ---- the whole
 
-its_parts : profile (worked_profile 0x48).bytes ≡ Ok (record { bytes = (worked_profile 0x48).bytes; endian = Little; events = worked_section; features = 0x48; records = little_program ++ (little_mapping ++ little_sample); behind = behind })
+its_parts : profile (worked_profile 0x48).bytes ≡ Ok (record { bytes = (worked_profile 0x48).bytes; endian = Little; events = worked_section; features = 0x48; records = little_program ++ (little_mapping ++ little_sample); is_cut = false; behind = behind })
 unfolding computing
 its_parts = refl
 
@@ -359,3 +359,28 @@ a_fault = refl
 a_thread : records_of two false (hex (codes "07000000000040006d4300006d4300006f4300006d4300004554474e2b0200006d4300006d430000a053474e2b0200000200000000000000d200000000000000")) ≡ record { records = record { time = 2385020146592; event = ForkEvent (record { pid = 17261; parent = 17261; tid = 17263; parent_tid = 17261 }) } ∷ []; error = None }
 unfolding computing
 a_thread = refl
+
+-- ---- the same cut within its sample, as by a full disk
+
+abbrev cut_profile : Profile
+cut_profile = record { bytes = take 400 (worked_profile 0x48).bytes; endian = Little; events = worked_section; features = 0x48; records = little_program ++ (little_mapping ++ take 48 little_sample); is_cut = true; behind = [] }
+
+its_cut_parts : profile cut_profile.bytes ≡ Ok cut_profile
+unfolding computing
+its_cut_parts = refl
+
+-- those of x86-64, with which perf record --call-graph dwarf records, and those of AArch64
+its_registers : machine_by false 0xff0fff ≡ Some (codes "x86_64")
+its_registers = refl
+
+registers_of_aarch64 : machine_by false 0x1ffffffff ≡ Some (codes "aarch64")
+registers_of_aarch64 = refl
+
+-- all 32 of RISC-V
+registers_of_others : machine_by false 0xffffffff ≡ None
+registers_of_others = refl
+
+-- two records, and that there are more
+records_before_a_cut : profile_records (record cut_profile { records = little_program ++ take 16 little_mapping }) ≡ record { records = record { time = 10; event = ProgramEvent (record { pid = 7; tid = 7; name = codes "a"; is_exec = true }) } ∷ []; error = Some DataOutOfBounds }
+unfolding computing
+records_before_a_cut = refl

@@ -1,27 +1,27 @@
 -- A profile, by its header (perf.data-file-format.txt).
 --     profile bytes      the profile of these bytes, or the first error
 --     profile_view p      what a `Profile` of the code is
-use Rattle.std.specs.Prelude.{ℕ, ◌+◌, ◌*◌, ◌/◌, List, [], drop, length, Option, Some, None, Result}
-use Rattle.std.specs.Prelude.{Ok, Err}
-use Rattle.std.specs.Prelude.{count_ones, bit_and, nat_lt, ◌==◌, if◌then◌else◌}
+use Rattle.std.specs.Prelude.{ℕ, ◌+◌, ◌*◌, ◌/◌, Bool, ◌&&◌, List, [], codes, drop, length, take}
+use Rattle.std.specs.Prelude.{Option, Some, None, Result, Ok, Err, count_ones, bit_and, nat_lt}
+use Rattle.std.specs.Prelude.{◌==◌, if◌then◌else◌}
 use Rattle.cfi_read_core.specs.declared.endianity.RunTimeEndian.{RunTimeEndian}
 use Rattle.cfi_read_core.specs.ByteOrder.{is_big}
 use Rattle.cfi_read_core.specs.SliceReaders.{slice_over}
 use Rattle.cfi_perf.specs.declared.error.PerfError.{PerfError}
 use Rattle.cfi_perf.specs.declared.error.PerfError.TheVariants.{AttributeSize}
 use Rattle.cfi_perf.specs.declared.error.PerfError.TheVariants.{AttributesOutOfBounds}
-use Rattle.cfi_perf.specs.declared.error.PerfError.TheVariants.{DataOutOfBounds, FeatureOutOfBounds}
+use Rattle.cfi_perf.specs.declared.error.PerfError.TheVariants.{FeatureOutOfBounds}
 use Rattle.cfi_perf.specs.declared.attribute.EventEntry.{EventEntry}
 use Rattle.cfi_perf.specs.declared.file_header.FileHeader.{FileHeader}
 use Rattle.cfi_perf.specs.declared.profile.EventSection.{EventSection as EventSectionOfCode}
 use Rattle.cfi_perf.specs.declared.profile.Profile.{Profile as ProfileOfCode}
 use Rattle.cfi_perf.specs.Results.{and_then, or_error, or_missing, part, before_zero, read_from}
 use Rattle.cfi_perf.specs.Results.{entries, header_text}
-use Rattle.cfi_perf.specs.Layouts.{event, events, first_event}
+use Rattle.cfi_perf.specs.Layouts.{event, events, first_event, has_any}
 use Rattle.cfi_perf.specs.EventNames.{event_name}
 use Rattle.cfi_perf.specs.EventTables.{EventTable}
 use Rattle.cfi_perf.specs.FileHeaders.{byte_order, file_header, file_section}
-use Rattle.cfi_perf.specs.Records.{Records, records_of}
+use Rattle.cfi_perf.specs.Records.{Records, records_of, until_cut}
 
 -- The part of the file with the events.
 pub record EventSection : Type 0 where
@@ -36,6 +36,7 @@ pub record Profile : Type 0 where
   pub events : EventSection
   pub features : ℕ
   pub records : List ℕ  -- the bytes of the records
+  pub is_cut : Bool  -- whether the file ends before they do
   pub behind : List ℕ  -- those that follow
 
 -- what these are in the code
@@ -49,6 +50,7 @@ profile_view p = record {
   events = section_view p.events;
   features = p.features;
   records = p.records.now;
+  is_cut = p.is_cut;
   behind = p.behind.now;
 }
 
@@ -76,16 +78,16 @@ profile bytes =
     and_then (byte_order bytes) (λ endian.
     and_then (file_header endian bytes) (λ header.
     and_then (events_by endian bytes header) (λ events.
-    and_then (or_missing DataOutOfBounds (part bytes header.records.offset header.records.size))
-    (λ records.
     Ok (record {
       bytes = bytes;
       endian = endian;
       events = events;
       features = header.features;
-      records = records;
+      records = take header.records.size (drop header.records.offset bytes);
+      is_cut = nat_lt (length (take header.records.size (drop header.records.offset bytes)))
+          header.records.size;
       behind = drop (header.records.offset + header.records.size) bytes;
-    })))))
+    }))))
 
 -- ---- what it says
 
@@ -105,10 +107,23 @@ text_in p contents =
     (λ text.
     or_missing FeatureOutOfBounds (before_zero text))
 
+-- What stands behind the records is lost where these are cut. Then the machine is known by the
+-- registers of the first event: on x86-64 those that perf_regs.h lets a 64-bit program have, with
+-- IP (8), and on AArch64 up to PC (32), with that.
+abbrev pub machine_by : Bool → ℕ → Option (List ℕ)
+machine_by big mask =
+    if big then None
+    else if has_any 0x100 mask && (bit_and mask 0xff0fff == mask) then Some (codes "x86_64")
+    else if has_any 0x100000000 mask && (bit_and mask 0x1ffffffff == mask)
+    then Some (codes "aarch64")
+    else None
+
 -- HEADER_ARCH is bit 6
 unfoldable pub architecture : Profile → Result (Option (List ℕ)) PerfError
 architecture p =
-    if bit_and p.features 0x40 == 0 then Ok None
+    if p.is_cut
+    then Ok (machine_by (is_big p.endian) p.events.first.attribute.layout.sample_regs_user)
+    else if bit_and p.features 0x40 == 0 then Ok None
     else and_then (feature_section p (count_ones (bit_and p.features 0x3f))) (λ contents.
     and_then (text_in p contents) (λ name. Ok (Some name)))
 
@@ -142,4 +157,5 @@ event_table p = record {
 
 -- the records in order, and the error that ended them
 abbrev pub profile_records : Profile → Records
-profile_records p = records_of (event_table p) (is_big p.endian) p.records
+profile_records p =
+    until_cut p.is_cut (records_of (event_table p) (is_big p.endian) p.records)

@@ -11,7 +11,8 @@ use Rattle.cfi_read_core.specs.ReadFunctions.{Read, ◌>>=◌, give}
 use Rattle.cfi_read_core.specs.ReaderCalls.{map_ok}
 use Rattle.cfi_read_core.specs.Numbers.{unsigned}
 use Rattle.cfi_perf.specs.declared.error.PerfError.{PerfError}
-use Rattle.cfi_perf.specs.declared.error.PerfError.TheVariants.{RecordSize, RecordCut, Compressed}
+use Rattle.cfi_perf.specs.declared.error.PerfError.TheVariants.{Compressed, DataOutOfBounds}
+use Rattle.cfi_perf.specs.declared.error.PerfError.TheVariants.{RecordSize, RecordCut}
 use Rattle.cfi_perf.specs.declared.attribute.EventLayout.{EventLayout}
 use Rattle.cfi_perf.specs.declared.records.Records.{Records as RecordsOfCode}
 use Rattle.cfi_perf.specs.declared.records.RecordHeader.{RecordHeader}
@@ -177,6 +178,18 @@ records_up_to (suc n) events big bytes =
 abbrev pub records_of : EventTable → Bool → List ℕ → Records
 records_of events big bytes = records_up_to (length bytes) events big bytes
 
+-- where the file ends before the records do, that is what ends them, also within one
+abbrev pub cut_error : Option PerfError → PerfError
+cut_error None = DataOutOfBounds
+cut_error (Some RecordCut) = DataOutOfBounds
+cut_error (Some e) = e
+
+abbrev pub until_cut : Bool → Records → Records
+until_cut is_cut all = record {
+  records = all.records;
+  error = if is_cut then Some (cut_error all.error) else all.error;
+}
+
 -- ---- as the items of an iterator
 
 abbrev pub error_item : Option PerfError → List (Result Record PerfError)
@@ -190,7 +203,9 @@ items all = map Ok all.records ++ error_item all.error
 -- ---- the iterator of the code
 
 abbrev pub records_left : RecordsOfCode → Records
-records_left walk = records_of (table_view walk.events) (is_big walk.endian) walk.bytes.now
+records_left walk =
+    until_cut walk.is_cut
+    (records_of (table_view walk.events) (is_big walk.endian) walk.bytes.now)
 
 -- What `next` returned: the first of the records that were left, or the error that ends them. After
 -- an error none are left.

@@ -25,7 +25,7 @@ pub enum PerfError {
     NoEvents,
     /// The events differ in what their samples have in them.
     MixedEvents,
-    /// The records go past the end of the file.
+    /// The file ends before the records do.
     DataOutOfBounds,
     /// A section behind the records goes past the end of the file.
     FeatureOutOfBounds,
@@ -91,7 +91,7 @@ impl PerfError {
             PerfError::AttributesOutOfBounds => "the events go past the file's end",
             PerfError::NoEvents => "the profile has no events",
             PerfError::MixedEvents => "the events' samples have different fields",
-            PerfError::DataOutOfBounds => "the records go past the file's end",
+            PerfError::DataOutOfBounds => "the file ends before the records do",
             PerfError::FeatureOutOfBounds => "a feature goes past the file's end",
             PerfError::RecordSize(_) => "a record of size ",
             PerfError::RecordCut => "a record ends in its fields",

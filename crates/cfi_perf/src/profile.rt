@@ -1,20 +1,21 @@
 //! A profile, by its header (`perf.data-file-format.txt`).
 ghost use Rattle.std.specs.Prelude.{◌≡◌, option_map};
+ghost use Rattle.cfi_read_core.specs.ByteOrder.{is_big};
 ghost use Rattle.cfi_read_core.specs.ReaderCalls.{map_ok};
 ghost use Rattle.cfi_perf.specs.EventTables.{table_view};
 ghost use Rattle.cfi_perf.specs.Profiles.{architecture, descriptions, event_table, events_by};
-ghost use Rattle.cfi_perf.specs.Profiles.{feature_section, profile, profile_records};
+ghost use Rattle.cfi_perf.specs.Profiles.{feature_section, machine_by, profile, profile_records};
 ghost use Rattle.cfi_perf.specs.Profiles.{profile_view, section_view, text_in};
 ghost use Rattle.cfi_perf.specs.Records.{records_left};
 
-use crate::attribute::{EventEntry, EventLayout, first_event};
-use crate::bytes::{before_zero, bytes_from, part, read_header_text};
+use crate::attribute::{EventEntry, EventLayout, first_event, has_any};
+use crate::bytes::{before_zero, bytes_from, first_bytes, part, read_header_text};
 use crate::error::PerfError;
 use crate::event_names::event_name;
 use crate::event_table::{EventTable, ProfileEvent};
 use crate::file_header::{FileHeader, byte_order, file_header, read_file_section};
 use crate::records::Records;
-use cfi_read_core::{EndianSlice, Reader, RunTimeEndian};
+use cfi_read_core::{EndianSlice, Endianity, Reader, RunTimeEndian};
 
 /// The least size of an event: attributes that say which registers samples have
 /// (`PERF_ATTR_SIZE_VER3`), and where the event's ids are.
@@ -37,6 +38,16 @@ pub(crate) struct EventSection<'input> {
     first: EventEntry,
 }
 
+const X86_64_IP: u64 = 1 << 8;
+
+/// All but the segment registers DS, ES, FS and GS, which 64-bit programs don't have there.
+const X86_64_REGISTERS: u64 = 0xff_0fff;
+
+const AARCH64_PC: u64 = 1 << 32;
+
+/// X0 to X29, LR, SP and PC.
+const AARCH64_REGISTERS: u64 = (1 << 33) - 1;
+
 /// A profile that `perf record` wrote, in either byte order. The bytes are borrowed, not copied.
 #[derive(Clone, Copy, Debug)]
 pub struct Profile<'input> {
@@ -45,6 +56,7 @@ pub struct Profile<'input> {
     events: EventSection<'input>,
     features: u64,
     records: &'input [u8],
+    is_cut: bool,
     behind: &'input [u8],
 }
 
@@ -53,9 +65,8 @@ impl<'input> Profile<'input> {
     /// one by one, by the iterator that `records` returns.
     ///
     /// Fails with `NotPerf`, `HeaderCut`, `PipeMode` or `HeaderSize` for the header, with
-    /// `AttributeSize`, `AttributesOutOfBounds`, `NoEvents` or `MixedEvents` for the events, and
-    /// with `DataOutOfBounds` for the records as a whole. Does not allocate
-    /// (`perf.data-file-format.txt`).
+    /// `AttributeSize`, `AttributesOutOfBounds`, `NoEvents` or `MixedEvents` for the events. Does
+    /// not allocate (`perf.data-file-format.txt`).
     #[tactic(auto, unfolding(crate::specs::Profiles::profile))]
     pub fn parse(bytes: &'input [u8]) -> Result<Profile<'input>, PerfError>
         ensures { map_ok profile_view result ≡ profile bytes.now }
@@ -63,16 +74,16 @@ impl<'input> Profile<'input> {
         let endian = byte_order(bytes)?;
         let header = file_header(endian, bytes)?;
         let events = events_by(endian, bytes, &header)?;
-        let Some(records) = part(bytes, header.records.offset, header.records.size) else {
-            return Err(PerfError::DataOutOfBounds);
-        };
-        let end = header.records.offset.saturating_add(header.records.size);
+        let size = header.records.size;
+        let records = first_bytes(bytes_from(bytes, header.records.offset), size);
+        let end = header.records.offset.saturating_add(size);
         Ok(Profile {
             bytes,
             endian,
             events,
             features: header.features,
             records,
+            is_cut: (records.len() as u64) < size,
             behind: bytes_from(bytes, end),
         })
     }
@@ -93,8 +104,18 @@ impl<'input> Profile<'input> {
         self.events.first.attribute.layout
     }
 
-    /// The name of the machine's architecture, as `uname -m` prints it (`HEADER_ARCH`). Returns
-    /// `None` where the profile doesn't say.
+    /// Whether the file ends before the records do, as after a disk was full. Then what stands
+    /// behind the records is lost too.
+    #[inline(always)]
+    pub fn is_cut(&self) -> bool
+        ensures { result ≡ (profile_view self.now).is_cut }
+    {
+        self.is_cut
+    }
+
+    /// The name of the machine's architecture, as `uname -m` prints it (`HEADER_ARCH`). Of a
+    /// profile that is cut it is that of x86-64 or AArch64, if the registers of its first event are
+    /// those of one of them. Returns `None` where the profile doesn't say.
     ///
     /// Fails with `FeatureOutOfBounds` where the name or its place go past the end of the file, or
     /// no zero ends the name. Does not allocate.
@@ -103,6 +124,10 @@ impl<'input> Profile<'input> {
         ensures { map_ok (option_map (λ name. name.now)) result
             ≡ architecture (profile_view self.now) }
     {
+        if self.is_cut {
+            let mask = self.events.first.attribute.layout.sample_regs_user;
+            return Ok(machine_by(self.endian, mask));
+        }
         if self.features & HEADER_ARCH == 0 {
             return Ok(None);
         }
@@ -117,7 +142,7 @@ impl<'input> Profile<'input> {
     pub fn records(&self) -> Records<'input>
         ensures { records_left result ≡ profile_records (profile_view self.now) }
     {
-        Records::new(self.records, self.endian, self.event_table())
+        Records::new(self.records, self.endian, self.event_table(), self.is_cut)
     }
 
     /// The events.
@@ -185,6 +210,21 @@ impl<'input> Profile<'input> {
             Some(text) => Ok(text),
             None => Err(PerfError::FeatureOutOfBounds),
         }
+    }
+}
+
+/// The machine on which samples have these registers, as `uname -m` prints it.
+fn machine_by(endian: RunTimeEndian, mask: u64) -> Option<&'static [u8]>
+    ensures { option_map (λ name. name.now) result ≡ machine_by (is_big endian) mask }
+{
+    if endian.is_big_endian() {
+        None
+    } else if has_any(X86_64_IP, mask) && mask & X86_64_REGISTERS == mask {
+        Some(b"x86_64".as_slice())
+    } else if has_any(AARCH64_PC, mask) && mask & AARCH64_REGISTERS == mask {
+        Some(b"aarch64".as_slice())
+    } else {
+        None
     }
 }
 

@@ -1,11 +1,12 @@
 //! The records of a profile, one after the other (perf_event_open(2), "MMAP layout").
-ghost use Rattle.std.specs.Prelude.{◌≡◌, ⊤, option_map};
+ghost use Rattle.std.specs.Prelude.{◌≡◌, Some, ⊤, option_map};
 ghost use Rattle.cfi_read_core.specs.ByteOrder.{is_big};
 ghost use Rattle.cfi_read_core.specs.ReaderCalls.{ReadsValue, map_ok};
 ghost use Rattle.cfi_perf.specs.EventTables.{table_view};
 ghost use Rattle.cfi_perf.specs.EventTables.{event_view as event_of_table};
 ghost use Rattle.cfi_perf.specs.Events.{event_view, record_view};
 ghost use Rattle.cfi_perf.specs.Records.{Meets, after_record, event_of, first_record};
+ghost use Rattle.cfi_perf.specs.Records.{no_records, until_cut};
 ghost use Rattle.cfi_perf.specs.Records.{first_view, fork_event, framed_view};
 ghost use Rattle.cfi_perf.specs.Records.{record_header, record_of, records_left, records_of};
 ghost use Rattle.cfi_perf.specs.Records.{sample_id_size, sample_id_time, sample_in, split_id};
@@ -55,6 +56,8 @@ pub struct Records<'input> {
     bytes: &'input [u8],
     endian: RunTimeEndian,
     events: EventTable<'input>,
+    /// Whether the file ends before the records do.
+    is_cut: bool,
 }
 
 impl Clone for Records<'_> {
@@ -69,34 +72,41 @@ impl Clone for Records<'_> {
 }
 
 impl<'input> Records<'input> {
-    /// The records of these bytes.
+    /// The records of these bytes, behind which there are more if they are cut.
     #[inline(always)]
     pub(crate) fn new(
         bytes: &'input [u8],
         endian: RunTimeEndian,
         events: EventTable<'input>,
+        is_cut: bool,
     ) -> Self
-        ensures { records_left result
-            ≡ records_of (table_view events.entry) (is_big endian) bytes.now }
+        ensures { records_left result ≡ until_cut is_cut
+            (records_of (table_view events.entry) (is_big endian) bytes.now) }
     {
         Records {
             bytes,
             endian,
             events,
+            is_cut,
         }
     }
 
     /// Returns the next record, or `None` at the end. A record of a type that isn't an `Event` is
-    /// `Event::Other`.
+    /// `Event::Other`, and so is a sample of none of the profile's events.
     ///
     /// Fails with `RecordSize` where a record is smaller than its header, with `RecordCut` where it
-    /// goes past the end of the records or its fields past its own, and with `Compressed`. After an
-    /// error it returns `None`. Does not allocate.
+    /// goes past the end of the records or its fields past its own, with `Compressed`, and with
+    /// `DataOutOfBounds` where the file ends before the records do, also within one. After an error
+    /// it returns `None`. Does not allocate.
     pub fn next(&mut self) -> Result<Option<Record<'input>>, PerfError>
         ensures { Meets (map_ok (option_map record_view) result)
             (records_left self.old) (records_left self.new) }
     {
         if self.bytes.is_empty() {
+            if self.is_cut {
+                self.is_cut = false;
+                return Err(PerfError::DataOutOfBounds);
+            }
             return Ok(None);
         }
         match first_record(&self.events, self.endian, self.bytes) {
@@ -105,9 +115,21 @@ impl<'input> Records<'input> {
                 Ok(Some(found.first))
             }
             Err(error) => {
+                let error = self.end_error(error);
                 self.bytes = &[];
+                self.is_cut = false;
                 Err(error)
             }
+        }
+    }
+
+    /// The error that ends the records where one of them has this.
+    fn end_error(&self, error: PerfError) -> PerfError
+        ensures { Some result ≡ (until_cut self.now.is_cut (no_records (Some error))).error }
+    {
+        match error {
+            PerfError::RecordCut if self.is_cut => PerfError::DataOutOfBounds,
+            _ => error,
         }
     }
 }
