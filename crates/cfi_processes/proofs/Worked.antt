@@ -1,8 +1,10 @@
 -- Mappings and histories, worked out from the definitions alone.
-use Rattle.std.proofs.Common.{◌≡◌, ℕ, ◌-◌, ◌^◌, List, [], ◌∷◌, Option, Some, None, refl}
+use Rattle.std.proofs.Common.{◌≡◌, ℕ, ◌-◌, ◌^◌, List, [], ◌∷◌, Option, Some, None, codes, true, false, refl}
 use Rattle.cfi_processes.specs.declared.mappings.MappedCode.{MappedCode}
 use Rattle.cfi_processes.specs.Mappings.{Place, mapped_over, place_of}
+use Rattle.cfi_perf.specs.Events.{ForkEvent, ProgramEvent}
 use Rattle.cfi_processes.specs.Histories.{Change, mapped, executed, forked, places_after}
+use Rattle.cfi_processes.specs.ThreadNames.{names_after}
 
 abbrev code : ℕ → ℕ → ℕ → ℕ → MappedCode
 code start end offset file = record { start = start; end = end; offset = offset; object = Some file }
@@ -103,3 +105,26 @@ thread = refl
 -- a pid that is used again has what its new parent has
 used_again : places_after (mapped 11 (code 0x1000 0x5000 0 1) ∷ forked 11 10 ∷ []) 11 0x1000 ≡ None
 used_again = refl
+
+-- ---- names of threads: a program begins, makes a thread, and this gives itself a name (perf record of a program of two threads)
+
+abbrev begun : ℕ → Option (List ℕ)
+begun = names_after (ProgramEvent (record { pid = 17261; tid = 17261; name = codes "verylongprogram"; is_exec = true })) (λ tid. None)
+
+abbrev with_thread : ℕ → Option (List ℕ)
+with_thread = names_after (ForkEvent (record { pid = 17261; parent = 17261; tid = 17263; parent_tid = 17261 })) begun
+
+abbrev renamed : ℕ → Option (List ℕ)
+renamed = names_after (ProgramEvent (record { pid = 17261; tid = 17263; name = codes "worker two"; is_exec = false })) with_thread
+
+name_of_its_maker : with_thread 17263 ≡ Some (codes "verylongprogram")
+name_of_its_maker = refl
+
+its_own_name : renamed 17263 ≡ Some (codes "worker two")
+its_own_name = refl
+
+name_of_the_other : renamed 17261 ≡ Some (codes "verylongprogram")
+name_of_the_other = refl
+
+nameless : renamed 17262 ≡ None
+nameless = refl

@@ -6,6 +6,7 @@ pub mod Modules
 pub mod Objects
 pub mod SampleStacks
 pub mod Names
+pub mod ThreadNames
 pub mod Sites
 pub mod KnownFiles
 pub mod FileModules

@@ -3,6 +3,7 @@
 --         records
 --     after files event before      what is mapped in each process after a record
 --     replayed replay      what is mapped in each process, for a replay of the code
+--     named replay      the name of each thread, for a replay of the code
 --     files_of replay, loaded_in replay      its files, and its modules
 --     HasOwnModules replay      its modules are of its files
 use Rattle.std.specs.Prelude.{◌≡◌, ℕ, ◌+◌, ◌-◌, ◌^◌, Bool, List, [], ◌∷◌, ◌++◌, Option, Some, None}
@@ -22,6 +23,7 @@ use Rattle.cfi_processes.specs.FileModules.{AreOfFiles}
 use Rattle.cfi_processes.specs.KnownFiles.{KnownFile, known_view, modules_in}
 use Rattle.cfi_processes.specs.Modules.{module_view}
 use Rattle.cfi_processes.specs.Processes.{mappings_of}
+use Rattle.cfi_processes.specs.ThreadNames.{name_of}
 
 -- ---- the files
 
@@ -77,6 +79,9 @@ after files event before pid = changed (change_of files event) before pid
 
 abbrev pub replayed : Replay → ℕ → List MappedCode
 replayed replay pid = mappings_of replay.processes pid
+
+abbrev pub named : Replay → ℕ → Option (List ℕ)
+named replay tid = name_of replay.threads tid
 
 abbrev pub files_of : Replay → List ProfileFile
 files_of replay = replay.files.now

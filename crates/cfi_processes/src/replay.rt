@@ -6,17 +6,21 @@ ghost use Rattle.cfi_processes.specs.Modules.{module_view};
 ghost use Rattle.cfi_processes.specs.Processes.{mappings_of};
 
 use crate::mappings::MappedCode;
+use crate::names::Name;
 use crate::process_code::{FileModule, ProcessCode};
 use crate::processes::Processes;
 use crate::profile_files::ProfileFile;
+use crate::threads::Threads;
 use cfi_perf::{Event, Fork, Mapping, Program, Record};
 use std::alloc::{AllocError, Global};
 
-/// The processes of a profile, as the records that were followed say, and the modules of one.
+/// The processes of a profile and the names of its threads, as the records that were followed say,
+/// and the modules of one process.
 #[derive(Drop)]
-pub struct Replay<'a, 'run> {
+pub struct Replay<'a, 'run, 'names> {
     files: &'a [ProfileFile<'run>],
     processes: Processes,
+    threads: Threads<'names>,
     modules: Vec<FileModule<'a, 'run>>,
     /// The process whose modules these are.
     pid: Option<u32>,
@@ -24,8 +28,8 @@ pub struct Replay<'a, 'run> {
         ≡ modules_in (map known_view files.now) (mappings_of processes pid)) },
 }
 
-impl<'a, 'run> Replay<'a, 'run> {
-    ghost use Rattle.std.specs.Prelude.{◌≡◌, ◌≢◌, ℕ, [], OnOk, Some, map};
+impl<'a, 'run, 'names> Replay<'a, 'run, 'names> {
+    ghost use Rattle.std.specs.Prelude.{◌≡◌, ◌≢◌, ℕ, [], None, OnOk, Some, map};
     ghost use Rattle.cfi_perf.specs.Events.{ForkEvent, MappingEvent, ProgramEvent};
     ghost use Rattle.cfi_perf.specs.Events.{mapping_view, program_view, record_view};
     ghost use Rattle.cfi_processes.specs.KnownFiles.{known_view, modules_in};
@@ -33,17 +37,20 @@ impl<'a, 'run> Replay<'a, 'run> {
     ghost use Rattle.cfi_processes.specs.Mappings.{AreInOrder};
     ghost use Rattle.cfi_processes.specs.Replays.{AreModulesFor, HasOwnModules, after, files_in};
     ghost use Rattle.cfi_processes.specs.Replays.{files_of, loaded_in, mapped_code, object_of};
-    ghost use Rattle.cfi_processes.specs.Replays.{replayed};
+    ghost use Rattle.cfi_processes.specs.Replays.{named, replayed};
+    ghost use Rattle.cfi_processes.specs.ThreadNames.{bytes_of, given, names_after};
 
-    /// No process has anything mapped. Does not allocate.
-    pub fn new(alloc: Global, files: &'a [ProfileFile<'run>]) -> Replay<'a, 'run>
+    /// No process has anything mapped, and no thread a name. Does not allocate.
+    pub fn new(alloc: Global, files: &'a [ProfileFile<'run>]) -> Self
         ensures nothing { (pid : ℕ) → replayed result pid ≡ [] }
+        ensures nameless { (tid : ℕ) → named result tid ≡ None }
         ensures files { files_of result ≡ files.now }
         ensures own { HasOwnModules result }
     {
         Replay {
             files,
             processes: Processes::new(alloc),
+            threads: Threads::new(alloc),
             modules: Vec::new(alloc),
             pid: None,
         }
@@ -51,9 +58,11 @@ impl<'a, 'run> Replay<'a, 'run> {
 
     /// Follows a record. Before a sample, the modules are made those of its process. Fails where
     /// memory is refused.
-    pub fn follow(&mut self, item: &Record<'_>) -> Result<(), AllocError>
+    pub fn follow(&mut self, item: &Record<'names>) -> Result<(), AllocError>
         ensures processes { OnOk result ((pid : ℕ) → replayed self.new pid
             ≡ after (files_in self.old) (record_view item.now).event (replayed self.old) pid) }
+        ensures names { OnOk result ((tid : ℕ) → named self.new tid
+            ≡ names_after (record_view item.now).event (named self.old) tid) }
         ensures modules { OnOk result
             (AreModulesFor (record_view item.now).event self.new) }
         ensures own { HasOwnModules self.old → HasOwnModules self.new }
@@ -61,10 +70,7 @@ impl<'a, 'run> Replay<'a, 'run> {
     {
         match item.event {
             Event::Mapping(mapping) => self.map(&mapping),
-            Event::Program(program) => {
-                self.run(&program);
-                Ok(())
-            }
+            Event::Program(program) => self.run(&program),
             Event::Fork(fork) => self.fork(&fork),
             Event::Sample(sample) => self.load(sample.pid),
             Event::Other => Ok(()),
@@ -83,6 +89,13 @@ impl<'a, 'run> Replay<'a, 'run> {
         }
     }
 
+    /// The name of a thread; `None` where none is known.
+    pub fn name(&self, tid: u32) -> Option<Name<'names>>
+        ensures { bytes_of result ≡ named self.now tid }
+    {
+        self.threads.get(tid)
+    }
+
     /// The modules of the process of the sample that was followed last.
     pub fn modules(&self) -> &[FileModule<'a, 'run>]
         ensures { result.now ≡ loaded_in self.now }
@@ -95,6 +108,7 @@ impl<'a, 'run> Replay<'a, 'run> {
         ensures processes { OnOk result ((pid : ℕ) → replayed self.new pid
             ≡ after (files_in self.old) (MappingEvent (mapping_view mapping.now))
             (replayed self.old) pid) }
+        ensures names { self.new.threads ≡ self.old.threads }
         ensures same { self.new.modules ≡ self.old.modules }
         ensures files { files_of self.new ≡ files_of self.old }
     {
@@ -104,10 +118,12 @@ impl<'a, 'run> Replay<'a, 'run> {
     }
 
     /// A thread has a new name, and perhaps runs another program.
-    fn run(&mut self, program: &Program<'_>)
+    fn run(&mut self, program: &Program<'names>) -> Result<(), AllocError>
         ensures processes { (pid : ℕ) → replayed self.new pid
             ≡ after (files_in self.old) (ProgramEvent (program_view program.now))
             (replayed self.old) pid }
+        ensures names { OnOk result ((tid : ℕ) → named self.new tid
+            ≡ given program.now.tid (Some program.now.name.now) (named self.old) tid) }
         ensures same { self.new.modules ≡ self.old.modules }
         ensures files { files_of self.new ≡ files_of self.old }
     {
@@ -115,15 +131,19 @@ impl<'a, 'run> Replay<'a, 'run> {
             self.forget(program.pid);
             self.processes.exec(program.pid);
         }
+        self.threads.name(program.tid, program.name)
     }
 
     /// A process or thread was made.
     fn fork(&mut self, fork: &Fork) -> Result<(), AllocError>
         ensures processes { OnOk result ((pid : ℕ) → replayed self.new pid
             ≡ after (files_in self.old) (ForkEvent fork.now) (replayed self.old) pid) }
+        ensures names { OnOk result ((tid : ℕ) → named self.new tid
+            ≡ given fork.now.tid (named self.old fork.now.parent_tid) (named self.old) tid) }
         ensures same { self.new.modules ≡ self.old.modules }
         ensures files { files_of self.new ≡ files_of self.old }
     {
+        self.threads.fork(fork.tid, fork.parent_tid)?;
         // A thread was made, which has what its process has.
         if fork.pid == fork.parent {
             return Ok(());
@@ -136,6 +156,7 @@ impl<'a, 'run> Replay<'a, 'run> {
     fn forget(&mut self, changed: u32)
         ensures other { self.new.pid ≢ Some changed }
         ensures processes { self.new.processes ≡ self.old.processes }
+        ensures names { self.new.threads ≡ self.old.threads }
         ensures same { self.new.modules ≡ self.old.modules }
         ensures files { files_of self.new ≡ files_of self.old }
     {
@@ -175,6 +196,7 @@ impl<'a, 'run> Replay<'a, 'run> {
             ≡ modules_in (files_in self.new) (replayed self.new pid)) }
         ensures own { HasOwnModules self.old → HasOwnModules self.new }
         ensures processes { self.new.processes ≡ self.old.processes }
+        ensures names { self.new.threads ≡ self.old.threads }
         ensures files { files_of self.new ≡ files_of self.old }
     {
         if self.pid == Some(pid) {

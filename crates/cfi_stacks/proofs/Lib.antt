@@ -5,3 +5,4 @@ mod ReadLemmas
 mod ThreadLemmas
 mod CoreLemmas
 mod CoreRunLemmas
+mod Worked

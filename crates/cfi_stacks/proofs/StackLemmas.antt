@@ -5,9 +5,10 @@ use Rattle.std.proofs.lemmas.List.{drop_all}
 use Rattle.std.specs.List.{flat_map, list_all}
 use Rattle.cfi_programs.specs.FunctionLines.{shown}
 use Rattle.cfi_programs.proofs.WrittenLemmas.{IsGiven}
+use Rattle.cfi_perf.specs.Samples.{Sample}
 use Rattle.cfi_processes.specs.Names.{is_printable}
 use Rattle.cfi_processes.specs.Sites.{Site}
-use Rattle.cfi_stacks.specs.StackTexts.{file_text, function_text}
+use Rattle.cfi_stacks.specs.StackTexts.{file_text, function_text, numbers_text}
 
 -- ---- a name
 
@@ -27,6 +28,17 @@ all_shown (c ∷ cs) plain = by (is_printable c) refl plain (all_shown cs)
     by : (b : Bool) → is_printable c ≡ b → (b && list_all is_printable cs) ≡ true → (list_all is_printable cs ≡ true → map shown cs ≡ cs) → map shown (c ∷ cs) ≡ c ∷ cs
     by true printable rest others = ap₂ (λ (x : ℕ) (xs : List ℕ). x ∷ xs) (ap (λ (b : Bool). cond b c 63) printable) (others rest)
     by false printable rest others = absurd (true≢false (sym rest))
+
+-- ---- the parts of a sample's first line, each from its place on
+
+abbrev pub colon : List ℕ
+colon = codes ":" ++ 10 ∷ []
+
+abbrev pub from_event : Sample → List ℕ
+from_event s = map shown s.event ++ colon
+
+abbrev pub from_numbers : ℕ → Sample → List ℕ
+from_numbers time s = numbers_text time s ++ from_event s
 
 -- ---- the parts of a frame's line, each from its place on
 

@@ -1,6 +1,6 @@
 -- Which output is right for a profile.
 --     stack_text raw files list frames      the lines of frames, where this is mapped
---     IsStackText raw machine files list time sample text      the text of a sample's stack
+--     IsStackText raw machine files list name time sample text      the text of a sample's stack
 --     AreStacks raw machine files before records text      the texts of the samples, in the order
 --         of the records
 --     IsPrinted .. records error line      these, and then the error that ended the records; or a
@@ -30,12 +30,14 @@ use Rattle.cfi_step.specs.declared.walk.Walk.{Walk}
 use Rattle.cfi_step.specs.Steps.{row_address}
 use Rattle.cfi_processes.specs.declared.mappings.MappedCode.{MappedCode}
 use Rattle.cfi_processes.specs.declared.registers.SampleMachine.{SampleMachine}
+use Rattle.cfi_processes.specs.declared.replay.Replay.{Replay}
 use Rattle.cfi_processes.specs.declared.sample_stack.NoFrames.{NoFrames}
 use Rattle.cfi_processes.specs.KnownFiles.{KnownFile, modules_in, site_of}
 use Rattle.cfi_processes.specs.Modules.{module_view}
 use Rattle.cfi_processes.specs.OpenedFiles.{AreFilesOf, AreOpened, Opened}
 use Rattle.cfi_processes.specs.Registers.{machine_named}
-use Rattle.cfi_processes.specs.Replays.{after, names_of}
+use Rattle.cfi_processes.specs.Replays.{after, named, names_of, replayed}
+use Rattle.cfi_processes.specs.ThreadNames.{names_after}
 use Rattle.cfi_processes.specs.SampleStacks.{HasRoom, IsUnwound, Room}
 use Rattle.cfi_stacks.specs.Reasons.{reason_line, reason_of, reason_without}
 use Rattle.cfi_stacks.specs.StackTexts.{head_line, site_line}
@@ -57,33 +59,58 @@ walk_text raw files list (Ok walk) room =
     stack_text raw files list (take walk.count room) ++ reason_line (reason_of walk.end)
 walk_text raw files list (Err why) room = reason_line (Some (reason_without why))
 
--- behind a line with the thread and the time, and before an empty line
+-- behind the line of the thread and the event, and before an empty line
 abbrev pub sample_text :
-    Bool → List KnownFile → List MappedCode → ℕ → Sample → Result Walk NoFrames → List StackFrame →
-    List ℕ
-sample_text raw files list time s result room =
-    head_line s.pid s.tid time ++ (walk_text raw files list result room ++ 10 ∷ [])
+    Bool → List KnownFile → List MappedCode → Option (List ℕ) → ℕ → Sample →
+    Result Walk NoFrames → List StackFrame → List ℕ
+sample_text raw files list name time s result room =
+    head_line name time s ++ (walk_text raw files list result room ++ 10 ∷ [])
+
+-- ---- what is known before a record
+
+-- What is mapped in each process, and the name of each thread.
+pub record Known : Type 0 where
+  pub mapped : ℕ → List MappedCode
+  pub names : ℕ → Option (List ℕ)
+
+abbrev pub known_after : List KnownFile → Event → Known → Known
+known_after files event before = record {
+  mapped = after files event before.mapped;
+  names = names_after event before.names;
+}
+
+-- by what a replay of the code has followed
+abbrev pub known_in : Replay → Known
+known_in replay = record { mapped = replayed replay; names = named replay }
+
+-- before the first record
+abbrev pub nothing_known : Known
+nothing_known = record { mapped = λ pid. []; names = λ tid. None }
+
+-- ---- the texts of samples
 
 module _ (raw : Bool) (machine : SampleMachine) (files : List KnownFile) where
   -- by the modules that are mapped, in a room for 4096 frames and a storage of 192 rules and 4 rows
-  abbrev pub IsStackText : List MappedCode → ℕ → Sample → List ℕ → Type 0
-  IsStackText list time s text =
+  abbrev pub IsStackText :
+      List MappedCode → Option (List ℕ) → ℕ → Sample → List ℕ → Type 0
+  IsStackText list name time s text =
       (modules : List (LoadedModule (EndianSlice RunTimeEndian))) × (old : Room)
       × (result : Result Walk NoFrames) × (new : Room)
       × (map module_view modules ≡ modules_in files list) × HasRoom old.frames
       × IsUnwound (slice_position is_big) (λ n. n) (Some 192) (Some 4) true modules machine s.user
       old result new
-      × (text ≡ sample_text raw files list time s result new.frames)
+      × (text ≡ sample_text raw files list name time s result new.frames)
 
-  abbrev pub IsTextOf : (ℕ → List MappedCode) → ℕ → Event → List ℕ → Type 0
-  IsTextOf before time (SampleEvent s) text = IsStackText (before s.pid) time s text
+  abbrev pub IsTextOf : Known → ℕ → Event → List ℕ → Type 0
+  IsTextOf before time (SampleEvent s) text =
+      IsStackText (before.mapped s.pid) (before.names s.tid) time s text
   IsTextOf before time _ text = text ≡ []
 
-  abbrev pub AreStacks : (ℕ → List MappedCode) → List Record → List ℕ → Type 0
+  abbrev pub AreStacks : Known → List Record → List ℕ → Type 0
   AreStacks before [] text = text ≡ []
   AreStacks before (r ∷ records) text =
       (first : List ℕ) × (others : List ℕ) × IsTextOf before r.time r.event first
-      × AreStacks (after files r.event before) records others × (text ≡ first ++ others)
+      × AreStacks (known_after files r.event before) records others × (text ≡ first ++ others)
 
 -- ---- all samples
 
@@ -95,16 +122,12 @@ abbrev pub ended : List ℕ → Option PerfError → Line
 ended text None = record { text = text; status = 0 }
 ended text (Some error) = record { text = text ++ (perf_refusal error).text; status = 1 }
 
--- nothing is mapped before the first record
-abbrev pub nothing_mapped : ℕ → List MappedCode
-nothing_mapped pid = []
-
 abbrev pub IsPrinted :
     Bool → SampleMachine → List KnownFile → List Record → Option PerfError → Line → Type 0
 IsPrinted raw machine files records error printed =
-    ((text : List ℕ) × AreStacks raw machine files nothing_mapped records text
+    ((text : List ℕ) × AreStacks raw machine files nothing_known records text
     × (printed ≡ ended text error))
-    ⊎ ((n : ℕ) × (text : List ℕ) × AreStacks raw machine files nothing_mapped (take n records) text
+    ⊎ ((n : ℕ) × (text : List ℕ) × AreStacks raw machine files nothing_known (take n records) text
     × (printed ≡ record { text = text ++ out_of_memory.text; status = 1 }))
 
 -- ---- a profile

@@ -1,5 +1,6 @@
 -- The text of the stack of a sample, or of a thread of a core file.
---     head_line pid tid time      the line of a sample's thread and time
+--     head_line name time sample      the line before the frames of a sample, as perf script prints
+--         it with -F comm,pid,tid,cpu,time,period,event
 --     thread_line tid signal      the line of a core file's thread and the signal that it got
 --     site_line raw site      the line of a frame, raw or with its function
 use Rattle.std.specs.Prelude.{ℕ, ◌-◌, ◌/◌, ◌%◌, ◌==◌, Bool, List, [], ◌∷◌, ◌++◌, Option, Some, None}
@@ -8,6 +9,7 @@ use Rattle.std.specs.Fmt.{decimal, digits}
 use Rattle.cfi_elf.specs.FunctionPlaces.{Place}
 use Rattle.cfi_programs.specs.FunctionLines.{shown}
 use Rattle.cfi_programs.specs.Lines.{address_text}
+use Rattle.cfi_perf.specs.Samples.{Sample}
 use Rattle.cfi_processes.specs.Sites.{Site}
 
 -- behind as much of the fill as makes it as long
@@ -22,10 +24,39 @@ seconds_text time =
     decimal (time / 1000000000) ++ codes "."
     ++ filled (codes "000000") (decimal (time / 1000 % 1000000))
 
-abbrev pub head_line : ℕ → ℕ → ℕ → List ℕ
-head_line pid tid time =
-    decimal pid ++ codes "/" ++ decimal tid ++ codes " " ++ seconds_text time
-    ++ (codes ":" ++ 10 ∷ [])
+-- a number behind as much of the fill as makes it as long, or before it
+abbrev pub right : List ℕ → ℕ → List ℕ
+right fill number = filled fill (decimal number)
+
+abbrev pub left : List ℕ → ℕ → List ℕ
+left fill number = decimal number ++ take (length fill - length (decimal number)) fill
+
+-- the name of a thread; where none is known its number, but for the idle thread
+abbrev pub name_text : ℕ → Option (List ℕ) → List ℕ
+name_text tid (Some name) = map shown name
+name_text tid None = if tid == 0 then codes "swapper" else codes ":" ++ decimal tid
+
+abbrev pub thread_text : ℕ → ℕ → List ℕ
+thread_text pid tid = right (codes "     ") pid ++ codes "/" ++ left (codes "     ") tid
+
+abbrev pub cpu_text : Option ℕ → List ℕ
+cpu_text None = []
+cpu_text (Some cpu) = codes "[" ++ right (codes "000") cpu ++ codes "] "
+
+abbrev pub time_text : ℕ → List ℕ
+time_text time = filled (codes "            ") (seconds_text time)
+
+-- the thread, the processor, the time and the period
+abbrev pub numbers_text : ℕ → Sample → List ℕ
+numbers_text time s =
+    codes " " ++ thread_text s.pid s.tid ++ codes " " ++ cpu_text s.cpu ++ time_text time
+    ++ codes ": " ++ right (codes "          ") s.period ++ codes " "
+
+-- the name of the thread, these, and the event
+abbrev pub head_line : Option (List ℕ) → ℕ → Sample → List ℕ
+head_line name time s =
+    name_text s.tid name
+    ++ (numbers_text time s ++ (map shown s.event ++ (codes ":" ++ 10 ∷ [])))
 
 -- where it got none, its number is 0
 abbrev pub signal_text : ℕ → List ℕ

@@ -9,12 +9,12 @@ ghost use Rattle.cfi_programs.specs.WriterOutput.{Prints, Writes, PrintsSome};
 ghost use Rattle.cfi_processes.specs.KnownFiles.{known_view};
 ghost use Rattle.cfi_processes.specs.OpenedFiles.{opened_view, texts};
 ghost use Rattle.cfi_processes.specs.Replays.{AreModulesFor, HasOwnModules, files_in};
-ghost use Rattle.cfi_processes.specs.Replays.{files_of, replayed};
+ghost use Rattle.cfi_processes.specs.Replays.{files_of};
 ghost use Rattle.cfi_processes.specs.SampleStacks.{HasRoom};
 ghost use Rattle.cfi_stacks.specs.ProfileOutputs.{IsOfNamed, IsOfOpened, IsOfProfile};
 ghost use Rattle.cfi_stacks.specs.ProfileOutputs.{IsOfRecords, IsOfSorted};
 ghost use Rattle.cfi_stacks.specs.ProfileOutputs.{IsOutput, IsOwed, IsPrinted, IsSortedOf};
-ghost use Rattle.cfi_stacks.specs.ProfileOutputs.{IsTextOf, ended, perf_refusal};
+ghost use Rattle.cfi_stacks.specs.ProfileOutputs.{IsTextOf, ended, known_in, perf_refusal};
 ghost use Rattle.cfi_stacks.specs.ProfileOutputs.{unknown_machine};
 ghost use Rattle.cfi_stacks.specs.Rooms.{IsRoomFor, KeepsNoRows};
 
@@ -34,11 +34,11 @@ use std::io::{Read, Write};
 
 /// Reads the profile to its end, and prints the stack of each sample, in the order of their times.
 ///
-/// For each there is a line with the process, the thread and the time, a line for each frame, where
-/// there is a reason for which the last frame isn't the outermost one a line with it, and an empty
-/// line. The line of a frame has its place in a file, the function and the file; if it is `raw`, it
-/// has no function, and none is looked up. The files of code are opened by the names that the
-/// profile has for them.
+/// For each there is a line with the thread, its name, the processor, the time, the period and the
+/// event, a line for each frame, where there is a reason for which the last frame isn't the
+/// outermost one a line with it, and an empty line. The line of a frame has its place in a file,
+/// the function and the file; if it is `raw`, it has no function, and none is looked up. The files
+/// of code are opened by the names that the profile has for them.
 ///
 /// Status 0: all samples are printed. Status 1: the profile, or the rest of it, can't be read,
 /// which prints `refused` and the name of the error; it is of a machine whose registers aren't
@@ -318,7 +318,7 @@ fn print_in<W: Write>(
 fn print_followed<W: Write>(
     raw: bool,
     machine: SampleMachine,
-    replay: &Replay<'_, '_>,
+    replay: &Replay<'_, '_, '_>,
     item: &Record<'_>,
     room: &mut Room,
     output: &mut W,
@@ -328,7 +328,7 @@ fn print_followed<W: Write>(
     requires cached { IsRoomFor (files_of replay.now) room.old }
     ensures printed { (text : List ℕ)
         × Writes (W.contents output.old) (W.contents output.new) result text
-        × IsTextOf raw machine (files_in replay.now) (replayed replay.now) item.now.time
+        × IsTextOf raw machine (files_in replay.now) (known_in replay.now) item.now.time
         (record_view item.now).event text }
     ensures cached { IsRoomFor (files_of replay.now) room.new }
 {
@@ -338,6 +338,7 @@ fn print_followed<W: Write>(
             machine,
             &replay.code(sample.pid),
             replay.modules(),
+            replay.name(sample.tid),
             item.time,
             &sample,
             room,

@@ -7,6 +7,7 @@ ghost use Rattle.cfi_processes.specs.FileModules.{AreOfFiles};
 ghost use Rattle.cfi_processes.specs.KnownFiles.{known_view, modules_in, site_of};
 ghost use Rattle.cfi_processes.specs.Mappings.{AreInOrder};
 ghost use Rattle.cfi_processes.specs.Modules.{module_view};
+ghost use Rattle.cfi_processes.specs.ThreadNames.{bytes_of};
 ghost use Rattle.cfi_stacks.specs.ProfileOutputs.{IsStackText, sample_text, stack_text, walk_text};
 ghost use Rattle.cfi_stacks.specs.Rooms.{IsRoomFor};
 ghost use Rattle.cfi_stacks.specs.StackTexts.{site_line};
@@ -14,6 +15,7 @@ ghost use Rattle.cfi_stacks.specs.StackTexts.{site_line};
 use crate::reasons::{reason_of, reason_without, write_reason};
 use crate::stack_lines::{LineRoom, write_head, write_site_line};
 use cfi_perf::Sample;
+use cfi_processes::Name;
 use cfi_processes::process_code::{FileModule, ProcessCode};
 use cfi_processes::registers::SampleMachine;
 use cfi_processes::sample_stack::{NoFrames, unwind_sample};
@@ -87,8 +89,8 @@ fn empty_rows(alloc: Global) -> Result<Vec<CachedRow>, AllocError>
     Ok(rows)
 }
 
-/// Prints the stack of a sample: a line with its thread and time, a line for each frame, the reason
-/// why there are no more if the last one isn't the outermost, and an empty line.
+/// Prints the stack of a sample: a line with its thread, time and event, a line for each frame, the
+/// reason why there are no more if the last one isn't the outermost, and an empty line.
 ///
 /// If it is `raw`, the lines have no functions. The modules are those of what is mapped. The rows
 /// that the room keeps are those of the files, in whichever process they were found. There is room
@@ -98,6 +100,7 @@ pub fn print_sample<W: Write>(
     machine: SampleMachine,
     code: &ProcessCode<'_, '_, '_>,
     modules: &[FileModule<'_, '_>],
+    name: Option<Name<'_>>,
     time: u64,
     sample: &Sample<'_>,
     room: &mut Room,
@@ -110,8 +113,8 @@ pub fn print_sample<W: Write>(
     requires cached { IsRoomFor code.now.files.now room.old }
     ensures printed { (text : List ℕ)
         × Writes (W.contents output.old) (W.contents output.new) result text
-        × IsStackText raw machine (map known_view code.now.files.now) code.now.mappings.now time
-        (sample_view sample.now) text }
+        × IsStackText raw machine (map known_view code.now.files.now) code.now.mappings.now
+        (bytes_of name.entry) time (sample_view sample.now) text }
     ensures cached { IsRoomFor code.now.files.now room.new }
 {
     let Ok(modules) = Modules::new(modules) else {
@@ -134,6 +137,7 @@ pub fn print_sample<W: Write>(
     print_found(
         raw,
         code,
+        name,
         time,
         sample,
         found,
@@ -147,6 +151,7 @@ pub fn print_sample<W: Write>(
 fn print_found<W: Write>(
     raw: bool,
     code: &ProcessCode<'_, '_, '_>,
+    name: Option<Name<'_>>,
     time: u64,
     sample: &Sample<'_>,
     found: Result<Walk, NoFrames>,
@@ -157,10 +162,10 @@ fn print_found<W: Write>(
     requires order { AreInOrder 0 code.now.mappings.now }
     requires count { IfOk found (λ walk. walk.count ≤ length frames.now) }
     ensures { Writes (W.contents output.old) (W.contents output.new) result
-        (sample_text raw (map known_view code.now.files.now) code.now.mappings.now time
-        (sample_view sample.now) found frames.now) }
+        (sample_text raw (map known_view code.now.files.now) code.now.mappings.now
+        (bytes_of name.entry) time (sample_view sample.now) found frames.now) }
 {
-    write_head(output, sample.pid, sample.tid, time)?;
+    write_head(output, name, time, sample)?;
     print_walk(raw, code, found, frames, room, output)?;
     write_text(output, b"\n")
 }

@@ -236,3 +236,16 @@ fn cut_headers(rt: HostRuntime) -> Result<(), Fail> {
     }
     Ok(())
 }
+
+/// Cut within the sample, and so without the name of the architecture.
+#[test]
+fn cut_records(rt: HostRuntime) -> Result<(), Fail> {
+    let bytes = changed(rt.alloc(), LITTLE, &[])?;
+    let (cut, _) = bytes.as_slice().split_at(SAMPLE + 48);
+    let profile = Profile::parse(cut)?;
+    assert_eq!(rt;
+        (profile.is_cut(), profile.architecture(), lines(cut)),
+        (true, Ok(Some(b"x86_64".as_slice())), Err(PerfError::DataOutOfBounds))
+    );
+    Ok(())
+}

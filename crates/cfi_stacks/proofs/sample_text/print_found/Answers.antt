@@ -1,6 +1,8 @@
 use Rattle.std.proofs.Common.{[], ◌∷◌, ◌++◌, map}
 use Rattle.cfi_programs.proofs.DumpSectionWritten.{first_refused, last_written}
+use Rattle.cfi_perf.specs.Samples.{sample_view}
 use Rattle.cfi_processes.specs.KnownFiles.{known_view}
+use Rattle.cfi_processes.specs.ThreadNames.{bytes_of}
 use Rattle.cfi_stacks.specs.ProfileOutputs.{walk_text}
 use Rattle.cfi_stacks.specs.StackTexts.{head_line}
 use Rattle.cfi_stacks.proofs.sample_text.print_found.Goals as goal
@@ -8,16 +10,16 @@ use Rattle.cfi_stacks.proofs.sample_text.print_found.Goals as goal
 pub returns-in_err-write_head : goal.returns-in_err-write_head
 returns-in_err-write_head g c =
     let walk = walk_text c.args.raw (map known_view c.args.code.now.files.now) c.args.code.now.mappings.now c.args.found c.args.frames.now in
-    first_refused _ _ _ (head_line c.args.sample.now.pid c.args.sample.now.tid c.args.time) (walk ++ 10 ∷ []) c.from_residual.ensures.0 c.in_err-write_head.ensures
+    first_refused _ _ _ (head_line (bytes_of c.args.name) c.args.time (sample_view c.args.sample.now)) (walk ++ 10 ∷ []) c.from_residual.ensures.0 c.in_err-write_head.ensures
 
 pub returns-in_err-print_walk : goal.returns-in_err-print_walk
 returns-in_err-print_walk g c =
     let walk = walk_text c.args.raw (map known_view c.args.code.now.files.now) c.args.code.now.mappings.now c.args.found c.args.frames.now in
-    last_written _ _ _ _ (head_line c.args.sample.now.pid c.args.sample.now.tid c.args.time) (walk ++ 10 ∷ []) c.in_ok-write_head.ensures
+    last_written _ _ _ _ (head_line (bytes_of c.args.name) c.args.time (sample_view c.args.sample.now)) (walk ++ 10 ∷ []) c.in_ok-write_head.ensures
     (first_refused _ _ _ walk (10 ∷ []) c.from_residual-in_err-print_walk.ensures.0 c.in_err-print_walk.ensures)
 
 pub returns : goal.returns
 returns g c =
     let walk = walk_text c.args.raw (map known_view c.args.code.now.files.now) c.args.code.now.mappings.now c.args.found c.args.frames.now in
-    last_written _ _ _ _ (head_line c.args.sample.now.pid c.args.sample.now.tid c.args.time) (walk ++ 10 ∷ []) c.in_ok-write_head.ensures
+    last_written _ _ _ _ (head_line (bytes_of c.args.name) c.args.time (sample_view c.args.sample.now)) (walk ++ 10 ∷ []) c.in_ok-write_head.ensures
     (last_written _ _ _ _ walk (10 ∷ []) c.in_ok-print_walk.ensures c.write_text.ensures)

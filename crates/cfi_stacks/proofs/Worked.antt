@@ -1,0 +1,37 @@
+-- The lines before the frames of samples, worked out from the definitions alone, as perf script prints them.
+use Rattle.std.proofs.Common.{◌≡◌, ℕ, List, [], ◌∷◌, ◌++◌, Option, Some, None, codes, refl}
+use Rattle.std.specs.Fmt.{digits}
+use Rattle.cfi_perf.specs.Samples.{Sample}
+use Rattle.cfi_stacks.specs.StackTexts.{head_line, thread_text, time_text}
+
+abbrev of_thread : ℕ → Option ℕ → ℕ → List ℕ → Sample
+of_thread tid cpu period event = record { pid = 17261; tid = tid; ip = 0; cpu = cpu; period = period; event = event; user = record { registers = None; stack = [] } }
+
+with_cpu : head_line (Some (codes "verylongprogram")) 2384958796901 (of_thread 17261 (Some 2) 3 (codes "page-faults"))
+    ≡ codes "verylongprogram 17261/17261 [002]  2384.958796:          3 page-faults:" ++ 10 ∷ []
+unfolding digits
+with_cpu = refl
+
+without_cpu : head_line (Some (codes "worker two")) 661939963000 (of_thread 17263 None 250000 (codes "cpu-clock")) ≡ codes "worker two 17261/17263   661.939963:     250000 cpu-clock:" ++ 10 ∷ []
+unfolding digits
+without_cpu = refl
+
+without_name : head_line None 1000001000 (of_thread 8 None 1 (codes "cpu-clock")) ≡ codes ":8 17261/8         1.000001:          1 cpu-clock:" ++ 10 ∷ []
+unfolding digits
+without_name = refl
+
+idle_thread : head_line None 1000001000 (of_thread 0 (Some 12) 20000000 (codes "cycles")) ≡ codes "swapper 17261/0     [012]     1.000001:   20000000 cycles:" ++ 10 ∷ []
+unfolding digits
+idle_thread = refl
+
+small_numbers : thread_text 7 8 ≡ codes "    7/8    "
+unfolding digits
+small_numbers = refl
+
+large_numbers : thread_text 1234567 12345678 ≡ codes "1234567/12345678"
+unfolding digits
+large_numbers = refl
+
+late : time_text 123456789012345678 ≡ codes "123456789.012345"
+unfolding digits
+late = refl
