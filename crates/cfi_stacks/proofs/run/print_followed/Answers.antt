@@ -12,3 +12,9 @@ print_sample-requires-clause-cached g c = still_room_for c.args.replay.now.files
 
 pub returns-in-Sample-clause-cached : goal.returns-in-Sample-clause-cached
 returns-in-Sample-clause-cached g c = still_room_for c.code.result.files.now c.args.replay.now.files.now c.print_sample.new.room (sym c.code.ensures.files) c.print_sample.ensures.cached
+
+pub returns-in-Sample-clause-printed : goal.returns-in-Sample-clause-printed
+returns-in-Sample-clause-printed g c =
+    let printed = c.print_sample.ensures.printed in
+    let of_replay = rw (c.code.ensures.files, c.code.ensures.mappings, c.name.ensures) at printed.2 in
+    (printed.0, printed.1, rw c.in-Sample.is of_replay)
