@@ -161,11 +161,7 @@ pub fn write_head<W: Write>(
 }
 
 /// Writes the name of a thread.
-fn write_thread_name<W: Write>(
-    output: &mut W,
-    tid: u32,
-    name: Option<Name<'_>>,
-) -> io::Result<()>
+fn write_thread_name<W: Write>(output: &mut W, tid: u32, name: Option<Name<'_>>) -> io::Result<()>
     ensures { Writes (W.contents output.old) (W.contents output.new) result
         (name_text tid (bytes_of name.entry)) }
 {

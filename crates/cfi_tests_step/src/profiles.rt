@@ -245,7 +245,11 @@ fn cut_records(rt: HostRuntime) -> Result<(), Fail> {
     let profile = Profile::parse(cut)?;
     assert_eq!(rt;
         (profile.is_cut(), profile.architecture(), lines(cut)),
-        (true, Ok(Some(b"x86_64".as_slice())), Err(PerfError::DataOutOfBounds))
+        (
+            true,
+            Ok(Some(b"x86_64".as_slice())),
+            Err(PerfError::DataOutOfBounds)
+        )
     );
     Ok(())
 }
