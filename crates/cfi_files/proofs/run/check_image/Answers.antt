@@ -11,7 +11,7 @@ pub returns-in-Err : goal.returns-in-Err
 returns-in-Err g c =
     let finding = finding_without c.in-Err.error in
     let line = found_line c.args.format finding (refused (name_of_elf c.in-Err.error)) in
-    let written = rw (c.name.ensures, c.finding_without.ensures) at c.write_found.ensures.line in
-    let found = rw c.finding_without.ensures at c.write_found.ensures.found in
+    let written = rw (c.name.ensures, c.finding_without-finding.ensures) at c.write_found.ensures.line in
+    let found = rw c.finding_without-finding.ensures at c.write_found.ensures.found in
     checks_found (IsCheckOfParsed c.args.format (elf_file_of (image_view c.args.image))) finding line _ _ c.write_found.result
     (subst (λ parsed. IsCheckOfParsed c.args.format parsed finding line) c.in-Err.ensures (refl, refl)) written found
