@@ -241,7 +241,7 @@ fn cut_headers(rt: HostRuntime) -> Result<(), Fail> {
 #[test]
 fn cut_records(rt: HostRuntime) -> Result<(), Fail> {
     let bytes = changed(rt.alloc(), LITTLE, &[])?;
-    let (cut, _) = bytes.as_slice().split_at(SAMPLE + 48);
+    let cut = bytes.as_slice().get(..SAMPLE + 48).unwrap_or_default();
     let profile = Profile::parse(cut)?;
     assert_eq!(rt;
         (profile.is_cut(), profile.architecture(), lines(cut)),

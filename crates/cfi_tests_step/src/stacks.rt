@@ -232,6 +232,6 @@ fn two_events(rt: HostRuntime) -> Result<(), Fail> {
         OF_TWO_EVENTS,
         0,
     )?;
-    let (cut, _) = profile.as_slice().split_at(930);
+    let cut = profile.as_slice().get(..930).unwrap_or_default();
     prints(&rt, false, cut, b"/usr/pushes", CUT, 1)
 }
