@@ -1,7 +1,6 @@
-//! Shared by several crates of tests: sections as bytes, and the error at the end of the bytes.
+//! Sections as bytes, for several crates of tests.
 #![tactic(auto)]
 
-use cfi_read_core::{Error, ReaderOffsetId};
 use hex::FromHexError;
 use std::alloc::Global;
 
@@ -12,11 +11,6 @@ pub const THREE_ROWS: [u8; 52] = [
     0, 0, 0, 0, 0, 0, 0, 0x10, 0, 0, 0, 0, 0, 0, 0x20, 0, 0, 0, 0, 0, 0, 0, 0x41, 0x0e, 0x10, 0x86,
     2, 0x43, 0x0d, 6,
 ];
-
-/// The error of a read at this place, for which there are too few bytes.
-pub fn ended(place: u64) -> Error {
-    Error::UnexpectedEof(ReaderOffsetId(place))
-}
 
 /// The bytes given by hexadecimal digits; spaces are skipped.
 pub fn bytes_of(alloc: Global, text: &str) -> Result<Vec<u8>, FromHexError> {

@@ -3,7 +3,6 @@
 
 mod asked;
 mod counted;
-mod cuts;
 mod faithful;
 mod headers;
 mod searches;

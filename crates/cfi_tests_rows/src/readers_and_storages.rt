@@ -1,14 +1,12 @@
-//! Each check of rows: over both readers and over six storages, and with copies of contexts.
+//! Each check of rows: over both readers and over five storages, and with copies of contexts.
 //!
 //! What makes a context or a reader takes longer to prove than what uses it, so both are made here,
 //! once for all checks.
-use crate::cuts::sections_cut_at_every_length;
 use crate::own_section::a_section_that_counts_its_cies;
 use crate::refused_growth::{StoreRefusing, each_growth_in_turn};
 use crate::register_order::{RULES_IN_ANOTHER_ORDER, registers_rise};
 use crate::reuse::{
-    CUT, RULES_EXCHANGED, RULES_IN_ORDER, StoreOfOne, a_cut_instruction, after_a_full_stack,
-    after_one_rule_too_many, are_equal, row_in, rows_by_their_rules,
+    CUT, RULES_EXCHANGED, RULES_IN_ORDER, a_cut_instruction, are_equal, row_in, rows_by_their_rules,
 };
 use crate::rows::{
     R6_16, R7_8, R7_16, RETURNS, SAVED, Shown, TWO_CIES, a_get_cie_that_changes_or_refuses,
@@ -144,9 +142,8 @@ where
     a_get_cie_that_changes_or_refuses(rt, of[1], eight);
     a_section_that_counts_its_cies(rt, of[1], eight);
     a_narrow_reader_answers_alike(rt, three_rows, four);
-    a_cut_instruction(rt, of[2], eight)?;
-    after_a_full_stack(rt, eight)?;
-    sections_cut_at_every_length(rt, eight, four)
+    a_cut_instruction(rt, of[2], eight);
+    Ok(())
 }
 
 /// The same with fresh contexts.
@@ -166,15 +163,9 @@ where
     check_contexts(rt, of, three_rows, &mut eight, &mut four)
 }
 
-/// Checks a storage of one rule and one row with a fresh context.
-fn check_one<S: UnwindContextStorage<usize>>(rt: &(impl Abort + AllocGlobal)) -> Result<(), Fail> {
-    let mut context: UnwindContext<usize, S> = UnwindContext::new_in(rt.alloc())?;
-    after_one_rule_too_many(rt, &mut context)
-}
-
 /// Each check, over a fixed storage, one of offsets of four bytes, a growing one, one with boxed
-/// rules, one of one rule, and one that refuses growths.
-fn check_all<R, Q, F, N, G, B, O, P>(
+/// rules, and one that refuses growths.
+fn check_all<R, Q, F, N, G, B, P>(
     rt: &(impl Abort + AllocGlobal),
     of: &Sections<R>,
     three_rows: Q,
@@ -186,7 +177,6 @@ where
     N: UnwindContextStorage<u32>,
     G: UnwindContextStorage<usize>,
     B: UnwindContextStorage<usize>,
-    O: UnwindContextStorage<usize>,
     P: UnwindContextStorage<usize>,
 {
     the_bytes_of_an_expression(rt);
@@ -194,7 +184,6 @@ where
     check_storage::<R, G>(rt, of, "growing")?;
     check_storage::<R, B>(rt, of, "boxed rules")?;
     check_fixed::<R, Q, F, N>(rt, of, three_rows)?;
-    check_one::<O>(rt)?;
     each_growth_in_turn::<P, G>(rt)
 }
 
@@ -218,14 +207,7 @@ fn rows_over_each_storage(rt: HostRuntime) -> Result<(), Fail> {
         wide(&RULES_EXCHANGED),
     ];
     let three_rows = NarrowSlice::new(&THREE_ROWS, LittleEndian)?;
-    check_all::<
-        Wide,
-        Narrow,
-        StoreOnHeap,
-        StoreOnHeap,
-        StoreGrowing,
-        StoreBoxed,
-        StoreOfOne,
-        StoreRefusing,
-    >(&rt, &of, three_rows)
+    check_all::<Wide, Narrow, StoreOnHeap, StoreOnHeap, StoreGrowing, StoreBoxed, StoreRefusing>(
+        &rt, &of, three_rows,
+    )
 }

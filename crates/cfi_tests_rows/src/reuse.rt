@@ -1,45 +1,15 @@
 //! Contexts that are used again after an error, and what is equal to what.
-ghost use Rattle.std.proofs.Common.{lit≤};
 ghost use Rattle.std.specs.Prelude.{IfOk};
 ghost use Rattle.gimli_cfi.specs.Words.{IsCieOf};
 
-use crate::rows::{R7_8, RETURNS, Shown, hands_out, row_of_section, shown};
-use arrayvec::ArrayVec;
-use cfi_tests_bytes::{THREE_ROWS, bytes_of};
+use crate::rows::{R7_8, RETURNS, Shown, row_of_section, shown};
+use cfi_tests_bytes::THREE_ROWS;
 use gimli_cfi::{
     BaseAddresses, DebugFrame, DebugFrameOffset, EndianSlice, Error, LittleEndian, Reader,
-    ReaderOffset, ReaderOffsetId, Register, RegisterRule, UnwindContext, UnwindContextStorage,
-    UnwindSection, UnwindTableRow, Vendor, row_by_scan,
+    ReaderOffsetId, UnwindContext, UnwindContextStorage, UnwindSection, Vendor, row_by_scan,
 };
 use std::process::Abort;
 use std::test::Fail;
-
-/// A storage of one rule a row and one row.
-pub(crate) struct StoreOfOne;
-
-impl<T: ReaderOffset> UnwindContextStorage<T> for StoreOfOne {
-    type Rules = ArrayVec<(Register, RegisterRule<T>), 1>;
-
-    type Stack = ArrayVec<UnwindTableRow<T, Self::Rules>, 1>;
-
-    ghost has_room = { lit≤ tt };
-}
-
-/// A CIE without rules; an FDE of three, the first of which is given twice.
-const THREE_RULES: &str = "0e000000 ffffffff 04000800 017810 0c0708 \
-    1a000000 00000000 0010000000000000 2000000000000000 8602 8603 8701";
-
-/// A CIE of two rules; an FDE that remembers three states.
-const TWO_RULES: &str = "12000000 ffffffff 04000800 017810 0c0708 9001 8602 \
-    17000000 00000000 0010000000000000 2000000000000000 0a0a0a";
-
-/// A CIE of one rule; an FDE that remembers four states.
-const FOUR_STATES: &str = "10000000 ffffffff 04000800 017810 0c0708 9001 \
-    18000000 00000000 0010000000000000 2000000000000000 0a0a0a0a";
-
-/// A CIE of two rules that remembers three states.
-const FULL_CIE: &str = "15000000 ffffffff 04000800 017810 0c0708 9001 8602 0a0a0a \
-    14000000 00000000 0010000000000000 2000000000000000";
 
 /// An FDE whose second instruction is cut off.
 pub(crate) const CUT: [u8; 46] = [
@@ -153,90 +123,8 @@ pub(crate) fn check_three_rows<S: UnwindContextStorage<usize>>(
     Ok(())
 }
 
-/// Checks that a section has no room for its states, and then the section of three rows.
-fn check_full<S: UnwindContextStorage<usize>>(
-    rt: &(impl Abort + AllocGlobal),
-    context: &mut UnwindContext<usize, S>,
-    bytes: &[u8],
-    text: &str,
-) -> Result<(), Fail> {
-    let row = row_in(bytes, Vendor::Default, context, 0x1000);
-    assert_eq!(rt; row, Err(Error::StackFull), "{text}");
-    check_three_rows(rt, context, text)
-}
-
-const FULL_STACKS: [&str; 3] = [TWO_RULES, FOUR_STATES, FULL_CIE];
-
-const NO_TABLE: Result<(bool, Option<u64>), Error> = Err(Error::StackFull);
-
-/// The same for each of three sections. For the last of them the error is that of making the table
-/// too.
-pub(crate) fn after_a_full_stack<S: UnwindContextStorage<usize>>(
-    rt: &(impl Abort + AllocGlobal),
-    context: &mut UnwindContext<usize, S>,
-) -> Result<(), Fail> {
-    for text in &FULL_STACKS {
-        let bytes = bytes_of(rt.alloc(), text)?;
-        check_full(rt, context, bytes.as_slice(), text)?;
-    }
-    let bytes = bytes_of(rt.alloc(), FULL_CIE)?;
-    let table = hands_out(bytes.as_slice(), context, &[]);
-    drop(bytes);
-    assert_eq!(rt; table, NO_TABLE);
-    Ok(())
-}
-
-const KEPT: Option<RegisterRule<usize>> = Some(RegisterRule::Offset(-24));
-
-const PAST_ONE_RULE: [Result<Option<Shown>, Error>; 3] = [
-    Err(Error::TooManyRegisterRules),
-    Ok(Some((0x1000, 0x1020, R7_8, KEPT, None))),
-    Ok(None),
-];
-
 /// The row for 0x1000 up to an advance.
 const FIRST: Result<Shown, Error> = Ok((0x1000, 0x1001, R7_8, None, RETURNS));
-
-/// Whether the table's rows are those, and where the row ends that it leaves; then the rows by both
-/// sections.
-type OneRule = (
-    Result<(bool, Option<u64>), Error>,
-    [Result<Shown, Error>; 3],
-);
-
-const ONE_RULE: OneRule = (
-    Ok((true, None)),
-    [
-        Err(Error::TooManyRegisterRules),
-        FIRST,
-        Err(Error::TooManyRegisterRules),
-    ],
-);
-
-/// The row of a section for 0x1000, and those of the section of three rows for 0x1000 and 0x1001.
-fn of_both<S: UnwindContextStorage<usize>>(
-    bytes: &[u8],
-    context: &mut UnwindContext<usize, S>,
-) -> [Result<Shown, Error>; 3] {
-    [
-        row_in(bytes, Vendor::Default, context, 0x1000),
-        row_in(&THREE_ROWS, Vendor::Default, context, 0x1000),
-        row_in(&THREE_ROWS, Vendor::Default, context, 0x1001),
-    ]
-}
-
-/// Checks a storage of one rule and one row.
-pub(crate) fn after_one_rule_too_many<S: UnwindContextStorage<usize>>(
-    rt: &(impl Abort + AllocGlobal),
-    context: &mut UnwindContext<usize, S>,
-) -> Result<(), Fail> {
-    let bytes = bytes_of(rt.alloc(), THREE_RULES)?;
-    let table = hands_out(bytes.as_slice(), context, &PAST_ONE_RULE);
-    let rows = of_both(bytes.as_slice(), context);
-    drop(bytes);
-    assert_eq!(rt; (table, rows), ONE_RULE);
-    check_three_rows(rt, context, THREE_RULES)
-}
 
 /// The rows for 0x1000, 0x1001 and 0x5000 by the FDE's own call, and for 0x1001 by the section's.
 fn by_both_calls<R: Reader<Offset = usize>, S: UnwindContextStorage<usize>>(
@@ -258,13 +146,12 @@ const BY_BOTH_CALLS: [Result<Shown, Error>; 4] = [FIRST, ENDED, ENDED, ENDED];
 /// Checks the section whose second instruction is cut off: the FDE's own call goes on to rows
 /// outside its range, up to the instruction that can't be read.
 pub(crate) fn a_cut_instruction<R: Reader<Offset = usize>, S: UnwindContextStorage<usize>>(
-    rt: &(impl Abort + AllocGlobal),
+    rt: &impl Abort,
     reader: R,
     context: &mut UnwindContext<usize, S>,
-) -> Result<(), Fail> {
+) {
     let rows = by_both_calls(reader, context);
     assert_eq!(rt; rows, BY_BOTH_CALLS);
-    check_three_rows(rt, context, "a cut instruction")
 }
 
 /// Whether the rows of two sections for 0x1000 are equal, and whether they are not.

@@ -5,10 +5,10 @@ ghost use Rattle.gimli_cfi.specs.Words.{NoUnwindInfoForAddress};
 use crate::header::asked::row_by_cies;
 use crate::header::faithful::row_by_checked_table;
 use gimli_cfi::{
-    ArrayLike, BaseAddresses, CallCount, CfaRule, DwEhPe, EhFrame, EhFrameHdr, EhFrameOffset,
-    EhHdrTable, EndianSlice, Error, LittleEndian, NarrowSlice, ParsedEhFrameHdr, Pointer, Reader,
-    ReaderOffsetId, Register, RegisterRule, StartSource, TableStarts, UnwindContext,
-    UnwindContextStorage, UnwindTableRow, row_by_scan, row_by_table, search_starts,
+    ArrayLike, BaseAddresses, CallCount, CfaRule, EhFrame, EhFrameHdr, EhFrameOffset, EhHdrTable,
+    EndianSlice, Error, LittleEndian, ParsedEhFrameHdr, Pointer, Reader, Register, RegisterRule,
+    StartSource, TableStarts, UnwindContext, UnwindContextStorage, UnwindTableRow, row_by_scan,
+    row_by_table, search_starts,
 };
 use std::process::Abort;
 
@@ -27,11 +27,6 @@ pub(crate) const SECTION: [u8; 88] = [
 pub(crate) const HEADER: [u8; 36] = [
     1, 0x1b, 0x03, 0x3b, 0xfc, 0, 0, 0, 3, 0, 0, 0, 0, 0xf1, 0xff, 0xff, 0x18, 1, 0, 0, 0x10, 0xf1,
     0xff, 0xff, 0x2c, 1, 0, 0, 0x20, 0xf1, 0xff, 0xff, 0x40, 1, 0, 0,
-];
-
-/// A header of 2^63 rows of sixteen bytes, all of which are missing.
-const MANY_ROWS: [u8; 20] = [
-    1, 0, 4, 4, 0, 0x20, 0, 0, 0, 0, 0, 0, 0, 0, 0, 0, 0, 0, 0, 0x80,
 ];
 
 pub(crate) fn bases() -> BaseAddresses {
@@ -145,16 +140,6 @@ fn each_way_in<S: UnwindContextStorage<usize>>(
     )
 }
 
-/// By the table alone.
-fn by_table<S: UnwindContextStorage<usize>>(
-    header: &[u8],
-    context: &mut UnwindContext<usize, S>,
-    address: u64,
-) -> Result<Shown, Error> {
-    let [by_table, _, _, _] = each_way_in(header, context, address)?;
-    by_table
-}
-
 /// The targets of three addresses, and that of the second by the table's starts.
 type Targets = ([Result<Pointer, Error>; 3], Result<Pointer, Error>);
 
@@ -186,23 +171,6 @@ fn targets_and_offsets<R: Reader<Offset = usize>>(header: R) -> Result<(Targets,
     let parsed = read_header(header, &bases(), 8)?;
     let table = table_of(&parsed)?;
     Ok((targets(&table)?, offsets(&table)))
-}
-
-/// The header with another target in its second row.
-pub(crate) fn second_target(offset: [u8; 4]) -> [u8; 36] {
-    let mut header = HEADER;
-    header[24] = offset[0];
-    header[25] = offset[1];
-    header[26] = offset[2];
-    header[27] = offset[3];
-    header
-}
-
-/// The header with its rows in another encoding.
-fn encoded(encoding: u8) -> [u8; 36] {
-    let mut header = HEADER;
-    header[3] = encoding;
-    header
 }
 
 const LOOKUPS: Result<(Targets, Offsets), Error> = Ok((
@@ -251,57 +219,6 @@ pub(crate) fn table_and_scan_agree<S: UnwindContextStorage<usize>>(
     }
 }
 
-/// Other targets of the second row, and the errors.
-const OTHER_TARGETS: [([u8; 4], Error); 5] = [
-    ([0x18, 1, 0, 0], Error::NoUnwindInfoForAddress),
-    ([0, 1, 0, 0], Error::NotCiePointer(0)),
-    ([0x54, 1, 0, 0], Error::NoEntryAtGivenOffset(84)),
-    ([0x59, 1, 0, 0], Error::UnexpectedEof(ReaderOffsetId(0))),
-    ([0xff, 0, 0, 0], Error::OffsetOutOfBounds(0x1fff)),
-];
-
-/// Checks those errors.
-fn check_targets<S: UnwindContextStorage<usize>>(
-    rt: &impl Abort,
-    context: &mut UnwindContext<usize, S>,
-) {
-    for (target, refusal) in &OTHER_TARGETS {
-        let row = by_table(&second_target(*target), context, 0x1018);
-        assert_eq!(rt; row, Err(*refusal), "for {target:?}");
-    }
-}
-
-/// The row for 0x1018 by two tables in other encodings; that row and those for 0x1008 and 0x1010 by
-/// a table that ends after its second row, which starts at 0x1010.
-fn by_others<S: UnwindContextStorage<usize>>(
-    context: &mut UnwindContext<usize, S>,
-) -> [Result<Shown, Error>; 5] {
-    [
-        by_table(&encoded(0xbb), context, 0x1018),
-        by_table(&encoded(0x31), context, 0x1018),
-        by_table(&HEADER[..28], context, 0x1018),
-        by_table(&HEADER[..28], context, 0x1008),
-        by_table(&HEADER[..28], context, 0x1010),
-    ]
-}
-
-const BY_OTHERS: [Result<Shown, Error>; 5] = [
-    Err(Error::UnsupportedIndirectPointer),
-    Err(Error::UnsupportedPointerEncoding(DwEhPe(0x31))),
-    Err(Error::UnexpectedEof(ReaderOffsetId(28))),
-    Ok((0x1000, 0x1010, Some(8))),
-    Ok((0x1010, 0x1011, Some(8))),
-];
-
-/// Checks the errors and rows of tables that don't list the FDEs as they are.
-pub(crate) fn dishonest_tables<S: UnwindContextStorage<usize>>(
-    rt: &impl Abort,
-    context: &mut UnwindContext<usize, S>,
-) {
-    check_targets(rt, context);
-    assert_eq!(rt; by_others(context), BY_OTHERS);
-}
-
 type Row = Result<Option<(Pointer, Pointer)>, Error>;
 
 /// What skipping rows returns, how many rows remain, and what the next call returns.
@@ -326,84 +243,14 @@ fn passed_by<R: Reader>(header: R, count: usize) -> Result<Option<Passed>, Error
     Ok(passed(&parsed, &bases, count))
 }
 
-/// The same from the bytes of a header.
-fn passed_in(header: &[u8], count: usize) -> Result<Option<Passed>, Error> {
-    passed_by(EndianSlice::new(header, LittleEndian), count)
-}
-
-/// The same over a narrow slice.
-fn passed_in_narrow(header: &[u8], count: usize) -> Result<Option<Passed>, Error> {
-    passed_by(NarrowSlice::new(header, LittleEndian)?, count)
-}
-
-/// What the first call returns, and whether the starts of the table can be read one by one.
-fn first_row_and_starts<R: Reader>(header: R) -> Result<(Row, bool), Error> {
-    let bases = bases();
-    let parsed = read_header(header, &bases, 8)?;
-    let table = table_of(&parsed)?;
-    let row = table.iter(&bases).next();
-    Ok((row, TableStarts::new(&table, &bases).is_ok()))
-}
-
 const SECOND_ROW: Row = Ok(Some((Pointer::Direct(0x1010), Pointer::Direct(0x202c))));
 
 const THIRD_ROW: Row = Ok(Some((Pointer::Direct(0x1020), Pointer::Direct(0x2040))));
 
-/// The first bytes of the rows as two LEB128 numbers, 0 and 0x31f_fff1.
-const FIRST_OF_OTHER: Row = Ok(Some((Pointer::Direct(0x1f00), Pointer::Direct(0x320_1ef1))));
-
-const REFUSED: Row = Err(Error::UnsupportedPointerEncoding(DwEhPe(0x31)));
-
-/// What is passed in four ways; the first row of the other table, and whether its starts can be
-/// read.
-type PassedAtOnce = (
-    [Result<Option<Passed>, Error>; 4],
-    Result<(Row, bool), Error>,
-);
-
-const PASSED_AT_ONCE: PassedAtOnce = (
-    [
-        Ok(Some((SECOND_ROW, 1, THIRD_ROW))),
-        Ok(Some((THIRD_ROW, 0, Ok(None)))),
-        Ok(Some((Ok(None), 0, Ok(None)))),
-        Ok(Some((REFUSED, 3, FIRST_OF_OTHER))),
-    ],
-    Ok((FIRST_OF_OTHER, false)),
-);
-
 #[test]
 fn rows_passed_at_once(rt: HostRuntime) {
-    let other = encoded(0x31);
-    let found = [
-        passed_in(&HEADER, 1),
-        passed_in(&HEADER, 2),
-        passed_in(&HEADER, 3),
-        passed_in(&other, 0),
-    ];
-    let of_other = first_row_and_starts(EndianSlice::new(&other, LittleEndian));
-    assert_eq!(rt; (found, of_other), PASSED_AT_ONCE);
-}
-
-const ABSENT: Row = Err(Error::UnexpectedEof(ReaderOffsetId(20)));
-
-/// Half of 2^64 rows are left, and then 2^29.
-const NOT_THERE: [Result<Option<Passed>, Error>; 3] = [
-    Ok(Some((ABSENT, 0x8000_0000_0000_0000, ABSENT))),
-    Ok(Some((ABSENT, 0x2000_0000, ABSENT))),
-    Ok(Some((Err(Error::UnsupportedOffset), 0x2000_0000, ABSENT))),
-];
-
-#[test]
-fn rows_that_are_not_there(rt: HostRuntime) {
-    let mut fewer = MANY_ROWS;
-    fewer[19] = 0;
-    fewer[15] = 0x20;
-    let found = [
-        passed_in(&MANY_ROWS, 1),
-        passed_in(&fewer, 0x1000_0000),
-        passed_in_narrow(&fewer, 0x1000_0000),
-    ];
-    assert_eq!(rt; found, NOT_THERE);
+    let found = passed_by(EndianSlice::new(&HEADER, LittleEndian), 1);
+    assert_eq!(rt; found, Ok(Some((SECOND_ROW, 1, THIRD_ROW))));
 }
 
 /// Starts in a list, and how many calls were made.

@@ -2,10 +2,9 @@
 //! longer to prove than most of them.
 use crate::header::asked::{a_scan_asks_once_an_fde, a_table_asks_once};
 use crate::header::counted::{starts_are_read_by_halving, what_each_call_reads};
-use crate::header::cuts::headers_cut_at_every_length;
-use crate::header::searches::{dishonest_tables, table_and_scan_agree};
+use crate::header::searches::table_and_scan_agree;
 use crate::header::sources::sources_of_either_kind;
-use gimli_cfi::{BigEndian, LittleEndian, StoreOnHeap, UnwindContext, UnwindContextStorage};
+use gimli_cfi::{StoreOnHeap, UnwindContext, UnwindContextStorage};
 use std::process::Abort;
 use std::test::Fail;
 
@@ -17,7 +16,6 @@ fn check_context<S: UnwindContextStorage<usize>>(
     a_scan_asks_once_an_fde(rt, context);
     a_table_asks_once(rt, context);
     table_and_scan_agree(rt, context);
-    dishonest_tables(rt, context);
     sources_of_either_kind(rt, context);
     what_each_call_reads(rt, context);
     starts_are_read_by_halving(rt, context)
@@ -33,6 +31,5 @@ fn check_fresh<S: UnwindContextStorage<usize>>(
 
 #[test]
 fn scans_and_tables(rt: HostRuntime) -> Result<(), Fail> {
-    headers_cut_at_every_length(&rt, LittleEndian, BigEndian)?;
     check_fresh::<StoreOnHeap>(&rt)
 }
