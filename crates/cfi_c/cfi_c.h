@@ -118,9 +118,9 @@ typedef struct {
     uint64_t start, end;
     uint64_t args_size;
     uint32_t cfa_kind;              /* 0: register and offset; 1: an expression */
-    uint32_t cfa_register;
+    uint32_t cfa_register;          /* this and cfa_offset are 0 for an expression */
     int64_t cfa_offset;
-    uint64_t cfa_place, cfa_length; /* the expression's bytes in the section */
+    uint64_t cfa_place, cfa_length; /* the expression's bytes in the section, else 0 */
     uint64_t refused;               /* after a refusal the place, byte or number that it carries, else 0 */
     int32_t status;                 /* 0, or the refusal; then all but status and refused is open */
 } CfiRow;

@@ -16,11 +16,14 @@ use Rattle.cfi_c.specs.Refusals.{value}
 
 -- ---- a row
 
+-- what a rule of another kind has is 0
 abbrev pub IsCfa : CfaRule ℕ → CfiRow → Type 0
 IsCfa (cfa.RegisterAndOffset r offset) out =
     (out.cfa_kind ≡ 0) × (out.cfa_register ≡ r.0) × (out.cfa_offset ≡ offset)
+    × (out.cfa_place ≡ 0) × (out.cfa_length ≡ 0)
 IsCfa (cfa.Expression e) out =
-    (out.cfa_kind ≡ 1) × (out.cfa_place ≡ e.offset) × (out.cfa_length ≡ e.length)
+    (out.cfa_kind ≡ 1) × (out.cfa_register ≡ 0) × (out.cfa_offset ≡ pos 0)
+    × (out.cfa_place ≡ e.offset) × (out.cfa_length ≡ e.length)
 
 abbrev pub IsWritten : Row ℕ → CfiRow → Type 0
 IsWritten row out =

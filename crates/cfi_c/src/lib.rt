@@ -72,9 +72,10 @@ pub struct CfiRow {
     pub args_size: u64,
     /// 0: a register and an offset, 1: an expression.
     pub cfa_kind: u32,
+    /// The register and the offset; 0 for an expression.
     pub cfa_register: u32,
     pub cfa_offset: i64,
-    /// Offset and length in bytes of the expression in the section.
+    /// Offset and length in bytes of the expression in the section; 0 for a register.
     pub cfa_place: u64,
     pub cfa_length: u64,
     /// The place, byte or number that the error carries, else 0.
