@@ -2,6 +2,7 @@ pub mod Cases
 pub mod Chains
 mod Contents
 pub mod EntrySteps
+pub mod OrderedSteps
 pub mod SameResults
 pub mod ImageParts
 pub mod Images

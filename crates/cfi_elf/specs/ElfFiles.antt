@@ -12,6 +12,7 @@ use Rattle.cfi_elf.specs.declared.error.ElfError.{ElfError}
 use Rattle.cfi_elf.specs.declared.error.ElfError.TheVariants.{NotElf, HeaderCut, UnknownClass}
 use Rattle.cfi_elf.specs.declared.error.ElfError.TheVariants.{UnknownDataEncoding, UnknownVersion}
 use Rattle.cfi_elf.specs.declared.error.ElfError.TheVariants.{Relocatable, Core, NotCore}
+use Rattle.cfi_elf.specs.declared.error.ElfError.TheVariants.{NotRelocatable}
 use Rattle.cfi_elf.specs.declared.file_header.Class.{Class}
 use Rattle.cfi_elf.specs.declared.file_header.Class.TheVariants.{Elf32, Elf64}
 use Rattle.cfi_elf.specs.declared.file_header.Identification.{Identification}
@@ -91,6 +92,13 @@ only_core file =
     unless ((not (kind.e_version == 1), UnknownVersion kind.e_version)
     ∷ (not (kind.e_type == 4), NotCore kind.e_type) ∷ []) file
 
+-- a relocatable file
+abbrev pub only_relocatable : File → Result File ElfError
+only_relocatable file =
+    let kind = file.header.kind in
+    unless ((not (kind.e_version == 1), UnknownVersion kind.e_version)
+    ∷ (not (kind.e_type == 1), NotRelocatable kind.e_type) ∷ []) file
+
 -- the file of an image by these bytes, whatever its type and version, or the first error
 unfoldable pub any_file : Image → List ℕ → Result File ElfError
 any_file image bytes =
@@ -119,6 +127,12 @@ unfoldable pub core_file : List ℕ → Result File ElfError
 core_file bytes =
     let image = whole bytes in
     and_then (header_bytes image) (λ header. and_then (any_file image header) only_core)
+
+-- the relocatable file of these bytes
+unfoldable pub object_file : List ℕ → Result File ElfError
+object_file bytes =
+    let image = whole bytes in
+    and_then (header_bytes image) (λ header. and_then (any_file image header) only_relocatable)
 
 -- ---- what the header says for call frames
 

@@ -11,6 +11,10 @@ use Rattle.cfi_elf.specs.declared.error.ElfError.TheVariants.{Compressed, NameOu
 use Rattle.cfi_elf.specs.declared.error.ElfError.TheVariants.{NameNotTerminated, ProgramEntrySize}
 use Rattle.cfi_elf.specs.declared.error.ElfError.TheVariants.{ProgramTableOutOfBounds}
 use Rattle.cfi_elf.specs.declared.error.ElfError.TheVariants.{SegmentOutOfBounds, NoteCut, NotRead}
+use Rattle.cfi_elf.specs.declared.error.ElfError.TheVariants.{NotRelocatable, UnknownRelocation}
+use Rattle.cfi_elf.specs.declared.error.ElfError.TheVariants.{RelocationOutOfBounds}
+use Rattle.cfi_elf.specs.declared.error.ElfError.TheVariants.{NoRelocationSymbol}
+use Rattle.cfi_elf.specs.declared.error.ElfError.TheVariants.{ExtendedSectionIndex}
 
 abbrev pub name_of_elf : ElfError → List ℕ
 name_of_elf NotElf = codes "NotElf"
@@ -33,3 +37,8 @@ name_of_elf ProgramTableOutOfBounds = codes "ProgramTableOutOfBounds"
 name_of_elf SegmentOutOfBounds = codes "SegmentOutOfBounds"
 name_of_elf NoteCut = codes "NoteCut"
 name_of_elf (NotRead offset size) = codes "NotRead"
+name_of_elf (NotRelocatable e_type) = codes "NotRelocatable"
+name_of_elf (UnknownRelocation kind) = codes "UnknownRelocation"
+name_of_elf RelocationOutOfBounds = codes "RelocationOutOfBounds"
+name_of_elf (NoRelocationSymbol index) = codes "NoRelocationSymbol"
+name_of_elf ExtendedSectionIndex = codes "ExtendedSectionIndex"

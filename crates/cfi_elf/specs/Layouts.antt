@@ -1,7 +1,7 @@
--- The records of ELF files (System V ABI chapter 4, "ELF Header", "Section Header", "Symbol Table";
--- chapter 5, "Program Header"). Of each field: its offset and width in files of 32 bits, and in
--- files of 64 bits.
-use Rattle.std.specs.Prelude.{ℕ, List, [], ◌∷◌, codes}
+-- The records of ELF files (System V ABI chapter 4, "ELF Header", "Section Header", "Symbol Table",
+-- "Relocation"; chapter 5, "Program Header"). Of each field: its offset and width in files of 32
+-- bits, and in files of 64 bits.
+use Rattle.std.specs.Prelude.{ℕ, Bool, List, [], ◌∷◌, codes, if◌then◌else◌}
 use Rattle.std.specs.Int.{Width, w8, w16, w32, w64}
 use Rattle.cfi_elf.specs.declared.file_header.Class.{Class}
 use Rattle.cfi_elf.specs.declared.file_header.Class.TheVariants.{Elf32, Elf64}
@@ -88,3 +88,10 @@ symbol_fields class =
     ∷ row class (codes "st_other") 13 w8 5 w8
     ∷ row class (codes "st_shndx") 14 w16 6 w16
     ∷ []
+
+-- Elf32_Rel and Elf64_Rel, which have no r_addend; Elf32_Rela, Elf64_Rela
+abbrev pub relocation_fields : Class → Bool → List Field
+relocation_fields class has_addend =
+    row class (codes "r_offset") 0 w32 0 w64
+    ∷ row class (codes "r_info") 4 w32 8 w64
+    ∷ (if has_addend then row class (codes "r_addend") 8 w32 16 w64 ∷ [] else [])

@@ -14,3 +14,5 @@ pub mod Symbols
 pub mod SymbolTables
 pub mod FunctionPlaces
 pub mod FunctionNames
+pub mod RelocationKinds
+pub mod Relocations

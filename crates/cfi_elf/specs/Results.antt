@@ -1,6 +1,6 @@
 -- Results one after the other.
 use Rattle.std.specs.Prelude.{Bool, true, false, List, [], ◌∷◌, Option, Some, None, Result, Ok, Err}
-use Rattle.std.specs.Prelude.{ℕ, ◌==◌, if◌then◌else◌}
+use Rattle.std.specs.Prelude.{ℕ, ◌+◌, ◌==◌, if◌then◌else◌}
 
 -- the first error, or what comes of the value
 abbrev pub and_then : {A B E : Type 0} → Result A E → (A → Result B E) → Result B E
@@ -50,3 +50,11 @@ if_passed (Err e) x others = Err e
 abbrev pub first_by : {A E : Type 0} → (A → Result Bool E) → List A → Result (Option A) E
 first_by test [] = Ok None
 first_by test (x ∷ xs) = if_passed (test x) x (first_by test xs)
+
+-- ---- steps in turn
+
+-- what a step for each thing and its index makes of a state, or the first error
+abbrev pub in_order :
+    {A S E : Type 0} → (ℕ → A → S → Result S E) → ℕ → List A → S → Result S E
+in_order step index [] state = Ok state
+in_order step index (x ∷ xs) state = and_then (step index x state) (in_order step (index + 1) xs)

@@ -3,7 +3,8 @@ ghost use Rattle.std.specs.Prelude.{◌≡◌};
 ghost use Rattle.cfi_read_core.specs.ReaderCalls.{map_ok};
 ghost use Rattle.cfi_elf.specs.ElfFiles.{address_size_of, any_file, class_of_file, core_file};
 ghost use Rattle.cfi_elf.specs.ElfFiles.{elf_file, elf_file_of, file_by, file_view, header_bytes};
-ghost use Rattle.cfi_elf.specs.ElfFiles.{is_big_file, only_core, vendor_of, with_addresses};
+ghost use Rattle.cfi_elf.specs.ElfFiles.{is_big_file, object_file, only_core, only_relocatable};
+ghost use Rattle.cfi_elf.specs.ElfFiles.{vendor_of, with_addresses};
 ghost use Rattle.cfi_elf.specs.Images.{image_view};
 
 use crate::bytes::Record;
@@ -71,6 +72,20 @@ impl<'input> ElfFile<'input> {
         let header = header_bytes(&image)?;
         let file = any_file(image, header)?;
         only_core(file)
+    }
+
+    /// Reads the header of the relocatable file that these bytes are. Its sections have no
+    /// addresses until `relocate` gives them some.
+    ///
+    /// Fails as `parse`, but with `NotRelocatable` for a file of any other type. Does not allocate.
+    #[tactic(auto, unfolding(crate::specs::ElfFiles::object_file))]
+    pub fn parse_relocatable(bytes: &'input [u8]) -> Result<ElfFile<'input>, ElfError>
+        ensures { map_ok file_view result ≡ object_file bytes.now }
+    {
+        let image = Image::whole(bytes);
+        let header = header_bytes(&image)?;
+        let file = any_file(image, header)?;
+        only_relocatable(file)
     }
 
     /// What was read of the file.
@@ -189,6 +204,19 @@ fn only_core(file: ElfFile<'_>) -> Result<ElfFile<'_>, ElfError>
     }
     if file.header.kind.e_type != ET_CORE {
         return Err(ElfError::NotCore(file.header.kind.e_type));
+    }
+    Ok(file)
+}
+
+/// The file, if its header is of the known version and it is relocatable.
+fn only_relocatable(file: ElfFile<'_>) -> Result<ElfFile<'_>, ElfError>
+    ensures { map_ok file_view result ≡ only_relocatable (file_view file.entry) }
+{
+    if file.header.kind.e_version != EV_CURRENT {
+        return Err(ElfError::UnknownVersion(file.header.kind.e_version));
+    }
+    if file.header.kind.e_type != ET_REL {
+        return Err(ElfError::NotRelocatable(file.header.kind.e_type));
     }
     Ok(file)
 }

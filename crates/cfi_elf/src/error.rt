@@ -46,6 +46,16 @@ pub enum ElfError {
     SegmentOutOfBounds,
     /// Notes go on with bytes that are no whole note.
     NoteCut,
+    /// Not a relocatable file. Carries `e_type`.
+    NotRelocatable(u16),
+    /// A relocation of a type that the machine's table doesn't have. Carries the type.
+    UnknownRelocation(u32),
+    /// The place of a relocation is not in its section.
+    RelocationOutOfBounds,
+    /// A relocation has the index of no symbol. Carries the index.
+    NoRelocationSymbol(u32),
+    /// A symbol has the index of its section elsewhere (`SHN_XINDEX`).
+    ExtendedSectionIndex,
     /// Bytes are needed that no part of the image has. Carries where in the file they begin, and
     /// how many they are.
     NotRead { offset: u64, size: u64 },
@@ -88,6 +98,11 @@ impl ElfError {
             ElfError::ProgramTableOutOfBounds => "ProgramTableOutOfBounds",
             ElfError::SegmentOutOfBounds => "SegmentOutOfBounds",
             ElfError::NoteCut => "NoteCut",
+            ElfError::NotRelocatable(_) => "NotRelocatable",
+            ElfError::UnknownRelocation(_) => "UnknownRelocation",
+            ElfError::RelocationOutOfBounds => "RelocationOutOfBounds",
+            ElfError::NoRelocationSymbol(_) => "NoRelocationSymbol",
+            ElfError::ExtendedSectionIndex => "ExtendedSectionIndex",
             ElfError::NotRead { .. } => "NotRead",
         }
     }
@@ -99,9 +114,13 @@ impl ElfError {
                 byte,
             )),
             ElfError::NotCore(half)
+            | ElfError::NotRelocatable(half)
             | ElfError::SectionEntrySize(half)
             | ElfError::ProgramEntrySize(half) => Some(u32::from(half)),
-            ElfError::UnknownVersion(number) | ElfError::NoNameSection(number) => Some(number),
+            ElfError::UnknownVersion(number)
+            | ElfError::NoNameSection(number)
+            | ElfError::UnknownRelocation(number)
+            | ElfError::NoRelocationSymbol(number) => Some(number),
             _ => None,
         }
     }
@@ -130,6 +149,11 @@ impl ElfError {
                 "the program header table goes past the file's end",
             ElfError::SegmentOutOfBounds => "a segment goes past the file's end",
             ElfError::NoteCut => "a note is cut",
+            ElfError::NotRelocatable(_) => "not a relocatable file, but of type ",
+            ElfError::UnknownRelocation(_) => "unknown relocation type ",
+            ElfError::RelocationOutOfBounds => "a relocation goes past the section's end",
+            ElfError::NoRelocationSymbol(_) => "a relocation has no symbol at index ",
+            ElfError::ExtendedSectionIndex => "the section of a symbol has an extended index",
             ElfError::NotRead { .. } => "bytes of the file have not been read",
         }
     }

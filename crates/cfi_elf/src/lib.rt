@@ -4,8 +4,8 @@
 //!
 //! `image` is a file that may be read by parts. `elf_file` reads the file header, `sections` finds
 //! sections by name, `segments` what is loaded at an address, `notes` what notes say, `symbols`
-//! addresses by name and functions by address. Nothing is copied, and only the lists of functions
-//! are allocated.
+//! addresses by name and functions by address, `relocate` gives a relocatable file addresses.
+//! Nothing is copied, and only the lists of functions are allocated.
 
 pub mod bytes;
 pub mod elf_file;
@@ -16,7 +16,11 @@ mod function_place;
 mod functions;
 pub mod image;
 pub mod notes;
+mod places;
 pub mod program_header;
+mod relocate;
+mod relocation;
+mod relocation_kind;
 mod section_header;
 mod sections;
 pub mod segments;

@@ -175,7 +175,7 @@ impl<'input> ElfFile<'input> {
 
     /// The string table with the names of sections.
     #[tactic(auto, unfolding(crate::specs::Sections::section_names))]
-    fn section_names(&self, table: &'input [u8]) -> Result<&'input [u8], ElfError>
+    pub(crate) fn section_names(&self, table: &'input [u8]) -> Result<&'input [u8], ElfError>
         ensures { map_ok (λ names. names.now) result
             ≡ section_names (file_view self.now) table.now }
     {
@@ -251,7 +251,7 @@ impl<'input> ElfFile<'input> {
 
 /// Whether the section has this name.
 #[tactic(auto, unfolding(crate::specs::Sections::is_named))]
-fn is_named(header: &SectionHeader, names: &[u8], name: &[u8]) -> Result<bool, ElfError>
+pub(crate) fn is_named(header: &SectionHeader, names: &[u8], name: &[u8]) -> Result<bool, ElfError>
     ensures { result ≡ is_named names.now name.now header.now }
 {
     // The other members of such a header have no meaning.

@@ -116,7 +116,7 @@ impl<'input> ElfFile<'input> {
     }
 
     /// The first section of type `SHT_SYMTAB`, or else of type `SHT_DYNSYM`.
-    fn symbol_section(&self, table: &'input [u8]) -> Option<SectionHeader>
+    pub(crate) fn symbol_section(&self, table: &'input [u8]) -> Option<SectionHeader>
         ensures { result ≡ symbol_section (file_view self.now) table.now }
     {
         if let Some(header) = self.first_of_type(table, SHT_SYMTAB) {

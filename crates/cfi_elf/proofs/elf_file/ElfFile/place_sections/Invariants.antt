@@ -1,0 +1,13 @@
+use Rattle.std.proofs.Common.{◌≡◌, drop}
+use Rattle.cfi_elf.specs.ElfFiles.{file_view}
+use Rattle.cfi_elf.specs.Relocations.{place_section}
+use Rattle.cfi_elf.specs.Results.{in_order}
+use Rattle.cfi_elf.specs.Sections.{section_headers}
+use Rattle.cfi_elf.proofs.elf_file.ElfFile.place_sections.Given as goal
+
+-- the steps that are left make of the bytes so far what all make of those at first
+abbrev pub invariant-loop-index : goal.invariant-loop-index
+invariant-loop-index l =
+    let step = place_section (file_view l.self) in
+    let all = section_headers (file_view l.self) l.table in
+    in_order step l.index (drop l.index all) l.bytes ≡ in_order step 0 all l.fn.bytes
