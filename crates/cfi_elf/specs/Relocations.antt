@@ -102,9 +102,13 @@ relocations file has_addend bytes =
 
 -- ---- addresses
 
--- of a section: its offset in the file; behind the file's end for one without bytes (SHT_NOBITS)
+-- of a section in memory (SHF_ALLOC is 2): its offset in the file, or the file's length for one
+-- without bytes (SHT_NOBITS is 8). In any other, places are told by their offsets
 abbrev pub section_base : File → SectionHeader → ℕ
-section_base file header = if header.sh_type == 8 then file.image.length else header.sh_offset
+section_base file header =
+    if bit_and header.sh_flags 2 == 0 then 0
+    else if header.sh_type == 8 then file.image.length
+    else header.sh_offset
 
 abbrev pub base_of : File → Option SectionHeader → ℕ
 base_of file None = 0

@@ -34,6 +34,8 @@ const SHT_NOBITS: u32 = 8;
 
 const SHT_REL: u32 = 9;
 
+const SHF_ALLOC: u64 = 2;
+
 const SHF_COMPRESSED: u64 = 0x800;
 
 const SHN_XINDEX: u16 = 0xffff;
@@ -45,11 +47,11 @@ impl<'input> ElfFile<'input> {
     /// frames for these: in `bytes`, a copy of the file's bytes. `parse_relocatable` then reads the
     /// copy as a file whose sections, symbols and call frames have addresses.
     ///
-    /// The address of a section is its offset in the file, that of one of type `SHT_NOBITS` the
-    /// file's length. The value of a symbol is its offset in its section (`st_value`) and the
-    /// address of that. The relocations of `.eh_frame` and `.debug_frame` are those of the sections
-    /// of type `SHT_REL` and `SHT_RELA` with that section in `sh_info`, as the psABI of the machine
-    /// defines their types.
+    /// The address of a section in memory (`SHF_ALLOC`) is its offset in the file, or the file's
+    /// length where its type is `SHT_NOBITS`; that of any other is 0. The value of a symbol is its
+    /// offset in its section (`st_value`) and the address of that. The relocations of `.eh_frame`
+    /// and `.debug_frame` are those of the sections of type `SHT_REL` and `SHT_RELA` with that
+    /// section in `sh_info`, as the psABI of the machine defines their types.
     ///
     /// Fails as `section` for the section headers, the symbols and the relocations; with
     /// `UnknownRelocation`, `NoRelocationSymbol` or `RelocationOutOfBounds` for a relocation; with
@@ -181,7 +183,9 @@ impl<'input> ElfFile<'input> {
     fn section_base(&self, header: &SectionHeader) -> u64
         ensures { result ≡ section_base (file_view self.now) header.now }
     {
-        if header.sh_type == SHT_NOBITS {
+        if header.sh_flags & SHF_ALLOC == 0 {
+            0
+        } else if header.sh_type == SHT_NOBITS {
             self.image.length
         } else {
             header.sh_offset
