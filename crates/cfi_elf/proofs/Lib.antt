@@ -13,3 +13,4 @@ pub mod NoteSteps
 mod FileKinds
 mod NearestFunctions
 mod Worked
+mod WorkedRelocations
