@@ -31,12 +31,40 @@ _Noreturn static void install(const struct walk *walk, const struct entry *entry
     land(&landing);
 }
 
+/* Where phase 2 begins: at the first frame that has a personality, so many calls above the entry, since those below have nothing
+ * that is to be asked; or at the entry itself. */
+struct start {
+    struct entry frame;
+    uint64_t calls;
+    bool is_decided;
+};
+
+/* Has phase 2 begin at the frame, if it has no other registers than an entry has. */
+static void begin_at(struct start *start, const struct walk *walk, uint64_t calls) {
+    static const uint8_t saved[SAVED] = SAVED_REGISTERS;
+    const struct _Unwind_Context *frame = walk->frame;
+    bool is_saved[REGISTERS] = {[RETURN_ADDRESS] = true}, is_entry = !frame->is_interrupted;
+    for (int i = 0; i < SAVED; i++)
+        is_saved[saved[i]] = true;
+    for (int k = 0; k < REGISTERS; k++)
+        is_entry &= k == RETURN_ADDRESS || frame->registers[k].known == is_saved[k];
+    start->is_decided = true;
+    if (!is_entry)
+        return;
+    for (int i = 0; i < SAVED; i++)
+        start->frame.registers[i] = frame->registers[saved[i]].value;
+    start->frame.pc = frame->pc;
+    start->calls = calls;
+}
+
 /* Phase 1: goes up to the frame that handles the exception. */
-static _Unwind_Reason_Code search(struct _Unwind_Exception *exception, struct walk *walk) {
-    for (;;) {
+static _Unwind_Reason_Code search(struct _Unwind_Exception *exception, struct walk *walk, struct start *start) {
+    for (uint64_t calls = 0;; calls++) {
         enum found found = find_caller(walk);
         if (found != FOUND)
             return found == AT_END ? _URC_END_OF_STACK : _URC_FATAL_PHASE1_ERROR;
+        if (!start->is_decided && walk->facts.has_personality)
+            begin_at(start, walk, calls);
         _Unwind_Reason_Code code = call_personality(walk, _UA_SEARCH_PHASE, exception);
         if (code == _URC_HANDLER_FOUND)
             return code;
@@ -46,9 +74,10 @@ static _Unwind_Reason_Code search(struct _Unwind_Exception *exception, struct wa
     }
 }
 
-/* Phase 2: the cleanups up to the handler, whose frame private_2 tells. Returns where one is to be entered, or on an error. */
+/* Phase 2: the cleanups up to the handler, whose frame private_2 tells, from a frame so many calls above the entry. Returns where
+ * one is to be entered, or on an error. */
 static _Unwind_Reason_Code clean_up(struct _Unwind_Exception *exception, struct walk *walk, uint64_t *calls) {
-    for (*calls = 0;; ++*calls) {
+    for (;; ++*calls) {
         if (find_caller(walk) != FOUND)
             return _URC_FATAL_PHASE2_ERROR;
         _Unwind_Action handler = identity(walk) == exception->private_2 ? _UA_HANDLER_FRAME : 0;
@@ -88,24 +117,24 @@ static _Unwind_Reason_Code clean_up_forced(struct _Unwind_Exception *exception, 
 
 _Unwind_Reason_Code raise_exception(struct _Unwind_Exception *exception, const struct entry *entry) {
     struct walk walk;
-    uint64_t calls;
+    struct start start = {.frame = *entry, .calls = 0, .is_decided = false};
     begin_walk(&walk, entry);
-    _Unwind_Reason_Code code = search(exception, &walk);
+    _Unwind_Reason_Code code = search(exception, &walk, &start);
     if (code != _URC_HANDLER_FOUND)
         return code;
     exception->private_1 = 0;
     exception->private_2 = identity(&walk);
-    first_frame(&walk, entry);
-    code = clean_up(exception, &walk, &calls);
+    first_frame(&walk, &start.frame);
+    code = clean_up(exception, &walk, &start.calls);
     if (code != _URC_INSTALL_CONTEXT)
         return code;
-    install(&walk, entry, calls);
+    install(&walk, entry, start.calls);
 }
 
 /* After a cleanup: there is no way back. */
 void resume(struct _Unwind_Exception *exception, const struct entry *entry) {
     struct walk walk;
-    uint64_t calls;
+    uint64_t calls = 0;
     begin_walk(&walk, entry);
     _Unwind_Reason_Code code =
         exception->private_1 ? clean_up_forced(exception, &walk, &calls) : clean_up(exception, &walk, &calls);
