@@ -348,7 +348,7 @@ uint32_t cfi_step(CfiContext *context, const CfiModule *module, const CfiMemory 
                   const CfiValue *registers, size_t registers_len, CfiValue *caller_registers, size_t caller_registers_len,
                   CfiFunction *function, CfiCaller *caller, CfiEnd *end);
 
-/* Makes a cache for sets * 4 rows, without one, and frees the cache that was there. A row takes 128 bytes. CFI_OutOfMemory where
+/* Makes a cache for sets * 4 rows, without one, and frees the cache that was there. A row takes 64 bytes. CFI_OutOfMemory where
  * malloc fails: then the one that was there stays. */
 int32_t cfi_cache_new(size_t sets, CfiCache *cache);
 
@@ -360,7 +360,8 @@ void cfi_cache_clear(CfiCache *cache);
 
 /* As cfi_step in all that it returns and writes, with a cache of rows: a frame whose row the cache has is stepped from without
  * its FDE, its header or an instruction; else the row is found as by cfi_step, and kept if it is a plain one, as compilers
- * write them: at most 14 rules, none of them an expression. Which row is replaced is open. Without a cache it is cfi_step.
+ * write them: at most 7 rules, of registers that are undefined or saved at the CFA plus -1024 to 1016 bytes, a multiple of 8; the
+ * CFA a register plus a multiple of 8. Which row is replaced is open. Without a cache it is cfi_step.
  *
  * file is the caller's number for the module's file: all modules that are passed with this cache and this number have the same
  * eh_frame, header and bases, and the size of an address is the same with all numbers. Whoever closes a module, and then uses

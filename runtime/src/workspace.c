@@ -9,9 +9,9 @@
 #include "unwinder.h"
 
 enum {
-    LINE = 64,           /* a row takes two lines of the processor's cache */
-    SETS = 160,          /* of four rows: so that 128 kB of all this are touched */
-    ROWS = SETS * 4 * 128,
+    LINE = 64,           /* of the processor's cache: a row takes one */
+    SETS = 325,          /* of four rows: so that 128 kB of all this are touched */
+    ROWS = SETS * 4 * 64,
     CONTEXT = 64 * 1024, /* more than a context takes */
     MEMORY = CONTEXT + ROWS,
     STACK = 512 * 1024,  /* on which they are made: more than a thread may have */

@@ -12,7 +12,6 @@ use Rattle.cfi_state.specs.declared.table.rules.RegisterRule.{RegisterRule}
 use Rattle.cfi_expression.specs.declared.error.FrameError.{FrameError}
 use Rattle.cfi_expression.specs.declared.error.FrameError.TheVariants.{UnreadableMemory, UnsupportedSize}
 use Rattle.cfi_expression.specs.Arithmetic.{displaced}
-use Rattle.cfi_expression.specs.Frames.{known}
 use Rattle.cfi_expression.specs.Stacks.{map_value}
 use Rattle.cfi_step.specs.declared.packed_rows.PackedRow.{PackedRow}
 use Rattle.cfi_step.specs.declared.packed_rules.PackedRule.{PackedRule}
@@ -20,10 +19,10 @@ use Rattle.cfi_step.specs.declared.packed_rules.PackedRule.TheVariants as packed
 use Rattle.cfi_step.specs.declared.step.Caller.{Caller}
 use Rattle.cfi_step.specs.Callers.{by_rule, cfa_of, given, is_signed, on_ok, pc_of, return_address, return_by, saved_at, without_rule}
 use Rattle.cfi_step.specs.PackedRows.{parts_packed}
-use Rattle.cfi_step.specs.PackedRules.{numbered, pair_of}
+use Rattle.cfi_step.specs.PackedRules.{eightfold, listed, numbered, pair_of}
 use Rattle.cfi_c.specs.declared.memory.CfiMemory.{CfiMemory}
 use Rattle.cfi_c.specs.declared.stack.CfiValue.{CfiValue}
-use Rattle.cfi_c.specs.PackedSteps.{IsCallerBy, IsCallerFrom, IsPcBy, IsPcOf, frame_of, values_of}
+use Rattle.cfi_c.specs.PackedSteps.{IsCallerBy, IsCallerFrom, IsPcBy, IsPcOf, frame_of}
 use Rattle.cfi_c.specs.PassedMemories.{abi_in, number_in_memory}
 
 -- ---- memory
@@ -54,10 +53,7 @@ if_some_at P o x is all = subst (λ found. IfSome found P) is all
 unsigned_or : (here : Bool) (rule : PackedRule) (later : Option (RegisterRule ℕ)) → is_signed later ≡ false → is_signed (cond here (Some (pair_of rule).1) later) ≡ false
 unsigned_or false rule later is = is
 unsigned_or true (packed.Undefined k) later is = refl
-unsigned_or true (packed.SameValue k) later is = refl
 unsigned_or true (packed.Offset k n) later is = refl
-unsigned_or true (packed.ValOffset k n) later is = refl
-unsigned_or true (packed.Register k other) later is = refl
 
 unsigned_found : (rules : List PackedRule) → is_signed (find nat_cmp 34 (map numbered_pair (map pair_of rules))) ≡ false
 unsigned_found [] = refl
@@ -88,24 +84,6 @@ module _ (memory : CfiMemory) (registers : List CfiValue) (cfa ra : ℕ) where
     pub by_undefined : (k : ℕ) → given ≡ Some (packed.Undefined k) → IsPcByRule given (Ok None)
     by_undefined k is = ruled_as given (Some (packed.Undefined k)) (Ok None) is (λ bytes parts none. refl)
 
-    pub by_same : (k : ℕ) → given ≡ Some (packed.SameValue k) → (value : Option ℕ) → value ≡ known (values_of registers) ra → (pc : Result (Option ℕ) FrameError) → IsPcOf value (numbered ra) pc
-        → IsPcByRule given pc
-    by_same k is value of pc there =
-        ruled_as given (Some (packed.SameValue k)) pc is
-        (λ bytes parts none. known_pc bytes (is_signed (get parts.rules 34)) (known (values_of registers) ra) pc none (subst (λ (o : Option ℕ). IsPcOf o (numbered ra) pc) of there))
-
-    pub by_other : (k other : ℕ) → given ≡ Some (packed.Register k other) → (value : Option ℕ) → value ≡ known (values_of registers) other → (pc : Result (Option ℕ) FrameError)
-        → IsPcOf value (numbered ra) pc → IsPcByRule given pc
-    by_other k other is value of pc there =
-        ruled_as given (Some (packed.Register k other)) pc is
-        (λ bytes parts none. known_pc bytes (is_signed (get parts.rules 34)) (known (values_of registers) other) pc none (subst (λ (o : Option ℕ). IsPcOf o (numbered ra) pc) of there))
-
-    pub by_counted : (k : ℕ) (offset : ℤ) → given ≡ Some (packed.ValOffset k offset) → (a : ℕ) → a ≡ displaced memory.address_size cfa offset → IsPcByRule given (Ok (Some a))
-    by_counted k offset is a of =
-        ruled_as given (Some (packed.ValOffset k offset)) (Ok (Some a)) is
-        (λ bytes parts none.
-        known_pc bytes (is_signed (get parts.rules 34)) (Some (displaced memory.address_size cfa offset)) (Ok (Some a)) none (ap found_at of))
-
     pub by_unruled : given ≡ None → (value : Option ℕ) → ((bytes : Position) → Ok value ≡ without_rule (frame_of memory registers) bytes (abi_in memory) (λ (n : ℕ). n) cfa ra)
         → (pc : Result (Option ℕ) FrameError) → IsPcOf value (numbered ra) pc → IsPcByRule given pc
     by_unruled is value of pc there =
@@ -120,20 +98,20 @@ module _ (memory : CfiMemory) (registers : List CfiValue) (cfa ra : ℕ) where
   saved_pc bytes false (Some n) a none = refl
   saved_pc bytes false None a none = refl
 
-  module _ (given : Option PackedRule) (k : ℕ) (offset : ℤ) (is : given ≡ Some (packed.Offset k offset)) (is_size : IsAddressSize memory.address_size) where
-    pub by_saved : (a : ℕ) → a ≡ displaced memory.address_size cfa offset → (pc : Result (Option ℕ) FrameError) → pc ≡ saved_at (frame_of memory registers) a → IsPcByRule given pc
+  module _ (given : Option PackedRule) (k : ℕ) (words : ℤ) (is : given ≡ Some (packed.Offset k words)) (is_size : IsAddressSize memory.address_size) where
+    pub by_saved : (a : ℕ) → a ≡ displaced memory.address_size cfa (eightfold words) → (pc : Result (Option ℕ) FrameError) → pc ≡ saved_at (frame_of memory registers) a → IsPcByRule given pc
     by_saved a of pc there =
-        ruled_as given (Some (packed.Offset k offset)) pc is
+        ruled_as given (Some (packed.Offset k words)) pc is
         (λ bytes parts none.
-        let here = displaced memory.address_size cfa offset in
+        let here = displaced memory.address_size cfa (eightfold words) in
         let number = number_in_memory memory here memory.address_size in
         let at : map_value Some (ok_or number (UnreadableMemory here)) ≡ saved_at (frame_of memory registers) here = saved memory here number is_size refl registers in
         there ∙ (ap (saved_at (frame_of memory registers)) of ∙ (sym at ∙ (saved_pc bytes (is_signed (get parts.rules 34)) number here none
         ∙ ap (on_ok (pc_of (frame_of memory registers) bytes (abi_in memory) (λ (n : ℕ). n) (is_signed (get parts.rules 34)) (numbered ra))) at))))
 
-    pub by_first : (n : ℕ) → number_in_memory memory (displaced memory.address_size cfa offset) memory.address_size ≡ Some n → IsPcByRule given (Ok (Some n))
+    pub by_first : (n : ℕ) → number_in_memory memory (displaced memory.address_size cfa (eightfold words)) memory.address_size ≡ Some n → IsPcByRule given (Ok (Some n))
     by_first n there =
-        by_saved (displaced memory.address_size cfa offset) refl (Ok (Some n)) (saved memory (displaced memory.address_size cfa offset) (Some n) is_size there registers)
+        let here = displaced memory.address_size cfa (eightfold words) in by_saved here refl (Ok (Some n)) (saved memory here (Some n) is_size there registers)
 
 -- the rule of the register is that of the row
 module _ (memory : CfiMemory) (registers : List CfiValue) (row : PackedRow) (cfa : ℕ) where
@@ -141,11 +119,11 @@ module _ (memory : CfiMemory) (registers : List CfiValue) (row : PackedRow) (cfa
   returned bytes k given = return_by (frame_of memory registers) bytes (abi_in memory) (λ (n : ℕ). n) (parts_packed row) cfa (numbered k) given
 
   pub by_row : (ra : ℕ) (rules : List PackedRule) (given : Option PackedRule) (pc : Result (Option ℕ) FrameError)
-      → ra ≡ row.numbers.return_address → rules ≡ row.rules.items → option_map (λ (rule : PackedRule). (pair_of rule).1) given ≡ get (rules_of (map pair_of rules)) ra
+      → ra ≡ row.numbers.return_address → rules ≡ listed row.rules → option_map (λ (rule : PackedRule). (pair_of rule).1) given ≡ get (rules_of (map pair_of rules)) ra
       → IsPcByRule memory registers cfa ra given pc
       → (bytes : Position) → pc ≡ return_address (frame_of memory registers) bytes (abi_in memory) (λ (n : ℕ). n) (parts_packed row) cfa (numbered row.numbers.return_address)
   by_row ra rules given pc same_ra same_rules of is bytes =
-      is bytes (parts_packed row) (never_signed row.rules.items)
+      is bytes (parts_packed row) (never_signed (listed row.rules))
       ∙ (ap (returned bytes ra) (of ∙ ap (λ (l : List PackedRule). get (rules_of (map pair_of l)) ra) same_rules)
       ∙ ap (λ (k : ℕ). returned bytes k (get (parts_packed row).rules k)) same_ra)
 
@@ -155,13 +133,13 @@ given_of : (o : Option ℕ) (a : ℕ) → given (map_value Some (ok_or o (Unread
 given_of None a = refl
 given_of (Some n) a = refl
 
-module _ (memory : CfiMemory) (registers : List CfiValue) (cfa : ℕ) (rule : PackedRule) (k : ℕ) (offset : ℤ) (is : rule ≡ packed.Offset k offset) (is_size : IsAddressSize memory.address_size) where
-  pub given_saved : (o : Option ℕ) → number_in_memory memory (displaced memory.address_size cfa offset) memory.address_size ≡ o
+module _ (memory : CfiMemory) (registers : List CfiValue) (cfa : ℕ) (rule : PackedRule) (k : ℕ) (words : ℤ) (is : rule ≡ packed.Offset k words) (is_size : IsAddressSize memory.address_size) where
+  pub given_saved : (o : Option ℕ) → number_in_memory memory (displaced memory.address_size cfa (eightfold words)) memory.address_size ≡ o
       → (bytes : Position) → o ≡ given (by_rule (frame_of memory registers) bytes (abi_in memory) (λ (n : ℕ). n) cfa (pair_of rule).0.0 (pair_of rule).1)
   given_saved o there bytes =
-      let a = displaced memory.address_size cfa offset in
+      let a = displaced memory.address_size cfa (eightfold words) in
       let P : PackedRule → Type 0 = λ r. o ≡ given (by_rule (frame_of memory registers) bytes (abi_in memory) (λ (n : ℕ). n) cfa (pair_of r).0.0 (pair_of r).1) in
-      let here : P (packed.Offset k offset) = sym (given_of o a) ∙ ap given (saved memory a o is_size there registers) in
+      let here : P (packed.Offset k words) = sym (given_of o a) ∙ ap given (saved memory a o is_size there registers) in
       subst P (sym is) here
 
 -- ---- the caller

@@ -4,6 +4,7 @@ ghost use Rattle.cfi_read_core.specs.SliceReaders.{slice_position};
 ghost use Rattle.cfi_c.specs.FirstWindows.{IsFirstOf};
 
 use crate::memory::CfiMemory;
+use cfi_step::packed_rules::eightfold;
 use cfi_step::{Memory, Window};
 use gimli_cfi::{EndianSlice, LittleEndian, ReaderAddress};
 
@@ -17,6 +18,7 @@ pub struct FirstWindow<'a> {
 impl<'a> FirstWindow<'a> {
     ghost use Rattle.std.specs.Prelude.{◌≡◌, Some, IfSome};
     ghost use Rattle.cfi_expression.specs.Arithmetic.{displaced};
+    ghost use Rattle.cfi_step.specs.PackedRules.{eightfold};
     ghost use Rattle.cfi_c.specs.declared.memory.CfiMemory.{CfiMemory};
     ghost use Rattle.cfi_c.specs.FirstWindows.{IsFirst};
     ghost use Rattle.cfi_c.specs.PassedMemories.{number_in_memory};
@@ -31,16 +33,16 @@ impl<'a> FirstWindow<'a> {
         }
     }
 
-    /// The number that is saved at the CFA plus an offset, if the window has it.
+    /// The number that is saved at the CFA plus so many words, if the window has it.
     #[inline(always)]
-    pub fn number_at(&self, cfa: u64, offset: i16) -> Option<u64>
+    pub fn number_at(&self, cfa: u64, words: i8) -> Option<u64>
         ensures { (memory : CfiMemory) → IsFirst memory self.now → IfSome result (λ n.
-            number_in_memory memory (displaced memory.address_size cfa offset) memory.address_size
-            ≡ Some n) }
+            number_in_memory memory (displaced memory.address_size cfa (eightfold words))
+            memory.address_size ≡ Some n) }
     {
         match &self.window {
             Some(window) => {
-                let distance = i64::from(offset).cast_unsigned();
+                let distance = eightfold(words).cast_unsigned();
                 window.read(cfa.wrapping_add_sized(distance, 8), 8)
             }
             None => None,

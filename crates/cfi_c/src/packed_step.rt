@@ -9,12 +9,13 @@ ghost use Rattle.cfi_expression.specs.declared.error.FrameError.TheVariants.{Unk
 ghost use Rattle.cfi_step.specs.Callers.{by_rule, cfa_of, given, return_address, saved_at};
 ghost use Rattle.cfi_step.specs.Callers.{without_rule};
 ghost use Rattle.cfi_step.specs.PackedRows.{parts_packed};
-ghost use Rattle.cfi_step.specs.PackedRules.{numbered, pair_of};
+ghost use Rattle.cfi_step.specs.PackedRules.{eightfold, numbered, pair_of};
 ghost use Rattle.cfi_c.specs.FirstWindows.{IsFirst};
 ghost use Rattle.cfi_c.specs.declared.stack.CfiValue.{CfiValue};
 ghost use Rattle.cfi_c.specs.PackedSteps.{AreOfCaller, IsCallerBy, IsCallerFrom, IsPcBy, IsPcOf};
 ghost use Rattle.cfi_c.specs.PackedSteps.{IsSteppedBy, frame_of, values_of};
 ghost use Rattle.cfi_c.specs.PassedMemories.{abi_in, number_in_memory};
+ghost use Rattle.cfi_c.specs.PassedStacks.{known_value};
 ghost use Rattle.cfi_c.specs.SteppedFrames.{AreValues, caller_or, end_at};
 ghost use Rattle.cfi_c.specs.SteppedFrames.{written_value};
 
@@ -23,7 +24,7 @@ use crate::function::{CfiFunction, written_function};
 use crate::memory::CfiMemory;
 use crate::stack::{CfiEnd, CfiValue, failed_end, known_value};
 use crate::step::{CfiCaller, NONE};
-use cfi_step::packed_rules::rule_of;
+use cfi_step::packed_rules::{eightfold, rule_of};
 use cfi_step::{Caller, FrameError, Memory, PackedRow, PackedRule};
 use gimli_cfi::{ReaderAddress, Register};
 
@@ -157,8 +158,8 @@ fn caller_pc(
     let register = row.return_address();
     let rule = rule_of(row.rules(), register);
     // most rules
-    if let Some(PackedRule::Offset(_register, offset)) = rule {
-        if let Some(pc) = first.number_at(cfa, offset) {
+    if let Some(PackedRule::Offset(_register, words)) = rule {
+        if let Some(pc) = first.number_at(cfa, words) {
             return Ok(Some(pc));
         }
     }
@@ -180,17 +181,10 @@ fn pc_by_rule(
 {
     match rule {
         Some(PackedRule::Undefined(_register)) => Ok(None),
-        Some(PackedRule::SameValue(_register)) => pc_of(known(registers, register), register),
-        Some(PackedRule::Offset(_register, offset)) => saved_at(
+        Some(PackedRule::Offset(_register, words)) => saved_at(
             memory,
-            displaced(cfa, i64::from(offset), memory.address_size),
+            displaced(cfa, eightfold(words), memory.address_size),
         ),
-        Some(PackedRule::ValOffset(_register, offset)) => Ok(Some(displaced(
-            cfa,
-            i64::from(offset),
-            memory.address_size,
-        ))),
-        Some(PackedRule::Register(_register, other)) => pc_of(known(registers, other), register),
         None => pc_of(without_rule(memory, registers, cfa, register), register),
     }
 }
@@ -254,7 +248,7 @@ fn write_registers(
     // from the last rule to the first, which is the one that holds if a register has two
     let rules = row.rules();
     for index in (0..rules.len()).rev() {
-        write_by_rule(&rules[index], memory, first, registers, cfa, caller);
+        write_by_rule(&rules[index], memory, first, cfa, caller);
     }
 }
 
@@ -264,21 +258,21 @@ fn write_by_rule(
     rule: &PackedRule,
     memory: &CfiMemory<'_>,
     first: &FirstWindow<'_>,
-    registers: &[CfiValue],
     cfa: u64,
     caller: &mut [CfiValue],
 )
     requires size { IsAddressSize memory.now.address_size }
     requires first { IsFirst memory.now first.now }
-    ensures { (bytes : Position) → caller.new ≡ slice_set caller.old (pair_of rule.now).0.0
-        (written_value (given (by_rule (frame_of memory.now registers.now) bytes
+    ensures { (registers : List CfiValue) (bytes : Position) → caller.new
+        ≡ slice_set caller.old (pair_of rule.now).0.0
+        (written_value (given (by_rule (frame_of memory.now registers) bytes
         (abi_in memory.now) (λ (n : ℕ). n) cfa (pair_of rule.now).0.0 (pair_of rule.now).1))) }
 {
     let register = rule.register();
     if usize::from(register) >= caller.len() {
         return;
     }
-    let value = value_of(rule, memory, first, registers, cfa);
+    let value = value_of(rule, memory, first, cfa);
     write_value(caller, register, value);
 }
 
@@ -288,54 +282,45 @@ fn value_of(
     rule: &PackedRule,
     memory: &CfiMemory<'_>,
     first: &FirstWindow<'_>,
-    registers: &[CfiValue],
     cfa: u64,
 ) -> Option<u64>
     requires size { IsAddressSize memory.now.address_size }
     requires first { IsFirst memory.now first.now }
-    ensures { (bytes : Position) → result ≡ given (by_rule (frame_of memory.now registers.now)
-        bytes (abi_in memory.now) (λ (n : ℕ). n) cfa (pair_of rule.now).0.0 (pair_of rule.now).1) }
+    ensures { (registers : List CfiValue) (bytes : Position) → result
+        ≡ given (by_rule (frame_of memory.now registers) bytes (abi_in memory.now) (λ (n : ℕ). n)
+        cfa (pair_of rule.now).0.0 (pair_of rule.now).1) }
 {
     // most rules
-    if let PackedRule::Offset(_register, offset) = *rule {
-        if let Some(number) = first.number_at(cfa, offset) {
+    if let PackedRule::Offset(_register, words) = *rule {
+        if let Some(number) = first.number_at(cfa, words) {
             return Some(number);
         }
     }
-    value_by_rule(rule, memory, registers, cfa)
+    value_by_rule(rule, memory, cfa)
 }
 
 /// The same, whatever the rule is.
 #[inline(never)]
-fn value_by_rule(
-    rule: &PackedRule,
-    memory: &CfiMemory<'_>,
-    registers: &[CfiValue],
-    cfa: u64,
-) -> Option<u64>
+fn value_by_rule(rule: &PackedRule, memory: &CfiMemory<'_>, cfa: u64) -> Option<u64>
     requires size { IsAddressSize memory.now.address_size }
-    ensures { (bytes : Position) → result ≡ given (by_rule (frame_of memory.now registers.now)
-        bytes (abi_in memory.now) (λ (n : ℕ). n) cfa (pair_of rule.now).0.0 (pair_of rule.now).1) }
+    ensures { (registers : List CfiValue) (bytes : Position) → result
+        ≡ given (by_rule (frame_of memory.now registers) bytes (abi_in memory.now) (λ (n : ℕ). n)
+        cfa (pair_of rule.now).0.0 (pair_of rule.now).1) }
 {
     match *rule {
-        PackedRule::Offset(_register, offset) => saved_value(memory, cfa, offset),
         PackedRule::Undefined(_register) => None,
-        PackedRule::SameValue(register) => known(registers, register),
-        PackedRule::ValOffset(_register, offset) => {
-            Some(displaced(cfa, i64::from(offset), memory.address_size))
-        }
-        PackedRule::Register(_register, other) => known(registers, other),
+        PackedRule::Offset(_register, words) => saved_value(memory, cfa, words),
     }
 }
 
-/// The number that is saved at the CFA plus an offset, if it can be read.
-fn saved_value(memory: &CfiMemory<'_>, cfa: u64, offset: i16) -> Option<u64>
+/// The number that is saved at the CFA plus so many words, if it can be read.
+fn saved_value(memory: &CfiMemory<'_>, cfa: u64, words: i8) -> Option<u64>
     requires size { IsAddressSize memory.now.address_size }
     ensures { result ≡ number_in_memory memory.now
-        (displaced memory.now.address_size cfa offset) memory.now.address_size }
+        (displaced memory.now.address_size cfa (eightfold words)) memory.now.address_size }
 {
     let size = memory.address_size;
-    memory.read(displaced(cfa, i64::from(offset), size), size)
+    memory.read(displaced(cfa, eightfold(words), size), size)
 }
 
 /// Writes what is known of each register for which there is room.
@@ -345,7 +330,7 @@ fn copy_values(registers: &[CfiValue], caller: &mut [CfiValue])
 {
     let count = registers.len().min(caller.len());
     for k in 0..count {
-        write_at(caller, k, known_value(registers[k]));
+        copy_at(caller, k, registers[k]);
     }
     for rest in count..caller.len() {
         write_at(caller, rest, None);
@@ -368,6 +353,25 @@ fn write_at(caller: &mut [CfiValue], index: usize, value: Option<u64>)
     if index < caller.len() {
         write_into(&mut caller[index], value);
     }
+}
+
+/// Writes what is known of a register if there is room.
+#[inline(always)]
+fn copy_at(caller: &mut [CfiValue], index: usize, register: CfiValue)
+    ensures { caller.new ≡ slice_set caller.old index (written_value (known_value register)) }
+{
+    if index < caller.len() {
+        copy_into(&mut caller[index], register);
+    }
+}
+
+/// Writes what is known of a register: a field at a time, as in `write_into`, and without a branch.
+#[inline(always)]
+fn copy_into(into: &mut CfiValue, register: CfiValue)
+    ensures { into.new ≡ written_value (known_value register) }
+{
+    into.value = if register.known { register.value } else { 0 };
+    into.known = register.known;
 }
 
 /// Writes the value of a register: a field at a time, so that the bytes between them aren't copied.

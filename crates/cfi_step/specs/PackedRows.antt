@@ -11,14 +11,13 @@
 --     IsKept .. loaded a file old new      what the FDE that the module has for an address of the
 --         file has may have been kept
 --     AreEmpty rows      none is a row
-use Rattle.std.specs.Prelude.{◌≡◌, ◌⊎◌, ℕ, Bool, false, true, List, map, Option, Some, None, Result}
-use Rattle.std.specs.Prelude.{Ok, Err, IfOk, slice_set}
+use Rattle.std.specs.Prelude.{◌≡◌, ◌⊎◌, ℕ, ℤ, Bool, false, true, List, map, Option, Some, None}
+use Rattle.std.specs.Prelude.{Result, Ok, Err, IfOk, slice_set}
 use Rattle.std.specs.List.{All}
 use Rattle.cfi_read_core.specs.declared.error.Error.{Error}
 use Rattle.cfi_read_core.specs.ReadFunctions.{Position}
 use Rattle.cfi_parts.specs.declared.pointer.Pointer.{Pointer}
 use Rattle.cfi_parts.specs.declared.pointer.Pointer.TheVariants.{Direct, Indirect}
-use Rattle.cfi_parts.specs.Pointers.{pointer_value}
 use Rattle.cfi_state.specs.declared.table.rules.CfaRule.TheVariants as cfa
 use Rattle.cfi_state.specs.Machine.{Parts}
 use Rattle.cfi_state.specs.MappedStates.{map_row}
@@ -27,6 +26,7 @@ use Rattle.cfi_state.specs.RulePairs.{rules_of}
 use Rattle.cfi_entry.specs.Fdes.{Covers, Fde}
 use Rattle.cfi_entry.specs.Sections.{Section}
 use Rattle.cfi_unwind.specs.AddressRow.{IsRowOfFde}
+use Rattle.cfi_expression.specs.Arithmetic.{displaced}
 use Rattle.cfi_step.specs.declared.function.Function.{Function}
 use Rattle.cfi_step.specs.declared.module.LoadedModule.{LoadedModule}
 use Rattle.cfi_step.specs.declared.packed_rows.PackedRow.{PackedRow}
@@ -36,14 +36,14 @@ use Rattle.cfi_step.specs.declared.packed_rows.SmallNumbers.{SmallNumbers}
 use Rattle.cfi_step.specs.declared.row_cache.RowCache.{RowCache}
 use Rattle.cfi_step.specs.Functions.{function_of}
 use Rattle.cfi_step.specs.Modules.{IsFoundIn, module_section}
-use Rattle.cfi_step.specs.PackedRules.{numbered, pair_of}
+use Rattle.cfi_step.specs.PackedRules.{eightfold, listed, numbered, pair_of}
 
 -- ---- a packed row
 
 abbrev pub parts_packed : PackedRow → Parts ℕ
 parts_packed row = record {
-  cfa = cfa.RegisterAndOffset (numbered row.numbers.cfa_register) row.numbers.cfa_offset;
-  rules = rules_of (map pair_of row.rules.items);
+  cfa = cfa.RegisterAndOffset (numbered row.numbers.cfa_register) (eightfold row.numbers.cfa_words);
+  rules = rules_of (map pair_of (listed row.rules));
   args_size = row.numbers.args_size;
 }
 
@@ -57,23 +57,23 @@ kind_of None = pointer.Absent
 kind_of (Some (Direct a)) = pointer.Direct
 kind_of (Some (Indirect a)) = pointer.Indirect
 
-abbrev pub address_of : Option Pointer → ℕ
-address_of None = 0
-address_of (Some p) = pointer_value p
-
 -- the small numbers are those of the row and of the function
 abbrev pub AreNumbersOf : Parts ℕ → Function → SmallNumbers → Type 0
 AreNumbersOf parts function n =
-    (cfa.RegisterAndOffset (numbered n.cfa_register) n.cfa_offset ≡ parts.cfa)
+    (cfa.RegisterAndOffset (numbered n.cfa_register) (eightfold n.cfa_words) ≡ parts.cfa)
     × (n.args_size ≡ parts.args_size) × (numbered n.return_address ≡ function.return_address)
     × (n.fde ≡ function.offset)
 
+-- an address of the function, by its distance from that of the row
+abbrev pub near : PackedRow → ℤ → ℕ
+near row distance = displaced 8 row.address distance
+
 abbrev pub function_packed : PackedRow → Function
 function_packed row = record {
-  start = row.start;
-  end = row.end;
-  lsda = pointer_of row.lsda_kind row.lsda;
-  personality = pointer_of row.personality_kind row.personality;
+  start = near row row.distances.start;
+  end = near row row.distances.end;
+  lsda = pointer_of row.numbers.lsda_kind (near row row.distances.lsda);
+  personality = pointer_of row.numbers.personality_kind (near row row.distances.personality);
   return_address = numbered row.numbers.return_address;
   is_signal_trampoline = row.is_signal_trampoline;
   offset = row.numbers.fde;

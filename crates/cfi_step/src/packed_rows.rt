@@ -1,11 +1,14 @@
-//! Rows in 128 bytes, with what their FDEs say of their functions.
+//! Rows in 64 bytes, with what their FDEs say of their functions.
 ghost use Rattle.std.specs.Prelude.{◌≡◌, IfSome};
-ghost use Rattle.cfi_step.specs.PackedRows.{AreNumbersOf, address_of, kind_of, pointer_of};
+ghost use Rattle.cfi_expression.specs.Arithmetic.{displaced};
+ghost use Rattle.cfi_step.specs.PackedRows.{AreNumbersOf, kind_of, pointer_of};
+ghost use Rattle.cfi_step.specs.PackedRules.{eightfold};
 
 use crate::function::Function;
-use crate::packed_rules::{PackedRule, RULES, pack_rules};
-use arrayvec::ArrayVec;
-use gimli_cfi::{ArrayLike, CfaRule, Pointer, Register, RegisterRule, UnwindTableRow};
+use crate::packed_rules::{PackedRule, PackedRules};
+use gimli_cfi::{
+    ArrayLike, CfaRule, Pointer, ReaderAddress, Register, RegisterRule, UnwindTableRow,
+};
 
 /// What a pointer leads to.
 #[derive(Clone, Copy, Debug, PartialEq, Eq)]
@@ -23,62 +26,77 @@ pub enum PointerKind {
 pub struct SmallNumbers {
     /// The offset of the FDE in the section.
     pub fde: u32,
-    /// How far the CFA is from the value of a register.
-    pub cfa_offset: i32,
+    /// How far the CFA is from the value of a register, in eight bytes.
+    pub cfa_words: i16,
     /// How many bytes of arguments the frame has pushed.
     pub args_size: u16,
     /// That register.
     pub cfa_register: u8,
     /// The register that holds the return address.
     pub return_address: u8,
+    /// What the pointer to the language-specific data area leads to.
+    pub lsda_kind: PointerKind,
+    /// What the pointer to the personality routine leads to.
+    pub personality_kind: PointerKind,
+}
+
+/// How far the addresses of a function are from that of a row.
+#[derive(Clone, Copy, Debug)]
+pub struct Distances {
+    /// Its first address.
+    pub start: i32,
+    /// The first address after it.
+    pub end: i32,
+    /// The language-specific data area.
+    pub lsda: i32,
+    /// The personality routine.
+    pub personality: i32,
 }
 
 /// A row of an unwind table with what its FDE says of the function (DWARF 5 section 6.4.1), or
-/// none. It has at most 14 rules of registers, and is 128 bytes.
+/// none. It has at most 7 rules of registers, and is 64 bytes.
 #[derive(Drop)]
 pub struct PackedRow {
-    file: u64,
     address: u64,
-    start: u64,
-    end: u64,
-    lsda: u64,
-    personality: u64,
+    file: u32,
+    distances: Distances,
     numbers: SmallNumbers,
-    lsda_kind: PointerKind,
-    personality_kind: PointerKind,
     is_signal_trampoline: bool,
     is_kept: bool,
-    rules: ArrayVec<PackedRule, RULES>,
+    rules: PackedRules,
 }
 
 impl PackedRow {
     ghost use Rattle.std.specs.Prelude.{◌≡◌, ◌↔◌, IsTrue, false};
     ghost use Rattle.cfi_step.specs.PackedRows.{HoldsAtMost, HoldsRow, function_packed};
     ghost use Rattle.cfi_step.specs.PackedRows.{parts_packed};
+    ghost use Rattle.cfi_step.specs.PackedRules.{eightfold, listed};
 
     /// No row. Does not allocate.
     pub fn new() -> PackedRow
         ensures { result.is_kept ≡ false }
     {
         PackedRow {
-            file: 0,
             address: 0,
-            start: 0,
-            end: 0,
-            lsda: 0,
-            personality: 0,
+            file: 0,
+            distances: Distances {
+                start: 0,
+                end: 0,
+                lsda: 0,
+                personality: 0,
+            },
             numbers: SmallNumbers {
                 fde: 0,
-                cfa_offset: 0,
+                cfa_words: 0,
                 args_size: 0,
                 cfa_register: 0,
                 return_address: 0,
+                lsda_kind: PointerKind::Absent,
+                personality_kind: PointerKind::Absent,
             },
-            lsda_kind: PointerKind::Absent,
-            personality_kind: PointerKind::Absent,
             is_signal_trampoline: false,
             is_kept: false,
-            rules: ArrayVec::new(),
+            rules: PackedRules::none(),
         }
     }
 
@@ -95,12 +113,20 @@ impl PackedRow {
     pub fn is_of(&self, file: u64, address: u64) -> bool
         ensures { IsTrue result ↔ HoldsRow file address self.now }
     {
-        self.address == address && self.file == file && self.is_kept
+        self.address == address && u64::from(self.file) == file && self.is_kept
     }
 
     /// Whether that row couldn't be kept.
     pub fn is_refused(&self, file: u64, address: u64) -> bool {
-        self.address == address && self.file == file && !self.is_kept
+        self.address == address && u64::from(self.file) == file && !self.is_kept
+    }
+
+    /// Whether there is a row.
+    #[inline(always)]
+    pub fn is_kept(&self) -> bool
+        ensures { result ≡ self.now.is_kept }
+    {
+        self.is_kept
     }
 
     /// The register from which the CFA is counted.
@@ -114,15 +140,15 @@ impl PackedRow {
     /// How far the CFA is from the register's value.
     #[inline(always)]
     pub fn cfa_offset(&self) -> i64
-        ensures { result ≡ self.now.numbers.cfa_offset }
+        ensures { result ≡ eightfold self.now.numbers.cfa_words }
     {
-        i64::from(self.numbers.cfa_offset)
+        bytes_in(self.numbers.cfa_words)
     }
 
     /// The rules of registers. If a register occurs twice, its first rule holds.
     #[inline(always)]
     pub fn rules(&self) -> &[PackedRule]
-        ensures { result.now ≡ self.now.rules.items }
+        ensures { result.now ≡ listed self.now.rules }
     {
         self.rules.as_slice()
     }
@@ -156,11 +182,16 @@ impl PackedRow {
     pub fn function(&self) -> Function
         ensures { result ≡ function_packed self.now }
     {
+        let address = self.address;
+        let distances = self.distances;
         Function {
-            start: self.start,
-            end: self.end,
-            lsda: pointer_of(self.lsda_kind, self.lsda),
-            personality: pointer_of(self.personality_kind, self.personality),
+            start: displaced(address, distances.start),
+            end: displaced(address, distances.end),
+            lsda: pointer_of(self.numbers.lsda_kind, displaced(address, distances.lsda)),
+            personality: pointer_of(
+                self.numbers.personality_kind,
+                displaced(address, distances.personality),
+            ),
             return_address: Register(u16::from(self.numbers.return_address)),
             is_signal_trampoline: self.is_signal_trampoline,
             offset: u64::from(self.numbers.fde),
@@ -178,24 +209,56 @@ impl PackedRow {
     )
         ensures { HoldsAtMost file address row.now.parts function.now self.new }
     {
-        self.file = file;
-        self.address = address;
         self.is_kept = false;
+        let Ok(number) = u32::try_from(file) else {
+            return;
+        };
+        self.file = number;
+        self.address = address;
         let Some(numbers) = small_numbers(row, function) else {
             return;
         };
-        if pack_rules(row.registers().as_slice(), &mut self.rules) {
-            self.numbers = numbers;
-            self.start = function.start;
-            self.end = function.end;
-            self.lsda_kind = kind_of(function.lsda);
-            self.lsda = address_of(function.lsda);
-            self.personality_kind = kind_of(function.personality);
-            self.personality = address_of(function.personality);
-            self.is_signal_trampoline = function.is_signal_trampoline;
-            self.is_kept = true;
-        }
+        let Some(rules) = PackedRules::of(row.registers().as_slice()) else {
+            return;
+        };
+        self.distances = distances_of(address, function);
+        self.numbers = numbers;
+        self.rules = rules;
+        self.is_signal_trampoline = function.is_signal_trampoline;
+        // whether all of it was near enough
+        self.is_kept = self.function() == *function;
     }
+}
+
+/// How far the addresses of the function are from the address; 0 if one is too far.
+fn distances_of(address: u64, function: &Function) -> Distances {
+    Distances {
+        start: distance(address, function.start),
+        end: distance(address, function.end),
+        lsda: distance(address, address_of(function.lsda)),
+        personality: distance(address, address_of(function.personality)),
+    }
+}
+
+/// How far it is from one address to another; 0 if it is too far.
+fn distance(from: u64, to: u64) -> i32 {
+    i32::try_from(to.wrapping_sub(from).cast_signed()).unwrap_or(0)
+}
+
+/// An address plus a distance.
+#[inline(always)]
+fn displaced(address: u64, distance: i32) -> u64
+    ensures { result ≡ displaced 8 address distance }
+{
+    address.wrapping_add_sized(i64::from(distance).cast_unsigned(), 8)
+}
+
+/// So many words of eight bytes, in bytes.
+#[inline(always)]
+fn bytes_in(words: i16) -> i64
+    ensures { result ≡ eightfold words }
+{
+    i64::from(words).wrapping_mul(8)
 }
 
 /// The small numbers of a row and of its function; `None` if one is too large, or if the CFA is
@@ -209,10 +272,13 @@ fn small_numbers<A: ArrayLike<Item = (Register, RegisterRule<usize>)>>(
     let CfaRule::RegisterAndOffset { register, offset } = *row.cfa() else {
         return None;
     };
-    let (Ok(cfa_register), Ok(cfa_offset)) = (u8::try_from(register.0), i32::try_from(offset))
+    let (Ok(cfa_register), Ok(cfa_words)) = (u8::try_from(register.0), i16::try_from(offset / 8))
     else {
         return None;
     };
+    if bytes_in(cfa_words) != offset {
+        return None;
+    }
     let (Ok(args_size), Ok(fde)) = (
         u16::try_from(row.saved_args_size()),
         u32::try_from(function.offset),
@@ -224,10 +290,12 @@ fn small_numbers<A: ArrayLike<Item = (Register, RegisterRule<usize>)>>(
     };
     Some(SmallNumbers {
         fde,
-        cfa_offset,
+        cfa_words,
         args_size,
         cfa_register,
         return_address,
+        lsda_kind: kind_of(function.lsda),
+        personality_kind: kind_of(function.personality),
     })
 }
 
@@ -255,9 +323,7 @@ fn kind_of(pointer: Option<Pointer>) -> PointerKind
 }
 
 /// The address that a pointer has; 0 if there is none.
-fn address_of(pointer: Option<Pointer>) -> u64
-    ensures { result ≡ address_of pointer }
-{
+fn address_of(pointer: Option<Pointer>) -> u64 {
     match pointer {
         None => 0,
         Some(pointer) => pointer.pointer(),

@@ -1,15 +1,15 @@
-//! Rules of registers in four bytes.
-ghost use Rattle.std.specs.Prelude.{◌≡◌, IfSome, map, true};
+//! Rules of registers in three bytes.
+ghost use Rattle.std.specs.Prelude.{◌≡◌, IfSome, map};
 ghost use Rattle.std.specs.Option.{option_map};
 ghost use Rattle.std.specs.FinMap.{get};
 ghost use Rattle.gimli_cfi.specs.Words.{rules_of};
-ghost use Rattle.cfi_step.specs.PackedRules.{pair_of};
+ghost use Rattle.cfi_step.specs.PackedRules.{eightfold, listed, pair_of};
 
-use arrayvec::ArrayVec;
 use gimli_cfi::{Register, RegisterRule};
 
-/// The most rules of registers that a row may have that is packed.
-pub(crate) const RULES: usize = 14;
+/// The most rules of registers that a row may have that is packed: those of the six registers that
+/// calls preserve on x86-64, and that of the return address.
+const RULES: usize = 7;
 
 /// The rule of a register (DWARF 5 section 6.4.1): most that compilers write. The first number is
 /// the register's.
@@ -17,24 +17,8 @@ pub(crate) const RULES: usize = 14;
 pub enum PackedRule {
     /// It is lost.
     Undefined(u8),
-    /// It is the register's current value.
-    SameValue(u8),
-    /// It is saved at the CFA plus this offset.
-    Offset(u8, i16),
-    /// It is the CFA plus this offset.
-    ValOffset(u8, i16),
-    /// It is saved in another register.
-    Register(u8, u8),
-}
-
-impl Default for PackedRule {
-    ghost use Rattle.cfi_step.specs.declared.packed_rules.PackedRule.TheVariants.{Undefined};
-
-    ghost is_default = { λ rule. rule ≡ Undefined 0 };
-
-    fn default() -> PackedRule {
-        PackedRule::Undefined(0)
-    }
+    /// It is saved at the CFA plus eight times this number.
+    Offset(u8, i8),
 }
 
 impl PackedRule {
@@ -45,16 +29,62 @@ impl PackedRule {
     {
         match self {
             PackedRule::Undefined(register) => register,
-            PackedRule::SameValue(register) => register,
-            PackedRule::Offset(register, _offset) => register,
-            PackedRule::ValOffset(register, _offset) => register,
-            PackedRule::Register(register, _other) => register,
+            PackedRule::Offset(register, _words) => register,
         }
     }
 }
 
-/// The rule in four bytes; `None` if it is an expression, a constant or architectural, or if a
-/// number is too large.
+/// The rules of registers of a row, at most 7, in 22 bytes.
+#[derive(Clone, Copy, Debug)]
+pub struct PackedRules {
+    list: [PackedRule; RULES],
+    count: u8,
+}
+
+impl PackedRules {
+    /// No rules.
+    pub(crate) fn none() -> PackedRules {
+        PackedRules {
+            list: [PackedRule::Undefined(0); RULES],
+            count: 0,
+        }
+    }
+
+    /// These rules; `None` if there are more, or if one can't be packed.
+    pub(crate) fn of(rules: &[(Register, RegisterRule<usize>)]) -> Option<PackedRules>
+        ensures { IfSome result (λ packed. map pair_of (listed packed) ≡ rules.now) }
+    {
+        if rules.len() > RULES {
+            return None;
+        }
+        let mut list = [PackedRule::Undefined(0); RULES];
+        for index in 0..rules.len() {
+            let Some(rule) = packed(rules[index].0, rules[index].1) else {
+                return None;
+            };
+            list[index] = rule;
+        }
+        Some(PackedRules {
+            list,
+            count: rules.len() as u8,
+        })
+    }
+
+    /// The rules.
+    #[inline(always)]
+    pub(crate) fn as_slice(&self) -> &[PackedRule]
+        ensures { result.now ≡ listed self.now }
+    {
+        let count = usize::from(self.count);
+        if count < self.list.len() {
+            &self.list[..count]
+        } else {
+            &self.list
+        }
+    }
+}
+
+/// The rule in three bytes; `None` if it is not one of these, or if a number is too large.
 fn packed(register: Register, rule: RegisterRule<usize>) -> Option<PackedRule>
     ensures { IfSome result (λ packed. pair_of packed ≡ (register, rule)) }
 {
@@ -63,41 +93,20 @@ fn packed(register: Register, rule: RegisterRule<usize>) -> Option<PackedRule>
     };
     match rule {
         RegisterRule::Undefined => Some(PackedRule::Undefined(register)),
-        RegisterRule::SameValue => Some(PackedRule::SameValue(register)),
-        RegisterRule::Offset(offset) => match i16::try_from(offset) {
-            Ok(offset) => Some(PackedRule::Offset(register, offset)),
-            Err(_error) => None,
-        },
-        RegisterRule::ValOffset(offset) => match i16::try_from(offset) {
-            Ok(offset) => Some(PackedRule::ValOffset(register, offset)),
-            Err(_error) => None,
-        },
-        RegisterRule::Register(other) => match u8::try_from(other.0) {
-            Ok(other) => Some(PackedRule::Register(register, other)),
-            Err(_error) => None,
+        RegisterRule::Offset(offset) => match i8::try_from(offset / 8) {
+            Ok(words) if eightfold(words) == offset => Some(PackedRule::Offset(register, words)),
+            _ => None,
         },
         _ => None,
     }
 }
 
-/// Writes the rules in the place of those that are there, and returns whether there is room and all
-/// can be packed.
-pub(crate) fn pack_rules(
-    rules: &[(Register, RegisterRule<usize>)],
-    list: &mut ArrayVec<PackedRule, RULES>,
-) -> bool
-    ensures { result ≡ true → map pair_of list.new.items ≡ rules.now }
+/// Eight times the number.
+#[inline(always)]
+pub fn eightfold(words: i8) -> i64
+    ensures { result ≡ eightfold words }
 {
-    list.clear();
-    for pair in rules {
-        let Some(rule) = packed(pair.0, pair.1) else {
-            return false;
-        };
-        if list.try_push(rule).is_err() {
-            return false;
-        }
-    }
-    true
+    i64::from(words).wrapping_mul(8)
 }
 
 /// The register's rule: the first that it has.

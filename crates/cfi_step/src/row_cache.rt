@@ -11,11 +11,11 @@ use std::alloc::Global;
 /// 2 ^ 64 divided by the golden ratio: what addresses are multiplied with to be spread.
 const SPREAD: u64 = 0x9e37_79b9_7f4a_7c15;
 
-/// How many rows a set has: an address of a file has its place in one of them.
+/// How many rows a set has. An address of a file has its place in one of two sets.
 const WAYS: usize = 4;
 
 /// Rows by their files and addresses, four in each set, with what their FDEs say of their
-/// functions.
+/// functions. A row takes 64 bytes, and is kept in one of two sets.
 #[derive(Drop)]
 pub struct RowCache {
     rows: Vec<PackedRow>,
@@ -81,9 +81,9 @@ impl RowCache {
         ensures { KeepsRow file address row.now.parts function.now
             (rows_in self.old) (rows_in self.new) }
     {
-        let way = self.next % WAYS;
+        let turn = self.next;
         self.next = self.next.wrapping_add(1);
-        keep_in(self.rows.as_mut_slice(), way, file, address, row, function);
+        keep_in(self.rows.as_mut_slice(), turn, file, address, row, function);
     }
 }
 
@@ -96,12 +96,23 @@ fn clear_rows(rows: &mut [PackedRow])
     }
 }
 
-/// The row of the address of the file, if it is in its set.
+/// The row of the address of the file, if it is in one of its sets.
 #[inline(always)]
 fn row_in(rows: &[PackedRow], file: u64, address: u64) -> Option<&PackedRow>
     ensures { IfSome result (λ row. HoldsRow file address row.now × Contains rows.now row.now) }
 {
-    let first = set_of(file, address, rows.len() / WAYS).wrapping_mul(WAYS);
+    let spread = spread_of(file, address);
+    match row_in_set(rows, first_set(spread, rows.len()), file, address) {
+        Some(row) => Some(row),
+        None => row_in_set(rows, second_set(spread, rows.len()), file, address),
+    }
+}
+
+/// The row of the address of the file, if it is in the set that begins at this index.
+#[inline(always)]
+fn row_in_set(rows: &[PackedRow], first: usize, file: u64, address: u64) -> Option<&PackedRow>
+    ensures { IfSome result (λ row. HoldsRow file address row.now × Contains rows.now row.now) }
+{
     for way in 0..WAYS {
         let index = first.wrapping_add(way);
         if index < rows.len() && rows[index].is_of(file, address) {
@@ -111,9 +122,15 @@ fn row_in(rows: &[PackedRow], file: u64, address: u64) -> Option<&PackedRow>
     None
 }
 
-/// Whether a row of the set was refused for the address of the file.
+/// Whether a row of the sets was refused for the address of the file.
 fn is_refused_in(rows: &[PackedRow], file: u64, address: u64) -> bool {
-    let first = set_of(file, address, rows.len() / WAYS).wrapping_mul(WAYS);
+    let spread = spread_of(file, address);
+    is_refused_in_set(rows, first_set(spread, rows.len()), file, address)
+        || is_refused_in_set(rows, second_set(spread, rows.len()), file, address)
+}
+
+/// Whether a row of the set was refused for the address of the file.
+fn is_refused_in_set(rows: &[PackedRow], first: usize, file: u64, address: u64) -> bool {
     for way in 0..WAYS {
         let index = first.wrapping_add(way);
         if index < rows.len() && rows[index].is_refused(file, address) {
@@ -123,10 +140,11 @@ fn is_refused_in(rows: &[PackedRow], file: u64, address: u64) -> bool {
     false
 }
 
-/// Keeps the row in its set, in place of the one there.
+/// Keeps the row in one of its sets: in a place without a row, or in the place of the one whose
+/// turn it is.
 fn keep_in<A: ArrayLike<Item = (Register, RegisterRule<usize>)>>(
     rows: &mut [PackedRow],
-    way: usize,
+    turn: usize,
     file: u64,
     address: u64,
     row: &UnwindTableRow<usize, A>,
@@ -134,17 +152,63 @@ fn keep_in<A: ArrayLike<Item = (Register, RegisterRule<usize>)>>(
 )
     ensures { KeepsRow file address row.now.parts function.now rows.old rows.new }
 {
-    let first = set_of(file, address, rows.len() / WAYS).wrapping_mul(WAYS);
-    let index = first.wrapping_add(way);
+    let index = place_of(rows, spread_of(file, address), turn);
     if index < rows.len() {
         rows[index].keep(file, address, row, function);
     }
 }
 
-/// The set for an address of a file. Each row holds both, so any would do.
+/// A place without a row in the two sets, if there is one; else the place whose turn it is.
+fn place_of(rows: &[PackedRow], spread: u64, turn: usize) -> usize {
+    let first = first_set(spread, rows.len());
+    let second = second_set(spread, rows.len());
+    for way in 0..WAYS {
+        if is_free(rows, first.wrapping_add(way)) {
+            return first.wrapping_add(way);
+        }
+    }
+    for way in 0..WAYS {
+        if is_free(rows, second.wrapping_add(way)) {
+            return second.wrapping_add(way);
+        }
+    }
+    let set = if turn % (2 * WAYS) < WAYS {
+        first
+    } else {
+        second
+    };
+    set.wrapping_add(turn % WAYS)
+}
+
+/// Whether there is no row in the place.
+fn is_free(rows: &[PackedRow], index: usize) -> bool {
+    index < rows.len() && !rows[index].is_kept()
+}
+
+/// The file and the address, mixed.
 #[inline(always)]
-fn set_of(file: u64, address: u64, count: usize) -> usize {
-    let mixed = address.wrapping_add(file.wrapping_mul(SPREAD));
-    let spread = mixed.wrapping_mul(SPREAD) >> 32;
-    (spread.wrapping_mul(count as u64) >> 32) as usize
+fn spread_of(file: u64, address: u64) -> u64 {
+    address
+        .wrapping_add(file.wrapping_mul(SPREAD))
+        .wrapping_mul(SPREAD)
+}
+
+/// Where the first of the two sets begins among so many rows. Each row holds its file and address,
+/// so any would do.
+#[inline(always)]
+fn first_set(spread: u64, count: usize) -> usize {
+    set_by(spread >> 32, count)
+}
+
+/// Where the second of them begins.
+#[inline(always)]
+fn second_set(spread: u64, count: usize) -> usize {
+    set_by(spread.wrapping_mul(SPREAD) >> 32, count)
+}
+
+/// Where a set begins, by a number of 32 bits.
+#[inline(always)]
+fn set_by(number: u64, count: usize) -> usize {
+    let sets = (count / WAYS) as u64;
+    ((number.wrapping_mul(sets) >> 32) as usize).wrapping_mul(WAYS)
 }

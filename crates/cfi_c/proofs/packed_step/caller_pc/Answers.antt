@@ -1,7 +1,8 @@
-use Rattle.std.proofs.Common.{◌≡◌, ℕ, ℤ, FitsSigned, IfSome, Ok, Some, rules, subst, w16}
+use Rattle.std.proofs.Common.{◌≡◌, ℕ, ℤ, FitsSigned, IfSome, Ok, Some, rules, subst, w8}
 use Rattle.std.proofs.lemmas.Int.{to_z-of_z}
 use Rattle.cfi_expression.specs.Arithmetic.{displaced}
 use Rattle.cfi_step.specs.declared.packed_rules.PackedRule.TheVariants.{Offset}
+use Rattle.cfi_step.specs.PackedRules.{eightfold}
 use Rattle.cfi_c.specs.PassedMemories.{number_in_memory}
 use Rattle.cfi_c.proofs.PackedReads.{by_first, by_row, if_some_at}
 use Rattle.cfi_c.proofs.packed_step.caller_pc.Goals as goal
@@ -11,15 +12,15 @@ returns-in-Some c =
     let memory = c.args.memory.now in
     let rule = c.rule_of-rule.result in
     let ra = c.return_address-register.result in
-    let offset = c.in-Some-Offset.offset in
-    let is : rule ≡ Some (Offset c.in-Some-Offset._register offset) = search rules in
-    let fits : FitsSigned w16 offset = search rules in
-    let found : IfSome c.number_at.result (λ n. number_in_memory memory (displaced memory.address_size c.args.cfa offset) memory.address_size ≡ Some n) =
-    subst (λ (z : ℤ). IfSome c.number_at.result (λ n. number_in_memory memory (displaced memory.address_size c.args.cfa z) memory.address_size ≡ Some n)) (to_z-of_z w16 offset fits)
+    let words = c.in-Some-Offset.words in
+    let is : rule ≡ Some (Offset c.in-Some-Offset._register words) = search rules in
+    let fits : FitsSigned w8 words = search rules in
+    let found : IfSome c.number_at.result (λ n. number_in_memory memory (displaced memory.address_size c.args.cfa (eightfold words)) memory.address_size ≡ Some n) =
+    subst (λ (z : ℤ). IfSome c.number_at.result (λ n. number_in_memory memory (displaced memory.address_size c.args.cfa (eightfold z)) memory.address_size ≡ Some n)) (to_z-of_z w8 words fits)
     (c.number_at.ensures memory c.requires.first) in
-    let read = if_some_at (λ (n : ℕ). number_in_memory memory (displaced memory.address_size c.args.cfa offset) memory.address_size ≡ Some n) c.number_at.result c.in-Some.pc c.in-Some.is found in
+    let read = if_some_at (λ (n : ℕ). number_in_memory memory (displaced memory.address_size c.args.cfa (eightfold words)) memory.address_size ≡ Some n) c.number_at.result c.in-Some.pc c.in-Some.is found in
     by_row memory c.args.registers.now c.args.row.now c.args.cfa ra c.rules.result.now rule (Ok (Some c.in-Some.pc)) c.return_address-register.ensures c.rules.ensures c.rule_of-rule.ensures
-    (by_first memory c.args.registers.now c.args.cfa ra rule c.in-Some-Offset._register offset is c.requires.size c.in-Some.pc read)
+    (by_first memory c.args.registers.now c.args.cfa ra rule c.in-Some-Offset._register words is c.requires.size c.in-Some.pc read)
 
 pub returns : goal.returns
 returns c =

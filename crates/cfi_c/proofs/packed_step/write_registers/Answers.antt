@@ -24,7 +24,7 @@ loop-index-preserved c =
     let here : drop index rules ≡ rule ∷ drop c.loop-index.index rules =
     drop_more rules index (Undefined 0) (omega (arith, c.loop-index-test.true)) ∙ ap (λ (m : ℕ). rule ∷ drop m rules) (sym next) in
     one_further c.args.memory.now c.args.registers.now (parts_packed c.args.row.now) c.args.cfa (drop index rules) (drop c.loop-index.index rules) rule here
-    c.loop-index.caller c.write_by_rule.new.caller c.loop-index.invariant c.write_by_rule.ensures
+    c.loop-index.caller c.write_by_rule.new.caller c.loop-index.invariant (c.write_by_rule.ensures c.args.registers.now)
 
 pub returns : goal.returns
 returns c =
