@@ -130,6 +130,8 @@ static inline __attribute__((always_inline)) enum found step_with(struct workspa
     return_address->known = walk->frame->is_interrupted;
     if (!IS_AARCH64)
         return_address->value = walk->frame->pc;
+    if (workspace->first_steps && !--workspace->first_steps)
+        enlarge_cache(workspace);
     look_from(workspace, walk->frame->cfa);
     uint32_t kind = step_once(workspace, walk, module, file, &end);
     if (kind == CFI_END_NONE && !lost_register(walk))

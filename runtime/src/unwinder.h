@@ -190,6 +190,8 @@ struct workspace {
     bool is_busy;
     _Unwind_Personality_Fn personality; /* the last that was found to be a function */
     char *free, *end;                   /* memory for the library */
+    char *rows;                         /* that of the cache */
+    unsigned first_steps;               /* after so many steps the cache is made larger; never if 0 */
     struct known_modules *modules;
 };
 
@@ -197,6 +199,9 @@ enum { NESTED = 4 /* a throw, and handlers of signals that interrupt each other 
 
 /* Those of this thread, as far as they are made. */
 extern HIDDEN LOCAL struct workspace *own_workspaces[NESTED];
+
+/* Makes the cache as large as it gets, without a row. */
+HIDDEN void enlarge_cache(struct workspace *workspace);
 
 /* Where the first isn't free, and where it may be the reserve that is given back. */
 HIDDEN struct workspace *take_other_workspace(void);

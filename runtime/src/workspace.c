@@ -12,11 +12,12 @@ enum {
     LINE = 64,           /* of the processor's cache: a row takes one */
     SETS = 325,          /* of four rows: so that 128 kB of all this are touched */
     ROWS = SETS * 4 * 64,
+    FIRST_SETS = 32, FIRST_STEPS = 64, /* so many sets for so many steps: a thread that throws once touches fewer pages */
     CONTEXT = 64 * 1024, /* more than a context takes */
     MEMORY = CONTEXT + ROWS,
     STACK = 512 * 1024,  /* on which they are made: more than a thread may have */
     AWAY = 1 << 21,      /* so far from other stacks that valgrind sees one of its own */
-    TOUCHED = 38 * 1024 + ROWS, TOUCHED_STACK = 168 * 1024 /* as far as they take them now */
+    TOUCHED = 38 * 1024 + FIRST_SETS * 4 * 64, TOUCHED_STACK = 168 * 1024 /* as far as they take them now */
 };
 
 /* Pages are touched only when they are needed: the first modules are in two. */
@@ -27,7 +28,7 @@ struct region {
 };
 
 LOCAL struct workspace *own_workspaces[NESTED];
-static LOCAL struct workspace *made; /* while its context is made: whose memory the library takes */
+static LOCAL struct workspace *made; /* while its context or cache is made: whose memory the library takes */
 
 static pthread_key_t key;
 static bool has_key;
@@ -87,9 +88,22 @@ static void touch(void *start, size_t size) {
 /* Without memory for the cache there is none: then each row is found anew. */
 static int32_t fill(struct workspace *workspace) {
     int32_t status = cfi_context_new(&workspace->context);
-    if (status == CFI_Ok)
-        cfi_cache_new(SETS, &workspace->cache);
+    if (status == CFI_Ok) {
+        workspace->rows = workspace->free;
+        workspace->first_steps = FIRST_STEPS;
+        cfi_cache_new(FIRST_SETS, &workspace->cache);
+    }
     return status;
+}
+
+void enlarge_cache(struct workspace *workspace) {
+    struct workspace *was = made;
+    cfi_cache_free(&workspace->cache);
+    workspace->free = workspace->rows;
+    touch(workspace->rows, ROWS);
+    made = workspace;
+    cfi_cache_new(SETS, &workspace->cache);
+    made = was;
 }
 
 /* Makes the workspace of a region of zeros, on a stack of STACK bytes. */
