@@ -1,3 +1,4 @@
+pub mod BuildSteps
 pub mod Chains
 pub mod EntrySteps
 pub mod EventSteps

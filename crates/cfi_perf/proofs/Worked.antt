@@ -12,13 +12,13 @@ use Rattle.cfi_perf.specs.EventNames.{behind_others, described, described_name, 
 use Rattle.cfi_perf.specs.EventTables.{EventTable, event_of_id}
 use Rattle.cfi_perf.specs.FileHeaders.{byte_order, file_section, feature_bits, header_fields, file_header}
 use Rattle.cfi_perf.specs.Samples.{UserRegisters, register_of, thread, sample_numbers, processor, later_numbers, group_values, single_value, call_chain, raw_data, branch_stack, passed_lists, registers, copied_stack, stack, user_state, sample}
-use Rattle.cfi_perf.specs.Events.{MappingEvent, ProgramEvent, ForkEvent, SampleEvent, OtherEvent, mapped_range, mapping, mapping2, program, fork}
-use Rattle.cfi_perf.specs.Records.{record_header, split_record, sample_id_time, without_id, record_of, first_record, records_up_to, records_of}
-use Rattle.cfi_perf.specs.Profiles.{EventSection, Profile, events_by, profile, architecture, descriptions, event_table, machine_by, profile_records}
+use Rattle.cfi_perf.specs.Events.{Mapping, own_build_id, MappingEvent, ProgramEvent, ForkEvent, SampleEvent, OtherEvent, mapped_range, mapping, mapping2, program, fork}
+use Rattle.cfi_perf.specs.Records.{record_header, split_record, id_of, id_up_to, with_build_id, sample_id_time, without_id, record_of, first_record, records_up_to, records_of}
+use Rattle.cfi_perf.specs.Profiles.{EventSection, Profile, events_by, profile, architecture, build_ids, descriptions, event_table, machine_by, profile_records}
 
 -- to name it on an `unfolding` line is to open all these
 unfoldable computing : ℕ
-unfolding unsigned items entries sample_format sample_id_all chosen attribute event file_section feature_bits header_fields file_header thread sample_numbers processor later_numbers group_values single_value call_chain raw_data branch_stack passed_lists registers copied_stack stack user_state sample mapped_range mapping mapping2 program fork record_header split_record sample_id_time without_id record_of first_record records_up_to behind_others described description events_by profile architecture descriptions event_table header_text lib.Count.ones
+unfolding unsigned items entries sample_format sample_id_all chosen attribute event file_section feature_bits header_fields file_header thread sample_numbers processor later_numbers group_values single_value call_chain raw_data branch_stack passed_lists registers copied_stack stack user_state sample mapped_range mapping mapping2 program fork record_header split_record sample_id_time without_id record_of first_record id_up_to records_up_to behind_others described description events_by profile architecture descriptions build_ids event_table header_text lib.Count.ones
 computing = 0
 
 -- the bytes of hexadecimal text, whose letters are small
@@ -85,7 +85,7 @@ worked_event = record { attribute = record { kind = 1; config = 0; layout = work
 
 -- it is cpu-clock, alone
 abbrev worked_table : Bool → EventTable
-worked_table big = record { big_endian = big; bytes = []; descriptions = []; entries = worked_event ∷ []; first = record { layout = worked_layout; name = codes "cpu-clock" }; is_alone = true }
+worked_table big = record { big_endian = big; bytes = []; descriptions = []; entries = worked_event ∷ []; first = record { layout = worked_layout; name = codes "cpu-clock" }; is_alone = true; build_ids = [] }
 
 abbrev little_event : List ℕ
 little_event = hex (codes "01000000600000000000000000000000102700000000000027310000000000000000000000000000000004000000000000000000000000000000000000000000000000000000000000000000000000008101000000000000100000000000000000000000000000000000000000000000")
@@ -139,7 +139,7 @@ abbrev little_mapping : List ℕ
 little_mapping = hex (codes "0a00000002006000070000000700000000004000000000000010000000000000002000000000000000000000000000000000000000000000000000000000000005000000020000002f62696e2f61000007000000070000000b00000000000000")
 
 little_mapping_read : records_of (worked_table false) false little_mapping ≡ record {
-  records = record { time = 11; event = MappingEvent (record { pid = 7; address = 0x400000; length = 0x1000; offset = 0x2000; is_executable = true; name = codes "/bin/a" }) } ∷ [];
+  records = record { time = 11; event = MappingEvent (record { pid = 7; address = 0x400000; length = 0x1000; offset = 0x2000; is_executable = true; name = codes "/bin/a"; build_id = None }) } ∷ [];
   error = None;
 }
 unfolding computing
@@ -176,7 +176,7 @@ abbrev big_mapping : List ℕ
 big_mapping = hex (codes "0000000a00020060000000070000000700000000004000000000000000001000000000000000200000000000000000000000000000000000000000000000000000000005000000022f62696e2f6100000000000700000007000000000000000b")
 
 big_mapping_read : records_of (worked_table true) true big_mapping ≡ record {
-  records = record { time = 11; event = MappingEvent (record { pid = 7; address = 0x400000; length = 0x1000; offset = 0x2000; is_executable = true; name = codes "/bin/a" }) } ∷ [];
+  records = record { time = 11; event = MappingEvent (record { pid = 7; address = 0x400000; length = 0x1000; offset = 0x2000; is_executable = true; name = codes "/bin/a"; build_id = None }) } ∷ [];
   error = None;
 }
 unfolding computing
@@ -208,11 +208,11 @@ unfolding computing
 a_new_process = refl
 
 -- of PERF_RECORD_MMAP
-mapped_data : records_of (worked_table false) false (hex (codes "010000000220400007000000070000000000600000000000001000000000000000000000000000002f6400000000000007000000070000000d00000000000000")) ≡ record { records = record { time = 13; event = MappingEvent (record { pid = 7; address = 0x600000; length = 0x1000; offset = 0; is_executable = false; name = codes "/d" }) } ∷ []; error = None }
+mapped_data : records_of (worked_table false) false (hex (codes "010000000220400007000000070000000000600000000000001000000000000000000000000000002f6400000000000007000000070000000d00000000000000")) ≡ record { records = record { time = 13; event = MappingEvent (record { pid = 7; address = 0x600000; length = 0x1000; offset = 0; is_executable = false; name = codes "/d"; build_id = None }) } ∷ []; error = None }
 unfolding computing
 mapped_data = refl
 
-mapped_code : records_of (worked_table false) false (hex (codes "010000000200400007000000070000000000600000000000001000000000000000000000000000002f6400000000000007000000070000000d00000000000000")) ≡ record { records = record { time = 13; event = MappingEvent (record { pid = 7; address = 0x600000; length = 0x1000; offset = 0; is_executable = true; name = codes "/d" }) } ∷ []; error = None }
+mapped_code : records_of (worked_table false) false (hex (codes "010000000200400007000000070000000000600000000000001000000000000000000000000000002f6400000000000007000000070000000d00000000000000")) ≡ record { records = record { time = 13; event = MappingEvent (record { pid = 7; address = 0x600000; length = 0x1000; offset = 0; is_executable = true; name = codes "/d"; build_id = None }) } ∷ []; error = None }
 unfolding computing
 mapped_code = refl
 
@@ -338,7 +338,7 @@ told_apart : first_event (clock ∷ faults ∷ []) ≡ Ok clock
 told_apart = refl
 
 abbrev two : EventTable
-two = record { big_endian = false; bytes = two_ids; descriptions = two_names; entries = clock ∷ faults ∷ []; first = record { layout = clock_layout; name = codes "cpu-clock/call-graph=dwarf,stack-size=8/" }; is_alone = false }
+two = record { big_endian = false; bytes = two_ids; descriptions = two_names; entries = clock ∷ faults ∷ []; first = record { layout = clock_layout; name = codes "cpu-clock/call-graph=dwarf,stack-size=8/" }; is_alone = false; build_ids = [] }
 
 by_its_id : event_of_id two 214 ≡ Some (record { layout = faults_layout; name = codes "page-faults" })
 unfolding computing
@@ -359,6 +359,55 @@ a_fault = refl
 a_thread : records_of two false (hex (codes "07000000000040006d4300006d4300006f4300006d4300004554474e2b0200006d4300006d430000a053474e2b0200000200000000000000d200000000000000")) ≡ record { records = record { time = 2385020146592; event = ForkEvent (record { pid = 17261; parent = 17261; tid = 17263; parent_tid = 17261 }) } ∷ []; error = None }
 unfolding computing
 a_thread = refl
+
+-- ---- the builds of files, as perf buildid-list prints them
+
+abbrev listed_builds : List ℕ
+listed_builds = hex (codes "0000000002806400ffffffffe1acfd5cc78671620325b4d7fc60da13931c8332140000002f746d702f76760000000000000000000000000000000000000000000000000000000000000000000000000000000000000000000000000000000000000000000000000002806400ffffffffa599807156a2a62fe956a82e388aeeabc874119c140000005b7664736f5d00000000000000000000000000000000000000000000000000000000000000000000000000000000000000000000000000000000000000000000")
+
+the_first_build : id_of false (codes "/tmp/vv") listed_builds ≡ Some (hex (codes "e1acfd5cc78671620325b4d7fc60da13931c8332"))
+unfolding computing
+the_first_build = refl
+
+the_second_build : id_of false (codes "[vdso]") listed_builds ≡ Some (hex (codes "a599807156a2a62fe956a82e388aeeabc874119c"))
+unfolding computing
+the_second_build = refl
+
+not_listed : id_of false (codes "/tmp/v") listed_builds ≡ None
+unfolding computing
+not_listed = refl
+
+-- the second entry less its last byte
+cut_listed : id_of false (codes "[vdso]") (take 199 listed_builds) ≡ None
+unfolding computing
+cut_listed = refl
+
+-- without PERF_RECORD_MISC_BUILD_ID_SIZE, as before Linux 5.12
+twenty_bytes : id_of false (codes "/tmp/old") (hex (codes "0000000002006400ffffffffa599807156a2a62fe956a82e388aeeabc8000000000000002f746d702f6f6c640000000000000000000000000000000000000000000000000000000000000000000000000000000000000000000000000000000000000000")) ≡ Some (hex (codes "a599807156a2a62fe956a82e388aeeabc8000000"))
+unfolding computing
+twenty_bytes = refl
+
+-- of a record that perf record --buildid-mmap wrote
+abbrev mapped_build : List ℕ
+mapped_build = hex (codes "2b4500002b45000000c0d2cb495600000010000000000000001000000000000014000000e1acfd5cc78671620325b4d7fc60da13931c833205000000020000002f746d702f767600")
+
+its_own_build : own_build_id 0x4002 mapped_build ≡ Some (hex (codes "e1acfd5cc78671620325b4d7fc60da13931c8332"))
+its_own_build = refl
+
+-- else the bytes say which file it is in another way
+no_own_build : own_build_id 0x2 mapped_build ≡ None
+no_own_build = refl
+
+-- the record's own comes first, and else the one of the table
+abbrev mapped_vv : Option (List ℕ) → Mapping
+mapped_vv build_id = record { pid = 7; address = 0x400000; length = 0x1000; offset = 0; is_executable = true; name = codes "/tmp/vv"; build_id = build_id }
+
+kept_build : (with_build_id false listed_builds (mapped_vv (Some (1 ∷ 2 ∷ [])))).build_id ≡ Some (1 ∷ 2 ∷ [])
+kept_build = refl
+
+build_of_the_table : (with_build_id false listed_builds (mapped_vv None)).build_id ≡ Some (hex (codes "e1acfd5cc78671620325b4d7fc60da13931c8332"))
+unfolding computing
+build_of_the_table = refl
 
 -- ---- the same cut within its sample, as by a full disk
 

@@ -24,7 +24,7 @@ pub record ProfileEvent : Type 0 where
   pub layout : EventLayout
   pub name : List ℕ
 
--- All events, with what says their names and ids.
+-- All events, with what says their names and ids, and the builds of files.
 pub record EventTable : Type 0 where
   pub big_endian : Bool
   pub bytes : List ℕ  -- those of the file, in which the ids are
@@ -32,6 +32,7 @@ pub record EventTable : Type 0 where
   pub entries : List EventEntry
   pub first : ProfileEvent
   pub is_alone : Bool  -- whether the first is the only one
+  pub build_ids : List ℕ  -- the section with the builds of files
 
 -- what these are in the code
 abbrev pub event_view : EventOfCode → ProfileEvent
@@ -47,6 +48,7 @@ table_view table = record {
       (slice_over table.attrs.now (is_big table.endian)).source 0;
   first = event_view table.first;
   is_alone = table.count == 1;
+  build_ids = table.build_ids.now;
 }
 
 -- ---- the event of an id

@@ -1,6 +1,7 @@
 -- The records of mapped files, programs and new processes (perf_event_open(2), "MMAP layout";
 -- include/uapi/linux/perf_event.h).
-use Rattle.std.specs.Prelude.{ℕ, Bool, not, List, drop, Result, Ok}
+use Rattle.std.specs.Prelude.{ℕ, Bool, not, List, drop, length, take, Option, Some, None, Result}
+use Rattle.std.specs.Prelude.{Ok, slice_get, option_map, unwrap_or, ◌==◌, if◌then◌else◌}
 use Rattle.std.specs.Int.{w32, w64}
 use Rattle.cfi_read_core.specs.ReadFunctions.{Read, ◌>>=◌, give}
 use Rattle.cfi_read_core.specs.Numbers.{unsigned}
@@ -30,6 +31,7 @@ pub record Mapping : Type 0 where
   pub offset : ℕ
   pub is_executable : Bool
   pub name : List ℕ
+  pub build_id : Option (List ℕ)  -- of the file, if it is known
 
 pub record Program : Type 0 where
   pub pid : ℕ
@@ -57,6 +59,7 @@ mapping_view m = record {
   offset = m.offset;
   is_executable = m.is_executable;
   name = m.name.now;
+  build_id = option_map (λ id. id.now) m.build_id;
 }
 
 abbrev pub program_view : ProgramFields → Program
@@ -72,6 +75,23 @@ event_view OtherOfCode = OtherEvent
 abbrev pub record_view : RecordOfCode → Record
 record_view r = record { time = r.time; event = event_view r.event }
 
+-- ---- identifications of builds
+
+-- at most 20 of these bytes, as many as are counted; none where there are none
+abbrev pub counted_id : ℕ → List ℕ → Option (List ℕ)
+counted_id count bytes =
+    let id = take count (take 20 bytes) in if length id == 0 then None else Some id
+
+-- a byte that counts them; 0 where it isn't there
+abbrev pub count_at : ℕ → List ℕ → ℕ
+count_at place bytes = unwrap_or (slice_get bytes place) 0
+
+-- where PERF_RECORD_MISC_MMAP_BUILD_ID (1 << 14) is set, PERF_RECORD_MMAP2 has a count and the id
+-- in place of maj, min, ino and ino_generation
+abbrev pub own_build_id : ℕ → List ℕ → Option (List ℕ)
+own_build_id misc fields =
+    if has_any 0x4000 misc then counted_id (count_at 32 fields) (drop 36 fields) else None
+
 -- ---- mapped files
 
 -- the fields of both records up to pgoff
@@ -84,8 +104,8 @@ mapped_range = do
   offset ← unsigned w64
   give (record { pid = pid; address = address; length = length; offset = offset })
 
-abbrev pub mapping_of : MappedRange → Bool → List ℕ → Mapping
-mapping_of range is_executable name =
+abbrev pub mapping_of : MappedRange → Bool → List ℕ → Option (List ℕ) → Mapping
+mapping_of range is_executable name build_id =
     record {
       pid = range.pid;
       address = range.address;
@@ -93,6 +113,7 @@ mapping_of range is_executable name =
       offset = range.offset;
       is_executable = is_executable;
       name = name;
+      build_id = build_id;
     }
 
 -- PERF_RECORD_MMAP: the name follows. PERF_RECORD_MISC_MMAP_DATA is 1 << 13
@@ -100,16 +121,16 @@ unfoldable pub mapping : Bool → ℕ → List ℕ → Result Mapping PerfError
 mapping big misc fields =
     and_then (or_error RecordCut (read_from big fields mapped_range)) (λ range.
     and_then (or_missing RecordCut (before_zero (drop 32 fields))) (λ name.
-    Ok (mapping_of range (not (has_any 0x2000 misc)) name)))
+    Ok (mapping_of range (not (has_any 0x2000 misc)) name None)))
 
 -- PERF_RECORD_MMAP2: behind 24 bytes that say which file it is, prot, flags and the name. PROT_EXEC
 -- is 4
-unfoldable pub mapping2 : Bool → List ℕ → Result Mapping PerfError
-mapping2 big fields =
+unfoldable pub mapping2 : Bool → ℕ → List ℕ → Result Mapping PerfError
+mapping2 big misc fields =
     and_then (or_error RecordCut (read_from big fields mapped_range)) (λ range.
     and_then (or_error RecordCut (read_from big (drop 56 fields) (unsigned w32))) (λ prot.
     and_then (or_missing RecordCut (before_zero (drop 64 fields))) (λ name.
-    Ok (mapping_of range (has_any 0x4 prot) name))))
+    Ok (mapping_of range (has_any 0x4 prot) name (own_build_id misc fields)))))
 
 -- ---- programs and processes
 

@@ -140,6 +140,12 @@ descriptions p =
     if bit_and p.features 0x1000 == 0 then []
     else or_nothing (feature_section p (count_ones (bit_and p.features 0xfff)))
 
+-- HEADER_BUILD_ID is bit 2
+unfoldable pub build_ids : Profile → List ℕ
+build_ids p =
+    if bit_and p.features 0x4 == 0 then []
+    else or_nothing (feature_section p (count_ones (bit_and p.features 0x3)))
+
 unfoldable pub event_table : Profile → EventTable
 event_table p = record {
   big_endian = is_big p.endian;
@@ -153,6 +159,7 @@ event_table p = record {
     name = event_name (is_big p.endian) (descriptions p) 0 p.events.first.attribute;
   };
   is_alone = p.events.count == 1;
+  build_ids = build_ids p;
 }
 
 -- the records in order, and the error that ended them

@@ -2,10 +2,12 @@
 --     records_of events big bytes      the records of these bytes in order, and the error that
 --         ended them
 --     records_left walk      those that an iterator of the code has left
-use Rattle.std.specs.Prelude.{◌≡◌, ℕ, ◌-◌, ◌*◌, zero, suc, Bool, not, ◌||◌, List, [], ◌∷◌, ◌++◌}
-use Rattle.std.specs.Prelude.{map, length, drop, take, Option, Some, None, Result, Ok, Err}
+use Rattle.std.specs.Prelude.{◌≡◌, ℕ, ◌-◌, ◌*◌, zero, suc, Bool, false, not, ◌||◌, List, [], ◌∷◌}
+use Rattle.std.specs.Prelude.{◌++◌, map, length, drop, take, Option, Some, None, Result, Ok, Err}
 use Rattle.std.specs.Prelude.{count_ones, bit_and, nat_lt, nat_le, ◌==◌, if◌then◌else◌}
 use Rattle.std.specs.Int.{w16, w32, w64}
+use Rattle.std.specs.Option.{option_map_or}
+use Rattle.std.specs.Str.{bytes_eq}
 use Rattle.cfi_read_core.specs.ByteOrder.{is_big}
 use Rattle.cfi_read_core.specs.ReadFunctions.{Read, ◌>>=◌, give}
 use Rattle.cfi_read_core.specs.ReaderCalls.{map_ok}
@@ -19,13 +21,14 @@ use Rattle.cfi_perf.specs.declared.records.RecordHeader.{RecordHeader}
 use Rattle.cfi_perf.specs.declared.records.Framed.{Framed as FramedOfCode}
 use Rattle.cfi_perf.specs.declared.records.First.{First as FirstOfCode}
 use Rattle.cfi_perf.specs.declared.records.WithoutId.{WithoutId as WithoutIdOfCode}
-use Rattle.cfi_perf.specs.Results.{and_then, or_error, or_missing, part, read_from}
-use Rattle.cfi_perf.specs.Layouts.{has, PERF_SAMPLE_TID, PERF_SAMPLE_TIME}
+use Rattle.cfi_perf.specs.Results.{and_then, before_zero, or_error, or_missing, part, read_from}
+use Rattle.cfi_perf.specs.Layouts.{has, has_any, PERF_SAMPLE_TID, PERF_SAMPLE_TIME}
 use Rattle.cfi_perf.specs.EventTables.{EventTable, ProfileEvent, event_of_sample, layout_of_other}
 use Rattle.cfi_perf.specs.EventTables.{table_view}
 use Rattle.cfi_perf.specs.Samples.{TimedSample, number_if, sample}
 use Rattle.cfi_perf.specs.Events.{Record, Event, MappingEvent, ProgramEvent, ForkEvent, SampleEvent}
 use Rattle.cfi_perf.specs.Events.{OtherEvent, record_view, mapping, mapping2, program, fork}
+use Rattle.cfi_perf.specs.Events.{Mapping, count_at, counted_id}
 
 -- ---- the bytes of a record
 
@@ -62,6 +65,46 @@ split_record big bytes =
     else and_then (or_missing RecordCut (part bytes 8 (header.size - 8))) (λ body.
     and_then (after_record big header body (drop header.size bytes)) (λ others.
     Ok (record { header = header; body = body; others = others }))))
+
+-- ---- the builds of files (perf.data-file-format.txt, HEADER_BUILD_ID): entries that are framed as
+--     records, struct build_id_event
+
+-- behind pid, of four bytes, are 20 for the id; if PERF_RECORD_MISC_BUILD_ID_SIZE (1 << 15) is set,
+-- the byte behind them counts those that it has
+abbrev pub entry_id : Framed → Option (List ℕ)
+entry_id entry =
+    counted_id (if has_any 0x8000 entry.header.misc then count_at 24 entry.body else 20)
+    (drop 4 entry.body)
+
+-- the file's name comes last
+abbrev pub is_named : List ℕ → Framed → Bool
+is_named name entry =
+    option_map_or (λ found. bytes_eq found name) (before_zero (drop 28 entry.body)) false
+
+abbrev pub id_with :
+    List ℕ → Result Framed PerfError → (List ℕ → Option (List ℕ)) → Option (List ℕ)
+id_with name (Err e) others = None
+id_with name (Ok entry) others =
+    if is_named name entry then entry_id entry else others entry.others
+
+-- of the first n entries at most
+unfoldable pub id_up_to : ℕ → Bool → List ℕ → List ℕ → Option (List ℕ)
+id_up_to zero big name table = None
+id_up_to (suc n) big name table =
+    id_with name (split_record big table) (id_up_to n big name)
+
+-- that of the first entry with the name; each takes a byte at least
+abbrev pub id_of : Bool → List ℕ → List ℕ → Option (List ℕ)
+id_of big name table = id_up_to (length table) big name table
+
+-- the record's own, or else the table's
+abbrev pub or_else : Option (List ℕ) → Option (List ℕ) → Option (List ℕ)
+or_else (Some id) other = Some id
+or_else None other = other
+
+abbrev pub with_build_id : Bool → List ℕ → Mapping → Mapping
+with_build_id big table m =
+    record m { build_id = or_else m.build_id (id_of big m.name table) }
 
 -- ---- the fields of a sample that other records have at their end, in this order (struct
 --     sample_id)
@@ -106,12 +149,17 @@ without_id events big kind body =
 abbrev pub fork_event : Bool → List ℕ → Result Event PerfError
 fork_event big fields = map_ok ForkEvent (or_error RecordCut (read_from big fields fork))
 
-abbrev pub event_of : Bool → RecordHeader → List ℕ → Result Event PerfError
-event_of big header fields =
-    if header.kind == 1 then map_ok MappingEvent (mapping big header.misc fields)
+abbrev pub mapping_event : EventTable → Bool → Mapping → Event
+mapping_event events big m = MappingEvent (with_build_id big events.build_ids m)
+
+abbrev pub event_of : EventTable → Bool → RecordHeader → List ℕ → Result Event PerfError
+event_of events big header fields =
+    if header.kind == 1
+    then map_ok (mapping_event events big) (mapping big header.misc fields)
     else if header.kind == 3 then map_ok ProgramEvent (program big header.misc fields)
     else if header.kind == 7 then fork_event big fields
-    else if header.kind == 10 then map_ok MappingEvent (mapping2 big fields)
+    else if header.kind == 10
+    then map_ok (mapping_event events big) (mapping2 big header.misc fields)
     else Ok OtherEvent
 
 abbrev pub sample_record : TimedSample → Record
@@ -132,7 +180,7 @@ record_of events big header body =
     if header.kind == 9 then sample_of (event_of_sample events body) big body
     else if (header.kind == 81) || (header.kind == 83) then Err Compressed
     else and_then (without_id events big header.kind body) (λ found.
-    and_then (event_of big header found.fields) (λ event.
+    and_then (event_of events big header found.fields) (λ event.
     Ok (record { time = found.time; event = event })))
 
 -- ---- all records

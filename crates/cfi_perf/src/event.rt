@@ -1,11 +1,13 @@
 //! The records of mapped files, programs and new processes (perf_event_open(2), "MMAP layout").
-ghost use Rattle.std.specs.Prelude.{◌≡◌};
+ghost use Rattle.std.specs.Prelude.{◌≡◌, option_map};
 ghost use Rattle.cfi_read_core.specs.ReaderCalls.{ReadsValue, map_ok};
 ghost use Rattle.cfi_read_core.specs.ByteOrder.{is_big};
 ghost use Rattle.cfi_perf.specs.Events.{fork, mapped_range, mapping, mapping2, mapping_view};
+ghost use Rattle.cfi_perf.specs.Events.{own_build_id};
 ghost use Rattle.cfi_perf.specs.Events.{program, program_view};
 
 use crate::attribute::has_any;
+use crate::build_ids::{count_at, counted_id};
 use crate::bytes::{before_zero, bytes_from};
 use crate::error::PerfError;
 use crate::record::{Fork, Mapping, Program};
@@ -13,6 +15,8 @@ use crate::sample_fields::read_thread;
 use cfi_read_core::{EndianSlice, Reader, Result, RunTimeEndian};
 
 const PERF_RECORD_MISC_MMAP_DATA: u64 = 1 << 13;
+
+const PERF_RECORD_MISC_MMAP_BUILD_ID: u64 = 1 << 14;
 
 const PERF_RECORD_MISC_COMM_EXEC: u64 = 1 << 13;
 
@@ -50,6 +54,7 @@ pub(crate) fn mapping(
         offset: range.offset,
         is_executable: !has_any(PERF_RECORD_MISC_MMAP_DATA, u64::from(misc)),
         name,
+        build_id: None,
     })
 }
 
@@ -57,9 +62,10 @@ pub(crate) fn mapping(
 #[tactic(auto, unfolding(crate::specs::Events::mapping2))]
 pub(crate) fn mapping2(
     endian: RunTimeEndian,
+    misc: u16,
     fields: &[u8],
 ) -> std::result::Result<Mapping<'_>, PerfError>
-    ensures { map_ok mapping_view result ≡ mapping2 (is_big endian) fields.now }
+    ensures { map_ok mapping_view result ≡ mapping2 (is_big endian) misc fields.now }
 {
     let mut input = EndianSlice::new(fields, endian);
     let Ok(range) = read_mapped_range(&mut input) else {
@@ -79,7 +85,19 @@ pub(crate) fn mapping2(
         offset: range.offset,
         is_executable: has_any(PROT_EXEC, u64::from(prot)),
         name,
+        build_id: own_build_id(misc, fields),
     })
+}
+
+/// The identification that `PERF_RECORD_MMAP2` has itself, if it has one.
+fn own_build_id(misc: u16, fields: &[u8]) -> Option<&[u8]>
+    ensures { option_map (λ id. id.now) result ≡ own_build_id misc fields.now }
+{
+    if has_any(PERF_RECORD_MISC_MMAP_BUILD_ID, u64::from(misc)) {
+        counted_id(count_at(32, fields), bytes_from(fields, 36))
+    } else {
+        None
+    }
 }
 
 /// Reads the fields that both records of mapped files begin with.

@@ -42,6 +42,8 @@ pub(crate) struct EventTable<'input> {
     /// The size of each.
     pub(crate) size: u64,
     pub(crate) first: ProfileEvent<'input>,
+    /// The section with the builds of files.
+    pub(crate) build_ids: &'input [u8],
 }
 
 impl<'input> EventTable<'input> {

@@ -10,6 +10,7 @@
 //! `sample` have what a record says. Nothing is allocated or copied.
 
 pub mod attribute;
+mod build_ids;
 mod bytes;
 pub mod error;
 mod event;

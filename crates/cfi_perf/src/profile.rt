@@ -3,7 +3,8 @@ ghost use Rattle.std.specs.Prelude.{◌≡◌, option_map};
 ghost use Rattle.cfi_read_core.specs.ByteOrder.{is_big};
 ghost use Rattle.cfi_read_core.specs.ReaderCalls.{map_ok};
 ghost use Rattle.cfi_perf.specs.EventTables.{table_view};
-ghost use Rattle.cfi_perf.specs.Profiles.{architecture, descriptions, event_table, events_by};
+ghost use Rattle.cfi_perf.specs.Profiles.{architecture, build_ids, descriptions, event_table};
+ghost use Rattle.cfi_perf.specs.Profiles.{events_by};
 ghost use Rattle.cfi_perf.specs.Profiles.{feature_section, machine_by, profile, profile_records};
 ghost use Rattle.cfi_perf.specs.Profiles.{profile_view, section_view, text_in};
 ghost use Rattle.cfi_perf.specs.Records.{records_left};
@@ -20,6 +21,9 @@ use cfi_read_core::{EndianSlice, Endianity, Reader, RunTimeEndian};
 /// The least size of an event: attributes that say which registers samples have
 /// (`PERF_ATTR_SIZE_VER3`), and where the event's ids are.
 const LEAST_EVENT_SIZE: u64 = 96 + 16;
+
+/// The feature bit of the builds of files.
+const HEADER_BUILD_ID: u64 = 1 << 2;
 
 /// The feature bit of the architecture's name.
 const HEADER_ARCH: u64 = 1 << 6;
@@ -163,6 +167,7 @@ impl<'input> Profile<'input> {
                 layout: attribute.layout,
                 name: event_name(self.endian, descriptions, 0, attribute),
             },
+            build_ids: self.build_ids(),
         }
     }
 
@@ -175,6 +180,21 @@ impl<'input> Profile<'input> {
             return &[];
         }
         let index = (self.features & (HEADER_EVENT_DESC - 1)).count_ones();
+        match self.feature_section(index) {
+            Ok(section) => section,
+            Err(_) => &[],
+        }
+    }
+
+    /// The section with the builds of files; nothing where there is none that can be read.
+    #[tactic(auto, unfolding(crate::specs::Profiles::build_ids))]
+    fn build_ids(&self) -> &'input [u8]
+        ensures { result.now ≡ build_ids (profile_view self.now) }
+    {
+        if self.features & HEADER_BUILD_ID == 0 {
+            return &[];
+        }
+        let index = (self.features & (HEADER_BUILD_ID - 1)).count_ones();
         match self.feature_section(index) {
             Ok(section) => section,
             Err(_) => &[],

@@ -44,6 +44,9 @@ pub struct Mapping<'input> {
     pub is_executable: bool,
     /// The file's name, without the zero at its end.
     pub name: &'input [u8],
+    /// The identification of the file's build (`NT_GNU_BUILD_ID`): the record's own, or else that
+    /// of the profile's table for the name (`HEADER_BUILD_ID`). `None` where the profile has none.
+    pub build_id: Option<&'input [u8]>,
 }
 
 /// The new name of a thread.

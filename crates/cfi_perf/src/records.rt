@@ -4,21 +4,22 @@ ghost use Rattle.cfi_read_core.specs.ByteOrder.{is_big};
 ghost use Rattle.cfi_read_core.specs.ReaderCalls.{ReadsValue, map_ok};
 ghost use Rattle.cfi_perf.specs.EventTables.{table_view};
 ghost use Rattle.cfi_perf.specs.EventTables.{event_view as event_of_table};
-ghost use Rattle.cfi_perf.specs.Events.{event_view, record_view};
+ghost use Rattle.cfi_perf.specs.Events.{event_view, mapping_view, record_view};
 ghost use Rattle.cfi_perf.specs.Records.{Meets, after_record, event_of, first_record};
 ghost use Rattle.cfi_perf.specs.Records.{no_records, until_cut};
-ghost use Rattle.cfi_perf.specs.Records.{first_view, fork_event, framed_view};
+ghost use Rattle.cfi_perf.specs.Records.{first_view, fork_event, framed_view, mapping_event};
 ghost use Rattle.cfi_perf.specs.Records.{record_header, record_of, records_left, records_of};
 ghost use Rattle.cfi_perf.specs.Records.{sample_id_size, sample_id_time, sample_in, split_id};
 ghost use Rattle.cfi_perf.specs.Records.{sample_of, split_record, without_id, without_id_by};
 ghost use Rattle.cfi_perf.specs.Records.{without_id_view};
 
 use crate::attribute::{EventLayout, PERF_SAMPLE_TID, PERF_SAMPLE_TIME};
+use crate::build_ids::with_build_id;
 use crate::bytes::{bytes_from, first_bytes, part};
 use crate::error::PerfError;
 use crate::event::{mapping, mapping2, program, read_fork};
 use crate::event_table::{EventTable, ProfileEvent};
-use crate::record::{Event, Record};
+use crate::record::{Event, Mapping, Record};
 use crate::sample_fields::{read_number_if, read_sample};
 use cfi_read_core::{EndianSlice, Reader, RunTimeEndian};
 use std::alloc::AllocError;
@@ -202,7 +203,7 @@ fn first_record<'input>(
 
 /// Splits the first record off.
 #[tactic(auto, unfolding(crate::specs::Records::split_record))]
-fn split_record(endian: RunTimeEndian, bytes: &[u8]) -> Result<Framed<'_>, PerfError>
+pub(crate) fn split_record(endian: RunTimeEndian, bytes: &[u8]) -> Result<Framed<'_>, PerfError>
     ensures { map_ok framed_view result ≡ split_record (is_big endian) bytes.now }
 {
     let mut input = EndianSlice::new(bytes, endian);
@@ -276,7 +277,7 @@ fn record_of<'input>(
         return Err(PerfError::Compressed);
     }
     let found = without_id(events, endian, header.kind, body)?;
-    let event = event_of(endian, header, found.fields)?;
+    let event = event_of(events, endian, header, found.fields)?;
     Ok(Record {
         time: found.time,
         event,
@@ -322,19 +323,39 @@ fn sample_record<'input>(
 
 /// Reads a record that isn't a sample, by its type.
 fn event_of<'input>(
+    events: &EventTable<'input>,
     endian: RunTimeEndian,
     header: &RecordHeader,
     fields: &'input [u8],
 ) -> Result<Event<'input>, PerfError>
-    ensures { map_ok event_view result ≡ event_of (is_big endian) header.now fields.now }
+    ensures { map_ok event_view result
+        ≡ event_of (table_view events.now) (is_big endian) header.now fields.now }
 {
     match header.kind {
-        PERF_RECORD_MMAP => Ok(Event::Mapping(mapping(endian, header.misc, fields)?)),
+        PERF_RECORD_MMAP => {
+            let mapped = mapping(endian, header.misc, fields)?;
+            Ok(mapping_event(events, endian, mapped))
+        }
         PERF_RECORD_COMM => Ok(Event::Program(program(endian, header.misc, fields)?)),
         PERF_RECORD_FORK => fork_event(endian, fields),
-        PERF_RECORD_MMAP2 => Ok(Event::Mapping(mapping2(endian, fields)?)),
+        PERF_RECORD_MMAP2 => {
+            let mapped = mapping2(endian, header.misc, fields)?;
+            Ok(mapping_event(events, endian, mapped))
+        }
         _ => Ok(Event::Other),
     }
+}
+
+/// Returns the event of a mapped file, with the build that the profile knows it has.
+fn mapping_event<'input>(
+    events: &EventTable<'input>,
+    endian: RunTimeEndian,
+    mapped: Mapping<'input>,
+) -> Event<'input>
+    ensures { event_view result
+        ≡ mapping_event (table_view events.now) (is_big endian) (mapping_view mapped.entry) }
+{
+    Event::Mapping(with_build_id(endian, events.build_ids, mapped))
 }
 
 /// Returns the event of a new process. Fails with `RecordCut`.
