@@ -1,0 +1,69 @@
+-- The boxes of stacks, one stack after the other.
+use Rattle.std.proofs.Common.{◌≡◌, ◌∙◌, ℕ, suc, ◌+◌, ◌<◌, ◌≤◌, List, [], ◌∷◌, ◌++◌, Bool, true, false, Option, Some, length, get_or, drop, drop-cons, length-drop, map, take, subst, ◌-◌, ◌^◌, refl, sym, ap, append_assoc, add-one, arith}
+use Rattle.std.proofs.lemmas.List.{drop_all, drop-map, get_or-map, length-map}
+use Rattle.std.proofs.Math.Seq.{take-length}
+use Rattle.cfi_flame.specs.declared.folded.Stack.{Stack as StackOfCode}
+use Rattle.cfi_flame.specs.FoldedStacks.{Stack, stack_view}
+use Rattle.cfi_flame.specs.Boxes.{Box, begins, boxes_from, openings, total_of, weight}
+
+pub next_stack : (stacks : List StackOfCode) (k : ℕ) (d : StackOfCode) → k < length stacks → drop k (map stack_view stacks) ≡ stack_view (get_or stacks k d) ∷ drop (k + 1) (map stack_view stacks)
+next_stack stacks k d h =
+    let short : k < length (map stack_view stacks) = rw length-map h in
+    rw (add-one) (drop-cons (map stack_view stacks) k (stack_view d) short ∙ ap (λ (s : Stack). s ∷ drop (suc k) (map stack_view stacks)) (get_or-map stack_view stacks k d (stack_view d) h))
+
+-- one more was counted
+pub total_step : (left : List Stack) (s : Stack) (rest : List Stack) (n m total : ℕ) → left ≡ s ∷ rest → n + total_of left ≡ total → m ≡ n + s.count → m + total_of rest ≡ total
+total_step left s rest n m total is h e =
+    let f : total_of left ≡ s.count + total_of rest = ap total_of is in
+    omega arith
+
+pub weight_step : (front : List ℕ) (left : List Stack) (s : Stack) (rest : List Stack) (n total : ℕ) → left ≡ s ∷ rest → begins front s.frames ≡ true → n + weight front left ≡ total → (n + s.count) + weight front rest ≡ total
+weight_step front left s rest n total is has h =
+    let f : weight front left ≡ s.count + weight front rest = ap (weight front) is ∙ rw has refl in
+    omega arith
+
+pub weight_end : (front : List ℕ) (left : List Stack) (s : Stack) (rest : List Stack) (n total : ℕ) → left ≡ s ∷ rest → begins front s.frames ≡ false → n + weight front left ≡ total → n ≡ total
+weight_end front left s rest n total is lacks h =
+    let f : weight front left ≡ 0 = ap (weight front) is ∙ rw lacks refl in
+    omega arith
+
+pub weight_le : (front : List ℕ) (stacks : List Stack) → weight front stacks ≤ total_of stacks
+weight_le front [] = omega arith
+weight_le front (s ∷ stacks) = by (begins front s.frames) refl (weight_le front stacks)
+  where
+    by : (b : Bool) → begins front s.frames ≡ b → weight front stacks ≤ total_of stacks → weight front (s ∷ stacks) ≤ s.count + total_of stacks
+    by true e h = rw e (omega arith)
+    by false e h = rw e (omega arith)
+
+-- the stacks from one on
+pub stacks_left : (stacks : List StackOfCode) (k : ℕ) → map stack_view (take (length stacks - k) (drop k stacks)) ≡ drop k (map stack_view stacks)
+stacks_left stacks k =
+    let whole : take (length stacks - k) (drop k stacks) ≡ drop k stacks = rw (← length-drop k stacks) (take-length (drop k stacks)) in
+    ap (map stack_view) whole ∙ sym (drop-map stack_view k stacks)
+
+pub count_le : (left : List Stack) (s : Stack) (rest : List Stack) (n total : ℕ) → left ≡ s ∷ rest → n + total_of left ≡ total → n + s.count ≤ total
+count_le left s rest n total is h =
+    let f : total_of left ≡ s.count + total_of rest = ap total_of is in
+    omega arith
+
+pub count_fits : (left : List Stack) (s : Stack) (rest : List Stack) (n total : ℕ) → left ≡ s ∷ rest → n + total_of left ≡ total → total < 2 ^ 64 → n + s.count < 2 ^ 64
+count_fits left s rest n total is h small = omega (arith, count_le left s rest n total is h)
+
+pub total_end : (stacks : List StackOfCode) (k n total : ℕ) → length stacks ≤ k → n + total_of (drop k (map stack_view stacks)) ≡ total → n ≡ total
+total_end stacks k n total ended h =
+    let none : drop k (map stack_view stacks) ≡ [] = drop_all k (map stack_view stacks) (rw length-map ended) in
+    let f : total_of (drop k (map stack_view stacks)) ≡ 0 = ap total_of none in
+    omega arith
+
+pub weighed_le : (front : List ℕ) (all left : List Stack) (s : Stack) (rest : List Stack) (n : ℕ) → left ≡ s ∷ rest → begins front s.frames ≡ true → n + weight front left ≡ weight front all → n + s.count ≤ total_of all
+weighed_le front all left s rest n is has h =
+    let f : (n + s.count) + weight front rest ≡ weight front all = weight_step front left s rest n (weight front all) is has h in
+    omega (arith, weight_le front all)
+
+pub boxes_step : (found new all : List Box) (before : Option (List ℕ)) (n : ℕ) (left : List Stack) (s : Stack) (rest : List Stack) → left ≡ s ∷ rest → found ++ boxes_from before n left ≡ all →
+    new ≡ found ++ openings before n left → new ++ boxes_from (Some s.frames) (n + s.count) rest ≡ all
+boxes_step found new all before n left s rest is h e =
+    let h2 : found ++ boxes_from before n (s ∷ rest) ≡ all = subst (λ (l : List Stack). found ++ boxes_from before n l ≡ all) is h in
+    let e2 : new ≡ found ++ openings before n (s ∷ rest) = subst (λ (l : List Stack). new ≡ found ++ openings before n l) is e in
+    ap (λ (x : List Box). x ++ boxes_from (Some s.frames) (n + s.count) rest) e2
+    ∙ append_assoc found (openings before n (s ∷ rest)) (boxes_from (Some s.frames) (n + s.count) rest) ∙ h2

@@ -1,0 +1,4 @@
+pub mod StackLemmas
+pub mod BoxLemmas
+pub mod GraphLemmas
+pub mod FlameLemmas

@@ -1,0 +1,4 @@
+pub mod FoldedStacks
+pub mod Boxes
+pub mod Graphs
+pub mod Flames

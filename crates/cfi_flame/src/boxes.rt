@@ -1,0 +1,161 @@
+//! The boxes of a flame graph.
+ghost use Rattle.std.specs.Prelude.{◌≡◌, ◌==◌, ◌+◌, ◌^◌, ◌<◌, ◌++◌, IfOk, OnOk, SomeIff, length};
+ghost use Rattle.std.specs.Prelude.{map, option_map};
+ghost use Rattle.std.specs.List.{count_by};
+ghost use Rattle.cfi_flame.specs.Boxes.{begins, box_view, boxes_of, ends_name, name_in, opening};
+ghost use Rattle.cfi_flame.specs.Boxes.{openings, opens, total_of, weight};
+ghost use Rattle.cfi_flame.specs.FoldedStacks.{stack_view};
+
+use crate::folded::{SEPARATOR, Stack, last_part};
+use std::alloc::{AllocError, Global};
+
+/// A box of a flame graph: some functions that call one another, where the first is a thread's
+/// outermost one.
+#[derive(Clone, Copy)]
+pub struct FlameBox<'text> {
+    /// The name of the last of them.
+    pub name: &'text [u8],
+    /// How many come before it.
+    pub depth: usize,
+    /// How many samples lie to the left of the box.
+    pub left: u64,
+    /// How many samples have a stack that begins with these functions.
+    pub width: u64,
+}
+
+/// Returns how many samples the stacks have, `None` where there are 2^64 or more.
+pub fn total_of(stacks: &[Stack<'_>]) -> Option<u64>
+    ensures { let total = total_of (map stack_view stacks.now) in
+        SomeIff result (total < 2 ^ 64) total }
+{
+    let mut total = 0u64;
+    for stack in stacks {
+        total = total.checked_add(stack.count)?;
+    }
+    Some(total)
+}
+
+/// Returns the boxes of stacks that are sorted by their functions, those of each stack from the
+/// outermost function in. Allocates for them.
+pub fn boxes_of<'text>(
+    alloc: Global,
+    stacks: &[Stack<'text>],
+) -> Result<Vec<FlameBox<'text>>, AllocError>
+    requires { total_of (map stack_view stacks.now) < 2 ^ 64 }
+    ensures { IfOk result (λ boxes.
+        map box_view boxes.items ≡ boxes_of (map stack_view stacks.now)) }
+{
+    let mut boxes = Vec::new(alloc);
+    let mut before = None;
+    let mut left = 0;
+    for k in 0..stacks.len() {
+        add_openings(&mut boxes, before, left, &stacks[k..])?;
+        before = Some(stacks[k].frames);
+        left += stacks[k].count;
+    }
+    Ok(boxes)
+}
+
+/// Adds the boxes that begin at the first of the stacks, where the stack before it has others.
+fn add_openings<'text>(
+    boxes: &mut Vec<FlameBox<'text>>,
+    before: Option<&'text [u8]>,
+    left: u64,
+    stacks: &[Stack<'text>],
+) -> Result<(), AllocError>
+    requires some { 0 < length stacks.now }
+    requires small { total_of (map stack_view stacks.now) < 2 ^ 64 }
+    ensures { OnOk result (map box_view boxes.new.items ≡ map box_view boxes.old.items
+        ++ openings (option_map (λ frames. frames.now) before.entry) left
+        (map stack_view stacks.now)) }
+{
+    let frames = stacks[0].frames;
+    for end in 0..frames.len() {
+        if frames[end] == SEPARATOR {
+            add_opening(boxes, before, left, stacks, &frames[..end])?;
+        }
+    }
+    add_opening(boxes, before, left, stacks, frames)
+}
+
+/// Adds the box of these functions, if the stack before doesn't begin with them.
+fn add_opening<'text>(
+    boxes: &mut Vec<FlameBox<'text>>,
+    before: Option<&'text [u8]>,
+    left: u64,
+    stacks: &[Stack<'text>],
+    front: &'text [u8],
+) -> Result<(), AllocError>
+    requires { total_of (map stack_view stacks.now) < 2 ^ 64 }
+    ensures { OnOk result (map box_view boxes.new.items ≡ map box_view boxes.old.items
+        ++ opening (option_map (λ frames. frames.now) before.entry) left
+        (map stack_view stacks.now) front.entry.now) }
+{
+    if !opens(before, front) {
+        return Ok(());
+    }
+    boxes.push(FlameBox {
+        name: name_in(front),
+        depth: depth_of(front),
+        left,
+        width: weight(stacks, front),
+    })?;
+    Ok(())
+}
+
+/// Returns whether the stack before has no box of these functions.
+fn opens(before: Option<&[u8]>, front: &[u8]) -> bool
+    ensures { result ≡ opens (option_map (λ frames. frames.now) before.entry) front.now }
+{
+    match before {
+        Some(frames) => !begins(front, frames),
+        None => true,
+    }
+}
+
+/// Returns whether a stack begins with these functions.
+fn begins(front: &[u8], frames: &[u8]) -> bool
+    ensures { result ≡ begins front.now frames.now }
+{
+    frames.starts_with(front) && ends_name(&frames[front.len()..])
+}
+
+/// Returns whether a name ends before these bytes.
+fn ends_name(rest: &[u8]) -> bool
+    ensures { result ≡ ends_name rest.now }
+{
+    match rest {
+        [] => true,
+        [first, ..] => *first == SEPARATOR,
+    }
+}
+
+/// Returns how many samples have a stack that begins with these functions, of the stacks up to the
+/// first that doesn't.
+fn weight(stacks: &[Stack<'_>], front: &[u8]) -> u64
+    requires { total_of (map stack_view stacks.now) < 2 ^ 64 }
+    ensures { result ≡ weight front.now (map stack_view stacks.now) }
+{
+    let mut width = 0;
+    for stack in stacks {
+        if !begins(front, stack.frames) {
+            return width;
+        }
+        width += stack.count;
+    }
+    width
+}
+
+/// Returns the last name.
+fn name_in(front: &[u8]) -> &[u8]
+    ensures { result.now ≡ name_in front.now }
+{
+    &front[last_part(front, SEPARATOR)..]
+}
+
+/// Returns how many names come before the last.
+fn depth_of(front: &[u8]) -> usize
+    ensures { result ≡ count_by (λ c. c == 31) front.now }
+{
+    front.iter().filter(|byte| **byte == SEPARATOR).count()
+}
