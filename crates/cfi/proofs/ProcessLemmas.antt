@@ -27,7 +27,7 @@ use Rattle.cfi.specs.Findings.{greatest_status, tally_in}
 use Rattle.cfi.specs.Words.{asked}
 use Rattle.cfi_programs.specs.declared.style.Format.{Format}
 use Rattle.cfi.specs.Tasks.{of_request, task_for}
-use Rattle.cfi.specs.Process.{AreChecks, AreStacks, AreTallied, AreThreads, Checks, Disk, Ends, IsAnswer, IsAnswerTo, IsCheck, IsCheckOf, IsPrint, IsStatusAfter, IsStatusOf, MayOpenNamed, PrintsRun, WritesChecks, disk_of, no_checks, nothing, tallied, tally_line, with_check}
+use Rattle.cfi.specs.Process.{AreChecks, AreStacks, AreTallied, AreThreads, Checks, Disk, Ends, IsAnswer, IsAnswerTo, IsCheck, IsCheckOf, IsPrint, IsStatusAfter, IsStatusOf, MayOpenAt, PrintsRun, WritesChecks, disk_of, no_checks, nothing, tallied, tally_line, with_check}
 
 -- ---- checks one after the other
 
@@ -174,14 +174,14 @@ pub unreadable : (E : Type 0) (disk : Disk) (format : Format) (name : Text) (old
 unreadable E disk format name old may = (Unreadable, nothing, none_yet old, refl, (None, may, (refl, refl)))
 
 pub stacks_of : {E : Type 0} (disk : Disk) (raw : Bool) (name : Text) (file : disk.Handle) (old new : Option (List ℕ)) (r : Result ℕ E) → disk.MayOpen name (Some file) →
-    ((bytes : List ℕ) × AreLeft (disk.bytes_of file) bytes × PrintsSome (λ line. IsOwedOfProfile raw (MayOpenNamed disk) disk.bytes_of bytes line) old new r) → PrintsSome (λ line. AreStacks disk raw name line) old new r
+    ((bytes : List ℕ) × AreLeft (disk.bytes_of file) bytes × PrintsSome (λ line. IsOwedOfProfile raw (MayOpenAt disk) disk.bytes_of bytes line) old new r) → PrintsSome (λ line. AreStacks disk raw name line) old new r
 stacks_of disk raw name file old new r may (bytes, left, (printed, prints, owed)) = (printed, prints, (Some file, may, (bytes, left, owed)))
 
 pub no_stacks : (E : Type 0) (disk : Disk) (raw : Bool) (name : Text) (old : Option (List ℕ)) → disk.MayOpen name None → PrintsSome {E = E} (λ line. AreStacks disk raw name line) old old (Ok 2)
 no_stacks E disk raw name old may = (nothing, (none_yet old, refl), (None, may, refl))
 
 pub threads_of : {E : Type 0} (disk : Disk) (raw : Bool) (name : Text) (file : disk.Handle) (old new : Option (List ℕ)) (r : Result ℕ E) → disk.MayOpen name (Some file) →
-    ((bytes : List ℕ) × AreLeft (disk.bytes_of file) bytes × PrintsSome (λ line. IsOwedOfCore raw (MayOpenNamed disk) disk.bytes_of bytes line) old new r) → PrintsSome (λ line. AreThreads disk raw name line) old new r
+    ((bytes : List ℕ) × AreLeft (disk.bytes_of file) bytes × PrintsSome (λ line. IsOwedOfCore raw (MayOpenAt disk) disk.bytes_of bytes line) old new r) → PrintsSome (λ line. AreThreads disk raw name line) old new r
 threads_of disk raw name file old new r may (bytes, left, (printed, prints, owed)) = (printed, prints, (Some file, may, (bytes, left, owed)))
 
 pub no_threads : (E : Type 0) (disk : Disk) (raw : Bool) (name : Text) (old : Option (List ℕ)) → disk.MayOpen name None → PrintsSome {E = E} (λ line. AreThreads disk raw name line) old old (Ok 2)

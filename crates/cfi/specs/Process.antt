@@ -20,6 +20,7 @@ use Rattle.cfi_files.specs.Findings.{has_table, is_faithful}
 use Rattle.cfi_files.specs.declared.finding.Finding.{Finding}
 use Rattle.cfi_files.specs.declared.finding.Finding.TheVariants.{Unreadable}
 use Rattle.cfi_files.specs.declared.request.Request.{Request}
+use Rattle.cfi_processes.specs.Wanted.{FilePlace, at_path, copy_of}
 use Rattle.cfi_stacks.specs.CoreOutputs.{IsOwed as IsOwedOfCore}
 use Rattle.cfi_stacks.specs.ProfileOutputs.{IsOwed as IsOwedOfProfile}
 use Rattle.cfi.specs.CommandLine.{Asked, cfi_app, format_names}
@@ -110,15 +111,17 @@ AreTallied disk format names printed =
 -- ---- what is printed of a profile, and of a core file
 
 -- the files that it names; none is opened by a name that isn't UTF-8, or if the file isn't a
--- regular one
-abbrev pub MayOpenNamed : (disk : Disk) → List ℕ → Option disk.Handle → Type 0
-MayOpenNamed disk name opened = IsNone opened ⊎ disk.MayOpen name opened
+-- regular one. A copy of a build is at a path of its own
+abbrev pub MayOpenAt : (disk : Disk) → FilePlace → Option disk.Handle → Type 0
+MayOpenAt disk (at_path name) opened = IsNone opened ⊎ disk.MayOpen name opened
+MayOpenAt disk (copy_of build) opened =
+    IsNone opened ⊎ ((path : Text) × disk.MayOpen path opened)
 
 abbrev pub AreStacksOf : (disk : Disk) → Bool → Option disk.Handle → Line → Type 0
 AreStacksOf disk raw None printed = printed ≡ nothing
 AreStacksOf disk raw (Some file) printed =
     (bytes : List ℕ) × AreLeft (disk.bytes_of file) bytes
-    × IsOwedOfProfile raw (MayOpenNamed disk) disk.bytes_of bytes printed
+    × IsOwedOfProfile raw (MayOpenAt disk) disk.bytes_of bytes printed
 
 abbrev pub AreStacks : Disk → Bool → Text → Line → Type 0
 AreStacks disk raw name printed =
@@ -128,7 +131,7 @@ abbrev pub AreThreadsOf : (disk : Disk) → Bool → Option disk.Handle → Line
 AreThreadsOf disk raw None printed = printed ≡ nothing
 AreThreadsOf disk raw (Some file) printed =
     (bytes : List ℕ) × AreLeft (disk.bytes_of file) bytes
-    × IsOwedOfCore raw (MayOpenNamed disk) disk.bytes_of bytes printed
+    × IsOwedOfCore raw (MayOpenAt disk) disk.bytes_of bytes printed
 
 abbrev pub AreThreads : Disk → Bool → Text → Line → Type 0
 AreThreads disk raw name printed =

@@ -1,5 +1,5 @@
 //! The files that a profile names, as the system opens them.
-ghost use Rattle.std.specs.Prelude.{◌⊎◌, IsNone};
+ghost use Rattle.cfi.specs.Process.{MayOpenAt, disk_of};
 
 use crate::system::System;
 use cfi_processes::Opener;
@@ -15,8 +15,8 @@ pub struct ProfileOpener<'s, S> {
 impl<S: System> Opener for ProfileOpener<'_, S> {
     type File = S::File;
 
-    ghost may_open = { λ opener name opened.
-        IsNone opened ⊎ S.may_open opener.system.now name opened };
+    ghost may_open = { λ opener place opened.
+        MayOpenAt (disk_of (S.may_open opener.system.now) S.File.bytes) place opened };
 
     /// Opens the file with this name, if it is UTF-8 and a regular file.
     fn open(&self, name: &[u8]) -> Option<S::File> {
@@ -24,5 +24,21 @@ impl<S: System> Opener for ProfileOpener<'_, S> {
             Ok(path) => self.system.open_regular(path),
             Err(_) => None,
         }
+    }
+
+    fn find(&self, name: &[u8]) -> Option<S::File> {
+        match str::from_utf8(name) {
+            Ok(path) => self.system.find_regular(path),
+            Err(_) => None,
+        }
+    }
+
+    fn open_copy(&self, build: &[u8]) -> Option<S::File> {
+        let path = self.system.copy_path(build)?;
+        self.system.find_regular(path.as_str())
+    }
+
+    fn tell_missing(&self, name: &[u8]) {
+        self.system.tell_missing(name);
     }
 }

@@ -9,7 +9,7 @@ use std::alloc::{AllocGlobal, Global};
 use std::fs::File;
 use std::io::{Read, Seek, SeekFrom};
 use std::rt::{Env, Files};
-use std::{env, fs, io};
+use std::{env, fs, io, str};
 
 /// What a run has of the system. Whatever it gives, `run` prints what is right for it.
 pub trait System {
@@ -41,6 +41,18 @@ pub trait System {
     /// printed on standard error, as `open` does.
     fn open_regular(&self, path: &str) -> Option<Self::File>
         ensures { may_open self.now path.now result };
+
+    /// Opens the file at a path, if it is a regular one. Prints nothing.
+    fn find_regular(&self, path: &str) -> Option<Self::File>
+        ensures { may_open self.now path.now result };
+
+    /// Returns the path at which `perf record` keeps a copy of the file of this build. `None` where
+    /// there is no such path, or memory is refused.
+    fn copy_path(&self, build: &[u8]) -> Option<String>;
+
+    /// Says on standard error that for the file with this name none of the profile's build was
+    /// found, as `cfi: FILE: SENTENCE`.
+    fn tell_missing(&self, name: &[u8]);
 
     /// Prints clap's text: help on standard output and a mistake on standard error. Fails where it
     /// can't be written.
@@ -110,6 +122,26 @@ impl<P: Env + Files + Print + Eprint + AllocGlobal> System for Host<'_, P> {
             Ok(metadata) if !metadata.is_file() => None,
             _ => self.open(path),
         }
+    }
+
+    fn find_regular(&self, path: &str) -> Option<HostFile<P::File>> {
+        match fs::metadata(self.rt, path) {
+            Ok(metadata) if metadata.is_file() => {
+                let file = File::open(self.rt, path).ok()?;
+                Some(HostFile { file, bytes: None })
+            }
+            _ => None,
+        }
+    }
+
+    fn copy_path(&self, build: &[u8]) -> Option<String> {
+        let home = env::var(self.rt, "HOME").ok()?;
+        copy_path(self.rt.alloc(), home.as_str(), build)
+    }
+
+    fn tell_missing(&self, name: &[u8]) {
+        let name = str::from_utf8(name).unwrap_or("a file");
+        let _ = eprintln!(self.rt; "cfi: {name}: no file of the profile's build is here");
     }
 
     fn print_error(&self, error: &Error) -> io::Result<()> {
@@ -182,6 +214,15 @@ impl<F: Read> HostFile<F> {
         self.bytes = Some(bytes);
         Ok(length)
     }
+}
+
+/// Returns the path of the copy that `perf record` keeps of a build, by its identification in
+/// hexadecimal digits (perf-buildid-cache(1)). `None` where that is empty, or memory is refused.
+fn copy_path(alloc: Global, home: &str, build: &[u8]) -> Option<String> {
+    let (first, others) = build.split_first()?;
+    let folder = hex::encode(alloc, [*first]).ok()?;
+    let name = hex::encode(alloc, others).ok()?;
+    format!(in alloc; "{home}/.debug/.build-id/{folder}/{name}/elf").ok()
 }
 
 /// Reads `size` bytes from the offset on.

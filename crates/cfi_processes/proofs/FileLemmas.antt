@@ -1,11 +1,13 @@
 -- The files of a profile, gathered one after the other.
-use Rattle.std.proofs.Common.{◌≡◌, ◌∙◌, ℕ, ◌+◌, ◌<◌, ◌≤◌, ◌||◌, Bool, List, [], ◌∷◌, ◌++◌, Bor, Option, length, get_or, drop, map, not, cond, refl, sym, ap, subst, add-one, append-nil, append_assoc}
+use Rattle.std.proofs.Common.{◌≡◌, ◌∙◌, ℕ, ◌+◌, ◌<◌, ◌≤◌, ◌||◌, Bool, List, [], ◌∷◌, ◌++◌, Option, length, get_or, drop, map, not, cond, refl, sym, ap, subst, add-one, append-nil, append_assoc}
 use Rattle.std.proofs.Math.Seq.{drop-cons}
 use Rattle.std.proofs.lemmas.List.{drop_all}
 use Rattle.std.specs.List.{list_any, position_or_len, prefix_len}
 use Rattle.cfi_processes.specs.declared.profile_files.OpenedFile.{OpenedFile}
 use Rattle.cfi_processes.specs.KnownFiles.{KnownFile}
-use Rattle.cfi_processes.specs.OpenedFiles.{AreFilesOf, AreOpened, IsContents, IsFileOf, Opened, opened_view, texts}
+use Rattle.cfi_processes.specs.OpenedFiles.{AreFilesOf, AreOpened, IsContents, IsFileOf, Opened, opened_view}
+use Rattle.cfi_processes.specs.declared.wanted.WantedFile.{WantedFile}
+use Rattle.cfi_processes.specs.Wanted.{FilePlace, Wanted, wanted_view}
 
 pub any_mapped : {X Y : Type 0} (f : X → Y) (p : Y → Bool) (xs : List X) → list_any (λ x. p (f x)) xs ≡ list_any p (map f xs)
 any_mapped f p [] = refl
@@ -20,31 +22,35 @@ place_mapped f p xs = prefix_mapped f (λ y. not (p y)) xs
 
 -- ---- opened
 
-module _ {Handle : Type 0} (may_open : List ℕ → Option Handle → Type 0) (remaining : Handle → Option (List ℕ)) where
-  -- with what is opened for the other names, the first files are those of all
-  pub record OpensOn (all left : List (List ℕ)) (first : List Opened) : Type 0 where
+abbrev pub opened_as : Wanted → Option (List ℕ) → Opened
+opened_as file bytes = record { name = file.name; build_id = file.build_id; bytes = bytes }
+
+module _ {Handle : Type 0} (may_open : FilePlace → Option Handle → Type 0) (remaining : Handle → Option (List ℕ)) where
+  -- with what is opened for the other files, the first are those of all
+  pub record OpensOn (all left : List Wanted) (first : List Opened) : Type 0 where
     pub opens_on : (others : List Opened) → AreOpened may_open remaining left others → AreOpened may_open remaining all (first ++ others)
 
-  pub none_opened : (all : List (List ℕ)) → OpensOn all all []
+  pub none_opened : (all : List Wanted) → OpensOn all all []
   none_opened all = record { opens_on = λ others are. are }
 
-  pub one_opened : (all : List (List ℕ)) (names : List (Bor (List ℕ))) (i : ℕ) (d : Bor (List ℕ)) (first next : List Opened) (bytes : Option (List ℕ)) → i < length names
-      → next ≡ first ++ record { name = (get_or names i d).now; bytes = bytes } ∷ [] → OpensOn all (texts (drop i names)) first → IsContents may_open remaining (get_or names i d).now bytes
-      → OpensOn all (texts (drop (i + 1) names)) next
-  one_opened all names i d first next bytes inside is so contents = record {
+  pub one_opened : (all : List Wanted) (files : List WantedFile) (i : ℕ) (d : WantedFile) (first next : List Opened) (bytes : Option (List ℕ)) → i < length files
+      → next ≡ first ++ opened_as (wanted_view (get_or files i d)) bytes ∷ [] → OpensOn all (map wanted_view (drop i files)) first → IsContents may_open remaining (wanted_view (get_or files i d)) bytes
+      → OpensOn all (map wanted_view (drop (i + 1) files)) next
+  one_opened all files i d first next bytes inside is so contents = record {
     opens_on = λ others are.
-        let one : Opened = record { name = (get_or names i d).now; bytes = bytes } in
-        let left : texts (drop i names) ≡ (get_or names i d).now ∷ texts (drop (i + 1) names) = rw (drop-cons names i d, add-one) refl in
-        let whole = so.opens_on (one ∷ others) (subst (λ (names : List (List ℕ)). AreOpened may_open remaining names (one ∷ others)) (sym left) (bytes, others, contents, are, refl)) in
+        let one : Opened = opened_as (wanted_view (get_or files i d)) bytes in
+        let left : map wanted_view (drop i files) ≡ wanted_view (get_or files i d) ∷ map wanted_view (drop (i + 1) files) = rw (drop-cons files i d, add-one) refl in
+        let whole = so.opens_on (one ∷ others) (subst (λ (files : List Wanted). AreOpened may_open remaining files (one ∷ others)) (sym left) (bytes, others, contents, are, refl)) in
         subst (λ (opened : List Opened). AreOpened may_open remaining all opened) (sym (ap (λ (front : List Opened). front ++ others) is ∙ append_assoc first (one ∷ []) others)) whole;
   }
 
-  -- those of all names were opened
-  pub all_opened : (names : List (Bor (List ℕ))) (i : ℕ) (opened : List Opened) → length names ≤ i → OpensOn (texts names) (texts (drop i names)) opened → AreOpened may_open remaining (texts names) opened
-  all_opened names i opened behind so =
-      let none : texts (drop i names) ≡ [] = rw drop_all refl in
-      subst (λ (all : List Opened). AreOpened may_open remaining (texts names) all) (append-nil opened)
-      (so.opens_on [] (subst (λ (left : List (List ℕ)). AreOpened may_open remaining left []) (sym none) refl))
+  -- all files were opened
+  pub all_opened : (files : List WantedFile) (i : ℕ) (opened : List Opened) → length files ≤ i → OpensOn (map wanted_view files) (map wanted_view (drop i files)) opened
+      → AreOpened may_open remaining (map wanted_view files) opened
+  all_opened files i opened behind so =
+      let none : map wanted_view (drop i files) ≡ [] = rw drop_all refl in
+      subst (λ (all : List Opened). AreOpened may_open remaining (map wanted_view files) all) (append-nil opened)
+      (so.opens_on [] (subst (λ (left : List Wanted). AreOpened may_open remaining left []) (sym none) refl))
 
 -- ---- as files of the profile
 

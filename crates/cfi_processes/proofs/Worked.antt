@@ -5,6 +5,7 @@ use Rattle.cfi_processes.specs.Mappings.{Place, mapped_over, place_of}
 use Rattle.cfi_perf.specs.Events.{ForkEvent, ProgramEvent}
 use Rattle.cfi_processes.specs.Histories.{Change, mapped, executed, forked, places_after}
 use Rattle.cfi_processes.specs.ThreadNames.{names_after}
+use Rattle.cfi_processes.specs.Wanted.{is_build, is_same}
 
 abbrev code : ℕ → ℕ → ℕ → ℕ → MappedCode
 code start end offset file = record { start = start; end = end; offset = offset; object = Some file }
@@ -128,3 +129,22 @@ name_of_the_other = refl
 
 nameless : renamed 17262 ≡ None
 nameless = refl
+
+-- ---- builds
+
+same_build : is_build (1 ∷ 2 ∷ []) (1 ∷ 2 ∷ []) ≡ true
+same_build = refl
+
+-- perf once kept 20 bytes of each
+zeros_behind : is_build (1 ∷ 2 ∷ 0 ∷ 0 ∷ []) (1 ∷ 2 ∷ []) ≡ true
+zeros_behind = refl
+
+bytes_behind : is_build (1 ∷ 2 ∷ 3 ∷ []) (1 ∷ 2 ∷ []) ≡ false
+bytes_behind = refl
+
+longer_note : is_build (1 ∷ 0 ∷ []) (1 ∷ 0 ∷ 0 ∷ []) ≡ false
+longer_note = refl
+
+-- a mapping whose build isn't known is of the file for which none is known
+unknown_build : is_same (record { name = codes "/a"; build_id = None }) (record { name = codes "/a"; build_id = Some (1 ∷ []) }) ≡ false
+unknown_build = refl

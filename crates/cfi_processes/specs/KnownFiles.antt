@@ -28,14 +28,19 @@ pub record KnownCode : Type 0 where
 abbrev pub code_view : FileCode → KnownCode
 code_view code = record { object = object_view code.object; table = code.table }
 
--- A file by its name: its code is none where it can't be opened or read, is no ELF file, or has no
--- .eh_frame.
+-- A file by its name, and by its build if that is known: its code is none where it can't be opened
+-- or read, is no ELF file, or has no .eh_frame.
 pub record KnownFile : Type 0 where
   pub name : List ℕ
+  pub build_id : Option (List ℕ)
   pub code : Option KnownCode
 
 abbrev pub known_view : ProfileFile → KnownFile
-known_view file = record { name = file.name.bytes.now; code = option_map code_view file.code }
+known_view file = record {
+  name = file.name.bytes.now;
+  build_id = option_map (λ id. id.now) file.build_id;
+  code = option_map code_view file.code;
+}
 
 -- ---- what is mapped at an address
 

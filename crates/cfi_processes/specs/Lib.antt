@@ -10,5 +10,6 @@ pub mod ThreadNames
 pub mod Sites
 pub mod KnownFiles
 pub mod FileModules
+pub mod Wanted
 pub mod OpenedFiles
 pub mod Replays

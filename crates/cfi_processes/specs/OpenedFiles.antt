@@ -1,13 +1,12 @@
 -- The files of a profile, as they are opened.
 --     is_file_name name      whether a mapping with the name is of a file
---     Opened, opened_view      a file by its name and its bytes, none where these can't be had, and
---         that of the code
---     IsContents may_open remaining name bytes      what was read of a file
---     AreOpened .. names opened      the files of these names
+--     Opened, opened_view      a file by its name, its build and its bytes, none where these can't
+--         be had, and that of the code
+--     IsContents may_open remaining file bytes      what was read of a file that is wanted
+--     AreOpened .. files opened      these files
 --     AreFilesOf opened files      what they are as files of a profile
 use Rattle.std.specs.Prelude.{◌≡◌, ◌⊎◌, ℕ, Bool, true, false, not, ◌&&◌, List, [], ◌∷◌, Option}
-use Rattle.std.specs.Prelude.{Some, None, IfSome, Vec, codes, map, nat_eq, option_map}
-use Rattle.std.specs.Borrow.{Bor}
+use Rattle.std.specs.Prelude.{Some, None, IfSome, Vec, codes, nat_eq, option_map, if◌then◌else◌}
 use Rattle.std.specs.List.{starts_with}
 use Rattle.std.specs.Option.{option_and_then}
 use Rattle.cfi_compiled.specs.CompiledTables.{TableContents, IsCompiled}
@@ -15,20 +14,22 @@ use Rattle.cfi_entry.specs.Sections.{Section}
 use Rattle.cfi_processes.specs.declared.profile_files.OpenedFile.{OpenedFile}
 use Rattle.cfi_processes.specs.KnownFiles.{KnownCode, KnownFile}
 use Rattle.cfi_processes.specs.Objects.{Object, has_table, object_of}
-
--- the bytes of names of the code
-abbrev pub texts : List (Bor (List ℕ)) → List (List ℕ)
-texts names = map (λ name. name.now) names
+use Rattle.cfi_processes.specs.Wanted.{FilePlace, Wanted, at_path, copy_of, has_build}
 
 pub record Opened : Type 0 where
   pub name : List ℕ
+  pub build_id : Option (List ℕ)
   pub bytes : Option (List ℕ)
 
 abbrev pub bytes_view : {A : Type 0} → Option (Vec ℕ A) → Option (List ℕ)
 bytes_view bytes = option_map (λ read. read.items) bytes
 
 abbrev pub opened_view : OpenedFile → Opened
-opened_view opened = record { name = opened.name.now; bytes = bytes_view opened.bytes }
+opened_view opened = record {
+  name = opened.name.now;
+  build_id = option_map (λ id. id.now) opened.build_id;
+  bytes = bytes_view opened.bytes;
+}
 
 abbrev pub begins_with : List ℕ → List ℕ → Bool
 begins_with front name = starts_with nat_eq name front
@@ -45,24 +46,53 @@ abbrev pub IsReading : Option (List ℕ) → Option (List ℕ) → Type 0
 IsReading left None = Unit {0}
 IsReading left (Some bytes) = IfSome left (λ all. bytes ≡ all)
 
-module _ {Handle : Type 0} (may_open : List ℕ → Option Handle → Type 0)
-    (remaining : Handle → Option (List ℕ)) where
+-- the bytes, if the file is of the build
+abbrev pub if_built : List ℕ → Option (List ℕ) → Option (List ℕ)
+if_built build None = None
+if_built build (Some bytes) = if has_build build bytes then Some bytes else None
+
+module _ {Handle : Type 0} (remaining : Handle → Option (List ℕ)) where
   abbrev pub IsReadOf : Option Handle → Option (List ℕ) → Type 0
   IsReadOf None bytes = bytes ≡ None
   IsReadOf (Some file) bytes = IsReading (remaining file) bytes
 
-  -- the file is opened, if the name is one of a file
-  abbrev pub IsContents : List ℕ → Option (List ℕ) → Type 0
-  IsContents name bytes =
-      ((is_file_name name ≡ false) × (bytes ≡ None))
-      ⊎ ((is_file_name name ≡ true)
-      × ((opened : Option Handle) × may_open name opened × IsReadOf opened bytes))
+  abbrev pub IsBuildOf : List ℕ → Option Handle → Option (List ℕ) → Type 0
+  IsBuildOf build opened bytes =
+      (read : Option (List ℕ)) × IsReadOf opened read × (bytes ≡ if_built build read)
 
-  abbrev pub AreOpened : List (List ℕ) → List Opened → Type 0
+module _ {Handle : Type 0} (may_open : FilePlace → Option Handle → Type 0)
+    (remaining : Handle → Option (List ℕ)) where
+  abbrev pub IsRead : FilePlace → Option (List ℕ) → Type 0
+  IsRead place bytes =
+      (opened : Option Handle) × may_open place opened × IsReadOf remaining opened bytes
+
+  abbrev pub IsBuild : List ℕ → FilePlace → Option (List ℕ) → Type 0
+  IsBuild build place bytes =
+      (opened : Option Handle) × may_open place opened × IsBuildOf remaining build opened bytes
+
+  -- what was found, or else the copy of the build
+  abbrev pub IsOrCopy : List ℕ → Option (List ℕ) → Option (List ℕ) → Type 0
+  IsOrCopy build (Some found) bytes = bytes ≡ Some found
+  IsOrCopy build None bytes = IsBuild build (copy_of build) bytes
+
+  -- of a build only what is of it: the file at the path, or else the copy
+  abbrev pub IsFound : List ℕ → Option (List ℕ) → Option (List ℕ) → Type 0
+  IsFound name None bytes = IsRead (at_path name) bytes
+  IsFound name (Some build) bytes =
+      (found : Option (List ℕ)) × IsBuild build (at_path name) found × IsOrCopy build found bytes
+
+  -- files are opened where the name is one of a file
+  abbrev pub IsContents : Wanted → Option (List ℕ) → Type 0
+  IsContents file bytes =
+      ((is_file_name file.name ≡ false) × (bytes ≡ None))
+      ⊎ ((is_file_name file.name ≡ true) × IsFound file.name file.build_id bytes)
+
+  abbrev pub AreOpened : List Wanted → List Opened → Type 0
   AreOpened [] opened = opened ≡ []
-  AreOpened (name ∷ names) opened =
-      (bytes : Option (List ℕ)) × (others : List Opened) × IsContents name bytes
-      × AreOpened names others × (opened ≡ record { name = name; bytes = bytes } ∷ others)
+  AreOpened (file ∷ files) opened =
+      (bytes : Option (List ℕ)) × (others : List Opened) × IsContents file bytes
+      × AreOpened files others
+      × (opened ≡ record { name = file.name; build_id = file.build_id; bytes = bytes } ∷ others)
 
 -- ---- as files of a profile
 
@@ -81,7 +111,8 @@ IsCodeOf (Some object) code =
 
 abbrev pub IsFileOf : Opened → KnownFile → Type 0
 IsFileOf opened file =
-    (file.name ≡ opened.name) × IsCodeOf (option_and_then object_of opened.bytes) file.code
+    (file.name ≡ opened.name) × (file.build_id ≡ opened.build_id)
+    × IsCodeOf (option_and_then object_of opened.bytes) file.code
 
 abbrev pub AreFilesOf : List Opened → List KnownFile → Type 0
 AreFilesOf [] files = files ≡ []

@@ -1,13 +1,13 @@
 -- What the records of a profile say of processes, one after the other.
---     names_of records      the names that executable mappings have, each once, in the order of the
---         records
+--     wanted_of records      the files that executable mappings are of, each once, in the order of
+--         the records
 --     after files event before      what is mapped in each process after a record
 --     replayed replay      what is mapped in each process, for a replay of the code
 --     named replay      the name of each thread, for a replay of the code
 --     files_of replay, loaded_in replay      its files, and its modules
 --     HasOwnModules replay      its modules are of its files
-use Rattle.std.specs.Prelude.{◌≡◌, ℕ, ◌+◌, ◌-◌, ◌^◌, Bool, List, [], ◌∷◌, ◌++◌, Option, Some, None}
-use Rattle.std.specs.Prelude.{fold, map, min, position, ⊤, if◌then◌else◌}
+use Rattle.std.specs.Prelude.{◌≡◌, ℕ, ◌+◌, ◌-◌, ◌^◌, Bool, ◌&&◌, List, [], ◌∷◌, ◌++◌, Option, Some}
+use Rattle.std.specs.Prelude.{None, fold, map, min, position, ⊤, if◌then◌else◌}
 use Rattle.std.specs.List.{list_any}
 use Rattle.std.specs.Str.{bytes_eq}
 use Rattle.cfi_read_core.specs.SliceReaders.{EndianSlice}
@@ -24,31 +24,37 @@ use Rattle.cfi_processes.specs.KnownFiles.{KnownFile, known_view, modules_in}
 use Rattle.cfi_processes.specs.Modules.{module_view}
 use Rattle.cfi_processes.specs.Processes.{mappings_of}
 use Rattle.cfi_processes.specs.ThreadNames.{name_of}
+use Rattle.cfi_processes.specs.Wanted.{Wanted, is_same, same_id}
 
 -- ---- the files
 
--- the name of a file that is mapped as code
-abbrev pub code_name : Event → Option (List ℕ)
-code_name (MappingEvent m) = if m.is_executable then Some m.name else None
-code_name (ProgramEvent p) = None
-code_name (ForkEvent f) = None
-code_name (SampleEvent s) = None
-code_name OtherEvent = None
+-- the file that is mapped as code
+abbrev pub mapped_file : Mapping → Wanted
+mapped_file m = record { name = m.name; build_id = m.build_id }
 
-abbrev pub is_among : List (List ℕ) → List ℕ → Bool
-is_among names name = list_any (λ known. bytes_eq known name) names
+abbrev pub code_file : Event → Option Wanted
+code_file (MappingEvent m) = if m.is_executable then Some (mapped_file m) else None
+code_file (ProgramEvent p) = None
+code_file (ForkEvent f) = None
+code_file (SampleEvent s) = None
+code_file OtherEvent = None
 
-abbrev pub with_name : List (List ℕ) → Option (List ℕ) → List (List ℕ)
-with_name names None = names
-with_name names (Some name) = if is_among names name then names else names ++ name ∷ []
+abbrev pub is_among : List Wanted → Wanted → Bool
+is_among files file = list_any (λ known. is_same known file) files
 
-abbrev pub names_of : List Record → List (List ℕ)
-names_of records = fold (λ names r. with_name names (code_name r.event)) [] records
+abbrev pub with_file : List Wanted → Option Wanted → List Wanted
+with_file files None = files
+with_file files (Some file) = if is_among files file then files else files ++ file ∷ []
+
+abbrev pub wanted_of : List Record → List Wanted
+wanted_of records = fold (λ files r. with_file files (code_file r.event)) [] records
+
+abbrev pub is_of : Mapping → KnownFile → Bool
+is_of m file = bytes_eq file.name m.name && same_id file.build_id m.build_id
 
 -- which of the files is mapped; none where it isn't mapped as code
 abbrev pub object_of : List KnownFile → Mapping → Option ℕ
-object_of files m =
-    if m.is_executable then position (λ file. bytes_eq file.name m.name) files else None
+object_of files m = if m.is_executable then position (is_of m) files else None
 
 -- up to the last address at most
 abbrev pub mapped_code : List KnownFile → Mapping → MappedCode

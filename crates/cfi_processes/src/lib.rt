@@ -1,10 +1,11 @@
 //! The processes of a profile that `perf record` wrote, and the frames of its samples.
 //!
 //! `mappings` and `processes` follow what is mapped where in each process, `threads` the names of
-//! threads, `replay` both by the records of a profile. `profile_files` opens the files that a
-//! profile names; `objects` and `file_code` make modules of them, and `process_code` finds the
-//! place of an address in them. `registers` finds perf's registers by DWARF's numbers,
-//! `stack_walk` writes the frames of a stack over any memory, and `sample_stack` those of a sample.
+//! threads, `replay` both by the records of a profile. `wanted` says which files a profile's
+//! mappings are of, and `profile_files` opens them; `objects` and `file_code` make modules of them,
+//! and `process_code` finds the place of an address in them. `registers` finds perf's registers by
+//! DWARF's numbers, `stack_walk` writes the frames of a stack over any memory, and `sample_stack`
+//! those of a sample.
 #![tactic(auto)]
 
 pub mod file_code;
@@ -19,6 +20,7 @@ pub mod replay;
 pub mod sample_stack;
 pub mod stack_walk;
 pub mod threads;
+pub mod wanted;
 
 pub use mappings::{MappedCode, Mappings};
 pub use names::Name;
@@ -31,3 +33,4 @@ pub use replay::Replay;
 pub use sample_stack::{NoFrames, unwind_sample};
 pub use stack_walk::unwind_from;
 pub use threads::Threads;
+pub use wanted::WantedFile;

@@ -1,18 +1,21 @@
 //! The files that a profile's mappings name.
-ghost use Rattle.std.specs.Prelude.{◌≡◌, ℕ, List, Option, IfOk, OnOk, map, option_map};
-ghost use Rattle.cfi_perf.specs.Events.{record_view};
+ghost use Rattle.std.specs.Prelude.{◌≡◌, Option, Some, IfOk, OnOk, map, option_map};
+ghost use Rattle.cfi_perf.specs.Events.{mapping_view, record_view};
 ghost use Rattle.cfi_processes.specs.KnownFiles.{code_view, known_view};
 ghost use Rattle.cfi_processes.specs.Objects.{object_of};
-ghost use Rattle.cfi_processes.specs.OpenedFiles.{AreFilesOf, AreOpened, IsCodeOf, IsContents};
-ghost use Rattle.cfi_processes.specs.OpenedFiles.{IsFileOf, IsReading, bytes_view, is_file_name};
-ghost use Rattle.cfi_processes.specs.OpenedFiles.{opened_view, texts};
-ghost use Rattle.cfi_processes.specs.Replays.{code_name, is_among, names_of, with_name};
+ghost use Rattle.cfi_processes.specs.OpenedFiles.{AreFilesOf, AreOpened, IsBuild, IsBuildOf};
+ghost use Rattle.cfi_processes.specs.OpenedFiles.{IsCodeOf, IsContents, IsFileOf, IsFound};
+ghost use Rattle.cfi_processes.specs.OpenedFiles.{IsReadOf, IsReading, bytes_view, if_built};
+ghost use Rattle.cfi_processes.specs.OpenedFiles.{is_file_name, opened_view};
+ghost use Rattle.cfi_processes.specs.Replays.{code_file, is_among, is_of, wanted_of, with_file};
+ghost use Rattle.cfi_processes.specs.Wanted.{FilePlace, at_path, copy_of, wanted_view};
 
 use crate::file_code::FileCode;
 use crate::names::Name;
 use crate::objects::Object;
+use crate::wanted::{WantedFile, has_build, same_id};
 use cfi_object::input::{InputError, read_all};
-use cfi_perf::{Event, Record};
+use cfi_perf::{Event, Mapping, Record};
 use std::alloc::{AllocError, Global};
 use std::io::Read;
 
@@ -21,12 +24,24 @@ pub trait Opener {
     /// An open file.
     type File: Read + Drop;
 
-    /// What a name may be opened to; none where it can't be opened.
-    ghost may_open: { Self → List ℕ → Option Self.File → Type 0 };
+    /// What may be opened at a place; none where nothing can be opened.
+    ghost may_open: { Self → FilePlace → Option Self.File → Type 0 };
 
-    /// Opens the file with this name; `None` where it can't be opened.
+    /// Opens the file with this name; `None` where it can't be opened, which it says.
     fn open(&self, name: &[u8]) -> Option<Self::File>
-        ensures { may_open self.now name.now result };
+        ensures { may_open self.now (at_path name.now) result };
+
+    /// Opens the file with this name, and says nothing where it can't be opened.
+    fn find(&self, name: &[u8]) -> Option<Self::File>
+        ensures { may_open self.now (at_path name.now) result };
+
+    /// Opens the copy of the file of this build that the recorder kept; `None` where it can't be
+    /// opened. Says nothing.
+    fn open_copy(&self, build: &[u8]) -> Option<Self::File>
+        ensures { may_open self.now (copy_of build.now) result };
+
+    /// Says that for the file with this name none of the profile's build was found.
+    fn tell_missing(&self, name: &[u8]);
 }
 
 /// A file of a profile, as it was opened.
@@ -34,7 +49,10 @@ pub trait Opener {
 pub struct OpenedFile<'run> {
     /// The name, as the mappings have it.
     pub name: &'run [u8],
-    /// Its bytes; `None` where it can't be opened or read, or the name is none of a file.
+    /// The identification of its build, if it is known.
+    pub build_id: Option<&'run [u8]>,
+    /// Its bytes; `None` where it can't be opened or read, or the name is none of a file; where the
+    /// build is known, also where no file of it was found.
     pub bytes: Option<Vec<u8>>,
 }
 
@@ -43,37 +61,50 @@ pub struct OpenedFile<'run> {
 pub struct ProfileFile<'run> {
     /// The name, as the mappings have it.
     pub name: Name<'run>,
+    /// The identification of its build, if it is known.
+    pub build_id: Option<&'run [u8]>,
     /// Its code; `None` where it can't be opened or read, is no ELF file, or has no `.eh_frame`.
     pub code: Option<FileCode<'run>>,
 }
 
-/// The names that the executable mappings among the records have, each once, in the order of the
-/// records. Fails where memory is refused.
-pub fn mapped_names<'run>(
-    alloc: Global,
-    records: &[Record<'run>],
-) -> Result<Vec<&'run [u8]>, AllocError>
-    ensures { IfOk result (λ names. texts names.items ≡ names_of (map record_view records.now)) }
-{
-    let mut names = Vec::new(alloc);
-    for record in records {
-        push_name(&mut names, code_name(record))?;
+impl ProfileFile<'_> {
+    /// Returns whether this is the file that is mapped: it has its name, and its build if that is
+    /// known. Does not allocate.
+    pub fn is_of(&self, mapping: &Mapping<'_>) -> bool
+        ensures { result ≡ is_of (mapping_view mapping.now) (known_view self.now) }
+    {
+        self.name.bytes() == mapping.name && same_id(self.build_id, mapping.build_id)
     }
-    Ok(names)
 }
 
-/// Appends a name, unless it is there.
-pub fn push_name<'run>(
-    names: &mut Vec<&'run [u8]>,
-    name: Option<&'run [u8]>,
-) -> Result<(), AllocError>
-    ensures { OnOk result (texts names.new.items
-        ≡ with_name (texts names.old.items) (option_map (λ name. name.now) name.entry)) }
+/// The files that the executable mappings among the records are of, each once, in the order of the
+/// records. Fails where memory is refused.
+pub fn mapped_files<'run>(
+    alloc: Global,
+    records: &[Record<'run>],
+) -> Result<Vec<WantedFile<'run>>, AllocError>
+    ensures { IfOk result (λ files. map wanted_view files.items
+        ≡ wanted_of (map record_view records.now)) }
 {
-    match name {
-        Some(name) => {
-            if !is_among(names.as_slice(), name) {
-                names.push(name)?;
+    let mut files = Vec::new(alloc);
+    for record in records {
+        push_file(&mut files, code_file(record))?;
+    }
+    Ok(files)
+}
+
+/// Appends a file, unless it is there. Fails where memory is refused.
+pub fn push_file<'run>(
+    files: &mut Vec<WantedFile<'run>>,
+    file: Option<WantedFile<'run>>,
+) -> Result<(), AllocError>
+    ensures { OnOk result (map wanted_view files.new.items
+        ≡ with_file (map wanted_view files.old.items) (option_map wanted_view file.entry)) }
+{
+    match file {
+        Some(file) => {
+            if !is_among(files.as_slice(), &file) {
+                files.push(file)?;
             }
             Ok(())
         }
@@ -81,36 +112,44 @@ pub fn push_name<'run>(
     }
 }
 
-/// The name of the file that a record says is mapped as code.
-fn code_name<'run>(item: &Record<'run>) -> Option<&'run [u8]>
-    ensures { option_map (λ name. name.now) result ≡ code_name (record_view item.now).event }
+/// The file that a record says is mapped as code.
+fn code_file<'run>(item: &Record<'run>) -> Option<WantedFile<'run>>
+    ensures { option_map wanted_view result ≡ code_file (record_view item.now).event }
 {
     match item.event {
-        Event::Mapping(mapping) if mapping.is_executable => Some(mapping.name),
+        Event::Mapping(mapping) if mapping.is_executable => Some(WantedFile {
+            name: mapping.name,
+            build_id: mapping.build_id,
+        }),
         _ => None,
     }
 }
 
-/// Whether the name is one of these.
-fn is_among(names: &[&[u8]], name: &[u8]) -> bool
-    ensures { result ≡ is_among (texts names.now) name.now }
+/// Whether the file is one of these.
+fn is_among(files: &[WantedFile<'_>], file: &WantedFile<'_>) -> bool
+    ensures { result ≡ is_among (map wanted_view files.now) (wanted_view file.now) }
 {
-    names.iter().any(|known| *known == name)
+    files.iter().any(|known| known.is_same(file))
 }
 
-/// Opens and reads the files of these names. Fails where memory is refused.
+/// Opens and reads the files. Of a build that is known only a file of it is taken: the one at the
+/// path, or else the copy that the recorder kept. Fails where memory is refused.
 pub fn read_files<'run, O: Opener>(
     alloc: Global,
     opener: &O,
-    names: &[&'run [u8]],
+    files: &[WantedFile<'run>],
 ) -> Result<Vec<OpenedFile<'run>>, AllocError>
     ensures { IfOk result (λ opened. AreOpened (O.may_open opener.now) O.File.remaining
-        (texts names.now) (map opened_view opened.items)) }
+        (map wanted_view files.now) (map opened_view opened.items)) }
 {
     let mut opened = Vec::new(alloc);
-    for name in names {
-        let bytes = read_file(alloc, opener, name)?;
-        opened.push(OpenedFile { name, bytes })?;
+    for file in files {
+        let bytes = read_file(alloc, opener, file)?;
+        opened.push(OpenedFile {
+            name: file.name,
+            build_id: file.build_id,
+            bytes,
+        })?;
     }
     Ok(opened)
 }
@@ -119,15 +158,91 @@ pub fn read_files<'run, O: Opener>(
 fn read_file<O: Opener>(
     alloc: Global,
     opener: &O,
-    name: &[u8],
+    file: &WantedFile<'_>,
 ) -> Result<Option<Vec<u8>>, AllocError>
-    ensures { IfOk result (λ bytes. IsContents (O.may_open opener.now) O.File.remaining name.now
-        (bytes_view bytes)) }
+    ensures { IfOk result (λ bytes. IsContents (O.may_open opener.now) O.File.remaining
+        (wanted_view file.now) (bytes_view bytes)) }
 {
-    if !is_file_name(name) {
+    if !is_file_name(file.name) {
         return Ok(None);
     }
-    match opener.open(name) {
+    match file.build_id {
+        Some(build) => read_found(alloc, opener, file.name, build),
+        None => read_opened(alloc, opener.open(file.name)),
+    }
+}
+
+/// Reads the file at the path, or else the copy of the build, if it is of the build.
+fn read_found<O: Opener>(
+    alloc: Global,
+    opener: &O,
+    name: &[u8],
+    build: &[u8],
+) -> Result<Option<Vec<u8>>, AllocError>
+    ensures { IfOk result (λ bytes. IsFound (O.may_open opener.now) O.File.remaining name.now
+        (Some build.now) (bytes_view bytes)) }
+{
+    let found = read_build(alloc, build, opener.find(name))?;
+    match found {
+        Some(bytes) => Ok(Some(bytes)),
+        None => read_copy(alloc, opener, name, build),
+    }
+}
+
+/// Reads the copy of the build, and says so where there is none.
+fn read_copy<O: Opener>(
+    alloc: Global,
+    opener: &O,
+    name: &[u8],
+    build: &[u8],
+) -> Result<Option<Vec<u8>>, AllocError>
+    ensures { IfOk result (λ bytes. IsBuild (O.may_open opener.now) O.File.remaining build.now
+        (copy_of build.now) (bytes_view bytes)) }
+{
+    let bytes = read_build(alloc, build, opener.open_copy(build))?;
+    if bytes.is_none() {
+        opener.tell_missing(name);
+    }
+    Ok(bytes)
+}
+
+/// Reads a file that was opened, if it is of the build.
+fn read_build<R: Read + Drop>(
+    alloc: Global,
+    build: &[u8],
+    opened: Option<R>,
+) -> Result<Option<Vec<u8>>, AllocError>
+    ensures { IfOk result (λ bytes. IsBuildOf R.remaining build.now opened
+        (bytes_view bytes)) }
+{
+    let bytes = read_opened(alloc, opened)?;
+    Ok(if_built(build, bytes))
+}
+
+/// The bytes, if the file is of the build.
+fn if_built(build: &[u8], bytes: Option<Vec<u8>>) -> Option<Vec<u8>>
+    ensures { bytes_view result ≡ if_built build.now (bytes_view bytes) }
+{
+    match bytes {
+        Some(bytes) => {
+            if has_build(build, bytes.as_slice()) {
+                Some(bytes)
+            } else {
+                None
+            }
+        }
+        None => None,
+    }
+}
+
+/// Reads a file that was opened, if it was.
+fn read_opened<R: Read + Drop>(
+    alloc: Global,
+    opened: Option<R>,
+) -> Result<Option<Vec<u8>>, AllocError>
+    ensures { IfOk result (λ bytes. IsReadOf R.remaining opened (bytes_view bytes)) }
+{
+    match opened {
         Some(mut file) => read_whole(alloc, &mut file),
         None => Ok(None),
     }
@@ -185,6 +300,7 @@ fn profile_file<'opened>(
     };
     Ok(ProfileFile {
         name: Name::new(opened.name),
+        build_id: opened.build_id,
         code,
     })
 }

@@ -182,9 +182,7 @@ impl<'a, 'run, 'names> Replay<'a, 'run, 'names> {
         ensures { result ≡ object_of (files_in self.now) (mapping_view mapping.now) }
     {
         if mapping.is_executable {
-            self.files
-                .iter()
-                .position(|file| file.name.bytes() == mapping.name)
+            self.files.iter().position(|file| file.is_of(mapping))
         } else {
             None
         }

@@ -7,6 +7,7 @@ use Rattle.cfi_processes.specs.declared.mappings.MappedCode.{MappedCode}
 use Rattle.cfi_processes.specs.declared.registers.SampleMachine.{SampleMachine}
 use Rattle.cfi_processes.specs.KnownFiles.{KnownFile}
 use Rattle.cfi_processes.specs.OpenedFiles.{Opened}
+use Rattle.cfi_processes.specs.Wanted.{FilePlace}
 use Rattle.cfi_cores.specs.declared.core_file.Core.{Core as CoreOfCode}
 use Rattle.cfi_cores.specs.declared.error.CoreError.{CoreError}
 use Rattle.cfi_cores.specs.declared.error.CoreError.TheVariants.{OutOfMemory}
@@ -16,7 +17,7 @@ use Rattle.cfi_cores.specs.CoreSegments.{CoreSegment}
 use Rattle.cfi_cores.specs.CoreThreads.{CoreThread}
 use Rattle.cfi_stacks.specs.CoreOutputs.{AreWindows, IsOfCore, IsOfFiles, IsOfRead, IsOutput, IsPrinted, IsThreadText, core_refusal, memory_of}
 
-module _ (raw : Bool) {Handle : Type 0} (may_open : List ℕ → Option Handle → Type 0) (remaining : Handle → Option (List ℕ)) (bytes : List ℕ) (r : Result CoreOfCode CoreError) where
+module _ (raw : Bool) {Handle : Type 0} (may_open : FilePlace → Option Handle → Type 0) (remaining : Handle → Option (List ℕ)) (bytes : List ℕ) (r : Result CoreOfCode CoreError) where
   abbrev IsOut : Line → Type 0
   IsOut = IsOutput raw may_open remaining bytes
 

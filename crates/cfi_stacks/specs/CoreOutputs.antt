@@ -1,5 +1,5 @@
 -- Which output is right for a core file.
---     code_names segments mapped      the names of the files that are mapped as code
+--     code_files segments mapped      the files that are mapped as code
 --     mappings_of files segments mapped      what is mapped as code, with the files' numbers
 --     AreWindows opened mapped windows      what the files have of the memory, by its addresses
 --     IsThreadText raw machine files list memory thread text      the text of a thread's stack
@@ -28,8 +28,9 @@ use Rattle.cfi_processes.specs.KnownFiles.{KnownFile, modules_in}
 use Rattle.cfi_processes.specs.Mappings.{mapped_over}
 use Rattle.cfi_processes.specs.Modules.{module_view}
 use Rattle.cfi_processes.specs.OpenedFiles.{AreFilesOf, AreOpened, Opened}
-use Rattle.cfi_processes.specs.Replays.{with_name}
+use Rattle.cfi_processes.specs.Replays.{with_file}
 use Rattle.cfi_processes.specs.SampleStacks.{HasRoom, Room}
+use Rattle.cfi_processes.specs.Wanted.{FilePlace, Wanted}
 use Rattle.cfi_cores.specs.declared.error.CoreError.{CoreError}
 use Rattle.cfi_cores.specs.CoreFiles.{Core, IsSortedCore, core_of}
 use Rattle.cfi_cores.specs.CoreMemories.{number_at}
@@ -75,12 +76,13 @@ abbrev pub is_code : List CoreSegment → CoreMapping → Bool
 is_code segments m =
     list_all (λ segment. segment.is_executable || not (segment.start == m.start)) segments
 
-abbrev pub code_name : List CoreSegment → CoreMapping → Option (List ℕ)
-code_name segments m = if is_code segments m then Some m.name else None
+abbrev pub code_file : List CoreSegment → CoreMapping → Option Wanted
+code_file segments m =
+    if is_code segments m then Some (record { name = m.name; build_id = None }) else None
 
 -- each once, in the order of the mappings
-abbrev pub code_names : List CoreSegment → List CoreMapping → List (List ℕ)
-code_names segments mapped = fold (λ names m. with_name names (code_name segments m)) [] mapped
+abbrev pub code_files : List CoreSegment → List CoreMapping → List Wanted
+code_files segments mapped = fold (λ files m. with_file files (code_file segments m)) [] mapped
 
 -- with the number of its file among those that were opened
 abbrev pub mapped_code : List KnownFile → CoreMapping → MappedCode
@@ -158,16 +160,16 @@ abbrev pub IsOfOpened : Bool → Core → List Opened → Line → Type 0
 IsOfOpened raw core opened printed =
     (files : List KnownFile) × AreFilesOf opened files × IsOfFiles raw core opened files printed
 
-module _ (raw : Bool) {Handle : Type 0} (may_open : List ℕ → Option Handle → Type 0)
+module _ (raw : Bool) {Handle : Type 0} (may_open : FilePlace → Option Handle → Type 0)
     (remaining : Handle → Option (List ℕ)) where
-  -- by the files of these names
-  abbrev pub IsOfNamed : Core → List (List ℕ) → Line → Type 0
-  IsOfNamed core names printed =
-      (opened : List Opened) × AreOpened may_open remaining names opened
+  -- by these files
+  abbrev pub IsOfWanted : Core → List Wanted → Line → Type 0
+  IsOfWanted core wanted printed =
+      (opened : List Opened) × AreOpened may_open remaining wanted opened
       × IsOfOpened raw core opened printed
 
   abbrev pub IsOfCore : Core → Line → Type 0
-  IsOfCore core printed = IsOfNamed core (code_names core.segments core.mapped) printed
+  IsOfCore core printed = IsOfWanted core (code_files core.segments core.mapped) printed
 
   abbrev pub IsOfRead : Result Core CoreError → Line → Type 0
   IsOfRead (Err e) printed = printed ≡ core_refusal e

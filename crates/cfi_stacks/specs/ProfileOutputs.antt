@@ -36,8 +36,9 @@ use Rattle.cfi_processes.specs.KnownFiles.{KnownFile, modules_in, site_of}
 use Rattle.cfi_processes.specs.Modules.{module_view}
 use Rattle.cfi_processes.specs.OpenedFiles.{AreFilesOf, AreOpened, Opened}
 use Rattle.cfi_processes.specs.Registers.{machine_named}
-use Rattle.cfi_processes.specs.Replays.{after, named, names_of, replayed}
+use Rattle.cfi_processes.specs.Replays.{after, named, replayed, wanted_of}
 use Rattle.cfi_processes.specs.ThreadNames.{names_after}
+use Rattle.cfi_processes.specs.Wanted.{FilePlace, Wanted}
 use Rattle.cfi_processes.specs.SampleStacks.{HasRoom, IsUnwound, Room}
 use Rattle.cfi_stacks.specs.Reasons.{reason_line, reason_of, reason_without}
 use Rattle.cfi_stacks.specs.StackTexts.{head_line, site_line}
@@ -155,17 +156,18 @@ IsOfOpened raw machine opened sorted error printed =
     (files : List KnownFile) × AreFilesOf opened files
     × IsPrinted raw machine files sorted error printed
 
-module _ (raw : Bool) {Handle : Type 0} (may_open : List ℕ → Option Handle → Type 0)
+module _ (raw : Bool) {Handle : Type 0} (may_open : FilePlace → Option Handle → Type 0)
     (remaining : Handle → Option (List ℕ)) where
-  -- by the files of these names
-  abbrev pub IsOfNamed :
-      SampleMachine → List (List ℕ) → List Record → Option PerfError → Line → Type 0
-  IsOfNamed machine names sorted error printed =
-      (opened : List Opened) × AreOpened may_open remaining names opened
+  -- by these files
+  abbrev pub IsOfWanted :
+      SampleMachine → List Wanted → List Record → Option PerfError → Line → Type 0
+  IsOfWanted machine wanted sorted error printed =
+      (opened : List Opened) × AreOpened may_open remaining wanted opened
       × IsOfOpened raw machine opened sorted error printed
 
   abbrev pub IsOfSorted : SampleMachine → List Record → Option PerfError → Line → Type 0
-  IsOfSorted machine sorted error printed = IsOfNamed machine (names_of sorted) sorted error printed
+  IsOfSorted machine sorted error printed =
+      IsOfWanted machine (wanted_of sorted) sorted error printed
 
   -- or memory was refused before the first stack
   abbrev pub IsOfRecords : SampleMachine → Records → Line → Type 0

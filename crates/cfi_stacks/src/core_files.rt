@@ -7,8 +7,9 @@ ghost use Rattle.cfi_cores.specs.MappedFiles.{mapping_view};
 ghost use Rattle.cfi_processes.specs.FileModules.{AreOfFiles};
 ghost use Rattle.cfi_processes.specs.KnownFiles.{known_view, modules_in};
 ghost use Rattle.cfi_processes.specs.Modules.{module_view};
-ghost use Rattle.cfi_processes.specs.OpenedFiles.{opened_view, texts};
-ghost use Rattle.cfi_stacks.specs.CoreOutputs.{AreWindows, bytes_named, code_name, code_names};
+ghost use Rattle.cfi_processes.specs.OpenedFiles.{opened_view};
+ghost use Rattle.cfi_processes.specs.Wanted.{wanted_view};
+ghost use Rattle.cfi_stacks.specs.CoreOutputs.{AreWindows, bytes_named, code_file, code_files};
 ghost use Rattle.cfi_stacks.specs.CoreOutputs.{file_window, is_code, mapped_code, mappings_of};
 ghost use Rattle.cfi_stacks.specs.CoreOutputs.{part_of};
 
@@ -16,7 +17,8 @@ use cfi_cores::{Core, CoreMapping, CoreSegment};
 use cfi_elf::bytes::bytes_from;
 use cfi_processes::mappings::{MappedCode, Mappings};
 use cfi_processes::process_code::{FileModule, ProcessCode};
-use cfi_processes::profile_files::{OpenedFile, ProfileFile, push_name};
+use cfi_processes::profile_files::{OpenedFile, ProfileFile, push_file};
+use cfi_processes::wanted::WantedFile;
 use std::alloc::{AllocError, Global};
 
 /// What is mapped as code in the process of a core, the modules of that, and what the files have of
@@ -31,30 +33,36 @@ pub struct CoreCode<'a, 'run> {
     pub windows: Vec<CoreSegment<'run>>,
 }
 
-/// The names of the files that are mapped as code, each once, in the order of the mappings. Fails
-/// where memory is refused.
-pub fn code_names<'run>(
+/// The files that are mapped as code, each once, in the order of the mappings. Fails where memory
+/// is refused.
+pub fn code_files<'run>(
     alloc: Global,
     segments: &[CoreSegment<'_>],
     mapped: &[CoreMapping<'run>],
-) -> Result<Vec<&'run [u8]>, AllocError>
-    ensures { IfOk result (λ names. texts names.items
-        ≡ code_names (map segment_view segments.now) (map mapping_view mapped.now)) }
+) -> Result<Vec<WantedFile<'run>>, AllocError>
+    ensures { IfOk result (λ files. map wanted_view files.items
+        ≡ code_files (map segment_view segments.now) (map mapping_view mapped.now)) }
 {
-    let mut names = Vec::new(alloc);
+    let mut files = Vec::new(alloc);
     for mapping in mapped {
-        push_name(&mut names, code_name(segments, mapping))?;
+        push_file(&mut files, code_file(segments, mapping))?;
     }
-    Ok(names)
+    Ok(files)
 }
 
-/// The name of the file that is mapped, if it is mapped as code.
-fn code_name<'run>(segments: &[CoreSegment<'_>], mapping: &CoreMapping<'run>) -> Option<&'run [u8]>
-    ensures { option_map (λ name. name.now) result
-        ≡ code_name (map segment_view segments.now) (mapping_view mapping.now) }
+/// The file that is mapped, if it is mapped as code.
+fn code_file<'run>(
+    segments: &[CoreSegment<'_>],
+    mapping: &CoreMapping<'run>,
+) -> Option<WantedFile<'run>>
+    ensures { option_map wanted_view result
+        ≡ code_file (map segment_view segments.now) (mapping_view mapping.now) }
 {
     if is_code(segments, mapping) {
-        Some(mapping.name)
+        Some(WantedFile {
+            name: mapping.name,
+            build_id: None,
+        })
     } else {
         None
     }

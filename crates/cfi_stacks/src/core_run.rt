@@ -6,22 +6,24 @@ ghost use Rattle.cfi_object.specs.FileParts.{AreLeft};
 ghost use Rattle.cfi_processes.specs.FileModules.{AreOfFiles};
 ghost use Rattle.cfi_processes.specs.KnownFiles.{known_view, modules_in};
 ghost use Rattle.cfi_processes.specs.Modules.{module_view};
-ghost use Rattle.cfi_processes.specs.OpenedFiles.{opened_view, texts};
+ghost use Rattle.cfi_processes.specs.OpenedFiles.{opened_view};
 ghost use Rattle.cfi_processes.specs.SampleStacks.{HasRoom};
+ghost use Rattle.cfi_processes.specs.Wanted.{wanted_view};
 ghost use Rattle.cfi_programs.specs.Runs.{out_of_memory};
 ghost use Rattle.cfi_programs.specs.WriterOutput.{Prints, PrintsSome};
-ghost use Rattle.cfi_stacks.specs.CoreOutputs.{IsOfCore, IsOfFiles, IsOfNamed, IsOfOpened};
+ghost use Rattle.cfi_stacks.specs.CoreOutputs.{IsOfCore, IsOfFiles, IsOfOpened, IsOfWanted};
 ghost use Rattle.cfi_stacks.specs.CoreOutputs.{IsOutput, IsOwed, IsPrinted, core_refusal, ended};
 ghost use Rattle.cfi_stacks.specs.CoreOutputs.{mappings_of, memory_of};
 ghost use Rattle.cfi_stacks.specs.Rooms.{KeepsNoRows};
 
-use crate::core_files::{CoreCode, code_names, core_code};
+use crate::core_files::{CoreCode, code_files, core_code};
 use crate::core_text::print_thread;
 use crate::sample_text::Room;
 use cfi_cores::{Core, CoreError, CoreMemory, read_core};
 use cfi_object::input::{InputError, read_all};
 use cfi_processes::process_code::ProcessCode;
 use cfi_processes::profile_files::{OpenedFile, Opener, ProfileFile, profile_files, read_files};
+use cfi_processes::wanted::WantedFile;
 use cfi_programs::lines::{write_part, write_refusal, write_wrong_input};
 use gimli_cfi::Error;
 use std::alloc::Global;
@@ -91,27 +93,27 @@ fn print_read<O: Opener, W: Write>(
         (core_view core.now) line ⊎ (line ≡ out_of_memory))
         (W.contents output.old) (W.contents output.new) result }
 {
-    match code_names(alloc, core.segments.as_slice(), core.mapped.as_slice()) {
-        Ok(names) => print_named(alloc, raw, opener, core, names.as_slice(), output),
+    match code_files(alloc, core.segments.as_slice(), core.mapped.as_slice()) {
+        Ok(wanted) => print_wanted(alloc, raw, opener, core, wanted.as_slice(), output),
         Err(_) => write_refusal(output, Error::OutOfMemory),
     }
 }
 
-/// Opens the files of these names, and prints the stacks of the threads.
-fn print_named<O: Opener, W: Write>(
+/// Opens these files, and prints the stacks of the threads.
+fn print_wanted<O: Opener, W: Write>(
     alloc: Global,
     raw: bool,
     opener: &O,
     core: &Core<'_>,
-    names: &[&[u8]],
+    wanted: &[WantedFile<'_>],
     output: &mut W,
 ) -> io::Result<u8>
     requires { AreInOrder core.now.segments.items }
-    ensures { PrintsSome (λ line. IsOfNamed raw (O.may_open opener.now) O.File.remaining
-        (core_view core.now) (texts names.now) line ⊎ (line ≡ out_of_memory))
+    ensures { PrintsSome (λ line. IsOfWanted raw (O.may_open opener.now) O.File.remaining
+        (core_view core.now) (map wanted_view wanted.now) line ⊎ (line ≡ out_of_memory))
         (W.contents output.old) (W.contents output.new) result }
 {
-    match read_files(alloc, opener, names) {
+    match read_files(alloc, opener, wanted) {
         Ok(opened) => print_opened(alloc, raw, core, opened.as_slice(), output),
         Err(_) => write_refusal(output, Error::OutOfMemory),
     }

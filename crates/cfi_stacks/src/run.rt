@@ -7,11 +7,12 @@ ghost use Rattle.cfi_perf.specs.Records.{records_left};
 ghost use Rattle.cfi_programs.specs.Runs.{out_of_memory};
 ghost use Rattle.cfi_programs.specs.WriterOutput.{Prints, Writes, PrintsSome};
 ghost use Rattle.cfi_processes.specs.KnownFiles.{known_view};
-ghost use Rattle.cfi_processes.specs.OpenedFiles.{opened_view, texts};
+ghost use Rattle.cfi_processes.specs.OpenedFiles.{opened_view};
 ghost use Rattle.cfi_processes.specs.Replays.{AreModulesFor, HasOwnModules, files_in};
 ghost use Rattle.cfi_processes.specs.Replays.{files_of};
 ghost use Rattle.cfi_processes.specs.SampleStacks.{HasRoom};
-ghost use Rattle.cfi_stacks.specs.ProfileOutputs.{IsOfNamed, IsOfOpened, IsOfProfile};
+ghost use Rattle.cfi_processes.specs.Wanted.{wanted_view};
+ghost use Rattle.cfi_stacks.specs.ProfileOutputs.{IsOfOpened, IsOfProfile, IsOfWanted};
 ghost use Rattle.cfi_stacks.specs.ProfileOutputs.{IsOfRecords, IsOfSorted};
 ghost use Rattle.cfi_stacks.specs.ProfileOutputs.{IsOutput, IsOwed, IsPrinted, IsSortedOf};
 ghost use Rattle.cfi_stacks.specs.ProfileOutputs.{IsTextOf, ended, known_in, perf_refusal};
@@ -22,10 +23,11 @@ use crate::sample_text::{Room, print_sample};
 use cfi_object::input::{InputError, read_all};
 use cfi_perf::{Event, PerfError, Profile, Record, Records};
 use cfi_processes::profile_files::{
-    OpenedFile, Opener, ProfileFile, mapped_names, profile_files, read_files,
+    OpenedFile, Opener, ProfileFile, mapped_files, profile_files, read_files,
 };
 use cfi_processes::registers::SampleMachine;
 use cfi_processes::replay::Replay;
+use cfi_processes::wanted::WantedFile;
 use cfi_programs::lines::{write_part, write_refusal, write_text, write_wrong_input};
 use gimli_cfi::Error;
 use std::alloc::{AllocError, Global};
@@ -38,7 +40,8 @@ use std::io::{Read, Write};
 /// event, a line for each frame, where there is a reason for which the last frame isn't the
 /// outermost one a line with it, and an empty line. The line of a frame has its place in a file,
 /// the function and the file; if it is `raw`, it has no function, and none is looked up. The files
-/// of code are opened by the names that the profile has for them.
+/// of code are opened by the names that the profile has for them, and where it has a file's build,
+/// only a file of that build is taken (`cfi_processes::profile_files::read_files`).
 ///
 /// Status 0: all samples are printed. Status 1: the profile, or the rest of it, can't be read,
 /// which prints `refused` and the name of the error; it is of a machine whose registers aren't
@@ -192,14 +195,14 @@ fn print_sorted<O: Opener, W: Write>(
         (map record_view records.now) error line ⊎ (line ≡ out_of_memory))
         (W.contents output.old) (W.contents output.new) result }
 {
-    match mapped_names(alloc, records) {
-        Ok(names) => {
-            print_named(
+    match mapped_files(alloc, records) {
+        Ok(wanted) => {
+            print_wanted(
                 alloc,
                 raw,
                 opener,
                 machine,
-                names.as_slice(),
+                wanted.as_slice(),
                 records,
                 error,
                 output,
@@ -209,22 +212,23 @@ fn print_sorted<O: Opener, W: Write>(
     }
 }
 
-/// Opens the files of these names, and prints the stacks of the records.
-fn print_named<O: Opener, W: Write>(
+/// Opens these files, and prints the stacks of the records.
+fn print_wanted<O: Opener, W: Write>(
     alloc: Global,
     raw: bool,
     opener: &O,
     machine: SampleMachine,
-    names: &[&[u8]],
+    wanted: &[WantedFile<'_>],
     records: &[Record<'_>],
     error: Option<PerfError>,
     output: &mut W,
 ) -> io::Result<u8>
-    ensures { PrintsSome (λ line. IsOfNamed raw (O.may_open opener.now) O.File.remaining machine
-        (texts names.now) (map record_view records.now) error line ⊎ (line ≡ out_of_memory))
+    ensures { PrintsSome (λ line. IsOfWanted raw (O.may_open opener.now) O.File.remaining machine
+        (map wanted_view wanted.now) (map record_view records.now) error line
+        ⊎ (line ≡ out_of_memory))
         (W.contents output.old) (W.contents output.new) result }
 {
-    match read_files(alloc, opener, names) {
+    match read_files(alloc, opener, wanted) {
         Ok(opened) => print_opened(
             alloc,
             raw,

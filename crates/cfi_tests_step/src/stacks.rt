@@ -179,6 +179,16 @@ impl<'a> Opener for OneFile<'a> {
             None
         }
     }
+
+    fn find(&self, name: &[u8]) -> Option<&'a [u8]> {
+        self.open(name)
+    }
+
+    fn open_copy(&self, _build: &[u8]) -> Option<&'a [u8]> {
+        None
+    }
+
+    fn tell_missing(&self, _name: &[u8]) {}
 }
 
 /// Compares what is printed of a profile, where the file has this name, and the status.

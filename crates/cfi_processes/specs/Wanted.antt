@@ -1,0 +1,55 @@
+-- Which files the mappings of a profile are of.
+--     Wanted, wanted_view      a file by its name, and by its build if that is known; that of the
+--         code
+--     FilePlace      where a file is opened
+--     has_build build bytes      whether the file of these bytes is of the build
+use Rattle.std.specs.Prelude.{ℕ, Bool, true, false, ◌&&◌, List, drop, length, Option, Some, None}
+use Rattle.std.specs.Prelude.{nat_eq, option_map, ◌==◌}
+use Rattle.std.specs.List.{list_all, starts_with}
+use Rattle.std.specs.Option.{option_and_then}
+use Rattle.std.specs.Result.{result_ok}
+use Rattle.std.specs.Str.{bytes_eq}
+use Rattle.cfi_elf.specs.ElfFiles.{elf_file}
+use Rattle.cfi_elf.specs.Notes.{build_id}
+use Rattle.cfi_processes.specs.declared.wanted.WantedFile.{WantedFile}
+use Rattle.cfi_processes.specs.Objects.{there}
+
+pub record Wanted : Type 0 where
+  pub name : List ℕ
+  pub build_id : Option (List ℕ)
+
+abbrev pub wanted_view : WantedFile → Wanted
+wanted_view file =
+    record { name = file.name.now; build_id = option_map (λ id. id.now) file.build_id }
+
+abbrev pub same_id : Option (List ℕ) → Option (List ℕ) → Bool
+same_id None None = true
+same_id None (Some b) = false
+same_id (Some a) None = false
+same_id (Some a) (Some b) = bytes_eq a b
+
+abbrev pub is_same : Wanted → Wanted → Bool
+is_same a b = bytes_eq a.name b.name && same_id a.build_id b.build_id
+
+-- at a path, or where the recorder keeps a copy of each build
+pub data FilePlace : Type 0 where
+  at_path : List ℕ → FilePlace
+  copy_of : List ℕ → FilePlace
+
+-- ---- the build of a file
+
+-- zeros may follow the file's own: perf once kept 20 bytes of each
+abbrev pub is_build : List ℕ → List ℕ → Bool
+is_build build id =
+    starts_with nat_eq build id && list_all (λ byte. byte == 0) (drop (length id) build)
+
+abbrev pub is_known_build : List ℕ → Option (List ℕ) → Bool
+is_known_build build None = false
+is_known_build build (Some id) = is_build build id
+
+-- none where it is no ELF file, or has none that can be read
+abbrev pub id_of : List ℕ → Option (List ℕ)
+id_of bytes = option_and_then (λ file. there (build_id file)) (result_ok (elf_file bytes))
+
+abbrev pub has_build : List ℕ → List ℕ → Bool
+has_build build bytes = is_known_build build (id_of bytes)

@@ -1,0 +1,79 @@
+//! Which files the mappings of a profile are of.
+ghost use Rattle.std.specs.Prelude.{◌≡◌, ◌==◌, option_map};
+ghost use Rattle.std.specs.List.{list_all};
+ghost use Rattle.cfi_processes.specs.Wanted.{has_build, id_of, is_build, is_same, same_id};
+ghost use Rattle.cfi_processes.specs.Wanted.{wanted_view};
+
+use cfi_elf::ElfFile;
+use cfi_elf::bytes::bytes_from;
+
+/// A file that a profile's mappings are of.
+#[derive(Clone, Copy, Debug)]
+pub struct WantedFile<'run> {
+    /// The name, as the mappings have it.
+    pub name: &'run [u8],
+    /// The identification of its build, if it is known.
+    pub build_id: Option<&'run [u8]>,
+}
+
+impl WantedFile<'_> {
+    /// Returns whether both have the same name and the same build. Does not allocate.
+    pub fn is_same(&self, other: &WantedFile<'_>) -> bool
+        ensures { result ≡ is_same (wanted_view self.now) (wanted_view other.now) }
+    {
+        self.name == other.name && same_id(self.build_id, other.build_id)
+    }
+}
+
+/// Returns whether both are the same identification, or both are none. Does not allocate.
+pub fn same_id(one: Option<&[u8]>, other: Option<&[u8]>) -> bool
+    ensures { result ≡ same_id (option_map (λ id. id.now) one.entry)
+        (option_map (λ id. id.now) other.entry) }
+{
+    match one {
+        Some(one) => match other {
+            Some(other) => one == other,
+            None => false,
+        },
+        None => other.is_none(),
+    }
+}
+
+/// Returns whether the file of these bytes is of the build: its note `NT_GNU_BUILD_ID` says so,
+/// with no bytes but zeros behind that in `build`. A file that is no ELF file, or whose notes can't
+/// be read (`cfi_elf::ElfFile::build_id`), is of none. Does not allocate.
+pub fn has_build(build: &[u8], bytes: &[u8]) -> bool
+    ensures { result ≡ has_build build.now bytes.now }
+{
+    match id_of(bytes) {
+        Some(id) => is_build(build, id),
+        None => false,
+    }
+}
+
+/// The identification of the build of a file, if it has one.
+fn id_of(bytes: &[u8]) -> Option<&[u8]>
+    ensures { option_map (λ id. id.now) result ≡ id_of bytes.now }
+{
+    let Ok(file) = ElfFile::parse(bytes) else {
+        return None;
+    };
+    match file.build_id() {
+        Ok(id) => id,
+        Err(_) => None,
+    }
+}
+
+/// Whether this is the identification of the build.
+fn is_build(build: &[u8], id: &[u8]) -> bool
+    ensures { result ≡ is_build build.now id.now }
+{
+    build.starts_with(id) && are_zeros(bytes_from(build, id.len() as u64))
+}
+
+/// Whether each byte is 0.
+fn are_zeros(bytes: &[u8]) -> bool
+    ensures { result ≡ list_all (λ byte. byte == 0) bytes.now }
+{
+    bytes.iter().all(|byte| *byte == 0)
+}
