@@ -12,22 +12,31 @@ from pathlib import Path
 MMAP2, SAMPLE = 10, 9
 IP, TID, TIME, CALLCHAIN, REGISTERS, STACK = 1, 2, 4, 1 << 5, 1 << 12, 1 << 13
 RBP_RSP_RIP = 7 << 6
-USER = 2
+USER, OWN_BUILD, SIZED_BUILD = 2, 1 << 14, 1 << 15
 PROCESS, FOLDER = 7, b"/proc/self/cwd/"
 
 # The addresses of calls.s: what each call returns to, and the instruction in inner behind its prologue.
 IN_INNER, IN_OUTER, IN_START = 0x4000C6, 0x4000C0, 0x4000B5
 
 
-def record(kind, body):
-    return struct.pack("<IHH", kind, USER, 8 + len(body)) + body
+def record(kind, body, flags=0):
+    return struct.pack("<IHH", kind, USER | flags, 8 + len(body)) + body
 
 
-def mapping(time, address, name):
-    """The first 4,096 bytes of a file, mapped as code."""
-    body = struct.pack("<2I3Q2I2Q2I", PROCESS, PROCESS, address, 4096, 0, 0, 0, 0, 0, 5, 2)
+def mapping(time, address, name, build=b""):
+    """The first 4,096 bytes of a file, mapped as code; with its build, if one is given."""
+    body = struct.pack("<2I3Q", PROCESS, PROCESS, address, 4096, 0)
+    body += struct.pack("<B3x", len(build)) + build.ljust(20, b"\0") + struct.pack("<2I", 5, 2)
     name = FOLDER + name + b"\0"
-    return record(MMAP2, body + name.ljust(-(-len(name) // 8) * 8, b"\0") + struct.pack("<2IQ", PROCESS, PROCESS, time))
+    body += name.ljust(-(-len(name) // 8) * 8, b"\0") + struct.pack("<2IQ", PROCESS, PROCESS, time)
+    return record(MMAP2, body, OWN_BUILD if build else 0)
+
+
+def listed(name, build):
+    """An entry of the table of builds."""
+    name = FOLDER + name + b"\0"
+    body = struct.pack("<i20sB3x", -1, build, len(build)) + name.ljust(-(-len(name) // 64) * 64, b"\0")
+    return record(0, body, SIZED_BUILD)
 
 
 def sample(thread, time, registers, stack):
@@ -38,7 +47,7 @@ def sample(thread, time, registers, stack):
     return record(SAMPLE, body)
 
 
-def profile(*records):
+def profile(*records, builds=b""):
     fields = IP | TID | TIME | CALLCHAIN | REGISTERS | STACK
     # Of cpu-clock, a sample each nanosecond; the other records have their thread and time too (sample_id_all).
     event = struct.pack("<2I5Q", 1, 96, 0, 1, fields, 0, 1 << 18).ljust(80, b"\0")
@@ -46,10 +55,13 @@ def profile(*records):
     data = b"".join(records)
     start = 104 + len(event)
     behind = start + len(data)
-    architecture = struct.pack("<I8s", 8, b"x86_64")
+    # HEADER_BUILD_ID, where there are builds, and HEADER_ARCH.
+    sections = ([builds] if builds else []) + [struct.pack("<I8s", 8, b"x86_64")]
+    places = [behind + 16 * len(sections) + sum(map(len, sections[:n])) for n in range(len(sections))]
     header = struct.pack("<8s8Q", b"PERFILE2", 104, len(event), 104, len(event), start, len(data), 0, 0)
-    header += struct.pack("<4Q", 1 << 6, 0, 0, 0)
-    return header + event + data + struct.pack("<2Q", behind + 16, len(architecture)) + architecture
+    header += struct.pack("<4Q", 1 << 6 | (1 << 2 if builds else 0), 0, 0, 0)
+    table = b"".join(struct.pack("<2Q", place, len(it)) for place, it in zip(places, sections))
+    return header + event + data + table + b"".join(sections)
 
 
 STACK_OF_INNER = [1, 2, 3, IN_OUTER, 0x7FE0, IN_START, 0]
@@ -76,6 +88,24 @@ of_others = profile(
 of_large = profile(
     mapping(1_000_001_000, 0x400000, b"large"),
     sample(7, 1_000_002_000, (0x7020, 0x7000, IN_INNER), STACK_OF_INNER),
+)
+
+# The program built has the build that the table lists, and calls has none, where its mapping has one.
+BUILD = bytes.fromhex("00112233445566778899aabbccddeeff00112233")
+
+of_builds = profile(
+    mapping(1_000_001_000, 0x400000, b"built"),
+    mapping(1_000_001_000, 0x500000, b"calls", BUILD),
+    sample(7, 1_000_002_000, (0x7020, 0x7000, 0x400122), [1, 2, 3, 0x40011C, 0x7FE0, 0x400111, 0]),
+    sample(7, 1_000_003_000, (0x7020, 0x7000, 0x5000C6), STACK_OF_INNER),
+    builds=listed(b"built", BUILD),
+)
+
+# Another build of the program built was mapped.
+of_another_build = profile(
+    mapping(1_000_001_000, 0x400000, b"built"),
+    sample(7, 1_000_002_000, (0x7020, 0x7000, 0x400122), [1, 2, 3, 0x40011C, 0x7FE0, 0x400111, 0]),
+    builds=listed(b"built", BUILD[::-1]),
 )
 
 # ---- core files
@@ -148,5 +178,7 @@ struct.pack_into("<i", calls, 0xCC + 20, -0x14)
 (data / "calls.perf").write_bytes(of_calls)
 (data / "others.perf").write_bytes(of_others)
 (data / "large.perf").write_bytes(of_large)
+(data / "builds.perf").write_bytes(of_builds)
+(data / "rebuilt.perf").write_bytes(of_another_build)
 (data / "threads.core").write_bytes(of_threads)
 (data / "cut.core").write_bytes(cut_off)
