@@ -10,6 +10,9 @@ use gimli_cfi::{
     ArrayLike, CfaRule, Pointer, ReaderAddress, Register, RegisterRule, UnwindTableRow,
 };
 
+/// The address of what is no row: no code begins there.
+const NOWHERE: u64 = u64::MAX;
+
 /// What a pointer leads to.
 #[derive(Clone, Copy, Debug, PartialEq, Eq)]
 pub enum PointerKind {
@@ -17,7 +20,7 @@ pub enum PointerKind {
     Absent,
     /// The address that it has.
     Direct,
-    /// The one that stands there.
+    /// The one that stands at the address that it has.
     Indirect,
 }
 
@@ -30,7 +33,7 @@ pub struct SmallNumbers {
     pub cfa_words: i16,
     /// How many bytes of arguments the frame has pushed.
     pub args_size: u16,
-    /// That register.
+    /// The register from which the CFA is counted.
     pub cfa_register: u8,
     /// The register that holds the return address.
     pub return_address: u8,
@@ -77,7 +80,7 @@ impl PackedRow {
         ensures { result.is_kept ≡ false }
     {
         PackedRow {
-            address: 0,
+            address: NOWHERE,
             file: 0,
             distances: Distances {
                 start: 0,
@@ -100,11 +103,12 @@ impl PackedRow {
         }
     }
 
-    /// Forgets the row.
+    /// Forgets the row, also that one was refused.
     #[inline]
     pub fn clear(&mut self)
         ensures { self.new.is_kept ≡ false }
     {
+        self.address = NOWHERE;
         self.is_kept = false;
     }
 
@@ -116,7 +120,7 @@ impl PackedRow {
         self.address == address && u64::from(self.file) == file && self.is_kept
     }
 
-    /// Whether that row couldn't be kept.
+    /// Whether that row couldn't be kept when it was found last.
     pub fn is_refused(&self, file: u64, address: u64) -> bool {
         self.address == address && u64::from(self.file) == file && !self.is_kept
     }
