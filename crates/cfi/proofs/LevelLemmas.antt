@@ -10,8 +10,8 @@ use Rattle.clap.specs.Simple.{App, Shape, built_leaf, inherited, marked_built, w
 use Rattle.clap.specs.Kinds.{or_else}
 use Rattle.clap.specs.Faults.{check_fault, defaults_fault, level_fault}
 use Rattle.cfi_programs.specs.declared.style.Format.{Format}
-use Rattle.cfi.specs.CommandLine.{Asked, asked_of, cfi_app, check, check_app, dump, dump_app, file_in, format_in, format_names, raw_in, row, row_app, rows, rows_app, stack, stack_app, table, table_app, unwind, unwind_app, values_in}
-use Rattle.cfi.specs.Words.{Given, check_by, check_of, dump_by, dump_of, format_given, given, nothing, row_by, row_of, rows_by, rows_of, stack_by, stack_of, table_by, table_of, unwind_by, unwind_of}
+use Rattle.cfi.specs.CommandLine.{Asked, asked_of, cfi_app, check, check_app, dump, dump_app, file_in, flame, flame_app, format_in, format_names, raw_in, row, row_app, rows, rows_app, stack, stack_app, table, table_app, unwind, unwind_app, values_in}
+use Rattle.cfi.specs.Words.{Given, check_by, check_of, dump_by, dump_of, flame_by, flame_of, format_given, given, nothing, row_by, row_of, rows_by, rows_of, stack_by, stack_of, table_by, table_of, unwind_by, unwind_of}
 use Rattle.cfi.proofs.EndLemmas.{NoDefaults, format_is, found_at, lacks, missing, no_defaults, raw_defaults, raw_is, skips}
 use Rattle.cfi.proofs.FlagLemmas.{IsFault, fault_next, help, waiting}
 use Rattle.cfi.proofs.PlaceLemmas.{many, single}
@@ -97,6 +97,13 @@ stack_refuses true raw arguments le = refl
 stack_refuses false raw [] le = refl
 stack_refuses false raw (f ∷ []) le = absurd (omega arith)
 stack_refuses false raw (f ∷ x ∷ more) le = refl
+
+flame_refuses : (b c : Bool) (arguments : List Text) → 2 ≤ length arguments → cond b None (cond c None (flame_by arguments)) ≡ None
+flame_refuses true c arguments le = refl
+flame_refuses false true arguments le = refl
+flame_refuses false false [] le = refl
+flame_refuses false false (f ∷ []) le = absurd (omega arith)
+flame_refuses false false (f ∷ x ∷ more) le = refl
 
 module _ (names : Bor (List (Bor Text))) where
   -- ---- row
@@ -577,6 +584,77 @@ module _ (names : Bor (List (Bor Text))) where
     where
       without_format : (g : Given) → is_some g.format ≡ true → stack_of g ≡ None
       without_format g h = ap (λ (b : Bool). cond b None (stack_by g.raw g.arguments)) h
+
+  -- ---- flame
+
+  flame_place : (arguments : List Text) (position : ℕ) (now : Text → List Text) → one_file arguments position (now (codes "FILE")) (now (codes "ADDRESS"))
+      → Takes (leaf names flame_app) one_file flame_of arguments position now
+  flame_place [] position now h = inr (
+    single (codes "FILE") 1 true,
+    ap (arg_by_index (leaf names flame_app).rules) h.0,
+    record { id = codes "FILE"; index = 1; required = true; found = refl; kind = inl (refl, h.1) },
+    refl,
+    refl,
+    λ word. (ap (next_position (single (codes "FILE") 1 true)) h.0, ap (λ (x : List Text). x ++ word ∷ []) h.1),
+  )
+  flame_place (f ∷ []) position now h = inl (ap (arg_by_index (leaf names flame_app).rules) h.0, λ g le. flame_refuses g.raw (is_some g.format) g.arguments le)
+  flame_place (f ∷ x ∷ more) position now h = absurd h
+
+  abbrev flame_rules : List Rule
+  flame_rules = single (codes "FILE") 1 true ∷ help ∷ []
+
+  flame_plain : NoDefaults flame_rules
+  flame_plain = (refl, (refl, tt {0}))
+
+  flame_ends : (g : Given) (position : ℕ) (rs : List Row) (now : Text → List Text) → one_file g.arguments position (now (codes "FILE")) (now (codes "ADDRESS"))
+      → now (codes "raw") ≡ raw_values g.raw → now (codes "format") ≡ format_values g.format
+      → (arg_by_long (leaf names flame_app).rules (codes "raw") ≡ None → g.raw ≡ false) → (arg_by_long (leaf names flame_app).rules (codes "format") ≡ None → g.format ≡ None)
+      → Has rs now → Ends (leaf names flame_app) (codes "flame") rs (flame_of g)
+  flame_ends g position rs now placed raw format no_raw no_format has =
+      subst (λ (b : Bool). Ends (leaf names flame_app) (codes "flame") rs (cond b None (cond (is_some g.format) None (flame_by g.arguments)))) (sym (no_raw refl))
+      (subst (λ (o : Option Format). Ends (leaf names flame_app) (codes "flame") rs (cond (is_some o) None (flame_by g.arguments))) (sym (no_format refl)) (go g.arguments placed))
+    where
+      at_end : (id : Text) (values : List Text) → now id ≡ values → at_id id (fold with_default rs flame_rules) ≡ line id values
+      at_end id values is = ap (at_id id) (skips flame_rules rs flame_plain) ∙ has id ∙ ap (line id) is
+
+      lacking : (file : List Text) → now (codes "FILE") ≡ file
+          → check_fault (leaf names flame_app) (fold with_default rs flame_rules) false ≡ missing (lacks (line (codes "FILE") file) || false)
+      lacking file e = ap (λ (x : Option Row). missing (lacks x || false)) (at_end (codes "FILE") file e)
+
+      asks : (f : Text) → now (codes "FILE") ≡ f ∷ [] → asked_of (codes "flame", fold with_default rs flame_rules) ≡ flame f
+      asks f e =
+          let end = fold with_default rs flame_rules in
+          let is_file : file_in end ≡ f = ap (λ (o : Option Row). unwrap_or (option_and_then (λ r. slice_get r.values 0) o) []) (at_end (codes "FILE") (f ∷ []) e) in
+          λ i. flame (is_file i)
+
+      go : (arguments : List Text) → one_file arguments position (now (codes "FILE")) (now (codes "ADDRESS")) → Ends (leaf names flame_app) (codes "flame") rs (flame_by arguments)
+      go [] h =
+          fault_next (defaults_fault rs flame_rules) (check_fault (leaf names flame_app) (fold with_default rs flame_rules) false)
+          (subst IsFault (sym (lacking [] h.1)) (tt {0}))
+      go (f ∷ []) h = (ap₂ or_else (no_defaults flame_rules rs flame_plain) (lacking (f ∷ []) h.1), asks f h.1)
+      go (f ∷ x ∷ more) h = absurd h
+
+  pub flame_leaf : Leaf (leaf names flame_app) (codes "flame") names one_file flame_of
+  flame_leaf = record {
+    again = refl;
+    raw = inl (refl, without_raw);
+    format = inl (refl, without_format);
+    others = λ flag d e. help_by_name (bytes_eq (codes "help") flag);
+    short = λ x. help_by_name (nat_eq 104 x);
+    apart = λ position a e. apart_of (arg_by_index (leaf names flame_app).rules position) a e (one_apart (single (codes "FILE") 1 true) refl (nat_eq 1 position));
+    place = flame_place;
+    ends = flame_ends;
+  }
+    where
+      without_raw : (g : Given) → g.raw ≡ true → flame_of g ≡ None
+      without_raw g h = ap (λ (b : Bool). cond b None (cond (is_some g.format) None (flame_by g.arguments))) h
+
+      refused_anyway : (b : Bool) → cond b None (None {Asked}) ≡ None
+      refused_anyway true = refl
+      refused_anyway false = refl
+
+      without_format : (g : Given) → is_some g.format ≡ true → flame_of g ≡ None
+      without_format g h = ap (λ (c : Bool). cond g.raw None (cond c None (flame_by g.arguments))) h ∙ refused_anyway g.raw
 
   -- ---- all words of a command
 

@@ -1,6 +1,7 @@
 mod ClapLemmas
 mod EndLemmas
 mod FlagLemmas
+mod FlameLemmas
 mod GivenLemmas
 mod LevelLemmas
 mod PlaceLemmas

@@ -23,11 +23,13 @@ use Rattle.cfi_files.specs.declared.request.Request.{Request}
 use Rattle.cfi_stacks.specs.CoreOutputs.{IsOwed as IsOwedOfCore}
 use Rattle.cfi_stacks.specs.ProfileOutputs.{IsOwed as IsOwedOfProfile}
 use Rattle.cfi.specs.CommandLine.{Asked, cfi_app, format_names}
+use Rattle.cfi.specs.FlameOutputs.{path_of}
+use Rattle.cfi.specs.FlameOutputs.{IsOwed as IsOwedOfFolded}
 use Rattle.cfi.specs.Findings.{greatest_status, tally_in}
 use Rattle.cfi.specs.Words.{asked}
 use Rattle.cfi_programs.specs.declared.style.Format.{Format}
 use Rattle.cfi.specs.Tasks.{of_request, task_for}
-use Rattle.cfi.specs.Process.{AreChecks, AreStacks, AreTallied, AreThreads, Checks, Disk, Ends, IsAnswer, IsAnswerTo, IsCheck, IsCheckOf, IsPrint, IsStatusAfter, IsStatusOf, MayOpenAt, PrintsRun, WritesChecks, disk_of, no_checks, nothing, tallied, tally_line, with_check}
+use Rattle.cfi.specs.Process.{AreChecks, AreStacks, AreTallied, AreThreads, Checks, Disk, Ends, IsAnswer, IsAnswerTo, IsCheck, IsCheckOf, IsFlame, IsPrint, IsStatusAfter, IsStatusOf, MayOpenAt, PrintsRun, WritesChecks, disk_of, no_checks, nothing, tallied, tally_line, with_check}
 
 -- ---- checks one after the other
 
@@ -187,6 +189,13 @@ threads_of disk raw name file old new r may (bytes, left, (printed, prints, owed
 pub no_threads : (E : Type 0) (disk : Disk) (raw : Bool) (name : Text) (old : Option (List ℕ)) → disk.MayOpen name None → PrintsSome {E = E} (λ line. AreThreads disk raw name line) old old (Ok 2)
 no_threads E disk raw name old may = (nothing, (none_yet old, refl), (None, may, refl))
 
+pub flame_is : {E : Type 0} (disk : Disk) (name : Text) (file : disk.Handle) (old new : Option (List ℕ)) (r : Result ℕ E) → disk.MayOpen (path_of name) (Some file) →
+    ((bytes : List ℕ) × AreLeft (disk.bytes_of file) bytes × PrintsSome (λ line. IsOwedOfFolded bytes line) old new r) → PrintsSome (λ line. IsFlame disk name line) old new r
+flame_is disk name file old new r may (bytes, left, (printed, prints, owed)) = (printed, prints, (Some file, may, (bytes, left, owed)))
+
+pub no_flame : (E : Type 0) (disk : Disk) (name : Text) (old : Option (List ℕ)) → disk.MayOpen (path_of name) None → PrintsSome {E = E} (λ line. IsFlame disk name line) old old (Ok 2)
+no_flame E disk name old may = (nothing, (none_yet old, refl), (None, may, refl))
+
 -- ---- the line that counts
 
 pub tally_is : (format : Format) (found items : List Finding) (files tables faithful : ℕ) → items ≡ found → files ≡ length items → tables ≡ count_by has_table items → faithful ≡ count_by is_faithful items →
@@ -264,3 +273,8 @@ pub same_threads : {Handle E : Type 0} (may_open : Text → Option Handle → Ty
     PrintsSome (λ line. AreThreads (disk_of may_open left) raw name line) old new r → PrintsSome (λ line. AreThreads (disk_of may_open known) raw name line) old new r
 same_threads {Handle = Handle} may_open left known same raw name old new r =
     subst (λ (bytes_of : Handle → Option (List ℕ)). PrintsSome (λ line. AreThreads (disk_of may_open bytes_of) raw name line) old new r) (λ i file. same file i)
+
+pub same_flame : {Handle E : Type 0} (may_open : Text → Option Handle → Type 0) (left known : Handle → Option (List ℕ)) → ((file : Handle) → left file ≡ known file) → (name : Text) (old new : Option (List ℕ)) (r : Result ℕ E) →
+    PrintsSome (λ line. IsFlame (disk_of may_open left) name line) old new r → PrintsSome (λ line. IsFlame (disk_of may_open known) name line) old new r
+same_flame {Handle = Handle} may_open left known same name old new r =
+    subst (λ (bytes_of : Handle → Option (List ℕ)). PrintsSome (λ line. IsFlame (disk_of may_open bytes_of) name line) old new r) (λ i file. same file i)

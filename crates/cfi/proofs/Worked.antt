@@ -7,7 +7,7 @@ use Rattle.clap.specs.Words.{Text, fault_of}
 use Rattle.clap.specs.declared.error.kind.ErrorKind.TheVariants.{DisplayHelp, DisplayVersion, InvalidSubcommand}
 use Rattle.clap.proofs.OnLiterals.{clap_on_literals}
 use Rattle.cfi_programs.specs.declared.style.Format.TheVariants as form
-use Rattle.cfi.specs.CommandLine.{cfi_app, check, dump, row, rows, stack, unwind}
+use Rattle.cfi.specs.CommandLine.{cfi_app, check, dump, flame, row, rows, stack, unwind}
 use Rattle.cfi.specs.Findings.{tally_in}
 use Rattle.cfi.specs.Words.{asked}
 
@@ -112,6 +112,15 @@ a_raw_core = refl
 
 one_core : asked (codes "cfi" ∷ codes "stack" ∷ codes "core" ∷ codes "a" ∷ []) ≡ None
 one_core = refl
+
+folded : asked (codes "cfi" ∷ codes "flame" ∷ codes "-" ∷ []) ≡ Some (flame (codes "-"))
+folded = refl
+
+folded_is_not_raw : asked (codes "cfi" ∷ codes "flame" ∷ codes "--raw" ∷ codes "-" ∷ []) ≡ None
+folded_is_not_raw = refl
+
+folded_has_no_format : asked (codes "cfi" ∷ codes "flame" ∷ codes "-" ∷ codes "--format=text" ∷ []) ≡ None
+folded_has_no_format = refl
 
 counted_object : tally_in form.Json 3 2 1 ≡ codes "{\"files\":3,\"tables\":2,\"faithful\":1}"
 unfolding digits

@@ -35,6 +35,7 @@ pub data Asked : Type 0 where
   table : Bool → Text → Asked
   unwind : Bool → Text → Asked
   stack : Bool → Text → Asked
+  flame : Text → Asked
 
 abbrev pub command_view : Command → Asked
 command_view (command.Row raw format file addresses) =
@@ -46,6 +47,7 @@ command_view (command.Check format files) = check format (map (λ file. file.now
 command_view (command.Table raw file) = table raw file.now
 command_view (command.Unwind raw file) = unwind raw file.now
 command_view (command.Stack raw file) = stack raw file.now
+command_view (command.Flame file) = flame file.now
 
 -- ---- the commands as clap is told of them
 
@@ -106,6 +108,9 @@ unwind_app = with_rule (with_rule (new_app (codes "unwind")) raw_rule) file_rule
 abbrev pub stack_app : App
 stack_app = with_rule (with_rule (new_app (codes "stack")) raw_rule) file_rule
 
+abbrev pub flame_app : App
+flame_app = with_rule (new_app (codes "flame")) file_rule
+
 -- one of the subcommands has to be asked for; clap adds `help`, and `--version` where there is one
 abbrev pub top_app : App
 top_app =
@@ -125,13 +130,15 @@ cfi_app names =
     (with_subcommand
     (with_subcommand
     (with_subcommand
+    (with_subcommand
     (with_subcommand (with_subcommand top_app (row_app names).top)
     (rows_app names).top)
     dump_app.top)
     (check_app names).top)
     table_app.top)
     unwind_app.top)
-    stack_app.top
+    stack_app.top)
+    flame_app.top
 
 -- the command of clap is the one that is described so
 abbrev pub IsApp : App → ClapCommand → Type 0
@@ -164,7 +171,7 @@ abbrev pub format_in : List Row → Format
 format_in matches =
     if has_value (codes "format") (codes "json") matches then form.Json else form.Text
 
--- a command that has one file
+-- a command that has one file, and the flag `--raw`
 abbrev pub of_one_file : Text → Bool → Text → Asked
 of_one_file name raw file =
     if bytes_eq name (codes "table") then table raw file
@@ -182,6 +189,7 @@ asked_of named =
     (first_of (codes "ADDRESS") named.1)
     else if bytes_eq named.0 (codes "dump") then dump raw (file_in named.1)
     else if bytes_eq named.0 (codes "check") then check format (values_in (codes "FILE") named.1)
+    else if bytes_eq named.0 (codes "flame") then flame (file_in named.1)
     else of_one_file named.0 raw (file_in named.1)
 
 -- by the words

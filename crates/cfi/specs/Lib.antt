@@ -2,4 +2,5 @@ pub mod CommandLine
 pub mod Findings
 pub mod Words
 pub mod Tasks
+pub mod FlameOutputs
 pub mod Process

@@ -24,9 +24,12 @@ use Rattle.cfi_processes.specs.Wanted.{FilePlace, at_path, copy_of}
 use Rattle.cfi_stacks.specs.CoreOutputs.{IsOwed as IsOwedOfCore}
 use Rattle.cfi_stacks.specs.ProfileOutputs.{IsOwed as IsOwedOfProfile}
 use Rattle.cfi.specs.CommandLine.{Asked, cfi_app, format_names}
+use Rattle.cfi.specs.FlameOutputs.{path_of}
+use Rattle.cfi.specs.FlameOutputs.{IsOwed as IsOwedOfFolded}
 use Rattle.cfi.specs.Findings.{greatest_status, tally_in}
 use Rattle.cfi_programs.specs.declared.style.Format.{Format}
-use Rattle.cfi.specs.Tasks.{OfRequest, Task, check, of_request, print, stack, task_for, unwind}
+use Rattle.cfi.specs.Tasks.{OfRequest, Task, check, flame, of_request, print, stack, task_for}
+use Rattle.cfi.specs.Tasks.{unwind}
 use Rattle.cfi.specs.Words.{asked}
 
 -- The files of a system: what a path may be opened to, or none where it can't be opened, and the
@@ -137,6 +140,18 @@ abbrev pub AreThreads : Disk → Bool → Text → Line → Type 0
 AreThreads disk raw name printed =
     (opened : Option disk.Handle) × disk.MayOpen name opened × AreThreadsOf disk raw opened printed
 
+-- ---- what is printed of folded stacks
+
+abbrev pub IsFlameOf : (disk : Disk) → Option disk.Handle → Line → Type 0
+IsFlameOf disk None printed = printed ≡ nothing
+IsFlameOf disk (Some file) printed =
+    (bytes : List ℕ) × AreLeft (disk.bytes_of file) bytes × IsOwedOfFolded bytes printed
+
+abbrev pub IsFlame : Disk → Text → Line → Type 0
+IsFlame disk name printed =
+    (opened : Option disk.Handle) × disk.MayOpen (path_of name) opened
+    × IsFlameOf disk opened printed
+
 -- ---- a run
 
 abbrev pub IsAnswer : Disk → Task → Line → Type 0
@@ -144,6 +159,7 @@ IsAnswer disk (print name what) printed = IsPrint disk name what printed
 IsAnswer disk (check names format) printed = AreTallied disk format names printed
 IsAnswer disk (unwind raw name) printed = AreStacks disk raw name printed
 IsAnswer disk (stack raw name) printed = AreThreads disk raw name printed
+IsAnswer disk (flame name) printed = IsFlame disk name printed
 
 -- the status after a text of clap's, which may be 0 after help; 2 where the text can't be written
 abbrev pub IsStatusAfter : ErrorKind → ℕ → Type 0

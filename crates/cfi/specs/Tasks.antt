@@ -6,7 +6,7 @@ use Rattle.cfi_files.specs.declared.request.Printed.TheVariants as printing
 use Rattle.cfi_files.specs.declared.request.Request.{Request}
 use Rattle.cfi_programs.specs.declared.style.Format.{Format}
 use Rattle.cfi.specs.declared.task.Task.{Task as TaskOfCode}
-use Rattle.cfi.specs.declared.task.Task.TheVariants.{Print, Check, Unwind, Stack}
+use Rattle.cfi.specs.declared.task.Task.TheVariants.{Print, Check, Unwind, Stack, Flame}
 use Rattle.cfi.specs.CommandLine.{Asked}
 use Rattle.cfi.specs.CommandLine as asked
 
@@ -34,19 +34,21 @@ asking raw what = record { what = what; raw = raw }
 abbrev pub of_request : Request → OfRequest
 of_request request = asking request.raw (of_file request.printed)
 
--- to print something of a file; to check files, in a format; or to print the stacks of a profile or
--- of a core file, raw or with functions
+-- to print something of a file; to check files, in a format; to print the stacks of a profile or of
+-- a core file, raw or with functions; or the flame graph of folded stacks
 pub data Task : Type 0 where
   print : Text → OfRequest → Task
   check : List Text → Format → Task
   unwind : Bool → Text → Task
   stack : Bool → Text → Task
+  flame : Text → Task
 
 abbrev pub task_view : TaskOfCode → Task
 task_view (Print file request) = print file.now (of_request request)
 task_view (Check files format) = check (map (λ file. file.now) files.now) format
 task_view (Unwind file raw) = unwind raw file.now
 task_view (Stack file raw) = stack raw file.now
+task_view (Flame file) = flame file.now
 
 -- for what the words ask for
 abbrev pub task_for : Asked → Task
@@ -57,3 +59,4 @@ task_for (asked.check format files) = check files format
 task_for (asked.table raw file) = print file (asking raw table_of)
 task_for (asked.unwind raw file) = unwind raw file
 task_for (asked.stack raw file) = stack raw file
+task_for (asked.flame file) = flame file

@@ -11,7 +11,7 @@ use Rattle.clap.specs.Lexer.{long_of, short_of}
 use Rattle.clap.specs.Words.{Text}
 use Rattle.cfi_programs.specs.declared.style.Format.{Format}
 use Rattle.cfi_programs.specs.declared.style.Format.TheVariants as form
-use Rattle.cfi.specs.CommandLine.{Asked, check, dump, row, rows, stack, table, unwind}
+use Rattle.cfi.specs.CommandLine.{Asked, check, dump, flame, row, rows, stack, table, unwind}
 
 -- ---- what one word is
 
@@ -118,6 +118,10 @@ abbrev pub stack_by : Bool → List Text → Option Asked
 stack_by raw (file ∷ []) = Some (stack raw file)
 stack_by raw _ = None
 
+abbrev pub flame_by : List Text → Option Asked
+flame_by (file ∷ []) = Some (flame file)
+flame_by _ = None
+
 -- text, where no format was named
 abbrev pub format_given : Given → Format
 format_given given = unwrap_or given.format form.Text
@@ -143,6 +147,10 @@ unwind_of given = if is_some given.format then None else unwind_by given.raw giv
 abbrev pub stack_of : Given → Option Asked
 stack_of given = if is_some given.format then None else stack_by given.raw given.arguments
 
+abbrev pub flame_of : Given → Option Asked
+flame_of given =
+    if given.raw then None else if is_some given.format then None else flame_by given.arguments
+
 abbrev pub named : Text → Given → Option Asked
 named name given =
     if bytes_eq (codes "row") name then row_of given
@@ -152,6 +160,7 @@ named name given =
     else if bytes_eq (codes "table") name then table_of given
     else if bytes_eq (codes "unwind") name then unwind_of given
     else if bytes_eq (codes "stack") name then stack_of given
+    else if bytes_eq (codes "flame") name then flame_of given
     else None
 
 -- what the words ask for, of which the first is the program's name

@@ -4,7 +4,7 @@ ghost use Rattle.clap.specs.Words.{found_of, rows_of, rule_of};
 ghost use Rattle.clap.specs.Words.{has_subcommand, kind_of, subcommand_rows_of};
 ghost use Rattle.cfi.specs.CommandLine.{FailsAsCfi, IsApp, address_rule, addresses_rule, asked_of};
 ghost use Rattle.cfi.specs.CommandLine.{cfi_app, check_app, command_view, dump_app, file_in};
-ghost use Rattle.cfi.specs.CommandLine.{file_rule, files_rule, format_in, format_names};
+ghost use Rattle.cfi.specs.CommandLine.{file_rule, files_rule, flame_app, format_in, format_names};
 ghost use Rattle.cfi.specs.CommandLine.{format_rule};
 ghost use Rattle.cfi.specs.CommandLine.{has_value, of_one_file, raw_in, raw_rule, row_app};
 ghost use Rattle.cfi.specs.CommandLine.{rows_app, table_app};
@@ -62,6 +62,10 @@ pub enum Command<'w> {
     /// `stack FILE`: the stack of each thread of a core file.
     Stack {
         raw: bool,
+        file: &'w str,
+    },
+    /// `flame FILE`: the flame graph of folded stacks.
+    Flame {
         file: &'w str,
     },
 }
@@ -131,12 +135,16 @@ fn named<'w>(
             format: format_in(arguments),
             files: values_in(alloc, arguments, "FILE")?,
         })
+    } else if name == "flame" {
+        Ok(Command::Flame {
+            file: file_in(arguments),
+        })
     } else {
         Ok(of_one_file(name, raw_in(arguments), file_in(arguments)))
     }
 }
 
-/// Returns the command of this name, which has one file.
+/// Returns the command of this name, which has one file and the flag `--raw`.
 fn of_one_file<'w>(name: &str, raw: bool, file: &'w str) -> Command<'w>
     ensures { of_one_file name.now raw file.entry.now ≡ command_view result }
 {
@@ -217,7 +225,8 @@ fn cfi<'w>(alloc: Global, formats: &'w [&'w str]) -> Result<clap::Command<'w>, A
         .subcommand(check(alloc, formats)?)?
         .subcommand(table(alloc)?)?
         .subcommand(unwind(alloc)?)?
-        .subcommand(stack(alloc)?)
+        .subcommand(stack(alloc)?)?
+        .subcommand(flame(alloc)?)
 }
 
 /// Returns the program's own command, without those below it.
@@ -306,6 +315,15 @@ fn stack<'w>(alloc: Global) -> Result<clap::Command<'w>, AllocError>
         .arg(core_file(alloc))
 }
 
+/// Returns the command `flame`.
+fn flame<'w>(alloc: Global) -> Result<clap::Command<'w>, AllocError>
+    ensures { IfOk result (IsApp flame_app) }
+{
+    clap::Command::new(alloc, "flame")
+        .about("Prints the flame graph of folded stacks, an SVG")
+        .arg(folded_file(alloc))
+}
+
 /// Returns the flag `--raw` of the commands that print registers.
 fn raw_flag<'w>(alloc: Global) -> Arg<'w>
     ensures rule { rule_of result ≡ raw_rule }
@@ -367,6 +385,16 @@ fn core_file<'w>(alloc: Global) -> Arg<'w>
 {
     Arg::new(alloc, "FILE")
         .help("A core file of a process that ended by a signal, or that gcore wrote")
+        .required(true)
+}
+
+/// Returns the argument that names a file of folded stacks.
+fn folded_file<'w>(alloc: Global) -> Arg<'w>
+    ensures rule { rule_of result ≡ file_rule }
+    ensures local { result.global ≡ false }
+{
+    Arg::new(alloc, "FILE")
+        .help("Folded stacks: a stack, a space and a number on each line; - is standard input")
         .required(true)
 }
 

@@ -1,4 +1,5 @@
-//! Prints and checks the call frames of ELF files; prints the stacks of profiles and core files.
+//! Prints and checks the call frames of ELF files; prints the stacks of profiles and core files,
+//! and the flame graphs of folded stacks.
 #![tactic(auto)]
 
 ghost use Rattle.std.specs.Prelude.{◌≡◌, ℕ, List, Option, Some, map};
@@ -6,12 +7,14 @@ ghost use Rattle.std.specs.Io.KnownBytes.{Keeps};
 ghost use Rattle.clap.specs.Words.{kind_of};
 ghost use Rattle.cfi_programs.specs.WriterOutput.{PrintsSome};
 ghost use Rattle.cfi.specs.CommandLine.{command_view};
-ghost use Rattle.cfi.specs.Process.{AreStacks, AreTallied, AreThreads, IsAnswer, IsPrint};
+ghost use Rattle.cfi.specs.FlameOutputs.{path_of};
+ghost use Rattle.cfi.specs.Process.{AreStacks, AreTallied, AreThreads, IsAnswer, IsFlame, IsPrint};
 ghost use Rattle.cfi.specs.Process.{IsStatusAfter, IsStatusOf, PrintsRun, disk_of};
 ghost use Rattle.cfi.specs.Tasks.{of_request, task_for};
 
 mod command;
 mod files;
+mod flames;
 mod profile;
 mod system;
 mod task;
@@ -22,6 +25,7 @@ use cfi_stacks::{print_core, unwind_profile};
 use clap::Error;
 use command::{Command, command_of};
 use files::{WRONG, check_files, count_findings, greatest_status, write_tally};
+use flames::print_flame_graph;
 use profile::ProfileOpener;
 use std::alloc::AllocGlobal;
 use std::convert::AsStr;
@@ -99,6 +103,7 @@ fn run_command<S: System, W: Write>(system: &S, command: &Command, output: &mut 
         Task::Check(files, format) => print_checks(system, format, files, output),
         Task::Unwind(file, raw) => print_stacks(system, raw, file, output),
         Task::Stack(file, raw) => print_threads(system, raw, file, output),
+        Task::Flame(file) => print_flame(system, file, output),
     }
 }
 
@@ -153,6 +158,25 @@ fn print_threads<S: System, W: Write>(
         Some(mut input) => print_core(system.alloc(), raw, &opener, &mut input, output),
         None => Ok(WRONG),
     }
+}
+
+/// Opens the file of folded stacks, `-` for standard input, and prints their flame graph.
+fn print_flame<S: System, W: Write>(system: &S, file: &str, output: &mut W) -> io::Result<u8>
+    ensures { PrintsSome (λ line. IsFlame (disk_of (S.may_open system.now) S.File.bytes)
+        file.now line)
+        (W.contents output.old) (W.contents output.new) result }
+{
+    match system.open(path_of(file)) {
+        Some(mut input) => print_flame_graph(system.alloc(), &mut input, output),
+        None => Ok(WRONG),
+    }
+}
+
+/// Returns the path of a file of folded stacks: for `-` that of standard input.
+fn path_of(file: &str) -> &str
+    ensures { result.now ≡ path_of file.now }
+{
+    if file == "-" { "/dev/stdin" } else { file }
 }
 
 /// Checks the files, prints how many there are, and returns the greatest status.

@@ -18,6 +18,8 @@ pub enum Task<'c> {
     Unwind(&'c str, bool),
     /// Print the stack of each thread of this core file; without functions if true.
     Stack(&'c str, bool),
+    /// Print the flame graph of the folded stacks of this file; `-` is standard input.
+    Flame(&'c str),
 }
 
 /// Returns what the command is to do.
@@ -42,6 +44,7 @@ pub fn task_of<'c>(command: &'c Command<'c>) -> Task<'c>
         Command::Table { raw, file } => printed_of(file, Printed::Table, *raw),
         Command::Unwind { raw, file } => Task::Unwind(file, *raw),
         Command::Stack { raw, file } => Task::Stack(file, *raw),
+        Command::Flame { file } => Task::Flame(file),
     }
 }
 
