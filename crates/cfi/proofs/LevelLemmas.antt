@@ -649,12 +649,12 @@ module _ (names : Bor (List (Bor Text))) where
       without_raw : (g : Given) → g.raw ≡ true → flame_of g ≡ None
       without_raw g h = ap (λ (b : Bool). cond b None (cond (is_some g.format) None (flame_by g.arguments))) h
 
-      refused_anyway : (b : Bool) → cond b None (None {Asked}) ≡ None
-      refused_anyway true = refl
-      refused_anyway false = refl
+      refused_anyway : (b : Bool) (asked : Option Asked) → asked ≡ None → cond b None asked ≡ None
+      refused_anyway true asked h = refl
+      refused_anyway false asked h = h
 
       without_format : (g : Given) → is_some g.format ≡ true → flame_of g ≡ None
-      without_format g h = ap (λ (c : Bool). cond g.raw None (cond c None (flame_by g.arguments))) h ∙ refused_anyway g.raw
+      without_format g h = refused_anyway g.raw _ (ap (λ (c : Bool). cond c None (flame_by g.arguments)) h)
 
   -- ---- all words of a command
 

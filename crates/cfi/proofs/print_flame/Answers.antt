@@ -1,4 +1,4 @@
-use Rattle.std.proofs.Common.{◌∙◌, ℕ, Some, None, Option, subst, sym}
+use Rattle.std.proofs.Common.{ℕ, List, Some, None, subst}
 use Rattle.cfi.specs.Process.{disk_of}
 use Rattle.cfi.proofs.ProcessLemmas.{flame_is, no_flame, same_flame}
 use Rattle.cfi.proofs.print_flame.Goals as goal
@@ -9,10 +9,10 @@ returns-in-Some g c =
     let left = g.S.File.Read.remaining in
     let old = g.W.Write.contents c.args.output.now in
     same_flame may_open left g.S.File.FileInput.bytes g.met.S.System.same_bytes c.args.file.now old _ c.print_flame_graph.result
-    (flame_is (disk_of may_open left) c.args.file.now _ old _ c.print_flame_graph.result
-    (subst (λ path. may_open path (Some _)) c.path_of.ensures c.in-Some.ensures) c.print_flame_graph.ensures)
+    (flame_is (disk_of may_open left) c.args.file.now c.in-Some.input old _ c.print_flame_graph.result
+    (subst (λ (path : List ℕ). may_open path (Some c.in-Some.input)) c.path_of.ensures c.in-Some.ensures) c.print_flame_graph.ensures)
 
 pub returns-in-None : goal.returns-in-None
 returns-in-None g c =
     no_flame ℕ (disk_of (g.S.System.may_open c.args.system.now) g.S.File.FileInput.bytes) c.args.file.now (g.W.Write.contents c.args.output.now)
-    (subst (λ path. g.S.System.may_open c.args.system.now path None) c.path_of.ensures c.in-None.ensures)
+    (subst (λ (path : List ℕ). g.S.System.may_open c.args.system.now path None) c.path_of.ensures c.in-None.ensures)
