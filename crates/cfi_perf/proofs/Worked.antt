@@ -363,9 +363,9 @@ a_thread = refl
 -- ---- the builds of files, as perf buildid-list prints them
 
 abbrev listed_builds : List ℕ
-listed_builds = hex (codes "0000000002806400ffffffffe1acfd5cc78671620325b4d7fc60da13931c8332140000002f746d702f76760000000000000000000000000000000000000000000000000000000000000000000000000000000000000000000000000000000000000000000000000002806400ffffffffa599807156a2a62fe956a82e388aeeabc874119c140000005b7664736f5d00000000000000000000000000000000000000000000000000000000000000000000000000000000000000000000000000000000000000000000")
+listed_builds = hex (codes "0000000002806400ffffffffe1acfd5cc78671620325b4d7fc60da13931c8332140000002f62696e2f76760000000000000000000000000000000000000000000000000000000000000000000000000000000000000000000000000000000000000000000000000002806400ffffffffa599807156a2a62fe956a82e388aeeabc874119c140000005b7664736f5d00000000000000000000000000000000000000000000000000000000000000000000000000000000000000000000000000000000000000000000")
 
-the_first_build : id_of false (codes "/tmp/vv") listed_builds ≡ Some (hex (codes "e1acfd5cc78671620325b4d7fc60da13931c8332"))
+the_first_build : id_of false (codes "/bin/vv") listed_builds ≡ Some (hex (codes "e1acfd5cc78671620325b4d7fc60da13931c8332"))
 unfolding computing
 the_first_build = refl
 
@@ -373,7 +373,7 @@ the_second_build : id_of false (codes "[vdso]") listed_builds ≡ Some (hex (cod
 unfolding computing
 the_second_build = refl
 
-not_listed : id_of false (codes "/tmp/v") listed_builds ≡ None
+not_listed : id_of false (codes "/bin/v") listed_builds ≡ None
 unfolding computing
 not_listed = refl
 
@@ -383,13 +383,13 @@ unfolding computing
 cut_listed = refl
 
 -- without PERF_RECORD_MISC_BUILD_ID_SIZE, as before Linux 5.12
-twenty_bytes : id_of false (codes "/tmp/old") (hex (codes "0000000002006400ffffffffa599807156a2a62fe956a82e388aeeabc8000000000000002f746d702f6f6c640000000000000000000000000000000000000000000000000000000000000000000000000000000000000000000000000000000000000000")) ≡ Some (hex (codes "a599807156a2a62fe956a82e388aeeabc8000000"))
+twenty_bytes : id_of false (codes "/bin/old") (hex (codes "0000000002006400ffffffffa599807156a2a62fe956a82e388aeeabc8000000000000002f62696e2f6f6c640000000000000000000000000000000000000000000000000000000000000000000000000000000000000000000000000000000000000000")) ≡ Some (hex (codes "a599807156a2a62fe956a82e388aeeabc8000000"))
 unfolding computing
 twenty_bytes = refl
 
 -- of a record that perf record --buildid-mmap wrote
 abbrev mapped_build : List ℕ
-mapped_build = hex (codes "2b4500002b45000000c0d2cb495600000010000000000000001000000000000014000000e1acfd5cc78671620325b4d7fc60da13931c833205000000020000002f746d702f767600")
+mapped_build = hex (codes "2b4500002b45000000c0d2cb495600000010000000000000001000000000000014000000e1acfd5cc78671620325b4d7fc60da13931c833205000000020000002f62696e2f767600")
 
 its_own_build : own_build_id 0x4002 mapped_build ≡ Some (hex (codes "e1acfd5cc78671620325b4d7fc60da13931c8332"))
 its_own_build = refl
@@ -400,7 +400,7 @@ no_own_build = refl
 
 -- the record's own comes first, and else the one of the table
 abbrev mapped_vv : Option (List ℕ) → Mapping
-mapped_vv build_id = record { pid = 7; address = 0x400000; length = 0x1000; offset = 0; is_executable = true; name = codes "/tmp/vv"; build_id = build_id }
+mapped_vv build_id = record { pid = 7; address = 0x400000; length = 0x1000; offset = 0; is_executable = true; name = codes "/bin/vv"; build_id = build_id }
 
 kept_build : (with_build_id false listed_builds (mapped_vv (Some (1 ∷ 2 ∷ [])))).build_id ≡ Some (1 ∷ 2 ∷ [])
 kept_build = refl
