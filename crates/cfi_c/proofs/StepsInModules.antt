@@ -20,7 +20,7 @@ use Rattle.cfi_step.specs.declared.abi.Abi.{Abi}
 use Rattle.cfi_step.specs.declared.module.LoadedModule.{LoadedModule}
 use Rattle.cfi_step.specs.declared.step.Caller.{Caller}
 use Rattle.cfi_compiled.specs.CompiledTables.{TableContents}
-use Rattle.cfi_step.specs.CompiledSteps.{address_in_file}
+use Rattle.cfi_step.specs.Modules.{address_in_file}
 use Rattle.cfi_step.specs.declared.function.Function.{Function}
 use Rattle.cfi_step.specs.Functions.{IsStepInFunction, function_in}
 use Rattle.cfi_step.specs.Modules.{IsFoundBy, IsStepByFde as IsStepByLoaded, IsStepByFound, IsStepIn, IsStepVia}

@@ -2,7 +2,7 @@
 use Rattle.std.proofs.Common.{◌≡◌, ◌∙◌, List, [], ◌∷◌, Option, Some, None, Ok, Err, refl, sym, ap, ap₂, append_assoc, append-nil}
 use Rattle.cfi_elf.specs.declared.error.ElfError.{ElfError}
 use Rattle.cfi_elf.specs.Notes.{Note, Notes, items}
-use Rattle.cfi_elf.specs.Results.{or_else}
+use Rattle.cfi_elf.specs.Options.{or_else}
 use Rattle.cfi_elf.proofs.NoteSteps.{error_is, first_is, none_are}
 use Rattle.cfi_processes.specs.declared.registers.SampleMachine.{SampleMachine}
 use Rattle.cfi_cores.specs.declared.error.CoreError.{CoreError}

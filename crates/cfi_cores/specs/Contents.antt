@@ -8,7 +8,7 @@ use Rattle.std.specs.Prelude.{Some, None, Vec, option_map, nat_eq, ◌==◌, if�
 use Rattle.std.specs.Cmp.Lexicographic.{pointwise}
 use Rattle.cfi_elf.specs.declared.program_header.ProgramHeader.{ProgramHeader}
 use Rattle.cfi_elf.specs.Notes.{Note, Notes, notes_of}
-use Rattle.cfi_elf.specs.Results.{or_else}
+use Rattle.cfi_elf.specs.Options.{or_else}
 use Rattle.cfi_processes.specs.declared.registers.SampleMachine.{SampleMachine}
 use Rattle.cfi_cores.specs.declared.contents.Contents.{Contents as ContentsOfCode}
 use Rattle.cfi_cores.specs.declared.error.CoreError.{CoreError}

@@ -9,7 +9,7 @@ use Rattle.cfi_elf.specs.declared.error.ElfError.{ElfError}
 use Rattle.cfi_elf.specs.declared.program_header.ProgramHeader.{ProgramHeader}
 use Rattle.cfi_elf.specs.ElfFiles.{File, class_of_file, core_file, is_big_file}
 use Rattle.cfi_elf.specs.Layouts.{by_class}
-use Rattle.cfi_elf.specs.Results.{or_this}
+use Rattle.cfi_elf.specs.Options.{or_this}
 use Rattle.cfi_elf.specs.SegmentLists.{segments}
 use Rattle.cfi_processes.specs.declared.registers.SampleMachine.{SampleMachine}
 use Rattle.cfi_processes.specs.declared.registers.SampleMachine.TheVariants.{X86_64, AArch64}

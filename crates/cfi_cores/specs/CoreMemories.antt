@@ -1,7 +1,7 @@
 -- The memory of a core file.
 --     number_at memory a size      the number of so many bytes at an address
 use Rattle.std.specs.Prelude.{ℕ, List, Option, map}
-use Rattle.cfi_elf.specs.Results.{or_else}
+use Rattle.cfi_elf.specs.Options.{or_else}
 use Rattle.cfi_cores.specs.declared.memory.CoreMemory.{CoreMemory as MemoryOfCode}
 use Rattle.cfi_cores.specs.CoreSegments.{CoreSegment, number_among, segment_view}
 

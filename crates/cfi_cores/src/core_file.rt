@@ -2,7 +2,7 @@
 ghost use Rattle.std.specs.Prelude.{◌≡◌, [], IfOk, option_map};
 ghost use Rattle.cfi_read_core.specs.ReaderCalls.{map_ok};
 ghost use Rattle.cfi_elf.specs.ElfFiles.{file_view};
-ghost use Rattle.cfi_elf.specs.Results.{or_this};
+ghost use Rattle.cfi_elf.specs.Options.{or_this};
 ghost use Rattle.cfi_elf.specs.SegmentLists.{segments_left};
 ghost use Rattle.cfi_cores.specs.CoreSegments.{AreInOrder};
 ghost use Rattle.cfi_cores.specs.CoreFiles.{IsCore, IsSortedCore, core_elf, core_headers};

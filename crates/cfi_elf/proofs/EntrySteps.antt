@@ -7,7 +7,7 @@ use Rattle.std.proofs.lemmas.Bool.{cases_lt, le-leb, lt-leb}
 use Rattle.std.proofs.lemmas.List.{drop_all, length-map}
 use Rattle.std.proofs.lemmas.List.FromFn.{length-map-range_with_len}
 use Rattle.cfi_elf.specs.Fields.{entries, entry_at, part}
-use Rattle.cfi_elf.specs.Results.{first_by, if_passed}
+use Rattle.cfi_elf.specs.Searches.{first_by, if_passed}
 
 -- ---- what is left of a list from an index on
 

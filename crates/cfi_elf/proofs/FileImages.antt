@@ -10,7 +10,8 @@ use Rattle.cfi_elf.specs.declared.file_header.FileHeader.{FileHeader}
 use Rattle.cfi_elf.specs.declared.section_header.SectionHeader.{SectionHeader}
 use Rattle.cfi_elf.specs.Headers.{file_header, file_header_bytes}
 use Rattle.cfi_elf.specs.Images.{Image, IsImageOf, IsRead, bytes_at, if_read, whole}
-use Rattle.cfi_elf.specs.Results.{and_then, if_found, meaning, or_else, or_missing}
+use Rattle.cfi_elf.specs.Options.{meaning, or_else}
+use Rattle.cfi_elf.specs.Results.{and_then, if_found, or_missing}
 use Rattle.cfi_elf.specs.ElfFiles.{File, any_file, byte_orders, classes, elf_file, elf_file_of, file_by, header_bytes, ident, identification, magic, with_addresses}
 use Rattle.cfi_elf.specs.Sections.{Section, address_of, contents, header_named, section_address, section_named, section_of}
 use Rattle.cfi_elf.proofs.SameResults.{Same, ok_read, same_err, same_if, same_ok, same_or_missing, same_then, then_read}

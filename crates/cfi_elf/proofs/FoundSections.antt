@@ -7,7 +7,8 @@ use Rattle.cfi_elf.specs.declared.error.ElfError.{ElfError}
 use Rattle.cfi_elf.specs.declared.section_header.SectionHeader.{SectionHeader}
 use Rattle.cfi_elf.specs.ElfFiles.{File}
 use Rattle.cfi_elf.specs.FoundSections.{HasName, IsFirst, IsFoundIn}
-use Rattle.cfi_elf.specs.Results.{and_then, first_by, if_passed}
+use Rattle.cfi_elf.specs.Results.{and_then}
+use Rattle.cfi_elf.specs.Searches.{first_by, if_passed}
 use Rattle.cfi_elf.specs.Sections.{Section, contents, header_named, is_named, name_at, section_headers, section_names, section_table}
 
 -- ---- the first that passes

@@ -6,7 +6,7 @@ use Rattle.cfi_elf.specs.declared.error.ElfError.{ElfError}
 use Rattle.std.proofs.lemmas.List.{drop-drop, drop-take, take-take}
 use Rattle.cfi_elf.specs.Images.{ArePartsOf, Image, IsImageOf, IsPartOf, IsRead, Part, bytes_at, if_read, in_part, in_parts, part_of, whole}
 use Rattle.cfi_elf.specs.Fields.{part}
-use Rattle.cfi_elf.specs.Results.{or_else}
+use Rattle.cfi_elf.specs.Options.{or_else}
 use Rattle.cfi_elf.proofs.SameResults.{Same, ok_read}
 
 -- ---- of a list of bytes

@@ -4,7 +4,7 @@ use Rattle.std.specs.Prelude.{find}
 use Rattle.std.specs.List.Sorted.{IsNonDecreasingBy}
 use Rattle.std.proofs.lemmas.Bool.{cases_lt, eqb-true}
 use Rattle.cfi_elf.specs.declared.symbols.Function.{Function as FunctionOfCode}
-use Rattle.cfi_elf.specs.Results.{or_else}
+use Rattle.cfi_elf.specs.Options.{or_else}
 use Rattle.cfi_elf.specs.SymbolTables.{Function, function_view}
 use Rattle.cfi_elf.specs.FunctionNames.{first_at, nearest, place_among}
 use Rattle.cfi_elf.specs.FunctionPlaces.{place_of}

@@ -1,6 +1,7 @@
 -- Steps in turn over what is left of a list.
 use Rattle.std.proofs.Common.{◌≡◌, ◌∙◌, ◌+◌, ℕ, List, [], drop, Some, None, Result, Ok, Err, ap, sym, slice_get}
-use Rattle.cfi_elf.specs.Results.{and_then, in_order}
+use Rattle.cfi_elf.specs.InOrder.{in_order}
+use Rattle.cfi_elf.specs.Results.{and_then}
 use Rattle.cfi_elf.proofs.EntrySteps.{next_left, none_is}
 
 module _ {A S E : Type 0} (step : ℕ → A → S → Result S E) (xs : List A) (index : ℕ) (s : S) where

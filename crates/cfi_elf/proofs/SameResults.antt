@@ -4,7 +4,8 @@ use Rattle.std.specs.Prelude.{if◌then◌else◌}
 use Rattle.cfi_elf.specs.declared.error.ElfError.{ElfError}
 use Rattle.cfi_elf.specs.declared.error.ElfError.TheVariants.{NotRead}
 use Rattle.cfi_elf.specs.Images.{IsRead}
-use Rattle.cfi_elf.specs.Results.{and_then, first_by, if_found, if_passed, or_missing}
+use Rattle.cfi_elf.specs.Results.{and_then, if_found, or_missing}
+use Rattle.cfi_elf.specs.Searches.{first_by, if_passed}
 
 -- a result by parts of a file, and that of the whole file, which needs no byte that was not read
 pub record Same {A : Type 0} (r r' : Result A ElfError) : Type 0 where

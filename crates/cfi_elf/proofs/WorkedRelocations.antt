@@ -7,7 +7,7 @@ use Rattle.cfi_elf.specs.declared.relocation_kind.Formula.TheVariants.{LowSix, L
 use Rattle.cfi_elf.specs.declared.relocation_kind.PlaceWidth.TheVariants.{Word}
 use Rattle.cfi_elf.specs.RelocationKinds.{kinds_of}
 use Rattle.cfi_elf.specs.Relocations.{relocated_number, relocation, with_number}
-use Rattle.cfi_elf.specs.Results.{meaning}
+use Rattle.cfi_elf.specs.Options.{meaning}
 
 -- x86-64, by readelf -r: offset 4c, info 100000002, R_X86_64_PC32 of .text + 7
 entry_of_object : relocation Elf64 true false (0x4c ∷ 0 ∷ 0 ∷ 0 ∷ 0 ∷ 0 ∷ 0 ∷ 0 ∷ 2 ∷ 0 ∷ 0 ∷ 0 ∷ 1 ∷ 0 ∷ 0 ∷ 0 ∷ 7 ∷ 0 ∷ 0 ∷ 0 ∷ 0 ∷ 0 ∷ 0 ∷ 0 ∷ []) ≡ record {

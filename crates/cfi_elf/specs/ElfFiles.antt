@@ -22,7 +22,8 @@ use Rattle.cfi_elf.specs.Fields.{field}
 use Rattle.cfi_elf.specs.Headers.{file_header, file_header_bytes}
 use Rattle.cfi_elf.specs.Images.{Image, bytes_at, image_view, whole}
 use Rattle.cfi_elf.specs.Layouts.{by_class, file_header_fields}
-use Rattle.cfi_elf.specs.Results.{and_then, meaning, or_missing, unless}
+use Rattle.cfi_elf.specs.Options.{meaning}
+use Rattle.cfi_elf.specs.Results.{and_then, or_missing, unless}
 
 pub record File : Type 0 where
   pub image : Image

@@ -11,7 +11,7 @@ use Rattle.cfi_elf.specs.declared.symbol.Symbol.{Symbol}
 use Rattle.cfi_elf.specs.declared.function_names.FunctionNames.{FunctionNames}
 use Rattle.cfi_elf.specs.ElfFiles.{File}
 use Rattle.cfi_elf.specs.FunctionPlaces.{Place, place_of}
-use Rattle.cfi_elf.specs.Results.{or_else}
+use Rattle.cfi_elf.specs.Options.{or_else}
 use Rattle.cfi_elf.specs.Sections.{name_at}
 use Rattle.cfi_elf.specs.Symbols.{is_function}
 use Rattle.cfi_elf.specs.SymbolTables.{Function, SymbolTable, function_view, symbol_table, symbols}

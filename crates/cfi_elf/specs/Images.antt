@@ -6,7 +6,8 @@ use Rattle.cfi_elf.specs.declared.error.ElfError.TheVariants.{NotRead}
 use Rattle.cfi_elf.specs.declared.image.FilePart.{FilePart}
 use Rattle.cfi_elf.specs.declared.image.Image.{Image as ImageOfCode}
 use Rattle.cfi_elf.specs.Fields.{part}
-use Rattle.cfi_elf.specs.Results.{and_then, or_else, or_missing}
+use Rattle.cfi_elf.specs.Options.{or_else}
+use Rattle.cfi_elf.specs.Results.{and_then, or_missing}
 
 -- The bytes from an offset on.
 pub record Part : Type 0 where

@@ -1,5 +1,8 @@
 pub mod ErrorNames
 pub mod Results
+pub mod Options
+pub mod Searches
+pub mod InOrder
 pub mod Fields
 pub mod Layouts
 pub mod Headers

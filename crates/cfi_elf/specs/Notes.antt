@@ -19,7 +19,8 @@ use Rattle.cfi_elf.specs.declared.program_header.ProgramHeader.{ProgramHeader}
 use Rattle.cfi_elf.specs.ElfFiles.{File, is_big_file}
 use Rattle.cfi_elf.specs.Fields.{before_zero, field, first_bytes}
 use Rattle.cfi_elf.specs.Layouts.{note_header_fields}
-use Rattle.cfi_elf.specs.Results.{and_then, or_this}
+use Rattle.cfi_elf.specs.Options.{or_this}
+use Rattle.cfi_elf.specs.Results.{and_then}
 use Rattle.cfi_elf.specs.SegmentLists.{segments}
 use Rattle.cfi_elf.specs.Segments.{segment_bytes}
 

@@ -29,7 +29,9 @@ use Rattle.cfi_elf.specs.Fields.{entries, field, number_at, size_of}
 use Rattle.cfi_elf.specs.Headers.{section_header_bytes, symbol_bytes}
 use Rattle.cfi_elf.specs.Layouts.{by_class, relocation_fields}
 use Rattle.cfi_elf.specs.RelocationKinds.{kinds_of}
-use Rattle.cfi_elf.specs.Results.{and_then, in_order, meaning, or_missing, or_this}
+use Rattle.cfi_elf.specs.InOrder.{in_order}
+use Rattle.cfi_elf.specs.Options.{meaning, or_this}
+use Rattle.cfi_elf.specs.Results.{and_then, or_missing}
 use Rattle.cfi_elf.specs.Sections.{contents, is_named, section_headers, section_names}
 use Rattle.cfi_elf.specs.Sections.{section_table}
 use Rattle.cfi_elf.specs.Segments.{minus, plus}

@@ -15,7 +15,8 @@ use Rattle.cfi_elf.specs.ElfFiles.{File, class_of_file, is_big_file}
 use Rattle.cfi_elf.specs.Fields.{before_zero, entries}
 use Rattle.cfi_elf.specs.Headers.{section_header, section_header_bytes}
 use Rattle.cfi_elf.specs.Images.{bytes_at}
-use Rattle.cfi_elf.specs.Results.{and_then, first_by, if_found, or_missing}
+use Rattle.cfi_elf.specs.Results.{and_then, if_found, or_missing}
+use Rattle.cfi_elf.specs.Searches.{first_by}
 
 -- ---- the section header table
 
@@ -61,8 +62,8 @@ section_table file =
 
 -- ---- the bytes of a section
 
--- what a section has that has no bytes (SHT_NOBITS is 8), or is not compressed (SHF_COMPRESSED is
--- 0x800)
+-- the first thing for a section without bytes (SHT_NOBITS is 8), the second for any other; an error
+-- for one that is compressed (SHF_COMPRESSED is 0x800)
 abbrev pub by_type : {A : Type 0} → SectionHeader → A → Result A ElfError → Result A ElfError
 by_type header without_bytes stored =
     if header.sh_type == 8 then Ok without_bytes

@@ -10,7 +10,9 @@ use Rattle.cfi_elf.specs.declared.symbols.SymbolTable.{SymbolTable as SymbolTabl
 use Rattle.cfi_elf.specs.ElfFiles.{File, class_of_file, is_big_file}
 use Rattle.cfi_elf.specs.Fields.{entries}
 use Rattle.cfi_elf.specs.Headers.{symbol, symbol_bytes}
-use Rattle.cfi_elf.specs.Results.{and_then, first_by, if_found, or_else}
+use Rattle.cfi_elf.specs.Options.{or_else}
+use Rattle.cfi_elf.specs.Results.{and_then, if_found}
+use Rattle.cfi_elf.specs.Searches.{first_by}
 use Rattle.cfi_elf.specs.Sections.{contents, name_at, names_at, section_headers, section_table}
 use Rattle.cfi_elf.specs.Symbols.{is_function_at}
 

@@ -26,7 +26,8 @@ const ET_CORE: u16 = 4;
 
 const EM_AARCH64: u16 = 183;
 
-/// A program or library in the ELF format, of 32 or 64 bits, in either byte order. The bytes are
+/// A file in the ELF format, of 32 or 64 bits, in either byte order: a program or library
+/// (`parse`), a relocatable file (`parse_relocatable`) or a core file (`parse_core`). The bytes are
 /// borrowed, not copied. Where only parts of the file were read (`of_image`), each call that needs
 /// other bytes fails with `NotRead`, and otherwise returns what it returns for the whole file.
 #[derive(Clone, Copy, Debug)]

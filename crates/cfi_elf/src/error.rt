@@ -5,7 +5,7 @@ ghost use Rattle.cfi_elf.specs.ErrorNames.{name_of_elf};
 use std::fmt;
 
 /// Why an ELF file, or a part of it, can't be read. `Display` writes one sentence, with the value
-/// that the error carries if any.
+/// that the error carries if it carries one; those of `NotRead` are in its fields alone.
 #[derive(Clone, Copy, Debug, PartialEq, Eq)]
 pub enum ElfError {
     /// The file doesn't begin with the four bytes of `EI_MAG0` to `EI_MAG3`.

@@ -5,7 +5,8 @@ ghost use Rattle.cfi_elf.specs.declared.error.ElfError.TheVariants.{UnknownDataE
 ghost use Rattle.cfi_elf.specs.declared.file_header.Class.TheVariants.{Elf32, Elf64};
 ghost use Rattle.cfi_elf.specs.ElfFiles.{byte_orders, classes, identification};
 ghost use Rattle.cfi_elf.specs.Headers.{file_header, file_header_bytes};
-ghost use Rattle.cfi_elf.specs.Results.{meaning, or_missing};
+ghost use Rattle.cfi_elf.specs.Options.{meaning};
+ghost use Rattle.cfi_elf.specs.Results.{or_missing};
 
 use crate::bytes::Record;
 use crate::error::ElfError;

@@ -1,6 +1,7 @@
 #![tactic(auto)]
-//! ELF files: the sections, segments and symbols that call frames need of a program or library
-//! (System V ABI, chapter 4 "Object Files" and chapter 5 "Program Loading and Dynamic Linking").
+//! ELF files: the sections, segments and symbols that call frames need of a program, a library, a
+//! relocatable or a core file (System V ABI, chapter 4 "Object Files" and chapter 5 "Program
+//! Loading and Dynamic Linking").
 //!
 //! `image` is a file that may be read by parts. `elf_file` reads the file header, `sections` finds
 //! sections by name, `segments` what is loaded at an address, `notes` what notes say, `symbols`

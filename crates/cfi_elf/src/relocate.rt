@@ -12,7 +12,8 @@ ghost use Rattle.cfi_elf.specs.Relocations.{relocate_section, relocated, relocat
 ghost use Rattle.cfi_elf.specs.Relocations.{relocations, section_base, symbol_at};
 ghost use Rattle.cfi_elf.specs.Relocations.{symbol_contents, symbol_offset, symbol_place};
 ghost use Rattle.cfi_elf.specs.Relocations.{with_number};
-ghost use Rattle.cfi_elf.specs.Results.{and_then, in_order};
+ghost use Rattle.cfi_elf.specs.InOrder.{in_order};
+ghost use Rattle.cfi_elf.specs.Results.{and_then};
 ghost use Rattle.cfi_elf.specs.Sections.{section_headers};
 ghost use Rattle.cfi_elf.specs.SymbolTables.{symbols_of_bytes};
 

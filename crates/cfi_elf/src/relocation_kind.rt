@@ -2,7 +2,7 @@
 ghost use Rattle.std.specs.Prelude.{◌≡◌, Some};
 ghost use Rattle.cfi_elf.specs.RelocationKinds.{aarch64, arm, i386, kinds_of, powerpc64, riscv};
 ghost use Rattle.cfi_elf.specs.RelocationKinds.{s390x, x86_64};
-ghost use Rattle.cfi_elf.specs.Results.{meaning};
+ghost use Rattle.cfi_elf.specs.Options.{meaning};
 
 const EM_386: u16 = 3;
 

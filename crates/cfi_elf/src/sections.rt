@@ -3,7 +3,7 @@ ghost use Rattle.std.specs.Prelude.{◌≡◌, IfOk, option_map, slice_get};
 ghost use Rattle.cfi_read_core.specs.ReaderCalls.{map_ok};
 ghost use Rattle.cfi_elf.specs.ElfFiles.{file_view};
 ghost use Rattle.cfi_elf.specs.FoundSections.{FindsSection};
-ghost use Rattle.cfi_elf.specs.Results.{first_by};
+ghost use Rattle.cfi_elf.specs.Searches.{first_by};
 ghost use Rattle.cfi_elf.specs.Sections.{address_of, contents, debug_frame};
 ghost use Rattle.cfi_elf.specs.Sections.{first_section_header, header_named, is_named, name_at};
 ghost use Rattle.cfi_elf.specs.Sections.{name_section, names_at, section_address, section_count};

@@ -3,7 +3,7 @@ ghost use Rattle.std.specs.Prelude.{◌≡◌, Err, IfErr, OnOk, find, option_ma
 ghost use Rattle.cfi_read_core.specs.ReaderCalls.{map_ok};
 ghost use Rattle.cfi_elf.specs.ElfFiles.{file_view};
 ghost use Rattle.cfi_elf.specs.Images.{IsNotRead, IsRead};
-ghost use Rattle.cfi_elf.specs.Results.{first_by};
+ghost use Rattle.cfi_elf.specs.Searches.{first_by};
 ghost use Rattle.cfi_elf.specs.Sections.{section_headers};
 ghost use Rattle.cfi_elf.specs.Symbols.{is_function, is_function_at};
 ghost use Rattle.cfi_elf.specs.SymbolTables.{function_at, function_view, is_of_type};

@@ -7,7 +7,8 @@ use Rattle.cfi_elf.specs.declared.error.ElfError.{ElfError}
 use Rattle.cfi_elf.specs.ElfFiles.{File}
 use Rattle.cfi_elf.specs.FunctionNames.{functions_in, first_name, named_functions}
 use Rattle.cfi_elf.specs.Images.{Image}
-use Rattle.cfi_elf.specs.Results.{and_then, first_by}
+use Rattle.cfi_elf.specs.Results.{and_then}
+use Rattle.cfi_elf.specs.Searches.{first_by}
 use Rattle.cfi_elf.specs.SymbolTables.{SymbolTable, is_symbol_named, symbol_address, symbol_table, symbols, value_of}
 use Rattle.cfi_programs.specs.Lines.{Line}
 use Rattle.cfi_object.specs.Numbers.{number}

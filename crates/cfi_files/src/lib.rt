@@ -1,13 +1,15 @@
 #![tactic(auto)]
 //! What is printed of the call frames of an ELF file: the output for a request, and the check of
 //! its table (`run`), from its sections (`sections`), their compiled tables (`compiled`), the rows
-//! of the addresses that words name (`row`), and what a check found (`finding`).
+//! of all FDEs (`rows`) or of the addresses that words name (`row`), and what a check found
+//! (`finding`).
 
 pub mod compiled;
 pub mod finding;
 mod lines;
 pub mod request;
 mod row;
+mod rows;
 pub mod run;
 mod sections;
 mod table_check;

@@ -5,24 +5,20 @@ ghost use Rattle.gimli_cfi.specs.SectionSources.{given_section, source_view};
 ghost use Rattle.cfi_elf.specs.ElfFiles.{file_view};
 ghost use Rattle.cfi_programs.specs.Lines.{Line};
 ghost use Rattle.cfi_programs.specs.WriterOutput.{Prints, PrintsSome};
-ghost use Rattle.cfi_object.specs.Targets.{target_address};
 ghost use Rattle.cfi_files.specs.FileLines.{InTurn, IsUnder, section_line};
-ghost use Rattle.cfi_files.specs.FileOutputs.{AreFdeRows, AreNamedRows, AreNamesOf, AreParts};
-ghost use Rattle.cfi_files.specs.FileOutputs.{AreRows, AreRowsAt, AreSections, IsOfSection};
-ghost use Rattle.cfi_files.specs.FileOutputs.{IsPart, section_format};
+ghost use Rattle.cfi_files.specs.FileOutputs.{AreParts, AreSections, IsOfSection, IsPart};
+ghost use Rattle.cfi_files.specs.FileOutputs.{section_format};
 ghost use Rattle.cfi_files.specs.Found.{debug_frame_in, eh_frame_in, part_view};
 
 use crate::compiled::print_compiled;
-use crate::lines::{write_elf_refusal, write_no_address, write_no_call_frames, write_section_name};
-use cfi_elf::{ElfError, ElfFile, FunctionNames};
+use crate::lines::{write_elf_refusal, write_no_call_frames, write_section_name};
+use cfi_elf::{ElfError, ElfFile};
 use cfi_object::call_frames::{debug_frame, eh_frame};
 use cfi_object::register_names::RegisterNames;
-use cfi_object::target::target_address;
 use cfi_programs::dump::print::print_source;
-use cfi_programs::dump::{AskedRows, Printed};
-use cfi_programs::lines::write_refusal_in;
-use cfi_programs::style::{Format, Style};
-use gimli_cfi::{Error, SectionSource};
+use cfi_programs::dump::Printed;
+use cfi_programs::style::Format;
+use gimli_cfi::SectionSource;
 use std::alloc::Global;
 use std::io;
 use std::io::Write;
@@ -85,87 +81,6 @@ pub fn print_sections<W: Write>(
         (None, Some(part)) => print_part(alloc, names, printed, part, output),
         (Some(first), Some(second)) => print_both(alloc, names, printed, first, second, output),
     }
-}
-
-/// Prints the rows of each FDE, as `print_sections` does, each after the name of the function that
-/// begins there; where there is a word, of those that contain the address that it names. Prints
-/// `no address` with the status 1 where the word names none, and `refused` and the name of the
-/// error where that can't be read.
-pub fn print_rows<W: Write>(
-    alloc: Global,
-    style: Style,
-    word: Option<&str>,
-    file: &ElfFile<'_>,
-    output: &mut W,
-) -> io::Result<u8>
-    ensures { PrintsSome (λ line. AreRows style (file_view file.now) word.entry line)
-        (W.contents output.old) (W.contents output.new) result }
-{
-    match word {
-        Some(word) => print_rows_at(alloc, style, word, file, output),
-        None => print_fde_rows(alloc, style, None, file, output),
-    }
-}
-
-/// Prints the rows of the FDEs that contain the address that the word names.
-fn print_rows_at<W: Write>(
-    alloc: Global,
-    style: Style,
-    word: &str,
-    file: &ElfFile<'_>,
-    output: &mut W,
-) -> io::Result<u8>
-    ensures { PrintsSome (λ line. AreRowsAt style (file_view file.now)
-        (target_address (file_view file.now) word.now) line)
-        (W.contents output.old) (W.contents output.new) result }
-{
-    match target_address(file, word) {
-        Ok(Some(address)) => print_fde_rows(alloc, style, Some(address), file, output),
-        Ok(None) => write_no_address(output, style.format),
-        Err(error) => write_elf_refusal(output, style.format, error),
-    }
-}
-
-/// Prints the rows of each FDE, or of those that contain the address, each after the name of the
-/// function that begins there. Prints `refused OutOfMemory` with the status 1 where there is no
-/// memory for the names of functions.
-fn print_fde_rows<W: Write>(
-    alloc: Global,
-    style: Style,
-    address: Option<u64>,
-    file: &ElfFile<'_>,
-    output: &mut W,
-) -> io::Result<u8>
-    ensures { PrintsSome (λ line. AreFdeRows style (file_view file.now) address line)
-        (W.contents output.old) (W.contents output.new) result }
-{
-    match FunctionNames::new(alloc, file) {
-        Ok(functions) => print_named_rows(alloc, style, address, &functions, file, output),
-        Err(_) => write_refusal_in(output, style.format, Error::OutOfMemory),
-    }
-}
-
-/// Prints the rows of each FDE, or of those that contain the address, each after the name of the
-/// function that begins there.
-fn print_named_rows<W: Write>(
-    alloc: Global,
-    style: Style,
-    address: Option<u64>,
-    functions: &FunctionNames<'_>,
-    file: &ElfFile<'_>,
-    output: &mut W,
-) -> io::Result<u8>
-    requires { AreNamesOf (file_view file.now) functions.now }
-    ensures { PrintsSome (λ line. AreNamedRows style (file_view file.now) address line)
-        (W.contents output.old) (W.contents output.new) result }
-{
-    let asked = AskedRows {
-        address,
-        functions,
-        format: style.format,
-    };
-    let printed = SectionPrinted::Listed(Printed::Rows(asked));
-    print_sections(alloc, style.names, printed, file, output)
 }
 
 /// Prints both sections, each after a line with its name, and returns the greater status.

@@ -17,7 +17,7 @@ use crate::attribute::{EventLayout, PERF_SAMPLE_TID, PERF_SAMPLE_TIME};
 use crate::build_ids::with_build_id;
 use crate::bytes::{bytes_from, first_bytes, part};
 use crate::error::PerfError;
-use crate::event::{mapping, mapping2, program, read_fork};
+use crate::record_fields::{mapping, mapping2, program, read_fork};
 use crate::event_table::{EventTable, ProfileEvent};
 use crate::record::{Event, Mapping, Record};
 use crate::sample_fields::{read_number_if, read_sample};

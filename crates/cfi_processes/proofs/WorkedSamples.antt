@@ -9,7 +9,7 @@ use Rattle.cfi_elf.specs.Segments.{minus}
 use Rattle.gimli_cfi.specs.SectionSources.{GivenSection, given_header, given_section}
 use Rattle.gimli_cfi.specs.declared.source.SectionKind.TheVariants.{EhFrame}
 use Rattle.cfi_object.specs.CallFrames.{bases_at}
-use Rattle.cfi_step.specs.CompiledSteps.{address_in_file}
+use Rattle.cfi_step.specs.Modules.{address_in_file}
 use Rattle.cfi_processes.specs.declared.registers.SampleMachine.TheVariants.{X86_64, AArch64}
 use Rattle.cfi_processes.specs.declared.sample_stack.NoFrames.{NoFrames}
 use Rattle.cfi_processes.specs.declared.sample_stack.NoFrames.TheVariants.{NoRegisters, OtherAbi, NoProgramCounter, NoStackPointer}

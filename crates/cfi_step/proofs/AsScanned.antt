@@ -14,7 +14,7 @@ use Rattle.cfi_expression.specs.declared.error.FrameError.{FrameError}
 use Rattle.cfi_expression.specs.Frames.{Frame}
 use Rattle.cfi_step.specs.declared.abi.Abi.{Abi}
 use Rattle.cfi_step.specs.declared.step.Caller.{Caller}
-use Rattle.cfi_step.specs.CompiledSteps.{IsStepAsScanned, IsStepByFrame}
+use Rattle.cfi_step.specs.StepsByTable.{IsStepAsScanned, IsStepByFrame}
 use Rattle.cfi_step.specs.Steps.{IsStepBy}
 
 module _ (frame : Frame) (bytes : Position) (abi : Abi) (a : ℕ) (result : Result Caller FrameError) (caller : List (Option ℕ)) where

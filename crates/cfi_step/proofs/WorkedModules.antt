@@ -4,8 +4,7 @@ use Rattle.cfi_parts.specs.declared.pointer.BaseAddresses.{BaseAddresses}
 use Rattle.cfi_entry.specs.declared.eh_frame.EhFrame.{EhFrame}
 use Rattle.cfi_step.specs.declared.module.LoadedModule.{LoadedModule}
 use Rattle.cfi_step.specs.CachedRows.{AreAlike}
-use Rattle.cfi_step.specs.CompiledSteps.{address_in_file}
-use Rattle.cfi_step.specs.Modules.{IsOutOfOrder, are_sorted, first_module}
+use Rattle.cfi_step.specs.Modules.{IsOutOfOrder, address_in_file, are_sorted, first_module}
 
 -- 0x40001001, of a file that is loaded at 0x40000000
 in_file : address_in_file 1073741824 1073745921 ≡ 4097

@@ -1,6 +1,6 @@
 pub mod Callers
 pub mod Steps
-pub mod CompiledSteps
+pub mod StepsByTable
 pub mod CodeRanges
 pub mod Modules
 pub mod Functions

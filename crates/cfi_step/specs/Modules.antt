@@ -1,6 +1,8 @@
 -- What a loaded module has for an address: by a compiled table; where it has none, the FDE by its
 -- header, or by a scan of its section. All three have the addresses of the file, so an address of
 -- the process is looked up less the bias.
+--     address_in_file bias a      the address that a file has for one of the process, where it is
+--         moved by a bias
 --     module_section position loaded      the section of its entries
 --     IsFoundIn position size loaded a found      the FDE for an address of the file, or the error
 --         in its place, where an address has this size
@@ -12,7 +14,8 @@
 --         overlap
 --     IsOutOfOrder modules k      the first module that isn't, by its index
 --     IsInOneAtMost modules a      no two modules have the address in their code
-use Rattle.std.specs.Prelude.{◌≡◌, ℕ, Bool, List, Option, Some, None, Result, IfOk}
+use Rattle.std.specs.Prelude.{◌≡◌, ℕ, ◌+◌, ◌-◌, ◌%◌, ◌^◌, Bool, List, Option, Some, None}
+use Rattle.std.specs.Prelude.{Result, IfOk}
 use Rattle.std.specs.Borrow.{Bor}
 use Rattle.cfi_read_core.specs.declared.error.Error.{Error}
 use Rattle.cfi_read_core.specs.ReadFunctions.{Position}
@@ -31,8 +34,12 @@ use Rattle.cfi_step.specs.declared.abi.Abi.{Abi}
 use Rattle.cfi_step.specs.declared.module.LoadedModule.{LoadedModule}
 use Rattle.cfi_step.specs.declared.step.Caller.{Caller}
 use Rattle.cfi_step.specs.CodeRanges as ranges
-use Rattle.cfi_step.specs.CompiledSteps.{IsStepByFrame, address_in_file}
+use Rattle.cfi_step.specs.StepsByTable.{IsStepByFrame}
 use Rattle.cfi_step.specs.Steps.{IsStepBy}
+
+-- an address of the process is that of the file plus the bias, modulo 2 ^ 64
+abbrev pub address_in_file : ℕ → ℕ → ℕ
+address_in_file bias a = (a + (2 ^ 64 - bias)) % 2 ^ 64
 
 module _ {R : Type 0} (position : R → Position) (size : ℕ) (loaded : LoadedModule R) where
   abbrev pub module_section : Section

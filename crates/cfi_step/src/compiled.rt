@@ -2,7 +2,7 @@
 ghost use Rattle.std.specs.Prelude.{◌≡◌, ◌≤◌, length, OnErr};
 ghost use Rattle.cfi_compiled.specs.CompiledTables.{frame_at};
 ghost use Rattle.cfi_expression.specs.Frames.{frame_view};
-ghost use Rattle.cfi_step.specs.CompiledSteps.{IsStepAsScanned, IsStepByFrame};
+ghost use Rattle.cfi_step.specs.StepsByTable.{IsStepAsScanned, IsStepByFrame};
 
 use crate::abi::Abi;
 use crate::step::{Caller, step_by_row};

@@ -2,7 +2,7 @@
 ghost use Rattle.std.specs.Prelude.{◌≡◌, ◌≤◌, length, OnErr};
 ghost use Rattle.cfi_unwind.specs.FdeViews.{fde_view};
 ghost use Rattle.cfi_expression.specs.Frames.{frame_view};
-ghost use Rattle.cfi_step.specs.CompiledSteps.{address_in_file};
+ghost use Rattle.cfi_step.specs.Modules.{address_in_file};
 ghost use Rattle.cfi_step.specs.Functions.{IsStepInFunction, function_of};
 
 use crate::abi::Abi;

@@ -3,7 +3,7 @@ ghost use Rattle.cfi_read_core.specs.Addresses.{IsAddressSize};
 ghost use Rattle.cfi_entry.specs.Sections.{section_of};
 ghost use Rattle.cfi_entry.specs.SectionViews.{eh_frame_view};
 ghost use Rattle.cfi_unwind.specs.FdeViews.{HasCieOf, IsFdeOf, fde_view};
-ghost use Rattle.cfi_step.specs.CompiledSteps.{address_in_file};
+ghost use Rattle.cfi_step.specs.Modules.{address_in_file};
 ghost use Rattle.cfi_step.specs.PackedRows.{IsKept, KeepsRowOf, rows_in};
 
 use crate::function::function_of;

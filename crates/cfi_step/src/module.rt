@@ -5,9 +5,7 @@ ghost use Rattle.cfi_read_core.specs.ReaderCalls.{map_ok};
 ghost use Rattle.cfi_entry.specs.Fdes.{Covers};
 ghost use Rattle.cfi_entry.specs.SectionViews.{eh_frame_view};
 ghost use Rattle.cfi_unwind.specs.FdeViews.{HasCieOf, IsFdeOf, fde_view};
-ghost use Rattle.cfi_step.specs.CompiledSteps.{address_in_file};
-ghost use Rattle.cfi_step.specs.Modules.{IsFoundIn};
-ghost use Rattle.cfi_step.specs.Modules.{has_code};
+ghost use Rattle.cfi_step.specs.Modules.{IsFoundIn, address_in_file, has_code};
 
 use crate::code::{HasCode, has_code};
 use cfi_compiled::CompiledTable;

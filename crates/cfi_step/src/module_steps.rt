@@ -3,8 +3,8 @@ ghost use Rattle.std.specs.Prelude.{◌≡◌, ◌≤◌, length, IfSome, OnErr}
 ghost use Rattle.cfi_entry.specs.SectionViews.{eh_frame_view};
 ghost use Rattle.cfi_expression.specs.Frames.{frame_view};
 ghost use Rattle.cfi_step.specs.CachedRows.{AreRightIn, StayRightIn};
-ghost use Rattle.cfi_step.specs.CompiledSteps.{IsStepAsScanned, address_in_file};
-ghost use Rattle.cfi_step.specs.Modules.{IsStepByFound, IsStepIn};
+ghost use Rattle.cfi_step.specs.StepsByTable.{IsStepAsScanned};
+ghost use Rattle.cfi_step.specs.Modules.{IsStepByFound, IsStepIn, address_in_file};
 
 use crate::abi::Abi;
 use crate::compiled::step_by_compiled;

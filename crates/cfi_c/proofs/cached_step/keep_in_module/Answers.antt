@@ -1,6 +1,6 @@
 use Rattle.cfi_read_core.specs.ByteOrder.{is_big}
 use Rattle.cfi_read_core.specs.SliceReaders.{slice_position}
-use Rattle.cfi_step.specs.CompiledSteps.{address_in_file}
+use Rattle.cfi_step.specs.Modules.{address_in_file}
 use Rattle.cfi_step.specs.PackedRows.{rows_in}
 use Rattle.cfi_c.proofs.CachedSteps.{keeps}
 use Rattle.cfi_c.proofs.cached_step.keep_in_module.Goals as goal

@@ -4,7 +4,7 @@ use Rattle.cfi_read_core.specs.ByteOrder.{is_big}
 use Rattle.cfi_read_core.specs.SliceReaders.{slice_position}
 use Rattle.cfi_expression.specs.Frames.{Frame}
 use Rattle.cfi_step.specs.declared.abi.Abi.{Abi}
-use Rattle.cfi_step.specs.CompiledSteps.{address_in_file}
+use Rattle.cfi_step.specs.Modules.{address_in_file}
 use Rattle.cfi_step.specs.Functions.{IsStepInFunction}
 use Rattle.cfi_c.specs.SteppedFrames.{frame_in}
 use Rattle.cfi_c.specs.PassedMemories.{abi_in, number_in_memory}

@@ -1,6 +1,6 @@
 use Rattle.std.proofs.Common.{[], refl, ap, ◌∙◌, rules}
 use Rattle.std.proofs.lemmas.List.Sorted.{IsNonDecreasingBy-from_sort_by_key, answers_always}
-use Rattle.cfi_elf.specs.Results.{or_this}
+use Rattle.cfi_elf.specs.Options.{or_this}
 use Rattle.cfi_cores.specs.Contents.{Contents}
 use Rattle.cfi_cores.proofs.core_file.core_with.Goals as goal
 

@@ -6,7 +6,7 @@ use Rattle.cfi_expression.specs.declared.error.FrameError.{FrameError}
 use Rattle.cfi_expression.specs.declared.error.FrameError.TheVariants.{NoRow}
 use Rattle.cfi_expression.specs.Frames.{frame_view}
 use Rattle.cfi_step.specs.declared.step.Caller.{Caller}
-use Rattle.cfi_step.specs.CompiledSteps.{IsStepByFrame}
+use Rattle.cfi_step.specs.StepsByTable.{IsStepByFrame}
 use Rattle.cfi_step.proofs.AsScanned.{as_scanned}
 use Rattle.cfi_step.proofs.compiled.step_by_compiled.Goals as goal
 

@@ -1,5 +1,5 @@
 use Rattle.std.proofs.Common.{◌≡◌, ◌∙◌, Ok, Err, sym, ap, rules, arith}
-use Rattle.cfi_elf.specs.Results.{first_by}
+use Rattle.cfi_elf.specs.Searches.{first_by}
 use Rattle.cfi_elf.specs.Sections.{is_named}
 use Rattle.cfi_elf.specs.ElfFiles.{class_of_file, file_view}
 use Rattle.cfi_elf.specs.Headers.{section_header_bytes}

@@ -1,7 +1,7 @@
 use Rattle.std.proofs.Common.{◌≡◌, drop}
 use Rattle.cfi_elf.specs.ElfFiles.{file_view}
 use Rattle.cfi_elf.specs.Relocations.{place_section}
-use Rattle.cfi_elf.specs.Results.{in_order}
+use Rattle.cfi_elf.specs.InOrder.{in_order}
 use Rattle.cfi_elf.specs.Sections.{section_headers}
 use Rattle.cfi_elf.proofs.elf_file.ElfFile.place_sections.Given as goal
 

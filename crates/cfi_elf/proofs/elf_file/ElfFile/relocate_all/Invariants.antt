@@ -1,7 +1,7 @@
 use Rattle.std.proofs.Common.{◌≡◌, ℕ, drop}
 use Rattle.cfi_elf.specs.ElfFiles.{file_view}
 use Rattle.cfi_elf.specs.Relocations.{relocate_by}
-use Rattle.cfi_elf.specs.Results.{in_order}
+use Rattle.cfi_elf.specs.InOrder.{in_order}
 use Rattle.cfi_elf.specs.Sections.{section_headers}
 use Rattle.cfi_elf.proofs.elf_file.ElfFile.relocate_all.Given as goal
 

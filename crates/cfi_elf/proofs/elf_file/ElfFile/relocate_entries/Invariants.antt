@@ -1,7 +1,7 @@
 use Rattle.std.proofs.Common.{◌≡◌, ℕ, drop}
 use Rattle.cfi_elf.specs.ElfFiles.{file_view}
 use Rattle.cfi_elf.specs.Relocations.{relocate, relocations}
-use Rattle.cfi_elf.specs.Results.{in_order}
+use Rattle.cfi_elf.specs.InOrder.{in_order}
 use Rattle.cfi_elf.proofs.elf_file.ElfFile.relocate_entries.Given as goal
 
 -- the steps that are left make of the bytes so far what all make of those at first

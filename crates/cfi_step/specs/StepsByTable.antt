@@ -1,12 +1,9 @@
 -- From a frame to its caller, by what a compiled table has for the address.
---     address_in_file bias a      the address that a file has for one of the process, where it is
---         moved by a bias
 --     IsStepByFrame frame bytes abi found result caller      what a step returns and writes by the
 --         row and the CIE, or by the error in their place
 --     IsStepAsScanned frame bytes abi table a result caller      for whatever section the table is
 --         compiled: the step by a scan of it
-use Rattle.std.specs.Prelude.{◌≡◌, ℕ, ◌+◌, ◌-◌, ◌%◌, ◌^◌, Bool, List, length, Option, Result, Ok}
-use Rattle.std.specs.Prelude.{Err, IfOk}
+use Rattle.std.specs.Prelude.{◌≡◌, ℕ, Bool, List, length, Option, Result, Ok, Err, IfOk}
 use Rattle.cfi_read_core.specs.declared.error.Error.{Error}
 use Rattle.cfi_read_core.specs.ReadFunctions.{Position}
 use Rattle.cfi_entry.specs.Sections.{Section}
@@ -20,10 +17,6 @@ use Rattle.cfi_step.specs.declared.abi.Abi.{Abi}
 use Rattle.cfi_step.specs.declared.step.Caller.{Caller}
 use Rattle.cfi_step.specs.Callers.{AreRecovered}
 use Rattle.cfi_step.specs.Steps.{IsStepBy, caller_by}
-
--- an address of the process is that of the file plus the bias, modulo 2 ^ 64
-abbrev pub address_in_file : ℕ → ℕ → ℕ
-address_in_file bias a = (a + (2 ^ 64 - bias)) % 2 ^ 64
 
 module _ (frame : Frame) (bytes : Position) (abi : Abi) where
   abbrev pub IsStepByFrame :

@@ -1,4 +1,4 @@
-use Rattle.cfi_files.proofs.sections.print_named_rows.Goals as goal
+use Rattle.cfi_files.proofs.rows.print_named_rows.Goals as goal
 
 pub returns : goal.returns
 returns g c =

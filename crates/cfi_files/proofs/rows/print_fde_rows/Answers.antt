@@ -1,6 +1,6 @@
 use Rattle.std.proofs.Common.{inl, inr, refl}
 use Rattle.cfi_files.specs.FileLines.{out_of_memory}
-use Rattle.cfi_files.proofs.sections.print_fde_rows.Goals as goal
+use Rattle.cfi_files.proofs.rows.print_fde_rows.Goals as goal
 
 pub returns-in-Ok : goal.returns-in-Ok
 returns-in-Ok g c =
