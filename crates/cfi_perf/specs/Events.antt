@@ -17,7 +17,7 @@ use Rattle.cfi_perf.specs.declared.record.Event.TheVariants.{Other as OtherOfCod
 use Rattle.cfi_perf.specs.declared.record.Mapping.{Mapping as MappingFields}
 use Rattle.cfi_perf.specs.declared.record.Program.{Program as ProgramFields}
 use Rattle.cfi_perf.specs.declared.record.Fork.{Fork}
-use Rattle.cfi_perf.specs.declared.event.MappedRange.{MappedRange}
+use Rattle.cfi_perf.specs.declared.record_fields.MappedRange.{MappedRange}
 use Rattle.cfi_perf.specs.Results.{and_then, or_error, or_missing, before_zero, read_from}
 use Rattle.cfi_perf.specs.Layouts.{has_any}
 use Rattle.cfi_perf.specs.Samples.{Sample, sample_view, thread}
