@@ -20,7 +20,7 @@ use Rattle.cfi_files.specs.Findings.{has_table, is_faithful}
 use Rattle.cfi_files.specs.declared.finding.Finding.{Finding}
 use Rattle.cfi_files.specs.declared.finding.Finding.TheVariants.{Unreadable}
 use Rattle.cfi_files.specs.declared.request.Request.{Request}
-use Rattle.cfi_processes.specs.Wanted.{FilePlace, at_path, copy_of}
+use Rattle.cfi_processes.specs.Wanted.{FilePlace, at_path, copy_of, debug_of}
 use Rattle.cfi_stacks.specs.CoreOutputs.{IsOwed as IsOwedOfCore}
 use Rattle.cfi_stacks.specs.ProfileOutputs.{IsOwed as IsOwedOfProfile}
 use Rattle.cfi.specs.CommandLine.{Asked, cfi_app, format_names}
@@ -114,10 +114,12 @@ AreTallied disk format names printed =
 -- ---- what is printed of a profile, and of a core file
 
 -- the files that it names; none is opened by a name that isn't UTF-8, or if the file isn't a
--- regular one. A copy of a build is at a path of its own
+-- regular one. A copy of a build, and its debug file, are at paths of their own
 abbrev pub MayOpenAt : (disk : Disk) → FilePlace → Option disk.Handle → Type 0
 MayOpenAt disk (at_path name) opened = IsNone opened ⊎ disk.MayOpen name opened
 MayOpenAt disk (copy_of build) opened =
+    IsNone opened ⊎ ((path : Text) × disk.MayOpen path opened)
+MayOpenAt disk (debug_of build) opened =
     IsNone opened ⊎ ((path : Text) × disk.MayOpen path opened)
 
 abbrev pub AreStacksOf : (disk : Disk) → Bool → Option disk.Handle → Line → Type 0

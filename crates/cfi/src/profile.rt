@@ -38,6 +38,11 @@ impl<S: System> Opener for ProfileOpener<'_, S> {
         self.system.find_regular(path.as_str())
     }
 
+    fn open_debug(&self, build: &[u8]) -> Option<S::File> {
+        let path = self.system.debug_path(build)?;
+        self.system.find_regular(path.as_str())
+    }
+
     fn tell_missing(&self, name: &[u8]) {
         self.system.tell_missing(name);
     }

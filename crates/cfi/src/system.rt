@@ -50,6 +50,10 @@ pub trait System {
     /// there is no such path, or memory is refused.
     fn copy_path(&self, build: &[u8]) -> Option<String>;
 
+    /// Returns the path at which a system has the debug file of the file of this build. `None`
+    /// where there is no such path, or memory is refused.
+    fn debug_path(&self, build: &[u8]) -> Option<String>;
+
     /// Says on standard error that for the file with this name none of the profile's build was
     /// found, as `cfi: FILE: SENTENCE`.
     fn tell_missing(&self, name: &[u8]);
@@ -136,7 +140,12 @@ impl<P: Env + Files + Print + Eprint + AllocGlobal> System for Host<'_, P> {
 
     fn copy_path(&self, build: &[u8]) -> Option<String> {
         let home = env::var(self.rt, "HOME").ok()?;
-        copy_path(self.rt.alloc(), home.as_str(), build)
+        let folder = format!(in self.rt.alloc(); "{home}/.debug").ok()?;
+        build_path(self.rt.alloc(), folder.as_str(), build, "/elf")
+    }
+
+    fn debug_path(&self, build: &[u8]) -> Option<String> {
+        build_path(self.rt.alloc(), "/usr/lib/debug", build, ".debug")
     }
 
     fn tell_missing(&self, name: &[u8]) {
@@ -216,13 +225,15 @@ impl<F: Read> HostFile<F> {
     }
 }
 
-/// Returns the path of the copy that `perf record` keeps of a build, by its identification in
-/// hexadecimal digits (perf-buildid-cache(1)). `None` where that is empty, or memory is refused.
-fn copy_path(alloc: Global, home: &str, build: &[u8]) -> Option<String> {
+/// Returns the path of what a folder has of a build, by its identification in hexadecimal digits:
+/// of the copy of the file where `perf record` keeps one (perf-buildid-cache(1)), or of its debug
+/// file (gdb's manual, "Debugging Information in Separate Files"). `None` where the identification
+/// is empty, or memory is refused.
+fn build_path(alloc: Global, folder: &str, build: &[u8], end: &str) -> Option<String> {
     let (first, others) = build.split_first()?;
-    let folder = hex::encode(alloc, [*first]).ok()?;
-    let name = hex::encode(alloc, others).ok()?;
-    format!(in alloc; "{home}/.debug/.build-id/{folder}/{name}/elf").ok()
+    let first = hex::encode(alloc, [*first]).ok()?;
+    let others = hex::encode(alloc, others).ok()?;
+    format!(in alloc; "{folder}/.build-id/{first}/{others}{end}").ok()
 }
 
 /// Reads `size` bytes from the offset on.

@@ -17,7 +17,7 @@ use Rattle.cfi_elf.specs.Sections.{Section, address_of, by_type, contents, debug
 use Rattle.cfi_elf.specs.Segments.{address_of_offset, bytes_after, eh_frame_hdr_segment, loaded_bytes, program_table, segment_bytes, segment_count, segment_of, wanted_segment}
 use Rattle.cfi_elf.specs.Symbols.{is_function_at}
 use Rattle.cfi_elf.specs.SymbolTables.{Function, SymbolTable, function_at, function_of, is_symbol_named, symbol_address, symbol_section, symbol_table, symbols, symbols_in, symbols_of}
-use Rattle.cfi_elf.specs.FunctionNames.{first_name, function_name, function_place, functions_in, named_functions, place_among}
+use Rattle.cfi_elf.specs.FunctionNames.{best_name, function_name, function_place, functions_in, named_functions, place_among}
 use Rattle.cfi_elf.proofs.SameResults.{Same, is_not_read, same_err, same_first_by, same_if, same_if_found, same_ok, same_or_missing, same_then}
 use Rattle.cfi_elf.proofs.ImageParts.{same_part}
 
@@ -204,7 +204,7 @@ module _ {bytes : List ℕ} (file : File) (of : IsImageOf file.image bytes) wher
     same_named_functions = ap (functions_in file) (same_symbol_table.same read) ∙ same_functions_in (symbol_table all)
 
     pub same_function_name : (address : ℕ) → function_name file address ≡ function_name all address
-    same_function_name address = ap (λ (functions : List Function). first_name functions address) same_named_functions
+    same_function_name address = ap (λ (functions : List Function). best_name functions address) same_named_functions
 
     pub same_function_place : (address : ℕ) → function_place file address ≡ function_place all address
     same_function_place address = ap (λ (functions : List Function). place_among functions address) same_named_functions

@@ -1,4 +1,5 @@
 -- The function that begins nearest at or before an address, found by halving.
+use Rattle.std.specs.Bool.{⊤}
 use Rattle.std.proofs.Common.{◌≡◌, ℕ, zero, suc, ◌-◌, ◌<◌, ◌≤◌, Bool, true, false, List, [], ◌∷◌, length, get_or, map, is_some, IsSome, Option, Some, None, option_and_then, option_map, cond, nat_eq, refl, sym, ap, subst, ◌∙◌, ⊎_elim, arith, eq-eqb, ne_eqb, true≢false}
 use Rattle.std.specs.Prelude.{find}
 use Rattle.std.specs.List.Sorted.{IsNonDecreasingBy}
@@ -6,7 +7,9 @@ use Rattle.std.proofs.lemmas.Bool.{cases_lt, eqb-true}
 use Rattle.cfi_elf.specs.declared.symbols.Function.{Function as FunctionOfCode}
 use Rattle.cfi_elf.specs.Options.{or_else}
 use Rattle.cfi_elf.specs.SymbolTables.{Function, function_view}
-use Rattle.cfi_elf.specs.FunctionNames.{first_at, nearest, place_among}
+use Rattle.std.specs.List.{filter, fold}
+use Rattle.cfi_elf.specs.BestNames.{better_of, is_better}
+use Rattle.cfi_elf.specs.FunctionNames.{best_at, first_at, nearest, place_among, place_at}
 use Rattle.cfi_elf.specs.FunctionPlaces.{place_of}
 use Rattle.cfi_elf.proofs.FunctionLists.{begins_at, find_nowhere, first_at_is}
 
@@ -49,6 +52,17 @@ none_nearest first zero none = none 0 (omega arith)
 none_nearest first (suc a) none =
     ap (λ (o : Option Function). or_else o (nearest first a)) (none (suc a) (omega arith)) ∙ none_nearest first a (λ t upto. none t (omega (arith, upto)))
 
+-- a function that is found at an address begins there
+begins : (fs : List Function) (a : ℕ) (f : Function) → Some f ≡ first_at fs a → f.address ≡ a
+begins [] a f is = cc
+begins (g ∷ gs) a f is = by (nat_eq g.address a) refl is (begins gs a f)
+  where
+    by : (b : Bool) → nat_eq g.address a ≡ b → Some f ≡ cond b (Some g) (first_at gs a) → (Some f ≡ first_at gs a → f.address ≡ a) → f.address ≡ a
+    by true at is after =
+        let same : f ≡ g = cc in
+        ap (λ (x : Function). x.address) same ∙ eqb-true g.address a at
+    by false at is after = after is
+
 -- ---- among functions of which the first k begin at or before an address, and the others behind it
 
 module _ (fs : List FunctionOfCode) (a k : ℕ)
@@ -63,7 +77,7 @@ module _ (fs : List FunctionOfCode) (a k : ℕ)
 
   pub none_begins : k ≡ 0 → None ≡ place_among (map function_view fs) a
   none_begins none =
-      sym (ap (option_and_then (place_of a)) (none_nearest first a (λ t upto_a.
+      sym (ap (option_and_then (place_at (map function_view fs) a)) (none_nearest first a (λ t upto_a.
       no_first t (λ j d inside same. let high = behind j d (omega (arith, none)) inside in omega (arith, high, same, upto_a)))))
 
   -- the last of the first k
@@ -92,27 +106,42 @@ module _ (fs : List FunctionOfCode) (a k : ℕ)
         ∙ (some_viewed (find (begins_at x.address) fs)
         ∙ some_found (begins_at x.address) fs (k - 1) x (omega (arith, some, inside)) (eq-eqb (get_or fs (k - 1) x).address x.address at_x))
 
-    pub none_there : None ≡ first x.address → ⊥
-    none_there none = true≢false (sym (ap is_some none ∙ some_begins))
+    -- so the one that gives the name there is the one by which the address is
+    pub placed : (found : Option Function) → found ≡ best_at (map function_view fs) x.address → option_and_then (place_of a) found ≡ place_among (map function_view fs) a
+    placed found is = by (first x.address) refl some_begins ∙ sym (ap (option_and_then (place_at (map function_view fs) a)) (nearest_is first x.address a begins_before none_between some_begins))
+      where
+        by : (o : Option Function) → first x.address ≡ o → IsSome o → option_and_then (place_of a) found ≡ option_and_then (place_at (map function_view fs) a) o
+        by None e some = absurd (true≢false (sym some))
+        by (Some g) e some =
+            let at : g.address ≡ x.address = begins (map function_view fs) x.address g (sym e) in
+            ap (option_and_then (place_of a)) (is ∙ ap (best_at (map function_view fs)) (sym at))
 
-    -- so what begins there is the nearest
-    pub placed : (found : Option Function) → found ≡ first x.address → option_and_then (place_of a) found ≡ place_among (map function_view fs) a
-    placed found is = ap (option_and_then (place_of a)) (is ∙ sym (nearest_is first x.address a begins_before none_between some_begins))
+-- ---- the best of those at an address begins there
 
--- a function that is found at an address begins there
-begins : (fs : List Function) (a : ℕ) (f : Function) → Some f ≡ first_at fs a → f.address ≡ a
-begins [] a f is = cc
-begins (g ∷ gs) a f is = by (nat_eq g.address a) refl is (begins gs a f)
+abbrev BeginsThere : ℕ → Option Function → Type 0
+BeginsThere a None = ⊤
+BeginsThere a (Some f) = f.address ≡ a
+
+better_begins : (a : ℕ) (o : Option Function) (f : Function) → BeginsThere a o → f.address ≡ a → (better_of o f).address ≡ a
+better_begins a None f there at = at
+better_begins a (Some g) f there at = by (is_better f g)
   where
-    by : (b : Bool) → nat_eq g.address a ≡ b → Some f ≡ cond b (Some g) (first_at gs a) → (Some f ≡ first_at gs a → f.address ≡ a) → f.address ≡ a
-    by true at is after =
-        let same : f ≡ g = cc in
-        ap (λ (x : Function). x.address) same ∙ eqb-true g.address a at
-    by false at is after = after is
+    by : (b : Bool) → (cond b f g).address ≡ a
+    by true = at
+    by false = there
 
-pub found_begins : (fs : List FunctionOfCode) (a : ℕ) (f : Function) → Some f ≡ first_at (map function_view fs) a → f.address ≡ a
-found_begins fs a f is = begins (map function_view fs) a f is
+best_begins : (a : ℕ) (fs : List Function) (o : Option Function) → BeginsThere a o → BeginsThere a (fold (λ found f. Some (better_of found f)) o (filter (λ f. nat_eq f.address a) fs))
+best_begins a [] o there = there
+best_begins a (f ∷ fs) o there = by (nat_eq f.address a) refl (λ o there. best_begins a fs o there)
+  where
+    by : (b : Bool) → nat_eq f.address a ≡ b → ((o : Option Function) → BeginsThere a o → BeginsThere a (fold (λ found f. Some (better_of found f)) o (filter (λ f. nat_eq f.address a) fs)))
+        → BeginsThere a (fold (λ found f. Some (better_of found f)) o (cond b (f ∷ filter (λ f. nat_eq f.address a) fs) (filter (λ f. nat_eq f.address a) fs)))
+    by true at others = others (Some (better_of o f)) (better_begins a o f there (eqb-true f.address a at))
+    by false at others = others o there
+
+pub found_begins : (fs : List FunctionOfCode) (a : ℕ) (f : Function) → Some f ≡ best_at (map function_view fs) a → f.address ≡ a
+found_begins fs a f is = subst (λ (o : Option Function). BeginsThere a o) (sym is) (best_begins a (map function_view fs) None tt)
 
 pub no_functions : (fs : List FunctionOfCode) (a : ℕ) → fs ≡ [] → place_among (map function_view fs) a ≡ None
 no_functions fs a none =
-    ap (λ (xs : List FunctionOfCode). place_among (map function_view xs) a) none ∙ ap (option_and_then (place_of a)) (none_nearest (first_at []) a (λ t upto. refl))
+    ap (λ (xs : List FunctionOfCode). place_among (map function_view xs) a) none ∙ ap (option_and_then (place_at [] a)) (none_nearest (first_at []) a (λ t upto. refl))

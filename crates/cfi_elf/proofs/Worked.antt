@@ -14,7 +14,7 @@ use Rattle.cfi_elf.specs.Segments.{segment_count, program_table, wanted_segment,
 use Rattle.cfi_elf.specs.SegmentLists.{segments}
 use Rattle.cfi_elf.specs.Notes.{build_id, build_id_in, build_id_of, first_note, notes_of, notes_up_to}
 use Rattle.cfi_elf.specs.SymbolTables.{Function}
-use Rattle.cfi_elf.specs.FunctionNames.{first_name, named_function, place_among}
+use Rattle.cfi_elf.specs.FunctionNames.{best_name, named_function, place_among}
 
 -- to name it on an `unfolding` line is to open all these
 unfoldable computing : ℕ
@@ -259,7 +259,7 @@ no_notes_there = refl
 
 -- ---- names of functions
 
-f_at_5 : named_function (0 ∷ 0x66 ∷ 0 ∷ []) (record { st_name = 1; st_value = 5; st_size = 2; st_info = 0x12; st_shndx = 7 }) ≡ Some (record { name = 0x66 ∷ []; address = 5; size = 2 })
+f_at_5 : named_function (0 ∷ 0x66 ∷ 0 ∷ []) (record { st_name = 1; st_value = 5; st_size = 2; st_info = 0x12; st_shndx = 7 }) ≡ Some (record { name = 0x66 ∷ []; address = 5; size = 2; binding = 1 })
 unfolding computing
 f_at_5 = refl
 
@@ -282,18 +282,33 @@ unreadable = refl
 
 abbrev three_functions : List Function
 three_functions =
-    record { name = 0x66 ∷ []; address = 9; size = 1 } ∷ record { name = 0x67 ∷ []; address = 5; size = 1 } ∷ record { name = 0x68 ∷ []; address = 5; size = 2 } ∷ []
+    record { name = 0x66 ∷ []; address = 9; size = 1; binding = 1 } ∷ record { name = 0x67 ∷ []; address = 5; size = 1; binding = 1 } ∷ record { name = 0x68 ∷ []; address = 5; size = 2; binding = 2 } ∷ []
 
-first_of_two : first_name three_functions 5 ≡ Some (0x67 ∷ [])
-first_of_two = refl
+best_of_two : best_name three_functions 5 ≡ Some (0x67 ∷ [])
+best_of_two = refl
 
-inside_a_function : first_name three_functions 6 ≡ None
+inside_a_function : best_name three_functions 6 ≡ None
 inside_a_function = refl
+
+-- names of one function in a C library
+abbrev alias : List ℕ → ℕ → Function
+alias name binding = record { name = name; address = 5; size = 9; binding = binding }
+
+-- fewer underscores, and a longer name
+of_malloc : best_name (alias (codes "__libc_malloc") 1 ∷ alias (codes "malloc") 1 ∷ alias (codes "__GI___libc_malloc") 0 ∷ []) 5 ≡ Some (codes "malloc")
+of_malloc = refl
+
+of_calloc : best_name (alias (codes "__calloc") 1 ∷ alias (codes "__libc_calloc") 1 ∷ []) 5 ≡ Some (codes "__libc_calloc")
+of_calloc = refl
+
+-- a weak name is the last to be taken
+of_readdir : best_name (alias (codes "readdir") 2 ∷ alias (codes "__readdir") 0 ∷ alias (codes "__GI___readdir64") 0 ∷ []) 5 ≡ Some (codes "__GI___readdir64")
+of_readdir = refl
 
 -- ---- by an address in a function's bytes
 
 abbrev nested : List Function
-nested = record { name = 0x66 ∷ []; address = 3; size = 9 } ∷ record { name = 0x67 ∷ []; address = 5; size = 2 } ∷ record { name = 0x68 ∷ []; address = 5; size = 4 } ∷ []
+nested = record { name = 0x66 ∷ []; address = 3; size = 9; binding = 1 } ∷ record { name = 0x67 ∷ []; address = 5; size = 2; binding = 1 } ∷ record { name = 0x68 ∷ []; address = 5; size = 4; binding = 2 } ∷ []
 
 at_the_last_byte : place_among nested 6 ≡ Some (record { name = 0x67 ∷ []; offset = 1 })
 at_the_last_byte = refl

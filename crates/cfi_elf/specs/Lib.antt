@@ -15,6 +15,7 @@ pub mod SegmentLists
 pub mod Notes
 pub mod Symbols
 pub mod SymbolTables
+pub mod BestNames
 pub mod FunctionPlaces
 pub mod FunctionNames
 pub mod RelocationKinds

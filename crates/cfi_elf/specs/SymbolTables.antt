@@ -1,6 +1,6 @@
 -- The symbols of a file, by their names and addresses (System V ABI chapter 4, "Symbol Table").
-use Rattle.std.specs.Prelude.{ℕ, Bool, false, List, [], Option, Some, None, Result, Ok, find, map}
-use Rattle.std.specs.Prelude.{option_map, nat_eq, ◌==◌, if◌then◌else◌}
+use Rattle.std.specs.Prelude.{ℕ, ◌/◌, Bool, false, List, [], Option, Some, None, Result, Ok, find}
+use Rattle.std.specs.Prelude.{map, option_map, nat_eq, ◌==◌, if◌then◌else◌}
 use Rattle.std.specs.Cmp.Lexicographic.{pointwise}
 use Rattle.cfi_elf.specs.declared.error.ElfError.{ElfError}
 use Rattle.cfi_elf.specs.declared.section_header.SectionHeader.{SectionHeader}
@@ -82,20 +82,26 @@ symbol_address file name =
 
 -- ---- by address
 
--- A function's name, address and size.
+-- A function's name, address and size, and how far its name is seen.
 pub record Function : Type 0 where
   pub name : List ℕ
   pub address : ℕ
   pub size : ℕ
+  pub binding : ℕ
 
 -- what a function of the code is
 abbrev pub function_view : FunctionOfCode → Function
-function_view f = record { name = f.name.now; address = f.address; size = f.size }
+function_view f =
+    record { name = f.name.now; address = f.address; size = f.size; binding = f.binding }
+
+-- the symbol as a function with a name (the binding is in the high four bits of st_info)
+abbrev pub function_by : Symbol → List ℕ → Function
+function_by s name =
+    record { name = name; address = s.st_value; size = s.st_size; binding = s.st_info / 16 }
 
 abbrev pub function_of : List ℕ → Symbol → Result Function ElfError
 function_of names s =
-    and_then (name_at names s.st_name)
-    (λ name. Ok (record { name = name; address = s.st_value; size = s.st_size }))
+    and_then (name_at names s.st_name) (λ name. Ok (function_by s name))
 
 -- the first function that has the address
 unfoldable pub function_at : File → ℕ → Result (Option Function) ElfError

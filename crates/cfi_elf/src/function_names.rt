@@ -1,6 +1,7 @@
 //! The names of functions by their addresses.
 ghost use Rattle.std.specs.List.Sorted.{IsNonDecreasingBy};
 
+use crate::best_name::best_of;
 use crate::elf_file::ElfFile;
 use crate::function_place::{FunctionPlace, place_of};
 use crate::symbols::Function;
@@ -16,13 +17,15 @@ pub struct FunctionNames<'input> {
 impl<'input> FunctionNames<'input> {
     ghost use Rattle.std.specs.Prelude.{◌≡◌, ℕ, None, IfOk, option_map};
     ghost use Rattle.cfi_elf.specs.ElfFiles.{file_view};
-    ghost use Rattle.cfi_elf.specs.FunctionNames.{function_name, function_place, name_in};
-    ghost use Rattle.cfi_elf.specs.FunctionNames.{first_in, place_in};
+    ghost use Rattle.cfi_elf.specs.FunctionNames.{best_in, function_name, function_place, name_in};
+    ghost use Rattle.cfi_elf.specs.FunctionNames.{place_in};
     ghost use Rattle.cfi_elf.specs.FunctionPlaces.{place_view};
     ghost use Rattle.cfi_elf.specs.SymbolTables.{function_view};
 
     /// The names of the functions of `ElfFile::functions`. Of several functions that begin at one
-    /// address, the first gives the name.
+    /// address, one with bytes gives the name, then one whose name is global, then one whose name
+    /// isn't weak, with the fewest underscores at its beginning, with the longest name; then the
+    /// first, by the order of the symbols. `perf` chooses so too.
     ///
     /// Fails where memory is refused. Allocates: the functions are sorted once.
     pub fn new(alloc: Global, file: &ElfFile<'input>) -> Result<Self, AllocError>
@@ -51,12 +54,13 @@ impl<'input> FunctionNames<'input> {
     pub fn name_at(&self, address: u64) -> Option<&'input [u8]>
         ensures { option_map (λ name. name.now) result ≡ name_in self.now address }
     {
-        Some(self.first_at(address)?.name)
+        Some(self.best_at(address)?.name)
     }
 
     /// The address by the function that begins at it, or else nearest before it. Of several
-    /// functions that begin there, it is the first. Returns `None` where there is none, and where
-    /// the address is behind the function's last byte: a function of size 0 has no bytes.
+    /// functions that begin there, it is the one that gives the name. Returns `None` where there is
+    /// none, and where the address is behind the function's last byte: a function of size 0 has no
+    /// bytes.
     ///
     /// Found by halving; does not allocate.
     pub fn place_at(&self, address: u64) -> Option<FunctionPlace<'input>>
@@ -69,21 +73,22 @@ impl<'input> FunctionNames<'input> {
             return None;
         }
         let nearest = self.functions.get(count - 1)?;
-        place_of(address, &self.first_at(nearest.address)?)
+        place_of(address, &self.best_at(nearest.address)?)
     }
 
-    /// The first function that begins at the address.
-    fn first_at(&self, address: u64) -> Option<Function<'input>>
-        ensures { option_map function_view result ≡ first_in self.now address }
+    /// The function that begins at the address and gives the name.
+    fn best_at(&self, address: u64) -> Option<Function<'input>>
+        ensures { option_map function_view result ≡ best_in self.now address }
     {
-        let index = self
+        let start = self
             .functions
-            .partition_point(|function| function.address < address);
-        let function = self.functions.get(index)?;
-        if function.address == address {
-            Some(*function)
-        } else {
-            None
+            .partition_point(|other| other.address < address);
+        let end = self
+            .functions
+            .partition_point(|other| other.address <= address);
+        match self.functions.get(start..end) {
+            Some(functions) => best_of(functions),
+            None => None,
         }
     }
 }

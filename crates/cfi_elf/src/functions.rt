@@ -66,5 +66,6 @@ fn named_function<'input>(symbol: &Symbol, names: &'input [u8]) -> Option<Functi
         name,
         address: symbol.st_value,
         size: symbol.st_size,
+        binding: symbol.st_info / 16,
     })
 }

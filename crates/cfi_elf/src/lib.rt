@@ -8,6 +8,7 @@
 //! addresses by name and functions by address, `relocate` gives a relocatable file addresses.
 //! Nothing is copied, and only the lists of functions are allocated.
 
+mod best_name;
 pub mod bytes;
 pub mod elf_file;
 pub mod error;

@@ -35,6 +35,8 @@ pub struct Function<'input> {
     pub address: u64,
     /// The number of bytes (`st_size`).
     pub size: u64,
+    /// How far the name is seen: `STB_LOCAL`, `STB_GLOBAL`, `STB_WEAK` or another number below 16.
+    pub binding: u8,
 }
 
 /// The bytes of the symbols of a file, and the string table with their names.
@@ -80,6 +82,7 @@ impl<'input> ElfFile<'input> {
             name,
             address: symbol.st_value,
             size: symbol.st_size,
+            binding: symbol.st_info / 16,
         }))
     }
 

@@ -5,7 +5,7 @@ use Rattle.std.proofs.lemmas.List.{drop_all}
 use Rattle.std.specs.List.{list_any, position_or_len, prefix_len}
 use Rattle.cfi_processes.specs.declared.profile_files.OpenedFile.{OpenedFile}
 use Rattle.cfi_processes.specs.KnownFiles.{KnownFile}
-use Rattle.cfi_processes.specs.OpenedFiles.{AreFilesOf, AreOpened, IsContents, IsFileOf, Opened, opened_view}
+use Rattle.cfi_processes.specs.OpenedFiles.{AreFilesOf, AreOpened, IsContents, IsDebugOf, IsFileOf, Opened, opened_as, opened_view}
 use Rattle.cfi_processes.specs.declared.wanted.WantedFile.{WantedFile}
 use Rattle.cfi_processes.specs.Wanted.{FilePlace, Wanted, wanted_view}
 
@@ -22,9 +22,6 @@ place_mapped f p xs = prefix_mapped f (λ y. not (p y)) xs
 
 -- ---- opened
 
-abbrev pub opened_as : Wanted → Option (List ℕ) → Opened
-opened_as file bytes = record { name = file.name; build_id = file.build_id; bytes = bytes }
-
 module _ {Handle : Type 0} (may_open : FilePlace → Option Handle → Type 0) (remaining : Handle → Option (List ℕ)) where
   -- with what is opened for the other files, the first are those of all
   pub record OpensOn (all left : List Wanted) (first : List Opened) : Type 0 where
@@ -33,14 +30,15 @@ module _ {Handle : Type 0} (may_open : FilePlace → Option Handle → Type 0) (
   pub none_opened : (all : List Wanted) → OpensOn all all []
   none_opened all = record { opens_on = λ others are. are }
 
-  pub one_opened : (all : List Wanted) (files : List WantedFile) (i : ℕ) (d : WantedFile) (first next : List Opened) (bytes : Option (List ℕ)) → i < length files
-      → next ≡ first ++ opened_as (wanted_view (get_or files i d)) bytes ∷ [] → OpensOn all (map wanted_view (drop i files)) first → IsContents may_open remaining (wanted_view (get_or files i d)) bytes
+  pub one_opened : (all : List Wanted) (files : List WantedFile) (i : ℕ) (d : WantedFile) (first next : List Opened) (bytes debug : Option (List ℕ)) → i < length files
+      → next ≡ first ++ opened_as (wanted_view (get_or files i d)) bytes debug ∷ [] → OpensOn all (map wanted_view (drop i files)) first → IsContents may_open remaining (wanted_view (get_or files i d)) bytes
+      → IsDebugOf may_open remaining bytes debug
       → OpensOn all (map wanted_view (drop (i + 1) files)) next
-  one_opened all files i d first next bytes inside is so contents = record {
+  one_opened all files i d first next bytes debug inside is so contents of_debug = record {
     opens_on = λ others are.
-        let one : Opened = opened_as (wanted_view (get_or files i d)) bytes in
+        let one : Opened = opened_as (wanted_view (get_or files i d)) bytes debug in
         let left : map wanted_view (drop i files) ≡ wanted_view (get_or files i d) ∷ map wanted_view (drop (i + 1) files) = rw (drop-cons files i d, add-one) refl in
-        let whole = so.opens_on (one ∷ others) (subst (λ (files : List Wanted). AreOpened may_open remaining files (one ∷ others)) (sym left) (bytes, others, contents, are, refl)) in
+        let whole = so.opens_on (one ∷ others) (subst (λ (files : List Wanted). AreOpened may_open remaining files (one ∷ others)) (sym left) (bytes, debug, others, contents, of_debug, are, refl)) in
         subst (λ (opened : List Opened). AreOpened may_open remaining all opened) (sym (ap (λ (front : List Opened). front ++ others) is ∙ append_assoc first (one ∷ []) others)) whole;
   }
 

@@ -2,7 +2,7 @@
 --     IsOfFile number file loaded      the module has this number and the call frames of the file
 --     IsOfFiles files loaded      it is of the file that its number counts to
 --     AreOfFiles files modules      each of them is
-use Rattle.std.specs.Prelude.{◌≡◌, ℕ, List, Option, Some, slice_get}
+use Rattle.std.specs.Prelude.{◌≡◌, ℕ, List, Some, slice_get}
 use Rattle.std.specs.List.{All}
 use Rattle.cfi_read_core.specs.SliceReaders.{EndianSlice}
 use Rattle.cfi_read_core.specs.declared.endianity.RunTimeEndian.{RunTimeEndian}

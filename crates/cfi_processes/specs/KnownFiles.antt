@@ -1,7 +1,8 @@
 -- The files of a profile, as far as they can be read, and their code in a process.
 --     KnownCode, code_view      a file's call frames and their compiled table, if it has one, and
 --         those of the code
---     KnownFile, known_view      a file by its name and its code, and that of the code
+--     KnownFile, known_view      a file by its name, its functions and its code, and that of the
+--         code
 --     mapped_at list a      the mapping that has an address
 --     site_of files list a      where an address is: the place in the file, the function and the
 --         file's name
@@ -10,15 +11,13 @@ use Rattle.std.specs.Prelude.{ℕ, List, Option, Some, None, find, option_map, s
 use Rattle.std.specs.List.{filter_map}
 use Rattle.std.specs.Option.{option_and_then}
 use Rattle.cfi_compiled.specs.CompiledTables.{TableContents}
-use Rattle.cfi_elf.specs.FunctionNames.{function_place}
-use Rattle.cfi_elf.specs.FunctionPlaces.{Place as FunctionPlace}
-use Rattle.cfi_elf.specs.Segments.{minus}
 use Rattle.cfi_processes.specs.declared.mappings.MappedCode.{MappedCode}
 use Rattle.cfi_processes.specs.declared.file_code.FileCode.{FileCode}
 use Rattle.cfi_processes.specs.declared.profile_files.ProfileFile.{ProfileFile}
+use Rattle.cfi_processes.specs.FileFunctions.{Functions, function_in, functions_view}
 use Rattle.cfi_processes.specs.Mappings.{has_byte_at, place_in}
 use Rattle.cfi_processes.specs.Modules.{Module}
-use Rattle.cfi_processes.specs.Objects.{Object, bias_of, module_of, object_view}
+use Rattle.cfi_processes.specs.Objects.{Object, module_of, object_view}
 use Rattle.cfi_processes.specs.Sites.{Site}
 
 pub record KnownCode : Type 0 where
@@ -28,17 +27,19 @@ pub record KnownCode : Type 0 where
 abbrev pub code_view : FileCode → KnownCode
 code_view code = record { object = object_view code.object; table = code.table }
 
--- A file by its name, and by its build if that is known: its code is none where it can't be opened
--- or read, is no ELF file, or has no .eh_frame.
+-- A file by its name, and by its build if that is known: it has no functions where it can't be
+-- opened or read, or is no ELF file, and no code also where it has no .eh_frame.
 pub record KnownFile : Type 0 where
   pub name : List ℕ
   pub build_id : Option (List ℕ)
+  pub functions : Option Functions
   pub code : Option KnownCode
 
 abbrev pub known_view : ProfileFile → KnownFile
 known_view file = record {
   name = file.name.bytes.now;
   build_id = option_map (λ id. id.now) file.build_id;
+  functions = option_map functions_view file.functions;
   code = option_map code_view file.code;
 }
 
@@ -50,12 +51,6 @@ mapped_at list a = find (λ mapped. has_byte_at mapped a) list
 abbrev pub file_of : List KnownFile → MappedCode → Option KnownFile
 file_of files mapped = option_and_then (slice_get files) mapped.object
 
--- by the file's symbols, at the address less the bias
-abbrev pub function_in : MappedCode → ℕ → KnownCode → Option FunctionPlace
-function_in mapped a code =
-    option_and_then (λ bias. function_place code.object.file (minus a bias))
-    (bias_of code.object mapped)
-
 -- where no file is mapped
 abbrev pub nowhere : ℕ → Site
 nowhere a = record { place = a; function = None; file = None }
@@ -65,7 +60,7 @@ site_in mapped a None = nowhere a
 site_in mapped a (Some file) =
     record {
       place = (place_in mapped a).offset;
-      function = option_and_then (function_in mapped a) file.code;
+      function = option_and_then (function_in mapped a) file.functions;
       file = Some file.name;
     }
 

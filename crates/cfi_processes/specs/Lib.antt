@@ -8,6 +8,7 @@ pub mod SampleStacks
 pub mod Names
 pub mod ThreadNames
 pub mod Sites
+pub mod FileFunctions
 pub mod KnownFiles
 pub mod FileModules
 pub mod Wanted

@@ -1,7 +1,7 @@
 -- A file of a profile, and the module that it is where a process has mapped it.
 --     Object, object_view      its segments and its call frames, and that of the code
 --     object_of bytes      the file of these bytes, if it has .eh_frame
---     bias_of object mapped      how far its code is moved
+--     bias_in file mapped, bias_of object mapped      how far its code is moved
 --     has_table object      whether a compiled table is made
 --     module_of number object table mapped      the module, with the file's number and this
 --         compiled table, if there is one
@@ -59,9 +59,11 @@ object_of bytes = option_and_then with_frames (result_ok (elf_file bytes))
 
 -- the byte at the first mapped address is that at the offset in the file, which has an address of
 -- the file's own
+abbrev pub bias_in : File → MappedCode → Option ℕ
+bias_in file mapped = option_map (minus mapped.start) (there (address_of_offset file mapped.offset))
+
 abbrev pub bias_of : Object → MappedCode → Option ℕ
-bias_of object mapped =
-    option_map (minus mapped.start) (there (address_of_offset object.file mapped.offset))
+bias_of object mapped = bias_in object.file mapped
 
 -- where each row is else found by a scan
 abbrev pub has_table : Object → Bool

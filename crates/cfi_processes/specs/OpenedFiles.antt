@@ -1,8 +1,9 @@
 -- The files of a profile, as they are opened.
 --     is_file_name name      whether a mapping with the name is of a file
---     Opened, opened_view      a file by its name, its build and its bytes, none where these can't
---         be had, and that of the code
+--     Opened, opened_view      a file by its name, its build, its bytes and its debug file's, none
+--         where these can't be had, and that of the code
 --     IsContents may_open remaining file bytes      what was read of a file that is wanted
+--     IsDebugOf may_open remaining bytes debug      what was read of the debug file of these bytes
 --     AreOpened .. files opened      these files
 --     AreFilesOf opened files      what they are as files of a profile
 use Rattle.std.specs.Prelude.{◌≡◌, ◌⊎◌, ℕ, Bool, true, false, not, ◌&&◌, List, [], ◌∷◌, Option}
@@ -12,14 +13,17 @@ use Rattle.std.specs.Option.{option_and_then}
 use Rattle.cfi_compiled.specs.CompiledTables.{TableContents, IsCompiled}
 use Rattle.cfi_entry.specs.Sections.{Section}
 use Rattle.cfi_processes.specs.declared.profile_files.OpenedFile.{OpenedFile}
+use Rattle.cfi_processes.specs.FileFunctions.{Functions, functions_of}
 use Rattle.cfi_processes.specs.KnownFiles.{KnownCode, KnownFile}
 use Rattle.cfi_processes.specs.Objects.{Object, has_table, object_of}
-use Rattle.cfi_processes.specs.Wanted.{FilePlace, Wanted, at_path, copy_of, has_build}
+use Rattle.cfi_processes.specs.Wanted.{FilePlace, Wanted, at_path, copy_of, debug_of, has_build}
+use Rattle.cfi_processes.specs.Wanted.{id_of}
 
 pub record Opened : Type 0 where
   pub name : List ℕ
   pub build_id : Option (List ℕ)
   pub bytes : Option (List ℕ)
+  pub debug : Option (List ℕ)  -- of its debug file
 
 abbrev pub bytes_view : {A : Type 0} → Option (Vec ℕ A) → Option (List ℕ)
 bytes_view bytes = option_map (λ read. read.items) bytes
@@ -29,7 +33,12 @@ opened_view opened = record {
   name = opened.name.now;
   build_id = option_map (λ id. id.now) opened.build_id;
   bytes = bytes_view opened.bytes;
+  debug = bytes_view opened.debug;
 }
+
+abbrev pub opened_as : Wanted → Option (List ℕ) → Option (List ℕ) → Opened
+opened_as file bytes debug =
+    record { name = file.name; build_id = file.build_id; bytes = bytes; debug = debug }
 
 abbrev pub begins_with : List ℕ → List ℕ → Bool
 begins_with front name = starts_with nat_eq name front
@@ -87,12 +96,21 @@ module _ {Handle : Type 0} (may_open : FilePlace → Option Handle → Type 0)
       ((is_file_name file.name ≡ false) × (bytes ≡ None))
       ⊎ ((is_file_name file.name ≡ true) × IsFound file.name file.build_id bytes)
 
+  -- of a build only a debug file of it
+  abbrev pub IsDebug : Option (List ℕ) → Option (List ℕ) → Type 0
+  IsDebug None debug = debug ≡ None
+  IsDebug (Some build) debug = IsBuild build (debug_of build) debug
+
+  -- the build is what the file itself says
+  abbrev pub IsDebugOf : Option (List ℕ) → Option (List ℕ) → Type 0
+  IsDebugOf bytes debug = IsDebug (option_and_then id_of bytes) debug
+
   abbrev pub AreOpened : List Wanted → List Opened → Type 0
   AreOpened [] opened = opened ≡ []
   AreOpened (file ∷ files) opened =
-      (bytes : Option (List ℕ)) × (others : List Opened) × IsContents file bytes
-      × AreOpened files others
-      × (opened ≡ record { name = file.name; build_id = file.build_id; bytes = bytes } ∷ others)
+      (bytes debug : Option (List ℕ)) × (others : List Opened) × IsContents file bytes
+      × IsDebugOf bytes debug × AreOpened files others
+      × (opened ≡ opened_as file bytes debug ∷ others)
 
 -- ---- as files of a profile
 
@@ -109,9 +127,13 @@ IsCodeOf (Some object) code =
     (table : Option TableContents) × IsTableIf (has_table object) object.section table
     × (code ≡ Some (record { object = object; table = table }))
 
+abbrev pub functions_in : Opened → Option Functions
+functions_in opened = option_and_then (λ bytes. functions_of bytes opened.debug) opened.bytes
+
 abbrev pub IsFileOf : Opened → KnownFile → Type 0
 IsFileOf opened file =
     (file.name ≡ opened.name) × (file.build_id ≡ opened.build_id)
+    × (file.functions ≡ functions_in opened)
     × IsCodeOf (option_and_then object_of opened.bytes) file.code
 
 abbrev pub AreFilesOf : List Opened → List KnownFile → Type 0

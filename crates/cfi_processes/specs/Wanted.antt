@@ -31,10 +31,11 @@ same_id (Some a) (Some b) = bytes_eq a b
 abbrev pub is_same : Wanted → Wanted → Bool
 is_same a b = bytes_eq a.name b.name && same_id a.build_id b.build_id
 
--- at a path, or where the recorder keeps a copy of each build
+-- at a path, where the recorder keeps a copy of each build, or where debug files are
 pub data FilePlace : Type 0 where
   at_path : List ℕ → FilePlace
   copy_of : List ℕ → FilePlace
+  debug_of : List ℕ → FilePlace
 
 -- ---- the build of a file
 

@@ -1,30 +1,22 @@
 //! The code of a file of a profile.
-ghost use Rattle.std.specs.Prelude.{◌≡◌, ℕ};
-ghost use Rattle.cfi_elf.specs.FunctionNames.{function_place, place_in};
-ghost use Rattle.cfi_processes.specs.Objects.{object_view};
 
 use crate::mappings::MappedCode;
 use crate::objects::Object;
 use crate::process_code::FileModule;
 use cfi_compiled::CompiledTable;
-use cfi_elf::{FunctionNames, FunctionPlace};
 use std::alloc::{AllocError, Global};
 
 /// The code of a file of a profile: its call frames, with their compiled table where they have no
-/// header (`Object::has_table`), and the names of its functions.
+/// header (`Object::has_table`).
 #[derive(Drop)]
 pub struct FileCode<'run> {
     object: Object<'run>,
     table: Option<CompiledTable>,
-    functions: FunctionNames<'run>,
-    ghost named: { (address : ℕ)
-        → place_in functions address ≡ function_place (object_view object).file address },
 }
 
 impl<'run> FileCode<'run> {
     ghost use Rattle.std.specs.Prelude.{◌≡◌, Some, IfOk, IfSome, option_map};
-    ghost use Rattle.cfi_elf.specs.FunctionPlaces.{place_view};
-    ghost use Rattle.cfi_processes.specs.KnownFiles.{code_view, function_in};
+    ghost use Rattle.cfi_processes.specs.KnownFiles.{code_view};
     ghost use Rattle.cfi_processes.specs.Modules.{module_view};
     ghost use Rattle.cfi_processes.specs.Objects.{HasFramesOf, module_of, object_view};
     ghost use Rattle.cfi_processes.specs.OpenedFiles.{IsCodeOf, IsTableIf};
@@ -34,13 +26,8 @@ impl<'run> FileCode<'run> {
         ensures { IfOk result (λ code.
             IsCodeOf (Some (object_view object.entry)) (Some (code_view code))) }
     {
-        let functions = FunctionNames::new(alloc, &object.file())?;
         let table = Self::table_if(alloc, &object, object.has_table())?;
-        Ok(FileCode {
-            object,
-            table,
-            functions,
-        })
+        Ok(FileCode { object, table })
     }
 
     /// The module that the file is where it is mapped, with the file's number
@@ -51,15 +38,6 @@ impl<'run> FileCode<'run> {
         ensures frames { IfSome result (HasFramesOf number self.now.object) }
     {
         self.object.module(number, self.table.as_ref(), mapped)
-    }
-
-    /// The function that has an address of a process, where the file is mapped. Does not allocate.
-    pub fn function_at(&self, mapped: &MappedCode, address: u64) -> Option<FunctionPlace<'run>>
-        ensures { option_map place_view result
-            ≡ function_in mapped.now address (code_view self.now) }
-    {
-        let bias = self.object.bias(mapped)?;
-        self.functions.place_at(address.wrapping_sub(bias))
     }
 
     /// The compiled table of an object, if it has one.

@@ -1,5 +1,7 @@
 //! Files of a profile as modules: their call frames, where a process has mapped them.
 ghost use Rattle.std.specs.Prelude.{◌≡◌, ⊤};
+ghost use Rattle.cfi_elf.specs.ElfFiles.{file_view};
+ghost use Rattle.cfi_processes.specs.Objects.{bias_in};
 
 use crate::mappings::MappedCode;
 use cfi_compiled::CompiledTable;
@@ -89,10 +91,7 @@ impl<'file> Object<'file> {
     pub fn bias(&self, mapped: &MappedCode) -> Option<u64>
         ensures { result ≡ bias_of (object_view self.now) mapped.now }
     {
-        match self.file.address_of_offset(mapped.offset) {
-            Ok(Some(address)) => Some(mapped.start.wrapping_sub(address)),
-            _ => None,
-        }
+        bias_in(&self.file, mapped)
     }
 
     /// Whether the file has a compiled table: where it has no header, so that each row that isn't
@@ -154,5 +153,15 @@ impl<'file> Object<'file> {
             bases: self.bases,
             compiled: table,
         }
+    }
+}
+
+/// How far a file's code is moved where it is mapped (`Object::bias`). Does not allocate.
+pub fn bias_in(file: &ElfFile<'_>, mapped: &MappedCode) -> Option<u64>
+    ensures { result ≡ bias_in (file_view file.now) mapped.now }
+{
+    match file.address_of_offset(mapped.offset) {
+        Ok(Some(address)) => Some(mapped.start.wrapping_sub(address)),
+        _ => None,
     }
 }

@@ -2,7 +2,8 @@
 ghost use Rattle.std.specs.Prelude.{◌≡◌, ◌++◌, IfOk, IfSome, OnOk, Some, map, option_map, true};
 ghost use Rattle.std.specs.Option.{option_and_then};
 ghost use Rattle.cfi_elf.specs.FunctionPlaces.{place_view};
-ghost use Rattle.cfi_processes.specs.KnownFiles.{file_of, function_in, known_view, mapped_at};
+ghost use Rattle.cfi_processes.specs.FileFunctions.{function_in};
+ghost use Rattle.cfi_processes.specs.KnownFiles.{file_of, known_view, mapped_at};
 ghost use Rattle.cfi_processes.specs.KnownFiles.{module_at, module_in, modules_in};
 ghost use Rattle.cfi_processes.specs.KnownFiles.{nowhere, site_in, site_of};
 ghost use Rattle.cfi_processes.specs.FileModules.{AreOfFiles, IsOfFile, IsOfFiles};
@@ -178,10 +179,10 @@ fn function_in<'run>(
     address: u64,
 ) -> Option<FunctionPlace<'run>>
     ensures { option_map place_view result
-        ≡ option_and_then (function_in mapped.now address) (known_view file.now).code }
+        ≡ option_and_then (function_in mapped.now address) (known_view file.now).functions }
 {
-    match &file.code {
-        Some(code) => code.function_at(mapped, address),
+    match &file.functions {
+        Some(functions) => functions.function_at(mapped, address),
         None => None,
     }
 }

@@ -1,19 +1,22 @@
 //! The files that a profile's mappings name.
 ghost use Rattle.std.specs.Prelude.{◌≡◌, Option, Some, IfOk, OnOk, map, option_map};
 ghost use Rattle.cfi_perf.specs.Events.{mapping_view, record_view};
+ghost use Rattle.cfi_processes.specs.FileFunctions.{functions_view};
 ghost use Rattle.cfi_processes.specs.KnownFiles.{code_view, known_view};
 ghost use Rattle.cfi_processes.specs.Objects.{object_of};
 ghost use Rattle.cfi_processes.specs.OpenedFiles.{AreFilesOf, AreOpened, IsBuild, IsBuildOf};
-ghost use Rattle.cfi_processes.specs.OpenedFiles.{IsCodeOf, IsContents, IsFileOf, IsFound};
+ghost use Rattle.cfi_processes.specs.OpenedFiles.{IsCodeOf, IsContents, IsDebug, IsDebugOf};
+ghost use Rattle.cfi_processes.specs.OpenedFiles.{IsFileOf, IsFound, functions_in};
 ghost use Rattle.cfi_processes.specs.OpenedFiles.{IsReadOf, IsReading, bytes_view, if_built};
 ghost use Rattle.cfi_processes.specs.OpenedFiles.{is_file_name, opened_view};
 ghost use Rattle.cfi_processes.specs.Replays.{code_file, is_among, is_of, wanted_of, with_file};
-ghost use Rattle.cfi_processes.specs.Wanted.{FilePlace, at_path, copy_of, wanted_view};
+ghost use Rattle.cfi_processes.specs.Wanted.{FilePlace, at_path, copy_of, debug_of, wanted_view};
 
 use crate::file_code::FileCode;
+use crate::file_functions::FileFunctions;
 use crate::names::Name;
 use crate::objects::Object;
-use crate::wanted::{WantedFile, has_build, same_id};
+use crate::wanted::{WantedFile, has_build, id_of, same_id};
 use cfi_object::input::{InputError, read_all};
 use cfi_perf::{Event, Mapping, Record};
 use std::alloc::{AllocError, Global};
@@ -40,6 +43,11 @@ pub trait Opener {
     fn open_copy(&self, build: &[u8]) -> Option<Self::File>
         ensures { may_open self.now (copy_of build.now) result };
 
+    /// Opens the debug file of the file of this build, which has the symbols that the file itself
+    /// was stripped of; `None` where it can't be opened. Says nothing.
+    fn open_debug(&self, build: &[u8]) -> Option<Self::File>
+        ensures { may_open self.now (debug_of build.now) result };
+
     /// Says that for the file with this name none of the profile's build was found.
     fn tell_missing(&self, name: &[u8]);
 }
@@ -54,15 +62,20 @@ pub struct OpenedFile<'run> {
     /// Its bytes; `None` where it can't be opened or read, or the name is none of a file; where the
     /// build is known, also where no file of it was found.
     pub bytes: Option<Vec<u8>>,
+    /// The bytes of its debug file; `None` where it can't be opened or read, or is of another
+    /// build.
+    pub debug: Option<Vec<u8>>,
 }
 
-/// A file of a profile: its name, and its code if it could be read.
+/// A file of a profile: its name, and its functions and its code if it could be read.
 #[derive(Drop)]
 pub struct ProfileFile<'run> {
     /// The name, as the mappings have it.
     pub name: Name<'run>,
     /// The identification of its build, if it is known.
     pub build_id: Option<&'run [u8]>,
+    /// Its functions; `None` where it can't be opened or read, or is no ELF file.
+    pub functions: Option<FileFunctions<'run>>,
     /// Its code; `None` where it can't be opened or read, is no ELF file, or has no `.eh_frame`.
     pub code: Option<FileCode<'run>>,
 }
@@ -133,7 +146,8 @@ fn is_among(files: &[WantedFile<'_>], file: &WantedFile<'_>) -> bool
 }
 
 /// Opens and reads the files. Of a build that is known only a file of it is taken: the one at the
-/// path, or else the copy that the recorder kept. Fails where memory is refused.
+/// path, or else the copy that the recorder kept. Also reads the debug file of each file that says
+/// of which build it is. Fails where memory is refused.
 pub fn read_files<'run, O: Opener>(
     alloc: Global,
     opener: &O,
@@ -145,13 +159,45 @@ pub fn read_files<'run, O: Opener>(
     let mut opened = Vec::new(alloc);
     for file in files {
         let bytes = read_file(alloc, opener, file)?;
+        let debug = read_debug(alloc, opener, &bytes)?;
         opened.push(OpenedFile {
             name: file.name,
             build_id: file.build_id,
             bytes,
+            debug,
         })?;
     }
     Ok(opened)
+}
+
+/// Reads the debug file of a file of these bytes.
+fn read_debug<O: Opener>(
+    alloc: Global,
+    opener: &O,
+    bytes: &Option<Vec<u8>>,
+) -> Result<Option<Vec<u8>>, AllocError>
+    ensures { IfOk result (λ debug. IsDebugOf (O.may_open opener.now) O.File.remaining
+        (bytes_view bytes.now) (bytes_view debug)) }
+{
+    match bytes {
+        Some(bytes) => read_debug_of(alloc, opener, id_of(bytes.as_slice())),
+        None => Ok(None),
+    }
+}
+
+/// Reads the debug file of the file of a build, if it is of the build.
+fn read_debug_of<O: Opener>(
+    alloc: Global,
+    opener: &O,
+    build: Option<&[u8]>,
+) -> Result<Option<Vec<u8>>, AllocError>
+    ensures { IfOk result (λ debug. IsDebug (O.may_open opener.now) O.File.remaining
+        (option_map (λ build. build.now) build.entry) (bytes_view debug)) }
+{
+    match build {
+        Some(build) => read_build(alloc, build, opener.open_debug(build)),
+        None => Ok(None),
+    }
 }
 
 /// Opens and reads a file.
@@ -294,6 +340,7 @@ fn profile_file<'opened>(
 ) -> Result<ProfileFile<'opened>, AllocError>
     ensures { IfOk result (λ file. IsFileOf (opened_view opened.now) (known_view file)) }
 {
+    let functions = functions_of(alloc, opened)?;
     let code = match &opened.bytes {
         Some(bytes) => code_of(alloc, bytes.as_slice())?,
         None => None,
@@ -301,8 +348,33 @@ fn profile_file<'opened>(
     Ok(ProfileFile {
         name: Name::new(opened.name),
         build_id: opened.build_id,
+        functions,
         code,
     })
+}
+
+/// The functions of a file that was opened.
+fn functions_of<'opened>(
+    alloc: Global,
+    opened: &'opened OpenedFile<'_>,
+) -> Result<Option<FileFunctions<'opened>>, AllocError>
+    ensures { IfOk result (λ functions. option_map functions_view functions
+        ≡ functions_in (opened_view opened.now)) }
+{
+    match &opened.bytes {
+        Some(bytes) => FileFunctions::of(alloc, bytes.as_slice(), slice_of(&opened.debug)),
+        None => Ok(None),
+    }
+}
+
+/// The bytes that were read, if they were.
+fn slice_of(bytes: &Option<Vec<u8>>) -> Option<&[u8]>
+    ensures { option_map (λ slice. slice.now) result ≡ bytes_view bytes.now }
+{
+    match bytes {
+        Some(bytes) => Some(bytes.as_slice()),
+        None => None,
+    }
 }
 
 /// The code of the file that these bytes are.

@@ -253,3 +253,40 @@ fn cut_records(rt: HostRuntime) -> Result<(), Fail> {
     );
     Ok(())
 }
+
+const SENTENCES: [(PerfError, &str); 13] = [
+    (PerfError::NotPerf, "not a profile of perf record"),
+    (PerfError::PipeMode, "the profile was written to a pipe"),
+    (PerfError::HeaderCut, "the profile ends in its header"),
+    (PerfError::HeaderSize(5), "a header of size 5"),
+    (PerfError::AttributeSize(64), "events of size 64"),
+    (
+        PerfError::AttributesOutOfBounds,
+        "the events go past the file's end",
+    ),
+    (PerfError::NoEvents, "the profile has no events"),
+    (
+        PerfError::MixedEvents,
+        "the events' samples have different fields",
+    ),
+    (
+        PerfError::DataOutOfBounds,
+        "the file ends before the records do",
+    ),
+    (
+        PerfError::FeatureOutOfBounds,
+        "a feature goes past the file's end",
+    ),
+    (PerfError::RecordSize(7), "a record of size 7"),
+    (PerfError::RecordCut, "a record ends in its fields"),
+    (PerfError::Compressed, "the records are compressed"),
+];
+
+#[test]
+fn sentences(rt: HostRuntime) -> Result<(), Fail> {
+    for (error, sentence) in &SENTENCES {
+        let text = error.to_string(rt.alloc())?;
+        assert_eq!(rt; text.as_str(), *sentence);
+    }
+    Ok(())
+}

@@ -188,6 +188,10 @@ impl<'a> Opener for OneFile<'a> {
         None
     }
 
+    fn open_debug(&self, _build: &[u8]) -> Option<&'a [u8]> {
+        None
+    }
+
     fn tell_missing(&self, _name: &[u8]) {}
 }
 

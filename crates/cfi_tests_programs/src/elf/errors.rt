@@ -161,9 +161,68 @@ fn each_error(rt: HostRuntime) -> Result<(), Fail> {
     check(&rt, &OF_THE_TABLES)
 }
 
-const SENTENCES: [(ElfError, &str); 2] = [
-    (ElfError::Compressed, "the section is compressed"),
+const SENTENCES: [(ElfError, &str); 25] = [
+    (ElfError::NotElf, "not an ELF file"),
+    (ElfError::HeaderCut, "the file ends in its header"),
+    (ElfError::UnknownClass(3), "unknown class 3"),
+    (ElfError::UnknownDataEncoding(7), "unknown data encoding 7"),
+    (ElfError::UnknownVersion(9), "unknown version 9"),
+    (ElfError::Relocatable, "a relocatable file has no addresses"),
+    (ElfError::Core, "a core file has no sections"),
+    (ElfError::NotCore(3), "not a core file, but of type 3"),
     (ElfError::SectionEntrySize(65), "section headers of size 65"),
+    (
+        ElfError::SectionTableOutOfBounds,
+        "the section header table goes past the file's end",
+    ),
+    (
+        ElfError::NoNameSection(12),
+        "there is no section header for names at index 12",
+    ),
+    (
+        ElfError::SectionOutOfBounds,
+        "a section goes past the file's end",
+    ),
+    (ElfError::Compressed, "the section is compressed"),
+    (
+        ElfError::NameOutOfBounds,
+        "a name is not in its string table",
+    ),
+    (ElfError::NameNotTerminated, "a name is not terminated"),
+    (ElfError::ProgramEntrySize(33), "program headers of size 33"),
+    (
+        ElfError::ProgramTableOutOfBounds,
+        "the program header table goes past the file's end",
+    ),
+    (
+        ElfError::SegmentOutOfBounds,
+        "a segment goes past the file's end",
+    ),
+    (ElfError::NoteCut, "a note is cut"),
+    (
+        ElfError::NotRelocatable(2),
+        "not a relocatable file, but of type 2",
+    ),
+    (
+        ElfError::UnknownRelocation(77),
+        "unknown relocation type 77",
+    ),
+    (
+        ElfError::RelocationOutOfBounds,
+        "a relocation goes past the section's end",
+    ),
+    (
+        ElfError::NoRelocationSymbol(5),
+        "a relocation has no symbol at index 5",
+    ),
+    (
+        ElfError::ExtendedSectionIndex,
+        "the section of a symbol has an extended index",
+    ),
+    (
+        ElfError::NotRead { offset: 1, size: 2 },
+        "bytes of the file have not been read",
+    ),
 ];
 
 #[test]

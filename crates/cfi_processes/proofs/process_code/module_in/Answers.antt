@@ -1,4 +1,3 @@
-use Rattle.std.proofs.Common.{sym}
 use Rattle.cfi_processes.proofs.ModuleLemmas.{of_file}
 use Rattle.cfi_processes.proofs.process_code.module_in.Goals as goal
 

@@ -17,9 +17,9 @@ loop-file-preserved g c =
     let i = c.loop-file.file-index in
     let before = c.loop-file.opened.items in
     let file = get_or files i no_file in
-    let one : OpenedFile = record { name = file.name; build_id = file.build_id; bytes = c.in_ok-bytes.bytes } in
-    one_opened _ _ (map wanted_view files) files i no_file (map opened_view before) (map opened_view c.push.new.self.items) (bytes_view c.in_ok-bytes.bytes) c.loop-file-test.true
-    (ap (map opened_view) {x = c.push.new.self.items} {y = before ++ one ∷ []} c.in_ok-push.ensures.items ∙ map_push opened_view before one) c.loop-file.invariant c.in_ok-bytes.ensures
+    let one : OpenedFile = record { name = file.name; build_id = file.build_id; bytes = c.in_ok-bytes.bytes; debug = c.in_ok-debug.debug } in
+    one_opened _ _ (map wanted_view files) files i no_file (map opened_view before) (map opened_view c.push.new.self.items) (bytes_view c.in_ok-bytes.bytes) (bytes_view c.in_ok-debug.debug) c.loop-file-test.true
+    (ap (map opened_view) {x = c.push.new.self.items} {y = before ++ one ∷ []} c.in_ok-push.ensures.items ∙ map_push opened_view before one) c.loop-file.invariant c.in_ok-bytes.ensures c.in_ok-debug.ensures
 
 pub returns : goal.returns
 unfolding no_file

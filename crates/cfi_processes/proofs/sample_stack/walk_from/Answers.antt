@@ -1,6 +1,4 @@
 use Rattle.std.proofs.Common.{ℕ, Option, subst}
-use Rattle.cfi_read_core.specs.ByteOrder.{is_big}
-use Rattle.cfi_read_core.specs.SliceReaders.{slice_position}
 use Rattle.cfi_expression.specs.Windows.{number_in}
 use Rattle.cfi_step.specs.ModuleLists.{module_list}
 use Rattle.cfi_processes.specs.SampleStacks.{IsWalkOver}

@@ -1,7 +1,8 @@
-use Rattle.std.proofs.Common.{◌-◌, ◌<◌, ◌≤◌, length, nat_le, sym, ◌∙◌, arith, rules}
+use Rattle.std.proofs.Common.{ap, option_map, ◌-◌, ◌<◌, ◌≤◌, length, nat_le, sym, ◌∙◌, arith, rules}
 use Rattle.std.proofs.lemmas.Bool.{leb-true, leb-false, ltb-true}
 use Rattle.std.proofs.lemmas.List.Sorted.{IsPartitionedBy-leb, IsPartitionPoint-from_clause}
-use Rattle.cfi_elf.proofs.NearestFunctions.{begins_before, found_begins, none_begins, none_there, placed}
+use Rattle.cfi_elf.specs.FunctionPlaces.{place_view}
+use Rattle.cfi_elf.proofs.NearestFunctions.{begins_before, found_begins, none_begins, placed}
 use Rattle.cfi_elf.proofs.function_names.FunctionNames.place_at.Goals as goal
 
 pub returns-then-count-eq0 : goal.returns-then-count-eq0
@@ -13,8 +14,8 @@ returns-then-count-eq0 c =
     let point = IsPartitionPoint-from_clause (λ f. nat_le f.address a) fs k split (IsPartitionedBy-leb (λ f. f.address) fs a c.args.self.now.sorted) (λ b r f k. search rules) in
     none_begins fs a k (λ j d less inside. leb-true _ _ (point.0 j d (omega arith) less)) (λ j d up inside. leb-false _ _ (point.1 j d up inside)) c.if-count-eq0.true
 
-pub returns-in_err-first_at : goal.returns-in_err-first_at
-returns-in_err-first_at c =
+pub returns-in_err-best_at : goal.returns-in_err-best_at
+returns-in_err-best_at c =
     let fs = c.args.self.now.functions.items in
     let a = c.args.address in
     let k = c.partition_point-count.result in
@@ -25,7 +26,8 @@ returns-in_err-first_at c =
     let last = ltb-true (k - 1) (length fs) (sym lookup.0) in
     let some : 0 < k = omega arith in
     let inside : k ≤ length fs = omega (arith, last, some) in
-    absurd (none_there fs a k (λ j d less inside. leb-true _ _ (point.0 j d (omega arith) less)) (λ j d up inside. leb-false _ _ (point.1 j d up inside)) x some inside lookup.1 c.args.self.now.sorted c.in_err-first_at.ensures)
+    ap (option_map place_view) c.from_residual-in_err-best_at.ensures
+    ∙ placed fs a k (λ j d less inside. leb-true _ _ (point.0 j d (omega arith) less)) (λ j d up inside. leb-false _ _ (point.1 j d up inside)) x some inside lookup.1 c.args.self.now.sorted _ c.in_err-best_at.ensures
 
 pub place_of-requires : goal.place_of-requires
 place_of-requires c =
@@ -40,7 +42,7 @@ place_of-requires c =
     let some : 0 < k = omega arith in
     let inside : k ≤ length fs = omega (arith, last, some) in
     let low = begins_before fs a k (λ j d less inside. leb-true _ _ (point.0 j d (omega arith) less)) (λ j d up inside. leb-false _ _ (point.1 j d up inside)) x some inside lookup.1 c.args.self.now.sorted in
-    let at = found_begins fs x.address _ c.in_ok-first_at.ensures in
+    let at = found_begins fs x.address _ c.in_ok-best_at.ensures in
     omega (arith, low, at)
 
 pub returns : goal.returns
@@ -55,4 +57,4 @@ returns c =
     let last = ltb-true (k - 1) (length fs) (sym lookup.0) in
     let some : 0 < k = omega arith in
     let inside : k ≤ length fs = omega (arith, last, some) in
-    c.place_of.ensures ∙ placed fs a k (λ j d less inside. leb-true _ _ (point.0 j d (omega arith) less)) (λ j d up inside. leb-false _ _ (point.1 j d up inside)) x some inside lookup.1 c.args.self.now.sorted _ c.in_ok-first_at.ensures
+    c.place_of.ensures ∙ placed fs a k (λ j d less inside. leb-true _ _ (point.0 j d (omega arith) less)) (λ j d up inside. leb-false _ _ (point.1 j d up inside)) x some inside lookup.1 c.args.self.now.sorted _ c.in_ok-best_at.ensures

@@ -1,5 +1,4 @@
-use Rattle.std.proofs.Common.{◌≡◌, ◌∙◌, List, ap, map, sym, subst}
-use Rattle.cfi_step.specs.declared.module.LoadedModule.{LoadedModule}
+use Rattle.std.proofs.Common.{◌∙◌, ap, map, sym, subst}
 use Rattle.cfi_processes.specs.FileModules.{AreOfFiles}
 use Rattle.cfi_processes.specs.KnownFiles.{known_view}
 use Rattle.cfi_processes.proofs.ModuleLemmas.{module_appended, no_module, one_more_module}
