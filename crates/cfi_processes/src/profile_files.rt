@@ -48,7 +48,7 @@ pub trait Opener {
     fn open_debug(&self, build: &[u8]) -> Option<Self::File>
         ensures { may_open self.now (debug_of build.now) result };
 
-    /// Says that for the file with this name none of the profile's build was found.
+    /// Says that for the file with this name none of the build that ran was found.
     fn tell_missing(&self, name: &[u8]);
 }
 

@@ -51,8 +51,9 @@ pub fn has_build(build: &[u8], bytes: &[u8]) -> bool
     }
 }
 
-/// The identification of the build of the file of these bytes: its note `NT_GNU_BUILD_ID`. Returns
-/// `None` where it is no ELF file, or has none that can be read. Does not allocate.
+/// Returns the identification of the build of the ELF file that these bytes are, or begin: what its
+/// note `NT_GNU_BUILD_ID` says. `None` where there is no such note, or it can't be read
+/// (`cfi_elf::ElfFile::build_id`). Does not allocate.
 pub fn id_of(bytes: &[u8]) -> Option<&[u8]>
     ensures { option_map (λ id. id.now) result ≡ id_of bytes.now }
 {
