@@ -1,5 +1,6 @@
 /* Unwinds stacks whose frames were worked out by hand, through the C library, by cfi_unwind and by cfi_step again and again, and
- * prints which differ. Each step is also made by cfi_step_cached: without a cache, by one that is empty, and by one with the row. The bytes behind the frames are checked. Linked with --wrap=malloc, --wrap=realloc, --wrap=free. */
+ * prints which differ. Each step is also made by cfi_step_cached: without a cache, by one that is empty, and by one with the row; and in
+ * place, by cfi_step_held. The bytes behind the frames are checked. Linked with --wrap=malloc, --wrap=realloc, --wrap=free. */
 #include <inttypes.h>
 #include <stdio.h>
 #include <stdlib.h>
@@ -186,8 +187,35 @@ static uint64_t file_of(const CfiModule *module, const CfiMemory *memory) {
 }
 
 static CfiCache cache;
+static unsigned held; /* how many steps were made in place */
 
 /* Whether the step with a cache is that without: by none, by an empty one, and by the row that it then has. */
+/* Whether the step in place is the one that is due, or isn't made because no row is kept. */
+static int is_held(uint64_t file, const CfiMemory *memory, const CfiFrame *frame, const CfiValue *registers, size_t count,
+                   const Step *due) {
+    Step step, before;
+    memset(&step, 0, sizeof step);
+    for (size_t k = 0; k < count && k < REGISTERS; k++)
+        step.registers[k] = registers[k];
+    before = step;
+    int is_made = cfi_step_held(&cache, file, memory, frame->pc, frame->is_interrupted, step.registers, count, &step.function,
+                                &step.caller, &step.end);
+    if (!is_made || (step.end.kind != CFI_END_NONE && step.end.kind != CFI_END_OUTERMOST))
+        for (size_t k = 0; k < REGISTERS; k++)
+            if (!is_value(&step.registers[k], &before.registers[k]))
+                return 0;
+    if (!is_made)
+        return step.caller.cfa == 0 && step.caller.pc == 0;
+    step.kind = step.end.kind;
+    for (size_t k = 0; k < REGISTERS; k++)
+        if (step.kind != CFI_END_NONE && step.kind != CFI_END_OUTERMOST)
+            step.registers[k] = due->registers[k];
+        else if (!step.registers[k].known)
+            step.registers[k].value = 0;
+    held++;
+    return is_step(&step, due);
+}
+
 static int is_cached(CfiContext *context, uint64_t file, const CfiModule *module, const CfiMemory *memory, const CfiFrame *frame,
                      const CfiValue *registers, size_t count) {
     CfiCache none = {0}, *caches[4] = {NULL, &none, &cache, &cache};
@@ -197,7 +225,7 @@ static int is_cached(CfiContext *context, uint64_t file, const CfiModule *module
         steps[i] = step_of(context, caches[i], file, module, memory, frame, registers, count);
         same = same && is_step(&steps[i], &steps[0]);
     }
-    return same;
+    return same && (!context->live || is_held(file, memory, frame, registers, count, &steps[0]));
 }
 
 /* A CIE as the first one, and an FDE 0x1000 to 0x1010 whose row has seven rules, with a CFA of r7 and a number that is to come. */
@@ -344,6 +372,7 @@ int main(void) {
     check_many_rules(&context);
     cfi_cache_free(&cache);
     cfi_context_free(&context);
+    failures += held == 0;
     printf("c library: %d worked stacks, %d failures\n", stacks, failures);
     return failures != 0;
 }

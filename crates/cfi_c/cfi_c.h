@@ -10,8 +10,8 @@
  * A table is made of one section, by cfi_table_new, asked for any number of addresses, and freed by cfi_table_free. Only
  * the first takes memory. Whoever asks one section for many addresses makes a table of it.
  *
- * A cache is made by cfi_cache_new, used by cfi_step_cached, and freed by cfi_cache_free. Only the first takes memory. Whoever
- * steps from frames of the same places again and again has one.
+ * A cache is made by cfi_cache_new, used by cfi_step_cached and cfi_step_held, and freed by cfi_cache_free. Only the first takes
+ * memory. Whoever steps from frames of the same places again and again has one.
  *
  * All other memory is the caller's, and is read or written only during a call; nothing of it is kept. Pointers are not
  * null, also where a length is 0 and in structs, and what is written overlaps nothing else that is handed in. What they
@@ -243,7 +243,7 @@ typedef enum {
     CFI_END_TOO_MANY_ITERATIONS = 14,
     CFI_END_ARCHITECTURAL_RULE = 15,
     CFI_END_NOT_WALKED = 16, /* no frame is written: status is CFI_NoContext, or CFI_UnsupportedAddressSize: the size */
-    CFI_END_NONE = 17        /* by cfi_step and cfi_step_cached alone: there is a caller */
+    CFI_END_NONE = 17        /* by cfi_step, cfi_step_cached and cfi_step_held alone: there is a caller */
 } CfiEndKind;
 
 typedef struct {
@@ -371,6 +371,14 @@ uint32_t cfi_step_cached(CfiContext *context, CfiCache *cache, uint64_t file, co
                          uint64_t pc, bool is_interrupted, const CfiValue *registers, size_t registers_len,
                          CfiValue *caller_registers, size_t caller_registers_len, CfiFunction *function, CfiCaller *caller,
                          CfiEnd *end);
+
+/* The step of cfi_step_cached if the cache has the row of the frame, with the registers of the caller in the place of those of
+ * the frame. Returns whether it has; the kind is in end. What is known of the registers, the function, the caller and the end
+ * are then what cfi_step writes; the value of a register that isn't known is open. Else the registers and the caller stay as
+ * they were, and cfi_step_cached makes the step, and keeps the row. With more than 256 registers, or if addresses don't have 8
+ * bytes, it returns false. file is that of cfi_step_cached. */
+bool cfi_step_held(CfiCache *cache, uint64_t file, const CfiMemory *memory, uint64_t pc, bool is_interrupted,
+                   CfiValue *registers, size_t registers_len, CfiFunction *function, CfiCaller *caller, CfiEnd *end);
 
 /* Writes the name of a status, as in "UnexpectedEof", and a zero after it, as far as there is room. Returns how long the name
  * is, without the zero; 64 bytes have room for each. "Unknown" for a number that is no status. */

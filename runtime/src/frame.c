@@ -107,6 +107,21 @@ static inline uint32_t step_once(struct workspace *workspace, struct walk *walk,
                            frame->registers, REGISTERS, walk->up->registers, REGISTERS, &walk->facts, &walk->caller, end);
 }
 
+/* The same by a row that is kept, if there is one: over a copy of the registers. */
+static inline bool step_by_kept(struct workspace *workspace, struct walk *walk, uint64_t file, CfiEnd *end) {
+    const struct _Unwind_Context *frame = walk->frame;
+    CfiValue *registers = walk->up->registers;
+    CfiMemory memory = memory_of(workspace->view.list, workspace->view.count);
+#pragma GCC unroll 128
+    for (int k = 0; k < REGISTERS; k++)
+        if (k != RETURN_ADDRESS) /* it was written in two parts just now, which is slow to read in one */
+            registers[k] = frame->registers[k];
+    registers[RETURN_ADDRESS].value = frame->registers[RETURN_ADDRESS].value;
+    registers[RETURN_ADDRESS].known = frame->registers[RETURN_ADDRESS].known;
+    return cfi_step_held(&workspace->cache, file, &memory, frame->pc, frame->is_interrupted, registers, REGISTERS, &walk->facts,
+                         &walk->caller, end);
+}
+
 /* What comes of a step that ended so. If it named memory that was not known, that is looked for, and it steps again. */
 static __attribute__((noinline)) enum found look_again(struct workspace *workspace, struct walk *walk,
                                                        const CfiModule *module, uint64_t file, uint32_t kind, CfiEnd *end) {
@@ -133,7 +148,11 @@ static inline __attribute__((always_inline)) enum found step_with(struct workspa
     if (workspace->first_steps && !--workspace->first_steps)
         enlarge_cache(workspace);
     look_from(workspace, walk->frame->cfa);
-    uint32_t kind = step_once(workspace, walk, module, file, &end);
+    uint32_t kind;
+    if (step_by_kept(workspace, walk, file, &end))
+        kind = end.kind;
+    else
+        kind = step_once(workspace, walk, module, file, &end);
     if (kind == CFI_END_NONE && !lost_register(walk))
         return FOUND;
     return look_again(workspace, walk, module, file, kind, &end);

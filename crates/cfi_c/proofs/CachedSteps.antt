@@ -177,3 +177,12 @@ stepped_as_left memory loaded a live live' registers old old' new function old_c
     let two : IsStepped live loaded memory a registers old new function old_caller' caller end =
     subst (λ (o : List CfiValue). IsStepped live loaded memory a registers o new function old_caller' caller end) same_old one in
     subst (λ (o : CfiCaller). IsStepped live loaded memory a registers old new function o caller end) same_caller two
+
+-- the step in place by what is held: there is room for all registers
+pub stepped_in_place : (memory : CfiMemory) (loaded : CfiModule) (file a : ℕ) (rows : List PackedRow) (registers old new : List CfiValue) (function : CfiFunction) (old_caller caller : CfiCaller) (end : CfiEnd)
+    → IsAddressSize memory.address_size → length registers ≤ 256 → length new ≤ 256 → IsCachedFor memory.address_size file loaded rows
+    → IsSteppedByHeld memory file a rows registers old new function old_caller caller end
+    → IsStepped true loaded memory a registers old new function old_caller caller end
+stepped_in_place memory loaded file a rows registers old new function old_caller caller end is_size room room' right held =
+    stepped_by_held memory loaded file a rows registers old new function old_caller caller end is_size room' right
+    (subst (λ (l : List CfiValue). IsSteppedByHeld memory file a rows l old new function old_caller caller end) (sym (take_all 256 registers room)) held)

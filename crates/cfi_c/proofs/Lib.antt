@@ -1,5 +1,6 @@
 mod CachedSteps
 mod Counts
+mod EightBytes
 mod Faithful
 mod HeldThere
 pub mod Laws

@@ -1,5 +1,5 @@
 -- The registers of a caller as values of C: what is copied, and one more written.
-use Rattle.std.proofs.Common.{◌≡◌, ◌<◌, ◌∙◌, ℕ, List, length, Option, Some, None, refl, sym, ap, inl, inr, arith, get_or, get_or-set_other}
+use Rattle.std.proofs.Common.{◌≡◌, ◌<◌, ◌∙◌, ℕ, List, [], ◌∷◌, length, Option, Some, None, refl, sym, ap, inl, inr, arith, get_or, get_or-set_other}
 use Rattle.std.proofs.Math.ListN.{get_or-map}
 use Rattle.std.proofs.lemmas.Bool.{cases_eq}
 use Rattle.std.proofs.lemmas.Grind.{get_or-set_at}
@@ -7,7 +7,7 @@ use Rattle.std.proofs.lemmas.List.{length-map, length-set, map-set}
 use Rattle.std.specs.Prelude.{slice_set}
 use Rattle.cfi_expression.specs.Frames.{known}
 use Rattle.cfi_c.specs.declared.stack.CfiValue.{CfiValue}
-use Rattle.cfi_c.specs.PackedSteps.{values_of}
+use Rattle.cfi_c.specs.PackedSteps.{plain_of, values_of}
 use Rattle.cfi_c.specs.PassedStacks.{known_value}
 use Rattle.cfi_c.specs.SteppedFrames.{AreValues, written_value}
 
@@ -43,3 +43,16 @@ still_plain cs new k value is are j inside =
           let at : get_or new j (written_value None) ≡ get_or cs j (written_value None) = here ∙ get_or-set_other cs k j (written_value value) (written_value None) other in
           at ∙ (are j (omega (arith, inside, same_length)) ∙ ap written_value (known_at cs j ∙ (sym (ap known_value at) ∙ sym (known_at new j))))
     ]
+
+-- ---- registers without the values of those that aren't known
+
+pub values_plain : (cs : List CfiValue) → values_of (plain_of cs) ≡ values_of cs
+values_plain [] = refl
+values_plain (c ∷ cs) = λ i. known_written (known_value c) i ∷ values_plain cs i
+
+pub plain_values : (cs : List CfiValue) → AreValues (values_of cs) (plain_of cs)
+plain_values cs k inside = get_or-map (λ (c : CfiValue). written_value (known_value c)) cs k (written_value None) ∙ ap written_value (sym (known_at cs k))
+
+pub plain_set : (cs : List CfiValue) (k : ℕ) (value : Option ℕ) → plain_of (slice_set cs k (written_value value)) ≡ slice_set (plain_of cs) k (written_value value)
+plain_set cs k value =
+    map-set (λ (c : CfiValue). written_value (known_value c)) cs k (written_value value) ∙ ap (λ (v : Option ℕ). slice_set (plain_of cs) k (written_value v)) (known_written value)

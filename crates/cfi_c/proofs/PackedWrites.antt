@@ -39,7 +39,7 @@ module _ (memory : CfiMemory) (registers : List CfiValue) (parts : Parts ℕ) (c
   )
 
   module _ (rules later : List PackedRule) (rule : PackedRule) (whole : rules ≡ rule ∷ later) (caller new : List CfiValue) where
-    abbrev value_by : Position → Option ℕ
+    abbrev pub value_by : Position → Option ℕ
     value_by bytes = given (by_rule (frame_of memory registers) bytes (abi_in memory) (λ (n : ℕ). n) cfa (pair_of rule).0.0 (pair_of rule).1)
 
     pub one_further : AreWrittenBy later caller → ((bytes : Position) → new ≡ slice_set caller (pair_of rule).0.0 (written_value (value_by bytes))) → AreWrittenBy rules new

@@ -1,20 +1,22 @@
 -- The window of memory from which most is read.
---     IsFirstOf memory bytes base      what is read of a window whose bytes begin at `base` is what
---         is read of the memory, whose numbers have eight bytes
---     IsFirst memory first      the same of the window, if there is one
-use Rattle.std.specs.Prelude.{◌≡◌, ℕ, false, Some, IfSome}
-use Rattle.cfi_read_core.specs.ReadFunctions.{Position}
-use Rattle.cfi_read_core.specs.SliceReaders.{slice_position}
-use Rattle.cfi_expression.specs.Windows.{number_in}
+--     HasAt first a n      the window has eight bytes at the address, which are this number
+--     IsFirst memory first      the eight bytes at a place of the window are what is read there of
+--         the memory, whose addresses have eight bytes
+use Rattle.std.specs.Prelude.{◌≡◌, ℕ, ◌+◌, ◌<◌, false, Some, slice_range}
+use Rattle.std.specs.Int.{w64}
+use Rattle.cfi_read_core.specs.Numbers.{number_of}
 use Rattle.cfi_c.specs.declared.first_window.FirstWindow.{FirstWindow}
 use Rattle.cfi_c.specs.declared.memory.CfiMemory.{CfiMemory}
 use Rattle.cfi_c.specs.PassedMemories.{number_in_memory}
 
-abbrev pub IsFirstOf : CfiMemory → Position → ℕ → Type 0
-IsFirstOf memory bytes base =
-    (memory.address_size ≡ 8)
-    × ((a n : ℕ) → number_in bytes base a 8 ≡ Some n → number_in_memory memory a 8 ≡ Some n)
+-- the eight bytes at an address, as a number
+abbrev pub HasAt : FirstWindow → ℕ → ℕ → Type 0
+HasAt first a n =
+    (k : ℕ) × (k < first.places) × (a ≡ first.base + k)
+    × (n ≡ number_of w64 false (slice_range first.bytes.now k (k + 8)))
 
 abbrev pub IsFirst : CfiMemory → FirstWindow → Type 0
 IsFirst memory first =
-    IfSome first.window (λ w. IsFirstOf memory (slice_position (λ _. false) w.bytes) w.base)
+    (k : ℕ) → k < first.places → (memory.address_size ≡ 8)
+    × (number_in_memory memory (first.base + k) 8
+    ≡ Some (number_of w64 false (slice_range first.bytes.now k (k + 8))))

@@ -14,6 +14,7 @@ pub mod PassedMemories
 pub mod SteppedFrames
 pub mod PassedSteps
 pub mod HeldCaches
+pub mod WindowPlaces
 pub mod FirstWindows
 pub mod PackedSteps
 pub mod CachedSteps

@@ -1,6 +1,7 @@
 -- The caller of one frame by a packed row, as C gets it. A packed row has no expressions, so it is
 -- the caller for whatever bytes a section has.
 --     IsCallerBy memory registers row caller      what a step returns by a row
+--     plain_of registers      registers, of which none that isn't known has a value
 --     AreOfCaller memory registers row cfa new      the registers of the caller
 --     IsPackedStep memory registers row old new step      a step by a row, which writes registers
 --     IsSteppedBy memory registers row old new function old_caller caller end      what C gets
@@ -32,12 +33,17 @@ use Rattle.cfi_c.specs.declared.step.CfiCaller.{CfiCaller}
 use Rattle.cfi_c.specs.PassedMemories.{abi_in}
 use Rattle.cfi_c.specs.PassedStacks.{known_value}
 use Rattle.cfi_c.specs.SteppedFrames.{AreValues, caller_or, end_by, frame_in, written_function}
+use Rattle.cfi_c.specs.SteppedFrames.{written_value}
 
 -- ---- the frame
 
 -- the values of registers that are passed
 abbrev pub values_of : List CfiValue → List (Option ℕ)
 values_of registers = map known_value registers
+
+-- the same registers, with 0 for the value of each that isn't known
+abbrev pub plain_of : List CfiValue → List CfiValue
+plain_of registers = map (λ register. written_value (known_value register)) registers
 
 -- the pc that a register holds, if it is known
 abbrev pub IsPcOf : Option ℕ → Register → Result (Option ℕ) FrameError → Type 0

@@ -21,6 +21,7 @@ mod first_window;
 mod function;
 mod held;
 mod held_cache;
+mod held_step;
 mod held_table;
 mod memory;
 mod module;

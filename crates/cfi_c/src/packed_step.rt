@@ -13,7 +13,7 @@ ghost use Rattle.cfi_step.specs.PackedRules.{eightfold, numbered, pair_of};
 ghost use Rattle.cfi_c.specs.FirstWindows.{IsFirst};
 ghost use Rattle.cfi_c.specs.declared.stack.CfiValue.{CfiValue};
 ghost use Rattle.cfi_c.specs.PackedSteps.{AreOfCaller, IsCallerBy, IsCallerFrom, IsPcBy, IsPcOf};
-ghost use Rattle.cfi_c.specs.PackedSteps.{IsSteppedBy, frame_of, values_of};
+ghost use Rattle.cfi_c.specs.PackedSteps.{IsSteppedBy, frame_of, plain_of, values_of};
 ghost use Rattle.cfi_c.specs.PassedMemories.{abi_in, number_in_memory};
 ghost use Rattle.cfi_c.specs.PassedStacks.{known_value};
 ghost use Rattle.cfi_c.specs.SteppedFrames.{AreValues, caller_or, end_at};
@@ -51,6 +51,33 @@ pub fn step_by_packed(
     match caller_by(row, memory, &first, registers) {
         Ok(found) => {
             write_registers(row, memory, &first, registers, found.cfa, caller_registers);
+            write_caller(caller, found);
+            write_end(end, found.pc);
+        }
+        Err(error) => *end = failed_end(error),
+    }
+}
+
+/// The same, with the registers of the caller in the place of the frame's.
+#[inline(always)]
+pub fn step_in_place(
+    row: &PackedRow,
+    memory: &CfiMemory<'_>,
+    registers: &mut [CfiValue],
+    function: &mut CfiFunction,
+    caller: &mut CfiCaller,
+    end: &mut CfiEnd,
+)
+    requires size { IsAddressSize memory.now.address_size }
+    requires room { length registers.old ≤ 256 }
+    ensures { IsSteppedBy memory.now registers.old row.now (plain_of registers.old)
+        (plain_of registers.new) function.new caller.old caller.new end.new }
+{
+    *function = written_function(Some(row.function()));
+    let first = FirstWindow::of(memory);
+    match caller_by(row, memory, &first, registers) {
+        Ok(found) => {
+            write_ruled(row, memory, &first, found.cfa, registers);
             write_caller(caller, found);
             write_end(end, found.pc);
         }
@@ -244,6 +271,24 @@ fn write_registers(
     ensures { AreOfCaller memory.now registers.now row.now cfa caller.new }
 {
     copy_values(registers, caller);
+    write_ruled(row, memory, first, cfa, caller);
+}
+
+/// Writes those registers that aren't what they are in the frame.
+#[inline(always)]
+fn write_ruled(
+    row: &PackedRow,
+    memory: &CfiMemory<'_>,
+    first: &FirstWindow<'_>,
+    cfa: u64,
+    caller: &mut [CfiValue],
+)
+    requires size { IsAddressSize memory.now.address_size }
+    requires first { IsFirst memory.now first.now }
+    ensures copied { (registers : List CfiValue) → AreValues (values_of registers) caller.old →
+        AreOfCaller memory.now registers row.now cfa caller.new }
+    ensures in_place { AreOfCaller memory.now caller.old row.now cfa (plain_of caller.new) }
+{
     write_at(caller, usize::from(memory.stack_pointer), Some(cfa));
     // from the last rule to the first, which is the one that holds if a register has two
     let rules = row.rules();

@@ -523,6 +523,24 @@ extern "C" {
         caller: *mut CfiCaller,
         end: *mut CfiEnd,
     ) -> u32;
+    /// As `cfi_step_cached` if the cache holds the row, with the registers of the caller in the
+    /// place of the frame's; returns whether it does.
+    ///
+    /// # Safety
+    ///
+    /// As the head of the crate asks.
+    pub fn cfi_step_held(
+        cache: *mut CfiCache,
+        file: u64,
+        memory: *const CfiMemory,
+        pc: u64,
+        is_interrupted: bool,
+        registers: *mut CfiValue,
+        registers_len: usize,
+        function: *mut CfiFunction,
+        caller: *mut CfiCaller,
+        end: *mut CfiEnd,
+    ) -> bool;
     /// The version of the library.
     ///
     /// # Safety

@@ -1,0 +1,6 @@
+-- At how many places of a window of memory, from the first on, there are eight bytes. None of these
+-- places has an address that is too large.
+use Rattle.std.specs.Prelude.{ℕ, ◌+◌, ◌-◌, ◌^◌, ◌≤◌}
+
+abbrev pub AreIn : ℕ → ℕ → ℕ → Type 0
+AreIn count base places = (places ≤ count - 7) × (base + places ≤ 2 ^ 64)
