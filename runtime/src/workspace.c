@@ -34,8 +34,31 @@ static pthread_key_t key;
 static bool has_key;
 
 static struct region reserve;
-static _Alignas(LINE) char reserve_stack[STACK];
-static _Atomic(void *) reserve_thread; /* that has it: the address of its own, or NULL */
+static _Alignas(LINE) char process_stack[STACK]; /* on which one thread at a time makes a context */
+static bool is_touched;                          /* that stack: its pages stay */
+
+/* What one thread has at a time: the address of its own, or NULL. */
+typedef _Atomic(void *) Taken;
+static Taken reserve_thread, stack_thread;
+
+static bool take(Taken *thread) {
+    void *none = NULL;
+    return atomic_compare_exchange_strong(thread, &none, &own_workspaces);
+}
+
+static void give(Taken *thread) {
+    atomic_store(thread, NULL);
+}
+
+/* Waits until no other thread has it; false if this one has it already, in what a signal handler interrupted. */
+static bool wait_for(Taken *thread) {
+    while (!take(thread)) {
+        if (atomic_load(thread) == &own_workspaces)
+            return false;
+        sched_yield();
+    }
+    return true;
+}
 
 /* ---- memory for the library: these three are the toolchain's bridge to malloc, in whose place they stand */
 
@@ -113,7 +136,9 @@ static bool make(struct region *region, char *stack) {
     workspace->free = region->memory;
     workspace->end = region->memory + MEMORY;
     touch(region, offsetof(struct region, memory) + TOUCHED);
-    touch(stack + STACK - TOUCHED_STACK, TOUCHED_STACK);
+    if (stack != process_stack || !is_touched)
+        touch(stack + STACK - TOUCHED_STACK, TOUCHED_STACK);
+    is_touched |= stack == process_stack;
     made = workspace;
     int32_t status = call_on_stack(fill, workspace, stack + STACK);
     made = was;
@@ -127,16 +152,37 @@ static void *map(size_t size) {
     return at == MAP_FAILED ? NULL : at;
 }
 
+/* The same on the process's stack, or on one that is mapped if another thread has that. */
+static bool make_mapped(struct region *region) {
+    if (take(&stack_thread)) {
+        bool is_made = make(region, process_stack);
+        give(&stack_thread);
+        return is_made;
+    }
+    char *stack = map(AWAY + STACK + AWAY);
+    if (!stack)
+        return false;
+    bool is_made = make(region, stack + AWAY);
+    munmap(stack, AWAY + STACK + AWAY);
+    return is_made;
+}
+
+/* The same on the process's stack, once no other thread has it. */
+static bool make_reserve(void) {
+    if (!wait_for(&stack_thread))
+        return false;
+    bool is_made = make(&reserve, process_stack);
+    give(&stack_thread);
+    return is_made;
+}
+
 static struct workspace *map_workspace(void) {
     struct region *region = map(sizeof *region);
-    char *stack = region ? map(AWAY + STACK + AWAY) : NULL;
-    bool is_made = stack && make(region, stack + AWAY);
-    if (stack)
-        munmap(stack, AWAY + STACK + AWAY);
-    if (is_made)
+    if (!region)
+        return NULL;
+    if (make_mapped(region))
         return &region->workspace;
-    if (region)
-        munmap(region, sizeof *region);
+    munmap(region, sizeof *region);
     return NULL;
 }
 
@@ -151,33 +197,30 @@ static void give_back(void *all) {
     }
 }
 
-/* In a forked child no other thread has the reserve. */
-static void give_reserve(void) {
-    atomic_store(&reserve_thread, NULL);
+/* In a forked child no other thread has the reserve, or the stack. */
+static void give_in_child(void) {
+    give(&reserve_thread);
+    if (atomic_load(&stack_thread) != &own_workspaces)
+        give(&stack_thread);
 }
 
 __attribute__((constructor)) static void begin(void) {
     has_key = pthread_key_create(&key, give_back) == 0;
-    pthread_atfork(NULL, NULL, give_reserve);
+    pthread_atfork(NULL, NULL, give_in_child);
 }
 
 /* The reserve, once no other thread has it. A signal handler in the thread that has it gets none. */
 static struct workspace *take_reserve(void) {
     struct workspace *workspace = &reserve.workspace;
-    void *has_it = NULL;
-    while (!atomic_compare_exchange_weak(&reserve_thread, &has_it, &own_workspaces)) {
-        if (has_it == &own_workspaces)
-            return NULL;
-        has_it = NULL;
-        sched_yield();
-    }
-    if (workspace->context.live || make(&reserve, reserve_stack)) {
+    if (!wait_for(&reserve_thread))
+        return NULL;
+    if (workspace->context.live || make_reserve()) {
         workspace->windows = (struct windows){0}; /* the other thread's stacks */
         workspace->view = (struct view){0};
         forget_modules(workspace->modules); /* its calls have numbers of their own */
         return workspace;
     }
-    give_reserve();
+    give(&reserve_thread);
     return NULL;
 }
 
@@ -214,5 +257,5 @@ struct workspace *take_other_workspace(void) {
 
 void give_other_back(const struct workspace *workspace) {
     if (workspace == &reserve.workspace)
-        give_reserve();
+        give(&reserve_thread);
 }
