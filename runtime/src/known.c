@@ -7,7 +7,7 @@
 
 #include "unwinder.h"
 
-enum { PAGE_BITS = 12 };
+enum { PAGE_BITS = 12, WAYS = 4 /* places of a page: others have the same */ };
 
 static unsigned place_of(uint64_t number) {
     return (unsigned)((number >> PAGE_BITS) * 0x9e3779b97f4a7c15 >> 54) % PLACES;
@@ -55,15 +55,34 @@ static struct known_module *look_for(struct known_modules *known, uint64_t call,
     return module;
 }
 
+/* The index and 1 of a module of the page's places, or 0 where none has the address. */
+static uint16_t by_page(const struct known_modules *known, unsigned place, uint64_t address) {
+    for (unsigned way = 0; way < WAYS; way++) {
+        uint16_t index = known->by_page[place + way];
+        if (index && is_in(&known->all[index - 1].loaded.module, address))
+            return index;
+    }
+    return 0;
+}
+
+/* Puts the index in one of the page's places: where it is, where there is none, or in place of another. */
+static void put_by_page(struct known_modules *known, unsigned place, uint16_t index) {
+    unsigned way = 0;
+    while (way < WAYS && known->by_page[place + way] && known->by_page[place + way] != index)
+        way++;
+    known->by_page[place + (way < WAYS ? way : index % WAYS)] = index;
+}
+
 const struct known_module *find_known(struct known_modules *known, uint64_t call, uint64_t address) {
-    uint16_t *by_page = &known->by_page[place_of(address)];
-    struct known_module *module = *by_page ? &known->all[*by_page - 1] : NULL;
-    if (module && is_in(&module->loaded.module, address) && (module->call == call || is_still(&module->loaded, address))) {
+    unsigned place = place_of(address) & -(unsigned)WAYS;
+    uint16_t index = by_page(known, place, address);
+    struct known_module *module = index ? &known->all[index - 1] : NULL;
+    if (module && (module->call == call || is_still(&module->loaded, address))) {
         module->call = call;
         return module;
     }
     module = look_for(known, call, address);
     if (module)
-        *by_page = (uint16_t)(module - known->all + 1);
+        put_by_page(known, place, (uint16_t)(module - known->all + 1));
     return module;
 }
