@@ -19,6 +19,11 @@ void forget_modules(struct known_modules *known) {
     memset(known->by_start, 0, sizeof known->by_start);
 }
 
+void forget_calls(struct known_modules *known) {
+    for (unsigned i = 0; i < known->count; i++)
+        known->all[i].call = 0;
+}
+
 static bool is_same(const struct loaded *one, const struct loaded *other) {
     const CfiModule *a = &one->module, *b = &other->module;
     return a->start == b->start && a->end == b->end && a->eh_frame == b->eh_frame && a->eh_frame_len == b->eh_frame_len &&

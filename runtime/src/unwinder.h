@@ -152,6 +152,9 @@ HIDDEN const struct known_module *find_known(struct known_modules *known, uint64
 /* Forgets all, but which numbers are taken. */
 HIDDEN void forget_modules(struct known_modules *known);
 
+/* Forgets in which call each was last found: each is compared again. */
+HIDDEN void forget_calls(struct known_modules *known);
+
 /* ---- what a step reads (windows.c) */
 
 enum { WINDOWS = 4 };

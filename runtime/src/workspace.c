@@ -16,6 +16,7 @@ enum {
     CONTEXT = 64 * 1024, /* more than a context takes */
     MEMORY = CONTEXT + ROWS,
     STACK = 512 * 1024,  /* on which they are made: more than a thread may have */
+    LEFT = 4,            /* so many of ended threads are kept */
     AWAY = 1 << 21,      /* so far from other stacks that valgrind sees one of its own */
     TOUCHED = 38 * 1024 + FIRST_SETS * 4 * 64, TOUCHED_STACK = 168 * 1024 /* as far as they take them now */
 };
@@ -186,14 +187,41 @@ static struct workspace *map_workspace(void) {
     return NULL;
 }
 
-/* At the end of a thread. What it throws after that makes new ones, and this is called again. */
+/* Those of threads that ended, for others to come. Their rows stay: each has the number of its file. */
+static _Atomic(struct workspace *) left[LEFT];
+
+/* One that was left; NULL where there is none. */
+static struct workspace *take_left(void) {
+    for (int i = 0; i < LEFT; i++) {
+        struct workspace *workspace = atomic_exchange(&left[i], NULL);
+        if (workspace)
+            return workspace;
+    }
+    return NULL;
+}
+
+/* Leaves one, without what is of its thread alone, or unmaps it where there are enough. */
+static void leave(struct workspace *workspace) {
+    workspace->windows = (struct windows){0};
+    workspace->view = (struct view){0};
+    workspace->personality = NULL;
+    forget_calls(workspace->modules);
+    for (int i = 0; i < LEFT; i++) {
+        struct workspace *none = NULL;
+        if (atomic_compare_exchange_strong(&left[i], &none, workspace))
+            return;
+    }
+    munmap(workspace, sizeof(struct region));
+}
+
+/* At the end of a thread. What it throws after that takes others, and this is called again. */
 static void give_back(void *all) {
     struct workspace **each = all;
     for (int i = 0; i < NESTED; i++) {
         struct workspace *workspace = each[i];
         each[i] = NULL;
         if (workspace)
-            munmap(workspace, sizeof(struct region));
+            leave(workspace);
     }
 }
 
@@ -226,11 +254,13 @@ static struct workspace *take_reserve(void) {
 
 /* A workspace that this thread keeps; a signal handler may have made it meanwhile. */
 static struct workspace *keep_new(int i) {
-    struct workspace *workspace = map_workspace();
+    struct workspace *workspace = take_left();
+    if (!workspace)
+        workspace = map_workspace();
     if (!workspace)
         return NULL;
     if (own_workspaces[i]) {
-        munmap(workspace, sizeof(struct region));
+        leave(workspace);
         return own_workspaces[i];
     }
     own_workspaces[i] = workspace;
