@@ -35,6 +35,7 @@ static pthread_key_t key;
 static bool has_key;
 
 static struct region reserve;
+static _Alignas(LINE) char reserve_stack[STACK];
 static _Alignas(LINE) char process_stack[STACK]; /* on which one thread at a time makes a context */
 static bool is_touched;                          /* that stack: its pages stay */
 
@@ -139,7 +140,8 @@ static bool make(struct region *region, char *stack) {
     touch(region, offsetof(struct region, memory) + TOUCHED);
     if (stack != process_stack || !is_touched)
         touch(stack + STACK - TOUCHED_STACK, TOUCHED_STACK);
-    is_touched |= stack == process_stack;
+    if (stack == process_stack)
+        is_touched = true;
     made = workspace;
     int32_t status = call_on_stack(fill, workspace, stack + STACK);
     made = was;
@@ -168,15 +170,6 @@ static bool make_mapped(struct region *region) {
     return is_made;
 }
 
-/* The same on the process's stack, once no other thread has it. */
-static bool make_reserve(void) {
-    if (!wait_for(&stack_thread))
-        return false;
-    bool is_made = make(&reserve, process_stack);
-    give(&stack_thread);
-    return is_made;
-}
-
 static struct workspace *map_workspace(void) {
     struct region *region = map(sizeof *region);
     if (!region)
@@ -200,13 +193,14 @@ static struct workspace *take_left(void) {
     return NULL;
 }
 
-/* Leaves one, without what is of its thread alone, or unmaps it where there are enough. */
+/* Leaves one, without what is of its thread alone. Unmaps it where there are enough, or if it is not whole: a handler that did
+ * not return interrupted its last use. */
 static void leave(struct workspace *workspace) {
     workspace->windows = (struct windows){0};
     workspace->view = (struct view){0};
     workspace->personality = NULL;
     forget_calls(workspace->modules);
-    for (int i = 0; i < LEFT; i++) {
+    for (int i = 0; i < LEFT && !workspace->is_busy; i++) {
         struct workspace *none = NULL;
         if (atomic_compare_exchange_strong(&left[i], &none, workspace))
             return;
@@ -242,7 +236,7 @@ static struct workspace *take_reserve(void) {
     struct workspace *workspace = &reserve.workspace;
     if (!wait_for(&reserve_thread))
         return NULL;
-    if (workspace->context.live || make_reserve()) {
+    if (workspace->context.live || make(&reserve, reserve_stack)) {
         workspace->windows = (struct windows){0}; /* the other thread's stacks */
         workspace->view = (struct view){0};
         forget_modules(workspace->modules); /* its calls have numbers of their own */
