@@ -34,6 +34,28 @@ static void at_one_place(char **names) {
     printf("at one place %s, caught %d\n", same > 50 ? "mostly" : "seldom", caught);
 }
 
+// The same, each time by the first throw of another thread: it has what the one before left.
+static void by_threads(char **names) {
+    int caught = 0;
+    for (int i = 0; i < 100; i++) {
+        void *library = dlopen(names[i % 2], RTLD_NOW);
+        if (!library) {
+            printf("%s\n", dlerror());
+            return;
+        }
+        auto through = (int (*)(void (*)(int), int))dlsym(library, "through");
+        std::thread([&] {
+            try {
+                through(thrower, 1);
+            } catch (int n) {
+                caught += n;
+            }
+        }).join();
+        dlclose(library);
+    }
+    printf("by threads, caught %d\n", caught);
+}
+
 static std::atomic<bool> is_over;
 
 // Threads throw meanwhile.
@@ -68,6 +90,7 @@ int main(int count, char **names) {
         return 2;
     for (int i = 1; i + 1 < count; i += 2) {
         at_one_place(names + i);
+        by_threads(names + i);
         is_over = false;
         at_once(names + i);
     }
