@@ -1,5 +1,5 @@
 #!/usr/bin/env python3
-"""Writes the files of ../data that are made of the program calls: a copy whose table is wrong, profiles, and core files.
+"""Writes the files of ../data that are made of calls and calls.o: copies with other numbers, profiles, and core files.
 
 The profiles have the form of perf record (perf.data-file-format.txt), little-endian, for x86-64. Each has one event whose
 samples have the thread, the time, the registers rbp, rsp and rip, and a part of the stack. Files are named below
@@ -174,7 +174,13 @@ calls = bytearray((data / "calls").read_bytes())
 assert struct.unpack_from("<i", calls, 0xCC + 20) == (-0x15,)
 struct.pack_into("<i", calls, 0xCC + 20, -0x14)
 
+# e_machine is EM_MIPS (8) in place of EM_X86_64 (62).
+foreign = bytearray((data / "calls.o").read_bytes())
+assert struct.unpack_from("<H", foreign, 18) == (62,)
+struct.pack_into("<H", foreign, 18, 8)
+
 (data / "unfaithful").write_bytes(calls)
+(data / "foreign.o").write_bytes(foreign)
 (data / "calls.perf").write_bytes(of_calls)
 (data / "others.perf").write_bytes(of_others)
 (data / "large.perf").write_bytes(of_large)

@@ -4,3 +4,4 @@ pub mod WordLines
 pub mod CompiledWritten
 pub mod SameOutputs
 pub mod WholeOutputs
+pub mod PrintedParts

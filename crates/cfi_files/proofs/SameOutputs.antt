@@ -9,6 +9,7 @@ use Rattle.cfi_elf.specs.FunctionNames.{functions_in, first_name, named_function
 use Rattle.cfi_elf.specs.Images.{Image}
 use Rattle.cfi_elf.specs.Results.{and_then}
 use Rattle.cfi_elf.specs.Searches.{first_by}
+use Rattle.cfi_elf.specs.Sections.{section_address}
 use Rattle.cfi_elf.specs.SymbolTables.{SymbolTable, is_symbol_named, symbol_address, symbol_table, symbols, value_of}
 use Rattle.cfi_programs.specs.Lines.{Line}
 use Rattle.cfi_object.specs.Numbers.{number}
@@ -16,8 +17,8 @@ use Rattle.cfi_programs.specs.Words.{texts}
 use Rattle.cfi_object.specs.declared.register_names.RegisterNames.{RegisterNames}
 use Rattle.cfi_programs.specs.declared.style.Style.{Style}
 use Rattle.gimli_cfi.specs.SectionSources.{GivenSection}
-use Rattle.cfi_object.specs.CallFrames.{debug_frame_of, eh_frame_of}
-use Rattle.cfi_object.specs.Targets.{address_by_symbol, behind_symbol, is_plus, sum_of, number_or_symbol, symbol_named, target_address}
+use Rattle.cfi_object.specs.CallFrames.{debug_frame_of, eh_frame_of, or_else}
+use Rattle.cfi_object.specs.Targets.{address_by_name, address_named, behind_name, is_plus, number_or_name, sum_of, symbol_or_section, target_address}
 use Rattle.cfi_files.specs.declared.request.Printed.{Printed}
 use Rattle.cfi_files.specs.declared.request.Printed.TheVariants.{Row, Rows, Dump, Table}
 use Rattle.cfi_files.specs.declared.sections.SectionPrinted.{SectionPrinted}
@@ -35,8 +36,9 @@ module _ (file : File) (image : Image) where
   abbrev pub HasSameFrames : Type 0
   HasSameFrames = (eh_frame_of file ≡ eh_frame_of other) × (debug_frame_of file ≡ debug_frame_of other)
 
+  -- and the same addresses of sections
   abbrev pub HasSameSymbols : Type 0
-  HasSameSymbols = symbol_table file ≡ symbol_table other
+  HasSameSymbols = (symbol_table file ≡ symbol_table other) × ((name : List ℕ) → section_address file name ≡ section_address other name)
 
   pub same_sections : HasSameFrames → (names : RegisterNames) (what : SectionPrinted) (line : Line) → AreSections names what file line → AreSections names what other line
   same_sections (eh, debug) names what line are =
@@ -47,7 +49,7 @@ module _ (file : File) (image : Image) where
 
   same_functions : HasSameSymbols → named_functions file ≡ named_functions other
   unfolding named_functions
-  same_functions e = ap (functions_in file) e
+  same_functions (e, sections) = ap (functions_in file) e
 
   -- the value of a symbol among those of a table
   abbrev address_in : List ℕ → SymbolTable → Result (Option ℕ) ElfError
@@ -55,24 +57,28 @@ module _ (file : File) (image : Image) where
 
   same_address : HasSameSymbols → (name : List ℕ) → symbol_address file name ≡ symbol_address other name
   unfolding symbol_address
-  same_address e name = ap (λ table. and_then table (address_in name)) e
+  same_address (e, sections) name = ap (λ table. and_then table (address_in name)) e
 
-  same_named : HasSameSymbols → (name : List ℕ) → symbol_named file name ≡ symbol_named other name
-  same_named e name = ap (λ found. if length name == 0 then Ok None else found) (same_address e name)
+  same_or_section : HasSameSymbols → (name : List ℕ) → symbol_or_section file name ≡ symbol_or_section other name
+  unfolding symbol_or_section
+  same_or_section (e, sections) name = λ i. and_then (same_address (e, sections) name i) (λ address. or_else address (sections name i))
 
-  same_behind : HasSameSymbols → (name : List ℕ) (count : Option ℕ) → behind_symbol file name count ≡ behind_symbol other name count
-  unfolding behind_symbol
+  same_named : HasSameSymbols → (name : List ℕ) → address_named file name ≡ address_named other name
+  same_named e name = ap (λ found. if length name == 0 then Ok None else found) (same_or_section e name)
+
+  same_behind : HasSameSymbols → (name : List ℕ) (count : Option ℕ) → behind_name file name count ≡ behind_name other name count
+  unfolding behind_name
   same_behind e name count = ap (λ found. and_then found (λ address. Ok (sum_of address count))) (same_named e name)
 
-  same_symbol : HasSameSymbols → (word : List ℕ) → address_by_symbol file word ≡ address_by_symbol other word
-  same_symbol e word = λ i.
+  same_name : HasSameSymbols → (word : List ℕ) → address_by_name file word ≡ address_by_name other word
+  same_name e word = λ i.
       if position_or_len is_plus word == length word
       then same_named e word i
       else same_behind e (before_first is_plus word) (number (after_first is_plus word)) i
 
-  same_number : HasSameSymbols → (word : List ℕ) (found : Option ℕ) → number_or_symbol file word found ≡ number_or_symbol other word found
+  same_number : HasSameSymbols → (word : List ℕ) (found : Option ℕ) → number_or_name file word found ≡ number_or_name other word found
   same_number e word (Some address) = refl
-  same_number e word None = same_symbol e word
+  same_number e word None = same_name e word
 
   same_target : HasSameSymbols → (word : List ℕ) → target_address file word ≡ target_address other word
   same_target e word = same_number e word (number word)

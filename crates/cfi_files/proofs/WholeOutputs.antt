@@ -5,29 +5,30 @@ use Rattle.cfi_elf.specs.declared.error.ElfError.{ElfError}
 use Rattle.cfi_elf.specs.ElfFiles.{File, elf_file, elf_file_of}
 use Rattle.cfi_elf.specs.Images.{Image, IsImageOf, IsRead, whole}
 use Rattle.cfi_elf.proofs.FileImages.{file_found, file_refused}
-use Rattle.cfi_elf.proofs.Images.{in_whole, same_symbol_table}
+use Rattle.cfi_elf.proofs.Images.{in_whole, same_section_address, same_symbol_table}
 use Rattle.cfi_programs.specs.Lines.{Line}
 use Rattle.cfi_programs.specs.declared.style.Format.{Format}
 use Rattle.gimli_cfi.specs.SectionSources.{GivenSection}
 use Rattle.cfi_object.specs.FileParts.{HasAll, IsEnoughOf}
 use Rattle.cfi_object.specs.MachineNames.{names_in}
 use Rattle.cfi_object.proofs.SameFrames.{same_debug, same_eh_frame}
+use Rattle.cfi_object.proofs.SectionReads.{section_address_read}
 use Rattle.cfi_files.specs.declared.finding.Finding.{Finding}
 use Rattle.cfi_files.specs.declared.request.Request.{Request}
-use Rattle.cfi_programs.specs.WriterOutput.{PrintsSome}
-use Rattle.cfi_files.specs.FileOutputs.{ChecksInput, IsCheck, IsCheckOfParsed, IsOfParsed, PrintsOwed, needs_symbols}
+use Rattle.cfi_files.specs.FileOutputs.{ChecksInput, IsCheck, IsCheckOfParsed, IsOfParsed, needs_symbols}
 use Rattle.cfi_files.specs.Findings.{ChecksSome}
 use Rattle.cfi_files.proofs.SameOutputs.{same_output}
 
 output_of : (request : Request) (bytes : List ℕ) (file : File) → IsImageOf file.image bytes → HasAll (needs_symbols request.printed) file → (line : Line) → IsOfParsed request (Ok file) line → IsOfParsed request (Ok (in_whole bytes file)) line
 output_of request bytes file of (eh, debug, symbols) line is =
-    same_output file (whole bytes) ((same_eh_frame file bytes of).same eh, (same_debug file bytes of).same debug) (names_in file request.raw) request.printed (λ needed. (same_symbol_table file of).same (symbols needed)) line is
+    same_output file (whole bytes) ((same_eh_frame file bytes of).same eh, (same_debug file bytes of).same debug) (names_in file request.raw) request.printed
+    (λ needed. ((same_symbol_table file of).same (symbols needed), λ name. (same_section_address file of name).same (section_address_read file eh name))) line is
 
 check_of : (format : Format) (bytes : List ℕ) (file : File) (symbols : Bool) → IsImageOf file.image bytes → HasAll symbols file → (finding : Finding) (line : Line) → IsCheckOfParsed format (Ok file) finding line → IsCheckOfParsed format (Ok (in_whole bytes file)) finding line
 check_of format bytes file symbols of (eh, debug, others) finding line is =
     subst (λ (found : Result (Option GivenSection) ElfError). IsCheck format (result_transpose found) finding line) ((same_eh_frame file bytes of).same eh) is
 
-output_by : (request : Request) (image : Image) (bytes : List ℕ) → IsImageOf image bytes → IsRead (elf_file_of image) → (r : Result File ElfError) → elf_file_of image ≡ r → IfOk r (HasAll (needs_symbols request.printed)) → (line : Line) →
+pub output_by : (request : Request) (image : Image) (bytes : List ℕ) → IsImageOf image bytes → IsRead (elf_file_of image) → (r : Result File ElfError) → elf_file_of image ≡ r → IfOk r (HasAll (needs_symbols request.printed)) → (line : Line) →
     IsOfParsed request r line → IsOfParsed request (elf_file bytes) line
 output_by request image bytes of read (Ok file) is enough line right =
     let (same, kept) = file_found of file is in
@@ -42,11 +43,6 @@ check_by format image bytes of read symbols (Ok file) is enough finding line rig
     subst (λ (r : Result File ElfError). IsCheckOfParsed format r finding line) (sym same) (check_of format bytes file symbols kept enough finding line right)
 check_by format image bytes of read symbols (Err e) is enough finding line right =
     subst (λ (r : Result File ElfError). IsCheckOfParsed format r finding line) (sym (file_refused of e is read)) right
-
-pub printed_parts : {E : Type 0} (request : Request) (known : Option (List ℕ)) (image : Image) (old new : Option (List ℕ)) (r : Result ℕ E) → IsEnoughOf known (needs_symbols request.printed) image →
-    PrintsSome (λ line. IsOfParsed request (elf_file_of image) line) old new r → PrintsOwed request known old new r
-printed_parts request known image old new r ((bytes, left, of), (read, enough)) (line, prints, is) =
-    (bytes, left, (line, prints, inl (output_by request image bytes of read (elf_file_of image) refl enough line is)))
 
 pub checked_parts : {E : Type 0} (format : Format) (known : Option (List ℕ)) (image : Image) (old new : Option (List ℕ)) (r : Result Finding E) → IsEnoughOf known false image →
     ChecksSome (λ finding line. IsCheckOfParsed format (elf_file_of image) finding line) old new r → ChecksInput format known old new r

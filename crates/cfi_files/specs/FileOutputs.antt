@@ -7,16 +7,18 @@
 --         written, with its status
 --     ChecksNamed format name input old new result      the check of an input, and its line, was
 --         written
-use Rattle.std.specs.Prelude.{◌≡◌, ◌⊎◌, ℕ, Bool, true, false, List, ◌++◌, Option, Some, None}
+use Rattle.std.specs.Prelude.{◌≡◌, ◌≢◌, ◌⊎◌, ℕ, Bool, true, false, List, ◌++◌, Option, Some, None}
 use Rattle.std.specs.Prelude.{Result, Ok, Err, codes}
 use Rattle.std.specs.Borrow.{Bor}
 use Rattle.cfi_elf.specs.declared.error.ElfError.{ElfError}
 use Rattle.cfi_elf.specs.declared.function_names.FunctionNames.{FunctionNames}
+use Rattle.cfi_elf.specs.declared.error.ElfError.TheVariants.{Relocatable}
 use Rattle.cfi_elf.specs.ErrorNames.{name_of_elf}
 use Rattle.cfi_elf.specs.ElfFiles.{File, elf_file}
 use Rattle.cfi_read_core.specs.RefusalNames.{name_of}
 use Rattle.cfi_read_core.specs.declared.error.Error.TheVariants.{OutOfMemory}
 use Rattle.cfi_elf.specs.FunctionNames.{function_name, name_in}
+use Rattle.cfi_elf.specs.Relocations.{relocated_file}
 use Rattle.cfi_entry.specs.Sections.{Section}
 use Rattle.gimli_cfi.specs.EhFrameHdr.{HeaderSection}
 use Rattle.gimli_cfi.specs.SectionSources.{GivenSection, given_header, given_section}
@@ -205,8 +207,16 @@ abbrev pub IsOfParsed : Request → Result File ElfError → Line → Type 0
 IsOfParsed request (Ok file) printed = IsOfFile request file printed
 IsOfParsed request (Err e) printed = printed ≡ elf_refusal (format_for request.printed) e
 
+-- of a relocatable file, relocated
 abbrev pub IsOutput : Request → List ℕ → Line → Type 0
-IsOutput request bytes printed = IsOfParsed request (elf_file bytes) printed
+IsOutput request bytes printed =
+    ((elf_file bytes ≢ Err Relocatable) × IsOfParsed request (elf_file bytes) printed)
+    ⊎ ((elf_file bytes ≡ Err Relocatable) × IsOfParsed request (relocated_file bytes) printed)
+
+-- or that there was no memory for a copy
+abbrev pub IsOfCopy : Request → Result File ElfError → Line → Type 0
+IsOfCopy request relocated printed =
+    IsOfParsed request relocated printed ⊎ (printed ≡ out_of_memory (format_for request.printed))
 
 -- ---- an input
 

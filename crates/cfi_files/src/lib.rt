@@ -1,12 +1,13 @@
 #![tactic(auto)]
 //! What is printed of the call frames of an ELF file: the output for a request, and the check of
-//! its table (`run`), from its sections (`sections`), their compiled tables (`compiled`), the rows
-//! of all FDEs (`rows`) or of the addresses that words name (`row`), and what a check found
-//! (`finding`).
+//! its table (`run`), by a relocated copy of a relocatable file (`relocated`); from its sections
+//! (`sections`), their compiled tables (`compiled`), the rows of all FDEs (`rows`) or of the
+//! addresses that words name (`row`), and what a check found (`finding`).
 
 pub mod compiled;
 pub mod finding;
 mod lines;
+mod relocated;
 pub mod request;
 mod row;
 mod rows;

@@ -4,20 +4,22 @@ ghost use Rattle.cfi_elf.specs.Images.{image_view};
 ghost use Rattle.cfi_programs.specs.WriterOutput.{Writes, PrintsSome};
 ghost use Rattle.cfi_files.specs.FileLines.{file_label};
 ghost use Rattle.cfi_files.specs.FileOutputs.{ChecksInput, ChecksNamed, IsCheckOfParsed};
-ghost use Rattle.cfi_files.specs.FileOutputs.{IsOfFile, IsOfParsed, PrintsOwed};
+ghost use Rattle.cfi_files.specs.FileOutputs.{IsOfFile, PrintsOwed, needs_symbols};
+ghost use Rattle.cfi_object.specs.FileParts.{IsEnoughOf};
 ghost use Rattle.cfi_files.specs.Findings.{ChecksSome};
 
 use crate::finding::{Finding, finding_without, write_found};
 use crate::lines::{write_elf_refusal, write_wrong_input};
+use crate::relocated::print_bytes;
 use crate::request::{Printed, Request};
 use crate::row::print_words;
 use crate::rows::print_rows;
 use crate::sections::{SectionPrinted, print_sections};
 use crate::table_check::check_table;
-use cfi_elf::{ElfFile, Image};
+use cfi_elf::{ElfError, ElfFile, Image};
 use cfi_object::input::{FileInput, InputError};
 use cfi_object::machine_names::names_in;
-use cfi_object::parts::read_parts;
+use cfi_object::parts::{read_parts, read_whole};
 use cfi_programs::dump::Printed as Listed;
 use cfi_programs::json::write_escaped;
 use cfi_programs::lines::{write_between, write_refusal_in, write_text};
@@ -30,6 +32,9 @@ use std::io::Write;
 /// Reads the parts of an ELF file that are needed, prints what is asked for of it, and returns the
 /// status.
 ///
+/// A relocatable file is read whole and relocated in a copy (`ElfFile::relocate`), so the address
+/// of a section is its offset in the file.
+///
 /// Status 0: it is printed. Status 1: the file or a part of it can't be read, which prints
 /// `refused` and the name of the error; it has no call frames, which prints `no call frames`; a
 /// word names no address, which prints `no address`; there is no row; or memory is refused.
@@ -37,8 +42,8 @@ use std::io::Write;
 /// `error` of an object, without the word `refused`. Fails where the output can't be written: then
 /// a beginning has been written.
 ///
-/// Allocates for the parts, for contexts, for the names of functions and for compiled tables.
-/// Printing does not allocate.
+/// Allocates for the parts, for the copy of a relocatable file, for contexts, for the names of
+/// functions and for compiled tables. Printing does not allocate.
 pub fn run_on_file<I: FileInput, W: Write>(
     alloc: Global,
     request: Request<'_>,
@@ -50,31 +55,51 @@ pub fn run_on_file<I: FileInput, W: Write>(
 {
     let format = request.printed.format();
     match read_parts(alloc, request.printed.needs_symbols(), input) {
-        Ok(parts) => print_image(alloc, request, parts.image(), output),
+        Ok(parts) => print_image(alloc, request, parts.image(), input, output),
         Err(InputError::OutOfMemory) => write_refusal_in(output, format, Error::OutOfMemory),
         Err(_) => write_wrong_input(output, format),
     }
 }
 
-/// Prints what is asked for of the file with these parts.
-fn print_image<W: Write>(
+/// Prints what is asked for of the file with these parts; of a relocatable one, all bytes are read.
+fn print_image<I: FileInput, W: Write>(
     alloc: Global,
     request: Request<'_>,
     image: Image<'_>,
+    input: &mut I,
     output: &mut W,
 ) -> io::Result<u8>
-    ensures { PrintsSome (λ line.
-        IsOfParsed request.entry (elf_file_of (image_view image.entry)) line)
-        (W.contents output.old) (W.contents output.new) result }
+    requires { IsEnoughOf (I.bytes input.old) (needs_symbols request.printed) (image_view image) }
+    ensures { PrintsOwed request.entry (I.bytes input.old) (W.contents output.old)
+        (W.contents output.new) result }
 {
     match ElfFile::of_image(image) {
         Ok(file) => print_file(alloc, request, &file, output),
+        Err(ElfError::Relocatable) => print_whole(alloc, request, input, output),
         Err(error) => write_elf_refusal(output, request.printed.format(), error),
     }
 }
 
+/// Reads all bytes of the file, and prints what is asked for of it.
+fn print_whole<I: FileInput, W: Write>(
+    alloc: Global,
+    request: Request<'_>,
+    input: &mut I,
+    output: &mut W,
+) -> io::Result<u8>
+    ensures { PrintsOwed request.entry (I.bytes input.old) (W.contents output.old)
+        (W.contents output.new) result }
+{
+    let format = request.printed.format();
+    match read_whole(alloc, input) {
+        Ok(bytes) => print_bytes(alloc, request, bytes.as_slice(), output),
+        Err(InputError::OutOfMemory) => write_refusal_in(output, format, Error::OutOfMemory),
+        Err(_) => write_wrong_input(output, format),
+    }
+}
+
 /// Prints what is asked for of the file.
-fn print_file<W: Write>(
+pub(crate) fn print_file<W: Write>(
     alloc: Global,
     request: Request<'_>,
     file: &ElfFile<'_>,

@@ -2,4 +2,5 @@ pub mod NumberLemmas
 pub mod Splices
 pub mod ReadParts
 pub mod SameFrames
+pub mod SectionReads
 mod RegistersNamed

@@ -1,5 +1,5 @@
 -- Parts that are read of a file, one after the other: some bytes have all of them.
-use Rattle.std.proofs.Common.{◌≡◌, ◌∙◌, ◌≤◌, ◌+◌, ◌-◌, ◌⊎◌, inl, inr, ℕ, Bool, true, false, List, [], ◌∷◌, ◌++◌, Option, Some, None, IfSome, length, take, drop, refl, sym, ap, arith, length-append, subst, nat_le, if◌then◌else◌, ◌&&◌, ◌||◌, replicate}
+use Rattle.std.proofs.Common.{◌≡◌, ◌∙◌, ◌≤◌, ◌+◌, ◌-◌, ◌⊎◌, inl, inr, ℕ, Bool, true, false, List, [], ◌∷◌, ◌++◌, Option, Some, None, Result, Ok, Err, IfOk, IfSome, length, take, drop, refl, sym, ap, arith, length-append, subst, nat_le, if◌then◌else◌, ◌&&◌, ◌||◌, replicate}
 use borrow.Author.Tests.{leb-true}
 use Rattle.std.proofs.lemmas.Bool.Decides.{nat_tests}
 use Rattle.std.proofs.lemmas.List.{length-replicate, take-append-drop}
@@ -222,3 +222,20 @@ pub more_read : (known : Option (List ℕ)) (n : ℕ) (first : List ℕ) (parts 
 more_read known n first parts more read end e free part of =
     subst (λ (parts : List Part). AreOfInput known (record { length = n; first = first; parts = parts })) (sym (ap parts_view e ∙ more_parts parts read.offset read refl))
     (with_more known (record { length = n; first = first; parts = parts_view parts }) read.offset end read.bytes.items free part of)
+
+-- ---- all bytes
+
+all_taken : (xs : List ℕ) → take (length xs) xs ≡ xs
+all_taken [] = refl
+all_taken (x ∷ xs) = ap (λ (l : List ℕ). x ∷ l) (all_taken xs)
+
+pub whole_read : (known : Option (List ℕ)) (n : ℕ) (bytes : List ℕ) → IsLength known n → IsPartRead known 0 n bytes → AreLeft known bytes
+whole_read None n bytes of read = tt
+whole_read (Some all) n bytes of (size, read) =
+    let at = is_part all 0 n bytes read size in
+    let same : length bytes ≡ length all = size ∙ of in
+    sym at.same ∙ (ap (λ (k : ℕ). take k all) same ∙ all_taken all)
+
+pub whole_result : {V E : Type 0} (items : V → List ℕ) (known : Option (List ℕ)) (n : ℕ) (r : Result V E) → IsLength known n → IfOk r (λ part. IsPartRead known 0 n (items part)) → IfOk r (λ bytes. AreLeft known (items bytes))
+whole_result items known n (Ok part) of read = whole_read known n (items part) of read
+whole_result items known n (Err e) of read = tt

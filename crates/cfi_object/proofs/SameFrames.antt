@@ -1,5 +1,5 @@
 -- The call frames of a file of which parts were read are those of the whole file, unless a part lacks.
-use Rattle.std.proofs.Common.{ℕ, Bool, true, false, List, [], length, ◌==◌, Option, Some, None, Result, Ok, codes, option_map, if◌then◌else◌}
+use Rattle.std.proofs.Common.{ℕ, Bool, true, false, List, length, ◌==◌, Option, Some, None, Result, Ok, codes, option_map, if◌then◌else◌}
 use Rattle.cfi_elf.specs.declared.error.ElfError.{ElfError}
 use Rattle.cfi_elf.specs.ElfFiles.{File}
 use Rattle.cfi_elf.specs.Images.{IsImageOf}

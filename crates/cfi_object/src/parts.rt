@@ -2,7 +2,7 @@
 ghost use Rattle.std.specs.Prelude.{◌≡◌, ◌≤◌, IfNone, IfOk, length, true};
 ghost use Rattle.cfi_elf.specs.ElfFiles.{file_view};
 ghost use Rattle.cfi_elf.specs.Images.{image_view, part_view, parts_view};
-ghost use Rattle.cfi_object.specs.FileParts.{AreEnough, AreOfInput, IsEnoughOf, IsLength};
+ghost use Rattle.cfi_object.specs.FileParts.{AreEnough, AreLeft, AreOfInput, IsEnoughOf, IsLength};
 ghost use Rattle.cfi_object.specs.FileParts.{HasDebugFrame, HasEhFrame, HasSymbols, IsOther};
 ghost use Rattle.cfi_object.specs.FileParts.{are_apart, image_of, is_apart, is_free};
 
@@ -79,7 +79,8 @@ pub fn read_parts<I: FileInput>(
     symbols: bool,
     input: &mut I,
 ) -> Result<FileParts, InputError>
-    ensures { IfOk result (λ parts. IsEnoughOf (I.bytes input.old) symbols (image_of parts)) }
+    ensures read { IfOk result (λ parts. IsEnoughOf (I.bytes input.old) symbols (image_of parts)) }
+    ensures same { I.bytes input.new ≡ I.bytes input.old }
 {
     let mut parts = begin(alloc, input)?;
     for _ in 0..MOST_PARTS {
@@ -100,13 +101,25 @@ fn read_rest<I: FileInput>(
     input: &mut I,
 ) -> Result<FileParts, InputError>
     requires { AreOfInput (I.bytes input.old) (image_of parts) }
-    ensures { IfOk result (λ parts. IsEnoughOf (I.bytes input.old) symbols (image_of parts)) }
+    ensures read { IfOk result (λ parts. IsEnoughOf (I.bytes input.old) symbols (image_of parts)) }
+    ensures same { I.bytes input.new ≡ I.bytes input.old }
 {
     let parts = first_part(alloc, parts.length, parts.length, input)?;
     match unread(parts.image(), symbols) {
         Some(_) => Err(InputError::Unreadable),
         None => Ok(parts),
     }
+}
+
+/// Reads all bytes of a file.
+///
+/// Fails with `Unreadable` where its length can't be told or a read fails, and with `OutOfMemory`.
+/// Allocates for the bytes.
+pub fn read_whole<I: FileInput>(alloc: Global, input: &mut I) -> Result<Vec<u8>, InputError>
+    ensures { IfOk result (λ bytes. AreLeft (I.bytes input.old) bytes.items) }
+{
+    let length = input.length(alloc)?;
+    input.read_part(alloc, 0, length)
 }
 
 /// Reads the beginning of the file.

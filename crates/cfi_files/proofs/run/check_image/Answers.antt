@@ -1,4 +1,4 @@
-use Rattle.std.proofs.Common.{◌≡◌, refl, subst, sym}
+use Rattle.std.proofs.Common.{refl, subst}
 use Rattle.cfi_elf.specs.ElfFiles.{elf_file_of}
 use Rattle.cfi_elf.specs.ErrorNames.{name_of_elf}
 use Rattle.cfi_elf.specs.Images.{image_view}

@@ -1,15 +1,11 @@
 use Rattle.std.proofs.Common.{inl, inr, refl}
-use Rattle.cfi_object.specs.FileParts.{image_of}
 use Rattle.cfi_files.specs.FileLines.{out_of_memory, wrong_input}
 use Rattle.cfi_files.specs.FileOutputs.{format_for}
 use Rattle.cfi_files.proofs.Joined.{for_input}
-use Rattle.cfi_files.proofs.WholeOutputs.{printed_parts}
 use Rattle.cfi_files.proofs.run.run_on_file.Goals as goal
 
 pub returns-in-Ok : goal.returns-in-Ok
-returns-in-Ok g c =
-    printed_parts c.args.request (g.I.FileInput.bytes c.args.input.now) (image_of c.in-Ok.parts) (g.W.Write.contents c.args.output.now) _ c.print_image.result
-    (rw c.needs_symbols.ensures at c.in-Ok.ensures) (rw c.image.ensures at c.print_image.ensures)
+returns-in-Ok g c = rw c.read_parts.ensures.same at c.print_image.ensures
 
 pub returns-in-Err-OutOfMemory : goal.returns-in-Err-OutOfMemory
 returns-in-Err-OutOfMemory g c =
