@@ -5,7 +5,7 @@ use Rattle.std.specs.Borrow.{Bor}
 use Rattle.std.specs.Result.{result_transpose}
 use Rattle.cfi_elf.specs.declared.error.ElfError.{ElfError}
 use Rattle.cfi_elf.specs.ElfFiles.{File}
-use Rattle.cfi_elf.specs.FunctionNames.{functions_in, first_name, named_functions}
+use Rattle.cfi_elf.specs.FunctionNames.{functions_in, best_name, named_functions}
 use Rattle.cfi_elf.specs.Images.{Image}
 use Rattle.cfi_elf.specs.Results.{and_then}
 use Rattle.cfi_elf.specs.Searches.{first_by}
@@ -87,7 +87,7 @@ module _ (file : File) (image : Image) where
 
   same_fde_rows : HasSameFrames → HasSameSymbols → (style : Style) (address : Option ℕ) (line : Line) → AreFdeRows style file address line → AreFdeRows style other address line
   same_fde_rows frames e style address line (inl (functions, names, are)) =
-      inl (functions, (λ at. names at ∙ ap (λ fs. first_name fs at) (same_functions e)), same_sections frames style.names (Listed (AllRows (record { address = address; functions = functions; format = style.format }))) line are)
+      inl (functions, (λ at. names at ∙ ap (λ fs. best_name fs at) (same_functions e)), same_sections frames style.names (Listed (AllRows (record { address = address; functions = functions; format = style.format }))) line are)
   same_fde_rows frames e style address line (inr refused) = inr refused
 
   same_rows_at : HasSameFrames → HasSameSymbols → (style : Style) (target : Result (Option ℕ) ElfError) (line : Line) → AreRowsAt style file target line → AreRowsAt style other target line
