@@ -111,7 +111,8 @@ of_another_build = profile(
 # ---- core files
 
 PT_LOAD, PT_NOTE, EXECUTABLE, WRITABLE = 1, 4, 5, 6
-NT_PRSTATUS, NT_FILE = 1, 0x46494C45
+NT_PRSTATUS, NT_PRPSINFO, NT_AUXV, NT_FILE = 1, 3, 6, 0x46494C45
+AT_NULL, AT_SYSINFO_EHDR = 0, 33
 
 
 def padded(part):
@@ -130,6 +131,16 @@ def thread(tid, signal, rbp, rsp, rip):
     return note(NT_PRSTATUS, head + struct.pack("<27QQ", *registers, 0))
 
 
+def process(name):
+    """An elf_prpsinfo: what it has beside the name is zero."""
+    return note(NT_PRPSINFO, bytes(40) + name.ljust(16, b"\0") + bytes(80))
+
+
+def vector(*pairs):
+    """The auxiliary vector."""
+    return note(NT_AUXV, b"".join(struct.pack("<2Q", *pair) for pair in pairs))
+
+
 def files(*mapped):
     """What is mapped: start, end and place of each, and the names."""
     pages = (struct.pack("<3Q", start, end, place // 4096) for start, end, place, _ in mapped)
@@ -138,12 +149,12 @@ def files(*mapped):
 
 
 def core(notes, *segments):
-    """Segments by their flags, address, size in memory, and the bytes that the file has of them."""
+    """Segments by their flags, address, size in memory, and the bytes or words that the file has of them."""
     place = 64 + 56 * (1 + len(segments))
     headers = struct.pack("<2I6Q", PT_NOTE, 4, place, 0, 0, len(notes), 0, 4)
     parts = notes
     for flags, address, size, words in segments:
-        had = struct.pack(f"<{len(words)}Q", *words)
+        had = words if isinstance(words, bytes) else struct.pack(f"<{len(words)}Q", *words)
         headers += struct.pack("<2I6Q", PT_LOAD, flags, place + len(parts), address, 0, len(had), size, 1)
         parts += had
     ident = b"\x7fELF\2\1\1".ljust(16, b"\0")
@@ -154,6 +165,7 @@ CODE = (EXECUTABLE, 0x400000, 4096, [])
 
 of_threads = core(
     thread(8, 11, 0x7020, 0x7000, IN_INNER)
+    + process(b"calls")
     # The stack ends before the return address of outer.
     + thread(7, 0, 0x9020, 0x9000, IN_INNER)
     # Where nothing is mapped.
@@ -168,6 +180,24 @@ of_threads = core(
 cut_off = core(thread(8, 11, 0x7020, 0x7000, IN_INNER) + bytes(5), CODE, (WRITABLE, 0x7000, 4096, STACK_OF_INNER))
 
 data = Path(__file__).resolve().parent.parent / "data"
+
+# Inner of the program built runs; so does that of calls, which has no build, where its first page has one; and that of
+# the vdso, which is calls too, and was called by outer of built.
+BUILT, VDSO = (data / "built").read_bytes(), 0x7FF000000000
+STACK_OF_BUILT = [1, 2, 3, 0x40011C, 0x7FE0, 0x400111, 0]
+
+of_mapped_builds = core(
+    thread(8, 6, 0x7020, 0x7000, 0x400122)
+    + process(b"built\x1b")
+    + vector((AT_SYSINFO_EHDR, VDSO), (AT_NULL, 0))
+    + thread(7, 34, 0x7020, 0x7000, 0x5000C6)
+    + thread(9, 0, 0x7020, 0x7000, VDSO + 0xC6)
+    + files((0x400000, 0x401000, 0, b"built"), (0x500000, 0x501000, 0, b"calls")),
+    (EXECUTABLE, 0x400000, 4096, BUILT),
+    (EXECUTABLE, 0x500000, 4096, BUILT),
+    (WRITABLE, 0x7000, 4096, STACK_OF_BUILT),
+    (EXECUTABLE, VDSO, 8192, (data / "calls").read_bytes()),
+)
 
 # The second row of the table of .eh_frame_hdr, at 0xcc, is of outer at 0x4000b7, which is -0x15 from there. It gets 0x4000b8.
 calls = bytearray((data / "calls").read_bytes())
@@ -188,3 +218,4 @@ struct.pack_into("<H", foreign, 18, 8)
 (data / "rebuilt.perf").write_bytes(of_another_build)
 (data / "threads.core").write_bytes(of_threads)
 (data / "cut.core").write_bytes(cut_off)
+(data / "builds.core").write_bytes(of_mapped_builds)

@@ -54,7 +54,7 @@ pub trait System {
     /// where there is no such path, or memory is refused.
     fn debug_path(&self, build: &[u8]) -> Option<String>;
 
-    /// Says on standard error that for the file with this name none of the profile's build was
+    /// Says on standard error that for the file with this name none of the build that ran was
     /// found, as `cfi: FILE: SENTENCE`.
     fn tell_missing(&self, name: &[u8]);
 
@@ -150,7 +150,7 @@ impl<P: Env + Files + Print + Eprint + AllocGlobal> System for Host<'_, P> {
 
     fn tell_missing(&self, name: &[u8]) {
         let name = str::from_utf8(name).unwrap_or("a file");
-        let _ = eprintln!(self.rt; "cfi: {name}: no file of the profile's build is here");
+        let _ = eprintln!(self.rt; "cfi: {name}: no file of the build that ran is here");
     }
 
     fn print_error(&self, error: &Error) -> io::Result<()> {

@@ -1,5 +1,5 @@
 -- What notes say, one after the other.
-use Rattle.std.proofs.Common.{◌≡◌, ◌∙◌, List, [], ◌∷◌, Option, Some, None, Ok, Err, refl, sym, ap, ap₂, append_assoc, append-nil}
+use Rattle.std.proofs.Common.{◌≡◌, ◌∙◌, ◌++◌, ℕ, List, [], ◌∷◌, Option, Some, None, Ok, Err, refl, sym, ap, append_assoc, append-nil}
 use Rattle.cfi_elf.specs.declared.error.ElfError.{ElfError}
 use Rattle.cfi_elf.specs.Notes.{Note, Notes, items}
 use Rattle.cfi_elf.specs.Options.{or_else}
@@ -14,7 +14,7 @@ use Rattle.cfi_cores.specs.MappedFiles.{CoreMapping}
 -- ---- laws
 
 abbrev with_error : Contents → Option CoreError → Contents
-with_error a error = record { threads = a.threads; mapped = a.mapped; error = error }
+with_error a error = record a { error = error }
 
 or_else_assoc : {A : Type 0} (x y z : Option A) → or_else (or_else x y) z ≡ or_else x (or_else y z)
 or_else_assoc (Some a) y z = refl
@@ -24,6 +24,16 @@ or_else_none : {A : Type 0} (x : Option A) → or_else x None ≡ x
 or_else_none (Some a) = refl
 or_else_none None = refl
 
+-- of the same parts
+same : (threads ts : List CoreThread) (mapped ms : Option (List CoreMapping)) (vector vs name ns : Option (List ℕ)) (error : Option CoreError)
+    → threads ≡ ts → mapped ≡ ms → vector ≡ vs → name ≡ ns
+    → ◌≡◌ {A = Contents} (record { threads = threads; mapped = mapped; vector = vector; name = name; error = error }) (record { threads = ts; mapped = ms; vector = vs; name = ns; error = error })
+same threads ts mapped ms vector vs name ns error a b c d =
+    ap (λ (x : List CoreThread). record { threads = x; mapped = mapped; vector = vector; name = name; error = error }) a
+    ∙ (ap (λ (x : Option (List CoreMapping)). record { threads = ts; mapped = x; vector = vector; name = name; error = error }) b
+    ∙ (ap (λ (x : Option (List ℕ)). record { threads = ts; mapped = ms; vector = x; name = name; error = error }) c
+    ∙ ap (λ (x : Option (List ℕ)). record { threads = ts; mapped = ms; vector = vs; name = x; error = error }) d))
+
 assoc : (a b c : Contents) → followed_by (followed_by a b) c ≡ followed_by a (followed_by b c)
 assoc a b c = by a.error b.error
   where
@@ -31,17 +41,15 @@ assoc a b c = by a.error b.error
     by (Some e) y = refl
     by None (Some e) = refl
     by None None =
-        ap₂ (λ (threads : List CoreThread) (mapped : Option (List CoreMapping)). record { threads = threads; mapped = mapped; error = c.error })
-        (append_assoc a.threads b.threads c.threads) (or_else_assoc a.mapped b.mapped c.mapped)
+        same _ _ _ _ _ _ _ _ c.error (append_assoc a.threads b.threads c.threads) (or_else_assoc a.mapped b.mapped c.mapped)
+        (or_else_assoc a.vector b.vector c.vector) (or_else_assoc a.name b.name c.name)
 
 pub nothing_more : (a : Contents) → a ≡ followed_by a nothing
 nothing_more a = by a.error
   where
     by : (x : Option CoreError) → with_error a x ≡ followed_by (with_error a x) nothing
     by (Some e) = refl
-    by None =
-        sym (ap₂ (λ (threads : List CoreThread) (mapped : Option (List CoreMapping)). record { threads = threads; mapped = mapped; error = None })
-        (append-nil a.threads) (or_else_none a.mapped))
+    by None = sym (same _ _ _ _ _ _ _ _ None (append-nil a.threads) (or_else_none a.mapped) (or_else_none a.vector) (or_else_none a.name))
 
 -- ---- loops over them
 

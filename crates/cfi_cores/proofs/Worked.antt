@@ -2,24 +2,28 @@
 use Rattle.std.proofs.Common.{◌≡◌, ℕ, ◌-◌, ◌+◌, ◌*◌, List, [], ◌∷◌, ◌++◌, codes, true, false, Option, Some, None, Ok, Err, refl}
 use Rattle.std.specs.Prelude.{nat_lt, if◌then◌else◌, take, drop, option_map}
 use Rattle.cfi_read_core.specs.Addresses.{address}
-use Rattle.cfi_elf.specs.ElfFiles.{any_file, core_file, header_bytes, identification}
+use Rattle.cfi_elf.specs.ElfFiles.{any_file, core_file, elf_file_of, file_by, header_bytes, identification}
+use Rattle.cfi_elf.specs.Fields.{entries}
 use Rattle.cfi_elf.specs.Images.{bytes_at}
-use Rattle.cfi_elf.specs.Notes.{first_note, notes_up_to}
+use Rattle.cfi_elf.specs.Notes.{build_id, build_id_of, first_note, notes_up_to}
 use Rattle.cfi_elf.specs.SegmentLists.{segments}
 use Rattle.cfi_elf.specs.Segments.{program_table, segment_count}
 use Rattle.cfi_elf.specs.declared.error.ElfError.TheVariants.{NotCore, NotElf}
 use Rattle.cfi_processes.specs.declared.registers.SampleMachine.TheVariants.{X86_64, AArch64}
 use Rattle.cfi_cores.specs.declared.error.CoreError.TheVariants.{Elf, UnknownMachine, NoteCut, ThreadCut, FilesCut}
+use Rattle.cfi_cores.specs.Builds.{build_of, image_of}
 use Rattle.cfi_cores.specs.Contents.{followed_by, of_note, of_segment}
 use Rattle.cfi_cores.specs.CoreFiles.{core_of}
 use Rattle.cfi_cores.specs.CoreRegisters.{core_place, core_place_x86_64}
 use Rattle.cfi_cores.specs.CoreSegments.{CoreSegment, last_upto}
 use Rattle.cfi_cores.specs.CoreThreads.{CoreThread, register_of, thread_in}
 use Rattle.cfi_cores.specs.MappedFiles.{CoreMapping, file_table, files_in}
+use Rattle.cfi_cores.specs.ProcessNames.{process_name}
+use Rattle.cfi_cores.specs.Vdso.{value_in, vdso_by}
 
 -- to name it on an `unfolding` line is to open all these
 unfoldable computing : ℕ
-unfolding bytes_at header_bytes any_file core_file identification segment_count program_table segments first_note notes_up_to core_place_x86_64 file_table files_in core_of
+unfolding bytes_at header_bytes any_file file_by elf_file_of core_file build_id_of build_id identification segment_count program_table segments first_note notes_up_to core_place_x86_64 file_table files_in core_of
 computing = 0
 
 -- the bytes of hexadecimal text, whose letters are small
@@ -110,6 +114,7 @@ small = hex (codes "7f454c4602010100000000000000000004003e0001000000000000000000
 
 small_core : core_of small ≡ Ok (record {
   machine = X86_64;
+  name = None;
   threads = [];
   mapped = two_mappings;
   segments =
@@ -123,6 +128,7 @@ small_core = refl
 -- a file that ends in the notes has no memory
 cut_in_the_notes : core_of (take 320 small) ≡ Ok (record {
   machine = X86_64;
+  name = None;
   threads = [];
   mapped = [];
   segments =
@@ -145,17 +151,17 @@ of_another_machine = refl
 abbrev thread_note : List ℕ → List ℕ
 thread_note desc = hex (codes "05000000480100000100000043") ++ hex (codes "4f524500000000") ++ desc
 
-the_thread_alone : of_segment X86_64 (thread_note (status ++ registers)) ≡ record { threads = the_thread ∷ []; mapped = None; error = None }
+the_thread_alone : of_segment X86_64 (thread_note (status ++ registers)) ≡ record { threads = the_thread ∷ []; mapped = None; vector = None; name = None; error = None }
 unfolding computing
 the_thread_alone = refl
 
 -- a note of a thread with too few bytes, and a list of files behind it
 nothing_behind_an_error : followed_by (of_note X86_64 (record { name = codes "CORE"; kind = 1; desc = status })) (of_note X86_64 (record { name = codes "CORE"; kind = 0x46494c45; desc = files }))
-    ≡ record { threads = []; mapped = None; error = Some ThreadCut }
+    ≡ record { threads = []; mapped = None; vector = None; name = None; error = Some ThreadCut }
 unfolding computing
 nothing_behind_an_error = refl
 
-of_another_owner : of_note X86_64 (record { name = codes "LINUX"; kind = 1; desc = status }) ≡ record { threads = []; mapped = None; error = None }
+of_another_owner : of_note X86_64 (record { name = codes "LINUX"; kind = 1; desc = status }) ≡ record { threads = []; mapped = None; vector = None; name = None; error = None }
 unfolding computing
 of_another_owner = refl
 
@@ -174,3 +180,56 @@ before_the_second = refl
 
 before_all : last_upto 3 three_segments ≡ None
 before_all = refl
+
+-- ---- the name of the process
+
+abbrev before_name : List ℕ
+before_name = hex (codes "00000000000000000000000000000000000000000000000000000000000000000000000000000000")
+
+worked_name : process_name (before_name ++ codes "calls" ++ hex (codes "0000000000000000000000")) ≡ Some (codes "calls")
+worked_name = refl
+
+name_without_a_zero : process_name (before_name ++ codes "sixteen_letters_" ++ hex (codes "0000000000000000000000000000000000000000000000000000000000000000000000000000000000000000000000000000000000000000000000000000000000000000000000000000000000000000")) ≡ Some (codes "sixteen_letters_")
+name_without_a_zero = refl
+
+cut_name : process_name (before_name ++ codes "fifteen_letters") ≡ None
+cut_name = refl
+
+-- ---- the vdso: a vector with AT_HWCAP, AT_SYSINFO_EHDR and the pair that ends it
+
+abbrev vector : List ℕ
+vector = hex (codes "10000000000000001f000000000000002100000000000000009000000000000000000000000000000000000000000000")
+
+its_address : value_in 33 (entries 16 vector) ≡ Some 0x9000
+its_address = refl
+
+behind_the_end : value_in 33 (entries 16 (drop 32 vector ++ take 32 vector)) ≡ None
+behind_the_end = refl
+
+abbrev two_segments : List CoreSegment
+two_segments =
+    record { start = 0x9000; bytes = 1 ∷ 2 ∷ []; is_executable = true } ∷ record { start = 0x9000; bytes = []; is_executable = true } ∷ []
+
+where_it_is : vdso_by two_segments (Some vector) ≡ Some (record { start = 0x9000; end = 0x9002; offset = 0; name = codes "[vdso]" })
+where_it_is = refl
+
+no_segment_begins_there : vdso_by (drop 2 two_segments) (Some vector) ≡ None
+no_segment_begins_there = refl
+
+-- ---- builds: the first page of /a, with a note; /bc isn't mapped from its first byte on
+
+abbrev image : List ℕ
+image = hex (codes "7f454c4602010100000000000000000003003e0001000000000000000000000040000000000000000000000000000000000000004000380001000000000000000400000004000000780000000000000078000000000000007800000000000000140000000000000014000000000000000400000000000000040000000400000003000000474e550001020304")
+
+abbrev images : List CoreSegment
+images = record { start = 0x7000; bytes = image; is_executable = true } ∷ record { start = 0x400000; bytes = image; is_executable = true } ∷ []
+
+its_build : build_of images two_mappings (codes "/a") ≡ Some (1 ∷ 2 ∷ 3 ∷ 4 ∷ [])
+unfolding computing
+its_build = refl
+
+no_build : build_of images two_mappings (codes "/bc") ≡ None
+no_build = refl
+
+no_image : image_of (take 1 images) two_mappings (codes "/a") ≡ None
+no_image = refl

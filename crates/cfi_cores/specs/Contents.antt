@@ -1,7 +1,8 @@
 -- What the notes of a core file say (core(5), "notes" of linux/elfcore.h and uapi/linux/elf.h).
---     Contents      threads, the files that were mapped, and the error that ended the notes
---     followed_by first others      what both say: nothing follows an error, and the first list of
---         files counts
+--     Contents      threads, the files that were mapped, the auxiliary vector, the name of the
+--         process, and the error that ended the notes
+--     followed_by first others      what both say: nothing follows an error, and of all but threads
+--         the first counts
 --     of_headers machine bytes headers      what the notes of a file's segments say
 use Rattle.std.specs.Prelude.{ℕ, Bool, true, false, not, List, [], ◌∷◌, ◌++◌, map, codes, Option}
 use Rattle.std.specs.Prelude.{Some, None, Vec, option_map, nat_eq, ◌==◌, if◌then◌else◌}
@@ -17,11 +18,14 @@ use Rattle.cfi_cores.specs.declared.thread.CoreThread.{CoreThread as ThreadOfCod
 use Rattle.cfi_cores.specs.declared.error.CoreError.TheVariants.{NoteCut, ThreadCut, FilesCut}
 use Rattle.cfi_cores.specs.CoreThreads.{CoreThread, thread_in, thread_view}
 use Rattle.cfi_cores.specs.MappedFiles.{CoreMapping, files_in, list_view}
+use Rattle.cfi_cores.specs.ProcessNames.{process_name}
 use Rattle.cfi_cores.specs.CoreSegments.{bytes_of}
 
 pub record Contents : Type 0 where
   pub threads : List CoreThread
   pub mapped : Option (List CoreMapping)
+  pub vector : Option (List ℕ)
+  pub name : Option (List ℕ)
   pub error : Option CoreError
 
 -- what the code has of it
@@ -29,22 +33,26 @@ abbrev pub contents_view : ContentsOfCode → Contents
 contents_view c = record {
   threads = map thread_view c.threads.items;
   mapped = option_map list_view c.mapped;
+  vector = option_map (λ vector. vector.now) c.vector;
+  name = option_map (λ name. name.now) c.name;
   error = c.error;
 }
 
 -- ---- one after the other
 
 abbrev pub nothing : Contents
-nothing = record { threads = []; mapped = None; error = None }
+nothing = record { threads = []; mapped = None; vector = None; name = None; error = None }
 
 abbrev pub ended_by : CoreError → Contents
-ended_by error = record { threads = []; mapped = None; error = Some error }
+ended_by error = record nothing { error = Some error }
 
 abbrev pub unless_ended : Option CoreError → Contents → Contents → Contents
 unless_ended (Some error) first others = first
 unless_ended None first others = record {
   threads = first.threads ++ others.threads;
   mapped = or_else first.mapped others.mapped;
+  vector = or_else first.vector others.vector;
+  name = or_else first.name others.name;
   error = others.error;
 }
 
@@ -54,18 +62,26 @@ followed_by first others = unless_ended first.error first others
 -- ---- what a note says
 
 abbrev pub of_thread : Option CoreThread → Contents
-of_thread (Some thread) = record { threads = thread ∷ []; mapped = None; error = None }
+of_thread (Some thread) = record nothing { threads = thread ∷ [] }
 of_thread None = ended_by ThreadCut
 
 abbrev pub of_files : Option (List CoreMapping) → Contents
-of_files (Some files) = record { threads = []; mapped = Some files; error = None }
+of_files (Some files) = record nothing { mapped = Some files }
 of_files None = ended_by FilesCut
 
--- NT_PRSTATUS is 1, NT_FILE is 0x46494c45
+abbrev pub of_vector : List ℕ → Contents
+of_vector vector = record nothing { vector = Some vector }
+
+abbrev pub of_name : Option (List ℕ) → Contents
+of_name name = record nothing { name = name }
+
+-- NT_PRSTATUS is 1, NT_PRPSINFO is 3, NT_AUXV is 6, NT_FILE is 0x46494c45
 abbrev pub of_note : SampleMachine → Note → Contents
 of_note machine note =
     if not (pointwise nat_eq note.name (codes "CORE")) then nothing
     else if note.kind == 1 then of_thread (thread_in machine note.desc)
+    else if note.kind == 3 then of_name (process_name note.desc)
+    else if note.kind == 6 then of_vector note.desc
     else if note.kind == 0x46494c45 then of_files (files_in note.desc)
     else nothing
 

@@ -2,8 +2,8 @@
 --     core_of bytes      what the file has, with its segments in the order of their headers
 --     IsCore bytes result      it is returned with its segments by rising addresses; it can't be
 --         read; or memory is refused
-use Rattle.std.specs.Prelude.{◌≡◌, ◌⊎◌, ℕ, true, false, ◌||◌, List, [], map, Result, Ok, Err}
-use Rattle.std.specs.Prelude.{Option, ◌==◌, if◌then◌else◌}
+use Rattle.std.specs.Prelude.{◌≡◌, ◌⊎◌, ℕ, true, false, ◌||◌, List, [], ◌∷◌, ◌++◌, map, Result}
+use Rattle.std.specs.Prelude.{Ok, Err, Option, Some, None, option_map, ◌==◌, if◌then◌else◌}
 use Rattle.std.specs.List.{filter_map}
 use Rattle.cfi_elf.specs.declared.error.ElfError.{ElfError}
 use Rattle.cfi_elf.specs.declared.program_header.ProgramHeader.{ProgramHeader}
@@ -20,9 +20,11 @@ use Rattle.cfi_cores.specs.Contents.{of_headers}
 use Rattle.cfi_cores.specs.CoreSegments.{AreSorted, CoreSegment, loaded_in, segment_view}
 use Rattle.cfi_cores.specs.CoreThreads.{CoreThread, thread_view}
 use Rattle.cfi_cores.specs.MappedFiles.{CoreMapping, list_view}
+use Rattle.cfi_cores.specs.Vdso.{vdso_by}
 
 pub record Core : Type 0 where
   pub machine : SampleMachine
+  pub name : Option (List ℕ)
   pub threads : List CoreThread
   pub mapped : List CoreMapping
   pub segments : List CoreSegment
@@ -32,6 +34,7 @@ pub record Core : Type 0 where
 abbrev pub core_view : CoreOfCode → Core
 core_view core = record {
   machine = core.machine;
+  name = option_map (λ name. name.now) core.name;
   threads = map thread_view core.threads.items;
   mapped = list_view core.mapped;
   segments = map segment_view core.segments.items;
@@ -66,14 +69,21 @@ machine_of file =
     else if e_machine == 183 then Ok AArch64
     else Err (UnknownMachine e_machine)
 
+-- the vdso comes behind the files
+abbrev pub with_vdso : List CoreMapping → Option CoreMapping → List CoreMapping
+with_vdso files None = files
+with_vdso files (Some vdso) = files ++ vdso ∷ []
+
 abbrev pub core_with : SampleMachine → List ℕ → List ProgramHeader → Core
 core_with machine bytes headers =
     let contents = of_headers machine bytes headers in
+    let segments = filter_map (loaded_in bytes) headers in
     record {
       machine = machine;
+      name = contents.name;
       threads = contents.threads;
-      mapped = or_this [] contents.mapped;
-      segments = filter_map (loaded_in bytes) headers;
+      mapped = with_vdso (or_this [] contents.mapped) (vdso_by segments contents.vector);
+      segments = segments;
       error = contents.error;
     }
 
@@ -87,6 +97,7 @@ core_of bytes =
 
 pub record IsSortedCore (found sorted : Core) : Type 0 where
   pub machine : sorted.machine ≡ found.machine
+  pub name : sorted.name ≡ found.name
   pub threads : sorted.threads ≡ found.threads
   pub mapped : sorted.mapped ≡ found.mapped
   pub segments : AreSorted found.segments sorted.segments

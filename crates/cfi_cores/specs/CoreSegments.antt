@@ -1,11 +1,12 @@
 -- The segments of a core file that were loaded (System V ABI chapter 5, "Program Header").
 --     bytes_of bytes header      the bytes of a segment, as far as the file has them
 --     loaded_in bytes header      the segment of a header of type PT_LOAD
+--     bytes_at segments a      the bytes of the first segment that begins at an address
 --     AreInOrder segments      none begins at a lower address than the one before it
 --     number_among segments a size      the number of so many bytes at an address, by the last
 --         segment that begins at or below it
 use Rattle.std.specs.Prelude.{◌≡◌, ℕ, Bool, false, not, List, drop, take, map, bit_and, Option}
-use Rattle.std.specs.Prelude.{Some, None, nat_le, ◌==◌, if◌then◌else◌}
+use Rattle.std.specs.Prelude.{Some, None, find, nat_le, option_map, ◌==◌, if◌then◌else◌}
 use Rattle.std.specs.List.{filter, last_or}
 use Rattle.std.specs.List.Sorted.{IsNonDecreasingBy, IsSortedByKey, IsStableByKey}
 use Rattle.std.specs.Option.{option_and_then}
@@ -41,6 +42,9 @@ loaded_in bytes header =
       is_executable = not (bit_and header.p_flags 1 == 0);
     })
     else None
+
+abbrev pub bytes_at : List CoreSegment → ℕ → Option (List ℕ)
+bytes_at segments a = option_map (λ s. s.bytes) (find (λ s. s.start == a) segments)
 
 -- ---- in the order of their addresses
 

@@ -4,5 +4,8 @@ pub mod CoreThreads
 pub mod MappedFiles
 pub mod CoreSegments
 pub mod CoreMemories
+pub mod Vdso
+pub mod Builds
+pub mod ProcessNames
 pub mod Contents
 pub mod CoreFiles

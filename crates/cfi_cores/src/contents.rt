@@ -1,13 +1,15 @@
 //! What the notes of a core file say.
-ghost use Rattle.std.specs.Prelude.{◌≡◌, IfOk, OnOk};
+ghost use Rattle.std.specs.Prelude.{◌≡◌, IfOk, OnOk, option_map};
 ghost use Rattle.cfi_elf.specs.Notes.{note_view};
 ghost use Rattle.cfi_elf.specs.SegmentLists.{segments_left};
 ghost use Rattle.cfi_cores.specs.Contents.{contents_view, ended_by, files_found, followed_by};
-ghost use Rattle.cfi_cores.specs.Contents.{nothing, of_files, of_header, of_headers, of_note};
-ghost use Rattle.cfi_cores.specs.Contents.{of_segment, of_thread, thread_found};
+ghost use Rattle.cfi_cores.specs.Contents.{nothing, of_files, of_header, of_headers, of_name};
+ghost use Rattle.cfi_cores.specs.Contents.{of_note, of_segment, of_thread, of_vector};
+ghost use Rattle.cfi_cores.specs.Contents.{thread_found};
 
 use crate::error::CoreError;
 use crate::mapped_files::{CoreMapping, files_in};
+use crate::process_name::process_name;
 use crate::segments::bytes_of;
 use crate::thread::{CoreThread, thread_in};
 use cfi_elf::{Note, Notes, ProgramHeader, Segments};
@@ -19,6 +21,10 @@ const PT_NOTE: u32 = 4;
 
 const NT_PRSTATUS: u32 = 1;
 
+const NT_PRPSINFO: u32 = 3;
+
+const NT_AUXV: u32 = 6;
+
 const NT_FILE: u32 = 0x4649_4c45;
 
 /// What notes say, up to the error that ended them, if one did.
@@ -28,6 +34,10 @@ pub(crate) struct Contents<'run> {
     pub(crate) threads: Vec<CoreThread<'run>>,
     /// The files that were mapped, by the first note that tells of them.
     pub(crate) mapped: Option<Vec<CoreMapping<'run>>>,
+    /// The auxiliary vector, by the first note that has one.
+    pub(crate) vector: Option<&'run [u8]>,
+    /// The name of the process, by the first note that has it.
+    pub(crate) name: Option<&'run [u8]>,
     pub(crate) error: Option<CoreError>,
 }
 
@@ -57,6 +67,8 @@ impl<'run> Contents<'run> {
         Contents {
             threads: Vec::new(alloc),
             mapped: None,
+            vector: None,
+            name: None,
             error: None,
         }
     }
@@ -112,6 +124,8 @@ impl<'run> Contents<'run> {
         }
         match note.kind {
             NT_PRSTATUS => self.push_thread(thread_in(machine, note.desc))?,
+            NT_PRPSINFO => self.keep_name(process_name(note.desc)),
+            NT_AUXV => self.keep_vector(note.desc),
             NT_FILE => self.map_files(files_in(alloc, note.desc)?),
             _ => {}
         }
@@ -146,6 +160,26 @@ impl<'run> Contents<'run> {
                 }
             }
             None => self.end(CoreError::FilesCut),
+        }
+    }
+
+    /// Takes the auxiliary vector of a note too.
+    fn keep_vector(&mut self, vector: &'run [u8])
+        ensures { contents_view self.new
+            ≡ followed_by (contents_view self.old) (of_vector vector.entry.now) }
+    {
+        if self.error.is_none() && self.vector.is_none() {
+            self.vector = Some(vector);
+        }
+    }
+
+    /// Takes the name that a note has for the process too, if it has one.
+    fn keep_name(&mut self, name: Option<&'run [u8]>)
+        ensures { contents_view self.new ≡ followed_by (contents_view self.old)
+            (of_name (option_map (λ name. name.now) name.entry)) }
+    {
+        if self.error.is_none() && self.name.is_none() {
+            self.name = name;
         }
     }
 

@@ -6,14 +6,15 @@ ghost use Rattle.cfi_elf.specs.Options.{or_this};
 ghost use Rattle.cfi_elf.specs.SegmentLists.{segments_left};
 ghost use Rattle.cfi_cores.specs.CoreSegments.{AreInOrder};
 ghost use Rattle.cfi_cores.specs.CoreFiles.{IsCore, IsSortedCore, core_elf, core_headers};
-ghost use Rattle.cfi_cores.specs.CoreFiles.{core_view, core_with, machine_of};
-ghost use Rattle.cfi_cores.specs.MappedFiles.{list_view};
+ghost use Rattle.cfi_cores.specs.CoreFiles.{core_view, core_with, machine_of, with_vdso};
+ghost use Rattle.cfi_cores.specs.MappedFiles.{list_view, mapping_view};
 
 use crate::contents::read_contents;
 use crate::error::CoreError;
 use crate::mapped_files::CoreMapping;
 use crate::segments::{CoreSegment, loaded_segments};
 use crate::thread::CoreThread;
+use crate::vdso::vdso_by;
 use cfi_elf::{Class, ElfFile, Segments};
 use cfi_processes::SampleMachine;
 use cfi_read_core::Endianity;
@@ -28,9 +29,12 @@ const EM_AARCH64: u16 = 183;
 pub struct Core<'run> {
     /// The machine (`e_machine`).
     pub machine: SampleMachine,
+    /// The name of the process (`pr_fname`), if the notes have it.
+    pub name: Option<&'run [u8]>,
     /// The threads, in the order of the notes.
     pub threads: Vec<CoreThread<'run>>,
-    /// The files that were mapped, in the order of the first note that tells of them.
+    /// The files that were mapped, in the order of the first note that tells of them; then the
+    /// vdso, if the auxiliary vector says where it was mapped (`vdso_name`).
     pub mapped: Vec<CoreMapping<'run>>,
     /// The segments that were loaded, by rising addresses. Each has the bytes that the file has of
     /// it: none where the memory was not dumped, or the file is cut.
@@ -69,13 +73,15 @@ fn core_with<'run>(
         (core_with machine bytes.now (segments_left headers.entry)) (core_view core)) }
     ensures in_order { IfOk result (λ core. AreInOrder core.segments.items) }
 {
-    let mut segments = loaded_segments(alloc, bytes, headers)?;
-    segments.sort_by_key(|segment| segment.start)?;
     let contents = read_contents(alloc, machine, bytes, headers)?;
+    let mut segments = loaded_segments(alloc, bytes, headers)?;
+    let vdso = vdso_by(segments.as_slice(), contents.vector);
+    segments.sort_by_key(|segment| segment.start)?;
     Ok(Core {
         machine,
+        name: contents.name,
         threads: contents.threads,
-        mapped: or_none(alloc, contents.mapped),
+        mapped: with_vdso(or_none(alloc, contents.mapped), vdso)?,
         segments,
         error: contents.error,
     })
@@ -89,6 +95,21 @@ fn or_none<'run>(alloc: Global, list: Option<Vec<CoreMapping<'run>>>) -> Vec<Cor
         Some(list) => list,
         None => Vec::new(alloc),
     }
+}
+
+/// The list, and the vdso behind it if it was mapped. Fails where memory is refused.
+fn with_vdso<'run>(
+    list: Vec<CoreMapping<'run>>,
+    vdso: Option<CoreMapping<'run>>,
+) -> Result<Vec<CoreMapping<'run>>, AllocError>
+    ensures { IfOk result (λ whole. list_view whole
+        ≡ with_vdso (list_view list.entry) (option_map mapping_view vdso.entry)) }
+{
+    let mut list = list;
+    if let Some(vdso) = vdso {
+        list.push(vdso)?;
+    }
+    Ok(list)
 }
 
 /// The file, by its header.

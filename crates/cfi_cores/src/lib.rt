@@ -2,19 +2,23 @@
 //!
 //! A core file is an ELF file of type `ET_CORE`. Its segments of type `PT_NOTE` have the registers
 //! of each thread (`NT_PRSTATUS`) and the files that were mapped (`NT_FILE`), those of type
-//! `PT_LOAD` the memory. `core_file` reads it, `contents` its notes, `thread` and `mapped_files`
-//! what these say; `registers` finds a thread's registers by DWARF's numbers, and `memory` reads
+//! `PT_LOAD` the memory. `core_file` reads it, `contents` its notes, `thread`, `mapped_files`,
+//! `process_name` and `vdso` what these say; `builds` finds images of files in the memory, and
+//! their build ids; `registers` finds a thread's registers by DWARF's numbers, and `memory` reads
 //! the memory.
 #![tactic(auto)]
 
+pub mod builds;
 mod contents;
 pub mod core_file;
 pub mod error;
 pub mod mapped_files;
 pub mod memory;
+mod process_name;
 mod registers;
 pub mod segments;
 pub mod thread;
+pub mod vdso;
 
 pub use core_file::{Core, read_core};
 pub use error::CoreError;

@@ -2,7 +2,7 @@
 ghost use Rattle.std.specs.Prelude.{◌≡◌, ⊤, IfOk, map, option_map};
 ghost use Rattle.std.specs.List.{filter_map};
 ghost use Rattle.cfi_elf.specs.SegmentLists.{segments_left};
-ghost use Rattle.cfi_cores.specs.CoreSegments.{bytes_of, loaded_in, segment_view};
+ghost use Rattle.cfi_cores.specs.CoreSegments.{bytes_at, bytes_of, loaded_in, segment_view};
 
 use cfi_elf::bytes::bytes_from;
 use cfi_elf::{ProgramHeader, Segments};
@@ -77,4 +77,16 @@ fn loaded_in<'run>(bytes: &'run [u8], header: &ProgramHeader) -> Option<CoreSegm
         bytes: bytes_of(bytes, header),
         is_executable: header.p_flags & PF_X != 0,
     })
+}
+
+/// The bytes that the core has from an address on: those of the first segment that begins there, or
+/// `None` where none does.
+pub(crate) fn bytes_at<'run>(segments: &[CoreSegment<'run>], address: u64) -> Option<&'run [u8]>
+    ensures { option_map (λ bytes. bytes.now) result
+        ≡ bytes_at (map segment_view segments.now) address }
+{
+    match segments.iter().find(|segment| segment.start == address) {
+        Some(segment) => Some(segment.bytes),
+        None => None,
+    }
 }

@@ -52,8 +52,9 @@ pub printed_in : {E : Type 0} (raw : Bool) (core : Core) (opened : List Opened) 
 printed_in raw core opened files windows old new result are (printed, prints, is) = (printed, prints, inl (windows, are, is))
 
 -- a thread's text, where what is mapped and the memory are these
-pub text_there : (raw : Bool) (machine : SampleMachine) (files : List KnownFile) (list these : List MappedCode) (m memory : CoreMemory) (thread : CoreThread) (text : List ℕ) → list ≡ these → m ≡ memory
-    → IsThreadText raw machine files list (number_at m) thread text → IsThreadText raw machine files these (number_at memory) thread text
-text_there raw machine files list these m memory thread text mapped same is =
-    subst (λ (list : List MappedCode). IsThreadText raw machine files list (number_at memory) thread text) mapped
-    (subst (λ (m : CoreMemory). IsThreadText raw machine files list (number_at m) thread text) same is)
+pub text_there : (raw : Bool) (machine : SampleMachine) (files : List KnownFile) (list these : List MappedCode) (m memory : CoreMemory) (name of : Option (List ℕ)) (thread : CoreThread) (text : List ℕ) → list ≡ these → m ≡ memory → name ≡ of
+    → IsThreadText raw machine files list (number_at m) name thread text → IsThreadText raw machine files these (number_at memory) of thread text
+text_there raw machine files list these m memory name of thread text mapped same named is =
+    subst (λ (list : List MappedCode). IsThreadText raw machine files list (number_at memory) of thread text) mapped
+    (subst (λ (m : CoreMemory). IsThreadText raw machine files list (number_at m) of thread text) same
+    (subst (λ (n : Option (List ℕ)). IsThreadText raw machine files list (number_at m) n thread text) named is))

@@ -39,7 +39,7 @@ no_status (Err e) err = tt
 
 module _ (raw : Bool) (files : List KnownFile) (memory : ℕ → ℕ → Option ℕ) (core : Core) where
   abbrev IsText : CoreThread → List ℕ → Type 0
-  IsText = IsThreadText raw core.machine files (mappings_of files core.segments core.mapped) memory
+  IsText = IsThreadText raw core.machine files (mappings_of files core.segments core.mapped) memory core.name
 
   abbrev AreTexts : List CoreThread → List ℕ → Type 0
   AreTexts = AreOfThreads raw files memory core

@@ -1,8 +1,9 @@
--- The lines before the frames of samples, worked out from the definitions alone, as perf script prints them.
-use Rattle.std.proofs.Common.{◌≡◌, ℕ, List, [], ◌∷◌, ◌++◌, Option, Some, None, codes, refl}
+-- Lines of stacks, worked out from the definitions alone: those before the frames of samples as perf script prints them.
+use Rattle.std.proofs.Common.{◌≡◌, ℕ, List, [], ◌∷◌, ◌++◌, Option, Some, None, codes, map, refl, false, true}
 use Rattle.std.specs.Fmt.{digits}
 use Rattle.cfi_perf.specs.Samples.{Sample}
-use Rattle.cfi_stacks.specs.StackTexts.{head_line, thread_text, time_text}
+use Rattle.cfi_stacks.specs.Signals.{signal_name}
+use Rattle.cfi_stacks.specs.StackTexts.{core_frame_line, head_line, thread_line, thread_text, time_text}
 
 abbrev of_thread : ℕ → Option ℕ → ℕ → List ℕ → Sample
 of_thread tid cpu period event = record { pid = 17261; tid = tid; ip = 0; cpu = cpu; period = period; event = event; user = record { registers = None; stack = [] } }
@@ -35,3 +36,24 @@ large_numbers = refl
 late : time_text 123456789012345678 ≡ codes "123456789.012345"
 unfolding digits
 late = refl
+
+-- ---- core files
+
+some_signals : map signal_name (0 ∷ 1 ∷ 6 ∷ 11 ∷ 31 ∷ 32 ∷ []) ≡ None ∷ Some (codes "SIGHUP") ∷ Some (codes "SIGABRT") ∷ Some (codes "SIGSEGV") ∷ Some (codes "SIGSYS") ∷ None ∷ []
+some_signals = refl
+
+a_thread : thread_line 17121 6 (Some (codes "sorter")) ≡ codes "thread 17121 signal 6 SIGABRT of sorter" ++ 10 ∷ []
+unfolding digits
+a_thread = refl
+
+in_real_time : thread_line 7 34 None ≡ codes "thread 7 signal 34" ++ 10 ∷ []
+unfolding digits
+in_real_time = refl
+
+without_signal : thread_line 7 0 (Some (codes "sorter")) ≡ codes "thread 7 of sorter" ++ 10 ∷ []
+unfolding digits
+without_signal = refl
+
+a_frame : core_frame_line true 0x7ff0000000c6 (record { place = 0xc6; function = None; file = Some (codes "[vdso]") }) ≡ codes "\t    7ff0000000c6\t              c6 ([vdso])" ++ 10 ∷ []
+unfolding digits
+a_frame = refl

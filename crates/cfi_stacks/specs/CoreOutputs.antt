@@ -1,5 +1,7 @@
 -- Which output is right for a core file.
---     code_files segments mapped      the files that are mapped as code
+--     code_files segments mapped      the files that are mapped as code, with the builds that the
+--         core has of them
+--     with_vdso core opened      the files that were opened, and the vdso as the core has it
 --     mappings_of files segments mapped      what is mapped as code, with the files' numbers
 --     AreWindows opened mapped windows      what the files have of the memory, by its addresses
 --     IsThreadText raw machine files list memory thread text      the text of a thread's stack
@@ -7,10 +9,11 @@
 --         the notes
 --     IsOutput raw may_open remaining bytes line      the output of a core file of these bytes,
 --         whose files may be opened so
-use Rattle.std.specs.Prelude.{◌≡◌, ◌⊎◌, ℕ, ◌-◌, ◌==◌, ◌||◌, Bool, true, false, List, [], ◌∷◌, ◌++◌}
+use Rattle.std.specs.Prelude.{◌≡◌, ◌⊎◌, ℕ, ◌-◌, ◌==◌, ◌||◌, ◌&&◌, Bool, true, false, List, []}
+use Rattle.std.specs.Prelude.{◌∷◌, ◌++◌}
 use Rattle.std.specs.Prelude.{Option, Some, None, Result, Ok, Err, codes, drop, find, fold, map}
 use Rattle.std.specs.Prelude.{not, position, take, if◌then◌else◌}
-use Rattle.std.specs.List.{filter_map, list_all}
+use Rattle.std.specs.List.{filter_map, flat_map, list_all}
 use Rattle.std.specs.Option.{option_and_then, option_map}
 use Rattle.std.specs.Str.{bytes_eq}
 use Rattle.cfi_read_core.specs.declared.endianity.RunTimeEndian.{RunTimeEndian}
@@ -21,10 +24,11 @@ use Rattle.cfi_programs.specs.Runs.{out_of_memory}
 use Rattle.cfi_step.specs.declared.module.LoadedModule.{LoadedModule}
 use Rattle.cfi_step.specs.declared.walk.StackFrame.{StackFrame}
 use Rattle.cfi_step.specs.declared.walk.Walk.{Walk}
+use Rattle.cfi_step.specs.Steps.{row_address}
 use Rattle.cfi_processes.specs.declared.mappings.MappedCode.{MappedCode}
 use Rattle.cfi_processes.specs.declared.registers.SampleMachine.{SampleMachine}
 use Rattle.cfi_processes.specs.declared.sample_stack.NoFrames.{NoFrames}
-use Rattle.cfi_processes.specs.KnownFiles.{KnownFile, modules_in}
+use Rattle.cfi_processes.specs.KnownFiles.{KnownFile, modules_in, site_of}
 use Rattle.cfi_processes.specs.Mappings.{mapped_over}
 use Rattle.cfi_processes.specs.Modules.{module_view}
 use Rattle.cfi_processes.specs.OpenedFiles.{AreFilesOf, AreOpened, Opened}
@@ -32,27 +36,47 @@ use Rattle.cfi_processes.specs.Replays.{with_file}
 use Rattle.cfi_processes.specs.SampleStacks.{HasRoom, Room}
 use Rattle.cfi_processes.specs.Wanted.{FilePlace, Wanted}
 use Rattle.cfi_cores.specs.declared.error.CoreError.{CoreError}
+use Rattle.cfi_cores.specs.Builds.{build_of, image_of}
 use Rattle.cfi_cores.specs.CoreFiles.{Core, IsSortedCore, core_of}
 use Rattle.cfi_cores.specs.CoreMemories.{number_at}
 use Rattle.cfi_cores.specs.CoreSegments.{AreSorted, CoreSegment}
 use Rattle.cfi_cores.specs.CoreThreads.{CoreThread}
 use Rattle.cfi_cores.specs.ErrorNames.{name_of_core}
 use Rattle.cfi_cores.specs.MappedFiles.{CoreMapping}
-use Rattle.cfi_stacks.specs.ProfileOutputs.{walk_text}
-use Rattle.cfi_stacks.specs.StackTexts.{thread_line}
+use Rattle.cfi_cores.specs.Vdso.{vdso_name}
+use Rattle.cfi_stacks.specs.Reasons.{reason_line, reason_of, reason_without}
+use Rattle.cfi_stacks.specs.StackTexts.{core_frame_line, thread_line}
 use Rattle.cfi_stacks.specs.ThreadStacks.{IsUnwound}
 
 -- ---- a thread
 
--- behind a line with its number and its signal, and before an empty line
+-- a frame is looked up as its row is: a return address less one
+abbrev pub core_frame_text : Bool → List KnownFile → List MappedCode → StackFrame → List ℕ
+core_frame_text raw files list frame =
+    let address = row_address frame.pc frame.is_interrupted in
+    core_frame_line raw address (site_of files list address)
+
+abbrev pub core_stack_text :
+    Bool → List KnownFile → List MappedCode → List StackFrame → List ℕ
+core_stack_text raw files list frames = flat_map (core_frame_text raw files list) frames
+
+-- the frames of a walk and why there are no more, or why there are none
+abbrev pub core_walk_text :
+    Bool → List KnownFile → List MappedCode → Result Walk NoFrames → List StackFrame → List ℕ
+core_walk_text raw files list (Ok walk) room =
+    core_stack_text raw files list (take walk.count room) ++ reason_line (reason_of walk.end)
+core_walk_text raw files list (Err why) room = reason_line (Some (reason_without why))
+
+-- behind a line with its number, its signal and its process, and before an empty line
 abbrev pub thread_text :
-    Bool → List KnownFile → List MappedCode → CoreThread → Result Walk NoFrames → List StackFrame →
-    List ℕ
-thread_text raw files list thread result room =
-    thread_line thread.tid thread.signal ++ (walk_text raw files list result room ++ 10 ∷ [])
+    Bool → List KnownFile → List MappedCode → Option (List ℕ) → CoreThread →
+    Result Walk NoFrames → List StackFrame → List ℕ
+thread_text raw files list name thread result room =
+    thread_line thread.tid thread.signal name
+    ++ (core_walk_text raw files list result room ++ 10 ∷ [])
 
 module _ (raw : Bool) (machine : SampleMachine) (files : List KnownFile) (list : List MappedCode)
-    (memory : ℕ → ℕ → Option ℕ) where
+    (memory : ℕ → ℕ → Option ℕ) (name : Option (List ℕ)) where
   -- by the modules that are mapped, in a room for 4096 frames and a storage of 192 rules and 4 rows
   abbrev pub IsThreadText : CoreThread → List ℕ → Type 0
   IsThreadText thread text =
@@ -61,7 +85,7 @@ module _ (raw : Bool) (machine : SampleMachine) (files : List KnownFile) (list :
       × (map module_view modules ≡ modules_in files list) × HasRoom old.frames
       × IsUnwound (slice_position is_big) (λ n. n) (Some 192) (Some 4) true modules machine memory
       thread old result new
-      × (text ≡ thread_text raw files list thread result new.frames)
+      × (text ≡ thread_text raw files list name thread result new.frames)
 
   abbrev pub AreThreadTexts : List CoreThread → List ℕ → Type 0
   AreThreadTexts [] text = text ≡ []
@@ -76,13 +100,19 @@ abbrev pub is_code : List CoreSegment → CoreMapping → Bool
 is_code segments m =
     list_all (λ segment. segment.is_executable || not (segment.start == m.start)) segments
 
-abbrev pub code_file : List CoreSegment → CoreMapping → Option Wanted
-code_file segments m =
-    if is_code segments m then Some (record { name = m.name; build_id = None }) else None
+-- the vdso is no file to be opened
+abbrev pub is_file_of_code : List CoreSegment → CoreMapping → Bool
+is_file_of_code segments m = is_code segments m && not (bytes_eq m.name vdso_name)
+
+abbrev pub code_file : List CoreSegment → List CoreMapping → CoreMapping → Option Wanted
+code_file segments mapped m =
+    if is_file_of_code segments m
+    then Some (record { name = m.name; build_id = build_of segments mapped m.name }) else None
 
 -- each once, in the order of the mappings
 abbrev pub code_files : List CoreSegment → List CoreMapping → List Wanted
-code_files segments mapped = fold (λ files m. with_file files (code_file segments m)) [] mapped
+code_files segments mapped =
+    fold (λ files m. with_file files (code_file segments mapped m)) [] mapped
 
 -- with the number of its file among those that were opened
 abbrev pub mapped_code : List KnownFile → CoreMapping → MappedCode
@@ -101,6 +131,25 @@ with_mapping files segments list m =
 abbrev pub mappings_of :
     List KnownFile → List CoreSegment → List CoreMapping → List MappedCode
 mappings_of files segments mapped = fold (with_mapping files segments) [] mapped
+
+-- ---- the vdso
+
+-- as a file whose bytes are those that the core has of it
+abbrev pub vdso_file : Core → Option Opened
+vdso_file core =
+    option_map (λ image. record {
+      name = vdso_name;
+      build_id = build_of core.segments core.mapped vdso_name;
+      bytes = Some image;
+      debug = None;
+    }) (image_of core.segments core.mapped vdso_name)
+
+abbrev pub and_file : List Opened → Option Opened → List Opened
+and_file opened None = opened
+and_file opened (Some file) = opened ++ file ∷ []
+
+abbrev pub with_vdso : Core → List Opened → List Opened
+with_vdso core opened = and_file opened (vdso_file core)
 
 -- ---- what the files have of the memory
 
@@ -136,6 +185,7 @@ module _ (raw : Bool) (files : List KnownFile) (memory : ℕ → ℕ → Option 
   abbrev pub AreOfThreads : List CoreThread → List ℕ → Type 0
   AreOfThreads =
       AreThreadTexts raw core.machine files (mappings_of files core.segments core.mapped) memory
+      core.name
 
   -- or memory was refused behind the first of them
   abbrev pub IsPrinted : Line → Type 0
@@ -162,11 +212,11 @@ IsOfOpened raw core opened printed =
 
 module _ (raw : Bool) {Handle : Type 0} (may_open : FilePlace → Option Handle → Type 0)
     (remaining : Handle → Option (List ℕ)) where
-  -- by these files
+  -- by these files and the vdso
   abbrev pub IsOfWanted : Core → List Wanted → Line → Type 0
   IsOfWanted core wanted printed =
       (opened : List Opened) × AreOpened may_open remaining wanted opened
-      × IsOfOpened raw core opened printed
+      × IsOfOpened raw core (with_vdso core opened) printed
 
   abbrev pub IsOfCore : Core → Line → Type 0
   IsOfCore core printed = IsOfWanted core (code_files core.segments core.mapped) printed

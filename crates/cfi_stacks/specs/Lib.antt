@@ -1,3 +1,4 @@
+pub mod Signals
 pub mod StackTexts
 pub mod Reasons
 pub mod Rooms

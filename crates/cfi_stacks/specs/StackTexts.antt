@@ -1,8 +1,10 @@
 -- The text of the stack of a sample, or of a thread of a core file.
 --     head_line name time sample      the line before the frames of a sample, as perf script prints
 --         it with -F comm,pid,tid,cpu,time,period,event
---     thread_line tid signal      the line of a core file's thread and the signal that it got
+--     thread_line tid signal name      the line of a core file's thread: the signal that it got,
+--         and the name of the process
 --     site_line raw site      the line of a frame, raw or with its function
+--     core_frame_line raw a site      that of a frame of a core file, with its address
 use Rattle.std.specs.Prelude.{ℕ, ◌-◌, ◌/◌, ◌%◌, ◌==◌, Bool, List, [], ◌∷◌, ◌++◌, Option, Some, None}
 use Rattle.std.specs.Prelude.{codes, false, length, map, take, if◌then◌else◌}
 use Rattle.std.specs.Fmt.{decimal, digits}
@@ -11,6 +13,7 @@ use Rattle.cfi_programs.specs.FunctionLines.{shown}
 use Rattle.cfi_programs.specs.Lines.{address_text}
 use Rattle.cfi_perf.specs.Samples.{Sample}
 use Rattle.cfi_processes.specs.Sites.{Site}
+use Rattle.cfi_stacks.specs.Signals.{signal_name}
 
 -- behind as much of the fill as makes it as long
 abbrev pub filled : List ℕ → List ℕ → List ℕ
@@ -58,12 +61,26 @@ head_line name time s =
     name_text s.tid name
     ++ (numbers_text time s ++ (map shown s.event ++ (codes ":" ++ 10 ∷ [])))
 
+-- behind a space, where there is one
+abbrev pub signal_name_text : Option (List ℕ) → List ℕ
+signal_name_text None = []
+signal_name_text (Some name) = codes " " ++ name
+
 -- where it got none, its number is 0
 abbrev pub signal_text : ℕ → List ℕ
-signal_text signal = if signal == 0 then [] else codes " signal " ++ decimal signal
+signal_text signal =
+    if signal == 0 then []
+    else codes " signal " ++ decimal signal ++ signal_name_text (signal_name signal)
 
-abbrev pub thread_line : ℕ → ℕ → List ℕ
-thread_line tid signal = codes "thread " ++ decimal tid ++ (signal_text signal ++ 10 ∷ [])
+abbrev pub thread_start : ℕ → ℕ → List ℕ
+thread_start tid signal = codes "thread " ++ decimal tid ++ signal_text signal
+
+abbrev pub process_text : Option (List ℕ) → List ℕ
+process_text None = []
+process_text (Some name) = codes " of " ++ map shown name
+
+abbrev pub thread_line : ℕ → ℕ → Option (List ℕ) → List ℕ
+thread_line tid signal name = thread_start tid signal ++ (process_text name ++ 10 ∷ [])
 
 -- ---- a frame
 
@@ -79,9 +96,11 @@ file_text None = unknown
 file_text (Some name) = map shown name
 
 -- behind a tab, in sixteen columns
+abbrev pub number_column : ℕ → List ℕ
+number_column n = codes "\t" ++ filled (codes "                ") (digits 16 false n)
+
 abbrev pub column_text : ℕ → List ℕ
-column_text place =
-    codes "\t" ++ filled (codes "                ") (digits 16 false place) ++ codes " "
+column_text place = number_column place ++ codes " "
 
 -- the place, the function, and the file in parentheses
 abbrev pub frame_line : Site → List ℕ
@@ -98,3 +117,9 @@ place_line site =
 -- raw: the function is left out
 abbrev pub site_line : Bool → Site → List ℕ
 site_line raw site = if raw then place_line site else frame_line site
+
+-- ---- a frame of a core file
+
+-- the address in the process before these
+abbrev pub core_frame_line : Bool → ℕ → Site → List ℕ
+core_frame_line raw a site = number_column a ++ site_line raw site

@@ -1,5 +1,5 @@
 //! What the files of a core have of its process: the code, and the memory that the core lacks.
-ghost use Rattle.std.specs.Prelude.{◌≡◌, IfOk, map, option_map, take};
+ghost use Rattle.std.specs.Prelude.{◌≡◌, IfOk, OnOk, map, option_map, take};
 ghost use Rattle.std.specs.List.{filter_map};
 ghost use Rattle.cfi_cores.specs.CoreSegments.{AreInOrder, segment_view};
 ghost use Rattle.cfi_cores.specs.CoreFiles.{core_view};
@@ -10,9 +10,12 @@ ghost use Rattle.cfi_processes.specs.Modules.{module_view};
 ghost use Rattle.cfi_processes.specs.OpenedFiles.{opened_view};
 ghost use Rattle.cfi_processes.specs.Wanted.{wanted_view};
 ghost use Rattle.cfi_stacks.specs.CoreOutputs.{AreWindows, bytes_named, code_file, code_files};
-ghost use Rattle.cfi_stacks.specs.CoreOutputs.{file_window, is_code, mapped_code, mappings_of};
-ghost use Rattle.cfi_stacks.specs.CoreOutputs.{part_of};
+ghost use Rattle.cfi_stacks.specs.CoreOutputs.{file_window, is_code, is_file_of_code};
+ghost use Rattle.cfi_stacks.specs.CoreOutputs.{mapped_code, mappings_of, part_of, vdso_file};
+ghost use Rattle.cfi_stacks.specs.CoreOutputs.{with_vdso};
 
+use cfi_cores::builds::{build_of, image_of};
+use cfi_cores::vdso::vdso_name;
 use cfi_cores::{Core, CoreMapping, CoreSegment};
 use cfi_elf::bytes::bytes_from;
 use cfi_processes::mappings::{MappedCode, Mappings};
@@ -33,11 +36,11 @@ pub struct CoreCode<'a, 'run> {
     pub windows: Vec<CoreSegment<'run>>,
 }
 
-/// The files that are mapped as code, each once, in the order of the mappings. Fails where memory
-/// is refused.
+/// The files that are mapped as code, each once, in the order of the mappings, with the builds that
+/// the core has of them (`cfi_cores::builds::build_of`). Fails where memory is refused.
 pub fn code_files<'run>(
     alloc: Global,
-    segments: &[CoreSegment<'_>],
+    segments: &[CoreSegment<'run>],
     mapped: &[CoreMapping<'run>],
 ) -> Result<Vec<WantedFile<'run>>, AllocError>
     ensures { IfOk result (λ files. map wanted_view files.items
@@ -45,27 +48,35 @@ pub fn code_files<'run>(
 {
     let mut files = Vec::new(alloc);
     for mapping in mapped {
-        push_file(&mut files, code_file(segments, mapping))?;
+        push_file(&mut files, code_file(segments, mapped, mapping))?;
     }
     Ok(files)
 }
 
 /// The file that is mapped, if it is mapped as code.
 fn code_file<'run>(
-    segments: &[CoreSegment<'_>],
+    segments: &[CoreSegment<'run>],
+    mapped: &[CoreMapping<'run>],
     mapping: &CoreMapping<'run>,
 ) -> Option<WantedFile<'run>>
-    ensures { option_map wanted_view result
-        ≡ code_file (map segment_view segments.now) (mapping_view mapping.now) }
+    ensures { option_map wanted_view result ≡ code_file (map segment_view segments.now)
+        (map mapping_view mapped.now) (mapping_view mapping.now) }
 {
-    if is_code(segments, mapping) {
+    if is_file_of_code(segments, mapping) {
         Some(WantedFile {
             name: mapping.name,
-            build_id: None,
+            build_id: build_of(segments, mapped, mapping.name),
         })
     } else {
         None
     }
+}
+
+/// Whether code of a file may be mapped: the vdso isn't one.
+fn is_file_of_code(segments: &[CoreSegment<'_>], mapping: &CoreMapping<'_>) -> bool
+    ensures { result ≡ is_file_of_code (map segment_view segments.now) (mapping_view mapping.now) }
+{
+    is_code(segments, mapping) && mapping.name != b"[vdso]".as_slice()
 }
 
 /// Whether code may be mapped: no segment of the core begins there that isn't executable.
@@ -73,6 +84,43 @@ fn is_code(segments: &[CoreSegment<'_>], mapping: &CoreMapping<'_>) -> bool
     ensures { result ≡ is_code (map segment_view segments.now) (mapping_view mapping.now) }
 {
     segments.iter().all(|segment| segment.is_executable || segment.start != mapping.start)
+}
+
+/// Puts the vdso behind the files that were opened, with the bytes that the core has of it, if it
+/// has any. Fails where memory is refused.
+pub fn push_vdso<'run>(
+    alloc: Global,
+    core: &Core<'run>,
+    opened: &mut Vec<OpenedFile<'run>>,
+) -> Result<(), AllocError>
+    ensures { OnOk result (map opened_view opened.new.items
+        ≡ with_vdso (core_view core.now) (map opened_view opened.old.items)) }
+{
+    match vdso_file(alloc, core)? {
+        Some(file) => {
+            opened.push(file)?;
+            Ok(())
+        }
+        None => Ok(()),
+    }
+}
+
+/// The vdso as a file that was opened, if the core has it. Fails where memory is refused.
+fn vdso_file<'run>(alloc: Global, core: &Core<'run>) -> Result<Option<OpenedFile<'run>>, AllocError>
+    ensures { IfOk result (λ file. option_map opened_view file ≡ vdso_file (core_view core.now)) }
+{
+    let name = vdso_name();
+    let segments = core.segments.as_slice();
+    let mapped = core.mapped.as_slice();
+    let Some(image) = image_of(segments, mapped, name) else {
+        return Ok(None);
+    };
+    Ok(Some(OpenedFile {
+        name,
+        build_id: build_of(segments, mapped, name),
+        bytes: Some(image.to_vec(alloc)?),
+        debug: None,
+    }))
 }
 
 /// What is mapped as code, its modules, and what the files have of the memory. Fails where memory

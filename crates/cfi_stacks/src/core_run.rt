@@ -1,5 +1,5 @@
 //! The stacks of a core file that a reader gives.
-ghost use Rattle.std.specs.Prelude.{◌≡◌, ◌⊎◌, ℕ, [], List, map};
+ghost use Rattle.std.specs.Prelude.{◌≡◌, ◌⊎◌, ℕ, [], List, map, option_map};
 ghost use Rattle.cfi_cores.specs.CoreSegments.{AreInOrder, segment_view};
 ghost use Rattle.cfi_cores.specs.CoreFiles.{core_view};
 ghost use Rattle.cfi_object.specs.FileParts.{AreLeft};
@@ -8,19 +8,21 @@ ghost use Rattle.cfi_processes.specs.KnownFiles.{known_view, modules_in};
 ghost use Rattle.cfi_processes.specs.Modules.{module_view};
 ghost use Rattle.cfi_processes.specs.OpenedFiles.{opened_view};
 ghost use Rattle.cfi_processes.specs.SampleStacks.{HasRoom};
+ghost use Rattle.cfi_processes.specs.ThreadNames.{bytes_of};
 ghost use Rattle.cfi_processes.specs.Wanted.{wanted_view};
 ghost use Rattle.cfi_programs.specs.Runs.{out_of_memory};
 ghost use Rattle.cfi_programs.specs.WriterOutput.{Prints, PrintsSome};
 ghost use Rattle.cfi_stacks.specs.CoreOutputs.{IsOfCore, IsOfFiles, IsOfOpened, IsOfWanted};
 ghost use Rattle.cfi_stacks.specs.CoreOutputs.{IsOutput, IsOwed, IsPrinted, core_refusal, ended};
-ghost use Rattle.cfi_stacks.specs.CoreOutputs.{mappings_of, memory_of};
+ghost use Rattle.cfi_stacks.specs.CoreOutputs.{mappings_of, memory_of, with_vdso};
 ghost use Rattle.cfi_stacks.specs.Rooms.{KeepsNoRows};
 
-use crate::core_files::{CoreCode, code_files, core_code};
+use crate::core_files::{CoreCode, code_files, core_code, push_vdso};
 use crate::core_text::print_thread;
 use crate::sample_text::Room;
 use cfi_cores::{Core, CoreError, CoreMemory, read_core};
 use cfi_object::input::{InputError, read_all};
+use cfi_processes::Name;
 use cfi_processes::process_code::ProcessCode;
 use cfi_processes::profile_files::{OpenedFile, Opener, ProfileFile, profile_files, read_files};
 use cfi_processes::wanted::WantedFile;
@@ -32,11 +34,13 @@ use std::io::{Read, Write};
 
 /// Reads the core file to its end, and prints the stack of each thread, in the order of its notes.
 ///
-/// For each there is a line with the thread and the signal that it got, a line for each frame,
-/// where there is a reason for which the last frame isn't the outermost one a line with it, and an
-/// empty line. The line of a frame has its place in a file, the function and the file; if it is
-/// `raw`, it has no function, and none is looked up. The files of code are opened by the names that
-/// the core file has for them; what it doesn't have of their memory is read in them.
+/// For each there is a line with the thread, the signal that it got and the name of the process, a
+/// line for each frame, where there is a reason for which the last frame isn't the outermost one a
+/// line with it, and an empty line. The line of a frame has its address in the process, its place
+/// in a file, the function and the file; if it is `raw`, it has no function, and none is looked up.
+/// The files of code are opened by the names that the core file has for them, and where it has the
+/// build of one, only a file of that build is taken (`cfi_processes::profile_files::read_files`);
+/// what it doesn't have of their memory is read in them. The vdso is read in the core file.
 ///
 /// Status 0: all threads are printed. Status 1: the core file, or the rest of its notes, can't be
 /// read, which prints `refused` and the name of the error; or memory is refused. Status 2: the
@@ -100,12 +104,12 @@ fn print_read<O: Opener, W: Write>(
 }
 
 /// Opens these files, and prints the stacks of the threads.
-fn print_wanted<O: Opener, W: Write>(
+fn print_wanted<'run, O: Opener, W: Write>(
     alloc: Global,
     raw: bool,
     opener: &O,
-    core: &Core<'_>,
-    wanted: &[WantedFile<'_>],
+    core: &Core<'run>,
+    wanted: &[WantedFile<'run>],
     output: &mut W,
 ) -> io::Result<u8>
     requires { AreInOrder core.now.segments.items }
@@ -114,7 +118,28 @@ fn print_wanted<O: Opener, W: Write>(
         (W.contents output.old) (W.contents output.new) result }
 {
     match read_files(alloc, opener, wanted) {
-        Ok(opened) => print_opened(alloc, raw, core, opened.as_slice(), output),
+        Ok(opened) => print_with_vdso(alloc, raw, core, opened, output),
+        Err(_) => write_refusal(output, Error::OutOfMemory),
+    }
+}
+
+/// Prints the stacks of the threads, by files that were opened and the vdso.
+fn print_with_vdso<'run, W: Write>(
+    alloc: Global,
+    raw: bool,
+    core: &Core<'run>,
+    opened: Vec<OpenedFile<'run>>,
+    output: &mut W,
+) -> io::Result<u8>
+    requires { AreInOrder core.now.segments.items }
+    ensures { PrintsSome (λ line. IsOfOpened raw (core_view core.now)
+        (with_vdso (core_view core.now) (map opened_view opened.entry.items)) line
+        ⊎ (line ≡ out_of_memory))
+        (W.contents output.old) (W.contents output.new) result }
+{
+    let mut opened = opened;
+    match push_vdso(alloc, core, &mut opened) {
+        Ok(()) => print_opened(alloc, raw, core, opened.as_slice(), output),
         Err(_) => write_refusal(output, Error::OutOfMemory),
     }
 }
@@ -214,6 +239,7 @@ fn print_threads<W: Write>(
         files,
     };
     let memory = CoreMemory::new(core.segments.as_slice(), code.windows.as_slice());
+    let name = shown_name(core.name);
     let threads = core.threads.as_slice();
     for thread in threads {
         print_thread(
@@ -222,12 +248,23 @@ fn print_threads<W: Write>(
             &process,
             code.modules.as_slice(),
             &memory,
+            name,
             thread,
             &mut room,
             output,
         )?;
     }
     write_end(output, core.error)
+}
+
+/// The name of the process, if it is known, to be printed.
+fn shown_name(name: Option<&[u8]>) -> Option<Name<'_>>
+    ensures { bytes_of result ≡ option_map (λ name. name.now) name.entry }
+{
+    match name {
+        Some(name) => Some(Name::new(name)),
+        None => None,
+    }
 }
 
 /// Prints the error that ended the notes, if there is one, and returns the status.

@@ -1,5 +1,6 @@
 //! The text of a thread's stack.
-ghost use Rattle.std.specs.Prelude.{◌≡◌, ◌≤◌, ◌++◌, ℕ, IfOk, List, OnOk, length, map};
+ghost use Rattle.std.specs.Prelude.{◌≡◌, ◌≤◌, ◌++◌, ℕ, IfOk, List, OnOk, Some, length, map};
+ghost use Rattle.std.specs.Prelude.{option_map};
 ghost use Rattle.cfi_cores.specs.CoreMemories.{memory_view, number_at};
 ghost use Rattle.cfi_cores.specs.CoreThreads.{thread_view};
 ghost use Rattle.cfi_programs.specs.WriterOutput.{Writes};
@@ -7,14 +8,20 @@ ghost use Rattle.cfi_processes.specs.FileModules.{AreOfFiles};
 ghost use Rattle.cfi_processes.specs.KnownFiles.{known_view, modules_in};
 ghost use Rattle.cfi_processes.specs.Mappings.{AreInOrder};
 ghost use Rattle.cfi_processes.specs.Modules.{module_view};
+ghost use Rattle.cfi_processes.specs.ThreadNames.{bytes_of};
 ghost use Rattle.cfi_stacks.specs.CoreOutputs.{IsThreadText, thread_text};
 ghost use Rattle.cfi_stacks.specs.Rooms.{IsRoomFor};
-ghost use Rattle.cfi_stacks.specs.StackTexts.{signal_text, thread_line};
+ghost use Rattle.cfi_stacks.specs.StackTexts.{process_text, signal_name_text, signal_text};
+ghost use Rattle.cfi_stacks.specs.StackTexts.{thread_line, thread_start};
 
-use crate::sample_text::{REGISTERS, Room, print_walk};
+use crate::core_frames::print_core_walk;
+use crate::names::write_known_name;
+use crate::sample_text::{REGISTERS, Room};
+use crate::signals::signal_name;
 use crate::stack_lines::LineRoom;
 use crate::thread_stack::unwind_thread;
 use cfi_cores::{CoreMemory, CoreThread};
+use cfi_processes::Name;
 use cfi_processes::process_code::{FileModule, ProcessCode};
 use cfi_processes::registers::SampleMachine;
 use cfi_processes::sample_stack::NoFrames;
@@ -24,8 +31,9 @@ use cfi_step::{Modules, StackFrame, Walk};
 use std::io::Write;
 use std::{fmt, io};
 
-/// Prints the stack of a thread: a line with its number and the signal that it got, a line for each
-/// frame, the reason why there are no more if the last one isn't the outermost, and an empty line.
+/// Prints the stack of a thread: a line with its number, the signal that it got and the name of its
+/// process, a line for each frame, the reason why there are no more if the last one isn't the
+/// outermost, and an empty line.
 ///
 /// If it is `raw`, the lines have no functions. The modules are those of what is mapped, and the
 /// rows that the room keeps are those of the files. There is room for 4096 frames. Does not
@@ -36,6 +44,7 @@ pub fn print_thread<W: Write>(
     code: &ProcessCode<'_, '_, '_>,
     modules: &[FileModule<'_, '_>],
     memory: &CoreMemory<'_>,
+    name: Option<Name<'_>>,
     thread: &CoreThread<'_>,
     room: &mut Room,
     output: &mut W,
@@ -48,7 +57,7 @@ pub fn print_thread<W: Write>(
     ensures printed { (text : List ℕ)
         × Writes (W.contents output.old) (W.contents output.new) result text
         × IsThreadText raw machine (map known_view code.now.files.now) code.now.mappings.now
-        (number_at (memory_view memory.now)) (thread_view thread.now) text }
+        (number_at (memory_view memory.now)) (bytes_of name.entry) (thread_view thread.now) text }
     ensures cached { IsRoomFor code.now.files.now room.new }
 {
     let Ok(modules) = Modules::new(modules) else {
@@ -69,13 +78,23 @@ pub fn print_thread<W: Write>(
         &mut caller[..count],
         frames,
     );
-    print_found(raw, code, thread, found, frames, &mut room.line, output)
+    print_found(
+        raw,
+        code,
+        name,
+        thread,
+        found,
+        frames,
+        &mut room.line,
+        output,
+    )
 }
 
 /// Prints what was found of a thread's stack.
 fn print_found<W: Write>(
     raw: bool,
     code: &ProcessCode<'_, '_, '_>,
+    name: Option<Name<'_>>,
     thread: &CoreThread<'_>,
     found: Result<Walk, NoFrames>,
     frames: &[StackFrame],
@@ -86,34 +105,50 @@ fn print_found<W: Write>(
     requires count { IfOk found (λ walk. walk.count ≤ length frames.now) }
     ensures { Writes (W.contents output.old) (W.contents output.new) result
         (thread_text raw (map known_view code.now.files.now) code.now.mappings.now
-        (thread_view thread.now) found frames.now) }
+        (bytes_of name.entry) (thread_view thread.now) found frames.now) }
 {
-    write_thread(output, thread.tid, thread.signal)?;
-    print_walk(raw, code, found, frames, room, output)?;
+    write_thread(output, thread, name)?;
+    print_core_walk(raw, code, found, frames, room, output)?;
     write_text(output, b"\n")
 }
 
-/// Writes the line of a thread and of its signal.
-fn write_thread<W: Write>(output: &mut W, tid: u32, signal: u16) -> io::Result<()>
+/// Writes the line of a thread: its number, the signal that it got, if it got one, and the name of
+/// its process, if it is known.
+fn write_thread<W: Write>(
+    output: &mut W,
+    thread: &CoreThread<'_>,
+    name: Option<Name<'_>>,
+) -> io::Result<()>
     ensures { Writes (W.contents output.old) (W.contents output.new) result
-        (thread_line tid signal) }
+        (thread_line (thread_view thread.now).tid (thread_view thread.now).signal
+        (bytes_of name.entry)) }
+{
+    write_start(output, thread.tid, thread.signal)?;
+    write_process(output, name)?;
+    write_text(output, b"\n")
+}
+
+/// Writes the number of a thread and its signal.
+fn write_start<W: Write>(output: &mut W, tid: u32, signal: u16) -> io::Result<()>
+    ensures { Writes (W.contents output.old) (W.contents output.new) result
+        (thread_start tid signal) }
 {
     let mut text = Text::new();
-    push_thread(&mut text, tid, signal)?;
+    push_start(&mut text, tid, signal)?;
     write_text(output, text.as_slice())
 }
 
-/// Appends what `write_thread` writes. Fails where there is no room.
-fn push_thread(text: &mut Text, tid: u32, signal: u16) -> fmt::Result
-    ensures { OnOk result (text.new.items ≡ text.old.items ++ thread_line tid signal) }
+/// Appends what `write_start` writes. Fails where there is no room.
+fn push_start(text: &mut Text, tid: u32, signal: u16) -> fmt::Result
+    ensures { OnOk result (text.new.items ≡ text.old.items ++ thread_start tid signal) }
 {
     push(text, b"thread ")?;
     push_decimal(text, u64::from(tid))?;
-    push_signal(text, signal)?;
-    push(text, b"\n")
+    push_signal(text, signal)
 }
 
-/// Appends the signal that a thread got, if it got one. Fails where there is no room.
+/// Appends the signal that a thread got, if it got one: its number, and its name if it has one.
+/// Fails where there is no room.
 fn push_signal(text: &mut Text, signal: u16) -> fmt::Result
     ensures { OnOk result (text.new.items ≡ text.old.items ++ signal_text signal) }
 {
@@ -121,5 +156,40 @@ fn push_signal(text: &mut Text, signal: u16) -> fmt::Result
         return Ok(());
     }
     push(text, b" signal ")?;
-    push_decimal(text, u64::from(signal))
+    push_decimal(text, u64::from(signal))?;
+    push_signal_name(text, signal_name(signal))
+}
+
+/// Appends the name of a signal behind a space, if it has one. Fails where there is no room.
+fn push_signal_name(text: &mut Text, name: Option<&str>) -> fmt::Result
+    ensures { OnOk result (text.new.items
+        ≡ text.old.items ++ signal_name_text (option_map (λ name. name.now) name.entry)) }
+{
+    match name {
+        None => Ok(()),
+        Some(name) => {
+            push(text, b" ")?;
+            push(text, name.as_bytes())
+        }
+    }
+}
+
+/// Writes the name of a process, if it is known.
+fn write_process<W: Write>(output: &mut W, name: Option<Name<'_>>) -> io::Result<()>
+    ensures { Writes (W.contents output.old) (W.contents output.new) result
+        (process_text (bytes_of name.entry)) }
+{
+    match name {
+        None => Ok(()),
+        Some(name) => write_process_name(output, name),
+    }
+}
+
+/// Writes the name of a process.
+fn write_process_name<W: Write>(output: &mut W, name: Name<'_>) -> io::Result<()>
+    ensures { Writes (W.contents output.old) (W.contents output.new) result
+        (process_text (Some name.entry.bytes.now)) }
+{
+    write_text(output, b" of ")?;
+    write_known_name(output, name)
 }

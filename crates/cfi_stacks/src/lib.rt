@@ -2,17 +2,19 @@
 //!
 //! `run` prints the stacks of a profile, `sample_text` that of a sample: the lines of its frames
 //! (`stack_lines`, `names`), and the reason why there are no more (`reasons`). `core_run` prints
-//! the stacks of a core file, `core_text` that of a thread, whose frames `thread_stack` writes;
-//! `core_files` has what the files of a core say of its process.
+//! the stacks of a core file, `core_text` that of a thread (`signals`, `core_frames`), whose frames
+//! `thread_stack` writes; `core_files` has what the files of a core say of its process.
 #![tactic(auto)]
 
 pub mod core_files;
+mod core_frames;
 pub mod core_run;
 mod core_text;
 mod names;
 pub mod reasons;
 pub mod run;
 mod sample_text;
+pub mod signals;
 pub mod stack_lines;
 pub mod thread_stack;
 

@@ -213,7 +213,7 @@ fn print_frames<W: Write>(
 }
 
 /// Prints a line for the address.
-fn print_site<W: Write>(
+pub(crate) fn print_site<W: Write>(
     raw: bool,
     code: &ProcessCode<'_, '_, '_>,
     address: u64,

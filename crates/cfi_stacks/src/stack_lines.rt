@@ -8,8 +8,9 @@ ghost use Rattle.cfi_programs.specs.Lines.{address_text};
 ghost use Rattle.cfi_programs.specs.WriterOutput.{Writes};
 ghost use Rattle.cfi_stacks.specs.StackTexts.{column_text, cpu_text, file_text, filled};
 ghost use Rattle.cfi_stacks.specs.StackTexts.{frame_line, function_text, head_line, left};
-ghost use Rattle.cfi_stacks.specs.StackTexts.{name_text, numbers_text, place_line, right};
-ghost use Rattle.cfi_stacks.specs.StackTexts.{seconds_text, site_line, thread_text, time_text};
+ghost use Rattle.cfi_stacks.specs.StackTexts.{name_text, number_column, numbers_text, place_line};
+ghost use Rattle.cfi_stacks.specs.StackTexts.{right, seconds_text, site_line, thread_text};
+ghost use Rattle.cfi_stacks.specs.StackTexts.{time_text};
 
 use crate::names::{push_known_name, push_name, write_known_name, write_name};
 use cfi_elf::FunctionPlace;
@@ -324,12 +325,30 @@ fn write_column<W: Write>(output: &mut W, place: u64) -> io::Result<()>
 fn push_column(text: &mut Text, number: &mut Text, place: u64) -> fmt::Result
     ensures { OnOk result (text.new.items ≡ text.old.items ++ column_text place) }
 {
-    number.clear();
-    push_address(number, place)?;
-    let digits = &number.as_slice()[PREFIX..];
-    push(text, b"\t")?;
-    push_filled(text, b"                ", digits)?;
+    push_number(text, number, place)?;
     push(text, b" ")
+}
+
+/// Writes an address behind a tab, in sixteen columns.
+pub fn write_address<W: Write>(output: &mut W, address: u64) -> io::Result<()>
+    ensures { Writes (W.contents output.old) (W.contents output.new) result
+        (number_column address) }
+{
+    let mut text = Text::new();
+    push_number(&mut text, &mut Text::new(), address)?;
+    write_text(output, text.as_slice())
+}
+
+/// Appends a hexadecimal number behind a tab, in sixteen columns; `digits` is room for them. Fails
+/// where there is no room.
+#[inline(always)]
+fn push_number(text: &mut Text, digits: &mut Text, number: u64) -> fmt::Result
+    ensures { OnOk result (text.new.items ≡ text.old.items ++ number_column number) }
+{
+    digits.clear();
+    push_address(digits, number)?;
+    push(text, b"\t")?;
+    push_filled(text, b"                ", &digits.as_slice()[PREFIX..])
 }
 
 /// Writes the name of a function, and how far into it an address is.

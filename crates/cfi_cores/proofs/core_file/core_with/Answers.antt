@@ -1,15 +1,20 @@
-use Rattle.std.proofs.Common.{[], refl, ap, ◌∙◌, rules}
+use Rattle.std.proofs.Common.{[], refl, ap, ap₂, map, ◌∙◌, rules}
 use Rattle.std.proofs.lemmas.List.Sorted.{IsNonDecreasingBy-from_sort_by_key, answers_always}
 use Rattle.cfi_elf.specs.Options.{or_this}
 use Rattle.cfi_cores.specs.Contents.{Contents}
+use Rattle.cfi_cores.specs.CoreFiles.{with_vdso}
+use Rattle.cfi_cores.specs.CoreSegments.{segment_view}
+use Rattle.cfi_cores.specs.Vdso.{vdso_by}
 use Rattle.cfi_cores.proofs.core_file.core_with.Goals as goal
 
 pub returns-clause-core : goal.returns-clause-core
 returns-clause-core c =
     let keys = answers_always _ _ _ (λ f a r next called. search rules) in record {
       machine = refl;
+      name = ap (λ (contents : Contents). contents.name) c.in_ok-contents.ensures;
       threads = ap (λ (contents : Contents). contents.threads) c.in_ok-contents.ensures;
-      mapped = c.or_none.ensures ∙ ap (λ (contents : Contents). or_this [] contents.mapped) c.in_ok-contents.ensures;
+      mapped = c.in_ok-with_vdso.ensures ∙ ap₂ with_vdso (c.or_none.ensures ∙ ap (λ (contents : Contents). or_this [] contents.mapped) c.in_ok-contents.ensures)
+          (c.vdso_by-vdso.ensures ∙ ap₂ vdso_by (ap (map segment_view) c.as_slice.ensures.value ∙ c.in_ok-segments.ensures) (ap (λ (contents : Contents). contents.vector) c.in_ok-contents.ensures));
       segments = record {
         read = c.in_ok-segments.segments.items;
         ordered = c.sort_by_key.new.self.items;

@@ -10,4 +10,5 @@ use Rattle.cfi_stacks.proofs.core_files.code_files.Given as goal
 abbrev pub invariant-loop-mapping : goal.invariant-loop-mapping
 invariant-loop-mapping l =
     let segments = map segment_view l.segments in
-    fold (λ files m. with_file files (code_file segments m)) (map wanted_view l.files.items) (map mapping_view (drop l.mapping-index l.mapped)) ≡ code_files segments (map mapping_view l.mapped)
+    let mapped = map mapping_view l.mapped in
+    fold (λ files m. with_file files (code_file segments mapped m)) (map wanted_view l.files.items) (map mapping_view (drop l.mapping-index l.mapped)) ≡ code_files segments mapped

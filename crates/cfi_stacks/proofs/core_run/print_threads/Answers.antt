@@ -6,6 +6,7 @@ use Rattle.cfi_cores.specs.declared.segments.CoreSegment.{CoreSegment}
 use Rattle.cfi_cores.specs.CoreSegments.{segment_view}
 use Rattle.cfi_cores.specs.CoreThreads.{CoreThread, thread_view}
 use Rattle.cfi_processes.specs.KnownFiles.{known_view}
+use Rattle.cfi_processes.specs.ThreadNames.{bytes_of}
 use Rattle.cfi_stacks.specs.CoreOutputs.{mappings_of, memory_of}
 use Rattle.cfi_stacks.proofs.CoreRunLemmas.{text_there}
 use Rattle.cfi_stacks.proofs.RoomLemmas.{room_for_all}
@@ -44,7 +45,7 @@ loop-thread-preserved g c =
     c.new-memory.ensures ∙ ap₂ (λ (dumped lent : List CoreSegment). record { dumped = map segment_view dumped; mapped = map segment_view lent }) c.as_slice-2.ensures.value c.as_slice-3.ensures.value in (
       one_printed c.args.raw files memory core (take i (map thread_view threads)) (take (i + 1) (map thread_view threads)) (thread_view t) _ _ _ text
           (next_thread thread_view threads i no_thread c.loop-thread-test.true) c.loop-thread.invariant.0
-          (text_there c.args.raw core.machine files c.as_slice.result.now (mappings_of files core.segments core.mapped) (memory_view c.new-memory.result) (record { dumped = core.segments; mapped = windows }) (thread_view t) text mapped lent is) written,
+          (text_there c.args.raw core.machine files c.as_slice.result.now (mappings_of files core.segments core.mapped) (memory_view c.new-memory.result) (record { dumped = core.segments; mapped = windows }) (bytes_of c.shown_name-name.result) core.name (thread_view t) text mapped lent c.shown_name-name.ensures is) written,
       c.in_ok-print_thread.ensures.cached,
     )
 
@@ -66,4 +67,4 @@ returns-in_err-print_thread g c =
     broken c.args.raw files memory core i (thread_view t) _ _ _ c.from_residual.result text c.from_residual.ensures.0
     (subst (λ (ts : List CoreThread). take (i + 1) ts ≡ take i ts ++ thread_view t ∷ []) all (next_thread thread_view threads i no_thread c.loop-thread-test.true))
     (subst (λ (ts : List CoreThread). Printed c.args.raw files memory core (take i ts) (g.W.Write.contents c.args.output.now) (g.W.Write.contents c.loop-thread.output)) all c.loop-thread.invariant.0)
-    (text_there c.args.raw core.machine files c.as_slice.result.now (mappings_of files core.segments core.mapped) (memory_view c.new-memory.result) (record { dumped = core.segments; mapped = windows }) (thread_view t) text mapped lent is) begun
+    (text_there c.args.raw core.machine files c.as_slice.result.now (mappings_of files core.segments core.mapped) (memory_view c.new-memory.result) (record { dumped = core.segments; mapped = windows }) (bytes_of c.shown_name-name.result) core.name (thread_view t) text mapped lent c.shown_name-name.ensures is) begun

@@ -3,6 +3,7 @@ use Rattle.cfi_cores.specs.CoreThreads.{thread_view}
 use Rattle.cfi_step.specs.ModuleLists.{module_list}
 use Rattle.cfi_processes.specs.KnownFiles.{known_view}
 use Rattle.cfi_processes.specs.Modules.{module_view}
+use Rattle.cfi_processes.specs.ThreadNames.{bytes_of}
 use Rattle.cfi_processes.proofs.CodeLemmas.{modules_sorted}
 use Rattle.cfi_stacks.specs.CoreOutputs.{thread_text}
 use Rattle.cfi_stacks.proofs.RoomLemmas.{numbered_before, room_after, rows_after, rows_before}
@@ -14,7 +15,7 @@ unreachable-requires g c =
 
 pub returns-clause-printed : goal.returns-clause-printed
 returns-clause-printed g c = (
-  thread_text c.args.raw (map known_view c.args.code.now.files.now) c.args.code.now.mappings.now (thread_view c.args.thread.now) c.unwind_thread-found.result c.unwind_thread-found.new.frames,
+  thread_text c.args.raw (map known_view c.args.code.now.files.now) c.args.code.now.mappings.now (bytes_of c.args.name) (thread_view c.args.thread.now) c.unwind_thread-found.result c.unwind_thread-found.new.frames,
   c.print_found.ensures,
   (
     module_list c.in-Ok.modules,

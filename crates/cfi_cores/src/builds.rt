@@ -1,0 +1,69 @@
+//! The builds of files, as their images in memory have them.
+ghost use Rattle.std.specs.Prelude.{◌≡◌, map, option_map};
+ghost use Rattle.cfi_cores.specs.Builds.{build_of, image_of, start_of};
+ghost use Rattle.cfi_cores.specs.CoreSegments.{segment_view};
+ghost use Rattle.cfi_cores.specs.MappedFiles.{mapping_view};
+ghost use Rattle.cfi_processes.specs.Wanted.{id_of};
+
+use crate::mapped_files::CoreMapping;
+use crate::segments::{CoreSegment, bytes_at};
+use cfi_elf::ElfFile;
+
+/// Returns the bytes that the core has of the file with this name, from its first byte on: of the
+/// first mapping of that byte, those of the first segment that begins there. `None` where there is
+/// no such mapping or segment. Does not allocate.
+pub fn image_of<'run>(
+    segments: &[CoreSegment<'run>],
+    mapped: &[CoreMapping<'_>],
+    name: &[u8],
+) -> Option<&'run [u8]>
+    ensures { option_map (λ bytes. bytes.now) result ≡ image_of
+        (map segment_view segments.now) (map mapping_view mapped.now) name.now }
+{
+    match start_of(mapped, name) {
+        Some(start) => bytes_at(segments, start),
+        None => None,
+    }
+}
+
+/// Returns the identification of the build of the file with this name, as the core has it in the
+/// file's first page (`image_of`); `None` where it doesn't. Does not allocate.
+pub fn build_of<'run>(
+    segments: &[CoreSegment<'run>],
+    mapped: &[CoreMapping<'_>],
+    name: &[u8],
+) -> Option<&'run [u8]>
+    ensures { option_map (λ id. id.now) result ≡ build_of
+        (map segment_view segments.now) (map mapping_view mapped.now) name.now }
+{
+    match image_of(segments, mapped, name) {
+        Some(image) => id_of(image),
+        None => None,
+    }
+}
+
+/// The identification of the build of the ELF file that these bytes are, or begin.
+fn id_of(bytes: &[u8]) -> Option<&[u8]>
+    ensures { option_map (λ id. id.now) result ≡ id_of bytes.now }
+{
+    let Ok(file) = ElfFile::parse(bytes) else {
+        return None;
+    };
+    match file.build_id() {
+        Ok(id) => id,
+        Err(_) => None,
+    }
+}
+
+/// The address at which the first byte of the file with this name is mapped.
+fn start_of(mapped: &[CoreMapping<'_>], name: &[u8]) -> Option<u64>
+    ensures { result ≡ start_of (map mapping_view mapped.now) name.now }
+{
+    match mapped
+        .iter()
+        .find(|one| one.offset == 0 && one.name == name)
+    {
+        Some(one) => Some(one.start),
+        None => None,
+    }
+}
