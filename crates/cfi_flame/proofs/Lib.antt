@@ -2,3 +2,4 @@ pub mod StackLemmas
 pub mod BoxLemmas
 pub mod GraphLemmas
 pub mod FlameLemmas
+pub mod CountLemmas

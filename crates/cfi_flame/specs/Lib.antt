@@ -1,4 +1,5 @@
 pub mod FoldedStacks
+pub mod FoldedCounts
 pub mod Boxes
 pub mod Graphs
 pub mod Flames

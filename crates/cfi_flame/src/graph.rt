@@ -279,7 +279,11 @@ fn push_character(text: &mut Vec<u8>, byte: u8) -> Result<(), AllocError>
 }
 
 /// Appends the bytes and a number behind them.
-fn push_numbered(text: &mut Vec<u8>, before: &[u8], number: u128) -> Result<(), AllocError>
+pub(crate) fn push_numbered(
+    text: &mut Vec<u8>,
+    before: &[u8],
+    number: u128,
+) -> Result<(), AllocError>
     ensures { OnOk result (text.new.items ≡ text.old.items ++ (before.now ++ decimal number)) }
 {
     push(text, before)?;
@@ -287,7 +291,7 @@ fn push_numbered(text: &mut Vec<u8>, before: &[u8], number: u128) -> Result<(), 
 }
 
 /// Appends a number in decimal.
-fn push_number(text: &mut Vec<u8>, number: u128) -> Result<(), AllocError>
+pub(crate) fn push_number(text: &mut Vec<u8>, number: u128) -> Result<(), AllocError>
     ensures { OnOk result (text.new.items ≡ text.old.items ++ decimal number) }
 {
     let mut buffer = Buffer::new();
@@ -295,7 +299,7 @@ fn push_number(text: &mut Vec<u8>, number: u128) -> Result<(), AllocError>
 }
 
 /// Appends the bytes.
-fn push(text: &mut Vec<u8>, bytes: &[u8]) -> Result<(), AllocError>
+pub(crate) fn push(text: &mut Vec<u8>, bytes: &[u8]) -> Result<(), AllocError>
     ensures { OnOk result (text.new.items ≡ text.old.items ++ bytes.now) }
 {
     text.extend_from_slice(bytes)

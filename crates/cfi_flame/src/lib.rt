@@ -5,9 +5,11 @@
 #![tactic(auto)]
 
 pub mod boxes;
+pub mod counts;
 pub mod flame;
 pub mod folded;
 pub mod graph;
 
+pub use counts::StackCounts;
 pub use flame::flame_of;
 pub use folded::FoldedError;
