@@ -76,11 +76,11 @@ module _ {K : Type 0} (bytes : K → List ℕ) where
       is_eq-slice_cmp cs (bytes k)
       ∙ (nat_list_eq_equiv.symm cs (bytes k) ∙ sym (nat_list_eq_equiv.congr bs (bytes k) cs (sym (is_eq-slice_cmp bs (bytes k)) ∙ y)) ∙ n)
 
-  others : (bs : List ℕ) (old new : List (K × ℕ)) → KeepsOthers (eq_by_cmp by_bytes) (at_bytes bs) old new → (cs : List ℕ) → bytes_eq bs cs ≡ false → lookup (at_bytes cs) new ≡ lookup (at_bytes cs) old
+  others : {X : Type 0} (bs : List ℕ) (old new : List (K × X)) → KeepsOthers (eq_by_cmp by_bytes) (at_bytes bs) old new → (cs : List ℕ) → bytes_eq bs cs ≡ false → lookup (at_bytes cs) new ≡ lookup (at_bytes cs) old
   unfolding KeepsOthers
   others bs old new h cs n = h (at_bytes cs) (λ x y. (eq_by_cmp_equiv nat_list_cmp_total).congr cs (bytes x) (bytes y)) (λ k. apart bs cs n k)
 
-  pub updated : (bs : List ℕ) (old new : BTreeMap K ℕ) (w : ℕ) → tree.UpdatesBy by_bytes (λ k. slice_cmp nat_cmp bs (bytes k)) old new (Some w) → (cs : List ℕ) → lookup (at_bytes cs) new.entries ≡ cond (bytes_eq cs bs) (Some w) (lookup (at_bytes cs) old.entries)
+  pub updated : {X : Type 0} (bs : List ℕ) (old new : BTreeMap K X) (w : X) → tree.UpdatesBy by_bytes (λ k. slice_cmp nat_cmp bs (bytes k)) old new (Some w) → (cs : List ℕ) → lookup (at_bytes cs) new.entries ≡ cond (bytes_eq cs bs) (Some w) (lookup (at_bytes cs) old.entries)
   updated bs old new w h cs = by (bytes_eq bs cs) refl
     where
       by : (b : Bool) → bytes_eq bs cs ≡ b → lookup (at_bytes cs) new.entries ≡ cond (bytes_eq cs bs) (Some w) (lookup (at_bytes cs) old.entries)

@@ -3,3 +3,5 @@ pub mod BoxLemmas
 pub mod GraphLemmas
 pub mod FlameLemmas
 pub mod CountLemmas
+pub mod TallyLemmas
+pub mod ReportLemmas
