@@ -30,7 +30,8 @@ pub record AreCounted (samples folded : List Stack) : Type 0 where
   pub sums : (frames : List ℕ) → counted frames folded ≡ counted frames samples
 
 abbrev pub counted_in : StackCounts → List Stack
-counted_in all = map (λ entry. record { frames = entry.0.items; count = entry.1 }) all.counts.entries
+counted_in all =
+    map (λ entry. record { frames = entry.0.items; count = entry.1 }) all.counts.entries
 
 -- one more sample was counted, whichever those before were
 abbrev pub CountsMore : List ℕ → ℕ → List Stack → List Stack → Type 0

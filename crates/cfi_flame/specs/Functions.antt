@@ -2,8 +2,8 @@
 --     self_of name stacks      the samples in the function: those of the stacks that end with it
 --     all_of name stacks      the samples under it too: those of the stacks that have it
 --     AreFunctions stacks rows      each function of the stacks once, with these
-use Rattle.std.specs.Prelude.{◌≡◌, ℕ, ◌+◌, ◌-◌, ◌==◌, Bool, false, List, [], ◌∷◌, Option, Some, None}
-use Rattle.std.specs.Prelude.{length, map, slice_get, if◌then◌else◌}
+use Rattle.std.specs.Prelude.{◌≡◌, ℕ, ◌+◌, ◌-◌, ◌==◌, Bool, false, List, [], ◌∷◌, Option, Some}
+use Rattle.std.specs.Prelude.{None, length, map, slice_get, if◌then◌else◌}
 use Rattle.std.specs.Cmp.Lexicographic.{slice_cmp}
 use Rattle.std.specs.List.{list_any, slice_split}
 use Rattle.std.specs.List.Sorted.{IsStrictlySortedBy}
