@@ -1,5 +1,6 @@
 mod RoomLemmas
 mod RunLemmas
+mod FoldLemmas
 mod StackLemmas
 mod ReadLemmas
 mod ThreadLemmas

@@ -22,6 +22,16 @@ abbrev pub IsKnownAfter : List KnownFile → Event → Known → Known → Type 
 IsKnownAfter files event before now =
     ((pid : ℕ) → now.mapped pid ≡ after files event before.mapped pid) × ((tid : ℕ) → now.names tid ≡ names_after event before.names tid)
 
+-- a text, and the error that ended the records behind it
+pub behind : (front : List ℕ) (error : Option PerfError) → record { text = front ++ (ended [] error).text; status = (ended [] error).status } ≡ ended front error
+behind front None = ap (λ (text : List ℕ). record { text = text; status = 0 }) (append-nil front)
+behind front (Some e) = refl
+
+-- no status is returned with an error
+pub no_status_is : {E : Type 0} (r : Result ℕ E) (n : ℕ) → IsErr r → IfOk r (λ status. status ≡ n)
+no_status_is (Ok m) n err = cc
+no_status_is (Err e) n err = tt
+
 module _ (raw : Bool) (machine : SampleMachine) (files : List KnownFile) where
   -- a record that has a text changes nothing
   text_before : (before : Known) (time : ℕ) (event : Event) (text : List ℕ) → IsTextOf raw machine files (known_after files event before) time event text → IsTextOf raw machine files before time event text
@@ -108,10 +118,6 @@ module _ (raw : Bool) (machine : SampleMachine) (files : List KnownFile) where
       )
 
   -- all were followed
-  behind : (front : List ℕ) (error : Option PerfError) → record { text = front ++ (ended [] error).text; status = (ended [] error).status } ≡ ended front error
-  behind front None = ap (λ (text : List ℕ). record { text = text; status = 0 }) (append-nil front)
-  behind front (Some e) = refl
-
   pub printed : {E : Type 0} (first records : List Record) (now : Known) (old mid new : Option (List ℕ)) (error : Option PerfError) (r : Result ℕ E) → first ≡ records → Followed first now old mid
       → Prints (ended [] error) mid new r → PrintsSome (λ line. IsPrinted raw machine files records error line) old new r
   printed first records now old mid new error r all (front, given, so) (written, status) = (

@@ -1,7 +1,9 @@
 pub mod Signals
 pub mod StackTexts
+pub mod FoldedTexts
 pub mod Reasons
 pub mod Rooms
 pub mod ProfileOutputs
+pub mod Foldings
 pub mod ThreadStacks
 pub mod CoreOutputs

@@ -5,10 +5,16 @@
 --         of the records
 --     IsPrinted .. records error line      these, and then the error that ended the records; or a
 --         beginning of them, and that memory was refused
---     IsOutput raw may_open remaining bytes line      the output of a profile of these bytes, whose
---         files may be opened so
-use Rattle.std.specs.Prelude.{◌≡◌, ◌⊎◌, ℕ, Bool, true, List, [], ◌∷◌, ◌++◌, Option, Some, None}
-use Rattle.std.specs.Prelude.{Result, Ok, Err, codes, map, take}
+--     AreSamples by_period machine files before records samples      the samples by their folded
+--         stacks, in the order of the records
+--     IsFolded .. records error line      their folded stacks, and then that error; or that memory
+--         was refused, or that a stack has too many
+--     IsListed listing .. records error line      either of these
+--     IsOutput listing may_open remaining bytes line      the output of a profile of these bytes,
+--         whose files may be opened so
+use Rattle.std.specs.Prelude.{◌≡◌, ◌⊎◌, ◌<◌, ◌^◌, ℕ, ◌==◌, Bool, true, List, [], ◌∷◌, ◌++◌, Option}
+use Rattle.std.specs.Prelude.{Some, None, Result, Ok, Err, codes, map, take, unwrap_or}
+use Rattle.std.specs.Prelude.{if◌then◌else◌}
 use Rattle.std.specs.List.{flat_map}
 use Rattle.std.specs.List.Sorted.{IsSortedByKey, IsStableByKey}
 use Rattle.std.specs.Ordering.{nat_cmp}
@@ -40,6 +46,14 @@ use Rattle.cfi_processes.specs.Replays.{after, named, replayed, wanted_of}
 use Rattle.cfi_processes.specs.ThreadNames.{names_after}
 use Rattle.cfi_processes.specs.Wanted.{FilePlace, Wanted}
 use Rattle.cfi_processes.specs.SampleStacks.{HasRoom, IsUnwound, Room}
+use Rattle.cfi_flame.specs.declared.folded.FoldedError.{FoldedError}
+use Rattle.cfi_flame.specs.declared.folded.FoldedError.TheVariants.{OutOfMemory, NotFolded}
+use Rattle.cfi_flame.specs.declared.folded.FoldedError.TheVariants.{NoSamples, TooManySamples}
+use Rattle.cfi_flame.specs.FoldedCounts.{AreCounted, counted, line_text}
+use Rattle.cfi_flame.specs.FoldedStacks.{Stack}
+use Rattle.cfi_stacks.specs.declared.listing.Listing.{Listing}
+use Rattle.cfi_stacks.specs.declared.listing.Listing.TheVariants.{Frames, Folded}
+use Rattle.cfi_stacks.specs.FoldedTexts.{folded_text}
 use Rattle.cfi_stacks.specs.Reasons.{reason_line, reason_of, reason_without}
 use Rattle.cfi_stacks.specs.StackTexts.{head_line, site_line}
 
@@ -88,19 +102,37 @@ known_in replay = record { mapped = replayed replay; names = named replay }
 abbrev pub nothing_known : Known
 nothing_known = record { mapped = λ pid. []; names = λ tid. None }
 
+-- ---- what comes of the records, one behind the other
+
+module _ (files : List KnownFile) {A : Type 0} (IsOf : Known → ℕ → Event → List A → Type 0) where
+  abbrev pub AreOfAll : Known → List Record → List A → Type 0
+  AreOfAll before [] found = found ≡ []
+  AreOfAll before (r ∷ records) found =
+      (first : List A) × (others : List A) × IsOf before r.time r.event first
+      × AreOfAll (known_after files r.event before) records others × (found ≡ first ++ others)
+
+-- ---- the frames of a sample
+
+-- a text of them, by the modules that are mapped, in a room for 4096 frames and a storage of 192
+-- rules and 4 rows
+abbrev pub IsOfFrames :
+    SampleMachine → List KnownFile → List MappedCode → Sample →
+    (Result Walk NoFrames → List StackFrame → List ℕ) → List ℕ → Type 0
+IsOfFrames machine files list s text_of text =
+    (modules : List (LoadedModule (EndianSlice RunTimeEndian))) × (old : Room)
+    × (result : Result Walk NoFrames) × (new : Room)
+    × (map module_view modules ≡ modules_in files list) × HasRoom old.frames
+    × IsUnwound (slice_position is_big) (λ n. n) (Some 192) (Some 4) true modules machine s.user
+    old result new
+    × (text ≡ text_of result new.frames)
+
 -- ---- the texts of samples
 
 module _ (raw : Bool) (machine : SampleMachine) (files : List KnownFile) where
-  -- by the modules that are mapped, in a room for 4096 frames and a storage of 192 rules and 4 rows
   abbrev pub IsStackText :
       List MappedCode → Option (List ℕ) → ℕ → Sample → List ℕ → Type 0
   IsStackText list name time s text =
-      (modules : List (LoadedModule (EndianSlice RunTimeEndian))) × (old : Room)
-      × (result : Result Walk NoFrames) × (new : Room)
-      × (map module_view modules ≡ modules_in files list) × HasRoom old.frames
-      × IsUnwound (slice_position is_big) (λ n. n) (Some 192) (Some 4) true modules machine s.user
-      old result new
-      × (text ≡ sample_text raw files list name time s result new.frames)
+      IsOfFrames machine files list s (sample_text raw files list name time s) text
 
   abbrev pub IsTextOf : Known → ℕ → Event → List ℕ → Type 0
   IsTextOf before time (SampleEvent s) text =
@@ -108,10 +140,29 @@ module _ (raw : Bool) (machine : SampleMachine) (files : List KnownFile) where
   IsTextOf before time _ text = text ≡ []
 
   abbrev pub AreStacks : Known → List Record → List ℕ → Type 0
-  AreStacks before [] text = text ≡ []
-  AreStacks before (r ∷ records) text =
-      (first : List ℕ) × (others : List ℕ) × IsTextOf before r.time r.event first
-      × AreStacks (known_after files r.event before) records others × (text ≡ first ++ others)
+  AreStacks before records text = AreOfAll files IsTextOf before records text
+
+-- ---- the samples by their folded stacks
+
+-- one for each, or its period; one also where the period is 0
+abbrev pub weight : Bool → Sample → ℕ
+weight by_period s = if by_period then (if s.period == 0 then 1 else s.period) else 1
+
+abbrev pub IsFoldedText :
+    SampleMachine → List KnownFile → List MappedCode → Option (List ℕ) → Sample → List ℕ → Type 0
+IsFoldedText machine files list name s text =
+    IsOfFrames machine files list s (folded_text files list name s.tid) text
+
+module _ (by_period : Bool) (machine : SampleMachine) (files : List KnownFile) where
+  abbrev pub IsSampleOf : Known → ℕ → Event → List Stack → Type 0
+  IsSampleOf before time (SampleEvent s) samples =
+      (text : List ℕ)
+      × IsFoldedText machine files (before.mapped s.pid) (before.names s.tid) s text
+      × (samples ≡ record { frames = text; count = weight by_period s } ∷ [])
+  IsSampleOf before time _ samples = samples ≡ []
+
+  abbrev pub AreSamples : Known → List Record → List Stack → Type 0
+  AreSamples before records samples = AreOfAll files IsSampleOf before records samples
 
 -- ---- all samples
 
@@ -130,6 +181,49 @@ IsPrinted raw machine files records error printed =
     × (printed ≡ ended text error))
     ⊎ ((n : ℕ) × (text : List ℕ) × AreStacks raw machine files nothing_known (take n records) text
     × (printed ≡ record { text = text ++ out_of_memory.text; status = 1 }))
+
+-- ---- all samples, folded
+
+-- a stack has 2^64 or more of these
+abbrev pub HasTooMany : List Stack → Type 0
+HasTooMany samples = (frames : List ℕ) × ¬ (unwrap_or (counted frames samples) 0 < 2 ^ 64)
+
+module _ (by_period : Bool) (machine : SampleMachine) (files : List KnownFile) where
+  -- each different stack, with how many samples have it
+  abbrev pub AreFolded : List Record → List Stack → Type 0
+  AreFolded records folded =
+      (samples : List Stack) × AreSamples by_period machine files nothing_known records samples
+      × AreCounted samples folded
+
+  -- memory was refused, or a stack has too many samples of the first records
+  abbrev pub IsUnfolded : List Record → FoldedError → Type 0
+  IsUnfolded records OutOfMemory = Unit {0}
+  IsUnfolded records (NotFolded number) = ⊥
+  IsUnfolded records NoSamples = ⊥
+  IsUnfolded records TooManySamples =
+      (n : ℕ) × (samples : List Stack)
+      × AreSamples by_period machine files nothing_known (take n records) samples
+      × HasTooMany samples
+
+abbrev pub folded_refusal : FoldedError → Line
+folded_refusal TooManySamples = line (codes "refused TooManySamples") 1
+folded_refusal _ = out_of_memory
+
+-- their lines, and then the error that ended the records; or why there are none
+abbrev pub IsFolded :
+    Bool → SampleMachine → List KnownFile → List Record → Option PerfError → Line → Type 0
+IsFolded by_period machine files records error printed =
+    ((folded : List Stack) × AreFolded by_period machine files records folded
+    × (printed ≡ ended (flat_map line_text folded) error))
+    ⊎ ((why : FoldedError) × IsUnfolded by_period machine files records why
+    × (printed ≡ folded_refusal why))
+
+abbrev pub IsListed :
+    Listing → SampleMachine → List KnownFile → List Record → Option PerfError → Line → Type 0
+IsListed (Frames raw) machine files records error printed =
+    IsPrinted raw machine files records error printed
+IsListed (Folded by_period) machine files records error printed =
+    IsFolded by_period machine files records error printed
 
 -- ---- a profile
 
@@ -151,19 +245,19 @@ IsSortedOf found sorted error = AreInTimeOrder found.records sorted × (error �
 
 -- by files that were opened
 abbrev pub IsOfOpened :
-    Bool → SampleMachine → List Opened → List Record → Option PerfError → Line → Type 0
-IsOfOpened raw machine opened sorted error printed =
+    Listing → SampleMachine → List Opened → List Record → Option PerfError → Line → Type 0
+IsOfOpened listing machine opened sorted error printed =
     (files : List KnownFile) × AreFilesOf opened files
-    × IsPrinted raw machine files sorted error printed
+    × IsListed listing machine files sorted error printed
 
-module _ (raw : Bool) {Handle : Type 0} (may_open : FilePlace → Option Handle → Type 0)
+module _ (listing : Listing) {Handle : Type 0} (may_open : FilePlace → Option Handle → Type 0)
     (remaining : Handle → Option (List ℕ)) where
   -- by these files
   abbrev pub IsOfWanted :
       SampleMachine → List Wanted → List Record → Option PerfError → Line → Type 0
   IsOfWanted machine wanted sorted error printed =
       (opened : List Opened) × AreOpened may_open remaining wanted opened
-      × IsOfOpened raw machine opened sorted error printed
+      × IsOfOpened listing machine opened sorted error printed
 
   abbrev pub IsOfSorted : SampleMachine → List Record → Option PerfError → Line → Type 0
   IsOfSorted machine sorted error printed =
@@ -193,6 +287,12 @@ module _ (raw : Bool) {Handle : Type 0} (may_open : FilePlace → Option Handle 
   IsOutput bytes printed = IsOfProfile (profile bytes) printed
 
   -- or there was no memory, or the input can't be read
-  abbrev pub IsOwed : List ℕ → Line → Type 0
-  IsOwed bytes printed =
+  abbrev pub IsListingOwed : List ℕ → Line → Type 0
+  IsListingOwed bytes printed =
       IsOutput bytes printed ⊎ ((printed ≡ out_of_memory) ⊎ (printed ≡ wrong_input))
+
+-- where the stacks are listed one after the other
+module _ (raw : Bool) {Handle : Type 0} (may_open : FilePlace → Option Handle → Type 0)
+    (remaining : Handle → Option (List ℕ)) where
+  abbrev pub IsOwed : List ℕ → Line → Type 0
+  IsOwed bytes printed = IsListingOwed (Frames raw) may_open remaining bytes printed

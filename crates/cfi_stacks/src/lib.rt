@@ -1,15 +1,19 @@
 //! The stacks of a profile that `perf record` wrote, and those of a core file, as they are printed.
 //!
-//! `run` prints the stacks of a profile, `sample_text` that of a sample: the lines of its frames
-//! (`stack_lines`, `names`), and the reason why there are no more (`reasons`). `core_run` prints
-//! the stacks of a core file, `core_text` that of a thread (`signals`, `core_frames`), whose frames
-//! `thread_stack` writes; `core_files` has what the files of a core say of its process.
+//! `run` prints the stacks of a profile as a `Listing` says, `sample_text` that of a sample: the
+//! lines of its frames (`stack_lines`, `names`), and the reason why there are no more (`reasons`).
+//! `folding` counts the samples by their folded stacks, whose text `folded_text` makes. `core_run`
+//! prints the stacks of a core file, `core_text` that of a thread (`signals`, `core_frames`), whose
+//! frames `thread_stack` writes; `core_files` has what the files of a core say of its process.
 #![tactic(auto)]
 
 pub mod core_files;
 mod core_frames;
 pub mod core_run;
 mod core_text;
+mod folded_text;
+mod folding;
+pub mod listing;
 mod names;
 pub mod reasons;
 pub mod run;
@@ -19,4 +23,5 @@ pub mod stack_lines;
 pub mod thread_stack;
 
 pub use core_run::print_core;
-pub use run::unwind_profile;
+pub use listing::Listing;
+pub use run::{list_profile, unwind_profile};

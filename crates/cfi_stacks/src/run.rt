@@ -15,10 +15,14 @@ ghost use Rattle.cfi_processes.specs.Wanted.{wanted_view};
 ghost use Rattle.cfi_stacks.specs.ProfileOutputs.{IsOfOpened, IsOfProfile, IsOfWanted};
 ghost use Rattle.cfi_stacks.specs.ProfileOutputs.{IsOfRecords, IsOfSorted};
 ghost use Rattle.cfi_stacks.specs.ProfileOutputs.{IsOutput, IsOwed, IsPrinted, IsSortedOf};
-ghost use Rattle.cfi_stacks.specs.ProfileOutputs.{IsTextOf, ended, known_in, perf_refusal};
+ghost use Rattle.cfi_stacks.specs.ProfileOutputs.{IsListed, IsListingOwed, IsTextOf, ended};
+ghost use Rattle.cfi_stacks.specs.ProfileOutputs.{known_in};
+ghost use Rattle.cfi_stacks.specs.ProfileOutputs.{perf_refusal};
 ghost use Rattle.cfi_stacks.specs.ProfileOutputs.{unknown_machine};
 ghost use Rattle.cfi_stacks.specs.Rooms.{IsRoomFor, KeepsNoRows};
 
+use crate::folding::print_folded;
+use crate::listing::Listing;
 use crate::sample_text::{Room, print_sample};
 use cfi_object::input::{InputError, read_all};
 use cfi_perf::{Event, PerfError, Profile, Record, Records};
@@ -34,23 +38,50 @@ use std::alloc::{AllocError, Global};
 use std::io;
 use std::io::{Read, Write};
 
-/// Reads the profile to its end, and prints the stack of each sample, in the order of their times.
+/// Reads the profile to its end, and prints the stacks of its samples: one after the other, in the
+/// order of their times, or folded.
 ///
-/// For each there is a line with the thread, its name, the processor, the time, the period and the
-/// event, a line for each frame, where there is a reason for which the last frame isn't the
+/// For each sample there is a line with the thread, its name, the processor, the time, the period
+/// and the event, a line for each frame, where there is a reason for which the last frame isn't the
 /// outermost one a line with it, and an empty line. The line of a frame has its place in a file,
-/// the function and the file; if it is `raw`, it has no function, and none is looked up. The files
-/// of code are opened by the names that the profile has for them, and where it has a file's build,
-/// only a file of that build is taken (`cfi_processes::profile_files::read_files`).
+/// the function and the file; if the listing is raw, it has no function, and none is looked up.
+/// Folded stacks are counted (`Listing::Folded`), and their lines, the stack, a space and the
+/// number, are printed in the order of their bytes (`folded_text` says what names become).
+///
+/// The files of code are opened by the names that the profile has for them, and where it has a
+/// file's build, only a file of that build is taken (`cfi_processes::profile_files::read_files`).
 ///
 /// Status 0: all samples are printed. Status 1: the profile, or the rest of it, can't be read,
 /// which prints `refused` and the name of the error; it is of a machine whose registers aren't
-/// known here, which prints `unknown machine`; or memory is refused. Status 2: the input can't be
-/// read, which prints `wrong input`. Fails where the output can't be written: then a beginning has
-/// been written.
+/// known here, which prints `unknown machine`; a folded stack has 2^64 samples or more, which
+/// prints `refused TooManySamples`; or memory is refused. Status 2: the input can't be read, which
+/// prints `wrong input`. Fails where the output can't be written: then a beginning has been
+/// written.
 ///
-/// Allocates for the input, the records, the files and what is mapped. Unwinding and printing don't
-/// allocate.
+/// Allocates for the input, the records, the files and what is mapped, and for folded stacks: one
+/// text for each different one, and the lines of all. Unwinding doesn't allocate, nor does printing
+/// one stack after the other.
+pub fn list_profile<O: Opener, R: Read, W: Write>(
+    alloc: Global,
+    listing: Listing,
+    opener: &O,
+    input: &mut R,
+    output: &mut W,
+) -> io::Result<u8>
+    ensures { (bytes : List ℕ) × AreLeft (R.remaining input.old) bytes
+        × PrintsSome (λ line. IsListingOwed listing (O.may_open opener.now) O.File.remaining
+        bytes line)
+        (W.contents output.old) (W.contents output.new) result }
+{
+    match read_all(alloc, input) {
+        Ok(bytes) => print_bytes(alloc, listing, opener, bytes.as_slice(), output),
+        Err(InputError::OutOfMemory) => write_refusal(output, Error::OutOfMemory),
+        Err(_) => write_wrong_input(output),
+    }
+}
+
+/// Prints the stacks of the samples one after the other, as `list_profile` does; without functions
+/// if they are `raw`.
 pub fn unwind_profile<O: Opener, R: Read, W: Write>(
     alloc: Global,
     raw: bool,
@@ -62,27 +93,23 @@ pub fn unwind_profile<O: Opener, R: Read, W: Write>(
         × PrintsSome (λ line. IsOwed raw (O.may_open opener.now) O.File.remaining bytes line)
         (W.contents output.old) (W.contents output.new) result }
 {
-    match read_all(alloc, input) {
-        Ok(bytes) => print_bytes(alloc, raw, opener, bytes.as_slice(), output),
-        Err(InputError::OutOfMemory) => write_refusal(output, Error::OutOfMemory),
-        Err(_) => write_wrong_input(output),
-    }
+    list_profile(alloc, Listing::Frames(raw), opener, input, output)
 }
 
 /// Prints the stacks of the profile that these bytes are.
 fn print_bytes<O: Opener, W: Write>(
     alloc: Global,
-    raw: bool,
+    listing: Listing,
     opener: &O,
     bytes: &[u8],
     output: &mut W,
 ) -> io::Result<u8>
-    ensures { PrintsSome (λ line. IsOutput raw (O.may_open opener.now) O.File.remaining
+    ensures { PrintsSome (λ line. IsOutput listing (O.may_open opener.now) O.File.remaining
         bytes.now line)
         (W.contents output.old) (W.contents output.new) result }
 {
     match Profile::parse(bytes) {
-        Ok(profile) => print_profile(alloc, raw, opener, &profile, output),
+        Ok(profile) => print_profile(alloc, listing, opener, &profile, output),
         Err(error) => write_perf_refusal(output, error),
     }
 }
@@ -90,18 +117,25 @@ fn print_bytes<O: Opener, W: Write>(
 /// Prints the stacks of a profile.
 fn print_profile<O: Opener, W: Write>(
     alloc: Global,
-    raw: bool,
+    listing: Listing,
     opener: &O,
     profile: &Profile<'_>,
     output: &mut W,
 ) -> io::Result<u8>
-    ensures { PrintsSome (λ line. IsOfProfile raw (O.may_open opener.now) O.File.remaining
+    ensures { PrintsSome (λ line. IsOfProfile listing (O.may_open opener.now) O.File.remaining
         (Ok (profile_view profile.now)) line)
         (W.contents output.old) (W.contents output.new) result }
 {
     match profile.architecture() {
         Ok(Some(name)) => match SampleMachine::named(name) {
-            Some(machine) => print_records(alloc, raw, opener, machine, profile.records(), output),
+            Some(machine) => print_records(
+                alloc,
+                listing,
+                opener,
+                machine,
+                profile.records(),
+                output,
+            ),
             None => write_unknown_machine(output),
         },
         Ok(None) => write_unknown_machine(output),
@@ -112,20 +146,20 @@ fn print_profile<O: Opener, W: Write>(
 /// Prints the stacks that the records have, and then the error that ends them, if any.
 fn print_records<O: Opener, W: Write>(
     alloc: Global,
-    raw: bool,
+    listing: Listing,
     opener: &O,
     machine: SampleMachine,
     records: Records<'_>,
     output: &mut W,
 ) -> io::Result<u8>
-    ensures { PrintsSome (λ line. IsOfRecords raw (O.may_open opener.now) O.File.remaining machine
-        (records_left records.entry) line)
+    ensures { PrintsSome (λ line. IsOfRecords listing (O.may_open opener.now) O.File.remaining
+        machine (records_left records.entry) line)
         (W.contents output.old) (W.contents output.new) result }
 {
     match sorted_records(alloc, records) {
         Ok(found) => print_sorted(
             alloc,
-            raw,
+            listing,
             opener,
             machine,
             found.list.as_slice(),
@@ -184,22 +218,22 @@ fn read_records<'run>(
 /// Opens the files of the records, and prints the stacks.
 fn print_sorted<O: Opener, W: Write>(
     alloc: Global,
-    raw: bool,
+    listing: Listing,
     opener: &O,
     machine: SampleMachine,
     records: &[Record<'_>],
     error: Option<PerfError>,
     output: &mut W,
 ) -> io::Result<u8>
-    ensures { PrintsSome (λ line. IsOfSorted raw (O.may_open opener.now) O.File.remaining machine
-        (map record_view records.now) error line ⊎ (line ≡ out_of_memory))
+    ensures { PrintsSome (λ line. IsOfSorted listing (O.may_open opener.now) O.File.remaining
+        machine (map record_view records.now) error line ⊎ (line ≡ out_of_memory))
         (W.contents output.old) (W.contents output.new) result }
 {
     match mapped_files(alloc, records) {
         Ok(wanted) => {
             print_wanted(
                 alloc,
-                raw,
+                listing,
                 opener,
                 machine,
                 wanted.as_slice(),
@@ -215,7 +249,7 @@ fn print_sorted<O: Opener, W: Write>(
 /// Opens these files, and prints the stacks of the records.
 fn print_wanted<O: Opener, W: Write>(
     alloc: Global,
-    raw: bool,
+    listing: Listing,
     opener: &O,
     machine: SampleMachine,
     wanted: &[WantedFile<'_>],
@@ -223,15 +257,15 @@ fn print_wanted<O: Opener, W: Write>(
     error: Option<PerfError>,
     output: &mut W,
 ) -> io::Result<u8>
-    ensures { PrintsSome (λ line. IsOfWanted raw (O.may_open opener.now) O.File.remaining machine
-        (map wanted_view wanted.now) (map record_view records.now) error line
+    ensures { PrintsSome (λ line. IsOfWanted listing (O.may_open opener.now) O.File.remaining
+        machine (map wanted_view wanted.now) (map record_view records.now) error line
         ⊎ (line ≡ out_of_memory))
         (W.contents output.old) (W.contents output.new) result }
 {
     match read_files(alloc, opener, wanted) {
         Ok(opened) => print_opened(
             alloc,
-            raw,
+            listing,
             machine,
             opened.as_slice(),
             records,
@@ -245,21 +279,21 @@ fn print_wanted<O: Opener, W: Write>(
 /// Prints the stacks of the records, by files that were opened.
 fn print_opened<W: Write>(
     alloc: Global,
-    raw: bool,
+    listing: Listing,
     machine: SampleMachine,
     opened: &[OpenedFile<'_>],
     records: &[Record<'_>],
     error: Option<PerfError>,
     output: &mut W,
 ) -> io::Result<u8>
-    ensures { PrintsSome (λ line. IsOfOpened raw machine (map opened_view opened.now)
+    ensures { PrintsSome (λ line. IsOfOpened listing machine (map opened_view opened.now)
         (map record_view records.now) error line ⊎ (line ≡ out_of_memory))
         (W.contents output.old) (W.contents output.new) result }
 {
     match profile_files(alloc, opened) {
-        Ok(files) => print_stacks(
+        Ok(files) => print_listing(
             alloc,
-            raw,
+            listing,
             machine,
             files.as_slice(),
             records,
@@ -267,6 +301,28 @@ fn print_opened<W: Write>(
             output,
         ),
         Err(_) => write_refusal(output, Error::OutOfMemory),
+    }
+}
+
+/// Prints the stacks of the records, by the files, as they are to be listed.
+fn print_listing<W: Write>(
+    alloc: Global,
+    listing: Listing,
+    machine: SampleMachine,
+    files: &[ProfileFile<'_>],
+    records: &[Record<'_>],
+    error: Option<PerfError>,
+    output: &mut W,
+) -> io::Result<u8>
+    ensures { PrintsSome (λ line. IsListed listing machine (map known_view files.now)
+        (map record_view records.now) error line)
+        (W.contents output.old) (W.contents output.new) result }
+{
+    match listing {
+        Listing::Frames(raw) => print_stacks(alloc, raw, machine, files, records, error, output),
+        Listing::Folded(by_period) => {
+            print_folded(alloc, by_period, machine, files, records, error, output)
+        }
     }
 }
 
@@ -353,7 +409,7 @@ fn print_followed<W: Write>(
 }
 
 /// Prints the error that ended the records, if there is one, and returns the status.
-fn write_end<W: Write>(output: &mut W, error: Option<PerfError>) -> io::Result<u8>
+pub(crate) fn write_end<W: Write>(output: &mut W, error: Option<PerfError>) -> io::Result<u8>
     ensures { Prints (ended [] error) (W.contents output.old) (W.contents output.new) result }
 {
     match error {

@@ -2,7 +2,7 @@ use Rattle.std.proofs.Common.{inl, inr, refl}
 use Rattle.cfi_programs.specs.Lines.{wrong_input}
 use Rattle.cfi_programs.specs.Runs.{out_of_memory}
 use Rattle.cfi_stacks.proofs.ReadLemmas.{for_input}
-use Rattle.cfi_stacks.proofs.run.unwind_profile.Goals as goal
+use Rattle.cfi_stacks.proofs.run.list_profile.Goals as goal
 
 pub returns-in-Err-OutOfMemory : goal.returns-in-Err-OutOfMemory
 returns-in-Err-OutOfMemory g c = for_input (g.R.Read.remaining c.args.input.now) _ (λ bytes. (out_of_memory, c.write_refusal.ensures, inr (inl refl)))

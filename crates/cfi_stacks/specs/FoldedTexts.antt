@@ -1,0 +1,73 @@
+-- The folded stack of a sample: the thread, and the functions from the outermost one in, between
+-- semicolons.
+--     harmless byte      what stands for a byte of a name: a semicolon is a colon
+--     site_name site      the name of a frame's function, or that of its file in brackets
+--     folded_text files list name tid result room      the stack of a walk
+use Rattle.std.specs.Prelude.{ℕ, ◌==◌, List, [], ◌∷◌, ◌++◌, Option, Some, None, Result, Ok, Err}
+use Rattle.std.specs.Prelude.{codes, drop, map, take, if◌then◌else◌}
+use Rattle.cfi_flame.specs.FoldedStacks.{last_part}
+use Rattle.cfi_elf.specs.FunctionPlaces.{Place}
+use Rattle.cfi_programs.specs.FunctionLines.{shown}
+use Rattle.cfi_step.specs.declared.walk.StackFrame.{StackFrame}
+use Rattle.cfi_step.specs.declared.walk.Walk.{Walk}
+use Rattle.cfi_step.specs.Steps.{row_address}
+use Rattle.cfi_processes.specs.declared.mappings.MappedCode.{MappedCode}
+use Rattle.cfi_processes.specs.declared.sample_stack.NoFrames.{NoFrames}
+use Rattle.cfi_processes.specs.KnownFiles.{KnownFile, site_of}
+use Rattle.cfi_processes.specs.Sites.{Site}
+use Rattle.cfi_stacks.specs.StackTexts.{name_text, unknown}
+
+-- ---- names
+
+-- printable ASCII, or a question mark; a semicolon, which stands between names, is a colon
+abbrev pub harmless : ℕ → ℕ
+harmless c = if c == 59 then 58 else shown c
+
+-- and a space is an underscore
+abbrev pub joined : ℕ → ℕ
+joined c = if c == 32 then 95 else harmless c
+
+-- where none is known, as in the line before the frames of a sample
+abbrev pub thread_name : ℕ → Option (List ℕ) → List ℕ
+thread_name tid (Some name) = map joined name
+thread_name tid None = name_text tid None
+
+-- behind the last slash
+abbrev pub base_name : List ℕ → List ℕ
+base_name path = drop (last_part 47 path) path
+
+abbrev pub file_name : Option (List ℕ) → List ℕ
+file_name None = unknown
+file_name (Some path) = codes "[" ++ (map harmless (base_name path) ++ codes "]")
+
+abbrev pub name_at : Option Place → Option (List ℕ) → List ℕ
+name_at None file = file_name file
+name_at (Some place) file = map harmless place.name
+
+abbrev pub site_name : Site → List ℕ
+site_name site = name_at site.function site.file
+
+-- ---- a stack
+
+-- a frame is looked up as its row is: a return address less one
+abbrev pub frame_name : List KnownFile → List MappedCode → StackFrame → List ℕ
+frame_name files list frame =
+    site_name (site_of files list (row_address frame.pc frame.is_interrupted))
+
+-- the first of the frames is the innermost, and comes last
+abbrev pub names_text : List KnownFile → List MappedCode → List StackFrame → List ℕ
+names_text files list [] = []
+names_text files list (frame ∷ frames) =
+    names_text files list frames ++ (codes ";" ++ frame_name files list frame)
+
+abbrev pub walk_names :
+    List KnownFile → List MappedCode → Result Walk NoFrames → List StackFrame → List ℕ
+walk_names files list (Ok walk) room = names_text files list (take walk.count room)
+walk_names files list (Err why) room = []
+
+-- as far as it was found
+abbrev pub folded_text :
+    List KnownFile → List MappedCode → Option (List ℕ) → ℕ → Result Walk NoFrames →
+    List StackFrame → List ℕ
+folded_text files list name tid result room =
+    thread_name tid name ++ walk_names files list result room

@@ -1,0 +1,182 @@
+//! The folded stack of a sample.
+ghost use Rattle.std.specs.Prelude.{◌≡◌, ◌≤◌, ◌++◌, IfOk, None, OnOk, codes, length, map};
+ghost use Rattle.std.specs.Prelude.{option_map};
+ghost use Rattle.cfi_processes.specs.KnownFiles.{known_view};
+ghost use Rattle.cfi_processes.specs.Mappings.{AreInOrder};
+ghost use Rattle.cfi_processes.specs.Sites.{site_view};
+ghost use Rattle.cfi_processes.specs.ThreadNames.{bytes_of};
+ghost use Rattle.cfi_stacks.specs.FoldedTexts.{base_name, file_name, folded_text, frame_name};
+ghost use Rattle.cfi_stacks.specs.FoldedTexts.{harmless, joined, names_text, site_name};
+ghost use Rattle.cfi_stacks.specs.FoldedTexts.{thread_name, walk_names};
+
+use cfi_flame::folded::last_part;
+use cfi_processes::names::is_printable;
+use cfi_processes::process_code::ProcessCode;
+use cfi_processes::sample_stack::NoFrames;
+use cfi_processes::{Name, Site};
+use cfi_step::{StackFrame, Walk, row_address};
+use itoa::Buffer;
+use std::alloc::AllocError;
+
+/// Appends the folded stack of what was found of a sample's: the thread, and the functions from the
+/// outermost one in, each behind a semicolon.
+///
+/// A frame without a function has the name of its file in brackets, without the folders, or
+/// `[unknown]`. A semicolon in a name becomes a colon, a space in a thread's an underscore, and a
+/// byte that isn't printable ASCII a question mark. Fails where memory is refused.
+pub fn push_stack(
+    line: &mut Vec<u8>,
+    code: &ProcessCode<'_, '_, '_>,
+    name: Option<Name<'_>>,
+    tid: u32,
+    found: Result<Walk, NoFrames>,
+    frames: &[StackFrame],
+) -> Result<(), AllocError>
+    requires order { AreInOrder 0 code.now.mappings.now }
+    requires count { IfOk found (λ walk. walk.count ≤ length frames.now) }
+    ensures { OnOk result (line.new.items ≡ line.old.items
+        ++ folded_text (map known_view code.now.files.now) code.now.mappings.now
+        (bytes_of name.entry) tid found frames.now) }
+{
+    push_thread(line, tid, name)?;
+    match found {
+        Ok(walk) => push_names(line, code, &frames[..walk.count]),
+        Err(_) => Ok(()),
+    }
+}
+
+/// Appends the name of a thread. One without has `:TID`, but for the idle thread, 0, which is
+/// `swapper`.
+fn push_thread(line: &mut Vec<u8>, tid: u32, name: Option<Name<'_>>) -> Result<(), AllocError>
+    ensures { OnOk result
+        (line.new.items ≡ line.old.items ++ thread_name tid (bytes_of name.entry)) }
+{
+    match name {
+        Some(name) => push_joined(line, name.bytes),
+        None => push_number_of(line, tid),
+    }
+}
+
+/// Appends what stands in place of a thread's name that isn't known.
+fn push_number_of(line: &mut Vec<u8>, tid: u32) -> Result<(), AllocError>
+    ensures { OnOk result (line.new.items ≡ line.old.items ++ thread_name tid None) }
+{
+    if tid == 0 {
+        return line.extend_from_slice(b"swapper");
+    }
+    let mut digits = Buffer::new();
+    line.extend_from_slice(b":")?;
+    line.extend_from_slice(digits.format(tid).as_bytes())
+}
+
+/// Appends a name, with underscores for its spaces.
+fn push_joined(line: &mut Vec<u8>, name: &[u8]) -> Result<(), AllocError>
+    ensures { OnOk result (line.new.items ≡ line.old.items ++ map joined name.now) }
+{
+    for byte in name {
+        line.push(joined(*byte))?;
+    }
+    Ok(())
+}
+
+/// Appends the functions of the frames, of which the first is the innermost.
+fn push_names(
+    line: &mut Vec<u8>,
+    code: &ProcessCode<'_, '_, '_>,
+    frames: &[StackFrame],
+) -> Result<(), AllocError>
+    requires { AreInOrder 0 code.now.mappings.now }
+    ensures { OnOk result (line.new.items ≡ line.old.items
+        ++ names_text (map known_view code.now.files.now) code.now.mappings.now frames.now) }
+{
+    let mut left = frames.len();
+    while left > 0 {
+        left -= 1;
+        line.extend_from_slice(b";")?;
+        push_frame(line, code, &frames[left])?;
+    }
+    Ok(())
+}
+
+/// Appends the function of a frame.
+fn push_frame(
+    line: &mut Vec<u8>,
+    code: &ProcessCode<'_, '_, '_>,
+    frame: &StackFrame,
+) -> Result<(), AllocError>
+    requires { AreInOrder 0 code.now.mappings.now }
+    ensures { OnOk result (line.new.items ≡ line.old.items
+        ++ frame_name (map known_view code.now.files.now) code.now.mappings.now frame.now) }
+{
+    let address = row_address(frame.pc, frame.is_interrupted);
+    push_site(line, code.site(address))
+}
+
+/// Appends the function at a site, or the file in brackets.
+fn push_site(line: &mut Vec<u8>, site: Site<'_>) -> Result<(), AllocError>
+    ensures { OnOk result
+        (line.new.items ≡ line.old.items ++ site_name (site_view site.entry)) }
+{
+    match site.function {
+        Some(place) => push_harmless(line, place.name),
+        None => push_file(line, site.file),
+    }
+}
+
+/// Appends the name of a file in brackets, without the folders.
+fn push_file(line: &mut Vec<u8>, file: Option<Name<'_>>) -> Result<(), AllocError>
+    ensures { OnOk result (line.new.items
+        ≡ line.old.items ++ file_name (option_map (λ name. name.bytes.now) file.entry)) }
+{
+    match file {
+        None => line.extend_from_slice(b"[unknown]"),
+        Some(name) => push_in_brackets(line, base_name(name.bytes)),
+    }
+}
+
+/// Appends a name in brackets.
+fn push_in_brackets(line: &mut Vec<u8>, name: &[u8]) -> Result<(), AllocError>
+    ensures { OnOk result (line.new.items
+        ≡ line.old.items ++ (codes "[" ++ (map harmless name.now ++ codes "]"))) }
+{
+    line.extend_from_slice(b"[")?;
+    push_harmless(line, name)?;
+    line.extend_from_slice(b"]")
+}
+
+/// Returns the name of a file without the folders.
+fn base_name(path: &[u8]) -> &[u8]
+    ensures { result.now ≡ base_name path.now }
+{
+    &path[last_part(path, b'/')..]
+}
+
+/// Appends a name.
+fn push_harmless(line: &mut Vec<u8>, name: &[u8]) -> Result<(), AllocError>
+    ensures { OnOk result (line.new.items ≡ line.old.items ++ map harmless name.now) }
+{
+    for byte in name {
+        line.push(harmless(*byte))?;
+    }
+    Ok(())
+}
+
+/// What stands for a byte of a name.
+fn harmless(byte: u8) -> u8
+    ensures { result ≡ harmless byte }
+{
+    if byte == b';' {
+        b':'
+    } else if is_printable(byte) {
+        byte
+    } else {
+        b'?'
+    }
+}
+
+/// What stands for a byte of a thread's name.
+fn joined(byte: u8) -> u8
+    ensures { result ≡ joined byte }
+{
+    if byte == b' ' { b'_' } else { harmless(byte) }
+}

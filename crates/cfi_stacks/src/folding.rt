@@ -1,0 +1,252 @@
+//! The folded stacks of a profile's samples.
+ghost use Rattle.std.specs.Prelude.{◌≡◌, ◌⊎◌, IfErr, IfOk, OnOk, map};
+ghost use Rattle.std.specs.List.{flat_map};
+ghost use Rattle.cfi_flame.specs.declared.folded.FoldedError.TheVariants.{TooManySamples};
+ghost use Rattle.cfi_flame.specs.FoldedCounts.{counted_in, line_text};
+ghost use Rattle.cfi_perf.specs.Events.{record_view};
+ghost use Rattle.cfi_perf.specs.Samples.{sample_view};
+ghost use Rattle.cfi_programs.specs.Runs.{out_of_memory};
+ghost use Rattle.cfi_programs.specs.WriterOutput.{Prints, PrintsSome};
+ghost use Rattle.cfi_processes.specs.FileModules.{AreOfFiles};
+ghost use Rattle.cfi_processes.specs.KnownFiles.{known_view, modules_in};
+ghost use Rattle.cfi_processes.specs.Mappings.{AreInOrder};
+ghost use Rattle.cfi_processes.specs.Modules.{module_view};
+ghost use Rattle.cfi_processes.specs.Replays.{AreModulesFor, HasOwnModules, files_in, files_of};
+ghost use Rattle.cfi_processes.specs.SampleStacks.{HasRoom};
+ghost use Rattle.cfi_processes.specs.ThreadNames.{bytes_of};
+ghost use Rattle.cfi_stacks.specs.Foldings.{IsFollowed, IsNotFollowed};
+ghost use Rattle.cfi_stacks.specs.ProfileOutputs.{AreFolded, IsFolded, IsFoldedText, IsUnfolded};
+ghost use Rattle.cfi_stacks.specs.ProfileOutputs.{ended, folded_refusal, known_in, weight};
+ghost use Rattle.cfi_stacks.specs.Rooms.{IsRoomFor, KeepsNoRows};
+
+use crate::folded_text::push_stack;
+use crate::run::write_end;
+use crate::sample_text::{REGISTERS, Room};
+use cfi_flame::{FoldedError, StackCounts};
+use cfi_perf::{Event, PerfError, Record, Sample};
+use cfi_processes::Name;
+use cfi_processes::process_code::{FileModule, ProcessCode};
+use cfi_processes::profile_files::ProfileFile;
+use cfi_processes::registers::SampleMachine;
+use cfi_processes::replay::Replay;
+use cfi_processes::sample_stack::unwind_sample;
+use cfi_programs::lines::{write_refusal, write_text};
+use cfi_step::Modules;
+use gimli_cfi::Error;
+use std::alloc::{AllocError, Global};
+use std::io;
+use std::io::Write;
+
+/// Prints the folded stacks of the records, by the files, and then the error that ended the
+/// records.
+pub(crate) fn print_folded<W: Write>(
+    alloc: Global,
+    by_period: bool,
+    machine: SampleMachine,
+    files: &[ProfileFile<'_>],
+    records: &[Record<'_>],
+    error: Option<PerfError>,
+    output: &mut W,
+) -> io::Result<u8>
+    ensures { PrintsSome (λ line. IsFolded by_period machine (map known_view files.now)
+        (map record_view records.now) error line)
+        (W.contents output.old) (W.contents output.new) result }
+{
+    match fold_records(alloc, by_period, machine, files, records) {
+        Ok(counts) => write_counts(alloc, &counts, error, output),
+        Err(error) => write_folded_refusal(output, error),
+    }
+}
+
+/// Counts the samples of the records by their folded stacks.
+fn fold_records(
+    alloc: Global,
+    by_period: bool,
+    machine: SampleMachine,
+    files: &[ProfileFile<'_>],
+    records: &[Record<'_>],
+) -> Result<StackCounts, FoldedError>
+    ensures folded { IfOk result (λ counts. AreFolded by_period machine
+        (map known_view files.now) (map record_view records.now) (counted_in counts)) }
+    ensures refused { IfErr result (IsUnfolded by_period machine
+        (map known_view files.now) (map record_view records.now)) }
+{
+    match Room::new(alloc) {
+        Ok(room) => fold_in(alloc, by_period, room, machine, files, records),
+        Err(_) => Err(FoldedError::OutOfMemory),
+    }
+}
+
+/// Counts the samples of the records in this room.
+fn fold_in(
+    alloc: Global,
+    by_period: bool,
+    room: Room,
+    machine: SampleMachine,
+    files: &[ProfileFile<'_>],
+    records: &[Record<'_>],
+) -> Result<StackCounts, FoldedError>
+    requires rows { KeepsNoRows room }
+    requires frames { HasRoom room.frames.items }
+    ensures folded { IfOk result (λ counts. AreFolded by_period machine
+        (map known_view files.now) (map record_view records.now) (counted_in counts)) }
+    ensures refused { IfErr result (IsUnfolded by_period machine
+        (map known_view files.now) (map record_view records.now)) }
+{
+    let mut room = room;
+    let mut replay = Replay::new(alloc, files);
+    let mut line = Vec::new(alloc);
+    let mut counts = StackCounts::new(alloc);
+    for record in records {
+        match replay.follow(record) {
+            Ok(()) => fold_followed(
+                alloc,
+                by_period,
+                machine,
+                &replay,
+                record,
+                &mut room,
+                &mut line,
+                &mut counts,
+            )?,
+            Err(_) => return Err(FoldedError::OutOfMemory),
+        }
+    }
+    Ok(counts)
+}
+
+/// Counts a record that was followed last, if it is a sample.
+fn fold_followed(
+    alloc: Global,
+    by_period: bool,
+    machine: SampleMachine,
+    replay: &Replay<'_, '_, '_>,
+    item: &Record<'_>,
+    room: &mut Room,
+    line: &mut Vec<u8>,
+    counts: &mut StackCounts,
+) -> Result<(), FoldedError>
+    requires modules { AreModulesFor (record_view item.now).event replay.now }
+    requires own { HasOwnModules replay.now }
+    requires cached { IsRoomFor (files_of replay.now) room.old }
+    ensures followed { OnOk result (IsFollowed by_period machine (files_in replay.now)
+        (known_in replay.now) item.now.time (record_view item.now).event
+        (counted_in counts.old) (counted_in counts.new)) }
+    ensures refused { IfErr result (IsNotFollowed by_period machine (files_in replay.now)
+        (known_in replay.now) item.now.time (record_view item.now).event
+        (counted_in counts.old)) }
+    ensures cached { IsRoomFor (files_of replay.now) room.new }
+{
+    match item.event {
+        Event::Sample(sample) => {
+            let code = replay.code(sample.pid);
+            let name = replay.name(sample.tid);
+            match fold_sample(machine, &code, replay.modules(), name, &sample, room, line) {
+                Ok(()) => counts.add(alloc, line.as_slice(), weight(by_period, &sample)),
+                Err(_) => Err(FoldedError::OutOfMemory),
+            }
+        }
+        _ => Ok(()),
+    }
+}
+
+/// Returns how much a sample counts: one, or its period. One also where the period is 0.
+fn weight(by_period: bool, sample: &Sample<'_>) -> u64
+    ensures { result ≡ weight by_period (sample_view sample.now) }
+{
+    if by_period && sample.period != 0 {
+        sample.period
+    } else {
+        1
+    }
+}
+
+/// Makes the line the folded stack of a sample.
+///
+/// The modules are those of what is mapped. The rows that the room keeps are those of the files, in
+/// whichever process they were found. Fails where memory is refused. Allocates where the line has
+/// no room for the stack.
+fn fold_sample(
+    machine: SampleMachine,
+    code: &ProcessCode<'_, '_, '_>,
+    modules: &[FileModule<'_, '_>],
+    name: Option<Name<'_>>,
+    sample: &Sample<'_>,
+    room: &mut Room,
+    line: &mut Vec<u8>,
+) -> Result<(), AllocError>
+    requires order { AreInOrder 0 code.now.mappings.now }
+    requires modules { map module_view modules.now
+        ≡ modules_in (map known_view code.now.files.now) code.now.mappings.now }
+    requires files { AreOfFiles code.now.files.now modules.now }
+    requires cached { IsRoomFor code.now.files.now room.old }
+    ensures folded { OnOk result (IsFoldedText machine (map known_view code.now.files.now)
+        code.now.mappings.now (bytes_of name.entry) (sample_view sample.now) line.new.items) }
+    ensures cached { IsRoomFor code.now.files.now room.new }
+{
+    let Ok(modules) = Modules::new(modules) else {
+        unreachable!()
+    };
+    let count = machine.register_count();
+    let mut registers = [None; REGISTERS];
+    let mut caller = [None; REGISTERS];
+    let frames = room.frames.as_mut_slice();
+    let found = unwind_sample(
+        modules,
+        machine,
+        &sample.user,
+        room.cache.as_mut_slice(),
+        &mut room.context,
+        &mut registers[..count],
+        &mut caller[..count],
+        frames,
+    );
+    line.clear();
+    push_stack(line, code, name, sample.tid, found, frames)
+}
+
+/// Prints the folded stacks, and then the error that ended the records, and returns the status.
+fn write_counts<W: Write>(
+    alloc: Global,
+    counts: &StackCounts,
+    error: Option<PerfError>,
+    output: &mut W,
+) -> io::Result<u8>
+    ensures { PrintsSome (λ line. (line ≡ ended (flat_map line_text (counted_in counts.now)) error)
+        ⊎ (line ≡ out_of_memory)) (W.contents output.old) (W.contents output.new) result }
+{
+    let mut text = Vec::new(alloc);
+    match counts.push_lines(&mut text) {
+        Ok(()) => write_folded(text.as_slice(), error, output),
+        Err(_) => write_refusal(output, Error::OutOfMemory),
+    }
+}
+
+/// Prints the lines of folded stacks, and then the error that ended the records.
+fn write_folded<W: Write>(text: &[u8], error: Option<PerfError>, output: &mut W) -> io::Result<u8>
+    ensures { Prints (ended text.now error) (W.contents output.old) (W.contents output.new) result }
+{
+    write_text(output, text)?;
+    write_end(output, error)
+}
+
+/// Prints why there are no folded stacks, and returns the status 1.
+fn write_folded_refusal<W: Write>(output: &mut W, error: FoldedError) -> io::Result<u8>
+    ensures { Prints (folded_refusal error) (W.contents output.old) (W.contents output.new) result }
+{
+    match error {
+        FoldedError::OutOfMemory => write_refusal(output, Error::OutOfMemory),
+        FoldedError::NotFolded(_) => write_refusal(output, Error::OutOfMemory),
+        FoldedError::NoSamples => write_refusal(output, Error::OutOfMemory),
+        FoldedError::TooManySamples => write_too_many(output),
+    }
+}
+
+/// Prints that a stack has too many samples, and returns the status 1.
+fn write_too_many<W: Write>(output: &mut W) -> io::Result<u8>
+    ensures { Prints (folded_refusal TooManySamples)
+        (W.contents output.old) (W.contents output.new) result }
+{
+    write_text(output, b"refused TooManySamples\n")?;
+    Ok(1)
+}
