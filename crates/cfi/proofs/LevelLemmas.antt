@@ -10,8 +10,8 @@ use Rattle.clap.specs.Simple.{App, Shape, built_leaf, inherited, marked_built, w
 use Rattle.clap.specs.Kinds.{or_else}
 use Rattle.clap.specs.Faults.{check_fault, defaults_fault, level_fault}
 use Rattle.cfi_programs.specs.declared.style.Format.{Format}
-use Rattle.cfi.specs.CommandLine.{Asked, asked_of, cfi_app, check, check_app, dump, dump_app, file_in, flame, flame_app, format_in, format_names, raw_in, row, row_app, rows, rows_app, stack, stack_app, table, table_app, unwind, unwind_app, values_in}
-use Rattle.cfi.specs.Words.{Given, check_by, check_of, dump_by, dump_of, flame_by, flame_of, format_given, given, nothing, row_by, row_of, rows_by, rows_of, stack_by, stack_of, table_by, table_of, unwind_by, unwind_of}
+use Rattle.cfi.specs.CommandLine.{Asked, asked_of, cfi_app, check, check_app, dump, dump_app, file_in, flame, flame_app, fold as fold_asked, fold_app, format_in, format_names, raw_in, report, report_app, row, row_app, rows, rows_app, stack, stack_app, table, table_app, unwind, unwind_app, values_in}
+use Rattle.cfi.specs.Words.{Given, check_by, check_of, dump_by, dump_of, flame_by, flame_of, fold_by, fold_of, format_given, given, nothing, report_by, report_of, row_by, row_of, rows_by, rows_of, stack_by, stack_of, table_by, table_of, unwind_by, unwind_of}
 use Rattle.cfi.proofs.EndLemmas.{NoDefaults, format_is, found_at, lacks, missing, no_defaults, raw_defaults, raw_is, skips}
 use Rattle.cfi.proofs.FlagLemmas.{IsFault, fault_next, help, waiting}
 use Rattle.cfi.proofs.PlaceLemmas.{many, single}
@@ -104,6 +104,20 @@ flame_refuses false true arguments le = refl
 flame_refuses false false [] le = refl
 flame_refuses false false (f ∷ []) le = absurd (omega arith)
 flame_refuses false false (f ∷ x ∷ more) le = refl
+
+report_refuses : (b c : Bool) (arguments : List Text) → 2 ≤ length arguments → cond b None (cond c None (report_by arguments)) ≡ None
+report_refuses true c arguments le = refl
+report_refuses false true arguments le = refl
+report_refuses false false [] le = refl
+report_refuses false false (f ∷ []) le = absurd (omega arith)
+report_refuses false false (f ∷ x ∷ more) le = refl
+
+fold_refuses : (b c : Bool) (arguments : List Text) → 2 ≤ length arguments → cond b None (cond c None (fold_by arguments)) ≡ None
+fold_refuses true c arguments le = refl
+fold_refuses false true arguments le = refl
+fold_refuses false false [] le = refl
+fold_refuses false false (f ∷ []) le = absurd (omega arith)
+fold_refuses false false (f ∷ x ∷ more) le = refl
 
 module _ (names : Bor (List (Bor Text))) where
   -- ---- row
@@ -655,6 +669,148 @@ module _ (names : Bor (List (Bor Text))) where
 
       without_format : (g : Given) → is_some g.format ≡ true → flame_of g ≡ None
       without_format g h = refused_anyway g.raw _ (ap (λ (c : Bool). cond c None (flame_by g.arguments)) h)
+
+  -- ---- report
+
+  report_place : (arguments : List Text) (position : ℕ) (now : Text → List Text) → one_file arguments position (now (codes "FILE")) (now (codes "ADDRESS"))
+      → Takes (leaf names report_app) one_file report_of arguments position now
+  report_place [] position now h = inr (
+    single (codes "FILE") 1 true,
+    ap (arg_by_index (leaf names report_app).rules) h.0,
+    record { id = codes "FILE"; index = 1; required = true; found = refl; kind = inl (refl, h.1) },
+    refl,
+    refl,
+    λ word. (ap (next_position (single (codes "FILE") 1 true)) h.0, ap (λ (x : List Text). x ++ word ∷ []) h.1),
+  )
+  report_place (f ∷ []) position now h = inl (ap (arg_by_index (leaf names report_app).rules) h.0, λ g le. report_refuses g.raw (is_some g.format) g.arguments le)
+  report_place (f ∷ x ∷ more) position now h = absurd h
+
+  abbrev report_rules : List Rule
+  report_rules = single (codes "FILE") 1 true ∷ help ∷ []
+
+  report_plain : NoDefaults report_rules
+  report_plain = (refl, (refl, tt {0}))
+
+  report_ends : (g : Given) (position : ℕ) (rs : List Row) (now : Text → List Text) → one_file g.arguments position (now (codes "FILE")) (now (codes "ADDRESS"))
+      → now (codes "raw") ≡ raw_values g.raw → now (codes "format") ≡ format_values g.format
+      → (arg_by_long (leaf names report_app).rules (codes "raw") ≡ None → g.raw ≡ false) → (arg_by_long (leaf names report_app).rules (codes "format") ≡ None → g.format ≡ None)
+      → Has rs now → Ends (leaf names report_app) (codes "report") rs (report_of g)
+  report_ends g position rs now placed raw format no_raw no_format has =
+      subst (λ (b : Bool). Ends (leaf names report_app) (codes "report") rs (cond b None (cond (is_some g.format) None (report_by g.arguments)))) (sym (no_raw refl))
+      (subst (λ (o : Option Format). Ends (leaf names report_app) (codes "report") rs (cond (is_some o) None (report_by g.arguments))) (sym (no_format refl)) (go g.arguments placed))
+    where
+      at_end : (id : Text) (values : List Text) → now id ≡ values → at_id id (fold with_default rs report_rules) ≡ line id values
+      at_end id values is = ap (at_id id) (skips report_rules rs report_plain) ∙ has id ∙ ap (line id) is
+
+      lacking : (file : List Text) → now (codes "FILE") ≡ file
+          → check_fault (leaf names report_app) (fold with_default rs report_rules) false ≡ missing (lacks (line (codes "FILE") file) || false)
+      lacking file e = ap (λ (x : Option Row). missing (lacks x || false)) (at_end (codes "FILE") file e)
+
+      asks : (f : Text) → now (codes "FILE") ≡ f ∷ [] → asked_of (codes "report", fold with_default rs report_rules) ≡ report f
+      asks f e =
+          let end = fold with_default rs report_rules in
+          let is_file : file_in end ≡ f = ap (λ (o : Option Row). unwrap_or (option_and_then (λ r. slice_get r.values 0) o) []) (at_end (codes "FILE") (f ∷ []) e) in
+          λ i. report (is_file i)
+
+      go : (arguments : List Text) → one_file arguments position (now (codes "FILE")) (now (codes "ADDRESS")) → Ends (leaf names report_app) (codes "report") rs (report_by arguments)
+      go [] h =
+          fault_next (defaults_fault rs report_rules) (check_fault (leaf names report_app) (fold with_default rs report_rules) false)
+          (subst IsFault (sym (lacking [] h.1)) (tt {0}))
+      go (f ∷ []) h = (ap₂ or_else (no_defaults report_rules rs report_plain) (lacking (f ∷ []) h.1), asks f h.1)
+      go (f ∷ x ∷ more) h = absurd h
+
+  pub report_leaf : Leaf (leaf names report_app) (codes "report") names one_file report_of
+  report_leaf = record {
+    again = refl;
+    raw = inl (refl, without_raw);
+    format = inl (refl, without_format);
+    others = λ flag d e. help_by_name (bytes_eq (codes "help") flag);
+    short = λ x. help_by_name (nat_eq 104 x);
+    apart = λ position a e. apart_of (arg_by_index (leaf names report_app).rules position) a e (one_apart (single (codes "FILE") 1 true) refl (nat_eq 1 position));
+    place = report_place;
+    ends = report_ends;
+  }
+    where
+      without_raw : (g : Given) → g.raw ≡ true → report_of g ≡ None
+      without_raw g h = ap (λ (b : Bool). cond b None (cond (is_some g.format) None (report_by g.arguments))) h
+
+      refused_anyway : (b : Bool) (asked : Option Asked) → asked ≡ None → cond b None asked ≡ None
+      refused_anyway true asked h = refl
+      refused_anyway false asked h = h
+
+      without_format : (g : Given) → is_some g.format ≡ true → report_of g ≡ None
+      without_format g h = refused_anyway g.raw _ (ap (λ (c : Bool). cond c None (report_by g.arguments)) h)
+
+  -- ---- fold
+
+  fold_place : (arguments : List Text) (position : ℕ) (now : Text → List Text) → one_file arguments position (now (codes "FILE")) (now (codes "ADDRESS"))
+      → Takes (leaf names fold_app) one_file fold_of arguments position now
+  fold_place [] position now h = inr (
+    single (codes "FILE") 1 true,
+    ap (arg_by_index (leaf names fold_app).rules) h.0,
+    record { id = codes "FILE"; index = 1; required = true; found = refl; kind = inl (refl, h.1) },
+    refl,
+    refl,
+    λ word. (ap (next_position (single (codes "FILE") 1 true)) h.0, ap (λ (x : List Text). x ++ word ∷ []) h.1),
+  )
+  fold_place (f ∷ []) position now h = inl (ap (arg_by_index (leaf names fold_app).rules) h.0, λ g le. fold_refuses g.raw (is_some g.format) g.arguments le)
+  fold_place (f ∷ x ∷ more) position now h = absurd h
+
+  abbrev fold_rules : List Rule
+  fold_rules = single (codes "FILE") 1 true ∷ help ∷ []
+
+  fold_plain : NoDefaults fold_rules
+  fold_plain = (refl, (refl, tt {0}))
+
+  fold_ends : (g : Given) (position : ℕ) (rs : List Row) (now : Text → List Text) → one_file g.arguments position (now (codes "FILE")) (now (codes "ADDRESS"))
+      → now (codes "raw") ≡ raw_values g.raw → now (codes "format") ≡ format_values g.format
+      → (arg_by_long (leaf names fold_app).rules (codes "raw") ≡ None → g.raw ≡ false) → (arg_by_long (leaf names fold_app).rules (codes "format") ≡ None → g.format ≡ None)
+      → Has rs now → Ends (leaf names fold_app) (codes "fold") rs (fold_of g)
+  fold_ends g position rs now placed raw format no_raw no_format has =
+      subst (λ (b : Bool). Ends (leaf names fold_app) (codes "fold") rs (cond b None (cond (is_some g.format) None (fold_by g.arguments)))) (sym (no_raw refl))
+      (subst (λ (o : Option Format). Ends (leaf names fold_app) (codes "fold") rs (cond (is_some o) None (fold_by g.arguments))) (sym (no_format refl)) (go g.arguments placed))
+    where
+      at_end : (id : Text) (values : List Text) → now id ≡ values → at_id id (fold with_default rs fold_rules) ≡ line id values
+      at_end id values is = ap (at_id id) (skips fold_rules rs fold_plain) ∙ has id ∙ ap (line id) is
+
+      lacking : (file : List Text) → now (codes "FILE") ≡ file
+          → check_fault (leaf names fold_app) (fold with_default rs fold_rules) false ≡ missing (lacks (line (codes "FILE") file) || false)
+      lacking file e = ap (λ (x : Option Row). missing (lacks x || false)) (at_end (codes "FILE") file e)
+
+      asks : (f : Text) → now (codes "FILE") ≡ f ∷ [] → asked_of (codes "fold", fold with_default rs fold_rules) ≡ fold_asked f
+      asks f e =
+          let end = fold with_default rs fold_rules in
+          let is_file : file_in end ≡ f = ap (λ (o : Option Row). unwrap_or (option_and_then (λ r. slice_get r.values 0) o) []) (at_end (codes "FILE") (f ∷ []) e) in
+          λ i. fold_asked (is_file i)
+
+      go : (arguments : List Text) → one_file arguments position (now (codes "FILE")) (now (codes "ADDRESS")) → Ends (leaf names fold_app) (codes "fold") rs (fold_by arguments)
+      go [] h =
+          fault_next (defaults_fault rs fold_rules) (check_fault (leaf names fold_app) (fold with_default rs fold_rules) false)
+          (subst IsFault (sym (lacking [] h.1)) (tt {0}))
+      go (f ∷ []) h = (ap₂ or_else (no_defaults fold_rules rs fold_plain) (lacking (f ∷ []) h.1), asks f h.1)
+      go (f ∷ x ∷ more) h = absurd h
+
+  pub fold_leaf : Leaf (leaf names fold_app) (codes "fold") names one_file fold_of
+  fold_leaf = record {
+    again = refl;
+    raw = inl (refl, without_raw);
+    format = inl (refl, without_format);
+    others = λ flag d e. help_by_name (bytes_eq (codes "help") flag);
+    short = λ x. help_by_name (nat_eq 104 x);
+    apart = λ position a e. apart_of (arg_by_index (leaf names fold_app).rules position) a e (one_apart (single (codes "FILE") 1 true) refl (nat_eq 1 position));
+    place = fold_place;
+    ends = fold_ends;
+  }
+    where
+      without_raw : (g : Given) → g.raw ≡ true → fold_of g ≡ None
+      without_raw g h = ap (λ (b : Bool). cond b None (cond (is_some g.format) None (fold_by g.arguments))) h
+
+      refused_anyway : (b : Bool) (asked : Option Asked) → asked ≡ None → cond b None asked ≡ None
+      refused_anyway true asked h = refl
+      refused_anyway false asked h = h
+
+      without_format : (g : Given) → is_some g.format ≡ true → fold_of g ≡ None
+      without_format g h = refused_anyway g.raw _ (ap (λ (c : Bool). cond c None (fold_by g.arguments)) h)
 
   -- ---- all words of a command
 

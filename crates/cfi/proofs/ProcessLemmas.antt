@@ -21,15 +21,17 @@ use Rattle.cfi_files.specs.declared.finding.Finding.{Finding}
 use Rattle.cfi_files.specs.declared.finding.Finding.TheVariants.{Unreadable}
 use Rattle.cfi_files.specs.declared.request.Request.{Request}
 use Rattle.cfi_stacks.specs.CoreOutputs.{IsOwed as IsOwedOfCore}
-use Rattle.cfi_stacks.specs.ProfileOutputs.{IsOwed as IsOwedOfProfile}
+use Rattle.cfi_stacks.specs.ProfileOutputs.{IsListingOwed as IsOwedOfProfile}
+use Rattle.cfi_stacks.specs.declared.listing.Listing.{Listing}
 use Rattle.cfi.specs.CommandLine.{Asked, cfi_app, format_names}
+use Rattle.cfi.specs.declared.flames.Summary.{Summary}
 use Rattle.cfi.specs.FlameOutputs.{path_of}
 use Rattle.cfi.specs.FlameOutputs.{IsOwed as IsOwedOfFolded}
 use Rattle.cfi.specs.Findings.{greatest_status, tally_in}
 use Rattle.cfi.specs.Words.{asked}
 use Rattle.cfi_programs.specs.declared.style.Format.{Format}
 use Rattle.cfi.specs.Tasks.{of_request, task_for}
-use Rattle.cfi.specs.Process.{AreChecks, AreStacks, AreTallied, AreThreads, Checks, Disk, Ends, IsAnswer, IsAnswerTo, IsCheck, IsCheckOf, IsFlame, IsPrint, IsStatusAfter, IsStatusOf, MayOpenAt, PrintsRun, WritesChecks, disk_of, no_checks, nothing, tallied, tally_line, with_check}
+use Rattle.cfi.specs.Process.{AreChecks, AreStacks, AreTallied, AreThreads, Checks, Disk, Ends, IsAnswer, IsAnswerTo, IsCheck, IsCheckOf, IsPrint, IsStatusAfter, IsStatusOf, IsSummary, MayOpenAt, PrintsRun, WritesChecks, disk_of, no_checks, nothing, tallied, tally_line, with_check}
 
 -- ---- checks one after the other
 
@@ -175,12 +177,12 @@ checked_of disk format name file old new r may (bytes, left, (finding, printed, 
 pub unreadable : (E : Type 0) (disk : Disk) (format : Format) (name : Text) (old : Option (List ℕ)) → disk.MayOpen name None → ChecksSome {E = E} (λ finding line. IsCheck disk format name finding line) old old (Ok Unreadable)
 unreadable E disk format name old may = (Unreadable, nothing, none_yet old, refl, (None, may, (refl, refl)))
 
-pub stacks_of : {E : Type 0} (disk : Disk) (raw : Bool) (name : Text) (file : disk.Handle) (old new : Option (List ℕ)) (r : Result ℕ E) → disk.MayOpen name (Some file) →
-    ((bytes : List ℕ) × AreLeft (disk.bytes_of file) bytes × PrintsSome (λ line. IsOwedOfProfile raw (MayOpenAt disk) disk.bytes_of bytes line) old new r) → PrintsSome (λ line. AreStacks disk raw name line) old new r
-stacks_of disk raw name file old new r may (bytes, left, (printed, prints, owed)) = (printed, prints, (Some file, may, (bytes, left, owed)))
+pub stacks_of : {E : Type 0} (disk : Disk) (listing : Listing) (name : Text) (file : disk.Handle) (old new : Option (List ℕ)) (r : Result ℕ E) → disk.MayOpen name (Some file) →
+    ((bytes : List ℕ) × AreLeft (disk.bytes_of file) bytes × PrintsSome (λ line. IsOwedOfProfile listing (MayOpenAt disk) disk.bytes_of bytes line) old new r) → PrintsSome (λ line. AreStacks disk listing name line) old new r
+stacks_of disk listing name file old new r may (bytes, left, (printed, prints, owed)) = (printed, prints, (Some file, may, (bytes, left, owed)))
 
-pub no_stacks : (E : Type 0) (disk : Disk) (raw : Bool) (name : Text) (old : Option (List ℕ)) → disk.MayOpen name None → PrintsSome {E = E} (λ line. AreStacks disk raw name line) old old (Ok 2)
-no_stacks E disk raw name old may = (nothing, (none_yet old, refl), (None, may, refl))
+pub no_stacks : (E : Type 0) (disk : Disk) (listing : Listing) (name : Text) (old : Option (List ℕ)) → disk.MayOpen name None → PrintsSome {E = E} (λ line. AreStacks disk listing name line) old old (Ok 2)
+no_stacks E disk listing name old may = (nothing, (none_yet old, refl), (None, may, refl))
 
 pub threads_of : {E : Type 0} (disk : Disk) (raw : Bool) (name : Text) (file : disk.Handle) (old new : Option (List ℕ)) (r : Result ℕ E) → disk.MayOpen name (Some file) →
     ((bytes : List ℕ) × AreLeft (disk.bytes_of file) bytes × PrintsSome (λ line. IsOwedOfCore raw (MayOpenAt disk) disk.bytes_of bytes line) old new r) → PrintsSome (λ line. AreThreads disk raw name line) old new r
@@ -189,12 +191,12 @@ threads_of disk raw name file old new r may (bytes, left, (printed, prints, owed
 pub no_threads : (E : Type 0) (disk : Disk) (raw : Bool) (name : Text) (old : Option (List ℕ)) → disk.MayOpen name None → PrintsSome {E = E} (λ line. AreThreads disk raw name line) old old (Ok 2)
 no_threads E disk raw name old may = (nothing, (none_yet old, refl), (None, may, refl))
 
-pub flame_is : {E : Type 0} (disk : Disk) (name : Text) (file : disk.Handle) (old new : Option (List ℕ)) (r : Result ℕ E) → disk.MayOpen (path_of name) (Some file) →
-    ((bytes : List ℕ) × AreLeft (disk.bytes_of file) bytes × PrintsSome (λ line. IsOwedOfFolded bytes line) old new r) → PrintsSome (λ line. IsFlame disk name line) old new r
-flame_is disk name file old new r may (bytes, left, (printed, prints, owed)) = (printed, prints, (Some file, may, (bytes, left, owed)))
+pub summary_is : {E : Type 0} (disk : Disk) (summary : Summary) (name : Text) (file : disk.Handle) (old new : Option (List ℕ)) (r : Result ℕ E) → disk.MayOpen (path_of name) (Some file) →
+    ((bytes : List ℕ) × AreLeft (disk.bytes_of file) bytes × PrintsSome (λ line. IsOwedOfFolded summary bytes line) old new r) → PrintsSome (λ line. IsSummary disk summary name line) old new r
+summary_is disk summary name file old new r may (bytes, left, (printed, prints, owed)) = (printed, prints, (Some file, may, (bytes, left, owed)))
 
-pub no_flame : (E : Type 0) (disk : Disk) (name : Text) (old : Option (List ℕ)) → disk.MayOpen (path_of name) None → PrintsSome {E = E} (λ line. IsFlame disk name line) old old (Ok 2)
-no_flame E disk name old may = (nothing, (none_yet old, refl), (None, may, refl))
+pub no_summary : (E : Type 0) (disk : Disk) (summary : Summary) (name : Text) (old : Option (List ℕ)) → disk.MayOpen (path_of name) None → PrintsSome {E = E} (λ line. IsSummary disk summary name line) old old (Ok 2)
+no_summary E disk summary name old may = (nothing, (none_yet old, refl), (None, may, refl))
 
 -- ---- the line that counts
 
@@ -264,17 +266,17 @@ pub wordless : (disk : Disk) (old : Option (List ℕ)) → PrintsRun disk None o
 wordless disk old = (nothing, refl, ([], none_yet old, inl (refl, refl)))
 
 -- what is right by the bytes that are left of each file is right by its bytes
-pub same_stacks : {Handle E : Type 0} (may_open : Text → Option Handle → Type 0) (left known : Handle → Option (List ℕ)) → ((file : Handle) → left file ≡ known file) → (raw : Bool) (name : Text) (old new : Option (List ℕ)) (r : Result ℕ E) →
-    PrintsSome (λ line. AreStacks (disk_of may_open left) raw name line) old new r → PrintsSome (λ line. AreStacks (disk_of may_open known) raw name line) old new r
-same_stacks {Handle = Handle} may_open left known same raw name old new r =
-    subst (λ (bytes_of : Handle → Option (List ℕ)). PrintsSome (λ line. AreStacks (disk_of may_open bytes_of) raw name line) old new r) (λ i file. same file i)
+pub same_stacks : {Handle E : Type 0} (may_open : Text → Option Handle → Type 0) (left known : Handle → Option (List ℕ)) → ((file : Handle) → left file ≡ known file) → (listing : Listing) (name : Text) (old new : Option (List ℕ)) (r : Result ℕ E) →
+    PrintsSome (λ line. AreStacks (disk_of may_open left) listing name line) old new r → PrintsSome (λ line. AreStacks (disk_of may_open known) listing name line) old new r
+same_stacks {Handle = Handle} may_open left known same listing name old new r =
+    subst (λ (bytes_of : Handle → Option (List ℕ)). PrintsSome (λ line. AreStacks (disk_of may_open bytes_of) listing name line) old new r) (λ i file. same file i)
 
 pub same_threads : {Handle E : Type 0} (may_open : Text → Option Handle → Type 0) (left known : Handle → Option (List ℕ)) → ((file : Handle) → left file ≡ known file) → (raw : Bool) (name : Text) (old new : Option (List ℕ)) (r : Result ℕ E) →
     PrintsSome (λ line. AreThreads (disk_of may_open left) raw name line) old new r → PrintsSome (λ line. AreThreads (disk_of may_open known) raw name line) old new r
 same_threads {Handle = Handle} may_open left known same raw name old new r =
     subst (λ (bytes_of : Handle → Option (List ℕ)). PrintsSome (λ line. AreThreads (disk_of may_open bytes_of) raw name line) old new r) (λ i file. same file i)
 
-pub same_flame : {Handle E : Type 0} (may_open : Text → Option Handle → Type 0) (left known : Handle → Option (List ℕ)) → ((file : Handle) → left file ≡ known file) → (name : Text) (old new : Option (List ℕ)) (r : Result ℕ E) →
-    PrintsSome (λ line. IsFlame (disk_of may_open left) name line) old new r → PrintsSome (λ line. IsFlame (disk_of may_open known) name line) old new r
-same_flame {Handle = Handle} may_open left known same name old new r =
-    subst (λ (bytes_of : Handle → Option (List ℕ)). PrintsSome (λ line. IsFlame (disk_of may_open bytes_of) name line) old new r) (λ i file. same file i)
+pub same_summary : {Handle E : Type 0} (may_open : Text → Option Handle → Type 0) (left known : Handle → Option (List ℕ)) → ((file : Handle) → left file ≡ known file) → (summary : Summary) (name : Text) (old new : Option (List ℕ)) (r : Result ℕ E) →
+    PrintsSome (λ line. IsSummary (disk_of may_open left) summary name line) old new r → PrintsSome (λ line. IsSummary (disk_of may_open known) summary name line) old new r
+same_summary {Handle = Handle} may_open left known same summary name old new r =
+    subst (λ (bytes_of : Handle → Option (List ℕ)). PrintsSome (λ line. IsSummary (disk_of may_open bytes_of) summary name line) old new r) (λ i file. same file i)

@@ -12,10 +12,10 @@ use Rattle.clap.specs.Values.{kind_of}
 use Rattle.clap.specs.declared.error.Error.{Error}
 use Rattle.clap.specs.Faults.{check_fault, defaults_fault, entered_fault, fault_of, level_fault, long_fault, settle_fault, short_fault, step_fault, turn_fault, walk_fault, word_fault}
 use Rattle.clap.specs.declared.error.kind.ErrorKind.TheVariants.{DisplayVersion, InvalidSubcommand, OutOfMemory, UnknownArgument}
-use Rattle.cfi.specs.CommandLine.{Asked, asked_by, asked_of, cfi_app, check_app, dump_app, flame_app, format_names, row_app, rows_app, stack_app, table_app, unwind_app}
-use Rattle.cfi.specs.Words.{Given, asked, check_of, dump_of, flame_of, given, nothing, row_of, rows_of, stack_of, table_of, unwind_of}
+use Rattle.cfi.specs.CommandLine.{Asked, asked_by, asked_of, cfi_app, check_app, dump_app, flame_app, fold_app, format_names, report_app, row_app, rows_app, stack_app, table_app, unwind_app}
+use Rattle.cfi.specs.Words.{Given, asked, check_of, dump_of, flame_of, fold_of, given, nothing, report_of, row_of, rows_of, stack_of, table_of, unwind_of}
 use Rattle.cfi.proofs.FlagLemmas.{IsFault, fault_first, fault_next, flag_fails, held, help, is_flag, long_refused, no_fault, or_else-nil, plain_is_value, short_refused, value_met, value_passes}
-use Rattle.cfi.proofs.LevelLemmas.{Level, check_leaf, dump_leaf, file_and_more, file_and_one, files, flame_leaf, leaf, level, one_file, row_leaf, rows_leaf, stack_leaf, table_leaf, unwind_leaf}
+use Rattle.cfi.proofs.LevelLemmas.{Level, check_leaf, dump_leaf, file_and_more, file_and_one, files, flame_leaf, fold_leaf, leaf, level, one_file, report_leaf, row_leaf, rows_leaf, stack_leaf, table_leaf, unwind_leaf}
 
 -- ---- the flags of the top command: help and version
 
@@ -169,6 +169,22 @@ module _ (formats : Bor (List (Bor Text))) (are : map (λ name. name.now) format
         ap (λ (w : Walk). option_map asked_of (entered cfi_built w.stopped)) e.1,
       )
 
+  report_is : (program word : Text) (rest : List Text) → subcommand_met names idle word ≡ Some (codes "report") → IsOf (leaf formats report_app) (codes "report") (program ∷ word ∷ rest) rest
+  unfolding defaults_fault
+  report_is program word rest met =
+      let e = enters (codes "report") word rest met refl in (
+        ap₂ fault_by e.0 e.1 ∙ or_else-nil (level_fault (leaf formats report_app) [] nothing_held rest false []),
+        ap (λ (w : Walk). option_map asked_of (entered cfi_built w.stopped)) e.1,
+      )
+
+  fold_is : (program word : Text) (rest : List Text) → subcommand_met names idle word ≡ Some (codes "fold") → IsOf (leaf formats fold_app) (codes "fold") (program ∷ word ∷ rest) rest
+  unfolding defaults_fault
+  fold_is program word rest met =
+      let e = enters (codes "fold") word rest met refl in (
+        ap₂ fault_by e.0 e.1 ∙ or_else-nil (level_fault (leaf formats fold_app) [] nothing_held rest false []),
+        ap (λ (w : Walk). option_map asked_of (entered cfi_built w.stopped)) e.1,
+      )
+
   -- ---- none is named
 
   fails_by_walk : (program : Text) (words : List Text) → IsFault (walk_fault top names (walk_from nothing_held) words) → IsFault (fault_of (cfi_app formats) (program ∷ words))
@@ -245,61 +261,75 @@ module _ (formats : Bor (List (Bor Text))) (are : map (λ name. name.now) format
       none_named (Some values) h = h
 
       by_help : (b : Bool) → bytes_eq (codes "row") word ≡ false → bytes_eq (codes "rows") word ≡ false → bytes_eq (codes "dump") word ≡ false → bytes_eq (codes "check") word ≡ false → bytes_eq (codes "table") word ≡ false
-          → bytes_eq (codes "unwind") word ≡ false → bytes_eq (codes "stack") word ≡ false → bytes_eq (codes "flame") word ≡ false → bytes_eq (codes "help") word ≡ b → IsFault (fault_of (cfi_app formats) (program ∷ word ∷ rest))
-      by_help true e0 e1 e2 e3 e4 e5 e6 e7 e = help_fails program word rest (rw (e0, e1, e2, e3, e4, e5, e6, e7, e) refl)
-      by_help false e0 e1 e2 e3 e4 e5 e6 e7 e = unknown program word rest (rw (e0, e1, e2, e3, e4, e5, e6, e7, e) refl)
+          → bytes_eq (codes "unwind") word ≡ false → bytes_eq (codes "stack") word ≡ false → bytes_eq (codes "flame") word ≡ false → bytes_eq (codes "report") word ≡ false → bytes_eq (codes "fold") word ≡ false → bytes_eq (codes "help") word ≡ b → IsFault (fault_of (cfi_app formats) (program ∷ word ∷ rest))
+      by_help true e0 e1 e2 e3 e4 e5 e6 e7 e8 e9 e = help_fails program word rest (rw (e0, e1, e2, e3, e4, e5, e6, e7, e8, e9, e) refl)
+      by_help false e0 e1 e2 e3 e4 e5 e6 e7 e8 e9 e = unknown program word rest (rw (e0, e1, e2, e3, e4, e5, e6, e7, e8, e9, e) refl)
+
+      by_fold : (b : Bool) → bytes_eq (codes "row") word ≡ false → bytes_eq (codes "rows") word ≡ false → bytes_eq (codes "dump") word ≡ false → bytes_eq (codes "check") word ≡ false → bytes_eq (codes "table") word ≡ false
+          → bytes_eq (codes "unwind") word ≡ false → bytes_eq (codes "stack") word ≡ false → bytes_eq (codes "flame") word ≡ false → bytes_eq (codes "report") word ≡ false → bytes_eq (codes "fold") word ≡ b → Judged (program ∷ word ∷ rest) (option_and_then (λ values. cond b (fold_of values) None) (given false nothing rest))
+      by_fold true e0 e1 e2 e3 e4 e5 e6 e7 e8 e =
+          judged (leaf formats fold_app) (codes "fold") (program ∷ word ∷ rest) rest (option_and_then fold_of (given false nothing rest)) (fold_is program word rest (rw (e0, e1, e2, e3, e4, e5, e6, e7, e8, e) refl))
+          (level formats are (leaf formats fold_app) (codes "fold") rest one_file fold_of (fold_leaf formats) (refl, refl) few)
+      by_fold false e0 e1 e2 e3 e4 e5 e6 e7 e8 e = none_named (given false nothing rest) (by_help (bytes_eq (codes "help") word) e0 e1 e2 e3 e4 e5 e6 e7 e8 e refl)
+
+      by_report : (b : Bool) → bytes_eq (codes "row") word ≡ false → bytes_eq (codes "rows") word ≡ false → bytes_eq (codes "dump") word ≡ false → bytes_eq (codes "check") word ≡ false → bytes_eq (codes "table") word ≡ false
+          → bytes_eq (codes "unwind") word ≡ false → bytes_eq (codes "stack") word ≡ false → bytes_eq (codes "flame") word ≡ false → bytes_eq (codes "report") word ≡ b → Judged (program ∷ word ∷ rest) (option_and_then (λ values. cond b (report_of values) (cond (bytes_eq (codes "fold") word) (fold_of values) None)) (given false nothing rest))
+      by_report true e0 e1 e2 e3 e4 e5 e6 e7 e =
+          judged (leaf formats report_app) (codes "report") (program ∷ word ∷ rest) rest (option_and_then report_of (given false nothing rest)) (report_is program word rest (rw (e0, e1, e2, e3, e4, e5, e6, e7, e) refl))
+          (level formats are (leaf formats report_app) (codes "report") rest one_file report_of (report_leaf formats) (refl, refl) few)
+      by_report false e0 e1 e2 e3 e4 e5 e6 e7 e = by_fold (bytes_eq (codes "fold") word) e0 e1 e2 e3 e4 e5 e6 e7 e refl
 
       by_flame : (b : Bool) → bytes_eq (codes "row") word ≡ false → bytes_eq (codes "rows") word ≡ false → bytes_eq (codes "dump") word ≡ false → bytes_eq (codes "check") word ≡ false → bytes_eq (codes "table") word ≡ false
-          → bytes_eq (codes "unwind") word ≡ false → bytes_eq (codes "stack") word ≡ false → bytes_eq (codes "flame") word ≡ b → Judged (program ∷ word ∷ rest) (option_and_then (λ values. cond b (flame_of values) None) (given false nothing rest))
+          → bytes_eq (codes "unwind") word ≡ false → bytes_eq (codes "stack") word ≡ false → bytes_eq (codes "flame") word ≡ b → Judged (program ∷ word ∷ rest) (option_and_then (λ values. cond b (flame_of values) (cond (bytes_eq (codes "report") word) (report_of values) (cond (bytes_eq (codes "fold") word) (fold_of values) None))) (given false nothing rest))
       by_flame true e0 e1 e2 e3 e4 e5 e6 e =
           judged (leaf formats flame_app) (codes "flame") (program ∷ word ∷ rest) rest (option_and_then flame_of (given false nothing rest)) (flame_is program word rest (rw (e0, e1, e2, e3, e4, e5, e6, e) refl))
           (level formats are (leaf formats flame_app) (codes "flame") rest one_file flame_of (flame_leaf formats) (refl, refl) few)
-      by_flame false e0 e1 e2 e3 e4 e5 e6 e = none_named (given false nothing rest) (by_help (bytes_eq (codes "help") word) e0 e1 e2 e3 e4 e5 e6 e refl)
+      by_flame false e0 e1 e2 e3 e4 e5 e6 e = by_report (bytes_eq (codes "report") word) e0 e1 e2 e3 e4 e5 e6 e refl
 
       by_stack : (b : Bool) → bytes_eq (codes "row") word ≡ false → bytes_eq (codes "rows") word ≡ false → bytes_eq (codes "dump") word ≡ false → bytes_eq (codes "check") word ≡ false → bytes_eq (codes "table") word ≡ false
-          → bytes_eq (codes "unwind") word ≡ false → bytes_eq (codes "stack") word ≡ b → Judged (program ∷ word ∷ rest) (option_and_then (λ values. cond b (stack_of values) (cond (bytes_eq (codes "flame") word) (flame_of values) None)) (given false nothing rest))
+          → bytes_eq (codes "unwind") word ≡ false → bytes_eq (codes "stack") word ≡ b → Judged (program ∷ word ∷ rest) (option_and_then (λ values. cond b (stack_of values) (cond (bytes_eq (codes "flame") word) (flame_of values) (cond (bytes_eq (codes "report") word) (report_of values) (cond (bytes_eq (codes "fold") word) (fold_of values) None)))) (given false nothing rest))
       by_stack true e0 e1 e2 e3 e4 e5 e =
           judged (leaf formats stack_app) (codes "stack") (program ∷ word ∷ rest) rest (option_and_then stack_of (given false nothing rest)) (stack_is program word rest (rw (e0, e1, e2, e3, e4, e5, e) refl))
           (level formats are (leaf formats stack_app) (codes "stack") rest one_file stack_of (stack_leaf formats) (refl, refl) few)
       by_stack false e0 e1 e2 e3 e4 e5 e = by_flame (bytes_eq (codes "flame") word) e0 e1 e2 e3 e4 e5 e refl
 
       by_unwind : (b : Bool) → bytes_eq (codes "row") word ≡ false → bytes_eq (codes "rows") word ≡ false → bytes_eq (codes "dump") word ≡ false → bytes_eq (codes "check") word ≡ false → bytes_eq (codes "table") word ≡ false
-          → bytes_eq (codes "unwind") word ≡ b → Judged (program ∷ word ∷ rest) (option_and_then (λ values. cond b (unwind_of values) (cond (bytes_eq (codes "stack") word) (stack_of values) (cond (bytes_eq (codes "flame") word) (flame_of values) None))) (given false nothing rest))
+          → bytes_eq (codes "unwind") word ≡ b → Judged (program ∷ word ∷ rest) (option_and_then (λ values. cond b (unwind_of values) (cond (bytes_eq (codes "stack") word) (stack_of values) (cond (bytes_eq (codes "flame") word) (flame_of values) (cond (bytes_eq (codes "report") word) (report_of values) (cond (bytes_eq (codes "fold") word) (fold_of values) None))))) (given false nothing rest))
       by_unwind true e0 e1 e2 e3 e4 e =
           judged (leaf formats unwind_app) (codes "unwind") (program ∷ word ∷ rest) rest (option_and_then unwind_of (given false nothing rest)) (unwind_is program word rest (rw (e0, e1, e2, e3, e4, e) refl))
           (level formats are (leaf formats unwind_app) (codes "unwind") rest one_file unwind_of (unwind_leaf formats) (refl, refl) few)
       by_unwind false e0 e1 e2 e3 e4 e = by_stack (bytes_eq (codes "stack") word) e0 e1 e2 e3 e4 e refl
 
       by_table : (b : Bool) → bytes_eq (codes "row") word ≡ false → bytes_eq (codes "rows") word ≡ false → bytes_eq (codes "dump") word ≡ false → bytes_eq (codes "check") word ≡ false → bytes_eq (codes "table") word ≡ b
-          → Judged (program ∷ word ∷ rest) (option_and_then (λ values. cond b (table_of values) (cond (bytes_eq (codes "unwind") word) (unwind_of values) (cond (bytes_eq (codes "stack") word) (stack_of values) (cond (bytes_eq (codes "flame") word) (flame_of values) None)))) (given false nothing rest))
+          → Judged (program ∷ word ∷ rest) (option_and_then (λ values. cond b (table_of values) (cond (bytes_eq (codes "unwind") word) (unwind_of values) (cond (bytes_eq (codes "stack") word) (stack_of values) (cond (bytes_eq (codes "flame") word) (flame_of values) (cond (bytes_eq (codes "report") word) (report_of values) (cond (bytes_eq (codes "fold") word) (fold_of values) None)))))) (given false nothing rest))
       by_table true e0 e1 e2 e3 e =
           judged (leaf formats table_app) (codes "table") (program ∷ word ∷ rest) rest (option_and_then table_of (given false nothing rest)) (table_is program word rest (rw (e0, e1, e2, e3, e) refl))
           (level formats are (leaf formats table_app) (codes "table") rest one_file table_of (table_leaf formats) (refl, refl) few)
       by_table false e0 e1 e2 e3 e = by_unwind (bytes_eq (codes "unwind") word) e0 e1 e2 e3 e refl
 
       by_check : (b : Bool) → bytes_eq (codes "row") word ≡ false → bytes_eq (codes "rows") word ≡ false → bytes_eq (codes "dump") word ≡ false → bytes_eq (codes "check") word ≡ b
-          → Judged (program ∷ word ∷ rest) (option_and_then (λ values. cond b (check_of values) (cond (bytes_eq (codes "table") word) (table_of values) (cond (bytes_eq (codes "unwind") word) (unwind_of values) (cond (bytes_eq (codes "stack") word) (stack_of values) (cond (bytes_eq (codes "flame") word) (flame_of values) None))))) (given false nothing rest))
+          → Judged (program ∷ word ∷ rest) (option_and_then (λ values. cond b (check_of values) (cond (bytes_eq (codes "table") word) (table_of values) (cond (bytes_eq (codes "unwind") word) (unwind_of values) (cond (bytes_eq (codes "stack") word) (stack_of values) (cond (bytes_eq (codes "flame") word) (flame_of values) (cond (bytes_eq (codes "report") word) (report_of values) (cond (bytes_eq (codes "fold") word) (fold_of values) None))))))) (given false nothing rest))
       by_check true e0 e1 e2 e =
           judged (leaf formats (check_app formats)) (codes "check") (program ∷ word ∷ rest) rest (option_and_then check_of (given false nothing rest)) (check_is program word rest (rw (e0, e1, e2, e) refl))
           (level formats are (leaf formats (check_app formats)) (codes "check") rest files check_of (check_leaf formats) (refl, refl) few)
       by_check false e0 e1 e2 e = by_table (bytes_eq (codes "table") word) e0 e1 e2 e refl
 
       by_dump : (b : Bool) → bytes_eq (codes "row") word ≡ false → bytes_eq (codes "rows") word ≡ false → bytes_eq (codes "dump") word ≡ b
-          → Judged (program ∷ word ∷ rest) (option_and_then (λ values. cond b (dump_of values) (cond (bytes_eq (codes "check") word) (check_of values) (cond (bytes_eq (codes "table") word) (table_of values) (cond (bytes_eq (codes "unwind") word) (unwind_of values) (cond (bytes_eq (codes "stack") word) (stack_of values) (cond (bytes_eq (codes "flame") word) (flame_of values) None)))))) (given false nothing rest))
+          → Judged (program ∷ word ∷ rest) (option_and_then (λ values. cond b (dump_of values) (cond (bytes_eq (codes "check") word) (check_of values) (cond (bytes_eq (codes "table") word) (table_of values) (cond (bytes_eq (codes "unwind") word) (unwind_of values) (cond (bytes_eq (codes "stack") word) (stack_of values) (cond (bytes_eq (codes "flame") word) (flame_of values) (cond (bytes_eq (codes "report") word) (report_of values) (cond (bytes_eq (codes "fold") word) (fold_of values) None)))))))) (given false nothing rest))
       by_dump true e0 e1 e =
           judged (leaf formats dump_app) (codes "dump") (program ∷ word ∷ rest) rest (option_and_then dump_of (given false nothing rest)) (dump_is program word rest (rw (e0, e1, e) refl))
           (level formats are (leaf formats dump_app) (codes "dump") rest one_file dump_of (dump_leaf formats) (refl, refl) few)
       by_dump false e0 e1 e = by_check (bytes_eq (codes "check") word) e0 e1 e refl
 
       by_rows : (b : Bool) → bytes_eq (codes "row") word ≡ false → bytes_eq (codes "rows") word ≡ b
-          → Judged (program ∷ word ∷ rest) (option_and_then (λ values. cond b (rows_of values) (cond (bytes_eq (codes "dump") word) (dump_of values) (cond (bytes_eq (codes "check") word) (check_of values) (cond (bytes_eq (codes "table") word) (table_of values) (cond (bytes_eq (codes "unwind") word) (unwind_of values) (cond (bytes_eq (codes "stack") word) (stack_of values) (cond (bytes_eq (codes "flame") word) (flame_of values) None))))))) (given false nothing rest))
+          → Judged (program ∷ word ∷ rest) (option_and_then (λ values. cond b (rows_of values) (cond (bytes_eq (codes "dump") word) (dump_of values) (cond (bytes_eq (codes "check") word) (check_of values) (cond (bytes_eq (codes "table") word) (table_of values) (cond (bytes_eq (codes "unwind") word) (unwind_of values) (cond (bytes_eq (codes "stack") word) (stack_of values) (cond (bytes_eq (codes "flame") word) (flame_of values) (cond (bytes_eq (codes "report") word) (report_of values) (cond (bytes_eq (codes "fold") word) (fold_of values) None))))))))) (given false nothing rest))
       by_rows true e0 e =
           judged (leaf formats (rows_app formats)) (codes "rows") (program ∷ word ∷ rest) rest (option_and_then rows_of (given false nothing rest)) (rows_is program word rest (rw (e0, e) refl))
           (level formats are (leaf formats (rows_app formats)) (codes "rows") rest file_and_one rows_of (rows_leaf formats) (refl, refl, refl) few)
       by_rows false e0 e = by_dump (bytes_eq (codes "dump") word) e0 e refl
 
       by_row : (b : Bool) → bytes_eq (codes "row") word ≡ b
-          → Judged (program ∷ word ∷ rest) (option_and_then (λ values. cond b (row_of values) (cond (bytes_eq (codes "rows") word) (rows_of values) (cond (bytes_eq (codes "dump") word) (dump_of values) (cond (bytes_eq (codes "check") word) (check_of values) (cond (bytes_eq (codes "table") word) (table_of values) (cond (bytes_eq (codes "unwind") word) (unwind_of values) (cond (bytes_eq (codes "stack") word) (stack_of values) (cond (bytes_eq (codes "flame") word) (flame_of values) None)))))))) (given false nothing rest))
+          → Judged (program ∷ word ∷ rest) (option_and_then (λ values. cond b (row_of values) (cond (bytes_eq (codes "rows") word) (rows_of values) (cond (bytes_eq (codes "dump") word) (dump_of values) (cond (bytes_eq (codes "check") word) (check_of values) (cond (bytes_eq (codes "table") word) (table_of values) (cond (bytes_eq (codes "unwind") word) (unwind_of values) (cond (bytes_eq (codes "stack") word) (stack_of values) (cond (bytes_eq (codes "flame") word) (flame_of values) (cond (bytes_eq (codes "report") word) (report_of values) (cond (bytes_eq (codes "fold") word) (fold_of values) None)))))))))) (given false nothing rest))
       by_row true e =
           judged (leaf formats (row_app formats)) (codes "row") (program ∷ word ∷ rest) rest (option_and_then row_of (given false nothing rest)) (row_is program word rest (rw e refl))
           (level formats are (leaf formats (row_app formats)) (codes "row") rest file_and_more row_of (row_leaf formats) (refl, refl, refl) few)

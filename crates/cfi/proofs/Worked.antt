@@ -7,7 +7,7 @@ use Rattle.clap.specs.Words.{Text, fault_of}
 use Rattle.clap.specs.declared.error.kind.ErrorKind.TheVariants.{DisplayHelp, DisplayVersion, InvalidSubcommand}
 use Rattle.clap.proofs.OnLiterals.{clap_on_literals}
 use Rattle.cfi_programs.specs.declared.style.Format.TheVariants as form
-use Rattle.cfi.specs.CommandLine.{cfi_app, check, dump, flame, row, rows, stack, unwind}
+use Rattle.cfi.specs.CommandLine.{cfi_app, check, dump, flame, fold, report, row, rows, stack, unwind}
 use Rattle.cfi.specs.Findings.{tally_in}
 use Rattle.cfi.specs.Words.{asked}
 
@@ -121,6 +121,15 @@ folded_is_not_raw = refl
 
 folded_has_no_format : asked (codes "cfi" ∷ codes "flame" ∷ codes "-" ∷ codes "--format=text" ∷ []) ≡ None
 folded_has_no_format = refl
+
+folded_report : asked (codes "cfi" ∷ codes "report" ∷ codes "-" ∷ []) ≡ Some (report (codes "-"))
+folded_report = refl
+
+folded_profile : asked (codes "cfi" ∷ codes "fold" ∷ codes "perf.data" ∷ []) ≡ Some (fold (codes "perf.data"))
+folded_profile = refl
+
+one_report : asked (codes "cfi" ∷ codes "report" ∷ codes "a" ∷ codes "b" ∷ []) ≡ None
+one_report = refl
 
 counted_object : tally_in form.Json 3 2 1 ≡ codes "{\"files\":3,\"tables\":2,\"faithful\":1}"
 unfolding digits

@@ -36,6 +36,8 @@ pub data Asked : Type 0 where
   unwind : Bool → Text → Asked
   stack : Bool → Text → Asked
   flame : Text → Asked
+  report : Text → Asked
+  fold : Text → Asked
 
 abbrev pub command_view : Command → Asked
 command_view (command.Row raw format file addresses) =
@@ -48,6 +50,8 @@ command_view (command.Table raw file) = table raw file.now
 command_view (command.Unwind raw file) = unwind raw file.now
 command_view (command.Stack raw file) = stack raw file.now
 command_view (command.Flame file) = flame file.now
+command_view (command.Report file) = report file.now
+command_view (command.Fold file) = fold file.now
 
 -- ---- the commands as clap is told of them
 
@@ -111,6 +115,12 @@ stack_app = with_rule (with_rule (new_app (codes "stack")) raw_rule) file_rule
 abbrev pub flame_app : App
 flame_app = with_rule (new_app (codes "flame")) file_rule
 
+abbrev pub report_app : App
+report_app = with_rule (new_app (codes "report")) file_rule
+
+abbrev pub fold_app : App
+fold_app = with_rule (new_app (codes "fold")) file_rule
+
 -- one of the subcommands has to be asked for; clap adds `help`, and `--version` where there is one
 abbrev pub top_app : App
 top_app =
@@ -131,6 +141,8 @@ cfi_app names =
     (with_subcommand
     (with_subcommand
     (with_subcommand
+    (with_subcommand
+    (with_subcommand
     (with_subcommand (with_subcommand top_app (row_app names).top)
     (rows_app names).top)
     dump_app.top)
@@ -138,7 +150,9 @@ cfi_app names =
     table_app.top)
     unwind_app.top)
     stack_app.top)
-    flame_app.top
+    flame_app.top)
+    report_app.top)
+    fold_app.top
 
 -- the command of clap is the one that is described so
 abbrev pub IsApp : App → ClapCommand → Type 0
@@ -190,6 +204,8 @@ asked_of named =
     else if bytes_eq named.0 (codes "dump") then dump raw (file_in named.1)
     else if bytes_eq named.0 (codes "check") then check format (values_in (codes "FILE") named.1)
     else if bytes_eq named.0 (codes "flame") then flame (file_in named.1)
+    else if bytes_eq named.0 (codes "report") then report (file_in named.1)
+    else if bytes_eq named.0 (codes "fold") then fold (file_in named.1)
     else of_one_file named.0 raw (file_in named.1)
 
 -- by the words

@@ -1,15 +1,18 @@
--- What is printed for folded stacks.
+-- What is printed for folded stacks: their flame graph, or their report.
 --     path_of name      where the file of a name is opened
---     IsOwed text printed      the output for the bytes of a file
+--     IsOwed summary text printed      the output for the bytes of a file
 use Rattle.std.specs.Prelude.{◌≡◌, ◌⊎◌, ℕ, List, ◌++◌, codes, map, if◌then◌else◌}
 use Rattle.std.specs.Fmt.{decimal}
 use Rattle.std.specs.Str.{bytes_eq}
 use Rattle.cfi_flame.specs.Flames.{IsOfPlain, IsPlainRefused}
 use Rattle.cfi_flame.specs.FoldedStacks.{plain}
+use Rattle.cfi_flame.specs.Reports.{IsReport, IsReportRefused}
 use Rattle.cfi_flame.specs.declared.folded.FoldedError.{FoldedError}
 use Rattle.cfi_flame.specs.declared.folded.FoldedError.TheVariants.{OutOfMemory, NotFolded}
 use Rattle.cfi_flame.specs.declared.folded.FoldedError.TheVariants.{NoSamples, TooManySamples}
 use Rattle.cfi_programs.specs.Lines.{Line, line, wrong_input}
+use Rattle.cfi.specs.declared.flames.Summary.{Summary}
+use Rattle.cfi.specs.declared.flames.Summary.TheVariants.{FlameGraph, Report}
 
 -- a hyphen stands for standard input
 abbrev pub path_of : List ℕ → List ℕ
@@ -22,16 +25,24 @@ refusal (NotFolded number) = line (codes "refused NotFolded " ++ decimal number)
 refusal NoSamples = line (codes "refused NoSamples") 1
 refusal TooManySamples = line (codes "refused TooManySamples") 1
 
-abbrev pub graph_line : List ℕ → Line
-graph_line graph = record { text = graph; status = 0 }
+abbrev pub made_line : List ℕ → Line
+made_line made = record { text = made; status = 0 }
 
--- the graph of the stacks, or why there is none
-abbrev pub IsOutput : List ℕ → Line → Type 0
-IsOutput text printed =
-    ((graph : List ℕ) × IsOfPlain (codes "Flame graph") (map plain text) graph
-    × (printed ≡ graph_line graph))
-    ⊎ ((error : FoldedError) × IsPlainRefused (map plain text) error × (printed ≡ refusal error))
+-- of the stacks of a text
+abbrev pub IsMade : Summary → List ℕ → List ℕ → Type 0
+IsMade FlameGraph text made = IsOfPlain (codes "Flame graph") (map plain text) made
+IsMade Report text made = IsReport (map plain text) made
+
+-- why there is none
+abbrev pub IsUnmade : Summary → List ℕ → FoldedError → Type 0
+IsUnmade FlameGraph text error = IsPlainRefused (map plain text) error
+IsUnmade Report text error = IsReportRefused (map plain text) error
+
+abbrev pub IsOutput : Summary → List ℕ → Line → Type 0
+IsOutput summary text printed =
+    ((made : List ℕ) × IsMade summary text made × (printed ≡ made_line made))
+    ⊎ ((error : FoldedError) × IsUnmade summary text error × (printed ≡ refusal error))
 
 -- or the input can't be read
-abbrev pub IsOwed : List ℕ → Line → Type 0
-IsOwed text printed = IsOutput text printed ⊎ (printed ≡ wrong_input)
+abbrev pub IsOwed : Summary → List ℕ → Line → Type 0
+IsOwed summary text printed = IsOutput summary text printed ⊎ (printed ≡ wrong_input)

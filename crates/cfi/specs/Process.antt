@@ -22,14 +22,17 @@ use Rattle.cfi_files.specs.declared.finding.Finding.TheVariants.{Unreadable}
 use Rattle.cfi_files.specs.declared.request.Request.{Request}
 use Rattle.cfi_processes.specs.Wanted.{FilePlace, at_path, copy_of, debug_of}
 use Rattle.cfi_stacks.specs.CoreOutputs.{IsOwed as IsOwedOfCore}
-use Rattle.cfi_stacks.specs.ProfileOutputs.{IsOwed as IsOwedOfProfile}
+use Rattle.cfi_stacks.specs.ProfileOutputs.{IsListingOwed as IsOwedOfProfile}
+use Rattle.cfi_stacks.specs.declared.listing.Listing.{Listing}
 use Rattle.cfi.specs.CommandLine.{Asked, cfi_app, format_names}
 use Rattle.cfi.specs.FlameOutputs.{path_of}
 use Rattle.cfi.specs.FlameOutputs.{IsOwed as IsOwedOfFolded}
+use Rattle.cfi.specs.declared.flames.Summary.{Summary}
+use Rattle.cfi.specs.declared.flames.Summary.TheVariants.{FlameGraph, Report}
 use Rattle.cfi.specs.Findings.{greatest_status, tally_in}
 use Rattle.cfi_programs.specs.declared.style.Format.{Format}
-use Rattle.cfi.specs.Tasks.{OfRequest, Task, check, flame, of_request, print, stack, task_for}
-use Rattle.cfi.specs.Tasks.{unwind}
+use Rattle.cfi.specs.Tasks.{OfRequest, Task, check, flame, of_request, print, report, stack}
+use Rattle.cfi.specs.Tasks.{task_for, unwind}
 use Rattle.cfi.specs.Words.{asked}
 
 -- The files of a system: what a path may be opened to, or none where it can't be opened, and the
@@ -122,15 +125,16 @@ MayOpenAt disk (copy_of build) opened =
 MayOpenAt disk (debug_of build) opened =
     IsNone opened ⊎ ((path : Text) × disk.MayOpen path opened)
 
-abbrev pub AreStacksOf : (disk : Disk) → Bool → Option disk.Handle → Line → Type 0
-AreStacksOf disk raw None printed = printed ≡ nothing
-AreStacksOf disk raw (Some file) printed =
+abbrev pub AreStacksOf : (disk : Disk) → Listing → Option disk.Handle → Line → Type 0
+AreStacksOf disk listing None printed = printed ≡ nothing
+AreStacksOf disk listing (Some file) printed =
     (bytes : List ℕ) × AreLeft (disk.bytes_of file) bytes
-    × IsOwedOfProfile raw (MayOpenAt disk) disk.bytes_of bytes printed
+    × IsOwedOfProfile listing (MayOpenAt disk) disk.bytes_of bytes printed
 
-abbrev pub AreStacks : Disk → Bool → Text → Line → Type 0
-AreStacks disk raw name printed =
-    (opened : Option disk.Handle) × disk.MayOpen name opened × AreStacksOf disk raw opened printed
+abbrev pub AreStacks : Disk → Listing → Text → Line → Type 0
+AreStacks disk listing name printed =
+    (opened : Option disk.Handle) × disk.MayOpen name opened
+    × AreStacksOf disk listing opened printed
 
 abbrev pub AreThreadsOf : (disk : Disk) → Bool → Option disk.Handle → Line → Type 0
 AreThreadsOf disk raw None printed = printed ≡ nothing
@@ -144,24 +148,25 @@ AreThreads disk raw name printed =
 
 -- ---- what is printed of folded stacks
 
-abbrev pub IsFlameOf : (disk : Disk) → Option disk.Handle → Line → Type 0
-IsFlameOf disk None printed = printed ≡ nothing
-IsFlameOf disk (Some file) printed =
-    (bytes : List ℕ) × AreLeft (disk.bytes_of file) bytes × IsOwedOfFolded bytes printed
+abbrev pub IsSummaryOf : (disk : Disk) → Summary → Option disk.Handle → Line → Type 0
+IsSummaryOf disk summary None printed = printed ≡ nothing
+IsSummaryOf disk summary (Some file) printed =
+    (bytes : List ℕ) × AreLeft (disk.bytes_of file) bytes × IsOwedOfFolded summary bytes printed
 
-abbrev pub IsFlame : Disk → Text → Line → Type 0
-IsFlame disk name printed =
+abbrev pub IsSummary : Disk → Summary → Text → Line → Type 0
+IsSummary disk summary name printed =
     (opened : Option disk.Handle) × disk.MayOpen (path_of name) opened
-    × IsFlameOf disk opened printed
+    × IsSummaryOf disk summary opened printed
 
 -- ---- a run
 
 abbrev pub IsAnswer : Disk → Task → Line → Type 0
 IsAnswer disk (print name what) printed = IsPrint disk name what printed
 IsAnswer disk (check names format) printed = AreTallied disk format names printed
-IsAnswer disk (unwind raw name) printed = AreStacks disk raw name printed
+IsAnswer disk (unwind listing name) printed = AreStacks disk listing name printed
 IsAnswer disk (stack raw name) printed = AreThreads disk raw name printed
-IsAnswer disk (flame name) printed = IsFlame disk name printed
+IsAnswer disk (flame name) printed = IsSummary disk FlameGraph name printed
+IsAnswer disk (report name) printed = IsSummary disk Report name printed
 
 -- the status after a text of clap's, which may be 0 after help; 2 where the text can't be written
 abbrev pub IsStatusAfter : ErrorKind → ℕ → Type 0

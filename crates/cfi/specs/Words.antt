@@ -11,7 +11,8 @@ use Rattle.clap.specs.Lexer.{long_of, short_of}
 use Rattle.clap.specs.Words.{Text}
 use Rattle.cfi_programs.specs.declared.style.Format.{Format}
 use Rattle.cfi_programs.specs.declared.style.Format.TheVariants as form
-use Rattle.cfi.specs.CommandLine.{Asked, check, dump, flame, row, rows, stack, table, unwind}
+use Rattle.cfi.specs.CommandLine.{Asked, check, dump, flame, fold, report, row, rows, stack}
+use Rattle.cfi.specs.CommandLine.{table, unwind}
 
 -- ---- what one word is
 
@@ -122,6 +123,14 @@ abbrev pub flame_by : List Text → Option Asked
 flame_by (file ∷ []) = Some (flame file)
 flame_by _ = None
 
+abbrev pub report_by : List Text → Option Asked
+report_by (file ∷ []) = Some (report file)
+report_by _ = None
+
+abbrev pub fold_by : List Text → Option Asked
+fold_by (file ∷ []) = Some (fold file)
+fold_by _ = None
+
 -- text, where no format was named
 abbrev pub format_given : Given → Format
 format_given given = unwrap_or given.format form.Text
@@ -151,6 +160,14 @@ abbrev pub flame_of : Given → Option Asked
 flame_of given =
     if given.raw then None else if is_some given.format then None else flame_by given.arguments
 
+abbrev pub report_of : Given → Option Asked
+report_of given =
+    if given.raw then None else if is_some given.format then None else report_by given.arguments
+
+abbrev pub fold_of : Given → Option Asked
+fold_of given =
+    if given.raw then None else if is_some given.format then None else fold_by given.arguments
+
 abbrev pub named : Text → Given → Option Asked
 named name given =
     if bytes_eq (codes "row") name then row_of given
@@ -161,6 +178,8 @@ named name given =
     else if bytes_eq (codes "unwind") name then unwind_of given
     else if bytes_eq (codes "stack") name then stack_of given
     else if bytes_eq (codes "flame") name then flame_of given
+    else if bytes_eq (codes "report") name then report_of given
+    else if bytes_eq (codes "fold") name then fold_of given
     else None
 
 -- what the words ask for, of which the first is the program's name

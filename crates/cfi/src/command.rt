@@ -7,7 +7,7 @@ ghost use Rattle.cfi.specs.CommandLine.{cfi_app, check_app, command_view, dump_a
 ghost use Rattle.cfi.specs.CommandLine.{file_rule, files_rule, flame_app, format_in, format_names};
 ghost use Rattle.cfi.specs.CommandLine.{format_rule};
 ghost use Rattle.cfi.specs.CommandLine.{has_value, of_one_file, raw_in, raw_rule, row_app};
-ghost use Rattle.cfi.specs.CommandLine.{rows_app, table_app};
+ghost use Rattle.cfi.specs.CommandLine.{fold_app, report_app, rows_app, table_app};
 ghost use Rattle.cfi.specs.CommandLine.{stack_app, top_app, unwind_app, values_in};
 ghost use Rattle.cfi.specs.Words.{asked};
 
@@ -66,6 +66,14 @@ pub enum Command<'w> {
     },
     /// `flame FILE`: the flame graph of folded stacks.
     Flame {
+        file: &'w str,
+    },
+    /// `report FILE`: the functions of folded stacks, by their samples.
+    Report {
+        file: &'w str,
+    },
+    /// `fold FILE`: the folded stacks of a profile.
+    Fold {
         file: &'w str,
     },
 }
@@ -137,6 +145,14 @@ fn named<'w>(
         })
     } else if name == "flame" {
         Ok(Command::Flame {
+            file: file_in(arguments),
+        })
+    } else if name == "report" {
+        Ok(Command::Report {
+            file: file_in(arguments),
+        })
+    } else if name == "fold" {
+        Ok(Command::Fold {
             file: file_in(arguments),
         })
     } else {
@@ -226,7 +242,9 @@ fn cfi<'w>(alloc: Global, formats: &'w [&'w str]) -> Result<clap::Command<'w>, A
         .subcommand(table(alloc)?)?
         .subcommand(unwind(alloc)?)?
         .subcommand(stack(alloc)?)?
-        .subcommand(flame(alloc)?)
+        .subcommand(flame(alloc)?)?
+        .subcommand(report(alloc)?)?
+        .subcommand(fold(alloc)?)
 }
 
 /// Returns the program's own command, without those below it.
@@ -324,6 +342,24 @@ fn flame<'w>(alloc: Global) -> Result<clap::Command<'w>, AllocError>
         .arg(folded_file(alloc))
 }
 
+/// Returns the command `report`.
+fn report<'w>(alloc: Global) -> Result<clap::Command<'w>, AllocError>
+    ensures { IfOk result (IsApp report_app) }
+{
+    clap::Command::new(alloc, "report")
+        .about("Prints the functions of folded stacks, by their samples")
+        .arg(folded_file(alloc))
+}
+
+/// Returns the command `fold`.
+fn fold<'w>(alloc: Global) -> Result<clap::Command<'w>, AllocError>
+    ensures { IfOk result (IsApp fold_app) }
+{
+    clap::Command::new(alloc, "fold")
+        .about("Prints the stacks of a profile, folded and counted, for flame and report")
+        .arg(profile(alloc))
+}
+
 /// Returns the flag `--raw` of the commands that print registers.
 fn raw_flag<'w>(alloc: Global) -> Arg<'w>
     ensures rule { rule_of result ≡ raw_rule }
@@ -364,7 +400,7 @@ fn file<'w>(alloc: Global) -> Arg<'w>
     ensures local { result.global ≡ false }
 {
     Arg::new(alloc, "FILE")
-        .help("A program or library: an ELF file")
+        .help("A program, library or object file, in the ELF format")
         .required(true)
 }
 
@@ -414,7 +450,9 @@ fn address<'w>(alloc: Global) -> Arg<'w>
     ensures rule { rule_of result ≡ address_rule }
     ensures local { result.global ≡ false }
 {
-    Arg::new(alloc, "ADDRESS").help("Decimal, hexadecimal with 0x, a symbol, or SYMBOL+NUMBER")
+    Arg::new(alloc, "ADDRESS").help(
+        "Decimal, hexadecimal with 0x, a symbol or section, or NAME+NUMBER",
+    )
 }
 
 /// Returns the argument for one address or more.
@@ -423,7 +461,7 @@ fn addresses<'w>(alloc: Global) -> Arg<'w>
     ensures local { result.global ≡ false }
 {
     Arg::new(alloc, "ADDRESS")
-        .help("Decimal, hexadecimal with 0x, a symbol, or SYMBOL+NUMBER")
+        .help("Decimal, hexadecimal with 0x, a symbol or section, or NAME+NUMBER")
         .required(true)
         .num_args(1..)
 }

@@ -1,10 +1,10 @@
-//! The flame graph of folded stacks that a reader gives.
-ghost use Rattle.std.specs.Prelude.{◌≡◌, ℕ, List};
+//! What is printed of folded stacks that a reader gives: their flame graph, or their report.
+ghost use Rattle.std.specs.Prelude.{◌≡◌, ℕ, List, IfErr, IfOk};
 ghost use Rattle.cfi_object.specs.FileParts.{AreLeft};
 ghost use Rattle.cfi_programs.specs.WriterOutput.{Prints, PrintsSome};
-ghost use Rattle.cfi.specs.FlameOutputs.{IsOutput, IsOwed, graph_line, refusal};
+ghost use Rattle.cfi.specs.FlameOutputs.{IsMade, IsOutput, IsOwed, IsUnmade, made_line, refusal};
 
-use cfi_flame::{FoldedError, flame_of};
+use cfi_flame::{FoldedError, flame_of, report_of};
 use cfi_object::InputError;
 use cfi_object::input::read_all;
 use cfi_programs::lines::{write_part, write_text, write_wrong_input};
@@ -15,7 +15,16 @@ use std::io::{Read, Write};
 /// What stands above the graph.
 const TITLE: &[u8] = b"Flame graph";
 
-/// Reads folded stacks to their end, and prints their flame graph, with the title `Flame graph`.
+/// What is printed of folded stacks.
+#[derive(Clone, Copy)]
+pub enum Summary {
+    /// Their flame graph, with the title `Flame graph`.
+    FlameGraph,
+    /// The table of their functions.
+    Report,
+}
+
+/// Reads folded stacks to their end, and prints this summary of them.
 ///
 /// Status 0: it is printed. Status 1: a line, counted from 1, isn't a stack, a space and a number,
 /// which prints `refused NotFolded` and its number; the stacks have no samples or 2^64 and more,
@@ -23,39 +32,56 @@ const TITLE: &[u8] = b"Flame graph";
 /// `refused OutOfMemory`. Status 2: the input can't be read, which prints `wrong input`. Fails
 /// where the output can't be written: then a beginning has been written.
 ///
-/// Allocates for the input, the stacks, the boxes and the graph.
-pub fn print_flame_graph<R: Read, W: Write>(
+/// Allocates for the input, the stacks, the boxes or functions, and what is printed.
+pub fn print_folded<R: Read, W: Write>(
     alloc: Global,
+    summary: Summary,
     input: &mut R,
     output: &mut W,
 ) -> io::Result<u8>
     ensures { (bytes : List ℕ) × AreLeft (R.remaining input.old) bytes
-        × PrintsSome (λ line. IsOwed bytes line)
+        × PrintsSome (λ line. IsOwed summary bytes line)
         (W.contents output.old) (W.contents output.new) result }
 {
     match read_all(alloc, input) {
-        Ok(text) => print_graph(alloc, text.as_slice(), output),
+        Ok(text) => print_made(alloc, summary, text.as_slice(), output),
         Err(InputError::OutOfMemory) => write_folded_refusal(output, FoldedError::OutOfMemory),
         Err(_) => write_wrong_input(output),
     }
 }
 
-/// Prints the flame graph of the folded stacks of a text.
-fn print_graph<W: Write>(alloc: Global, text: &[u8], output: &mut W) -> io::Result<u8>
-    ensures { PrintsSome (λ line. IsOutput text.now line)
+/// Prints this summary of the folded stacks of a text.
+fn print_made<W: Write>(
+    alloc: Global,
+    summary: Summary,
+    text: &[u8],
+    output: &mut W,
+) -> io::Result<u8>
+    ensures { PrintsSome (λ line. IsOutput summary text.now line)
         (W.contents output.old) (W.contents output.new) result }
 {
-    match flame_of(alloc, TITLE, text) {
-        Ok(graph) => write_graph(output, graph.as_slice()),
+    match made_of(alloc, summary, text) {
+        Ok(made) => write_made(output, made.as_slice()),
         Err(error) => write_folded_refusal(output, error),
     }
 }
 
-/// Prints the graph, and returns the status 0.
-fn write_graph<W: Write>(output: &mut W, graph: &[u8]) -> io::Result<u8>
-    ensures { Prints (graph_line graph.now) (W.contents output.old) (W.contents output.new) result }
+/// Returns this summary of the folded stacks of a text. Fails as `flame_of` and `report_of`.
+fn made_of(alloc: Global, summary: Summary, text: &[u8]) -> Result<Vec<u8>, FoldedError>
+    ensures made { IfOk result (λ made. IsMade summary text.now made.items) }
+    ensures refused { IfErr result (IsUnmade summary text.now) }
 {
-    write_text(output, graph)?;
+    match summary {
+        Summary::FlameGraph => flame_of(alloc, TITLE, text),
+        Summary::Report => report_of(alloc, text),
+    }
+}
+
+/// Prints what was made of the stacks, and returns the status 0.
+fn write_made<W: Write>(output: &mut W, made: &[u8]) -> io::Result<u8>
+    ensures { Prints (made_line made.now) (W.contents output.old) (W.contents output.new) result }
+{
+    write_text(output, made)?;
     Ok(0)
 }
 

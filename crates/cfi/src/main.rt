@@ -1,5 +1,5 @@
 //! Prints and checks the call frames of ELF files; prints the stacks of profiles and core files,
-//! and the flame graphs of folded stacks.
+//! and the flame graphs and reports of folded stacks.
 #![tactic(auto)]
 
 ghost use Rattle.std.specs.Prelude.{◌≡◌, ℕ, List, Option, Some, map};
@@ -8,8 +8,8 @@ ghost use Rattle.clap.specs.Words.{kind_of};
 ghost use Rattle.cfi_programs.specs.WriterOutput.{PrintsSome};
 ghost use Rattle.cfi.specs.CommandLine.{command_view};
 ghost use Rattle.cfi.specs.FlameOutputs.{path_of};
-ghost use Rattle.cfi.specs.Process.{AreStacks, AreTallied, AreThreads, IsAnswer, IsFlame, IsPrint};
-ghost use Rattle.cfi.specs.Process.{IsStatusAfter, IsStatusOf, PrintsRun, disk_of};
+ghost use Rattle.cfi.specs.Process.{AreStacks, AreTallied, AreThreads, IsAnswer, IsPrint};
+ghost use Rattle.cfi.specs.Process.{IsStatusAfter, IsStatusOf, IsSummary, PrintsRun, disk_of};
 ghost use Rattle.cfi.specs.Tasks.{of_request, task_for};
 
 mod command;
@@ -21,11 +21,11 @@ mod task;
 
 use cfi_files::{Request, run_on_file};
 use cfi_programs::style::Format;
-use cfi_stacks::{print_core, unwind_profile};
+use cfi_stacks::{Listing, list_profile, print_core};
 use clap::Error;
 use command::{Command, command_of};
 use files::{WRONG, check_files, count_findings, greatest_status, write_tally};
-use flames::print_flame_graph;
+use flames::{Summary, print_folded};
 use profile::ProfileOpener;
 use std::alloc::AllocGlobal;
 use std::convert::AsStr;
@@ -101,9 +101,10 @@ fn run_command<S: System, W: Write>(system: &S, command: &Command, output: &mut 
     match task_of(command) {
         Task::Print(file, request) => print_file(system, file, request, output),
         Task::Check(files, format) => print_checks(system, format, files, output),
-        Task::Unwind(file, raw) => print_stacks(system, raw, file, output),
+        Task::Unwind(file, listing) => print_stacks(system, listing, file, output),
         Task::Stack(file, raw) => print_threads(system, raw, file, output),
-        Task::Flame(file) => print_flame(system, file, output),
+        Task::Flame(file) => print_summary(system, Summary::FlameGraph, file, output),
+        Task::Report(file) => print_summary(system, Summary::Report, file, output),
     }
 }
 
@@ -124,20 +125,20 @@ fn print_file<S: System, W: Write>(
     }
 }
 
-/// Opens the profile, and prints the stacks of its samples, without functions if they are `raw`.
+/// Opens the profile, and prints the stacks of its samples.
 fn print_stacks<S: System, W: Write>(
     system: &S,
-    raw: bool,
+    listing: Listing,
     file: &str,
     output: &mut W,
 ) -> io::Result<u8>
     ensures { PrintsSome (λ line. AreStacks (disk_of (S.may_open system.now) S.File.bytes)
-        raw file.now line)
+        listing file.now line)
         (W.contents output.old) (W.contents output.new) result }
 {
     let opener = ProfileOpener { system };
     match system.open(file) {
-        Some(mut input) => unwind_profile(system.alloc(), raw, &opener, &mut input, output),
+        Some(mut input) => list_profile(system.alloc(), listing, &opener, &mut input, output),
         None => Ok(WRONG),
     }
 }
@@ -160,14 +161,19 @@ fn print_threads<S: System, W: Write>(
     }
 }
 
-/// Opens the file of folded stacks, `-` for standard input, and prints their flame graph.
-fn print_flame<S: System, W: Write>(system: &S, file: &str, output: &mut W) -> io::Result<u8>
-    ensures { PrintsSome (λ line. IsFlame (disk_of (S.may_open system.now) S.File.bytes)
-        file.now line)
+/// Opens the file of folded stacks, `-` for standard input, and prints this summary of them.
+fn print_summary<S: System, W: Write>(
+    system: &S,
+    summary: Summary,
+    file: &str,
+    output: &mut W,
+) -> io::Result<u8>
+    ensures { PrintsSome (λ line. IsSummary (disk_of (S.may_open system.now) S.File.bytes)
+        summary file.now line)
         (W.contents output.old) (W.contents output.new) result }
 {
     match system.open(path_of(file)) {
-        Some(mut input) => print_flame_graph(system.alloc(), &mut input, output),
+        Some(mut input) => print_folded(system.alloc(), summary, &mut input, output),
         None => Ok(WRONG),
     }
 }

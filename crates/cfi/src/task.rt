@@ -6,6 +6,7 @@ ghost use Rattle.cfi.specs.Tasks.{asking, of_file, print, task_for, task_view};
 use crate::command::Command;
 use cfi_files::{Printed, Request};
 use cfi_programs::style::Format;
+use cfi_stacks::Listing;
 
 /// What a command is to do.
 #[derive(Clone, Copy)]
@@ -14,12 +15,14 @@ pub enum Task<'c> {
     Print(&'c str, Request<'c>),
     /// Check these files, and print what was found in a format.
     Check(&'c [&'c str], Format),
-    /// Print the stack of each sample of this profile; without functions if true.
-    Unwind(&'c str, bool),
+    /// Print the stacks of the samples of this profile so.
+    Unwind(&'c str, Listing),
     /// Print the stack of each thread of this core file; without functions if true.
     Stack(&'c str, bool),
     /// Print the flame graph of the folded stacks of this file; `-` is standard input.
     Flame(&'c str),
+    /// Print the table of the functions of the folded stacks of this file; `-` is standard input.
+    Report(&'c str),
 }
 
 /// Returns what the command is to do.
@@ -42,9 +45,11 @@ pub fn task_of<'c>(command: &'c Command<'c>) -> Task<'c>
         Command::Dump { raw, file } => printed_of(file, Printed::Dump, *raw),
         Command::Check { format, files } => Task::Check(files.as_slice(), *format),
         Command::Table { raw, file } => printed_of(file, Printed::Table, *raw),
-        Command::Unwind { raw, file } => Task::Unwind(file, *raw),
+        Command::Unwind { raw, file } => Task::Unwind(file, Listing::Frames(*raw)),
         Command::Stack { raw, file } => Task::Stack(file, *raw),
         Command::Flame { file } => Task::Flame(file),
+        Command::Report { file } => Task::Report(file),
+        Command::Fold { file } => Task::Unwind(file, Listing::Folded(false)),
     }
 }
 

@@ -8,10 +8,10 @@ returns-in-Some g c =
     let may_open = g.S.System.may_open c.args.system.now in
     let left = g.S.File.Read.remaining in
     let old = g.W.Write.contents c.args.output.now in
-    same_stacks may_open left g.S.File.FileInput.bytes g.met.S.System.same_bytes c.args.raw c.args.file.now old _ c.unwind_profile.result
-    (stacks_of (disk_of may_open left) c.args.raw c.args.file.now _ old _ c.unwind_profile.result
-    c.in-Some.ensures c.unwind_profile.ensures)
+    same_stacks may_open left g.S.File.FileInput.bytes g.met.S.System.same_bytes c.args.listing c.args.file.now old _ c.list_profile.result
+    (stacks_of (disk_of may_open left) c.args.listing c.args.file.now _ old _ c.list_profile.result
+    c.in-Some.ensures c.list_profile.ensures)
 
 pub returns-in-None : goal.returns-in-None
 returns-in-None g c =
-    no_stacks ℕ (disk_of (g.S.System.may_open c.args.system.now) g.S.File.FileInput.bytes) c.args.raw c.args.file.now (g.W.Write.contents c.args.output.now) c.in-None.ensures
+    no_stacks ℕ (disk_of (g.S.System.may_open c.args.system.now) g.S.File.FileInput.bytes) c.args.listing c.args.file.now (g.W.Write.contents c.args.output.now) c.in-None.ensures

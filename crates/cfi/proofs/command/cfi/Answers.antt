@@ -1,5 +1,5 @@
 use Rattle.std.proofs.lemmas.Result.{IfOk-weaker}
-use Rattle.cfi.specs.CommandLine.{check_app, dump_app, flame_app, row_app, rows_app, stack_app, table_app, top_app, unwind_app}
+use Rattle.cfi.specs.CommandLine.{check_app, dump_app, flame_app, fold_app, report_app, row_app, rows_app, stack_app, table_app, top_app, unwind_app}
 use Rattle.cfi.proofs.ClapLemmas.{adds_app}
 use Rattle.cfi.proofs.command.cfi.Goals as goal
 
@@ -13,4 +13,6 @@ returns c =
     let with_table = adds_app _ _ c.in_ok-subcommand-5.field-0 _ table_app with_check c.in_ok-table.ensures c.in_ok-subcommand-5.ensures in
     let with_unwind = adds_app _ _ c.in_ok-subcommand-6.field-0 _ unwind_app with_table c.in_ok-unwind.ensures c.in_ok-subcommand-6.ensures in
     let with_stack = adds_app _ _ c.in_ok-subcommand-7.field-0 _ stack_app with_unwind c.in_ok-stack.ensures c.in_ok-subcommand-7.ensures in
-    IfOk-weaker c.subcommand-8.result _ _ (λ command h. adds_app _ _ command _ flame_app with_stack c.in_ok-flame.ensures h) c.subcommand-8.ensures
+    let with_flame = adds_app _ _ c.in_ok-subcommand-8.field-0 _ flame_app with_stack c.in_ok-flame.ensures c.in_ok-subcommand-8.ensures in
+    let with_report = adds_app _ _ c.in_ok-subcommand-9.field-0 _ report_app with_flame c.in_ok-report.ensures c.in_ok-subcommand-9.ensures in
+    IfOk-weaker c.subcommand-10.result _ _ (λ command h. adds_app _ _ command _ fold_app with_report c.in_ok-fold.ensures h) c.subcommand-10.ensures
