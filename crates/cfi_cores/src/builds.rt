@@ -3,11 +3,10 @@ ghost use Rattle.std.specs.Prelude.{◌≡◌, map, option_map};
 ghost use Rattle.cfi_cores.specs.Builds.{build_of, image_of, start_of};
 ghost use Rattle.cfi_cores.specs.CoreSegments.{segment_view};
 ghost use Rattle.cfi_cores.specs.MappedFiles.{mapping_view};
-ghost use Rattle.cfi_processes.specs.Wanted.{id_of};
 
 use crate::mapped_files::CoreMapping;
 use crate::segments::{CoreSegment, bytes_at};
-use cfi_elf::ElfFile;
+use cfi_processes::wanted::id_of;
 
 /// Returns the bytes that the core has of the file with this name, from its first byte on: of the
 /// first mapping of that byte, those of the first segment that begins there. `None` where there is
@@ -39,19 +38,6 @@ pub fn build_of<'run>(
     match image_of(segments, mapped, name) {
         Some(image) => id_of(image),
         None => None,
-    }
-}
-
-/// The identification of the build of the ELF file that these bytes are, or begin.
-fn id_of(bytes: &[u8]) -> Option<&[u8]>
-    ensures { option_map (λ id. id.now) result ≡ id_of bytes.now }
-{
-    let Ok(file) = ElfFile::parse(bytes) else {
-        return None;
-    };
-    match file.build_id() {
-        Ok(id) => id,
-        Err(_) => None,
     }
 }
 

@@ -12,12 +12,11 @@ use crate::mapped_files::{CoreMapping, files_in};
 use crate::process_name::process_name;
 use crate::segments::bytes_of;
 use crate::thread::{CoreThread, thread_in};
+use cfi_elf::constants::PT_NOTE;
 use cfi_elf::{Note, Notes, ProgramHeader, Segments};
 use cfi_processes::SampleMachine;
 use cfi_read_core::RunTimeEndian;
 use std::alloc::{AllocError, Global};
-
-const PT_NOTE: u32 = 4;
 
 const NT_PRSTATUS: u32 = 1;
 

@@ -15,14 +15,11 @@ use crate::mapped_files::CoreMapping;
 use crate::segments::{CoreSegment, loaded_segments};
 use crate::thread::CoreThread;
 use crate::vdso::vdso_by;
+use cfi_elf::constants::{EM_AARCH64, EM_X86_64};
 use cfi_elf::{Class, ElfFile, Segments};
 use cfi_processes::SampleMachine;
 use cfi_read_core::Endianity;
 use std::alloc::{AllocError, Global};
-
-const EM_X86_64: u16 = 62;
-
-const EM_AARCH64: u16 = 183;
 
 /// What a core file has. Its bytes are borrowed, not copied.
 #[derive(Drop)]

@@ -5,10 +5,9 @@ ghost use Rattle.cfi_elf.specs.SegmentLists.{segments_left};
 ghost use Rattle.cfi_cores.specs.CoreSegments.{bytes_at, bytes_of, loaded_in, segment_view};
 
 use cfi_elf::bytes::bytes_from;
+use cfi_elf::constants::PT_LOAD;
 use cfi_elf::{ProgramHeader, Segments};
 use std::alloc::{AllocError, Global};
-
-const PT_LOAD: u32 = 1;
 
 const PF_X: u32 = 1;
 

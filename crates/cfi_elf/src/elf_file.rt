@@ -8,6 +8,7 @@ ghost use Rattle.cfi_elf.specs.ElfFiles.{vendor_of, with_addresses};
 ghost use Rattle.cfi_elf.specs.Images.{image_view};
 
 use crate::bytes::Record;
+use crate::constants::{EM_AARCH64, ET_CORE, ET_REL};
 use crate::error::ElfError;
 use crate::file_header::{
     Class, FileHeader, Identification, file_header_size, parse_file_header, read_identification,
@@ -19,12 +20,6 @@ const EV_CURRENT: u32 = 1;
 
 /// The bytes of the header of a 64-bit file.
 const LONGEST_HEADER: u64 = 64;
-
-const ET_REL: u16 = 1;
-
-const ET_CORE: u16 = 4;
-
-const EM_AARCH64: u16 = 183;
 
 /// A file in the ELF format, of 32 or 64 bits, in either byte order: a program or library
 /// (`parse`), a relocatable file (`parse_relocatable`) or a core file (`parse_core`). The bytes are

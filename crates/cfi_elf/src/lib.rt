@@ -10,6 +10,7 @@
 
 mod best_name;
 pub mod bytes;
+pub mod constants;
 pub mod elf_file;
 pub mod error;
 pub mod file_header;

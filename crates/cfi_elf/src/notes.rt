@@ -9,14 +9,13 @@ ghost use Rattle.cfi_elf.specs.Notes.{note_view, notes_left, notes_of, padded};
 ghost use Rattle.cfi_elf.specs.SegmentLists.{segments_left};
 
 use crate::bytes::{Record, before_zero, bytes_from, first_bytes};
+use crate::constants::PT_NOTE;
 use crate::elf_file::ElfFile;
 use crate::error::ElfError;
 use crate::program_header::ProgramHeader;
 use crate::segments::Segments;
 use cfi_read_core::{Endianity, RunTimeEndian};
 use std::alloc::AllocError;
-
-const PT_NOTE: u32 = 4;
 
 const NT_GNU_BUILD_ID: u32 = 3;
 

@@ -18,6 +18,7 @@ ghost use Rattle.cfi_elf.specs.Sections.{section_headers};
 ghost use Rattle.cfi_elf.specs.SymbolTables.{symbols_of_bytes};
 
 use crate::bytes::entry;
+use crate::constants::{SHF_ALLOC, SHF_COMPRESSED, SHT_NOBITS, SHT_REL, SHT_RELA};
 use crate::elf_file::ElfFile;
 use crate::error::ElfError;
 use crate::file_header::Class;
@@ -28,16 +29,6 @@ use crate::section_header::{SectionHeader, section_header_size};
 use crate::sections::is_named;
 use crate::symbol::{Symbol, symbol_size};
 use cfi_read_core::Endianity;
-
-const SHT_RELA: u32 = 4;
-
-const SHT_NOBITS: u32 = 8;
-
-const SHT_REL: u32 = 9;
-
-const SHF_ALLOC: u64 = 2;
-
-const SHF_COMPRESSED: u64 = 0x800;
 
 const SHN_XINDEX: u16 = 0xffff;
 

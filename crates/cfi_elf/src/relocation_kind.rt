@@ -4,19 +4,7 @@ ghost use Rattle.cfi_elf.specs.RelocationKinds.{aarch64, arm, i386, kinds_of, po
 ghost use Rattle.cfi_elf.specs.RelocationKinds.{s390x, x86_64};
 ghost use Rattle.cfi_elf.specs.Options.{meaning};
 
-const EM_386: u16 = 3;
-
-const EM_PPC64: u16 = 21;
-
-const EM_S390: u16 = 22;
-
-const EM_ARM: u16 = 40;
-
-const EM_X86_64: u16 = 62;
-
-const EM_AARCH64: u16 = 183;
-
-const EM_RISCV: u16 = 243;
+use crate::constants::{EM_386, EM_AARCH64, EM_ARM, EM_PPC64, EM_RISCV, EM_S390, EM_X86_64};
 
 /// How many bytes the place of a relocation has.
 #[derive(Clone, Copy, Debug, PartialEq, Eq)]

@@ -11,6 +11,7 @@ ghost use Rattle.cfi_elf.specs.Sections.{section_headers, section_named, section
 ghost use Rattle.cfi_elf.specs.Sections.{section_table, section_view};
 
 use crate::bytes::{before_zero, bytes_from, entry};
+use crate::constants::{SHF_COMPRESSED, SHT_NOBITS, SHT_NULL};
 use crate::elf_file::{ElfFile, Section};
 use crate::error::ElfError;
 use crate::section_header::{SectionHeader, parse_section_header, section_header_size};
@@ -18,12 +19,6 @@ use crate::section_header::{SectionHeader, parse_section_header, section_header_
 const SHN_UNDEF: u32 = 0;
 
 const SHN_XINDEX: u16 = 0xffff;
-
-const SHT_NULL: u32 = 0;
-
-const SHT_NOBITS: u32 = 8;
-
-const SHF_COMPRESSED: u64 = 0x800;
 
 impl<'input> ElfFile<'input> {
     /// The section of this name: its address and its bytes, which are part of the file. Returns

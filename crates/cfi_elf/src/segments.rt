@@ -11,16 +11,13 @@ ghost use Rattle.cfi_elf.specs.Segments.{page_offset, program_headers, program_t
 ghost use Rattle.cfi_elf.specs.Segments.{segment_bytes, segment_count, wanted_segment};
 
 use crate::bytes::{bytes_from, entry};
+use crate::constants::{PT_GNU_EH_FRAME, PT_LOAD};
 use crate::elf_file::{ElfFile, Section};
 use crate::error::ElfError;
 use crate::program_header::{ProgramHeader, parse_program_header, program_header_size};
 use std::alloc::AllocError;
 
 const PN_XNUM: u16 = 0xffff;
-
-const PT_LOAD: u32 = 1;
-
-const PT_GNU_EH_FRAME: u32 = 0x6474_e550;
 
 const PF_X: u32 = 1;
 

@@ -12,6 +12,7 @@ ghost use Rattle.cfi_elf.specs.SymbolTables.{symbol_table, symbol_table_view, sy
 ghost use Rattle.cfi_elf.specs.SymbolTables.{symbols_in, symbols_of_bytes};
 
 use crate::bytes::entry;
+use crate::constants::{SHT_DYNSYM, SHT_SYMTAB};
 use crate::elf_file::ElfFile;
 use crate::error::ElfError;
 use crate::section_header::SectionHeader;
@@ -19,10 +20,6 @@ use crate::sections::name_at;
 use crate::symbol::{Symbol, parse_symbol, symbol_size};
 
 const SHN_UNDEF: u16 = 0;
-
-const SHT_SYMTAB: u32 = 2;
-
-const SHT_DYNSYM: u32 = 11;
 
 const STT_FUNC: u8 = 2;
 

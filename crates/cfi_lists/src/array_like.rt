@@ -433,7 +433,7 @@ fn boxed<T: Drop>(alloc: Global, value: T) -> Result<Box<T>>
 
 /// The item that a vector did not take, since its memory could not grow.
 #[inline(always)]
-fn refused_growth<T>(e: AllocFailed<T>) -> Refused<T>
+pub(crate) fn refused_growth<T>(e: AllocFailed<T>) -> Refused<T>
     ensures { result ≡ record { why = Why.Memory; item = e.value } }
 {
     let AllocFailed { value } = e;
@@ -445,7 +445,7 @@ fn refused_growth<T>(e: AllocFailed<T>) -> Refused<T>
 
 /// The item that a full array did not take.
 #[inline(always)]
-fn refused_full<T>(item: T) -> Refused<T>
+pub(crate) fn refused_full<T>(item: T) -> Refused<T>
     ensures { result ≡ record { why = Why.Full (record {}); item = item } }
 {
     Refused {

@@ -2,3 +2,4 @@
 #![tactic(auto)]
 
 pub mod array_like;
+pub mod reserved;

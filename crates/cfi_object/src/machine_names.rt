@@ -5,20 +5,7 @@ ghost use Rattle.cfi_object.specs.MachineNames.{names_in, register_names_of};
 
 use crate::register_names::RegisterNames;
 use cfi_elf::ElfFile;
-
-const EM_386: u16 = 3;
-
-const EM_PPC64: u16 = 21;
-
-const EM_S390: u16 = 22;
-
-const EM_ARM: u16 = 40;
-
-const EM_X86_64: u16 = 62;
-
-const EM_AARCH64: u16 = 183;
-
-const EM_RISCV: u16 = 243;
+use cfi_elf::constants::{EM_386, EM_AARCH64, EM_ARM, EM_PPC64, EM_RISCV, EM_S390, EM_X86_64};
 
 /// Returns how registers are named in what is printed of the file: by its machine, or by number
 /// where `raw` is true.

@@ -1,0 +1,62 @@
+//! Numbers of ELF files, by the names of `elf.h` (System V ABI, chapters 4 and 5; the psABIs for
+//! machines).
+
+/// A relocatable file (`e_type`).
+pub const ET_REL: u16 = 1;
+
+/// A core file (`e_type`).
+pub const ET_CORE: u16 = 4;
+
+/// Intel 80386 (`e_machine`).
+pub const EM_386: u16 = 3;
+
+/// PowerPC of 64 bits (`e_machine`).
+pub const EM_PPC64: u16 = 21;
+
+/// IBM System/390 (`e_machine`).
+pub const EM_S390: u16 = 22;
+
+/// Arm of 32 bits (`e_machine`).
+pub const EM_ARM: u16 = 40;
+
+/// x86-64 (`e_machine`).
+pub const EM_X86_64: u16 = 62;
+
+/// AArch64 (`e_machine`).
+pub const EM_AARCH64: u16 = 183;
+
+/// RISC-V (`e_machine`).
+pub const EM_RISCV: u16 = 243;
+
+/// A segment that is loaded (`p_type`).
+pub const PT_LOAD: u32 = 1;
+
+/// A segment of notes (`p_type`).
+pub const PT_NOTE: u32 = 4;
+
+/// The segment of `.eh_frame_hdr` (`p_type`; LSB Core).
+pub const PT_GNU_EH_FRAME: u32 = 0x6474_e550;
+
+/// A section header that is of no section (`sh_type`).
+pub const SHT_NULL: u32 = 0;
+
+/// The symbol table (`sh_type`).
+pub const SHT_SYMTAB: u32 = 2;
+
+/// Relocations with addends (`sh_type`).
+pub const SHT_RELA: u32 = 4;
+
+/// A section that has no bytes in the file (`sh_type`).
+pub const SHT_NOBITS: u32 = 8;
+
+/// Relocations without addends (`sh_type`).
+pub const SHT_REL: u32 = 9;
+
+/// The symbol table for dynamic linking (`sh_type`).
+pub const SHT_DYNSYM: u32 = 11;
+
+/// A section that is in memory when the program runs (`sh_flags`).
+pub const SHF_ALLOC: u64 = 2;
+
+/// A section whose bytes are compressed (`sh_flags`).
+pub const SHF_COMPRESSED: u64 = 0x800;
