@@ -7,25 +7,21 @@ use Rattle.cfi_read_core.specs.contracts.offset.UsizeReaderOffset.TheImpl as off
 use Rattle.arrayvec.specs.contracts.array_vec.ArrayVec
 use Rattle.cfi_lists.specs.contracts.array_like.ArrayVecArrayLike.TheImpl as list
 use Rattle.cfi_lists.specs.contracts.array_like.ArrayVecCopyList.TheImpl as copies
-use Rattle.cfi_lists.specs.contracts.array_like.BoxArrayVecArrayLike.TheImpl as boxed-list
-use Rattle.cfi_state.specs.contracts.table.row.UnwindTableRowArrayVecPairDefault.TheImpl as row-default
+use Rattle.cfi_lists.specs.contracts.reserved.Reserved
+use Rattle.cfi_lists.specs.contracts.reserved.ReservedArrayLike.TheImpl as reserved-list
 use Rattle.cfi_state.specs.contracts.table.rules.RegisterRuleClone.TheImpl as rule-clone
 use Rattle.cfi_state.specs.contracts.table.rules.RegisterRuleDefault.TheImpl as rule-default
 use Rattle.gimli_cfi.specs.contracts.table.RegisterRule
 use Rattle.gimli_cfi.specs.contracts.table.UnwindContext
 use Rattle.gimli_cfi.specs.contracts.table.UnwindTableRow
 use Rattle.core.specs.contracts.clone.Clone+copy.TheImpl as copy
-use Rattle.std.specs.contracts.alloc.Global.{the_row as heap}
-use Rattle.std.specs.contracts.impls.GlobalAllocator.TheImpl as heap-allocator
 use Rattle.std.specs.contracts.prelude.Tuple2Clone.TheImpl as pair-clone
 use Rattle.std.specs.contracts.prelude.Tuple2Default.TheImpl as pair-default
 use Rattle.std.specs.contracts.prelude.UsizeClone.TheImpl as usize-clone
 use Rattle.std.specs.contracts.prelude.UsizeDebug.TheImpl as usize-debug
-use Rattle.std.specs.contracts.prelude.UsizeEq.TheImpl as usize-eq
 use Rattle.std.specs.contracts.prelude.UsizeOrd.TheImpl as usize-ord
 use Rattle.std.specs.contracts.prelude.UsizePartialEq.TheImpl as usize-partial-eq
 use Rattle.std.specs.contracts.prelude.UsizePartialOrd.TheImpl as usize-partial-ord
-use Rattle.std_alloc.specs.contracts.boxed.Box
 use denote.Builtin.{usize, unit}
 use denote.Param.{number}
 use denote.RattleType.{RattleType}
@@ -50,7 +46,7 @@ context_row =
     UnwindTableRow.the_row usize rules offset.ghosts usize-partial-eq.ghosts usize-ord.ghosts
     usize-partial-ord.ghosts usize-debug.ghosts rule_list in
     UnwindContext.the_row usize store rules
-    (Box.the_row (ArrayVec.the_row row (number 4) unit) heap heap-allocator.ghosts)
+    (Reserved.the_row row (number 4))
     offset.ghosts usize-partial-eq.ghosts usize-ord.ghosts usize-partial-ord.ghosts
     usize-debug.ghosts rule_list
     (copies.ghosts pair (number 192)
@@ -59,9 +55,4 @@ context_row =
     (rule-clone.ghosts usize usize-clone.ghosts rule-clone.no_dict rule-clone.no_dict)
     pair-clone.no_dict pair-clone.no_dict pair-clone.no_dict)
     copies.no_dict empty_pair copies.no_dict)
-    (boxed-list.ghosts row (number 4)
-    (row-default.ghosts usize (number 192) offset.ghosts row-default.no_dict
-    usize-clone.ghosts row-default.no_dict usize-eq.ghosts row-default.no_dict
-    usize-partial-eq.ghosts row-default.no_dict usize-ord.ghosts row-default.no_dict
-    usize-partial-ord.ghosts row-default.no_dict usize-debug.ghosts row-default.no_dict)
-    boxed-list.no_dict boxed-list.no_dict)
+    (reserved-list.ghosts row (number 4) reserved-list.no_dict)
