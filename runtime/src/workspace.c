@@ -18,14 +18,15 @@ enum {
     STACK = 512 * 1024,  /* on which they are made: more than a thread may have */
     LEFT = 4,            /* so many of ended threads are kept */
     AWAY = 1 << 21,      /* so far from other stacks that valgrind sees one of its own */
-    TOUCHED = 38 * 1024 + FIRST_SETS * 4 * 64, TOUCHED_STACK = 168 * 1024 /* as far as they take them now */
+    LARGE = 16 * 1024,   /* so large are the rows that a context seldom remembers, and nothing else of it */
+    TOUCHED = 13 * 1024 + FIRST_SETS * 4 * 64, TOUCHED_STACK = 48 * 1024 /* as far as they take them now */
 };
 
-/* Pages are touched only when they are needed: the first modules are in two. */
+/* Pages are touched only when they are needed: the first modules are in two, and what follows the modules in a few. */
 struct region {
+    struct known_modules modules;
     struct workspace workspace;
     _Alignas(LINE) char memory[MEMORY];
-    struct known_modules modules;
 };
 
 LOCAL struct workspace *own_workspaces[NESTED];
@@ -73,13 +74,16 @@ HIDDEN Tried rattle_alloc(size_t length, size_t alignment);
 HIDDEN Tried rattle_realloc(void *block, size_t kept, size_t length, size_t alignment);
 HIDDEN void rattle_dealloc(void *block);
 
-/* Alignments are divisors of 16. What is made is made once and given back whole, so nothing is freed alone. */
+/* Alignments are divisors of 16. What is made is made once and given back whole, so nothing is freed alone. The rows that a
+ * context remembers lie at the end, so that what is touched lies together. */
 Tried rattle_alloc(size_t length, size_t alignment) {
     static char nothing;
     size_t size = (length + LINE) & -(size_t)LINE;
     (void)alignment;
     if (!made || size < length || (size_t)(made->end - made->free) < size)
         return (Tried){false, &nothing};
+    if (size >= LARGE && !made->rows)
+        return (Tried){true, made->end -= size};
     void *at = made->free;
     made->free += size;
     return (Tried){true, at};
@@ -137,7 +141,8 @@ static bool make(struct region *region, char *stack) {
     workspace->modules = &region->modules;
     workspace->free = region->memory;
     workspace->end = region->memory + MEMORY;
-    touch(region, offsetof(struct region, memory) + TOUCHED);
+    touch(&region->modules, 2 * PAGE);
+    touch(workspace, sizeof *workspace + TOUCHED);
     if (stack != process_stack || !is_touched)
         touch(stack + STACK - TOUCHED_STACK, TOUCHED_STACK);
     if (stack == process_stack)
@@ -205,7 +210,7 @@ static void leave(struct workspace *workspace) {
         if (atomic_compare_exchange_strong(&left[i], &none, workspace))
             return;
     }
-    munmap(workspace, sizeof(struct region));
+    munmap((char *)workspace - offsetof(struct region, workspace), sizeof(struct region));
 }
 
 /* At the end of a thread. What it throws after that takes others, and this is called again. */
