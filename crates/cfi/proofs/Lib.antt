@@ -4,6 +4,7 @@ mod FlagLemmas
 mod FlameLemmas
 mod GivenLemmas
 mod LevelLemmas
+mod OptionLemmas
 mod PlaceLemmas
 mod ProcessLemmas
 mod ReadingLemmas

@@ -23,7 +23,8 @@ use Rattle.cfi_files.specs.declared.request.Request.{Request}
 use Rattle.cfi_stacks.specs.CoreOutputs.{IsOwed as IsOwedOfCore}
 use Rattle.cfi_stacks.specs.ProfileOutputs.{IsListingOwed as IsOwedOfProfile}
 use Rattle.cfi_stacks.specs.declared.listing.Listing.{Listing}
-use Rattle.cfi.specs.CommandLine.{Asked, cfi_app, format_names}
+use Rattle.cfi.specs.CommandLine.{Asked, cfi_app}
+use Rattle.cfi.specs.Forms.{format_names}
 use Rattle.cfi.specs.declared.flames.Summary.{Summary}
 use Rattle.cfi.specs.FlameOutputs.{path_of}
 use Rattle.cfi.specs.FlameOutputs.{IsOwed as IsOwedOfFolded}

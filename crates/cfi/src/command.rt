@@ -2,13 +2,14 @@
 ghost use Rattle.std.specs.Prelude.{◌≡◌, IfErr, IfOk, IsSome, Some, false, map, option_map, true};
 ghost use Rattle.clap.specs.Words.{found_of, rows_of, rule_of};
 ghost use Rattle.clap.specs.Words.{has_subcommand, kind_of, subcommand_rows_of};
+ghost use Rattle.clap.specs.declared.builder.value_parser.ValueParser.TheVariants.{Names};
 ghost use Rattle.cfi.specs.CommandLine.{FailsAsCfi, IsApp, address_rule, addresses_rule, asked_of};
-ghost use Rattle.cfi.specs.CommandLine.{cfi_app, check_app, command_view, dump_app, file_in};
-ghost use Rattle.cfi.specs.CommandLine.{file_rule, files_rule, flame_app, format_in, format_names};
-ghost use Rattle.cfi.specs.CommandLine.{format_rule};
-ghost use Rattle.cfi.specs.CommandLine.{has_value, of_one_file, raw_in, raw_rule, row_app};
-ghost use Rattle.cfi.specs.CommandLine.{fold_app, report_app, rows_app, table_app};
-ghost use Rattle.cfi.specs.CommandLine.{stack_app, top_app, unwind_app, values_in};
+ghost use Rattle.cfi.specs.CommandLine.{cfi_app, command_view, file_in, file_rule, files_rule};
+ghost use Rattle.cfi.specs.CommandLine.{form_app, format_in, format_rule, has_value, of_one_file};
+ghost use Rattle.cfi.specs.CommandLine.{plain_app, raw_in, raw_rule, top_app, values_in};
+ghost use Rattle.cfi.specs.Forms.{check_form, dump_form, flame_form, fold_form, format_names};
+ghost use Rattle.cfi.specs.Forms.{report_form, row_form, rows_form, stack_form, table_form};
+ghost use Rattle.cfi.specs.Forms.{unwind_form};
 ghost use Rattle.cfi.specs.Words.{asked};
 
 use cfi_programs::style::Format;
@@ -175,14 +176,14 @@ fn of_one_file<'w>(name: &str, raw: bool, file: &'w str) -> Command<'w>
 
 /// Returns whether `--raw` was given.
 fn raw_in(arguments: &ArgMatches) -> bool
-    ensures { result ≡ raw_in (rows_of (found_of arguments.now)) }
+    ensures { result ≡ raw_in (values_in (rows_of (found_of arguments.now))) }
 {
     has_value(arguments, "raw", "true")
 }
 
 /// Returns the format that was named, or text.
 fn format_in(arguments: &ArgMatches) -> Format
-    ensures { result ≡ format_in (rows_of (found_of arguments.now)) }
+    ensures { result ≡ format_in (values_in (rows_of (found_of arguments.now))) }
 {
     if has_value(arguments, "format", "json") {
         Format::Json
@@ -193,7 +194,7 @@ fn format_in(arguments: &ArgMatches) -> Format
 
 /// Returns whether this is the first value that was given for an argument.
 fn has_value(arguments: &ArgMatches, id: &str, value: &str) -> bool
-    ensures { result ≡ has_value id.now value.now (rows_of (found_of arguments.now)) }
+    ensures { result ≡ has_value id.now value.now (values_in (rows_of (found_of arguments.now))) }
 {
     match arguments.get_str(id) {
         Some(text) => text == value,
@@ -203,7 +204,7 @@ fn has_value(arguments: &ArgMatches, id: &str, value: &str) -> bool
 
 /// Returns the file that was named, of which clap has checked that there is one.
 fn file_in<'w>(arguments: &ArgMatches<'w>) -> &'w str
-    ensures { result.now ≡ file_in (rows_of (found_of arguments.now)) }
+    ensures { result.now ≡ file_in (values_in (rows_of (found_of arguments.now))) }
 {
     arguments.get_str("FILE").unwrap_or("")
 }
@@ -215,7 +216,7 @@ fn values_in<'w>(
     id: &str,
 ) -> Result<Vec<&'w str>, AllocError>
     ensures { IfOk result (λ values. map (λ value. value.now) values.items
-        ≡ values_in id.now (rows_of (found_of arguments.now))) }
+        ≡ values_in (rows_of (found_of arguments.now)) id.now) }
 {
     match arguments.get_strs(id) {
         Some(values) => values.to_vec(alloc),
@@ -261,7 +262,7 @@ fn top<'w>(alloc: Global) -> Result<clap::Command<'w>, AllocError>
 
 /// Returns the command `row`.
 fn row<'w>(alloc: Global, formats: &'w [&'w str]) -> Result<clap::Command<'w>, AllocError>
-    ensures { IfOk result (IsApp (row_app formats.entry)) }
+    ensures { IfOk result (IsApp (form_app (Names formats.entry) row_form)) }
 {
     clap::Command::new(alloc, "row")
         .about("Prints the row of each address: its range, the CFA and the rule of each register")
@@ -273,7 +274,7 @@ fn row<'w>(alloc: Global, formats: &'w [&'w str]) -> Result<clap::Command<'w>, A
 
 /// Returns the command `rows`.
 fn rows<'w>(alloc: Global, formats: &'w [&'w str]) -> Result<clap::Command<'w>, AllocError>
-    ensures { IfOk result (IsApp (rows_app formats.entry)) }
+    ensures { IfOk result (IsApp (form_app (Names formats.entry) rows_form)) }
 {
     clap::Command::new(alloc, "rows")
         .about("Prints the rows of every function, or of the one at an address")
@@ -285,7 +286,7 @@ fn rows<'w>(alloc: Global, formats: &'w [&'w str]) -> Result<clap::Command<'w>, 
 
 /// Returns the command `dump`.
 fn dump<'w>(alloc: Global) -> Result<clap::Command<'w>, AllocError>
-    ensures { IfOk result (IsApp dump_app) }
+    ensures { IfOk result (IsApp (plain_app dump_form)) }
 {
     clap::Command::new(alloc, "dump")
         .about("Prints every entry, with its instructions' rows")
@@ -295,7 +296,7 @@ fn dump<'w>(alloc: Global) -> Result<clap::Command<'w>, AllocError>
 
 /// Returns the command `check`.
 fn check<'w>(alloc: Global, formats: &'w [&'w str]) -> Result<clap::Command<'w>, AllocError>
-    ensures { IfOk result (IsApp (check_app formats.entry)) }
+    ensures { IfOk result (IsApp (form_app (Names formats.entry) check_form)) }
 {
     clap::Command::new(alloc, "check")
         .about("Checks that the table of .eh_frame_hdr lists the entries of .eh_frame faithfully")
@@ -305,7 +306,7 @@ fn check<'w>(alloc: Global, formats: &'w [&'w str]) -> Result<clap::Command<'w>,
 
 /// Returns the command `table`.
 fn table<'w>(alloc: Global) -> Result<clap::Command<'w>, AllocError>
-    ensures { IfOk result (IsApp table_app) }
+    ensures { IfOk result (IsApp (plain_app table_form)) }
 {
     clap::Command::new(alloc, "table")
         .about("Prints the compiled table: the rows of all addresses, in their order")
@@ -315,7 +316,7 @@ fn table<'w>(alloc: Global) -> Result<clap::Command<'w>, AllocError>
 
 /// Returns the command `unwind`.
 fn unwind<'w>(alloc: Global) -> Result<clap::Command<'w>, AllocError>
-    ensures { IfOk result (IsApp unwind_app) }
+    ensures { IfOk result (IsApp (plain_app unwind_form)) }
 {
     clap::Command::new(alloc, "unwind")
         .about("Prints the stack of each sample of a profile: perf record --call-graph dwarf")
@@ -325,7 +326,7 @@ fn unwind<'w>(alloc: Global) -> Result<clap::Command<'w>, AllocError>
 
 /// Returns the command `stack`.
 fn stack<'w>(alloc: Global) -> Result<clap::Command<'w>, AllocError>
-    ensures { IfOk result (IsApp stack_app) }
+    ensures { IfOk result (IsApp (plain_app stack_form)) }
 {
     clap::Command::new(alloc, "stack")
         .about("Prints the stack of each thread of a core file")
@@ -335,7 +336,7 @@ fn stack<'w>(alloc: Global) -> Result<clap::Command<'w>, AllocError>
 
 /// Returns the command `flame`.
 fn flame<'w>(alloc: Global) -> Result<clap::Command<'w>, AllocError>
-    ensures { IfOk result (IsApp flame_app) }
+    ensures { IfOk result (IsApp (plain_app flame_form)) }
 {
     clap::Command::new(alloc, "flame")
         .about("Prints the flame graph of folded stacks, an SVG")
@@ -344,7 +345,7 @@ fn flame<'w>(alloc: Global) -> Result<clap::Command<'w>, AllocError>
 
 /// Returns the command `report`.
 fn report<'w>(alloc: Global) -> Result<clap::Command<'w>, AllocError>
-    ensures { IfOk result (IsApp report_app) }
+    ensures { IfOk result (IsApp (plain_app report_form)) }
 {
     clap::Command::new(alloc, "report")
         .about("Prints the functions of folded stacks, by their samples")
@@ -353,7 +354,7 @@ fn report<'w>(alloc: Global) -> Result<clap::Command<'w>, AllocError>
 
 /// Returns the command `fold`.
 fn fold<'w>(alloc: Global) -> Result<clap::Command<'w>, AllocError>
-    ensures { IfOk result (IsApp fold_app) }
+    ensures { IfOk result (IsApp (plain_app fold_form)) }
 {
     clap::Command::new(alloc, "fold")
         .about("Prints the stacks of a profile, folded and counted, for flame and report")
