@@ -7,6 +7,7 @@ mod LevelLemmas
 mod OptionLemmas
 mod PlaceLemmas
 mod ProcessLemmas
+mod QuietLemmas
 mod ReadingLemmas
 mod RowLemmas
 mod StepLemmas

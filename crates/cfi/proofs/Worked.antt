@@ -21,7 +21,7 @@ no_address = refl
 an_address_is_optional : asked (codes "cfi" ∷ codes "rows" ∷ codes "a" ∷ []) ≡ Some (rows false form.Text (codes "a") None)
 an_address_is_optional = refl
 
-several_files : asked (codes "cfi" ∷ codes "check" ∷ codes "a" ∷ codes "b" ∷ []) ≡ Some (check form.Text (codes "a" ∷ codes "b" ∷ []))
+several_files : asked (codes "cfi" ∷ codes "check" ∷ codes "a" ∷ codes "b" ∷ []) ≡ Some (check false form.Text (codes "a" ∷ codes "b" ∷ []))
 several_files = refl
 
 one_file_alone : asked (codes "cfi" ∷ codes "dump" ∷ codes "a" ∷ codes "b" ∷ []) ≡ None
@@ -73,8 +73,11 @@ help_answered formats = refl
 flags : asked (codes "cfi" ∷ codes "row" ∷ codes "a" ∷ codes "--format" ∷ codes "json" ∷ codes "0x10" ∷ codes "--raw" ∷ codes "main" ∷ []) ≡ Some (row true form.Json (codes "a") (codes "0x10" ∷ codes "main" ∷ []))
 flags = refl
 
-a_format : asked (codes "cfi" ∷ codes "check" ∷ codes "--format=text" ∷ codes "a" ∷ []) ≡ Some (check form.Text (codes "a" ∷ []))
+a_format : asked (codes "cfi" ∷ codes "check" ∷ codes "--format=text" ∷ codes "a" ∷ []) ≡ Some (check false form.Text (codes "a" ∷ []))
 a_format = refl
+
+a_quiet_check : asked (codes "cfi" ∷ codes "check" ∷ codes "a" ∷ codes "--quiet" ∷ codes "--format" ∷ codes "json" ∷ codes "b" ∷ []) ≡ Some (check true form.Json (codes "a" ∷ codes "b" ∷ []))
+a_quiet_check = refl
 
 -- a flag is given once, a format is one of the two, and it has to be named
 raw_twice : asked (codes "cfi" ∷ codes "table" ∷ codes "--raw" ∷ codes "a" ∷ codes "--raw" ∷ []) ≡ None
@@ -89,6 +92,9 @@ no_name = refl
 -- and a command has some of the flags
 not_of_dump : asked (codes "cfi" ∷ codes "dump" ∷ codes "--format=text" ∷ codes "a" ∷ []) ≡ None
 not_of_dump = refl
+
+not_quiet : asked (codes "cfi" ∷ codes "dump" ∷ codes "--quiet" ∷ codes "a" ∷ []) ≡ None
+not_quiet = refl
 
 -- an option with any text for a value has it behind `=` or as the next word, once
 abbrev thread : LongOption

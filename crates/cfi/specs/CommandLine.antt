@@ -33,12 +33,12 @@ use Rattle.cfi_programs.specs.declared.style.Format.TheVariants as form
 -- ---- the commands, with the bytes of their words
 
 -- first whether registers are printed by number, or stacks without functions, and the form of what
--- is printed
+-- is printed; for a check, whether files with faithful tables have no line
 pub data Asked : Type 0 where
   row : Bool → Format → Text → List Text → Asked
   rows : Bool → Format → Text → Option Text → Asked
   dump : Bool → Text → Asked
-  check : Format → List Text → Asked
+  check : Bool → Format → List Text → Asked
   table : Bool → Text → Asked
   unwind : Bool → Text → Asked
   stack : Bool → Text → Asked
@@ -52,7 +52,8 @@ command_view (command.Row raw format file addresses) =
 command_view (command.Rows raw format file address) =
     rows raw format file.now (option_map (λ word. word.now) address)
 command_view (command.Dump raw file) = dump raw file.now
-command_view (command.Check format files) = check format (map (λ file. file.now) files.items)
+command_view (command.Check quiet format files) =
+    check quiet format (map (λ file. file.now) files.items)
 command_view (command.Table raw file) = table raw file.now
 command_view (command.Unwind raw file) = unwind raw file.now
 command_view (command.Stack raw file) = stack raw file.now
@@ -100,8 +101,14 @@ option_rule formats name value = record (new_rule name) {
   parser = parser_for formats value;
 }
 
+abbrev pub flag_rule : Text → Rule
+flag_rule name = record (new_rule name) { long = Some name; action = Some SetTrue }
+
 abbrev pub raw_rule : Rule
-raw_rule = record (new_rule (codes "raw")) { long = Some (codes "raw"); action = Some SetTrue }
+raw_rule = flag_rule (codes "raw")
+
+abbrev pub quiet_rule : Rule
+quiet_rule = flag_rule (codes "quiet")
 
 abbrev pub format_rule : Bor (List (Bor Text)) → Rule
 format_rule names = option_rule (Names names) (codes "format") format_name
@@ -172,6 +179,9 @@ has_value id value values =
 abbrev pub raw_in : (Text → List Text) → Bool
 raw_in = has_value (codes "raw") (codes "true")
 
+abbrev pub quiet_in : (Text → List Text) → Bool
+quiet_in = has_value (codes "quiet") (codes "true")
+
 abbrev pub format_in : (Text → List Text) → Format
 format_in values =
     if has_value (codes "format") (codes "json") values then form.Json else form.Text
@@ -179,7 +189,8 @@ format_in values =
 -- a command that has one file, and the flag `--raw`
 abbrev pub of_one_file : Text → Bool → Text → Asked
 of_one_file name raw file =
-    if bytes_eq name (codes "table") then table raw file
+    if bytes_eq name (codes "dump") then dump raw file
+    else if bytes_eq name (codes "table") then table raw file
     else if bytes_eq name (codes "unwind") then unwind raw file
     else stack raw file
 
@@ -191,8 +202,8 @@ asked_for name values =
     if bytes_eq name (codes "row") then row raw format (file_in values) (values (codes "ADDRESS"))
     else if bytes_eq name (codes "rows") then rows raw format (file_in values)
     (first_in values (codes "ADDRESS"))
-    else if bytes_eq name (codes "dump") then dump raw (file_in values)
-    else if bytes_eq name (codes "check") then check format (values (codes "FILE"))
+    else if bytes_eq name (codes "check") then check (quiet_in values) format
+    (values (codes "FILE"))
     else if bytes_eq name (codes "flame") then flame (file_in values)
     else if bytes_eq name (codes "report") then report (file_in values)
     else if bytes_eq name (codes "fold") then fold (file_in values)

@@ -59,6 +59,9 @@ form_named forms name = find (λ f. bytes_eq f.name name) forms
 abbrev pub raw : LongOption
 raw = record { name = codes "raw"; value = no_value }
 
+abbrev pub quiet : LongOption
+quiet = record { name = codes "quiet"; value = no_value }
+
 abbrev pub format : LongOption
 format = record { name = codes "format"; value = format_name }
 
@@ -75,7 +78,7 @@ abbrev pub dump_form : Form
 dump_form = form (codes "dump") (raw ∷ []) one_file
 
 abbrev pub check_form : Form
-check_form = form (codes "check") (format ∷ []) one_file_or_more
+check_form = form (codes "check") (quiet ∷ format ∷ []) one_file_or_more
 
 abbrev pub table_form : Form
 table_form = form (codes "table") (raw ∷ []) one_file

@@ -11,8 +11,8 @@ use Rattle.std.specs.Str.{bytes_eq, chars}
 use Rattle.clap.specs.Lexer.{long_of, short_of}
 use Rattle.clap.specs.Words.{Text}
 use Rattle.cfi.specs.Forms.{Arguments, Form, LongOption, file_and_address, file_and_addresses}
-use Rattle.cfi.specs.Forms.{form_named, forms, has_no_value, one_file, one_file_or_more, option_named}
-use Rattle.cfi.specs.Forms.{takes}
+use Rattle.cfi.specs.Forms.{form_named, forms, has_no_value, one_file, one_file_or_more}
+use Rattle.cfi.specs.Forms.{option_named, takes}
 use Rattle.cfi.specs.CommandLine.{Asked, asked_for}
 
 -- ---- what one word is

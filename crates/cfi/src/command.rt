@@ -6,7 +6,8 @@ ghost use Rattle.clap.specs.declared.builder.value_parser.ValueParser.TheVariant
 ghost use Rattle.cfi.specs.CommandLine.{FailsAsCfi, IsApp, address_rule, addresses_rule, asked_of};
 ghost use Rattle.cfi.specs.CommandLine.{cfi_app, command_view, file_in, file_rule, files_rule};
 ghost use Rattle.cfi.specs.CommandLine.{form_app, format_in, format_rule, has_value, of_one_file};
-ghost use Rattle.cfi.specs.CommandLine.{plain_app, raw_in, raw_rule, top_app, values_in};
+ghost use Rattle.cfi.specs.CommandLine.{plain_app, quiet_in, quiet_rule, raw_in, raw_rule};
+ghost use Rattle.cfi.specs.CommandLine.{top_app, values_in};
 ghost use Rattle.cfi.specs.Forms.{check_form, dump_form, flame_form, fold_form, format_names};
 ghost use Rattle.cfi.specs.Forms.{report_form, row_form, rows_form, stack_form, table_form};
 ghost use Rattle.cfi.specs.Forms.{unwind_form};
@@ -45,8 +46,10 @@ pub enum Command<'w> {
         raw: bool,
         file: &'w str,
     },
-    /// `check FILE..`: whether the table of each file is faithful; there is one file at least.
+    /// `check FILE..`: whether the table of each file is faithful; there is one file at least. If
+    /// `quiet`, files with faithful tables have no line.
     Check {
+        quiet: bool,
         format: Format,
         files: Vec<&'w str>,
     },
@@ -134,13 +137,9 @@ fn named<'w>(
             file: file_in(arguments),
             address: arguments.get_str("ADDRESS"),
         })
-    } else if name == "dump" {
-        Ok(Command::Dump {
-            raw: raw_in(arguments),
-            file: file_in(arguments),
-        })
     } else if name == "check" {
         Ok(Command::Check {
+            quiet: quiet_in(arguments),
             format: format_in(arguments),
             files: values_in(alloc, arguments, "FILE")?,
         })
@@ -165,7 +164,9 @@ fn named<'w>(
 fn of_one_file<'w>(name: &str, raw: bool, file: &'w str) -> Command<'w>
     ensures { of_one_file name.now raw file.entry.now ≡ command_view result }
 {
-    if name == "table" {
+    if name == "dump" {
+        Command::Dump { raw, file }
+    } else if name == "table" {
         Command::Table { raw, file }
     } else if name == "unwind" {
         Command::Unwind { raw, file }
@@ -179,6 +180,13 @@ fn raw_in(arguments: &ArgMatches) -> bool
     ensures { result ≡ raw_in (values_in (rows_of (found_of arguments.now))) }
 {
     has_value(arguments, "raw", "true")
+}
+
+/// Returns whether `--quiet` was given.
+fn quiet_in(arguments: &ArgMatches) -> bool
+    ensures { result ≡ quiet_in (values_in (rows_of (found_of arguments.now))) }
+{
+    has_value(arguments, "quiet", "true")
 }
 
 /// Returns the format that was named, or text.
@@ -300,6 +308,7 @@ fn check<'w>(alloc: Global, formats: &'w [&'w str]) -> Result<clap::Command<'w>,
 {
     clap::Command::new(alloc, "check")
         .about("Checks that the table of .eh_frame_hdr lists the entries of .eh_frame faithfully")
+        .arg(quiet_flag(alloc))?
         .arg(format_flag(alloc, formats))?
         .arg(files(alloc))
 }
@@ -380,6 +389,17 @@ fn places_flag<'w>(alloc: Global) -> Arg<'w>
     Arg::new(alloc, "raw")
         .help("Prints the place of each frame in its file, without the function")
         .long("raw")
+        .action(ArgAction::SetTrue)
+}
+
+/// Returns the flag `--quiet` of `check`.
+fn quiet_flag<'w>(alloc: Global) -> Arg<'w>
+    ensures rule { rule_of result ≡ quiet_rule }
+    ensures local { result.global ≡ false }
+{
+    Arg::new(alloc, "quiet")
+        .help("Prints no line for a file whose table is faithful")
+        .long("quiet")
         .action(ArgAction::SetTrue)
 }
 
