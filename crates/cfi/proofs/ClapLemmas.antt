@@ -1,18 +1,28 @@
 -- What the commands of clap are, and what its getters read.
 use Rattle.std.proofs.Common.{◌≡◌, ◌∙◌, ◌||◌, ap, ap₂, refl, sym, List, [], Option, Some, None, Result, Ok, Err, IfErr, IsErrAnd, inl, bytes_eq, false, map, option_map, true}
-use Rattle.std.specs.Option.{option_map_or, unwrap_or}
+use Rattle.std.specs.List.{find}
+use Rattle.std.specs.Option.{option_and_then, option_map_or, unwrap_or}
+use Rattle.std.specs.Prelude.{slice_get}
 use Rattle.std.specs.Borrow.{Bor}
 use Rattle.clap.specs.Built.{AddsSubcommand}
-use Rattle.clap.specs.Words.{App, FailsBy, Kinds, Text, is_simple, is_simple_and_free, kind_of, with_subcommand}
+use Rattle.clap.specs.Words.{App, FailsBy, Kinds, Row, Text, first_of, is_simple, is_simple_and_free, kind_of, with_subcommand}
 use Rattle.clap.specs.declared.error.Error.{Error}
 use Rattle.clap.specs.declared.error.kind.ErrorKind.TheVariants.{OutOfMemory}
 use Rattle.clap.proofs.OnLiterals.{clap_on_literals}
 use Rattle.clap.specs.declared.builder.command.Command.{Command}
-use Rattle.cfi.specs.CommandLine.{IsApp, cfi_app}
+use Rattle.cfi.specs.CommandLine.{IsApp, cfi_app, first_in, values_in}
 
 pub adds_app : (old sub new : Command) (a b : App) → IsApp a old → IsApp b sub → AddsSubcommand old sub new → IsApp (with_subcommand a b.top) new
 adds_app old sub new a b above below h =
     (h.shape below.1 ∙ ap₂ with_subcommand above.0 (ap (λ (x : App). x.top) below.0), h.globals ∙ ap₂ (λ x y. x || y) above.1 below.1)
+
+-- the first of the values at a name
+pub first_of_values : (id : Text) (rows : List Row) → first_of id rows ≡ first_in (values_in rows) id
+first_of_values id rows = go (find (λ (r : Row). bytes_eq r.id id) rows)
+  where
+    go : (o : Option Row) → option_and_then (λ (r : Row). slice_get r.values 0) o ≡ slice_get (unwrap_or (option_map (λ (r : Row). r.values) o) []) 0
+    go None = refl
+    go (Some r) = refl
 
 -- the text of a getter, or the empty one
 pub text_or_empty : (o : Option (Bor Text)) (none text : Bor Text) (first : Option Text) → none.now ≡ [] → text ≡ unwrap_or o none

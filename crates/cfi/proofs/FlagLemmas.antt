@@ -1,5 +1,5 @@
 -- Where a word is a flag, clap looks it up; where it is none, it is a value.
-use Rattle.std.proofs.Common.{◌≡◌, ◌∙◌, ◌⊎◌, ◌||◌, ℕ, Bool, true, false, refl, sym, ap, ap₂, inl, inr, bytes_eq, codes, cond, List, [], ◌∷◌, length, Option, Some, None, is_some, true≢false}
+use Rattle.std.proofs.Common.{◌≡◌, ◌⊎◌, ◌||◌, ℕ, Bool, true, false, refl, sym, ap, ap₂, inl, inr, bytes_eq, cond, List, [], ◌∷◌, length, Option, Some, None, is_some, true≢false}
 use Rattle.std.specs.Prelude.{drop, encode_utf8, slice_get}
 use Rattle.std.specs.Option.{option_map_or}
 use Rattle.std.specs.Str.{chars}
@@ -9,8 +9,7 @@ use Rattle.clap.specs.Simple.{Shape, filled, help_rule}
 use Rattle.clap.specs.Kinds.{Kinds, or_else}
 use Rattle.clap.specs.Faults.{bundle_fault, bundle_step_fault, flag_word_fault, flags_fault, long_fault, option_fault, react_fault, settle_fault, short_fault, use_fault, word_fault}
 use Rattle.clap.specs.declared.error.kind.ErrorKind.TheVariants.{DisplayHelp, TooManyValues}
-use Rattle.cfi.specs.Words.{Word, argument, format_flag, has_character, long_flag, other_flag, raw_flag, short_or_argument, word_of}
-use Rattle.cfi.proofs.RowLemmas.{same_id}
+use Rattle.cfi.specs.Words.{Word, argument, has_character, long_option, short_flag, short_or_argument, word_of}
 
 -- ---- lists of kinds of which one comes
 
@@ -54,40 +53,19 @@ help = filled help_rule
 abbrev pub is_flag : Text → Bool
 is_flag word = is_some (long_of word) || option_map_or has_character (short_of word) false
 
--- a long flag of no command, but for help
-abbrev pub OtherLong : Text × Option Text → Type 0
-OtherLong flag = ((bytes_eq (codes "raw") flag.0 ≡ true) × (is_some flag.1 ≡ true)) ⊎ ((bytes_eq (codes "raw") flag.0 ≡ false) × (bytes_eq (codes "format") flag.0 ≡ false))
-
-pub by_word : (word : Text) (Goal : Word → Type 0) → (long_of word ≡ Some (codes "raw", None) → Goal raw_flag)
-    → ((v : Option Text) → long_of word ≡ Some (codes "format", v) → Goal (format_flag v))
-    → ((flag : Text × Option Text) → long_of word ≡ Some flag → OtherLong flag → Goal other_flag)
-    → (long_of word ≡ None → is_flag word ≡ true → Goal other_flag)
+pub by_word : (word : Text) (Goal : Word → Type 0) → ((flag : Text × Option Text) → long_of word ≡ Some flag → Goal (long_option flag.0 flag.1))
+    → (long_of word ≡ None → is_flag word ≡ true → Goal short_flag)
     → (is_flag word ≡ false → Goal argument)
     → Goal (word_of word)
-by_word word Goal raw format other short none_of = by_long (long_of word) refl
+by_word word Goal long short none_of = by_long (long_of word) refl
   where
-    by_value : (flag : Text × Option Text) → long_of word ≡ Some flag → bytes_eq (codes "raw") flag.0 ≡ true → (v : Option Text) → flag.1 ≡ v
-        → Goal (cond (is_some v) other_flag raw_flag)
-    by_value flag is name None v = raw (is ∙ ap₂ (λ (x : Text) (y : Option Text). Some (x, y)) (sym (same_id (codes "raw") flag.0 name)) v)
-    by_value flag is name (Some t) v = other flag is (inl (name, ap is_some v))
-
-    by_format : (flag : Text × Option Text) → long_of word ≡ Some flag → bytes_eq (codes "raw") flag.0 ≡ false → (b : Bool) → bytes_eq (codes "format") flag.0 ≡ b
-        → Goal (cond b (format_flag flag.1) other_flag)
-    by_format flag is e true f = format flag.1 (is ∙ ap (λ (x : Text). Some (x, flag.1)) (sym (same_id (codes "format") flag.0 f)))
-    by_format flag is e false f = other flag is (inr (e, f))
-
-    by_raw : (flag : Text × Option Text) → long_of word ≡ Some flag → (b : Bool) → bytes_eq (codes "raw") flag.0 ≡ b
-        → Goal (cond b (cond (is_some flag.1) other_flag raw_flag) (cond (bytes_eq (codes "format") flag.0) (format_flag flag.1) other_flag))
-    by_raw flag is true e = by_value flag is e flag.1 refl
-    by_raw flag is false e = by_format flag is e (bytes_eq (codes "format") flag.0) refl
-
-    by_short : (b : Bool) → long_of word ≡ None → option_map_or has_character (short_of word) false ≡ b → Goal (cond b other_flag argument)
+    by_short : (b : Bool) → long_of word ≡ None → option_map_or has_character (short_of word) false ≡ b → Goal (cond b short_flag argument)
     by_short true none e = short none (ap₂ (λ (o : Option (Text × Option Text)) (s : Bool). is_some o || s) none e)
     by_short false none e = none_of (ap₂ (λ (o : Option (Text × Option Text)) (s : Bool). is_some o || s) none e)
 
-    by_long : (o : Option (Text × Option Text)) → long_of word ≡ o → Goal (option_map_or long_flag o (short_or_argument (short_of word)))
+    by_long : (o : Option (Text × Option Text)) → long_of word ≡ o → Goal (option_map_or (λ flag. long_option flag.0 flag.1) o (short_or_argument (short_of word)))
     by_long None none = by_short (option_map_or has_character (short_of word) false) none refl
-    by_long (Some flag) is = by_raw flag is (bytes_eq (codes "raw") flag.0) refl
+    by_long (Some flag) is = long flag is
 
 -- ---- flags
 

@@ -4,8 +4,10 @@ mod FlagLemmas
 mod FlameLemmas
 mod GivenLemmas
 mod LevelLemmas
+mod OptionLemmas
 mod PlaceLemmas
 mod ProcessLemmas
+mod QuietLemmas
 mod ReadingLemmas
 mod RowLemmas
 mod StepLemmas

@@ -15,7 +15,7 @@ use Rattle.cfi_programs.proofs.WrittenLemmas.{appends_then, beginning_then, give
 use Rattle.cfi_programs.proofs.DumpSectionWritten.{first_refused, last_written}
 use Rattle.cfi_files.specs.FileLines.{file_label, under}
 use Rattle.cfi_object.specs.FileParts.{AreLeft}
-use Rattle.cfi_files.specs.FileOutputs.{ChecksNamed, PrintsOwed}
+use Rattle.cfi_files.specs.FileOutputs.{PrintsOwed}
 use Rattle.cfi_files.specs.Findings.{ChecksSome, found_line, has_table, is_faithful}
 use Rattle.cfi_files.specs.declared.finding.Finding.{Finding}
 use Rattle.cfi_files.specs.declared.finding.Finding.TheVariants.{Unreadable}
@@ -23,7 +23,9 @@ use Rattle.cfi_files.specs.declared.request.Request.{Request}
 use Rattle.cfi_stacks.specs.CoreOutputs.{IsOwed as IsOwedOfCore}
 use Rattle.cfi_stacks.specs.ProfileOutputs.{IsListingOwed as IsOwedOfProfile}
 use Rattle.cfi_stacks.specs.declared.listing.Listing.{Listing}
-use Rattle.cfi.specs.CommandLine.{Asked, cfi_app, format_names}
+use Rattle.cfi.specs.CommandLine.{Asked, cfi_app}
+use Rattle.cfi.specs.Forms.{format_names}
+use Rattle.cfi.specs.declared.files.CheckStyle.{CheckStyle}
 use Rattle.cfi.specs.declared.flames.Summary.{Summary}
 use Rattle.cfi.specs.FlameOutputs.{path_of}
 use Rattle.cfi.specs.FlameOutputs.{IsOwed as IsOwedOfFolded}
@@ -31,7 +33,7 @@ use Rattle.cfi.specs.Findings.{greatest_status, tally_in}
 use Rattle.cfi.specs.Words.{asked}
 use Rattle.cfi_programs.specs.declared.style.Format.{Format}
 use Rattle.cfi.specs.Tasks.{of_request, task_for}
-use Rattle.cfi.specs.Process.{AreChecks, AreStacks, AreTallied, AreThreads, Checks, Disk, Ends, IsAnswer, IsAnswerTo, IsCheck, IsCheckOf, IsPrint, IsStatusAfter, IsStatusOf, IsSummary, MayOpenAt, PrintsRun, WritesChecks, disk_of, no_checks, nothing, tallied, tally_line, with_check}
+use Rattle.cfi.specs.Process.{AreChecks, AreStacks, AreTallied, AreThreads, Checks, ChecksStyled, Disk, Ends, IsAnswer, IsAnswerTo, IsCheck, IsCheckOf, IsPrint, IsStatusAfter, IsStatusOf, IsSummary, MayOpenAt, PrintsRun, WritesChecks, disk_of, kept, no_checks, nothing, tallied, tally_line, with_check}
 
 -- ---- checks one after the other
 
@@ -43,14 +45,14 @@ and_then_more : (finding : Finding) (line : List ℕ) (more second : Checks) →
 and_then_more finding line more second =
     ap (λ (lines : List ℕ). record { found = finding ∷ (more.found ++ second.found); lines = lines }) (sym (append_assoc line more.lines second.lines))
 
-checks_then : (disk : Disk) (format : Format) (names others : List Text) (first second : Checks) → AreChecks disk format names first → AreChecks disk format others second → AreChecks disk format (names ++ others) (and_then first second)
-checks_then disk format [] others first second is is' = subst (λ checks. AreChecks disk format others (and_then checks second)) (sym is) is'
-checks_then disk format (name ∷ names) others first second (finding, printed, more, one, rest, e) is' = (
+checks_then : (disk : Disk) (style : CheckStyle) (names others : List Text) (first second : Checks) → AreChecks disk style names first → AreChecks disk style others second → AreChecks disk style (names ++ others) (and_then first second)
+checks_then disk style [] others first second is is' = subst (λ checks. AreChecks disk style others (and_then checks second)) (sym is) is'
+checks_then disk style (name ∷ names) others first second (finding, printed, more, one, rest, e) is' = (
   finding,
   printed,
   and_then more second,
   one,
-  checks_then disk format names others more second rest is',
+  checks_then disk style names others more second rest is',
   ap (λ checks. and_then checks second) e ∙ sym (and_then_more finding printed.text more second),
 )
 
@@ -63,86 +65,90 @@ left_is : (known : Option (List ℕ)) → AreLeft known (unwrap_or known [])
 left_is None = tt
 left_is (Some bytes) = refl
 
-some_check_of : (disk : Disk) (format : Format) (name : Text) (opened : Option disk.Handle) → (finding : Finding) × (printed : Line) × IsCheckOf disk format name opened finding printed
-some_check_of disk format name None = (Unreadable, nothing, (refl, refl))
-some_check_of disk format name (Some file) = (
+some_check_of : (disk : Disk) (style : CheckStyle) (name : Text) (opened : Option disk.Handle) → (finding : Finding) × (printed : Line) × IsCheckOf disk style name opened finding printed
+some_check_of disk style name None = (Unreadable, nothing, (refl, refl))
+some_check_of disk style name (Some file) = (
   Unreadable,
-  under (file_label format name) (found_line format Unreadable (codes "wrong input")),
+  kept style.quiet Unreadable (under (file_label style.format name) (found_line style.format Unreadable (codes "wrong input"))),
   (
     unwrap_or (disk.bytes_of file) [],
     left_is (disk.bytes_of file),
-    (found_line format Unreadable (codes "wrong input"), inr (inr (refl, refl)), refl),
+    (
+      under (file_label style.format name) (found_line style.format Unreadable (codes "wrong input")),
+      (found_line style.format Unreadable (codes "wrong input"), inr (inr (refl, refl)), refl),
+      refl,
+    ),
   ),
 )
 
-some_check : (disk : Disk) (format : Format) → Opens disk → (name : Text) → (finding : Finding) × (printed : Line) × IsCheck disk format name finding printed
-some_check disk format opens name =
+some_check : (disk : Disk) (style : CheckStyle) → Opens disk → (name : Text) → (finding : Finding) × (printed : Line) × IsCheck disk style name finding printed
+some_check disk style opens name =
     let (opened, may) = opens name in
-    let (finding, printed, is) = some_check_of disk format name opened in
+    let (finding, printed, is) = some_check_of disk style name opened in
     (finding, printed, (opened, may, is))
 
-some_checks : (disk : Disk) (format : Format) → Opens disk → (names : List Text) → (checks : Checks) × AreChecks disk format names checks
-some_checks disk format opens [] = (no_checks, refl)
-some_checks disk format opens (name ∷ names) =
-    let (finding, printed, is) = some_check disk format opens name in
-    let (more, are) = some_checks disk format opens names in
+some_checks : (disk : Disk) (style : CheckStyle) → Opens disk → (names : List Text) → (checks : Checks) × AreChecks disk style names checks
+some_checks disk style opens [] = (no_checks, refl)
+some_checks disk style opens (name ∷ names) =
+    let (finding, printed, is) = some_check disk style opens name in
+    let (more, are) = some_checks disk style opens names in
     (with_check finding printed.text more, (finding, printed, more, is, are, refl))
 
 -- ---- the checks of the first files
 
 -- their lines were written, and this was found
-abbrev pub SoFar : Disk → Format → List Text → Option (List ℕ) → Option (List ℕ) → List Finding → Type 0
-SoFar disk format names old now found = (checks : Checks) × AreChecks disk format names checks × Appends old now checks.lines × (found ≡ checks.found)
+abbrev pub SoFar : Disk → CheckStyle → List Text → Option (List ℕ) → Option (List ℕ) → List Finding → Type 0
+SoFar disk style names old now found = (checks : Checks) × AreChecks disk style names checks × Appends old now checks.lines × (found ≡ checks.found)
 
-pub none_so_far : (disk : Disk) (format : Format) (old : Option (List ℕ)) → SoFar disk format [] old old []
-none_so_far disk format old = (no_checks, refl, none_yet old, refl)
+pub none_so_far : (disk : Disk) (style : CheckStyle) (old : Option (List ℕ)) → SoFar disk style [] old old []
+none_so_far disk style old = (no_checks, refl, none_yet old, refl)
 
-pub one_more : (E : Type 0) (disk : Disk) (format : Format) (names : List Text) (name : Text) (old mid new : Option (List ℕ)) (found : List Finding) (finding : Finding) →
-    SoFar disk format names old mid found → ChecksSome {E = E} (λ found line. IsCheck disk format name found line) mid new (Ok finding) → SoFar disk format (names ++ name ∷ []) old new (found ++ finding ∷ [])
-one_more E disk format names name old mid new found finding (checks, are, given, e) (last, printed, more, is, one) =
+pub one_more : (E : Type 0) (disk : Disk) (style : CheckStyle) (names : List Text) (name : Text) (old mid new : Option (List ℕ)) (found : List Finding) (finding : Finding) →
+    SoFar disk style names old mid found → ChecksSome {E = E} (λ found line. IsCheck disk style name found line) mid new (Ok finding) → SoFar disk style (names ++ name ∷ []) old new (found ++ finding ∷ [])
+one_more E disk style names name old mid new found finding (checks, are, given, e) (last, printed, more, is, one) =
     let P : List ℕ → Type 0 = λ xs. Appends mid new xs in (
       and_then checks (with_check last printed.text no_checks),
-      checks_then disk format names (name ∷ []) checks (with_check last printed.text no_checks) are (last, printed, no_checks, one, refl, refl),
+      checks_then disk style names (name ∷ []) checks (with_check last printed.text no_checks) are (last, printed, no_checks, one, refl, refl),
       appends_then old mid new checks.lines (printed.text ++ []) given (subst P (sym (append-nil printed.text)) more),
       ap (λ xs. xs ++ finding ∷ []) e ∙ ap (λ x. checks.found ++ x ∷ []) is,
     )
 
 -- the same by other words for the names and for what was found
-pub same_so_far : (disk : Disk) (format : Format) (names others : List Text) (old now : Option (List ℕ)) (found items : List Finding) → names ≡ others → items ≡ found → SoFar disk format others old now found → SoFar disk format names old now items
-same_so_far disk format names others old now found items e e' (checks, are, given, is) = (checks, subst (λ front. AreChecks disk format front checks) (sym e) are, given, e' ∙ is)
+pub same_so_far : (disk : Disk) (style : CheckStyle) (names others : List Text) (old now : Option (List ℕ)) (found items : List Finding) → names ≡ others → items ≡ found → SoFar disk style others old now found → SoFar disk style names old now items
+same_so_far disk style names others old now found items e e' (checks, are, given, is) = (checks, subst (λ front. AreChecks disk style front checks) (sym e) are, given, e' ∙ is)
 
 no_vector : {E A : Type 0} (r : Result (Vec Finding A) E) (Q : Vec Finding A → Type 0) → IsErr r → IfOk r Q
 no_vector (Ok v) Q err = cc
 no_vector (Err e) Q err = tt
 
 -- the line of the next one failed
-pub next_failed : {E F A : Type 0} (disk : Disk) (format : Format) → Opens disk → (names others : List Text) (name : Text) (old mid new : Option (List ℕ)) (found : List Finding) (e : E) (r : Result (Vec Finding A) F) → IsErr r →
-    SoFar disk format names old mid found → ChecksSome {E = E} (λ found line. IsCheck disk format name found line) mid new (Err e) → WritesChecks disk format (names ++ name ∷ others) old new r
-next_failed disk format opens names others name old mid new found e r err (checks, are, given, _) (last, printed, begun, _, one) =
-    let (after, more) = some_checks disk format opens others in
+pub next_failed : {E F A : Type 0} (disk : Disk) (style : CheckStyle) → Opens disk → (names others : List Text) (name : Text) (old mid new : Option (List ℕ)) (found : List Finding) (e : E) (r : Result (Vec Finding A) F) → IsErr r →
+    SoFar disk style names old mid found → ChecksSome {E = E} (λ found line. IsCheck disk style name found line) mid new (Err e) → WritesChecks disk style (names ++ name ∷ others) old new r
+next_failed disk style opens names others name old mid new found e r err (checks, are, given, _) (last, printed, begun, _, one) =
+    let (after, more) = some_checks disk style opens others in
     let rest : Checks = with_check last printed.text after in
     let all : Checks = and_then checks rest in (
       all,
-      checks_then disk format names (name ∷ others) checks rest are (last, printed, after, one, more, refl),
+      checks_then disk style names (name ∷ others) checks rest are (last, printed, after, one, more, refl),
       writes_refused old new r all.lines err
           (beginning_then old mid new printed.text after.lines all.lines (record { front = checks.lines; given = given; whole = refl }) begun),
       no_vector r (λ found. found.items ≡ all.found) err,
     )
 
 -- memory was refused
-pub stopped : {F A : Type 0} (disk : Disk) (format : Format) → Opens disk → (names others : List Text) (old new : Option (List ℕ)) (found : List Finding) (r : Result (Vec Finding A) F) → IsErr r →
-    SoFar disk format names old new found → WritesChecks disk format (names ++ others) old new r
-stopped disk format opens names others old new found r err (checks, are, given, _) =
-    let (after, more) = some_checks disk format opens others in
+pub stopped : {F A : Type 0} (disk : Disk) (style : CheckStyle) → Opens disk → (names others : List Text) (old new : Option (List ℕ)) (found : List Finding) (r : Result (Vec Finding A) F) → IsErr r →
+    SoFar disk style names old new found → WritesChecks disk style (names ++ others) old new r
+stopped disk style opens names others old new found r err (checks, are, given, _) =
+    let (after, more) = some_checks disk style opens others in
     let all : Checks = and_then checks after in (
       all,
-      checks_then disk format names others checks after are more,
+      checks_then disk style names others checks after are more,
       writes_refused old new r all.lines err (given_part old new after.lines all.lines (record { front = checks.lines; given = given; whole = refl })),
       no_vector r (λ found. found.items ≡ all.found) err,
     )
 
-pub finished : {A : Type 0} (E : Type 0) (disk : Disk) (format : Format) (names : List Text) (old now : Option (List ℕ)) (found : Vec Finding A) → SoFar disk format names old now found.items → WritesChecks {E = E} disk format names old now (Ok found)
-finished E disk format names old now found (checks, are, given, e) = (checks, are, given, e)
+pub finished : {A : Type 0} (E : Type 0) (disk : Disk) (style : CheckStyle) (names : List Text) (old now : Option (List ℕ)) (found : Vec Finding A) → SoFar disk style names old now found.items → WritesChecks {E = E} disk style names old now (Ok found)
+finished E disk style names old now found (checks, are, given, e) = (checks, are, given, e)
 
 -- ---- the names of the first files
 
@@ -170,12 +176,12 @@ printed_of disk name request file old new r may (bytes, left, (printed, prints, 
 pub nothing_printed : (E : Type 0) (disk : Disk) (name : Text) (request : Request) (old : Option (List ℕ)) → disk.MayOpen name None → PrintsSome {E = E} (λ line. IsPrint disk name (of_request request) line) old old (Ok 2)
 nothing_printed E disk name request old may = (nothing, (none_yet old, refl), (None, may, refl))
 
-pub checked_of : {E : Type 0} (disk : Disk) (format : Format) (name : Text) (file : disk.Handle) (old new : Option (List ℕ)) (r : Result Finding E) → disk.MayOpen name (Some file) →
-    ChecksNamed format name (disk.bytes_of file) old new r → ChecksSome (λ finding line. IsCheck disk format name finding line) old new r
-checked_of disk format name file old new r may (bytes, left, (finding, printed, writes, found, is)) = (finding, printed, writes, found, (Some file, may, (bytes, left, is)))
+pub checked_of : {E : Type 0} (disk : Disk) (style : CheckStyle) (name : Text) (file : disk.Handle) (old new : Option (List ℕ)) (r : Result Finding E) → disk.MayOpen name (Some file) →
+    ChecksStyled style name (disk.bytes_of file) old new r → ChecksSome (λ finding line. IsCheck disk style name finding line) old new r
+checked_of disk style name file old new r may (bytes, left, (finding, printed, writes, found, is)) = (finding, printed, writes, found, (Some file, may, (bytes, left, is)))
 
-pub unreadable : (E : Type 0) (disk : Disk) (format : Format) (name : Text) (old : Option (List ℕ)) → disk.MayOpen name None → ChecksSome {E = E} (λ finding line. IsCheck disk format name finding line) old old (Ok Unreadable)
-unreadable E disk format name old may = (Unreadable, nothing, none_yet old, refl, (None, may, (refl, refl)))
+pub unreadable : (E : Type 0) (disk : Disk) (style : CheckStyle) (name : Text) (old : Option (List ℕ)) → disk.MayOpen name None → ChecksSome {E = E} (λ finding line. IsCheck disk style name finding line) old old (Ok Unreadable)
+unreadable E disk style name old may = (Unreadable, nothing, none_yet old, refl, (None, may, (refl, refl)))
 
 pub stacks_of : {E : Type 0} (disk : Disk) (listing : Listing) (name : Text) (file : disk.Handle) (old new : Option (List ℕ)) (r : Result ℕ E) → disk.MayOpen name (Some file) →
     ((bytes : List ℕ) × AreLeft (disk.bytes_of file) bytes × PrintsSome (λ line. IsOwedOfProfile listing (MayOpenAt disk) disk.bytes_of bytes line) old new r) → PrintsSome (λ line. AreStacks disk listing name line) old new r
@@ -204,12 +210,12 @@ pub tally_is : (format : Format) (found items : List Finding) (files tables fait
     tally_in format files tables faithful ++ 10 ∷ [] ≡ tally_line format found
 tally_is format found items files tables faithful e f t h = rw (f, t, h, e) refl
 
-pub counted : {E A : Type 0} (F : Type 0) (disk : Disk) (format : Format) (names : List Text) (old mid new : Option (List ℕ)) (found : Vec Finding A) (r : Result ℕ E) → WritesChecks {E = F} disk format names old mid (Ok found) →
-    Writes mid new r (tally_line format found.items) → IfOk r (λ status. status ≡ greatest_status found.items) → PrintsSome (λ line. AreTallied disk format names line) old new r
-counted F disk format names old mid new found r (checks, are, given, e) more status = (
-  tallied format checks,
+pub counted : {E A : Type 0} (F : Type 0) (disk : Disk) (style : CheckStyle) (names : List Text) (old mid new : Option (List ℕ)) (found : Vec Finding A) (r : Result ℕ E) → WritesChecks {E = F} disk style names old mid (Ok found) →
+    Writes mid new r (tally_line style.format found.items) → IfOk r (λ status. status ≡ greatest_status found.items) → PrintsSome (λ line. AreTallied disk style names line) old new r
+counted F disk style names old mid new found r (checks, are, given, e) more status = (
+  tallied style checks,
   (
-    last_written old mid new r checks.lines (tally_line format checks.found) given (subst (λ (items : List Finding). Writes mid new r (tally_line format items)) e more),
+    last_written old mid new r checks.lines (tally_line style.format checks.found) given (subst (λ (items : List Finding). Writes mid new r (tally_line style.format items)) e more),
     subst (λ (items : List Finding). IfOk r (λ status. status ≡ greatest_status items)) e status,
   ),
   (checks, are, refl),
@@ -219,11 +225,11 @@ pub no_status : {E : Type 0} (r : Result ℕ E) (Q : ℕ → Type 0) → IsErr r
 no_status (Ok n) Q err = cc
 no_status (Err e) Q err = tt
 
-pub uncounted : {E F : Type 0} (A : Type 0) (disk : Disk) (format : Format) (names : List Text) (old new : Option (List ℕ)) (e : F) (r : Result ℕ E) → IsErr r → WritesChecks {A = A} disk format names old new (Err e) →
-    PrintsSome (λ line. AreTallied disk format names line) old new r
-uncounted A disk format names old new e r err (checks, are, begun, _) = (
-  tallied format checks,
-  (first_refused old new r checks.lines (tally_line format checks.found) err begun, no_status r (λ status. status ≡ (tallied format checks).status) err),
+pub uncounted : {E F : Type 0} (A : Type 0) (disk : Disk) (style : CheckStyle) (names : List Text) (old new : Option (List ℕ)) (e : F) (r : Result ℕ E) → IsErr r → WritesChecks {A = A} disk style names old new (Err e) →
+    PrintsSome (λ line. AreTallied disk style names line) old new r
+uncounted A disk style names old new e r err (checks, are, begun, _) = (
+  tallied style checks,
+  (first_refused old new r checks.lines (tally_line style.format checks.found) err begun, no_status r (λ status. status ≡ (tallied style checks).status) err),
   (checks, are, refl),
 )
 

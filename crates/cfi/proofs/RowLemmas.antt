@@ -120,7 +120,7 @@ gives id v vs rows now has = λ other. go other (bytes_eq id other) refl
         subst (λ t. at_id t (with_values id AsWritten CommandLine (v ∷ vs) rows) ≡ line t (now t ++ v ∷ vs)) (same_id id other is) (here (now id) (has id))
     go other false apart = other_row id other AsWritten CommandLine (v ∷ vs) rows apart ∙ has other
 
-has_row_is : (id : Text) (rows : List Row) → has_row id rows ≡ is_some (at_id id rows)
+pub has_row_is : (id : Text) (rows : List Row) → has_row id rows ≡ is_some (at_id id rows)
 has_row_is id [] = refl
 has_row_is id (r ∷ rs) = go (bytes_eq r.id id) (has_row_is id rs)
   where

@@ -1,21 +1,42 @@
 -- What clap makes of all words, beside what they ask for.
-use Rattle.std.proofs.Common.{◌≡◌, ◌∙◌, ◌≤◌, ◌⊎◌, ◌||◌, Bool, true, false, refl, sym, ap, ap₂, subst, inl, inr, cond, arith, codes, map, nat_eq, is_some, List, [], ◌∷◌, ◌++◌, append-nil, append_assoc, length, Option, Some, None, IsSome, true≢false}
-use Rattle.std.specs.List.{fold}
-use Rattle.std.specs.Option.{option_and_then, option_map}
+use Rattle.std.proofs.Common.{◌≡◌, ◌∙◌, ◌≤◌, ◌⊎◌, ◌&&◌, ◌||◌, Bool, true, false, refl, sym, ap, ap₂, subst, inl, inr, cond, arith, codes, map, nat_eq, is_some, List, [], ◌∷◌, ◌++◌, append-nil, append_assoc, length, Option, Some, None, IsSome, true≢false}
+use Rattle.std.specs.List.{find, fold, list_all}
+use Rattle.std.specs.Option.{option_and_then, option_map, option_map_or, unwrap_or}
 use Rattle.std.specs.Borrow.{Bor}
 use Rattle.std.specs.Str.{bytes_eq}
 use Rattle.clap.specs.Lexer.{usize_max}
-use Rattle.clap.specs.Walk.{Held, Names, Rule, Step, Text, Walk, arg_by_long, arg_by_short, finished, idle, nothing_held, reacted, rows_after, settled, subcommand_met, walk, walk_from, walked, word_met}
-use Rattle.clap.specs.Simple.{App, Shape, built, entered, filled, names_of, version_rule}
+use Rattle.clap.specs.Walk.{Held, Names, Rule, Step, Text, Walk, answers_to, arg_by_long, arg_by_short, finished, idle, nothing_held, reacted, rows_after, settled, subcommand_met, walk, walk_from, walked, word_met}
+use Rattle.clap.specs.Simple.{App, Shape, built, built_leaf, entered, filled, help_shape, label_of, names_of, rows_at, version_rule}
 use Rattle.clap.specs.Kinds.{HasKind, Kinds, or_else}
 use Rattle.clap.specs.Values.{kind_of}
 use Rattle.clap.specs.declared.error.Error.{Error}
 use Rattle.clap.specs.Faults.{check_fault, defaults_fault, entered_fault, fault_of, level_fault, long_fault, settle_fault, short_fault, step_fault, turn_fault, walk_fault, word_fault}
 use Rattle.clap.specs.declared.error.kind.ErrorKind.TheVariants.{DisplayVersion, InvalidSubcommand, OutOfMemory, UnknownArgument}
-use Rattle.cfi.specs.CommandLine.{Asked, asked_by, asked_of, cfi_app, check_app, dump_app, flame_app, fold_app, format_names, report_app, row_app, rows_app, stack_app, table_app, unwind_app}
-use Rattle.cfi.specs.Words.{Given, asked, check_of, dump_of, flame_of, fold_of, given, nothing, report_of, row_of, rows_of, stack_of, table_of, unwind_of}
+use Rattle.cfi.specs.CommandLine.{Asked, asked_by, asked_of, cfi_app}
+use Rattle.cfi.specs.Forms.{Form, form_named, format_names, forms}
+use Rattle.cfi.specs.Words.{asked, asked_in_form}
 use Rattle.cfi.proofs.FlagLemmas.{IsFault, fault_first, fault_next, flag_fails, held, help, is_flag, long_refused, no_fault, or_else-nil, plain_is_value, short_refused, value_met, value_passes}
-use Rattle.cfi.proofs.LevelLemmas.{Level, check_leaf, dump_leaf, file_and_more, file_and_one, files, flame_leaf, fold_leaf, leaf, level, one_file, report_leaf, row_leaf, rows_leaf, stack_leaf, table_leaf, unwind_leaf}
+use Rattle.cfi.proofs.LevelLemmas.{Fine, Level, fine, is_fine, leaf, level}
+use Rattle.cfi.proofs.RowLemmas.{same_id, some≢none}
+
+-- ---- what a search finds
+
+found_test : {X : Type 0} (test : X → Bool) (xs : List X) (x : X) → find test xs ≡ Some x → test x ≡ true
+found_test test [] x e = absurd (some≢none x (sym e))
+found_test test (y ∷ ys) x e = go (test y) refl e (found_test test ys x)
+  where
+    go : (b : Bool) → test y ≡ b → cond b (Some y) (find test ys) ≡ Some x → (find test ys ≡ Some x → test x ≡ true) → test x ≡ true
+    go true is e after = ap (λ s. test (unwrap_or s y)) (sym e) ∙ is
+    go false is e after = after e
+
+found_all : {X : Type 0} (p test : X → Bool) (xs : List X) (x : X) → list_all p xs ≡ true → find test xs ≡ Some x → p x ≡ true
+found_all p test [] x all e = absurd (some≢none x (sym e))
+found_all p test (y ∷ ys) x all e = go (p y) (test y) refl all e (found_all p test ys x)
+  where
+    go : (b c : Bool) → p y ≡ b → (b && list_all p ys) ≡ true → cond c (Some y) (find test ys) ≡ Some x → (list_all p ys ≡ true → find test ys ≡ Some x → p x ≡ true) → p x ≡ true
+    go false c is all e after = absurd (true≢false (sym all))
+    go true true is all e after = ap (λ s. p (unwrap_or s y)) (sym e) ∙ is
+    go true false is all e after = after all e
 
 -- ---- the flags of the top command: help and version
 
@@ -105,84 +126,69 @@ module _ (formats : Bor (List (Bor Text))) (are : map (λ name. name.now) format
   judged s name words rest None is l = subst IsFault (sym is.0) l
   judged s name words rest (Some asked) is l = (is.0 ∙ l.0, is.1 ∙ ap Some l.1)
 
-  row_is : (program word : Text) (rest : List Text) → subcommand_met names idle word ≡ Some (codes "row") → IsOf (leaf formats (row_app formats)) (codes "row") (program ∷ word ∷ rest) rest
-  unfolding defaults_fault
-  row_is program word rest met =
-      let e = enters (codes "row") word rest met refl in (
-        ap₂ fault_by e.0 e.1 ∙ or_else-nil (level_fault (leaf formats (row_app formats)) [] nothing_held rest false []),
-        ap (λ (w : Walk). option_map asked_of (entered cfi_built w.stopped)) e.1,
-      )
+  -- ---- the commands by their names
 
-  rows_is : (program word : Text) (rest : List Text) → subcommand_met names idle word ≡ Some (codes "rows") → IsOf (leaf formats (rows_app formats)) (codes "rows") (program ∷ word ∷ rest) rest
-  unfolding defaults_fault
-  rows_is program word rest met =
-      let e = enters (codes "rows") word rest met refl in (
-        ap₂ fault_by e.0 e.1 ∙ or_else-nil (level_fault (leaf formats (rows_app formats)) [] nothing_held rest false []),
-        ap (λ (w : Walk). option_map asked_of (entered cfi_built w.stopped)) e.1,
-      )
+  abbrev help_label : Text × List Text
+  help_label = (codes "help", [])
 
-  dump_is : (program word : Text) (rest : List Text) → subcommand_met names idle word ≡ Some (codes "dump") → IsOf (leaf formats dump_app) (codes "dump") (program ∷ word ∷ rest) rest
-  unfolding defaults_fault
-  dump_is program word rest met =
-      let e = enters (codes "dump") word rest met refl in (
-        ap₂ fault_by e.0 e.1 ∙ or_else-nil (level_fault (leaf formats dump_app) [] nothing_held rest false []),
-        ap (λ (w : Walk). option_map asked_of (entered cfi_built w.stopped)) e.1,
-      )
+  label_in : (fs : List Form) (more : Names) (word : Text) → find (answers_to word) (map (λ f. label_of (leaf formats f)) fs ++ more)
+      ≡ option_map_or (λ (f : Form). Some (f.name, [])) (form_named fs word) (find (answers_to word) more)
+  label_in [] more word = refl
+  label_in (f ∷ fs) more word = go (bytes_eq f.name word) (label_in fs more word)
+    where
+      go : (b : Bool) → find (answers_to word) (map (λ f. label_of (leaf formats f)) fs ++ more) ≡ option_map_or (λ (f : Form). Some (f.name, [])) (form_named fs word) (find (answers_to word) more)
+          → cond (b || false) (Some (label_of (leaf formats f))) (find (answers_to word) (map (λ f. label_of (leaf formats f)) fs ++ more))
+          ≡ option_map_or (λ (f : Form). Some (f.name, [])) (cond b (Some f) (form_named fs word)) (find (answers_to word) more)
+      go true e = refl
+      go false e = e
 
-  check_is : (program word : Text) (rest : List Text) → subcommand_met names idle word ≡ Some (codes "check") → IsOf (leaf formats (check_app formats)) (codes "check") (program ∷ word ∷ rest) rest
-  unfolding defaults_fault
-  check_is program word rest met =
-      let e = enters (codes "check") word rest met refl in (
-        ap₂ fault_by e.0 e.1 ∙ or_else-nil (level_fault (leaf formats (check_app formats)) [] nothing_held rest false []),
-        ap (λ (w : Walk). option_map asked_of (entered cfi_built w.stopped)) e.1,
-      )
+  leaf_in : (fs : List Form) (more : List Shape) (name : Text) → find (λ s. answers_to name (label_of s)) (map (leaf formats) fs ++ more)
+      ≡ option_map_or (λ (f : Form). Some (leaf formats f)) (form_named fs name) (find (λ s. answers_to name (label_of s)) more)
+  leaf_in [] more name = refl
+  leaf_in (f ∷ fs) more name = go (bytes_eq f.name name) (leaf_in fs more name)
+    where
+      go : (b : Bool) → find (λ s. answers_to name (label_of s)) (map (leaf formats) fs ++ more) ≡ option_map_or (λ (f : Form). Some (leaf formats f)) (form_named fs name) (find (λ s. answers_to name (label_of s)) more)
+          → cond (b || false) (Some (leaf formats f)) (find (λ s. answers_to name (label_of s)) (map (leaf formats) fs ++ more))
+          ≡ option_map_or (λ (f : Form). Some (leaf formats f)) (cond b (Some f) (form_named fs name)) (find (λ s. answers_to name (label_of s)) more)
+      go true e = refl
+      go false e = e
 
-  table_is : (program word : Text) (rest : List Text) → subcommand_met names idle word ≡ Some (codes "table") → IsOf (leaf formats table_app) (codes "table") (program ∷ word ∷ rest) rest
-  unfolding defaults_fault
-  table_is program word rest met =
-      let e = enters (codes "table") word rest met refl in (
-        ap₂ fault_by e.0 e.1 ∙ or_else-nil (level_fault (leaf formats table_app) [] nothing_held rest false []),
-        ap (λ (w : Walk). option_map asked_of (entered cfi_built w.stopped)) e.1,
-      )
+  met_by : (word : Text) (o : Option Form) → form_named forms word ≡ o
+      → subcommand_met names idle word ≡ option_map (λ s. s.0) (option_map_or (λ (f : Form). Some (f.name, [])) o (find (answers_to word) (help_label ∷ [])))
+  met_by word o e = ap (option_map (λ s. s.0)) (label_in forms (help_label ∷ []) word ∙ ap (λ (x : Option Form). option_map_or (λ (f : Form). Some (f.name, [])) x (find (answers_to word) (help_label ∷ []))) e)
 
-  unwind_is : (program word : Text) (rest : List Text) → subcommand_met names idle word ≡ Some (codes "unwind") → IsOf (leaf formats unwind_app) (codes "unwind") (program ∷ word ∷ rest) rest
-  unfolding defaults_fault
-  unwind_is program word rest met =
-      let e = enters (codes "unwind") word rest met refl in (
-        ap₂ fault_by e.0 e.1 ∙ or_else-nil (level_fault (leaf formats unwind_app) [] nothing_held rest false []),
-        ap (λ (w : Walk). option_map asked_of (entered cfi_built w.stopped)) e.1,
-      )
+  none_met : (word : Text) (b : Bool) → form_named forms word ≡ None → bytes_eq (codes "help") word ≡ b
+      → subcommand_met names idle word ≡ option_map (λ s. s.0) (cond (b || false) (Some help_label) None)
+  none_met word b none e = met_by word None none ∙ ap (λ (b : Bool). option_map (λ s. s.0) (cond (b || false) (Some help_label) None)) e
 
-  stack_is : (program word : Text) (rest : List Text) → subcommand_met names idle word ≡ Some (codes "stack") → IsOf (leaf formats stack_app) (codes "stack") (program ∷ word ∷ rest) rest
-  unfolding defaults_fault
-  stack_is program word rest met =
-      let e = enters (codes "stack") word rest met refl in (
-        ap₂ fault_by e.0 e.1 ∙ or_else-nil (level_fault (leaf formats stack_app) [] nothing_held rest false []),
-        ap (λ (w : Walk). option_map asked_of (entered cfi_built w.stopped)) e.1,
-      )
+  fine_form : (word : Text) (f : Form) → form_named forms word ≡ Some f → Fine f
+  fine_form word f e = fine f (found_all is_fine (λ x. bytes_eq x.name word) forms f refl e)
 
-  flame_is : (program word : Text) (rest : List Text) → subcommand_met names idle word ≡ Some (codes "flame") → IsOf (leaf formats flame_app) (codes "flame") (program ∷ word ∷ rest) rest
-  unfolding defaults_fault
-  flame_is program word rest met =
-      let e = enters (codes "flame") word rest met refl in (
-        ap₂ fault_by e.0 e.1 ∙ or_else-nil (level_fault (leaf formats flame_app) [] nothing_held rest false []),
-        ap (λ (w : Walk). option_map asked_of (entered cfi_built w.stopped)) e.1,
-      )
+  abbrev help_built : Shape
+  help_built = built_leaf help_shape
 
-  report_is : (program word : Text) (rest : List Text) → subcommand_met names idle word ≡ Some (codes "report") → IsOf (leaf formats report_app) (codes "report") (program ∷ word ∷ rest) rest
-  unfolding defaults_fault
-  report_is program word rest met =
-      let e = enters (codes "report") word rest met refl in (
-        ap₂ fault_by e.0 e.1 ∙ or_else-nil (level_fault (leaf formats report_app) [] nothing_held rest false []),
-        ap (λ (w : Walk). option_map asked_of (entered cfi_built w.stopped)) e.1,
-      )
+  -- the command of clap that is entered
+  abbrev entered_by : Text → Option Shape
+  entered_by name = find (λ s. answers_to name (label_of s)) cfi_built.subs
 
-  fold_is : (program word : Text) (rest : List Text) → subcommand_met names idle word ≡ Some (codes "fold") → IsOf (leaf formats fold_app) (codes "fold") (program ∷ word ∷ rest) rest
+  entered_is : (word : Text) (f : Form) → form_named forms word ≡ Some f → entered_by f.name ≡ Some (leaf formats f)
+  entered_is word f e =
+      let own : form_named forms f.name ≡ Some f = ap (form_named forms) (same_id f.name word (found_test (λ x. bytes_eq x.name word) forms f e)) ∙ e in
+      leaf_in forms (help_built ∷ []) f.name ∙ ap (λ (x : Option Form). option_map_or (λ (f : Form). Some (leaf formats f)) x (find (λ s. answers_to f.name (label_of s)) (help_built ∷ []))) own
+
+  abbrev after_found : List Text → Option Shape → Kinds
+  after_found rest k =
+      or_else (option_map_or (λ s. level_fault s [] nothing_held rest false []) k []) (or_else (settle_fault top.rules top.args_override_self nothing_held)
+      (or_else (defaults_fault (settled top.rules nothing_held).rows top.rules)
+      (check_fault top (finished top.rules nothing_held) (is_some (option_map (λ s. rows_at s rest) k)))))
+
+  form_is : (program word : Text) (rest : List Text) (f : Form) → form_named forms word ≡ Some f → IsOf (leaf formats f) f.name (program ∷ word ∷ rest) rest
   unfolding defaults_fault
-  fold_is program word rest met =
-      let e = enters (codes "fold") word rest met refl in (
-        ap₂ fault_by e.0 e.1 ∙ or_else-nil (level_fault (leaf formats fold_app) [] nothing_held rest false []),
-        ap (λ (w : Walk). option_map asked_of (entered cfi_built w.stopped)) e.1,
+  form_is program word rest f is =
+      let e = enters f.name word rest (met_by word (Some f) is) (fine_form word f is).other in
+      let found = entered_is word f is in (
+        ap₂ fault_by e.0 e.1 ∙ ap (after_found rest) found ∙ or_else-nil (level_fault (leaf formats f) [] nothing_held rest false []),
+        ap (λ (w : Walk). option_map asked_of (entered cfi_built w.stopped)) e.1 ∙ ap (λ (k : Option Shape). option_map asked_of (option_map (λ s. rows_at s rest) k)) found,
       )
 
   -- ---- none is named
@@ -251,89 +257,16 @@ module _ (formats : Bor (List (Bor Text))) (are : map (λ name. name.now) format
   unfolding defaults_fault walk_fault
   judge [] fits = tt {0}
   judge (program ∷ []) fits = tt {0}
-  judge (program ∷ word ∷ rest) fits = by_row (bytes_eq (codes "row") word) refl
+  judge (program ∷ word ∷ rest) fits = by_form (form_named forms word) refl
     where
-      few : length rest ≤ usize_max
-      few = omega arith
+      by_help : (b : Bool) → form_named forms word ≡ None → bytes_eq (codes "help") word ≡ b → IsFault (fault_of (cfi_app formats) (program ∷ word ∷ rest))
+      by_help true none e = help_fails program word rest (none_met word true none e)
+      by_help false none e = unknown program word rest (none_met word false none e)
 
-      none_named : (o : Option Given) → IsFault (fault_of (cfi_app formats) (program ∷ word ∷ rest)) → Judged (program ∷ word ∷ rest) (option_and_then (λ values. None) o)
-      none_named None h = h
-      none_named (Some values) h = h
-
-      by_help : (b : Bool) → bytes_eq (codes "row") word ≡ false → bytes_eq (codes "rows") word ≡ false → bytes_eq (codes "dump") word ≡ false → bytes_eq (codes "check") word ≡ false → bytes_eq (codes "table") word ≡ false
-          → bytes_eq (codes "unwind") word ≡ false → bytes_eq (codes "stack") word ≡ false → bytes_eq (codes "flame") word ≡ false → bytes_eq (codes "report") word ≡ false → bytes_eq (codes "fold") word ≡ false → bytes_eq (codes "help") word ≡ b → IsFault (fault_of (cfi_app formats) (program ∷ word ∷ rest))
-      by_help true e0 e1 e2 e3 e4 e5 e6 e7 e8 e9 e = help_fails program word rest (rw (e0, e1, e2, e3, e4, e5, e6, e7, e8, e9, e) refl)
-      by_help false e0 e1 e2 e3 e4 e5 e6 e7 e8 e9 e = unknown program word rest (rw (e0, e1, e2, e3, e4, e5, e6, e7, e8, e9, e) refl)
-
-      by_fold : (b : Bool) → bytes_eq (codes "row") word ≡ false → bytes_eq (codes "rows") word ≡ false → bytes_eq (codes "dump") word ≡ false → bytes_eq (codes "check") word ≡ false → bytes_eq (codes "table") word ≡ false
-          → bytes_eq (codes "unwind") word ≡ false → bytes_eq (codes "stack") word ≡ false → bytes_eq (codes "flame") word ≡ false → bytes_eq (codes "report") word ≡ false → bytes_eq (codes "fold") word ≡ b → Judged (program ∷ word ∷ rest) (option_and_then (λ values. cond b (fold_of values) None) (given false nothing rest))
-      by_fold true e0 e1 e2 e3 e4 e5 e6 e7 e8 e =
-          judged (leaf formats fold_app) (codes "fold") (program ∷ word ∷ rest) rest (option_and_then fold_of (given false nothing rest)) (fold_is program word rest (rw (e0, e1, e2, e3, e4, e5, e6, e7, e8, e) refl))
-          (level formats are (leaf formats fold_app) (codes "fold") rest one_file fold_of (fold_leaf formats) (refl, refl) few)
-      by_fold false e0 e1 e2 e3 e4 e5 e6 e7 e8 e = none_named (given false nothing rest) (by_help (bytes_eq (codes "help") word) e0 e1 e2 e3 e4 e5 e6 e7 e8 e refl)
-
-      by_report : (b : Bool) → bytes_eq (codes "row") word ≡ false → bytes_eq (codes "rows") word ≡ false → bytes_eq (codes "dump") word ≡ false → bytes_eq (codes "check") word ≡ false → bytes_eq (codes "table") word ≡ false
-          → bytes_eq (codes "unwind") word ≡ false → bytes_eq (codes "stack") word ≡ false → bytes_eq (codes "flame") word ≡ false → bytes_eq (codes "report") word ≡ b → Judged (program ∷ word ∷ rest) (option_and_then (λ values. cond b (report_of values) (cond (bytes_eq (codes "fold") word) (fold_of values) None)) (given false nothing rest))
-      by_report true e0 e1 e2 e3 e4 e5 e6 e7 e =
-          judged (leaf formats report_app) (codes "report") (program ∷ word ∷ rest) rest (option_and_then report_of (given false nothing rest)) (report_is program word rest (rw (e0, e1, e2, e3, e4, e5, e6, e7, e) refl))
-          (level formats are (leaf formats report_app) (codes "report") rest one_file report_of (report_leaf formats) (refl, refl) few)
-      by_report false e0 e1 e2 e3 e4 e5 e6 e7 e = by_fold (bytes_eq (codes "fold") word) e0 e1 e2 e3 e4 e5 e6 e7 e refl
-
-      by_flame : (b : Bool) → bytes_eq (codes "row") word ≡ false → bytes_eq (codes "rows") word ≡ false → bytes_eq (codes "dump") word ≡ false → bytes_eq (codes "check") word ≡ false → bytes_eq (codes "table") word ≡ false
-          → bytes_eq (codes "unwind") word ≡ false → bytes_eq (codes "stack") word ≡ false → bytes_eq (codes "flame") word ≡ b → Judged (program ∷ word ∷ rest) (option_and_then (λ values. cond b (flame_of values) (cond (bytes_eq (codes "report") word) (report_of values) (cond (bytes_eq (codes "fold") word) (fold_of values) None))) (given false nothing rest))
-      by_flame true e0 e1 e2 e3 e4 e5 e6 e =
-          judged (leaf formats flame_app) (codes "flame") (program ∷ word ∷ rest) rest (option_and_then flame_of (given false nothing rest)) (flame_is program word rest (rw (e0, e1, e2, e3, e4, e5, e6, e) refl))
-          (level formats are (leaf formats flame_app) (codes "flame") rest one_file flame_of (flame_leaf formats) (refl, refl) few)
-      by_flame false e0 e1 e2 e3 e4 e5 e6 e = by_report (bytes_eq (codes "report") word) e0 e1 e2 e3 e4 e5 e6 e refl
-
-      by_stack : (b : Bool) → bytes_eq (codes "row") word ≡ false → bytes_eq (codes "rows") word ≡ false → bytes_eq (codes "dump") word ≡ false → bytes_eq (codes "check") word ≡ false → bytes_eq (codes "table") word ≡ false
-          → bytes_eq (codes "unwind") word ≡ false → bytes_eq (codes "stack") word ≡ b → Judged (program ∷ word ∷ rest) (option_and_then (λ values. cond b (stack_of values) (cond (bytes_eq (codes "flame") word) (flame_of values) (cond (bytes_eq (codes "report") word) (report_of values) (cond (bytes_eq (codes "fold") word) (fold_of values) None)))) (given false nothing rest))
-      by_stack true e0 e1 e2 e3 e4 e5 e =
-          judged (leaf formats stack_app) (codes "stack") (program ∷ word ∷ rest) rest (option_and_then stack_of (given false nothing rest)) (stack_is program word rest (rw (e0, e1, e2, e3, e4, e5, e) refl))
-          (level formats are (leaf formats stack_app) (codes "stack") rest one_file stack_of (stack_leaf formats) (refl, refl) few)
-      by_stack false e0 e1 e2 e3 e4 e5 e = by_flame (bytes_eq (codes "flame") word) e0 e1 e2 e3 e4 e5 e refl
-
-      by_unwind : (b : Bool) → bytes_eq (codes "row") word ≡ false → bytes_eq (codes "rows") word ≡ false → bytes_eq (codes "dump") word ≡ false → bytes_eq (codes "check") word ≡ false → bytes_eq (codes "table") word ≡ false
-          → bytes_eq (codes "unwind") word ≡ b → Judged (program ∷ word ∷ rest) (option_and_then (λ values. cond b (unwind_of values) (cond (bytes_eq (codes "stack") word) (stack_of values) (cond (bytes_eq (codes "flame") word) (flame_of values) (cond (bytes_eq (codes "report") word) (report_of values) (cond (bytes_eq (codes "fold") word) (fold_of values) None))))) (given false nothing rest))
-      by_unwind true e0 e1 e2 e3 e4 e =
-          judged (leaf formats unwind_app) (codes "unwind") (program ∷ word ∷ rest) rest (option_and_then unwind_of (given false nothing rest)) (unwind_is program word rest (rw (e0, e1, e2, e3, e4, e) refl))
-          (level formats are (leaf formats unwind_app) (codes "unwind") rest one_file unwind_of (unwind_leaf formats) (refl, refl) few)
-      by_unwind false e0 e1 e2 e3 e4 e = by_stack (bytes_eq (codes "stack") word) e0 e1 e2 e3 e4 e refl
-
-      by_table : (b : Bool) → bytes_eq (codes "row") word ≡ false → bytes_eq (codes "rows") word ≡ false → bytes_eq (codes "dump") word ≡ false → bytes_eq (codes "check") word ≡ false → bytes_eq (codes "table") word ≡ b
-          → Judged (program ∷ word ∷ rest) (option_and_then (λ values. cond b (table_of values) (cond (bytes_eq (codes "unwind") word) (unwind_of values) (cond (bytes_eq (codes "stack") word) (stack_of values) (cond (bytes_eq (codes "flame") word) (flame_of values) (cond (bytes_eq (codes "report") word) (report_of values) (cond (bytes_eq (codes "fold") word) (fold_of values) None)))))) (given false nothing rest))
-      by_table true e0 e1 e2 e3 e =
-          judged (leaf formats table_app) (codes "table") (program ∷ word ∷ rest) rest (option_and_then table_of (given false nothing rest)) (table_is program word rest (rw (e0, e1, e2, e3, e) refl))
-          (level formats are (leaf formats table_app) (codes "table") rest one_file table_of (table_leaf formats) (refl, refl) few)
-      by_table false e0 e1 e2 e3 e = by_unwind (bytes_eq (codes "unwind") word) e0 e1 e2 e3 e refl
-
-      by_check : (b : Bool) → bytes_eq (codes "row") word ≡ false → bytes_eq (codes "rows") word ≡ false → bytes_eq (codes "dump") word ≡ false → bytes_eq (codes "check") word ≡ b
-          → Judged (program ∷ word ∷ rest) (option_and_then (λ values. cond b (check_of values) (cond (bytes_eq (codes "table") word) (table_of values) (cond (bytes_eq (codes "unwind") word) (unwind_of values) (cond (bytes_eq (codes "stack") word) (stack_of values) (cond (bytes_eq (codes "flame") word) (flame_of values) (cond (bytes_eq (codes "report") word) (report_of values) (cond (bytes_eq (codes "fold") word) (fold_of values) None))))))) (given false nothing rest))
-      by_check true e0 e1 e2 e =
-          judged (leaf formats (check_app formats)) (codes "check") (program ∷ word ∷ rest) rest (option_and_then check_of (given false nothing rest)) (check_is program word rest (rw (e0, e1, e2, e) refl))
-          (level formats are (leaf formats (check_app formats)) (codes "check") rest files check_of (check_leaf formats) (refl, refl) few)
-      by_check false e0 e1 e2 e = by_table (bytes_eq (codes "table") word) e0 e1 e2 e refl
-
-      by_dump : (b : Bool) → bytes_eq (codes "row") word ≡ false → bytes_eq (codes "rows") word ≡ false → bytes_eq (codes "dump") word ≡ b
-          → Judged (program ∷ word ∷ rest) (option_and_then (λ values. cond b (dump_of values) (cond (bytes_eq (codes "check") word) (check_of values) (cond (bytes_eq (codes "table") word) (table_of values) (cond (bytes_eq (codes "unwind") word) (unwind_of values) (cond (bytes_eq (codes "stack") word) (stack_of values) (cond (bytes_eq (codes "flame") word) (flame_of values) (cond (bytes_eq (codes "report") word) (report_of values) (cond (bytes_eq (codes "fold") word) (fold_of values) None)))))))) (given false nothing rest))
-      by_dump true e0 e1 e =
-          judged (leaf formats dump_app) (codes "dump") (program ∷ word ∷ rest) rest (option_and_then dump_of (given false nothing rest)) (dump_is program word rest (rw (e0, e1, e) refl))
-          (level formats are (leaf formats dump_app) (codes "dump") rest one_file dump_of (dump_leaf formats) (refl, refl) few)
-      by_dump false e0 e1 e = by_check (bytes_eq (codes "check") word) e0 e1 e refl
-
-      by_rows : (b : Bool) → bytes_eq (codes "row") word ≡ false → bytes_eq (codes "rows") word ≡ b
-          → Judged (program ∷ word ∷ rest) (option_and_then (λ values. cond b (rows_of values) (cond (bytes_eq (codes "dump") word) (dump_of values) (cond (bytes_eq (codes "check") word) (check_of values) (cond (bytes_eq (codes "table") word) (table_of values) (cond (bytes_eq (codes "unwind") word) (unwind_of values) (cond (bytes_eq (codes "stack") word) (stack_of values) (cond (bytes_eq (codes "flame") word) (flame_of values) (cond (bytes_eq (codes "report") word) (report_of values) (cond (bytes_eq (codes "fold") word) (fold_of values) None))))))))) (given false nothing rest))
-      by_rows true e0 e =
-          judged (leaf formats (rows_app formats)) (codes "rows") (program ∷ word ∷ rest) rest (option_and_then rows_of (given false nothing rest)) (rows_is program word rest (rw (e0, e) refl))
-          (level formats are (leaf formats (rows_app formats)) (codes "rows") rest file_and_one rows_of (rows_leaf formats) (refl, refl, refl) few)
-      by_rows false e0 e = by_dump (bytes_eq (codes "dump") word) e0 e refl
-
-      by_row : (b : Bool) → bytes_eq (codes "row") word ≡ b
-          → Judged (program ∷ word ∷ rest) (option_and_then (λ values. cond b (row_of values) (cond (bytes_eq (codes "rows") word) (rows_of values) (cond (bytes_eq (codes "dump") word) (dump_of values) (cond (bytes_eq (codes "check") word) (check_of values) (cond (bytes_eq (codes "table") word) (table_of values) (cond (bytes_eq (codes "unwind") word) (unwind_of values) (cond (bytes_eq (codes "stack") word) (stack_of values) (cond (bytes_eq (codes "flame") word) (flame_of values) (cond (bytes_eq (codes "report") word) (report_of values) (cond (bytes_eq (codes "fold") word) (fold_of values) None)))))))))) (given false nothing rest))
-      by_row true e =
-          judged (leaf formats (row_app formats)) (codes "row") (program ∷ word ∷ rest) rest (option_and_then row_of (given false nothing rest)) (row_is program word rest (rw e refl))
-          (level formats are (leaf formats (row_app formats)) (codes "row") rest file_and_more row_of (row_leaf formats) (refl, refl, refl) few)
-      by_row false e = by_rows (bytes_eq (codes "rows") word) e refl
+      by_form : (o : Option Form) → form_named forms word ≡ o → Judged (program ∷ word ∷ rest) (option_and_then (asked_in_form rest) o)
+      by_form None none = by_help (bytes_eq (codes "help") word) none refl
+      by_form (Some f) is =
+          judged (leaf formats f) f.name (program ∷ word ∷ rest) rest (asked_in_form rest f) (form_is program word rest f is) (level formats are f (fine_form word f is) rest (omega arith))
 
   -- where clap finds no fault, its matches ask for what the words ask for
   pub asked_is : (words : List Text) → length words ≤ usize_max → fault_of (cfi_app formats) words ≡ [] → asked words ≡ asked_by formats words

@@ -9,7 +9,8 @@ use Rattle.clap.proofs.OnLiterals.{clap_on_literals}
 use Rattle.cfi_programs.specs.declared.style.Format.TheVariants as form
 use Rattle.cfi.specs.CommandLine.{cfi_app, check, dump, flame, fold, report, row, rows, stack, unwind}
 use Rattle.cfi.specs.Findings.{tally_in}
-use Rattle.cfi.specs.Words.{asked}
+use Rattle.cfi.specs.Forms.{LongOption, any_text, raw}
+use Rattle.cfi.specs.Words.{asked, given, nothing}
 
 two_addresses : asked (codes "cfi" ∷ codes "row" ∷ codes "a" ∷ codes "0x10" ∷ codes "main+4" ∷ []) ≡ Some (row false form.Text (codes "a") (codes "0x10" ∷ codes "main+4" ∷ []))
 two_addresses = refl
@@ -20,7 +21,7 @@ no_address = refl
 an_address_is_optional : asked (codes "cfi" ∷ codes "rows" ∷ codes "a" ∷ []) ≡ Some (rows false form.Text (codes "a") None)
 an_address_is_optional = refl
 
-several_files : asked (codes "cfi" ∷ codes "check" ∷ codes "a" ∷ codes "b" ∷ []) ≡ Some (check form.Text (codes "a" ∷ codes "b" ∷ []))
+several_files : asked (codes "cfi" ∷ codes "check" ∷ codes "a" ∷ codes "b" ∷ []) ≡ Some (check false form.Text (codes "a" ∷ codes "b" ∷ []))
 several_files = refl
 
 one_file_alone : asked (codes "cfi" ∷ codes "dump" ∷ codes "a" ∷ codes "b" ∷ []) ≡ None
@@ -72,8 +73,11 @@ help_answered formats = refl
 flags : asked (codes "cfi" ∷ codes "row" ∷ codes "a" ∷ codes "--format" ∷ codes "json" ∷ codes "0x10" ∷ codes "--raw" ∷ codes "main" ∷ []) ≡ Some (row true form.Json (codes "a") (codes "0x10" ∷ codes "main" ∷ []))
 flags = refl
 
-a_format : asked (codes "cfi" ∷ codes "check" ∷ codes "--format=text" ∷ codes "a" ∷ []) ≡ Some (check form.Text (codes "a" ∷ []))
+a_format : asked (codes "cfi" ∷ codes "check" ∷ codes "--format=text" ∷ codes "a" ∷ []) ≡ Some (check false form.Text (codes "a" ∷ []))
 a_format = refl
+
+a_quiet_check : asked (codes "cfi" ∷ codes "check" ∷ codes "a" ∷ codes "--quiet" ∷ codes "--format" ∷ codes "json" ∷ codes "b" ∷ []) ≡ Some (check true form.Json (codes "a" ∷ codes "b" ∷ []))
+a_quiet_check = refl
 
 -- a flag is given once, a format is one of the two, and it has to be named
 raw_twice : asked (codes "cfi" ∷ codes "table" ∷ codes "--raw" ∷ codes "a" ∷ codes "--raw" ∷ []) ≡ None
@@ -88,6 +92,33 @@ no_name = refl
 -- and a command has some of the flags
 not_of_dump : asked (codes "cfi" ∷ codes "dump" ∷ codes "--format=text" ∷ codes "a" ∷ []) ≡ None
 not_of_dump = refl
+
+not_quiet : asked (codes "cfi" ∷ codes "dump" ∷ codes "--quiet" ∷ codes "a" ∷ []) ≡ None
+not_quiet = refl
+
+-- an option with any text for a value has it behind `=` or as the next word, once
+abbrev thread : LongOption
+thread = record { name = codes "thread"; value = any_text }
+
+a_value : given (raw ∷ thread ∷ []) None nothing (codes "core" ∷ codes "--thread=" ∷ codes "--raw" ∷ [])
+    ≡ Some (record { options = (codes "raw", codes "true") ∷ (codes "thread", codes "") ∷ []; arguments = codes "core" ∷ [] })
+a_value = refl
+
+a_next_value : given (thread ∷ []) None nothing (codes "--thread" ∷ codes "7" ∷ codes "core" ∷ [])
+    ≡ Some (record { options = (codes "thread", codes "7") ∷ []; arguments = codes "core" ∷ [] })
+a_next_value = refl
+
+two_values : given (thread ∷ []) None nothing (codes "--thread=7" ∷ codes "core" ∷ codes "--thread" ∷ codes "7" ∷ []) ≡ None
+two_values = refl
+
+no_value_follows : given (thread ∷ []) None nothing (codes "core" ∷ codes "--thread" ∷ []) ≡ None
+no_value_follows = refl
+
+a_flag_has_no_value : given (raw ∷ []) None nothing (codes "--raw=true" ∷ codes "core" ∷ []) ≡ None
+a_flag_has_no_value = refl
+
+no_option_named_so : given (raw ∷ []) None nothing (codes "--thread=7" ∷ codes "core" ∷ []) ≡ None
+no_option_named_so = refl
 
 -- ---- the count of a check
 

@@ -1,3 +1,4 @@
+pub mod Forms
 pub mod CommandLine
 pub mod Findings
 pub mod Words

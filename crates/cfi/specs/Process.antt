@@ -3,8 +3,9 @@
 --         opened
 --     IsOutput disk words printed      the output for the words of the process
 --     PrintsRun disk words old new status      what a run writes, and its status
-use Rattle.std.specs.Prelude.{◌≡◌, ◌⊎◌, ℕ, Bool, List, [], ◌∷◌, ◌++◌, length, Option, Some, None}
-use Rattle.std.specs.Prelude.{Result, Vec, IsNone, MatchResult, IfOk, map}
+use Rattle.std.specs.Prelude.{◌≡◌, ◌⊎◌, ◌&&◌, ℕ, Bool, List, [], ◌∷◌, ◌++◌, length, Option, Some}
+use Rattle.std.specs.Prelude.{None, Result, Vec, IsNone, MatchResult, IfOk, map}
+use Rattle.std.specs.Prelude.{if◌then◌else◌}
 use Rattle.std.specs.Borrow.{Bor}
 use Rattle.std.specs.List.{count_by}
 use Rattle.std.specs.Io.KnownBytes.{Appends}
@@ -16,7 +17,7 @@ use Rattle.cfi_programs.specs.Lines.{Line}
 use Rattle.cfi_programs.specs.WriterOutput.{IsBeginning, Writes}
 use Rattle.cfi_object.specs.FileParts.{AreLeft}
 use Rattle.cfi_files.specs.FileOutputs.{IsNamedCheck, IsOwed}
-use Rattle.cfi_files.specs.Findings.{has_table, is_faithful}
+use Rattle.cfi_files.specs.Findings.{ChecksSome, has_table, is_faithful}
 use Rattle.cfi_files.specs.declared.finding.Finding.{Finding}
 use Rattle.cfi_files.specs.declared.finding.Finding.TheVariants.{Unreadable}
 use Rattle.cfi_files.specs.declared.request.Request.{Request}
@@ -24,9 +25,11 @@ use Rattle.cfi_processes.specs.Wanted.{FilePlace, at_path, copy_of, debug_of}
 use Rattle.cfi_stacks.specs.CoreOutputs.{IsOwed as IsOwedOfCore}
 use Rattle.cfi_stacks.specs.ProfileOutputs.{IsListingOwed as IsOwedOfProfile}
 use Rattle.cfi_stacks.specs.declared.listing.Listing.{Listing}
-use Rattle.cfi.specs.CommandLine.{Asked, cfi_app, format_names}
+use Rattle.cfi.specs.CommandLine.{Asked, cfi_app}
+use Rattle.cfi.specs.Forms.{format_names}
 use Rattle.cfi.specs.FlameOutputs.{path_of}
 use Rattle.cfi.specs.FlameOutputs.{IsOwed as IsOwedOfFolded}
+use Rattle.cfi.specs.declared.files.CheckStyle.{CheckStyle}
 use Rattle.cfi.specs.declared.flames.Summary.{Summary}
 use Rattle.cfi.specs.declared.flames.Summary.TheVariants.{FlameGraph, Report}
 use Rattle.cfi.specs.Findings.{greatest_status, tally_in}
@@ -66,17 +69,27 @@ IsPrint disk name what printed =
 
 -- ---- what checks of files find
 
--- for the bytes of a file, with its line; a file that can't be opened has no line
-abbrev pub IsCheckOf : (disk : Disk) → Format → Text → Option disk.Handle → Finding → Line → Type 0
-IsCheckOf disk format name None finding printed = (finding ≡ Unreadable) × (printed ≡ nothing)
-IsCheckOf disk format name (Some file) finding printed =
-    (bytes : List ℕ) × AreLeft (disk.bytes_of file) bytes
-    × IsNamedCheck format name bytes finding printed
+-- the line of a file, which a quiet check leaves out where the table is faithful
+abbrev pub kept : Bool → Finding → Line → Line
+kept quiet finding line = if quiet && is_faithful finding then record line { text = [] } else line
 
-abbrev pub IsCheck : Disk → Format → Text → Finding → Line → Type 0
-IsCheck disk format name finding printed =
+abbrev pub IsStyledCheck : CheckStyle → Text → List ℕ → Finding → Line → Type 0
+IsStyledCheck style name bytes finding printed =
+    (whole : Line) × IsNamedCheck style.format name bytes finding whole
+    × (printed ≡ kept style.quiet finding whole)
+
+-- for the bytes of a file, with its line; a file that can't be opened has no line
+abbrev pub IsCheckOf :
+    (disk : Disk) → CheckStyle → Text → Option disk.Handle → Finding → Line → Type 0
+IsCheckOf disk style name None finding printed = (finding ≡ Unreadable) × (printed ≡ nothing)
+IsCheckOf disk style name (Some file) finding printed =
+    (bytes : List ℕ) × AreLeft (disk.bytes_of file) bytes
+    × IsStyledCheck style name bytes finding printed
+
+abbrev pub IsCheck : Disk → CheckStyle → Text → Finding → Line → Type 0
+IsCheck disk style name finding printed =
     (opened : Option disk.Handle) × disk.MayOpen name opened
-    × IsCheckOf disk format name opened finding printed
+    × IsCheckOf disk style name opened finding printed
 
 -- what was found in several files, and their lines
 pub record Checks : Type 0 where
@@ -90,11 +103,11 @@ abbrev pub with_check : Finding → List ℕ → Checks → Checks
 with_check finding line more = record { found = finding ∷ more.found; lines = line ++ more.lines }
 
 -- one file after the other
-abbrev pub AreChecks : Disk → Format → List Text → Checks → Type 0
-AreChecks disk format [] checks = checks ≡ no_checks
-AreChecks disk format (name ∷ names) checks =
+abbrev pub AreChecks : Disk → CheckStyle → List Text → Checks → Type 0
+AreChecks disk style [] checks = checks ≡ no_checks
+AreChecks disk style (name ∷ names) checks =
     (finding : Finding) × (printed : Line) × (more : Checks)
-    × IsCheck disk format name finding printed × AreChecks disk format names more
+    × IsCheck disk style name finding printed × AreChecks disk style names more
     × (checks ≡ with_check finding printed.text more)
 
 -- the line that counts them
@@ -104,15 +117,15 @@ tally_line format found =
     ++ 10 ∷ []
 
 -- the lines, then their count, with the greatest status
-abbrev pub tallied : Format → Checks → Line
-tallied format checks = record {
-  text = checks.lines ++ tally_line format checks.found;
+abbrev pub tallied : CheckStyle → Checks → Line
+tallied style checks = record {
+  text = checks.lines ++ tally_line style.format checks.found;
   status = greatest_status checks.found;
 }
 
-abbrev pub AreTallied : Disk → Format → List Text → Line → Type 0
-AreTallied disk format names printed =
-    (checks : Checks) × AreChecks disk format names checks × (printed ≡ tallied format checks)
+abbrev pub AreTallied : Disk → CheckStyle → List Text → Line → Type 0
+AreTallied disk style names printed =
+    (checks : Checks) × AreChecks disk style names checks × (printed ≡ tallied style checks)
 
 -- ---- what is printed of a profile, and of a core file
 
@@ -162,7 +175,7 @@ IsSummary disk summary name printed =
 
 abbrev pub IsAnswer : Disk → Task → Line → Type 0
 IsAnswer disk (print name what) printed = IsPrint disk name what printed
-IsAnswer disk (check names format) printed = AreTallied disk format names printed
+IsAnswer disk (check names style) printed = AreTallied disk style names printed
 IsAnswer disk (unwind listing name) printed = AreStacks disk listing name printed
 IsAnswer disk (stack raw name) printed = AreThreads disk raw name printed
 IsAnswer disk (flame name) printed = IsSummary disk FlameGraph name printed
@@ -195,12 +208,20 @@ IsOutput disk (Some words) printed = IsAnswerTo disk words (asked words) printed
 
 -- ---- what was written
 
+-- the check of an input, in a style, and its line
+abbrev pub ChecksStyled :
+    {E : Type 0} → CheckStyle → Text → Option (List ℕ) → Option (List ℕ) → Option (List ℕ) →
+    Result Finding E → Type 0
+ChecksStyled style name input old new result =
+    (bytes : List ℕ) × AreLeft input bytes
+    × ChecksSome (λ finding line. IsStyledCheck style name bytes finding line) old new result
+
 -- all checks, or a beginning of their lines
 abbrev pub WritesChecks :
-    {E A : Type 0} → Disk → Format → List Text → Option (List ℕ) → Option (List ℕ) →
+    {E A : Type 0} → Disk → CheckStyle → List Text → Option (List ℕ) → Option (List ℕ) →
     Result (Vec Finding A) E → Type 0
-WritesChecks disk format names old new result =
-    (checks : Checks) × AreChecks disk format names checks × Writes old new result checks.lines
+WritesChecks disk style names old new result =
+    (checks : Checks) × AreChecks disk style names checks × Writes old new result checks.lines
     × IfOk result (λ found. found.items ≡ checks.found)
 
 -- all of an output, with its status; or a beginning, with the status 2: the output failed, or

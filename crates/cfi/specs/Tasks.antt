@@ -7,6 +7,7 @@ use Rattle.cfi_files.specs.declared.request.Request.{Request}
 use Rattle.cfi_programs.specs.declared.style.Format.{Format}
 use Rattle.cfi_stacks.specs.declared.listing.Listing.{Listing}
 use Rattle.cfi_stacks.specs.declared.listing.Listing.TheVariants.{Frames, Folded}
+use Rattle.cfi.specs.declared.files.CheckStyle.{CheckStyle}
 use Rattle.cfi.specs.declared.task.Task.{Task as TaskOfCode}
 use Rattle.cfi.specs.declared.task.Task.TheVariants.{Print, Check, Unwind, Stack, Flame}
 use Rattle.cfi.specs.declared.task.Task.TheVariants.{Report}
@@ -37,12 +38,12 @@ asking raw what = record { what = what; raw = raw }
 abbrev pub of_request : Request → OfRequest
 of_request request = asking request.raw (of_file request.printed)
 
--- to print something of a file; to check files, in a format; to print the stacks of a profile, as
+-- to print something of a file; to check files, in a style; to print the stacks of a profile, as
 -- listed, or of a core file, raw or with functions; or the flame graph of folded stacks, or their
 -- report
 pub data Task : Type 0 where
   print : Text → OfRequest → Task
-  check : List Text → Format → Task
+  check : List Text → CheckStyle → Task
   unwind : Listing → Text → Task
   stack : Bool → Text → Task
   flame : Text → Task
@@ -50,7 +51,7 @@ pub data Task : Type 0 where
 
 abbrev pub task_view : TaskOfCode → Task
 task_view (Print file request) = print file.now (of_request request)
-task_view (Check files format) = check (map (λ file. file.now) files.now) format
+task_view (Check files style) = check (map (λ file. file.now) files.now) style
 task_view (Unwind file listing) = unwind listing file.now
 task_view (Stack file raw) = stack raw file.now
 task_view (Flame file) = flame file.now
@@ -61,7 +62,8 @@ abbrev pub task_for : Asked → Task
 task_for (asked.row raw format file addresses) = print file (asking raw (row_of format addresses))
 task_for (asked.rows raw format file address) = print file (asking raw (rows_of format address))
 task_for (asked.dump raw file) = print file (asking raw dump_of)
-task_for (asked.check format files) = check files format
+task_for (asked.check quiet format files) =
+    check files (record { format = format; quiet = quiet })
 task_for (asked.table raw file) = print file (asking raw table_of)
 task_for (asked.unwind raw file) = unwind (Frames raw) file
 task_for (asked.stack raw file) = stack raw file

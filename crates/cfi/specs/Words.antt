@@ -1,27 +1,27 @@
 -- What the words of a command line ask for, word by word.
---     given false nothing words      the flags and the arguments among the words after a command's
---         name
+--     given options None nothing words      the options and the arguments among the words after a
+--         command's name
 --     asked words      the command that the words ask for, if any
-use Rattle.std.specs.Prelude.{Bool, true, false, List, [], ◌∷◌, ◌++◌, Option, Some, None, codes}
-use Rattle.std.specs.Prelude.{is_some, slice_get, option_and_then, option_map, unwrap_or}
-use Rattle.std.specs.Prelude.{if◌then◌else◌}
+use Rattle.std.specs.Prelude.{◌&&◌, Bool, true, false, List, [], ◌∷◌, ◌++◌, Option, Some, None}
+use Rattle.std.specs.Prelude.{codes, drop, find, is_some, slice_get, take, option_and_then}
+use Rattle.std.specs.Prelude.{option_map, if◌then◌else◌}
+use Rattle.std.specs.List.{list_any}
 use Rattle.std.specs.Option.{option_map_or}
 use Rattle.std.specs.Str.{bytes_eq, chars}
 use Rattle.clap.specs.Lexer.{long_of, short_of}
 use Rattle.clap.specs.Words.{Text}
-use Rattle.cfi_programs.specs.declared.style.Format.{Format}
-use Rattle.cfi_programs.specs.declared.style.Format.TheVariants as form
-use Rattle.cfi.specs.CommandLine.{Asked, check, dump, flame, fold, report, row, rows, stack}
-use Rattle.cfi.specs.CommandLine.{table, unwind}
+use Rattle.cfi.specs.Forms.{Arguments, Form, LongOption, file_and_address, file_and_addresses}
+use Rattle.cfi.specs.Forms.{form_named, forms, has_no_value, one_file, one_file_or_more}
+use Rattle.cfi.specs.Forms.{option_named, takes}
+use Rattle.cfi.specs.CommandLine.{Asked, asked_for}
 
 -- ---- what one word is
 
--- a word before `--`: `--raw`; `--format`, with the name that follows an `=`; a flag that no
--- command has; or an argument
+-- a word before `--`: an option by its name, with the value that follows an `=`; a flag of one
+-- letter, of which no command has any; or an argument
 pub data Word : Type 0 where
-  raw_flag : Word
-  format_flag : Option Text → Word
-  other_flag : Word
+  long_option : Text → Option Text → Word
+  short_flag : Word
   argument : Word
 
 abbrev pub has_character : Text → Bool
@@ -29,160 +29,125 @@ has_character text = is_some (slice_get (chars text) 0)
 
 -- a word that is no `--name` is a flag where characters follow a hyphen
 abbrev pub short_or_argument : Option Text → Word
-short_or_argument flags = if option_map_or has_character flags false then other_flag else argument
-
--- `--name` or `--name=value`
-abbrev pub long_flag : Text × Option Text → Word
-long_flag flag =
-    if bytes_eq (codes "raw") flag.0 then (if is_some flag.1 then other_flag else raw_flag)
-    else if bytes_eq (codes "format") flag.0 then format_flag flag.1
-    else other_flag
+short_or_argument flags = if option_map_or has_character flags false then short_flag else argument
 
 abbrev pub word_of : Text → Word
-word_of word = option_map_or long_flag (long_of word) (short_or_argument (short_of word))
+word_of word =
+    option_map_or (λ flag. long_option flag.0 flag.1) (long_of word)
+    (short_or_argument (short_of word))
 
--- ---- flags and arguments
+-- ---- options and arguments
 
+-- each option by its name, with its value; that of a flag is `true`
 pub record Given : Type 0 where
-  pub raw : Bool
-  pub format : Option Format
+  pub options : List (Text × Text)
   pub arguments : List Text
 
 abbrev pub nothing : Given
-nothing = record { raw = false; format = None; arguments = [] }
+nothing = record { options = []; arguments = [] }
 
-abbrev pub format_of : Text → Option Format
-format_of name =
-    if bytes_eq (codes "text") name then Some form.Text
-    else if bytes_eq (codes "json") name then Some form.Json
-    else None
+abbrev pub value_given : Text → List (Text × Text) → Option Text
+value_given name options = option_map (λ o. o.1) (find (λ o. bytes_eq o.0 name) options)
 
--- each flag is given once at most
-abbrev pub with_raw : Given → Option Given
-with_raw so_far = if so_far.raw then None else Some (record so_far { raw = true })
+-- each option is given once at most
+abbrev pub with_option : Text → Text → Given → Option Given
+with_option name value so_far =
+    if is_some (value_given name so_far.options) then None
+    else Some (record so_far { options = (name, value) ∷ so_far.options })
 
-abbrev pub with_format : Text → Given → Option Given
-with_format name so_far =
-    if is_some so_far.format then None
-    else option_map (λ format. record so_far { format = Some format }) (format_of name)
+abbrev pub with_value : LongOption → Text → Given → Option Given
+with_value o value so_far =
+    if takes o.value value then with_option o.name value so_far else None
 
 abbrev pub with_arguments : List Text → Given → Given
 with_arguments words so_far = record so_far { arguments = so_far.arguments ++ words }
 
--- what is given after one more word, and whether that word awaits the name of a format
-abbrev pub taken : Bool → Word → Text → Given → Option (Bool × Given)
-taken false raw_flag word so_far = option_map (λ given. (false, given)) (with_raw so_far)
-taken false (format_flag None) word so_far = Some (true, so_far)
-taken false (format_flag (Some name)) word so_far =
-    option_map (λ given. (false, given)) (with_format name so_far)
-taken false argument word so_far = Some (false, with_arguments (word ∷ []) so_far)
-taken true argument word so_far = option_map (λ given. (false, given)) (with_format word so_far)
-taken _ _ word so_far = None
+-- what is given after one more word, and the option whose value is the next word, if any
+abbrev pub Next : Type 0
+Next = Option (Option LongOption × Given)
 
--- Flags and arguments stand in any order before `--`, and all words after it are arguments.
-abbrev pub given : Bool → Given → List Text → Option Given
-given awaits so_far [] = if awaits then None else Some so_far
-given awaits so_far (word ∷ rest) =
+abbrev pub with_no_more : Option Given → Next
+with_no_more = option_map (λ given. (None, given))
+
+-- an option, with the value that follows an `=` if there is one
+abbrev pub with_long : LongOption → Option Text → Given → Next
+with_long o (Some value) so_far = with_no_more (with_value o value so_far)
+with_long o None so_far =
+    if has_no_value o.value then with_no_more (with_option o.name (codes "true") so_far)
+    else Some (Some o, so_far)
+
+abbrev pub taken : List LongOption → Option LongOption → Word → Text → Given → Next
+taken options None (long_option name value) word so_far =
+    option_and_then (λ o. with_long o value so_far) (option_named options name)
+taken options None argument word so_far = Some (None, with_arguments (word ∷ []) so_far)
+taken options (Some o) argument word so_far = with_no_more (with_value o word so_far)
+taken options _ _ word so_far = None
+
+-- Options and arguments stand in any order before `--`, and all words after it are arguments.
+abbrev pub given : List LongOption → Option LongOption → Given → List Text → Option Given
+given options awaits so_far [] = if is_some awaits then None else Some so_far
+given options awaits so_far (word ∷ rest) =
     if bytes_eq word (45 ∷ 45 ∷ []) then
-    (if awaits then None else Some (with_arguments rest so_far))
-    else option_and_then (λ next. given next.0 next.1 rest)
-    (taken awaits (word_of word) word so_far)
+    (if is_some awaits then None else Some (with_arguments rest so_far))
+    else option_and_then (λ next. given options next.0 next.1 rest)
+    (taken options awaits (word_of word) word so_far)
 
--- ---- the commands by their flags and arguments
+-- ---- what is read of them
 
-abbrev pub row_by : Bool → Format → List Text → Option Asked
-row_by raw format (file ∷ address ∷ more) = Some (row raw format file (address ∷ more))
-row_by raw format _ = None
+-- there are as many arguments as a command has
+abbrev pub fits : Arguments → List Text → Bool
+fits one_file (file ∷ []) = true
+fits file_and_address (file ∷ []) = true
+fits file_and_address (file ∷ address ∷ []) = true
+fits file_and_addresses (file ∷ address ∷ more) = true
+fits one_file_or_more (file ∷ more) = true
+fits _ _ = false
 
-abbrev pub rows_by : Bool → Format → List Text → Option Asked
-rows_by raw format (file ∷ []) = Some (rows raw format file None)
-rows_by raw format (file ∷ address ∷ []) = Some (rows raw format file (Some address))
-rows_by raw format _ = None
+abbrev pub files_of : Arguments → List Text → List Text
+files_of one_file words = words
+files_of one_file_or_more words = words
+files_of _ words = take 1 words
 
-abbrev pub dump_by : Bool → List Text → Option Asked
-dump_by raw (file ∷ []) = Some (dump raw file)
-dump_by raw _ = None
+abbrev pub addresses_of : Arguments → List Text → List Text
+addresses_of one_file words = []
+addresses_of one_file_or_more words = []
+addresses_of _ words = drop 1 words
 
-abbrev pub check_by : Format → List Text → Option Asked
-check_by format (file ∷ more) = Some (check format (file ∷ more))
-check_by format [] = None
+abbrev pub listed : Option Text → List Text
+listed None = []
+listed (Some value) = value ∷ []
 
-abbrev pub table_by : Bool → List Text → Option Asked
-table_by raw (file ∷ []) = Some (table raw file)
-table_by raw _ = None
+-- the values by the name of an argument or option
+abbrev pub values_given : Arguments → Given → Text → List Text
+values_given arguments given name =
+    if bytes_eq (codes "FILE") name then files_of arguments given.arguments
+    else if bytes_eq (codes "ADDRESS") name then addresses_of arguments given.arguments
+    else listed (value_given name given.options)
 
-abbrev pub unwind_by : Bool → List Text → Option Asked
-unwind_by raw (file ∷ []) = Some (unwind raw file)
-unwind_by raw _ = None
+-- a flag that was not given is `false`
+abbrev pub or_false : Bool → List Text → List Text
+or_false true [] = codes "false" ∷ []
+or_false _ values = values
 
-abbrev pub stack_by : Bool → List Text → Option Asked
-stack_by raw (file ∷ []) = Some (stack raw file)
-stack_by raw _ = None
+abbrev pub has_flag : List LongOption → Text → Bool
+has_flag options name = list_any (λ o. has_no_value o.value && bytes_eq o.name name) options
 
-abbrev pub flame_by : List Text → Option Asked
-flame_by (file ∷ []) = Some (flame file)
-flame_by _ = None
+abbrev pub values_at : Form → Given → Text → List Text
+values_at form given name =
+    or_false (has_flag form.options name) (values_given form.arguments given name)
 
-abbrev pub report_by : List Text → Option Asked
-report_by (file ∷ []) = Some (report file)
-report_by _ = None
+-- ---- the commands
 
-abbrev pub fold_by : List Text → Option Asked
-fold_by (file ∷ []) = Some (fold file)
-fold_by _ = None
-
--- text, where no format was named
-abbrev pub format_given : Given → Format
-format_given given = unwrap_or given.format form.Text
-
-abbrev pub row_of : Given → Option Asked
-row_of given = row_by given.raw (format_given given) given.arguments
-
-abbrev pub rows_of : Given → Option Asked
-rows_of given = rows_by given.raw (format_given given) given.arguments
-
-abbrev pub dump_of : Given → Option Asked
-dump_of given = if is_some given.format then None else dump_by given.raw given.arguments
-
-abbrev pub check_of : Given → Option Asked
-check_of given = if given.raw then None else check_by (format_given given) given.arguments
-
-abbrev pub table_of : Given → Option Asked
-table_of given = if is_some given.format then None else table_by given.raw given.arguments
-
-abbrev pub unwind_of : Given → Option Asked
-unwind_of given = if is_some given.format then None else unwind_by given.raw given.arguments
-
-abbrev pub stack_of : Given → Option Asked
-stack_of given = if is_some given.format then None else stack_by given.raw given.arguments
-
-abbrev pub flame_of : Given → Option Asked
-flame_of given =
-    if given.raw then None else if is_some given.format then None else flame_by given.arguments
-
-abbrev pub report_of : Given → Option Asked
-report_of given =
-    if given.raw then None else if is_some given.format then None else report_by given.arguments
-
-abbrev pub fold_of : Given → Option Asked
-fold_of given =
-    if given.raw then None else if is_some given.format then None else fold_by given.arguments
-
-abbrev pub named : Text → Given → Option Asked
-named name given =
-    if bytes_eq (codes "row") name then row_of given
-    else if bytes_eq (codes "rows") name then rows_of given
-    else if bytes_eq (codes "dump") name then dump_of given
-    else if bytes_eq (codes "check") name then check_of given
-    else if bytes_eq (codes "table") name then table_of given
-    else if bytes_eq (codes "unwind") name then unwind_of given
-    else if bytes_eq (codes "stack") name then stack_of given
-    else if bytes_eq (codes "flame") name then flame_of given
-    else if bytes_eq (codes "report") name then report_of given
-    else if bytes_eq (codes "fold") name then fold_of given
+abbrev pub asked_by_form : Form → Given → Option Asked
+asked_by_form form given =
+    if fits form.arguments given.arguments then Some (asked_for form.name (values_at form given))
     else None
+
+abbrev pub asked_in_form : List Text → Form → Option Asked
+asked_in_form words form =
+    option_and_then (asked_by_form form) (given form.options None nothing words)
 
 -- what the words ask for, of which the first is the program's name
 abbrev pub asked : List Text → Option Asked
-asked (program ∷ name ∷ rest) = option_and_then (named name) (given false nothing rest)
+asked (program ∷ name ∷ rest) = option_and_then (asked_in_form rest) (form_named forms name)
 asked _ = None

@@ -2,13 +2,15 @@
 ghost use Rattle.std.specs.Prelude.{◌≡◌, IfErr, IfOk, IsSome, Some, false, map, option_map, true};
 ghost use Rattle.clap.specs.Words.{found_of, rows_of, rule_of};
 ghost use Rattle.clap.specs.Words.{has_subcommand, kind_of, subcommand_rows_of};
+ghost use Rattle.clap.specs.declared.builder.value_parser.ValueParser.TheVariants.{Names};
 ghost use Rattle.cfi.specs.CommandLine.{FailsAsCfi, IsApp, address_rule, addresses_rule, asked_of};
-ghost use Rattle.cfi.specs.CommandLine.{cfi_app, check_app, command_view, dump_app, file_in};
-ghost use Rattle.cfi.specs.CommandLine.{file_rule, files_rule, flame_app, format_in, format_names};
-ghost use Rattle.cfi.specs.CommandLine.{format_rule};
-ghost use Rattle.cfi.specs.CommandLine.{has_value, of_one_file, raw_in, raw_rule, row_app};
-ghost use Rattle.cfi.specs.CommandLine.{fold_app, report_app, rows_app, table_app};
-ghost use Rattle.cfi.specs.CommandLine.{stack_app, top_app, unwind_app, values_in};
+ghost use Rattle.cfi.specs.CommandLine.{cfi_app, command_view, file_in, file_rule, files_rule};
+ghost use Rattle.cfi.specs.CommandLine.{form_app, format_in, format_rule, has_value, of_one_file};
+ghost use Rattle.cfi.specs.CommandLine.{plain_app, quiet_in, quiet_rule, raw_in, raw_rule};
+ghost use Rattle.cfi.specs.CommandLine.{top_app, values_in};
+ghost use Rattle.cfi.specs.Forms.{check_form, dump_form, flame_form, fold_form, format_names};
+ghost use Rattle.cfi.specs.Forms.{report_form, row_form, rows_form, stack_form, table_form};
+ghost use Rattle.cfi.specs.Forms.{unwind_form};
 ghost use Rattle.cfi.specs.Words.{asked};
 
 use cfi_programs::style::Format;
@@ -44,8 +46,10 @@ pub enum Command<'w> {
         raw: bool,
         file: &'w str,
     },
-    /// `check FILE..`: whether the table of each file is faithful; there is one file at least.
+    /// `check FILE..`: whether the table of each file is faithful; there is one file at least. If
+    /// `quiet`, files with faithful tables have no line.
     Check {
+        quiet: bool,
         format: Format,
         files: Vec<&'w str>,
     },
@@ -133,13 +137,9 @@ fn named<'w>(
             file: file_in(arguments),
             address: arguments.get_str("ADDRESS"),
         })
-    } else if name == "dump" {
-        Ok(Command::Dump {
-            raw: raw_in(arguments),
-            file: file_in(arguments),
-        })
     } else if name == "check" {
         Ok(Command::Check {
+            quiet: quiet_in(arguments),
             format: format_in(arguments),
             files: values_in(alloc, arguments, "FILE")?,
         })
@@ -164,7 +164,9 @@ fn named<'w>(
 fn of_one_file<'w>(name: &str, raw: bool, file: &'w str) -> Command<'w>
     ensures { of_one_file name.now raw file.entry.now ≡ command_view result }
 {
-    if name == "table" {
+    if name == "dump" {
+        Command::Dump { raw, file }
+    } else if name == "table" {
         Command::Table { raw, file }
     } else if name == "unwind" {
         Command::Unwind { raw, file }
@@ -175,14 +177,21 @@ fn of_one_file<'w>(name: &str, raw: bool, file: &'w str) -> Command<'w>
 
 /// Returns whether `--raw` was given.
 fn raw_in(arguments: &ArgMatches) -> bool
-    ensures { result ≡ raw_in (rows_of (found_of arguments.now)) }
+    ensures { result ≡ raw_in (values_in (rows_of (found_of arguments.now))) }
 {
     has_value(arguments, "raw", "true")
 }
 
+/// Returns whether `--quiet` was given.
+fn quiet_in(arguments: &ArgMatches) -> bool
+    ensures { result ≡ quiet_in (values_in (rows_of (found_of arguments.now))) }
+{
+    has_value(arguments, "quiet", "true")
+}
+
 /// Returns the format that was named, or text.
 fn format_in(arguments: &ArgMatches) -> Format
-    ensures { result ≡ format_in (rows_of (found_of arguments.now)) }
+    ensures { result ≡ format_in (values_in (rows_of (found_of arguments.now))) }
 {
     if has_value(arguments, "format", "json") {
         Format::Json
@@ -193,7 +202,7 @@ fn format_in(arguments: &ArgMatches) -> Format
 
 /// Returns whether this is the first value that was given for an argument.
 fn has_value(arguments: &ArgMatches, id: &str, value: &str) -> bool
-    ensures { result ≡ has_value id.now value.now (rows_of (found_of arguments.now)) }
+    ensures { result ≡ has_value id.now value.now (values_in (rows_of (found_of arguments.now))) }
 {
     match arguments.get_str(id) {
         Some(text) => text == value,
@@ -203,7 +212,7 @@ fn has_value(arguments: &ArgMatches, id: &str, value: &str) -> bool
 
 /// Returns the file that was named, of which clap has checked that there is one.
 fn file_in<'w>(arguments: &ArgMatches<'w>) -> &'w str
-    ensures { result.now ≡ file_in (rows_of (found_of arguments.now)) }
+    ensures { result.now ≡ file_in (values_in (rows_of (found_of arguments.now))) }
 {
     arguments.get_str("FILE").unwrap_or("")
 }
@@ -215,7 +224,7 @@ fn values_in<'w>(
     id: &str,
 ) -> Result<Vec<&'w str>, AllocError>
     ensures { IfOk result (λ values. map (λ value. value.now) values.items
-        ≡ values_in id.now (rows_of (found_of arguments.now))) }
+        ≡ values_in (rows_of (found_of arguments.now)) id.now) }
 {
     match arguments.get_strs(id) {
         Some(values) => values.to_vec(alloc),
@@ -261,7 +270,7 @@ fn top<'w>(alloc: Global) -> Result<clap::Command<'w>, AllocError>
 
 /// Returns the command `row`.
 fn row<'w>(alloc: Global, formats: &'w [&'w str]) -> Result<clap::Command<'w>, AllocError>
-    ensures { IfOk result (IsApp (row_app formats.entry)) }
+    ensures { IfOk result (IsApp (form_app (Names formats.entry) row_form)) }
 {
     clap::Command::new(alloc, "row")
         .about("Prints the row of each address: its range, the CFA and the rule of each register")
@@ -273,7 +282,7 @@ fn row<'w>(alloc: Global, formats: &'w [&'w str]) -> Result<clap::Command<'w>, A
 
 /// Returns the command `rows`.
 fn rows<'w>(alloc: Global, formats: &'w [&'w str]) -> Result<clap::Command<'w>, AllocError>
-    ensures { IfOk result (IsApp (rows_app formats.entry)) }
+    ensures { IfOk result (IsApp (form_app (Names formats.entry) rows_form)) }
 {
     clap::Command::new(alloc, "rows")
         .about("Prints the rows of every function, or of the one at an address")
@@ -285,7 +294,7 @@ fn rows<'w>(alloc: Global, formats: &'w [&'w str]) -> Result<clap::Command<'w>, 
 
 /// Returns the command `dump`.
 fn dump<'w>(alloc: Global) -> Result<clap::Command<'w>, AllocError>
-    ensures { IfOk result (IsApp dump_app) }
+    ensures { IfOk result (IsApp (plain_app dump_form)) }
 {
     clap::Command::new(alloc, "dump")
         .about("Prints every entry, with its instructions' rows")
@@ -295,17 +304,18 @@ fn dump<'w>(alloc: Global) -> Result<clap::Command<'w>, AllocError>
 
 /// Returns the command `check`.
 fn check<'w>(alloc: Global, formats: &'w [&'w str]) -> Result<clap::Command<'w>, AllocError>
-    ensures { IfOk result (IsApp (check_app formats.entry)) }
+    ensures { IfOk result (IsApp (form_app (Names formats.entry) check_form)) }
 {
     clap::Command::new(alloc, "check")
         .about("Checks that the table of .eh_frame_hdr lists the entries of .eh_frame faithfully")
+        .arg(quiet_flag(alloc))?
         .arg(format_flag(alloc, formats))?
         .arg(files(alloc))
 }
 
 /// Returns the command `table`.
 fn table<'w>(alloc: Global) -> Result<clap::Command<'w>, AllocError>
-    ensures { IfOk result (IsApp table_app) }
+    ensures { IfOk result (IsApp (plain_app table_form)) }
 {
     clap::Command::new(alloc, "table")
         .about("Prints the compiled table: the rows of all addresses, in their order")
@@ -315,7 +325,7 @@ fn table<'w>(alloc: Global) -> Result<clap::Command<'w>, AllocError>
 
 /// Returns the command `unwind`.
 fn unwind<'w>(alloc: Global) -> Result<clap::Command<'w>, AllocError>
-    ensures { IfOk result (IsApp unwind_app) }
+    ensures { IfOk result (IsApp (plain_app unwind_form)) }
 {
     clap::Command::new(alloc, "unwind")
         .about("Prints the stack of each sample of a profile: perf record --call-graph dwarf")
@@ -325,7 +335,7 @@ fn unwind<'w>(alloc: Global) -> Result<clap::Command<'w>, AllocError>
 
 /// Returns the command `stack`.
 fn stack<'w>(alloc: Global) -> Result<clap::Command<'w>, AllocError>
-    ensures { IfOk result (IsApp stack_app) }
+    ensures { IfOk result (IsApp (plain_app stack_form)) }
 {
     clap::Command::new(alloc, "stack")
         .about("Prints the stack of each thread of a core file")
@@ -335,7 +345,7 @@ fn stack<'w>(alloc: Global) -> Result<clap::Command<'w>, AllocError>
 
 /// Returns the command `flame`.
 fn flame<'w>(alloc: Global) -> Result<clap::Command<'w>, AllocError>
-    ensures { IfOk result (IsApp flame_app) }
+    ensures { IfOk result (IsApp (plain_app flame_form)) }
 {
     clap::Command::new(alloc, "flame")
         .about("Prints the flame graph of folded stacks, an SVG")
@@ -344,7 +354,7 @@ fn flame<'w>(alloc: Global) -> Result<clap::Command<'w>, AllocError>
 
 /// Returns the command `report`.
 fn report<'w>(alloc: Global) -> Result<clap::Command<'w>, AllocError>
-    ensures { IfOk result (IsApp report_app) }
+    ensures { IfOk result (IsApp (plain_app report_form)) }
 {
     clap::Command::new(alloc, "report")
         .about("Prints the functions of folded stacks, by their samples")
@@ -353,7 +363,7 @@ fn report<'w>(alloc: Global) -> Result<clap::Command<'w>, AllocError>
 
 /// Returns the command `fold`.
 fn fold<'w>(alloc: Global) -> Result<clap::Command<'w>, AllocError>
-    ensures { IfOk result (IsApp fold_app) }
+    ensures { IfOk result (IsApp (plain_app fold_form)) }
 {
     clap::Command::new(alloc, "fold")
         .about("Prints the stacks of a profile, folded and counted, for flame and report")
@@ -379,6 +389,17 @@ fn places_flag<'w>(alloc: Global) -> Arg<'w>
     Arg::new(alloc, "raw")
         .help("Prints the place of each frame in its file, without the function")
         .long("raw")
+        .action(ArgAction::SetTrue)
+}
+
+/// Returns the flag `--quiet` of `check`.
+fn quiet_flag<'w>(alloc: Global) -> Arg<'w>
+    ensures rule { rule_of result ≡ quiet_rule }
+    ensures local { result.global ≡ false }
+{
+    Arg::new(alloc, "quiet")
+        .help("Prints no line for a file whose table is faithful")
+        .long("quiet")
         .action(ArgAction::SetTrue)
 }
 

@@ -4,14 +4,16 @@ ghost use Rattle.std.specs.List.{count_by};
 ghost use Rattle.cfi_programs.specs.WriterOutput.{Writes};
 ghost use Rattle.cfi_files.specs.Findings.{ChecksSome, has_table, is_faithful};
 ghost use Rattle.cfi.specs.Findings.{greatest_status, tally_in, tally_object, tally_text};
-ghost use Rattle.cfi.specs.Process.{IsCheck, WritesChecks, disk_of};
+ghost use Rattle.cfi.specs.Process.{ChecksStyled, IsCheck, WritesChecks, disk_of};
 
 use crate::system::System;
 use cfi_files::{Finding, check_file};
+use cfi_object::FileInput;
 use cfi_programs::json::push_number;
 use cfi_programs::lines::{write_part, write_text};
 use cfi_programs::style::Format;
 use cfi_programs::text::{Text, push};
+use std::alloc::Global;
 use std::io::Write;
 use std::{fmt, io};
 
@@ -21,17 +23,26 @@ pub const WRONG: u8 = 2;
 /// The number of files above which the progress of a check is shown.
 const MANY: usize = 20;
 
-/// Checks the files in their order, prints a line for each, and returns what was found. A file that
+/// How the checks of files are printed.
+#[derive(Clone, Copy)]
+pub struct CheckStyle {
+    /// The form of the lines.
+    pub format: Format,
+    /// Whether a file with a faithful table has no line.
+    pub quiet: bool,
+}
+
+/// Checks the files in their order, prints their lines, and returns what was found. A file that
 /// can't be opened has its line on standard error, where progress is shown if there are many.
 ///
 /// Fails where the output can't be written, or memory for what was found is refused.
 pub fn check_files<S: System, W: Write>(
     system: &S,
-    format: Format,
+    style: CheckStyle,
     files: &[&str],
     output: &mut W,
 ) -> io::Result<Vec<Finding>>
-    ensures { WritesChecks (disk_of (S.may_open system.now) S.File.bytes) format
+    ensures { WritesChecks (disk_of (S.may_open system.now) S.File.bytes) style
         (map (λ file. file.now) files.now) (W.contents output.old) (W.contents output.new)
         result }
 {
@@ -41,7 +52,7 @@ pub fn check_files<S: System, W: Write>(
         if shows_progress {
             system.show_progress(findings.len() + 1, files.len(), file);
         }
-        let finding = check_one(system, format, file, output)?;
+        let finding = check_one(system, style, file, output)?;
         findings.push(finding)?;
     }
     if shows_progress {
@@ -53,19 +64,42 @@ pub fn check_files<S: System, W: Write>(
 /// Checks one file, and returns what was found.
 fn check_one<S: System, W: Write>(
     system: &S,
-    format: Format,
+    style: CheckStyle,
     file: &str,
     output: &mut W,
 ) -> io::Result<Finding>
     ensures { ChecksSome
-        (λ finding line. IsCheck (disk_of (S.may_open system.now) S.File.bytes) format
+        (λ finding line. IsCheck (disk_of (S.may_open system.now) S.File.bytes) style
         file.now finding line)
         (W.contents output.old) (W.contents output.new) result }
 {
     match system.open(file) {
-        Some(mut input) => check_file(system.alloc(), format, file, &mut input, output),
+        Some(mut input) => check_input(system.alloc(), style, file, &mut input, output),
         None => Ok(Finding::Unreadable),
     }
+}
+
+/// Checks an input of this name, prints its line, and returns what was found.
+fn check_input<I: FileInput, W: Write>(
+    alloc: Global,
+    style: CheckStyle,
+    name: &str,
+    input: &mut I,
+    output: &mut W,
+) -> io::Result<Finding>
+    ensures { ChecksStyled style name.now (I.bytes input.old) (W.contents output.old)
+        (W.contents output.new) result }
+{
+    if !style.quiet {
+        return check_file(alloc, style.format, name, input, output);
+    }
+    let mut line = Vec::new(alloc);
+    let finding = check_file(alloc, style.format, name, input, &mut line)?;
+    if finding.is_faithful() {
+        return Ok(finding);
+    }
+    write_text(output, line.as_slice())?;
+    Ok(finding)
 }
 
 /// How many files were checked, how many of them have a table, and how many of these are faithful.

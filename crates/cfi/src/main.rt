@@ -20,11 +20,10 @@ mod system;
 mod task;
 
 use cfi_files::{Request, run_on_file};
-use cfi_programs::style::Format;
 use cfi_stacks::{Listing, list_profile, print_core};
 use clap::Error;
 use command::{Command, command_of};
-use files::{WRONG, check_files, count_findings, greatest_status, write_tally};
+use files::{CheckStyle, WRONG, check_files, count_findings, greatest_status, write_tally};
 use flames::{Summary, print_folded};
 use profile::ProfileOpener;
 use std::alloc::AllocGlobal;
@@ -100,7 +99,7 @@ fn run_command<S: System, W: Write>(system: &S, command: &Command, output: &mut 
 {
     match task_of(command) {
         Task::Print(file, request) => print_file(system, file, request, output),
-        Task::Check(files, format) => print_checks(system, format, files, output),
+        Task::Check(files, style) => print_checks(system, style, files, output),
         Task::Unwind(file, listing) => print_stacks(system, listing, file, output),
         Task::Stack(file, raw) => print_threads(system, raw, file, output),
         Task::Flame(file) => print_summary(system, Summary::FlameGraph, file, output),
@@ -188,15 +187,15 @@ fn path_of(file: &str) -> &str
 /// Checks the files, prints how many there are, and returns the greatest status.
 fn print_checks<S: System, W: Write>(
     system: &S,
-    format: Format,
+    style: CheckStyle,
     files: &[&str],
     output: &mut W,
 ) -> io::Result<u8>
     ensures { PrintsSome (λ line. AreTallied (disk_of (S.may_open system.now) S.File.bytes)
-        format (map (λ file. file.now) files.now) line)
+        style (map (λ file. file.now) files.now) line)
         (W.contents output.old) (W.contents output.new) result }
 {
-    let findings = check_files(system, format, files, output)?;
-    write_tally(count_findings(findings.as_slice()), format, output)?;
+    let findings = check_files(system, style, files, output)?;
+    write_tally(count_findings(findings.as_slice()), style.format, output)?;
     Ok(greatest_status(findings.as_slice()))
 }

@@ -4,8 +4,8 @@ ghost use Rattle.cfi.specs.CommandLine.{command_view};
 ghost use Rattle.cfi.specs.Tasks.{asking, of_file, print, task_for, task_view};
 
 use crate::command::Command;
+use crate::files::CheckStyle;
 use cfi_files::{Printed, Request};
-use cfi_programs::style::Format;
 use cfi_stacks::Listing;
 
 /// What a command is to do.
@@ -13,8 +13,8 @@ use cfi_stacks::Listing;
 pub enum Task<'c> {
     /// Print this of a file.
     Print(&'c str, Request<'c>),
-    /// Check these files, and print what was found in a format.
-    Check(&'c [&'c str], Format),
+    /// Check these files, and print what was found in a style.
+    Check(&'c [&'c str], CheckStyle),
     /// Print the stacks of the samples of this profile so.
     Unwind(&'c str, Listing),
     /// Print the stack of each thread of this core file; without functions if true.
@@ -43,7 +43,17 @@ pub fn task_of<'c>(command: &'c Command<'c>) -> Task<'c>
             address,
         } => printed_of(file, Printed::Rows(*address, *format), *raw),
         Command::Dump { raw, file } => printed_of(file, Printed::Dump, *raw),
-        Command::Check { format, files } => Task::Check(files.as_slice(), *format),
+        Command::Check {
+            quiet,
+            format,
+            files,
+        } => Task::Check(
+            files.as_slice(),
+            CheckStyle {
+                format: *format,
+                quiet: *quiet,
+            },
+        ),
         Command::Table { raw, file } => printed_of(file, Printed::Table, *raw),
         Command::Unwind { raw, file } => Task::Unwind(file, Listing::Frames(*raw)),
         Command::Stack { raw, file } => Task::Stack(file, *raw),

@@ -8,7 +8,7 @@ use Rattle.cfi.proofs.print_checks.Goals as goal
 
 pub returns-in_err-findings : goal.returns-in_err-findings
 returns-in_err-findings g c =
-    uncounted ℕ (disk_of (g.S.System.may_open c.args.system.now) g.S.File.FileInput.bytes) c.args.format (map text_of c.args.files.now) _ _ c.in_err-findings.field-0.0 c.from_residual.result c.from_residual.ensures.0 c.in_err-findings.ensures
+    uncounted ℕ (disk_of (g.S.System.may_open c.args.system.now) g.S.File.FileInput.bytes) c.args.style (map text_of c.args.files.now) _ _ c.in_err-findings.field-0.0 c.from_residual.result c.from_residual.ensures.0 c.in_err-findings.ensures
 
 pub returns-in_err-write_tally : goal.returns-in_err-write_tally
 returns-in_err-write_tally g c =
@@ -20,9 +20,9 @@ returns-in_err-write_tally g c =
     let tally = c.count_findings.result in
     let counts = c.count_findings.ensures in
     let found = c.in_ok-findings.findings in
-    let text = tally_in c.args.format tally.files tally.tables tally.faithful ++ 10 ∷ [] in
-    counted ℕ (disk_of (g.S.System.may_open c.args.system.now) g.S.File.FileInput.bytes) c.args.format (map text_of c.args.files.now) (contents c.args.output.now) mid new found r c.in_ok-findings.ensures
-    (subst (λ (line : List ℕ). Writes mid new r line) (tally_is c.args.format found.items _ _ _ _ c.as_slice.ensures.value counts.files counts.tables counts.faithful) (writes_refused mid new r text err c.in_err-write_tally.ensures))
+    let text = tally_in c.args.style.format tally.files tally.tables tally.faithful ++ 10 ∷ [] in
+    counted ℕ (disk_of (g.S.System.may_open c.args.system.now) g.S.File.FileInput.bytes) c.args.style (map text_of c.args.files.now) (contents c.args.output.now) mid new found r c.in_ok-findings.ensures
+    (subst (λ (line : List ℕ). Writes mid new r line) (tally_is c.args.style.format found.items _ _ _ _ c.as_slice.ensures.value counts.files counts.tables counts.faithful) (writes_refused mid new r text err c.in_err-write_tally.ensures))
     (no_status r (λ status. status ≡ greatest_status found.items) err)
 
 pub returns : goal.returns
@@ -33,6 +33,6 @@ returns g c =
     let r : Result ℕ ℕ = Ok c.greatest_status.result in
     let counts = c.count_findings.ensures in
     let found = c.in_ok-findings.findings in
-    counted ℕ (disk_of (g.S.System.may_open c.args.system.now) g.S.File.FileInput.bytes) c.args.format (map text_of c.args.files.now) (contents c.args.output.now) mid new found r c.in_ok-findings.ensures
-    (subst (λ (line : List ℕ). Writes mid new r line) (tally_is c.args.format found.items _ _ _ _ c.as_slice.ensures.value counts.files counts.tables counts.faithful) c.in_ok-write_tally.ensures)
+    counted ℕ (disk_of (g.S.System.may_open c.args.system.now) g.S.File.FileInput.bytes) c.args.style (map text_of c.args.files.now) (contents c.args.output.now) mid new found r c.in_ok-findings.ensures
+    (subst (λ (line : List ℕ). Writes mid new r line) (tally_is c.args.style.format found.items _ _ _ _ c.as_slice.ensures.value counts.files counts.tables counts.faithful) c.in_ok-write_tally.ensures)
     (c.greatest_status.ensures ∙ ap greatest_status c.as_slice-2.ensures.value)

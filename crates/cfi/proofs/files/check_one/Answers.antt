@@ -5,4 +5,4 @@ use Rattle.cfi.proofs.files.check_one.Goals as goal
 
 pub returns-in-None : goal.returns-in-None
 returns-in-None g c =
-    unreadable ℕ (disk_of (g.S.System.may_open c.args.system.now) g.S.File.FileInput.bytes) c.args.format c.args.file.now (g.W.Write.contents c.args.output.now) c.in-None.ensures
+    unreadable ℕ (disk_of (g.S.System.may_open c.args.system.now) g.S.File.FileInput.bytes) c.args.style c.args.file.now (g.W.Write.contents c.args.output.now) c.in-None.ensures

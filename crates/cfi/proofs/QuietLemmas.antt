@@ -1,0 +1,67 @@
+-- What the check of a file writes, in a style.
+use Rattle.std.proofs.Common.{◌≡◌, ◌∙◌, ◌&&◌, ◌++◌, ℕ, Bool, true, false, List, [], Option, Some, Result, Ok, Err, IfOk, refl, sym, ap, ap₂, subst, cond}
+use Rattle.std.specs.Io.KnownBytes.{Appends}
+use Rattle.std.specs.Result.{IsErr}
+use Rattle.clap.specs.Words.{Text}
+use Rattle.cfi_programs.specs.Lines.{Line}
+use Rattle.cfi_programs.specs.WriterOutput.{IsBeginning}
+use Rattle.cfi_programs.proofs.WrittenLemmas.{none_yet, writes_refused}
+use Rattle.cfi_files.specs.FileOutputs.{ChecksNamed}
+use Rattle.cfi_files.specs.Findings.{is_faithful}
+use Rattle.cfi_files.specs.declared.finding.Finding.{Finding}
+use Rattle.cfi.specs.declared.files.CheckStyle.{CheckStyle}
+use Rattle.cfi.specs.Process.{ChecksStyled, kept}
+
+no_finding : {E : Type 0} (r : Result Finding E) (Q : Finding → Type 0) → IsErr r → IfOk r Q
+no_finding (Ok finding) Q err = cc
+no_finding (Err e) Q err = tt
+
+-- a line in full
+pub loud : {E : Type 0} (style : CheckStyle) (name : Text) (input old new : Option (List ℕ)) (r : Result Finding E) → style.quiet ≡ false → ChecksNamed style.format name input old new r
+    → ChecksStyled style name input old new r
+loud style name input old new r e (bytes, left, (finding, printed, writes, found, is)) =
+    (bytes, left, (finding, printed, writes, found, (printed, is, sym (ap (λ (b : Bool). kept b finding printed) e))))
+
+-- the check fails before its line is written
+pub unmade : {E F : Type 0} (style : CheckStyle) (name : Text) (input old start line : Option (List ℕ)) (e : E) (r : Result Finding F) → IsErr r → ChecksNamed style.format name input start line (Err e)
+    → ChecksStyled style name input old old r
+unmade style name input old start line e r err (bytes, left, (finding, whole, writes, found, is)) =
+    let printed : Line = kept style.quiet finding whole in
+    (bytes, left, (finding, printed, writes_refused old old r printed.text err ([], none_yet old, (printed.text, refl)), no_finding r (λ x. x ≡ finding) err, (whole, is, refl)))
+
+kept_text : (quiet faithful : Bool) (whole : Line) → Line
+kept_text quiet faithful whole = cond (quiet && faithful) (record whole { text = [] }) whole
+
+-- a faithful table has no line
+pub left_out : (E F : Type 0) (style : CheckStyle) (name : Text) (input old start line : Option (List ℕ)) (found : Finding) → style.quiet ≡ true → is_faithful found ≡ true
+    → ChecksNamed {E = E} style.format name input start line (Ok found) → ChecksStyled {E = F} style name input old old (Ok found)
+unfolding kept_text
+left_out E F style name input old start line found quiet faithful (bytes, left, (finding, whole, writes, same, is)) =
+    let none : (kept style.quiet finding whole).text ≡ [] = ap₂ (λ (b c : Bool). (kept_text b c whole).text) quiet (ap is_faithful (sym same) ∙ faithful) in
+    (bytes, left, (finding, kept style.quiet finding whole, subst (λ (text : List ℕ). Appends old old text) (sym none) (none_yet old), same, (whole, is, refl)))
+
+-- another line is written as it was made
+module _ (style : CheckStyle) (name : Text) (input old new : Option (List ℕ)) (start items : List ℕ) (found : Finding) (none : start ≡ []) (quiet : style.quiet ≡ true) (other : is_faithful found ≡ false) where
+  made : (finding : Finding) (whole : Line) → items ≡ start ++ whole.text → found ≡ finding → (kept style.quiet finding whole).text ≡ items
+  unfolding kept_text
+  made finding whole writes same =
+      ap₂ (λ (b c : Bool). (kept_text b c whole).text) quiet (ap is_faithful (sym same) ∙ other) ∙ sym (writes ∙ ap (λ (x : List ℕ). x ++ whole.text) none)
+
+  pub written : (E F : Type 0) → ChecksNamed {E = E} style.format name input (Some start) (Some items) (Ok found) → Appends old new items → ChecksStyled {E = F} style name input old new (Ok found)
+  written E F (bytes, left, (finding, whole, writes, same, is)) appends =
+      (bytes, left, (finding, kept style.quiet finding whole, subst (λ (text : List ℕ). Appends old new text) (sym (made finding whole writes same)) appends, same, (whole, is, refl)))
+
+  pub begun : {F : Type 0} (E : Type 0) (r : Result Finding F) → IsErr r → ChecksNamed {E = E} style.format name input (Some start) (Some items) (Ok found)
+      → ((front : List ℕ) × Appends old new front × IsBeginning front items) → ChecksStyled style name input old new r
+  begun E r err (bytes, left, (finding, whole, writes, same, is)) front =
+      let printed : Line = kept style.quiet finding whole in (
+        bytes,
+        left,
+        (
+          finding,
+          printed,
+          writes_refused old new r printed.text err (subst (λ (text : List ℕ). (front : List ℕ) × Appends old new front × IsBeginning front text) (sym (made finding whole writes same)) front),
+          no_finding r (λ x. x ≡ finding) err,
+          (whole, is, refl),
+        ),
+      )
