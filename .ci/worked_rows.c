@@ -238,7 +238,11 @@ static void check_names(void) {
     CHECK_NAME(0, Ok)
     CHECK_NAME(32, NoContext)
     CHECK_NAME(33, NoTable)
-    CHECK_NAME(34, Unknown)
+    CHECK_NAME(34, NoSegments)
+    CHECK_NAME(35, NoHeader)
+    CHECK_NAME(36, NoSection)
+    CHECK_NAME(37, NotInMemory)
+    CHECK_NAME(38, Unknown)
     CHECK_NAME(-1, Unknown)
     memset(name, GUARD, sizeof name);
     expect(cfi_status_name(CFI_StackFull, name, 5) == 9 && !memcmp(name, "Stack", 5) && name[5] == GUARD, "a short name");

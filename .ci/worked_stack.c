@@ -1,5 +1,5 @@
-/* Unwinds stacks whose frames were worked out by hand, through the C library, by cfi_unwind and by cfi_step again and again, and
- * prints which differ. Each step is also made by cfi_step_cached: without a cache, by one that is empty, and by one with the row; and in
+/* Unwinds stacks whose frames were worked out by hand, through the C library, by cfi_unwind, by cfi_unwind_registers, whose
+ * registers are those of cfi_step, and by cfi_step again and again, and prints which differ. Each step is also made by cfi_step_cached: without a cache, by one that is empty, and by one with the row; and in
  * place, by cfi_step_held. The bytes behind the frames are checked. Linked with --wrap=malloc, --wrap=realloc, --wrap=free. */
 #include <inttypes.h>
 #include <stdio.h>
@@ -273,6 +273,9 @@ static void check_many_rules(CfiContext *context) {
     memory_is_refused = 0;
 }
 
+/* The registers of each frame, as the steps have them. */
+static CfiValue due_registers[FRAMES + 1][REGISTERS];
+
 /* The same frames by cfi_step, over a memory of two windows that part the stack's bytes at the first eight. */
 static int are_steps(CfiContext *context, const Process *p, const Stack *s) {
     const CfiStack *k = &p->stack;
@@ -305,11 +308,45 @@ static int are_steps(CfiContext *context, const Process *p, const Stack *s) {
         frame.cfa = frame.has_cfa ? caller.cfa : 0;
         if (count == s->count || !is_frame(&frame, &s->frames[count]))
             return 0;
+        for (size_t k = 0; k < REGISTERS; k++)
+            due_registers[count][k] = registers[k].known ? registers[k] : (CfiValue){0, false};
         count++;
         frame.pc = caller.pc, frame.is_interrupted = caller.is_interrupted;
         memcpy(registers, found, sizeof found);
     }
     return count == s->count && end.kind == s->end.kind && end.refused == s->end.refused && end.status == s->end.status;
+}
+
+/* The same frames with their registers; and with room for the registers of one frame less, one frame less. */
+static int are_with_registers(CfiContext *context, const Process *p, const Stack *s) {
+    CfiFrame frames[FRAMES + 1];
+    CfiValue values[FRAMES + 1][REGISTERS];
+    CfiValue *written = values[0];
+    size_t n = p->registers_len;
+    for (size_t less = 0; less < 2 && less <= s->count; less++) {
+        size_t count = s->count - less, room = less ? n * count + n - 1 : n * count;
+        CfiEnd end, due = less ? (CfiEnd){.kind = CFI_END_NO_ROOM} : s->end;
+        memset(frames, GUARD, sizeof frames);
+        memset(values, GUARD, sizeof values);
+        memset(&end, GUARD, sizeof end);
+        if (cfi_unwind_registers(context, p->modules, 2, &p->stack, s->pc, p->registers, n, frames, s->room, written, room,
+                                 &end) != count)
+            return 0;
+        for (size_t i = 0; i < count; i++) {
+            if (!is_frame(&frames[i], &s->frames[i]))
+                return 0;
+            for (size_t k = 0; k < n; k++)
+                if (!is_value(&written[i * n + k], &due_registers[i][k]))
+                    return 0;
+        }
+        for (size_t i = n * count; i < sizeof values / sizeof written[0]; i++)
+            if (((uint8_t *)&written[i])[0] != GUARD)
+                return 0;
+        if (!is_guarded(&frames[count], FRAMES + 1 - count) || end.kind != due.kind || end.refused != due.refused ||
+            end.status != due.status)
+            return 0;
+    }
+    return 1;
 }
 
 static void check(CfiContext *context, const Process *p, const Stack *s) {
@@ -327,6 +364,10 @@ static void check(CfiContext *context, const Process *p, const Stack *s) {
     if (!are_steps(context, p, s)) {
         failures++;
         printf("c library: %s: not by steps\n", s->name);
+    }
+    if (!are_with_registers(context, p, s)) {
+        failures++;
+        printf("c library: %s: not with registers\n", s->name);
     }
     if (!same || calls_for_memory != before) {
         failures++;

@@ -39,7 +39,7 @@ extern "C" {
 #define CFI_VERSION 100 /* 0.1.0 */
 
 /* Status 0 is a row; the others are the refusals of the library, by its names, 32 where there is no
- * context, and 33 where there is no table. */
+ * context, 33 where there is no table, and 34 to 37 where there is no module. */
 #define CFI_REFUSALS(X) \
     X(1, UnexpectedEof) \
     X(2, BadUnsignedLeb128) \
@@ -79,7 +79,11 @@ typedef enum {
     CFI_REFUSALS(CFI_STATUS)
 #undef CFI_STATUS
     CFI_NoContext = 32,
-    CFI_NoTable = 33
+    CFI_NoTable = 33,
+    CFI_NoSegments = 34, /* no segment is loaded */
+    CFI_NoHeader = 35,   /* no segment is that of .eh_frame_hdr */
+    CFI_NoSection = 36,  /* the header points to no loaded segment's bytes of the file */
+    CFI_NotInMemory = 37 /* no window has all bytes of the header or of the section */
 } CfiStatus;
 
 /* A context, or none: all zero, as `CfiContext context = {0};` makes it. The caller keeps this struct, and neither writes
@@ -181,6 +185,17 @@ typedef struct {
     const uint8_t *bytes;
     size_t len;
 } CfiWindow;
+
+/* Some addresses, from start up to, and without, end. */
+typedef struct {
+    uint64_t start, end;
+} CfiRange;
+
+/* A program header of an ELF file of 64 bits. It is Elf64_Phdr of <elf.h>: an array of those may be passed as one of these. */
+typedef struct {
+    uint32_t p_type, p_flags;
+    uint64_t p_offset, p_vaddr, p_paddr, p_filesz, p_memsz, p_align;
+} CfiProgramHeader;
 
 /* Memory, as far as it is there, and what the ABI says: as CfiStack, with any number of windows, in any order. A signal
  * handler's stack, a fiber's or the segments of a core file are a window each. A number is read of the first window that has
@@ -330,6 +345,14 @@ int32_t cfi_table_row(CfiTable *table, uint64_t address, CfiRow *row, CfiRule *r
 size_t cfi_unwind(CfiContext *context, const CfiModule *modules, size_t modules_len, const CfiStack *stack, uint64_t pc,
                   const CfiValue *registers, size_t registers_len, CfiFrame *frames, size_t frames_len, CfiEnd *end);
 
+/* As cfi_unwind, with the registers of each frame, as a debugger shows them: values[i * n + k] is register k of frames[i], where
+ * n is registers_len, or 256 if that is more. They are those that the frame had where it goes on: of the innermost frame those
+ * that are passed, of each other those that the step from the frame before it recovers. A register that isn't known is 0. Ends
+ * with CFI_END_NO_ROOM also where values has no room for the n registers of another frame. Nothing behind them is written. */
+size_t cfi_unwind_registers(CfiContext *context, const CfiModule *modules, size_t modules_len, const CfiStack *stack,
+                            uint64_t pc, const CfiValue *registers, size_t registers_len, CfiFrame *frames, size_t frames_len,
+                            CfiValue *values, size_t values_len, CfiEnd *end);
+
 /* Writes the caller of one frame. The pc and the registers are those of the frame; is_interrupted says that the pc is looked
  * up as it is, as that of the innermost frame and of one that a signal interrupted, and not as a return address. The module is
  * the one whose code has the pc: its start and end aren't read. The row is found as by cfi_unwind.
@@ -379,6 +402,28 @@ uint32_t cfi_step_cached(CfiContext *context, CfiCache *cache, uint64_t file, co
  * bytes, it returns false. file is that of cfi_step_cached. */
 bool cfi_step_held(CfiCache *cache, uint64_t file, const CfiMemory *memory, uint64_t pc, bool is_interrupted,
                    CfiValue *registers, size_t registers_len, CfiFunction *function, CfiCaller *caller, CfiEnd *end);
+
+/* Writes the addresses that the loaded segments of a file, those of type PT_LOAD, take in a process: from the lowest one to the
+ * highest. bias is what the loader has added to the addresses of the file, modulo 2^64: dlpi_addr of dl_iterate_phdr. Returns
+ * CFI_Ok; or CFI_NoSegments, and then writes nothing. */
+int32_t cfi_range_of_headers(const CfiProgramHeader *headers, size_t headers_len, uint64_t bias, CfiRange *range);
+
+/* Writes the module of a file as the loader has mapped it, by its program headers, so that nobody parses ELF by hand: the code
+ * is all of cfi_range_of_headers; .eh_frame_hdr is the segment of type PT_GNU_EH_FRAME; .eh_frame begins where that points, and
+ * goes on to the end of the file's bytes of that segment, so what follows it there comes with it, which no call minds.
+ *
+ * dl_iterate_phdr has the program headers (dlpi_phdr) and the bias (dlpi_addr) of each module of the own process. One window over
+ * its range has the bytes, as examples/process.h makes it: what lies between segments need not be there, since only the bytes of
+ * the header are read. Of another process, or of a core file, each segment may be a window of its own. Either section is of the
+ * first window that has all its bytes.
+ *
+ * Of bases, text, data_base, big_endian, aarch64 and address_size become those of the module; the other fields aren't read.
+ *
+ * Returns CFI_Ok; CFI_NoSegments, CFI_NoHeader, CFI_NoSection or CFI_NotInMemory; the refusal of the header, as
+ * CFI_UnsupportedIndirectPointer for a pointer that isn't direct; CFI_UnsupportedAddressSize for a size that is none. Then
+ * *module stays as it was. */
+int32_t cfi_module_of_headers(const CfiProgramHeader *headers, size_t headers_len, uint64_t bias, const CfiBases *bases,
+                              const CfiWindow *windows, size_t windows_len, CfiModule *module);
 
 /* Writes the name of a status, as in "UnexpectedEof", and a zero after it, as far as there is room. Returns how long the name
  * is, without the zero; 64 bytes have room for each. "Unknown" for a number that is no status. */

@@ -13,6 +13,8 @@ pub mod StackFrames
 pub mod PassedMemories
 pub mod SteppedFrames
 pub mod PassedSteps
+pub mod LoadedImages
+pub mod RegisterFrames
 pub mod HeldCaches
 pub mod WindowPlaces
 pub mod FirstWindows

@@ -39,9 +39,15 @@ value (UnknownCallFrameInstruction x) = x.0
 value (InvalidCfiSetLoc x) = x
 value e = 0
 
--- 0 is the status of a row, 32 that without a context, 33 that without a table
+-- 0 is the status of a row, 32 that without a context, 33 that without a table, 34 to 37 those
+-- without a module
+abbrev pub own_names : List (List ℕ)
+own_names =
+    codes "NoContext" ∷ codes "NoTable" ∷ codes "NoSegments" ∷ codes "NoHeader"
+    ∷ codes "NoSection" ∷ codes "NotInMemory" ∷ []
+
 abbrev pub names : List (List ℕ)
-names = codes "Ok" ∷ (map name_of errors ++ codes "NoContext" ∷ codes "NoTable" ∷ [])
+names = codes "Ok" ∷ (map name_of errors ++ own_names)
 
 abbrev pub status_name : ℤ → List ℕ
 status_name (pos n) = slice_index_or names n (codes "Unknown")

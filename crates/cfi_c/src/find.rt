@@ -1,7 +1,7 @@
 //! The sections that C passes, and the row of an address in them.
 ghost use Rattle.std.specs.Prelude.{◌≡◌, ◌↔◌, Some, IsTrue};
 ghost use Rattle.cfi_read_core.specs.ByteOrder.{is_big};
-ghost use Rattle.cfi_read_core.specs.Addresses.{IsAddressSize};
+ghost use Rattle.cfi_read_core.specs.Addresses.{IsAddressSize, is_sized};
 ghost use Rattle.cfi_read_core.specs.ReaderCalls.{map_ok};
 ghost use Rattle.gimli_cfi.specs.SectionSources.{source_view};
 ghost use Rattle.cfi_c.specs.AddressRows.{IsSizedAnswer};
@@ -36,7 +36,8 @@ pub fn find_row<'ctx>(
 
 /// Returns whether addresses may have this size.
 pub fn is_sized(size: u8) -> bool
-    ensures { IsTrue result ↔ IsAddressSize size }
+    ensures size { IsTrue result ↔ IsAddressSize size }
+    ensures test { result ≡ is_sized size }
 {
     size == 1 || size == 2 || size == 4 || size == 8
 }

@@ -23,15 +23,18 @@ mod held;
 mod held_cache;
 mod held_step;
 mod held_table;
+mod image;
 mod memory;
 mod module;
 mod packed_step;
+mod program_header;
 mod refusal;
 mod stack;
 mod step;
 mod table;
 mod unboxed;
 mod unwind;
+mod unwind_registers;
 mod written;
 
 use context::{CfiContext, Context};
@@ -47,6 +50,7 @@ const VERSION: u32 = 100;
 
 /// The addresses of the sections, and how their numbers are read.
 #[repr(C)]
+#[derive(Drop)]
 pub struct CfiBases {
     /// The address of the section, and that of its header.
     pub section: u64,

@@ -1,5 +1,5 @@
 //! Errors as numbers and names.
-ghost use Rattle.std.specs.Prelude.{◌≡◌};
+ghost use Rattle.std.specs.Prelude.{◌≡◌, ◌<◌, pos};
 ghost use Rattle.cfi_c.specs.Refusals.{number, status_name, value};
 
 use gimli_cfi::{DwCfa, DwEhPe, Error, ReaderOffsetId};
@@ -9,6 +9,18 @@ pub const NO_CONTEXT: i32 = 32;
 
 /// The status where there is no table.
 pub const NO_TABLE: i32 = 33;
+
+/// The status of a file of which no segment is loaded.
+pub const NO_SEGMENTS: i32 = 34;
+
+/// The status of a file without a segment of `.eh_frame_hdr`.
+pub const NO_HEADER: i32 = 35;
+
+/// The status of a header that points to no segment that is loaded.
+pub const NO_SECTION: i32 = 36;
+
+/// The status where no window has the bytes of a header or a section.
+pub const NOT_IN_MEMORY: i32 = 37;
 
 /// Returns the number of an error: its status, from 1 to 31.
 pub fn number_of(error: Error) -> i32
@@ -118,14 +130,34 @@ pub fn name_of(status: i32) -> &'static [u8]
     if number == 0 {
         return b"Ok";
     }
+    if number > 31 {
+        return own_name(number);
+    }
+    REFUSALS[number - 1].name().as_bytes()
+}
+
+/// Returns the name of a status that is no error of the sections.
+fn own_name(number: usize) -> &'static [u8]
+    requires { 31 < number }
+    ensures { result.now ≡ status_name (pos number) }
+{
+    if number > 37 {
+        return b"Unknown";
+    }
     if number == 32 {
         return b"NoContext";
     }
     if number == 33 {
         return b"NoTable";
     }
-    if number > 33 {
-        return b"Unknown";
+    if number == 34 {
+        return b"NoSegments";
     }
-    REFUSALS[number - 1].name().as_bytes()
+    if number == 35 {
+        return b"NoHeader";
+    }
+    if number == 36 {
+        return b"NoSection";
+    }
+    b"NotInMemory"
 }

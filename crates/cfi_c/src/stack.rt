@@ -12,6 +12,7 @@ use gimli_cfi::{Error, Register};
 
 /// A module as it is loaded.
 #[repr(C)]
+#[derive(Drop)]
 pub struct CfiModule<'a> {
     /// The first address of its code, and the first after it.
     pub start: u64,

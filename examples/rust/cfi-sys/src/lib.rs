@@ -75,6 +75,14 @@ pub const CFI_OutOfMemory: i32 = 31;
 pub const CFI_NoContext: i32 = 32;
 /// There is no table.
 pub const CFI_NoTable: i32 = 33;
+/// No segment is loaded.
+pub const CFI_NoSegments: i32 = 34;
+/// No segment is that of `.eh_frame_hdr`.
+pub const CFI_NoHeader: i32 = 35;
+/// The header points to no segment that is loaded.
+pub const CFI_NoSection: i32 = 36;
+/// No window has all bytes of the header or of the section.
+pub const CFI_NotInMemory: i32 = 37;
 
 /// A context, or none: all zero. The caller keeps this struct, and neither writes its fields nor copies it while it is
 /// live; it may be moved. It stays on the thread that made it.
@@ -245,6 +253,38 @@ pub struct CfiEnd {
     pub kind: u32,
     /// The error of a row that is not found, else 0.
     pub status: i32,
+}
+
+/// Some addresses.
+#[repr(C)]
+#[derive(Clone, Copy, Debug, Default)]
+pub struct CfiRange {
+    /// The first address.
+    pub start: u64,
+    /// The first address after them.
+    pub end: u64,
+}
+
+/// A program header of an ELF file of 64 bits: `Elf64_Phdr` of `elf.h`.
+#[repr(C)]
+#[derive(Clone, Copy, Debug, Default)]
+pub struct CfiProgramHeader {
+    /// What the segment is.
+    pub p_type: u32,
+    /// Its flags.
+    pub p_flags: u32,
+    /// Where it is in the file.
+    pub p_offset: u64,
+    /// Where it is loaded, before the bias.
+    pub p_vaddr: u64,
+    /// Not read.
+    pub p_paddr: u64,
+    /// How many bytes the file has of it.
+    pub p_filesz: u64,
+    /// How many it takes in memory.
+    pub p_memsz: u64,
+    /// Not read.
+    pub p_align: u64,
 }
 
 /// Some bytes of memory, from the address `base` on.
@@ -452,6 +492,50 @@ extern "C" {
         frames_len: usize,
         end: *mut CfiEnd,
     ) -> usize;
+    /// The same, with the registers of each frame.
+    ///
+    /// # Safety
+    ///
+    /// As the head of the crate asks.
+    pub fn cfi_unwind_registers(
+        context: *mut CfiContext,
+        modules: *const CfiModule,
+        modules_len: usize,
+        stack: *const CfiStack,
+        pc: u64,
+        registers: *const CfiValue,
+        registers_len: usize,
+        frames: *mut CfiFrame,
+        frames_len: usize,
+        values: *mut CfiValue,
+        values_len: usize,
+        end: *mut CfiEnd,
+    ) -> usize;
+    /// Writes the addresses that the loaded segments of a file take in a process.
+    ///
+    /// # Safety
+    ///
+    /// As the head of the crate asks.
+    pub fn cfi_range_of_headers(
+        headers: *const CfiProgramHeader,
+        headers_len: usize,
+        bias: u64,
+        range: *mut CfiRange,
+    ) -> i32;
+    /// Writes the module of a file as the loader has mapped it, by its program headers.
+    ///
+    /// # Safety
+    ///
+    /// As the head of the crate asks.
+    pub fn cfi_module_of_headers(
+        headers: *const CfiProgramHeader,
+        headers_len: usize,
+        bias: u64,
+        bases: *const CfiBases,
+        windows: *const CfiWindow,
+        windows_len: usize,
+        module: *mut CfiModule,
+    ) -> i32;
     /// Writes the caller of one frame, and what the FDE of its pc says.
     ///
     /// # Safety

@@ -1,14 +1,14 @@
 use Rattle.std.proofs.Common.{rules, ◌≡◌, ◌∙◌, pos, sym, ap}
 use Rattle.cfi_c.specs.Refusals.{status_name}
-use Rattle.cfi_c.proofs.Names.{named, unnamed}
+use Rattle.cfi_c.proofs.Names.{named}
 use Rattle.cfi_c.proofs.refusal.name_of.Goals as goal
 
-pub returns-then-number-gt33 : goal.returns-then-number-gt33
-returns-then-number-gt33 c =
+pub returns-then-number-gt31 : goal.returns-then-number-gt31
+returns-then-number-gt31 c =
     let is : c.args.status ≡ pos c.in-Ok.number = search rules in
-    unnamed c.in-Ok.number c.if-number-gt33.true ∙ ap status_name (sym is)
+    c.own_name.ensures ∙ ap status_name (sym is)
 
 pub returns : goal.returns
 returns c =
     let is : c.args.status ≡ pos c.in-Ok.number = search rules in
-    c.as_bytes.ensures.value ∙ c.name.ensures ∙ named _ c.in-Ok.number c.if-number-eq0.false c.if-number-eq32.false c.if-number-eq33.false c.if-number-gt33.false ∙ ap status_name (sym is)
+    c.as_bytes.ensures.value ∙ c.name.ensures ∙ named _ c.in-Ok.number c.if-number-eq0.false c.if-number-gt31.false ∙ ap status_name (sym is)

@@ -1,0 +1,231 @@
+//! The frames of a stack, with the registers of each.
+ghost use Rattle.std.specs.Prelude.{◌≡◌, ◌+◌, ◌++◌, ◌≤◌, List, drop, length, map, take, true};
+ghost use Rattle.cfi_read_core.specs.Addresses.{IsAddressSize};
+ghost use Rattle.cfi_c.specs.AddressRows.{is_live};
+ghost use Rattle.cfi_c.specs.PassedStacks.{known_value};
+ghost use Rattle.cfi_c.specs.RegisterFrames.{IsUnwoundWith, IsWalkedTo};
+ghost use Rattle.cfi_c.specs.StackFrames.{IsStepForC};
+ghost use Rattle.cfi_c.specs.SteppedFrames.{written_value};
+
+use crate::context::{CfiContext, Context};
+use crate::find::is_sized;
+use crate::module::{PassedSteps, memory_of};
+use crate::refusal::NO_CONTEXT;
+use crate::stack::{
+    CfiEnd, CfiFrame, CfiModule, CfiStack, CfiValue, abi_of, end_of, first_registers, refused_end,
+    write_values,
+};
+use crate::step::written_value;
+use crate::unwind::NOT_WALKED;
+use cfi_step::code::out_of_order;
+use cfi_step::walk::{Start, resumed};
+use cfi_step::{End, Steps, Walk, WalkFrame};
+use gimli_cfi::Error;
+use std::alloc::Global;
+use std::mem;
+
+/// Writes the frames of a stack as `cfi_unwind`, and the registers of each frame: as many for each
+/// as are passed, of which those from 256 on are not read. Those of a frame come behind those of
+/// the frame that it called; a register that is not known is 0.
+///
+/// Returns how many frames it has written, and writes in `end` why there are no more: also for want
+/// of room for the registers of another frame. Writes nothing behind them. Without a context, or if
+/// the address size is not 1, 2, 4 or 8, no frame is written. Does not allocate.
+#[unsafe(no_mangle)]
+pub extern "C" fn cfi_unwind_registers(
+    alloc: Global,
+    context: &mut CfiContext,
+    modules: &[CfiModule<'_>],
+    stack: &CfiStack<'_>,
+    pc: u64,
+    registers: &[CfiValue],
+    frames: &mut [CfiFrame],
+    values: &mut [CfiValue],
+    end: &mut CfiEnd,
+) -> usize
+    ensures unwound { IsUnwoundWith context.old.live modules.now stack.now pc registers.now
+        frames.old frames.new values.old values.new result end.new }
+    ensures kept { context.new.live ≡ context.old.live }
+{
+    let mut held = mem::replace(context, CfiContext::of(alloc, None)).into_box();
+    let count = unwind(
+        &mut held, modules, stack, pc, registers, frames, values, end,
+    );
+    *context = CfiContext::of(alloc, held);
+    count
+}
+
+/// Writes the frames and registers, with the context that is held.
+fn unwind(
+    held: &mut Option<Box<Context>>,
+    modules: &[CfiModule<'_>],
+    stack: &CfiStack<'_>,
+    pc: u64,
+    registers: &[CfiValue],
+    frames: &mut [CfiFrame],
+    values: &mut [CfiValue],
+    end: &mut CfiEnd,
+) -> usize
+    ensures unwound { IsUnwoundWith (is_live held.old) modules.now stack.now pc registers.now
+        frames.old frames.new values.old values.new result end.new }
+    ensures kept { is_live held.new ≡ is_live held.old }
+{
+    match held {
+        Some(context) => unwind_sized(
+            context.as_mut(),
+            modules,
+            stack,
+            pc,
+            registers,
+            frames,
+            values,
+            end,
+        ),
+        None => {
+            *end = CfiEnd {
+                refused: 0,
+                kind: NOT_WALKED,
+                status: NO_CONTEXT,
+            };
+            0
+        }
+    }
+}
+
+/// Writes them, if the size of an address is one.
+fn unwind_sized(
+    context: &mut Context,
+    modules: &[CfiModule<'_>],
+    stack: &CfiStack<'_>,
+    pc: u64,
+    registers: &[CfiValue],
+    frames: &mut [CfiFrame],
+    values: &mut [CfiValue],
+    end: &mut CfiEnd,
+) -> usize
+    ensures { IsUnwoundWith true modules.now stack.now pc registers.now
+        frames.old frames.new values.old values.new result end.new }
+{
+    if !is_sized(stack.address_size) {
+        *end = refused_end(
+            NOT_WALKED,
+            Error::UnsupportedAddressSize(stack.address_size),
+        );
+        return 0;
+    }
+    let registers = first_registers(registers);
+    let walk = walk_from(context, modules, stack, pc, registers, frames, values);
+    *end = end_of(walk.end);
+    walk.count
+}
+
+/// Writes them by the registers of the innermost frame, and says why there are no more.
+fn walk_from(
+    context: &mut Context,
+    modules: &[CfiModule<'_>],
+    stack: &CfiStack<'_>,
+    pc: u64,
+    registers: &[CfiValue],
+    frames: &mut [CfiFrame],
+    values: &mut [CfiValue],
+) -> Walk
+    requires size { IsAddressSize stack.now.address_size }
+    requires room { length registers.now ≤ 256 }
+    ensures { IsWalkedTo (IsStepForC stack.now modules.now) result.end pc
+        (map known_value registers.now) frames.old frames.new values.old values.new result.count }
+{
+    let mut known = [None; 256];
+    let mut found = [None; 256];
+    let known = &mut known[..registers.len()];
+    let found = &mut found[..registers.len()];
+    write_values(registers, known);
+    write_values(registers, found);
+    let steps = PassedSteps {
+        modules,
+        are_in_order: out_of_order(modules).is_none(),
+        stack,
+        memory: memory_of(stack),
+        abi: abi_of(stack),
+    };
+    let mut no_rows: [(); 0] = [];
+    write_all(
+        &steps,
+        &mut no_rows,
+        context,
+        pc,
+        known,
+        found,
+        frames,
+        values,
+    )
+}
+
+/// Writes frame after frame, each with its registers, as `write_frames`.
+fn write_all<K, C, P: Steps<K, C>>(
+    steps: &P,
+    cache: &mut [K],
+    ctx: &mut C,
+    pc: u64,
+    registers: &mut [Option<u64>],
+    caller: &mut [Option<u64>],
+    frames: &mut [CfiFrame],
+    values: &mut [CfiValue],
+) -> Walk
+    requires room { length registers.old ≤ 256 }
+    requires same { caller.old ≡ registers.old }
+    requires can { (rows : List K) → P.can_step steps.now rows }
+    ensures { IsWalkedTo (P.is_step steps.now) result.end pc registers.old
+        frames.old frames.new values.old values.new result.count }
+{
+    let mut at = Start {
+        pc,
+        is_interrupted: true,
+        callee_cfa: None,
+    };
+    let mut first = 0;
+    for index in 0..frames.len() {
+        if values.len() - first < registers.len() {
+            return no_room(index);
+        }
+        write_registers(registers, values, first);
+        first += registers.len();
+        let step = steps.step(cache, ctx, &at, registers, caller);
+        frames[index] = CfiFrame::of(&at, step);
+        match resumed(step) {
+            Ok(next) => {
+                at = next;
+                registers.copy_from_slice(caller);
+            }
+            Err(end) => {
+                return Walk {
+                    count: index + 1,
+                    end,
+                };
+            }
+        }
+    }
+    no_room(frames.len())
+}
+
+/// So many frames, and no room for another.
+fn no_room(count: usize) -> Walk
+    ensures { result ≡ record { count = count; end = End.NoRoom } }
+{
+    Walk {
+        count,
+        end: End::NoRoom,
+    }
+}
+
+/// Writes the registers of a frame from a place on.
+fn write_registers(registers: &[Option<u64>], values: &mut [CfiValue], first: usize)
+    requires { first + length registers.now ≤ length values.old }
+    ensures written { take (first + length registers.now) values.new
+        ≡ take first values.old ++ map written_value registers.now }
+    ensures behind { drop (first + length registers.now) values.new
+        ≡ drop (first + length registers.now) values.old }
+{
+    for k in 0..registers.len() {
+        values[first + k] = written_value(registers[k]);
+    }
+}
