@@ -18,7 +18,7 @@ use Rattle.cfi_object.specs.declared.register_names.RegisterNames.{RegisterNames
 use Rattle.cfi_programs.specs.declared.style.Style.{Style}
 use Rattle.gimli_cfi.specs.SectionSources.{GivenSection}
 use Rattle.cfi_object.specs.CallFrames.{debug_frame_of, eh_frame_of, or_else}
-use Rattle.cfi_object.specs.Targets.{address_by_name, address_named, behind_name, is_plus, number_or_name, sum_of, symbol_or_section, target_address}
+use Rattle.cfi_object.specs.Targets.{address_by_name, address_named, behind_name, is_at, is_plus, number_or_name, sum_of, symbol_named, symbol_or_section, target_address, with_version_or_not, without_version}
 use Rattle.cfi_files.specs.declared.request.Printed.{Printed}
 use Rattle.cfi_files.specs.declared.request.Printed.TheVariants.{Row, Rows, Dump, Table}
 use Rattle.cfi_files.specs.declared.sections.SectionPrinted.{SectionPrinted}
@@ -63,8 +63,18 @@ module _ (file : File) (image : Image) where
   unfolding symbol_or_section
   same_or_section (e, sections) name = λ i. and_then (same_address (e, sections) name i) (λ address. or_else address (sections name i))
 
+  same_symbol : HasSameSymbols → (name : List ℕ) → symbol_named file name ≡ symbol_named other name
+  same_symbol e name = ap (λ found. if length name == 0 then Ok None else found) (same_address e name)
+
+  same_unversioned : HasSameSymbols → (name : List ℕ) → without_version file name ≡ without_version other name
+  same_unversioned e name = ap (λ found. if position_or_len is_at name == length name then Ok None else found) (same_symbol e (before_first is_at name))
+
+  same_versioned : HasSameSymbols → (name : List ℕ) → with_version_or_not file name ≡ with_version_or_not other name
+  unfolding with_version_or_not
+  same_versioned e name = λ i. and_then (same_or_section e name i) (λ address. or_else address (same_unversioned e name i))
+
   same_named : HasSameSymbols → (name : List ℕ) → address_named file name ≡ address_named other name
-  same_named e name = ap (λ found. if length name == 0 then Ok None else found) (same_or_section e name)
+  same_named e name = ap (λ found. if length name == 0 then Ok None else found) (same_versioned e name)
 
   same_behind : HasSameSymbols → (name : List ℕ) (count : Option ℕ) → behind_name file name count ≡ behind_name other name count
   unfolding behind_name
