@@ -5,3 +5,4 @@ pub mod CompiledWritten
 pub mod SameOutputs
 pub mod WholeOutputs
 pub mod PrintedParts
+mod AskedPrinted

@@ -1,5 +1,5 @@
 -- What is right for a file is right for one of which as much is the same.
-use Rattle.std.proofs.Common.{◌≡◌, ◌⊎◌, ◌∙◌, inl, inr, ℕ, List, [], ◌∷◌, true, Option, Some, None, Result, Ok, Err, refl, ap, subst, length, ◌==◌, if◌then◌else◌}
+use Rattle.std.proofs.Common.{◌≡◌, ◌⊎◌, ◌∙◌, inl, inr, ℕ, Bool, List, [], ◌∷◌, true, Option, Some, None, Result, Ok, Err, refl, ap, subst, length, ◌==◌, if◌then◌else◌}
 use Rattle.std.specs.List.{after_first, before_first, position_or_len}
 use Rattle.std.specs.Borrow.{Bor}
 use Rattle.std.specs.Result.{result_transpose}
@@ -18,15 +18,17 @@ use Rattle.cfi_object.specs.declared.register_names.RegisterNames.{RegisterNames
 use Rattle.cfi_programs.specs.declared.style.Style.{Style}
 use Rattle.gimli_cfi.specs.SectionSources.{GivenSection}
 use Rattle.cfi_object.specs.CallFrames.{debug_frame_of, eh_frame_of, or_else}
-use Rattle.cfi_object.specs.Targets.{address_by_name, address_named, behind_name, is_plus, number_or_name, sum_of, symbol_or_section, target_address}
+use Rattle.cfi_object.specs.Targets.{address_by_name, address_named, behind_name, is_at, is_plus, number_or_name, sum_of, symbol_named, symbol_or_section, target_address, with_version_or_not, without_version}
 use Rattle.cfi_files.specs.declared.request.Printed.{Printed}
 use Rattle.cfi_files.specs.declared.request.Printed.TheVariants.{Row, Rows, Dump, Table}
 use Rattle.cfi_files.specs.declared.sections.SectionPrinted.{SectionPrinted}
 use Rattle.cfi_files.specs.declared.sections.SectionPrinted.TheVariants.{Compiled, Listed}
 use Rattle.cfi_programs.specs.declared.dump.printed.Printed.TheVariants.{Entries, Rows as AllRows}
 use Rattle.cfi_files.specs.FileLines.{out_of_memory}
-use Rattle.cfi_files.specs.FileOutputs.{AreFdeRows, AreParts, AreRows, AreRowsAt, AreSections, IsNamed, needs_symbols, styled}
-use Rattle.cfi_files.specs.RowOutputs.{AreWordLines, IsRowLine, IsRowOfFile, IsWordLine}
+use Rattle.cfi_files.specs.FileOutputs.{AreEntries, AreFdeRows, AreParts, AreRows, AreRowsAt, AreSections, IsNamed, needs_symbols, styled}
+use Rattle.cfi_files.specs.Asked.{has_several}
+use Rattle.cfi_files.specs.Found.{debug_frame_in, eh_frame_in}
+use Rattle.cfi_files.specs.RowOutputs.{AreLines, IsAnswer, IsAnswerTo}
 
 module _ (file : File) (image : Image) where
   -- the other file
@@ -63,8 +65,18 @@ module _ (file : File) (image : Image) where
   unfolding symbol_or_section
   same_or_section (e, sections) name = λ i. and_then (same_address (e, sections) name i) (λ address. or_else address (sections name i))
 
+  same_symbol : HasSameSymbols → (name : List ℕ) → symbol_named file name ≡ symbol_named other name
+  same_symbol e name = ap (λ found. if length name == 0 then Ok None else found) (same_address e name)
+
+  same_unversioned : HasSameSymbols → (name : List ℕ) → without_version file name ≡ without_version other name
+  same_unversioned e name = ap (λ found. if position_or_len is_at name == length name then Ok None else found) (same_symbol e (before_first is_at name))
+
+  same_versioned : HasSameSymbols → (name : List ℕ) → with_version_or_not file name ≡ with_version_or_not other name
+  unfolding with_version_or_not
+  same_versioned e name = λ i. and_then (same_or_section e name i) (λ address. or_else address (same_unversioned e name i))
+
   same_named : HasSameSymbols → (name : List ℕ) → address_named file name ≡ address_named other name
-  same_named e name = ap (λ found. if length name == 0 then Ok None else found) (same_or_section e name)
+  same_named e name = ap (λ found. if length name == 0 then Ok None else found) (same_versioned e name)
 
   same_behind : HasSameSymbols → (name : List ℕ) (count : Option ℕ) → behind_name file name count ≡ behind_name other name count
   unfolding behind_name
@@ -90,6 +102,11 @@ module _ (file : File) (image : Image) where
       inl (functions, (λ at. names at ∙ ap (λ fs. best_name fs at) (same_functions e)), same_sections frames style.names (Listed (AllRows (record { address = address; functions = functions; format = style.format }))) line are)
   same_fde_rows frames e style address line (inr refused) = inr refused
 
+  same_entries : HasSameFrames → HasSameSymbols → (names : RegisterNames) (line : Line) → AreEntries names file line → AreEntries names other line
+  same_entries frames e names line (inl (functions, of, are)) =
+      inl (functions, (λ at. of at ∙ ap (λ fs. best_name fs at) (same_functions e)), same_sections frames names (Listed (Entries functions)) line are)
+  same_entries frames e names line (inr refused) = inr refused
+
   same_rows_at : HasSameFrames → HasSameSymbols → (style : Style) (target : Result (Option ℕ) ElfError) (line : Line) → AreRowsAt style file target line → AreRowsAt style other target line
   same_rows_at frames e style (Ok (Some address)) line are = same_fde_rows frames e style (Some address) line are
   same_rows_at frames e style (Ok None) line are = are
@@ -102,30 +119,28 @@ module _ (file : File) (image : Image) where
 
   -- ---- rows of words
 
-  same_row : HasSameFrames → (style : Style) (address : ℕ) (line : Line) → IsRowOfFile style file address line → IsRowOfFile style other address line
-  same_row (eh, debug) style address line is =
-      subst (λ (d : Result (Option GivenSection) ElfError). IsRowLine style (result_transpose (eh_frame_of other)) (result_transpose d) address line ⊎ (line ≡ out_of_memory style.format)) debug
-      (subst (λ (e : Result (Option GivenSection) ElfError). IsRowLine style (result_transpose e) (result_transpose (debug_frame_of file)) address line ⊎ (line ≡ out_of_memory style.format)) eh is)
+  same_answer : HasSameFrames → (style : Style) (target : Result (Option ℕ) ElfError) (line : Line) → IsAnswer style (eh_frame_in file) (debug_frame_in file) target line → IsAnswer style (eh_frame_in other) (debug_frame_in other) target line
+  same_answer (eh, debug) style target line is =
+      subst (λ (d : Result (Option GivenSection) ElfError). IsAnswer style (result_transpose (eh_frame_of other)) (result_transpose d) target line) debug
+      (subst (λ (e : Result (Option GivenSection) ElfError). IsAnswer style (result_transpose e) (result_transpose (debug_frame_of file)) target line) eh is)
 
-  same_word : HasSameFrames → (style : Style) (target : Result (Option ℕ) ElfError) (line : Line) → IsWordLine style file target line → IsWordLine style other target line
-  same_word frames style (Ok (Some address)) line is = same_row frames style address line is
-  same_word frames style (Ok None) line is = is
-  same_word frames style (Err error) line is = is
+  same_word : HasSameFrames → (style : Style) (several : Bool) (word : List ℕ) (target : Result (Option ℕ) ElfError) (line : Line) → IsAnswerTo style file several word target line → IsAnswerTo style other several word target line
+  same_word frames style several word target line (body, is, whole) = (body, same_answer frames style target body is, whole)
 
-  same_words : HasSameFrames → HasSameSymbols → (style : Style) (words : List (List ℕ)) (line : Line) → AreWordLines style file words line → AreWordLines style other words line
-  same_words frames e style [] line are = are
-  same_words frames e style (word ∷ words) line (first, second, is, are, whole) = (
+  same_lines : HasSameFrames → HasSameSymbols → (style : Style) (several : Bool) (words : List (List ℕ)) (line : Line) → AreLines style file several words line → AreLines style other several words line
+  same_lines frames e style several [] line are = are
+  same_lines frames e style several (word ∷ words) line (first, second, is, are, whole) = (
     first,
     second,
-    subst (λ (target : Result (Option ℕ) ElfError). IsWordLine style other target first) (same_target e word) (same_word frames style (target_address file word) first is),
-    same_words frames e style words second are,
+    subst (λ (target : Result (Option ℕ) ElfError). IsAnswerTo style other several word target first) (same_target e word) (same_word frames style several word (target_address file word) first is),
+    same_lines frames e style several words second are,
     whole,
   )
 
   -- ---- all that is printed of a file
 
   pub same_output : HasSameFrames → (names : RegisterNames) (printed : Printed) → (needs_symbols printed ≡ true → HasSameSymbols) → (line : Line) → IsNamed names printed file line → IsNamed names printed other line
-  same_output frames names (Row words format) symbols line is = same_words frames (symbols refl) (styled names format) (texts words.now) line is
+  same_output frames names (Row words format) symbols line is = same_lines frames (symbols refl) (styled names format) (has_several (texts words.now)) (texts words.now) line is
   same_output frames names (Rows word format) symbols line is = same_rows frames (symbols refl) (styled names format) word line is
-  same_output frames names Dump symbols line is = same_sections frames names (Listed Entries) line is
+  same_output frames names Dump symbols line is = same_entries frames (symbols refl) names line is
   same_output frames names Table symbols line is = same_sections frames names Compiled line is

@@ -172,6 +172,19 @@ abbrev pub AreRows : Style → File → Option (Bor (List ℕ)) → Line → Typ
 AreRows style file None printed = AreFdeRows style file None printed
 AreRows style file (Some word) printed = AreRowsAt style file (target_address file word.now) printed
 
+-- ---- entries
+
+-- by the names of the functions of the file
+abbrev pub AreNamedEntries : RegisterNames → File → Line → Type 0
+AreNamedEntries names file printed =
+    (functions : Bor FunctionNames) × AreNamesOf file functions.now
+    × AreSections names (sections.Listed (listed.Entries functions)) file printed
+
+-- or that memory was refused for these
+abbrev pub AreEntries : RegisterNames → File → Line → Type 0
+AreEntries names file printed =
+    AreNamedEntries names file printed ⊎ (printed ≡ out_of_memory Text)
+
 -- ---- a file
 
 -- the form of the lines
@@ -181,12 +194,12 @@ format_for (Rows word format) = format
 format_for Dump = Text
 format_for Table = Text
 
--- whether the symbols of the file are needed: the rows have the names of functions, and words name
--- symbols
+-- whether the symbols of the file are needed: rows and entries have the names of functions, and
+-- words name symbols
 abbrev pub needs_symbols : Printed → Bool
 needs_symbols (Row words format) = true
 needs_symbols (Rows word format) = true
-needs_symbols Dump = false
+needs_symbols Dump = true
 needs_symbols Table = false
 
 abbrev pub styled : RegisterNames → Format → Style
@@ -197,7 +210,7 @@ abbrev pub IsNamed : RegisterNames → Printed → File → Line → Type 0
 IsNamed names (Row words format) file printed =
     AreWordLines (styled names format) file (texts words.now) printed
 IsNamed names (Rows word format) file printed = AreRows (styled names format) file word printed
-IsNamed names Dump file printed = AreSections names (sections.Listed listed.Entries) file printed
+IsNamed names Dump file printed = AreEntries names file printed
 IsNamed names Table file printed = AreSections names sections.Compiled file printed
 
 abbrev pub IsOfFile : Request → File → Line → Type 0

@@ -1,5 +1,6 @@
 pub mod FileLines
 pub mod Found
+pub mod Asked
 pub mod RowOutputs
 pub mod Findings
 pub mod CompiledTexts

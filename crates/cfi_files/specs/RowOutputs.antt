@@ -1,24 +1,44 @@
 -- Which lines are right for the rows of addresses in a file.
---     IsRowOfFile style file address line      the row for an address
---     AreWordLines style file words line      a line for each word that names an address
-use Rattle.std.specs.Prelude.{◌≡◌, ◌≢◌, ◌⊎◌, ℕ, true, List, [], ◌∷◌, Option, Some, None, Result, Ok}
-use Rattle.std.specs.Prelude.{Err}
+--     IsRowOrRefused style eh_frame debug_frame address line      the row for an address, behind
+--         what was asked for
+--     AreWordLines style file words line      a line for each word, with the row for the address
+--         that it names
+use Rattle.std.specs.Prelude.{◌≡◌, ◌≢◌, ◌⊎◌, ℕ, Bool, true, List, [], ◌∷◌, Option, Some, None}
+use Rattle.std.specs.Prelude.{Result, Ok, Err, codes}
 use Rattle.cfi_read_core.specs.declared.error.Error.{Error}
 use Rattle.cfi_read_core.specs.declared.error.Error.TheVariants.{NoUnwindInfoForAddress}
+use Rattle.cfi_read_core.specs.declared.error.Error.TheVariants.{OutOfMemory}
+use Rattle.cfi_read_core.specs.RefusalNames.{name_of}
 use Rattle.cfi_state.specs.Row.{Row}
 use Rattle.cfi_unwind.specs.AddressRow.{IsRowByScan}
 use Rattle.gimli_cfi.specs.EhFrameHdr.{HeaderSection}
 use Rattle.gimli_cfi.specs.RowsByHeader.{IsRowByHeader}
 use Rattle.gimli_cfi.specs.SectionSources.{GivenSection, given_header, given_section}
 use Rattle.cfi_elf.specs.declared.error.ElfError.{ElfError}
+use Rattle.cfi_elf.specs.ErrorNames.{name_of_elf}
 use Rattle.cfi_elf.specs.ElfFiles.{File}
-use Rattle.cfi_programs.specs.Lines.{Line, refusal_in}
-use Rattle.cfi_programs.specs.AnswerLines.{answer_line}
+use Rattle.cfi_programs.specs.Lines.{Line, reason_behind}
+use Rattle.cfi_programs.specs.AnswerLines.{answer_behind}
+use Rattle.cfi_programs.specs.declared.style.Format.{Format}
 use Rattle.cfi_programs.specs.declared.style.Style.{Style}
 use Rattle.cfi_object.specs.Targets.{target_address}
-use Rattle.cfi_files.specs.FileLines.{InTurn, elf_refusal, no_address, no_call_frames}
-use Rattle.cfi_files.specs.FileLines.{out_of_memory}
+use Rattle.cfi_files.specs.Asked.{address_found, asked_text, has_several}
+use Rattle.cfi_files.specs.FileLines.{InTurn, IsUnder}
 use Rattle.cfi_files.specs.Found.{debug_frame_in, eh_frame_in}
+
+-- ---- why there is no row, behind what was asked for
+
+abbrev pub no_row_for : Format → Error → Line
+no_row_for format error = reason_behind format (codes "refused ") (name_of error)
+
+abbrev pub no_row_of : Format → ElfError → Line
+no_row_of format error = reason_behind format (codes "refused ") (name_of_elf error)
+
+abbrev pub no_frames : Format → Line
+no_frames format = reason_behind format [] (codes "no call frames")
+
+abbrev pub no_place : Format → Line
+no_place format = reason_behind format [] (codes "no address")
 
 -- ---- in a section, where the unwind has room for 192 rules and 4 rows
 
@@ -38,8 +58,8 @@ IsByTable frames header address answer =
 abbrev pub IsPartRow : Style → Result GivenSection ElfError → ℕ → Line → Type 0
 IsPartRow style (Ok frames) address printed =
     (answer : Result (Row ℕ) Error) × IsScanned frames address answer
-    × (printed ≡ answer_line style answer)
-IsPartRow style (Err e) address printed = printed ≡ elf_refusal style.format e
+    × (printed ≡ answer_behind style answer)
+IsPartRow style (Err e) address printed = printed ≡ no_row_of style.format e
 
 -- the line where there is no .debug_frame
 abbrev pub IsPartRowOr : Style → Line → Option (Result GivenSection ElfError) → ℕ → Line → Type 0
@@ -51,12 +71,12 @@ IsPartRowOr style otherwise (Some debug_frame) address printed =
 abbrev pub OtherwiseIn : Style → Option (Result GivenSection ElfError) → Error → ℕ → Line → Type 0
 OtherwiseIn style debug_frame error address printed =
     ((error ≡ NoUnwindInfoForAddress)
-    × IsPartRowOr style (refusal_in style.format error) debug_frame address printed)
-    ⊎ ((error ≢ NoUnwindInfoForAddress) × (printed ≡ refusal_in style.format error))
+    × IsPartRowOr style (no_row_for style.format error) debug_frame address printed)
+    ⊎ ((error ≢ NoUnwindInfoForAddress) × (printed ≡ no_row_for style.format error))
 
 abbrev pub IsAnswered :
     Style → Option (Result GivenSection ElfError) → ℕ → Result (Row ℕ) Error → Line → Type 0
-IsAnswered style debug_frame address (Ok row) printed = printed ≡ answer_line style (Ok row)
+IsAnswered style debug_frame address (Ok row) printed = printed ≡ answer_behind style (Ok row)
 IsAnswered style debug_frame address (Err error) printed =
     OtherwiseIn style debug_frame error address printed
 
@@ -72,7 +92,7 @@ abbrev pub IsTableRowOr :
     Style → GivenSection → Option (Result GivenSection ElfError) → ℕ → Result (Row ℕ) Error →
     Line → Type 0
 IsTableRowOr style frames debug_frame address (Ok row) printed =
-    printed ≡ answer_line style (Ok row)
+    printed ≡ answer_behind style (Ok row)
 IsTableRowOr style frames debug_frame address (Err e) printed =
     IsRowOr style frames debug_frame address printed
 
@@ -90,31 +110,49 @@ abbrev pub IsRowLine :
     Style → Option (Result GivenSection ElfError) → Option (Result GivenSection ElfError) → ℕ →
     Line → Type 0
 IsRowLine style None debug_frame address printed =
-    IsPartRowOr style (no_call_frames style.format) debug_frame address printed
+    IsPartRowOr style (no_frames style.format) debug_frame address printed
 IsRowLine style (Some (Ok frames)) debug_frame address printed =
     IsRowByTableOrScan style frames (given_header frames) debug_frame address printed
-IsRowLine style (Some (Err e)) debug_frame address printed = printed ≡ elf_refusal style.format e
+IsRowLine style (Some (Err e)) debug_frame address printed = printed ≡ no_row_of style.format e
 
 -- or that memory was refused
-abbrev pub IsRowOfFile : Style → File → ℕ → Line → Type 0
-IsRowOfFile style file address printed =
-    IsRowLine style (eh_frame_in file) (debug_frame_in file) address printed
-    ⊎ (printed ≡ out_of_memory style.format)
+abbrev pub IsRowOrRefused :
+    Style → Option (Result GivenSection ElfError) → Option (Result GivenSection ElfError) → ℕ →
+    Line → Type 0
+IsRowOrRefused style eh_frame debug_frame address printed =
+    IsRowLine style eh_frame debug_frame address printed
+    ⊎ (printed ≡ no_row_for style.format OutOfMemory)
 
 -- ---- words
 
 -- by the address that a word names
-abbrev pub IsWordLine : Style → File → Result (Option ℕ) ElfError → Line → Type 0
-IsWordLine style file (Ok (Some address)) printed = IsRowOfFile style file address printed
-IsWordLine style file (Ok None) printed = printed ≡ no_address style.format
-IsWordLine style file (Err e) printed = printed ≡ elf_refusal style.format e
+abbrev pub IsAnswer :
+    Style → Option (Result GivenSection ElfError) → Option (Result GivenSection ElfError) →
+    Result (Option ℕ) ElfError → Line → Type 0
+IsAnswer style eh_frame debug_frame (Ok (Some address)) printed =
+    IsRowOrRefused style eh_frame debug_frame address printed
+IsAnswer style eh_frame debug_frame (Ok None) printed = printed ≡ no_place style.format
+IsAnswer style eh_frame debug_frame (Err e) printed = printed ≡ no_row_of style.format e
+
+-- behind the word and that address
+abbrev pub IsAnswerTo :
+    Style → File → Bool → List ℕ → Result (Option ℕ) ElfError → Line → Type 0
+IsAnswerTo style file several word target printed =
+    IsUnder (asked_text style.format several word (address_found target))
+    (IsAnswer style (eh_frame_in file) (debug_frame_in file) target) printed
+
+abbrev pub IsWordLine : Style → File → Bool → List ℕ → Line → Type 0
+IsWordLine style file several word printed =
+    IsAnswerTo style file several word (target_address file word) printed
 
 abbrev pub no_lines : Line
 no_lines = record { text = []; status = 0 }
 
 -- a line for each word, with the greatest status
+abbrev pub AreLines : Style → File → Bool → List (List ℕ) → Line → Type 0
+AreLines style file several [] printed = printed ≡ no_lines
+AreLines style file several (word ∷ words) printed =
+    InTurn (IsWordLine style file several word) (AreLines style file several words) printed
+
 abbrev pub AreWordLines : Style → File → List (List ℕ) → Line → Type 0
-AreWordLines style file [] printed = printed ≡ no_lines
-AreWordLines style file (word ∷ words) printed =
-    InTurn (IsWordLine style file (target_address file word)) (AreWordLines style file words)
-    printed
+AreWordLines style file words printed = AreLines style file (has_several words) words printed

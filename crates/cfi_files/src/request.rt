@@ -21,7 +21,8 @@ pub enum Printed<'words> {
     /// The rows of each FDE, after a line with the name of its function; where there is a word, of
     /// those that contain the address that it names. The lines are in the format.
     Rows(Option<&'words str>, Format),
-    /// Each entry, and after each FDE its rows, as lines of text.
+    /// Each entry, that of an FDE with the name of its function and before its rows, as lines of
+    /// text.
     Dump,
     /// The rows for all addresses, by a compiled table, as lines of text.
     Table,
@@ -40,15 +41,15 @@ impl Printed<'_> {
         }
     }
 
-    /// Returns whether the symbols of the file are needed: the rows have the names of functions,
-    /// and words name symbols.
+    /// Returns whether the symbols of the file are needed: rows and entries have the names of
+    /// functions, and words name symbols.
     pub fn needs_symbols(self) -> bool
         ensures { result ≡ needs_symbols self.entry }
     {
         match self {
             Printed::Row(_, _) => true,
             Printed::Rows(_, _) => true,
-            Printed::Dump => false,
+            Printed::Dump => true,
             Printed::Table => false,
         }
     }

@@ -3,20 +3,20 @@ ghost use Rattle.cfi_elf.specs.ElfFiles.{file_view};
 ghost use Rattle.cfi_read_core.specs.ReaderCalls.{map_ok};
 ghost use Rattle.gimli_cfi.specs.SectionSources.{given_header, source_view};
 ghost use Rattle.cfi_programs.specs.Words.{texts};
-ghost use Rattle.cfi_object.specs.Targets.{target_address};
-ghost use Rattle.cfi_programs.specs.WriterOutput.{PrintsSome};
+ghost use Rattle.cfi_programs.specs.WriterOutput.{Prints, PrintsSome};
 ghost use Rattle.cfi_files.specs.Found.{AreSectionsOf, part_view};
-ghost use Rattle.cfi_files.specs.RowOutputs.{AreWordLines, IsPartRow, IsRowByTableOrScan};
-ghost use Rattle.cfi_files.specs.RowOutputs.{IsRowLine, IsRowOr, IsWordLine};
-ghost use Rattle.cfi_files.specs.RowOutputs.{OtherwiseIn};
+ghost use Rattle.cfi_files.specs.RowOutputs.{AreWordLines, IsAnswer, IsPartRow};
+ghost use Rattle.cfi_files.specs.RowOutputs.{IsRowByTableOrScan, IsRowLine, IsRowOr, IsWordLine};
+ghost use Rattle.cfi_files.specs.RowOutputs.{OtherwiseIn, no_frames, no_place, no_row_for};
+ghost use Rattle.cfi_files.specs.RowOutputs.{no_row_of};
 
-use crate::lines::{write_elf_refusal, write_no_address, write_no_call_frames};
+use crate::asked::{address_found, has_several, write_asked};
 use crate::sections::{debug_frame_part, eh_frame_part};
 use cfi_elf::{ElfError, ElfFile};
 use cfi_object::target::target_address;
-use cfi_programs::lines::write_refusal_in;
-use cfi_programs::row_line::write_answer;
-use cfi_programs::style::Style;
+use cfi_programs::lines::write_reason_behind;
+use cfi_programs::row_line::write_answer_behind;
+use cfi_programs::style::{Format, Style};
 use gimli_cfi::{Error, SectionSource, UnwindContext};
 use std::alloc::Global;
 use std::io;
@@ -32,7 +32,9 @@ pub struct FrameSections<'file> {
 }
 
 /// Prints a line for each word: the row for the address that it names, `no address` where it names
-/// none, or `refused` and the name of the error. Returns the greatest status.
+/// none, or `refused` and the name of the error. Where there are several words, each line begins
+/// with its word, the address that this names, and a colon; in JSON each object begins with these.
+/// Returns the greatest status.
 pub fn print_words<W: Write>(
     alloc: Global,
     style: Style,
@@ -48,9 +50,18 @@ pub fn print_words<W: Write>(
         debug_frame: debug_frame_part(file),
     };
     let mut context = UnwindContext::<usize>::new(alloc).ok();
+    let several = has_several(words);
     let mut status: u8 = 0;
     for word in words {
-        let status_of_word = print_word(style, word, file, &sections, &mut context, output)?;
+        let status_of_word = print_word(
+            style,
+            several,
+            word,
+            file,
+            &sections,
+            &mut context,
+            output,
+        )?;
         status = status.max(status_of_word);
     }
     Ok(status)
@@ -59,6 +70,7 @@ pub fn print_words<W: Write>(
 /// Prints the line of a word. Without a context memory is refused.
 fn print_word<W: Write>(
     style: Style,
+    has_several: bool,
     word: &str,
     file: &ElfFile<'_>,
     sections: &FrameSections<'_>,
@@ -66,19 +78,66 @@ fn print_word<W: Write>(
     output: &mut W,
 ) -> io::Result<u8>
     requires { AreSectionsOf (file_view file.now) sections.now }
-    ensures { PrintsSome (λ line. IsWordLine style (file_view file.now)
-        (target_address (file_view file.now) word.now) line)
+    ensures { PrintsSome (λ line. IsWordLine style (file_view file.now) has_several word.now line)
         (W.contents output.old) (W.contents output.new) result }
 {
-    let address = match target_address(file, word) {
+    let target = target_address(file, word);
+    let address = address_found(target);
+    write_asked(output, style.format, has_several, word, address)?;
+    print_answer(style, target, sections, context, output)
+}
+
+/// Prints the end of the line of a word that names this.
+fn print_answer<W: Write>(
+    style: Style,
+    target: Result<Option<u64>, ElfError>,
+    sections: &FrameSections<'_>,
+    context: &mut Option<UnwindContext<usize>>,
+    output: &mut W,
+) -> io::Result<u8>
+    ensures { PrintsSome (λ line. IsAnswer style (part_view sections.now.eh_frame)
+        (part_view sections.now.debug_frame) target line)
+        (W.contents output.old) (W.contents output.new) result }
+{
+    let address = match target {
         Ok(Some(address)) => address,
-        Ok(None) => return write_no_address(output, style.format),
-        Err(error) => return write_elf_refusal(output, style.format, error),
+        Ok(None) => return write_no_place(output, style.format),
+        Err(error) => return write_no_row_of(output, style.format, error),
     };
     match context {
         Some(context) => print_row(style, sections, address, context, output),
-        None => write_refusal_in(output, style.format, Error::OutOfMemory),
+        None => write_no_row_for(output, style.format, Error::OutOfMemory),
     }
+}
+
+/// Prints that there is no row, for this error of the call frames, and returns the status 1.
+fn write_no_row_for<W: Write>(output: &mut W, format: Format, error: Error) -> io::Result<u8>
+    ensures { Prints (no_row_for format error)
+        (W.contents output.old) (W.contents output.new) result }
+{
+    write_reason_behind(output, format, b"refused ", error.name())
+}
+
+/// Prints that there is no row, for this error of the file, and returns the status 1.
+fn write_no_row_of<W: Write>(output: &mut W, format: Format, error: ElfError) -> io::Result<u8>
+    ensures { Prints (no_row_of format error)
+        (W.contents output.old) (W.contents output.new) result }
+{
+    write_reason_behind(output, format, b"refused ", error.name())
+}
+
+/// Prints that the file has no call frames, and returns the status 1.
+fn write_no_frames<W: Write>(output: &mut W, format: Format) -> io::Result<u8>
+    ensures { Prints (no_frames format) (W.contents output.old) (W.contents output.new) result }
+{
+    write_reason_behind(output, format, b"", "no call frames")
+}
+
+/// Prints that a word names no address, and returns the status 1.
+fn write_no_place<W: Write>(output: &mut W, format: Format) -> io::Result<u8>
+    ensures { Prints (no_place format) (W.contents output.old) (W.contents output.new) result }
+{
+    write_reason_behind(output, format, b"", "no address")
 }
 
 /// Prints the row in `.eh_frame`, or in `.debug_frame` where the file has no `.eh_frame` or that
@@ -97,7 +156,7 @@ fn print_row<W: Write>(
     let debug_frame = sections.debug_frame;
     match sections.eh_frame {
         None => match debug_frame {
-            None => write_no_call_frames(output, style.format),
+            None => write_no_frames(output, style.format),
             Some(part) => print_part_row(style, part, address, context, output),
         },
         Some(Ok(frames)) => print_eh_frame_row(
@@ -108,7 +167,7 @@ fn print_row<W: Write>(
             context,
             output,
         ),
-        Some(Err(error)) => write_elf_refusal(output, style.format, error),
+        Some(Err(error)) => write_no_row_of(output, style.format, error),
     }
 }
 
@@ -130,7 +189,7 @@ fn print_eh_frame_row<W: Write>(
         return print_scanned_row(style, frames, debug_frame, address, context, output);
     };
     match frames.row(context, address) {
-        Ok(row) => write_answer(output, style, Ok(row)),
+        Ok(row) => write_answer_behind(output, style, Ok(row)),
         Err(_) => print_scanned_row(style, frames, debug_frame, address, context, output),
     }
 }
@@ -149,7 +208,7 @@ fn print_scanned_row<W: Write>(
         (W.contents output.old) (W.contents output.new) result }
 {
     match frames.row_by_scan(context, address) {
-        Ok(row) => write_answer(output, style, Ok(row)),
+        Ok(row) => write_answer_behind(output, style, Ok(row)),
         Err(error) => print_otherwise(style, debug_frame, error, address, context, output),
     }
 }
@@ -168,10 +227,10 @@ fn print_otherwise<W: Write>(
         error address line) (W.contents output.old) (W.contents output.new) result }
 {
     if error != Error::NoUnwindInfoForAddress {
-        return write_refusal_in(output, style.format, error);
+        return write_no_row_for(output, style.format, error);
     }
     match debug_frame {
-        None => write_refusal_in(output, style.format, error),
+        None => write_no_row_for(output, style.format, error),
         Some(part) => print_part_row(style, part, address, context, output),
     }
 }
@@ -190,8 +249,8 @@ fn print_part_row<W: Write>(
     match part {
         Ok(frames) => {
             let row = frames.row_by_scan(context, address);
-            write_answer(output, style, row)
+            write_answer_behind(output, style, row)
         }
-        Err(error) => write_elf_refusal(output, style.format, error),
+        Err(error) => write_no_row_of(output, style.format, error),
     }
 }

@@ -8,6 +8,7 @@ ghost use Rattle.cfi_files.specs.FileOutputs.{IsOfFile, PrintsOwed, needs_symbol
 ghost use Rattle.cfi_object.specs.FileParts.{IsEnoughOf};
 ghost use Rattle.cfi_files.specs.Findings.{ChecksSome};
 
+use crate::entries::print_entries;
 use crate::finding::{Finding, finding_without, write_found};
 use crate::lines::{write_elf_refusal, write_wrong_input};
 use crate::relocated::print_bytes;
@@ -20,7 +21,6 @@ use cfi_elf::{ElfError, ElfFile, Image};
 use cfi_object::input::{FileInput, InputError};
 use cfi_object::machine_names::names_in;
 use cfi_object::parts::{read_parts, read_whole};
-use cfi_programs::dump::Printed as Listed;
 use cfi_programs::json::write_escaped;
 use cfi_programs::lines::{write_between, write_refusal_in, write_text};
 use cfi_programs::style::{Format, Style};
@@ -116,10 +116,7 @@ pub(crate) fn print_file<W: Write>(
         Printed::Rows(word, format) => {
             print_rows(alloc, Style { names, format }, word, file, output)
         }
-        Printed::Dump => {
-            let entries = SectionPrinted::Listed(Listed::Entries);
-            print_sections(alloc, names, entries, file, output)
-        }
+        Printed::Dump => print_entries(alloc, names, file, output),
         Printed::Table => print_sections(alloc, names, SectionPrinted::Compiled, file, output),
     }
 }

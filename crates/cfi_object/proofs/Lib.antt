@@ -4,3 +4,4 @@ pub mod ReadParts
 pub mod SameFrames
 pub mod SectionReads
 mod RegistersNamed
+mod NumbersRead

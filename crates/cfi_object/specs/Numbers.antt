@@ -1,6 +1,6 @@
 -- The number that a word is.
---     number word      0x and 1 to 16 hexadecimal digits; 2 to 16 of which the first is 0; or 1 to
---         20 decimal ones of a value below 2^64
+--     number word      0x or 0X and 1 to 16 hexadecimal digits; 2 to 16 of which the first is 0; or
+--         1 to 20 decimal ones of a value below 2^64
 use Rattle.std.specs.Prelude.{ℕ, ◌^◌, Bool, ◌&&◌, Option, Some, None, List, [], ◌∷◌, length, take}
 use Rattle.std.specs.Prelude.{drop, nat_le, nat_lt, codes, if◌then◌else◌}
 use Rattle.std.specs.Char.{is_ascii_digit, is_ascii_hexdigit}
@@ -39,9 +39,17 @@ without_prefix word (Some (digit ∷ digits)) = hexadecimal_number word
 without_prefix word (Some []) = decimal_number word
 without_prefix word None = decimal_number word
 
+-- after a start, or else after the other
+abbrev pub first_of : Option (List ℕ) → Option (List ℕ) → Option (List ℕ)
+first_of (Some digits) other = Some digits
+first_of None other = other
+
+abbrev pub behind_0x : List ℕ → Option (List ℕ)
+behind_0x word = first_of (after_prefix (codes "0x") word) (after_prefix (codes "0X") word)
+
 abbrev pub number_after : List ℕ → Option (List ℕ) → Option ℕ
 number_after word (Some digits) = hexadecimal_number digits
 number_after word None = without_prefix word (after_prefix (codes "0") word)
 
 abbrev pub number : List ℕ → Option ℕ
-number word = number_after word (after_prefix (codes "0x") word)
+number word = number_after word (behind_0x word)

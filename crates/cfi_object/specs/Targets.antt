@@ -1,6 +1,6 @@
 -- The address that a word names in an ELF file.
 --     target_address file word      a number; the name of a symbol or a section; or such a name, a
---         plus sign and a number
+--         plus sign and a number. Behind the name of a symbol may stand an @ and its version
 use Rattle.std.specs.Prelude.{ℕ, ◌+◌, Bool, List, length, Option, Some, None, Result, Ok, ◌==◌}
 use Rattle.std.specs.Prelude.{if◌then◌else◌}
 use Rattle.std.specs.List.{after_first, before_first, position_or_len}
@@ -15,6 +15,10 @@ use Rattle.cfi_object.specs.CallFrames.{◌>>=◌, or_else}
 abbrev pub is_plus : ℕ → Bool
 is_plus c = c == 43
 
+-- @ is 64
+abbrev pub is_at : ℕ → Bool
+is_at c = c == 64
+
 -- of the symbol of this name, or else of the section
 unfoldable pub symbol_or_section : File → List ℕ → Result (Option ℕ) ElfError
 symbol_or_section file name = do
@@ -22,8 +26,25 @@ symbol_or_section file name = do
   or_else address (section_address file name)
 
 -- nothing is meant by the empty name
+abbrev pub symbol_named : File → List ℕ → Result (Option ℕ) ElfError
+symbol_named file name = if length name == 0 then Ok None else symbol_address file name
+
+-- of the symbol whose name stands before the first @, as nm(1) prints a symbol and its version: no
+-- version is compared
+abbrev pub without_version : File → List ℕ → Result (Option ℕ) ElfError
+without_version file name =
+    if position_or_len is_at name == length name
+    then Ok None
+    else symbol_named file (before_first is_at name)
+
+-- of what has the whole name, or else of the symbol without the version
+unfoldable pub with_version_or_not : File → List ℕ → Result (Option ℕ) ElfError
+with_version_or_not file name = do
+  address ← symbol_or_section file name
+  or_else address (without_version file name)
+
 abbrev pub address_named : File → List ℕ → Result (Option ℕ) ElfError
-address_named file name = if length name == 0 then Ok None else symbol_or_section file name
+address_named file name = if length name == 0 then Ok None else with_version_or_not file name
 
 abbrev pub sum_of : Option ℕ → Option ℕ → Option ℕ
 sum_of (Some address) (Some count) = below_2_64 (address + count)

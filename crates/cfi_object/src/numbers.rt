@@ -2,7 +2,7 @@
 ghost use Rattle.std.specs.Prelude.{◌≡◌, option_map};
 ghost use Rattle.std.specs.Char.{is_ascii_digit, is_ascii_hexdigit};
 ghost use Rattle.std.specs.List.{list_all};
-ghost use Rattle.cfi_object.specs.Numbers.{after_prefix, decimal_number};
+ghost use Rattle.cfi_object.specs.Numbers.{after_prefix, behind_0x, decimal_number};
 ghost use Rattle.cfi_object.specs.Numbers.{hexadecimal_number, number, without_prefix};
 
 /// Returns what comes after `start` in a word that begins with it.
@@ -12,19 +12,29 @@ pub fn after_prefix<'w>(word: &'w str, start: &str) -> Option<&'w str>
     word.strip_prefix(start)
 }
 
-/// Parses a number: `0x` and 1 to 16 hexadecimal digits; 2 to 16 hexadecimal digits of which the
-/// first is 0, as `nm` prints addresses; or 1 to 20 decimal digits of a value below 2^64. `None`
-/// for other words.
+/// Parses a number: `0x` or `0X` and 1 to 16 hexadecimal digits; 2 to 16 hexadecimal digits of
+/// which the first is 0, as `nm` prints addresses; or 1 to 20 decimal digits of a value below 2^64.
+/// `None` for other words.
 pub fn number_in(word: &str) -> Option<u64>
     ensures { result ≡ number word.now }
 {
-    match after_prefix(word, "0x") {
+    match behind_0x(word) {
         Some(digits) => hexadecimal(digits),
         None => without_prefix(word, after_prefix(word, "0")),
     }
 }
 
-/// Parses a word without `0x`, which has this behind its first digit if that is 0.
+/// Returns what comes after the `0x` or `0X` of a word that begins with it.
+fn behind_0x(word: &str) -> Option<&str>
+    ensures { option_map (λ rest. rest.now) result ≡ behind_0x word.now }
+{
+    match after_prefix(word, "0x") {
+        Some(digits) => Some(digits),
+        None => after_prefix(word, "0X"),
+    }
+}
+
+/// Parses a word without `0x` and `0X`, which has this behind its first digit if that is 0.
 fn without_prefix(word: &str, behind_zero: Option<&str>) -> Option<u64>
     ensures { result ≡ without_prefix word.now (option_map (λ rest. rest.now) behind_zero.entry) }
 {

@@ -2,15 +2,20 @@
 ghost use Rattle.std.specs.Prelude.{◌≡◌};
 ghost use Rattle.cfi_elf.specs.ElfFiles.{file_view};
 ghost use Rattle.cfi_object.specs.Targets.{address_by_name, address_named, behind_name};
-ghost use Rattle.cfi_object.specs.Targets.{symbol_or_section, target_address};
+ghost use Rattle.cfi_object.specs.Targets.{symbol_named, symbol_or_section, target_address};
+ghost use Rattle.cfi_object.specs.Targets.{with_version_or_not, without_version};
 
 use crate::number_in;
 use cfi_elf::{ElfError, ElfFile};
 
 /// The address that the word names: a number, as `crate::number_in` reads it; the name of a symbol,
 /// or where no symbol has it of a section; or such a name, a plus sign and a number of bytes behind
-/// what it names. Returns `None` where neither a symbol nor a section has the name, what is behind
-/// the plus sign is no number, or the sum is not below 2^64. The first plus sign ends the name.
+/// what it names. Where neither a symbol nor a section has a name with an `@`, what stands before
+/// the first one is the name of the symbol: so `nm -D` prints a symbol with its version. No version
+/// is compared, so of several versions of a symbol the first is named.
+///
+/// Returns `None` where neither a symbol nor a section has the name, what is behind the plus sign
+/// is no number, or the sum is not below 2^64. The first plus sign ends the name.
 ///
 /// Fails as `ElfFile::symbol_address` and `ElfFile::section_address`, unless the word is a number.
 /// Does not allocate.
@@ -52,7 +57,38 @@ fn address_named(file: &ElfFile<'_>, name: &str) -> Result<Option<u64>, ElfError
     if name.is_empty() {
         return Ok(None);
     }
-    symbol_or_section(file, name.as_bytes())
+    with_version_or_not(file, name)
+}
+
+/// The address of the symbol or section of this name, or else of the symbol without the version.
+#[tactic(auto, unfolding(crate::specs::Targets::with_version_or_not))]
+fn with_version_or_not(file: &ElfFile<'_>, name: &str) -> Result<Option<u64>, ElfError>
+    ensures { result ≡ with_version_or_not (file_view file.now) name.now }
+{
+    match symbol_or_section(file, name.as_bytes())? {
+        Some(address) => Ok(Some(address)),
+        None => without_version(file, name),
+    }
+}
+
+/// The address of the symbol whose name stands before the first `@`.
+fn without_version(file: &ElfFile<'_>, name: &str) -> Result<Option<u64>, ElfError>
+    ensures { result ≡ without_version (file_view file.now) name.now }
+{
+    match name.split_once('@') {
+        Some((symbol, _)) => symbol_named(file, symbol),
+        None => Ok(None),
+    }
+}
+
+/// The address of the symbol of this name, unless it is empty.
+fn symbol_named(file: &ElfFile<'_>, name: &str) -> Result<Option<u64>, ElfError>
+    ensures { result ≡ symbol_named (file_view file.now) name.now }
+{
+    if name.is_empty() {
+        return Ok(None);
+    }
+    file.symbol_address(name.as_bytes())
 }
 
 /// The address of the symbol of this name, or else of the section.

@@ -2,10 +2,12 @@
 use Rattle.std.proofs.Common.{◌≡◌, ℕ, negsuc, true, List, [], ◌∷◌, Option, ◌++◌, Some, None, Ok, Err, refl, codes}
 use Rattle.cfi_read_core.specs.declared.error.Error.TheVariants.{UnknownAugmentation}
 use Rattle.cfi_read_core.specs.declared.instruction.CallFrameInstruction.TheVariants as variant
+use Rattle.cfi_read_core.specs.ReadFunctions.{Readings}
+use Rattle.cfi_parts.specs.Instructions.{Instruction}
 use Rattle.cfi_entry.specs.Fdes.{Fde}
 use Rattle.cfi_entry.specs.Sections.{Section}
 use Rattle.cfi_object.specs.declared.register_names.RegisterNames.TheVariants.{Numbers, X86_64}
-use Rattle.cfi_programs.specs.DumpInstructionLines.{instruction_line}
+use Rattle.cfi_programs.specs.DumpInstructionLines.{instruction_line, instructions_text, moved}
 use Rattle.cfi_programs.specs.DumpRowTexts.{addresses_line, fde_rows_text, is_asked_for}
 use Rattle.cfi_programs.specs.FunctionLines.{function_text}
 use Rattle.cfi_programs.specs.AnswerLines.{text_style}
@@ -47,21 +49,43 @@ module _ (fde : Fde) (section : Section) where
 
 -- ---- instructions
 
-factored : instruction_line Numbers (variant.Offset (record { 0 = 16 }) 1) ≡ codes "  DW_CFA_offset register=r16 factored_offset=1" ++ 10 ∷ []
+factored : instruction_line Numbers None (variant.Offset (record { 0 = 16 }) 1) ≡ codes "  DW_CFA_offset register=r16 factored_offset=1" ++ 10 ∷ []
 unfolding computing
 factored = refl
 
-below : instruction_line Numbers (variant.OffsetExtendedSf (record { 0 = 5 }) (negsuc 2)) ≡ codes "  DW_CFA_offset_extended_sf register=r5 factored_offset=-3" ++ 10 ∷ []
+below : instruction_line Numbers None (variant.OffsetExtendedSf (record { 0 = 5 }) (negsuc 2)) ≡ codes "  DW_CFA_offset_extended_sf register=r5 factored_offset=-3" ++ 10 ∷ []
 unfolding computing
 below = refl
 
-two_registers : instruction_line X86_64 (variant.Register (record { 0 = 5 }) (record { 0 = 6 })) ≡ codes "  DW_CFA_register dest_register=rdi src_register=rbp" ++ 10 ∷ []
+two_registers : instruction_line X86_64 None (variant.Register (record { 0 = 5 }) (record { 0 = 6 })) ≡ codes "  DW_CFA_register dest_register=rdi src_register=rbp" ++ 10 ∷ []
 unfolding computing
 two_registers = refl
 
-by_expression : instruction_line Numbers (variant.Expression (record { 0 = 5 }) (record { offset = 77; length = 2 })) ≡ codes "  DW_CFA_expression register=r5 expression=expr@77:2" ++ 10 ∷ []
+by_expression : instruction_line Numbers None (variant.Expression (record { 0 = 5 }) (record { offset = 77; length = 2 })) ≡ codes "  DW_CFA_expression register=r5 expression=expr@77:2" ++ 10 ∷ []
 unfolding computing
 by_expression = refl
+
+-- two moves in units of four bytes from 0x1000 on, and the same in a CIE
+abbrev two_moves : Readings Instruction
+two_moves = record { values = variant.AdvanceLoc 1 ∷ variant.Nop ∷ variant.AdvanceLoc 2 ∷ []; refusal = None }
+
+moves : instructions_text Numbers 4 8 (Some 0x1000) two_moves ≡ codes "  DW_CFA_advance_loc delta=1 to=0x1004" ++ 10 ∷ codes "  DW_CFA_nop" ++ 10 ∷ codes "  DW_CFA_advance_loc delta=2 to=0x100c" ++ 10 ∷ []
+unfolding computing instructions_text
+moves = refl
+
+moves_of_cie : instructions_text Numbers 4 8 None two_moves ≡ codes "  DW_CFA_advance_loc delta=1" ++ 10 ∷ codes "  DW_CFA_nop" ++ 10 ∷ codes "  DW_CFA_advance_loc delta=2" ++ 10 ∷ []
+unfolding computing instructions_text
+moves_of_cie = refl
+
+set : moved 1 8 (Some 0x1000) (variant.SetLoc 0x2000) ≡ Some 0x2000
+set = refl
+
+-- the last address of four bytes, and one more
+the_greatest : moved 1 4 (Some 0xfffffff0) (variant.AdvanceLoc 15) ≡ Some 0xffffffff
+the_greatest = refl
+
+no_room : moved 1 4 (Some 0xfffffff0) (variant.AdvanceLoc 16) ≡ None
+no_room = refl
 
 -- escape, delete and two bytes above ASCII
 not_printable : function_text (Some (0x1b ∷ 0x61 ∷ 0x7f ∷ 0xc3 ∷ 0xa9 ∷ 0x7e ∷ [])) ≡ codes " ?a???~"

@@ -33,9 +33,9 @@ pub last_written : {T E : Type 0} (old mid new : Option (List ℕ)) (r : Result 
 last_written old mid new r first last written more = writes_last old mid new r last (first ++ last) (given_then old old mid first last (first ++ last) (given_first old (first ++ last)) written) more
 
 -- an FDE, by what reading it gave
-pub as_read : {T E : Type 0} (old new : Option (List ℕ)) (r : Result T E) (names : RegisterNames) (section : Section) (found : PartialFde) (reading : Result Fde Error) → reading ≡ read_fde section found
-    → Writes old new r (fde_text names section found reading) → Writes old new r (fde_text names section found (read_fde section found))
-as_read old new r names section found reading is written = subst (λ x. Writes old new r (fde_text names section found x)) is written
+pub as_read : {T E : Type 0} (old new : Option (List ℕ)) (r : Result T E) (names : RegisterNames) (function : ℕ → Option (List ℕ)) (section : Section) (found : PartialFde) (reading : Result Fde Error) → reading ≡ read_fde section found
+    → Writes old new r (fde_text names function section found reading) → Writes old new r (fde_text names function section found (read_fde section found))
+as_read old new r names function section found reading is written = subst (λ x. Writes old new r (fde_text names function section found x)) is written
 
 pub rows_as_read : {T E : Type 0} (old new : Option (List ℕ)) (r : Result T E) (style : Style) (function : ℕ → Option (List ℕ)) (address : Option ℕ) (section : Section) (found : PartialFde) (reading : Result Fde Error) → reading ≡ read_fde section found
     → Writes old new r (fde_rows_text style function address section reading) → Writes old new r (fde_rows_text style function address section (read_fde section found))

@@ -9,7 +9,7 @@ use Rattle.cfi_state.specs.Row.{Row}
 use Rattle.std.specs.FinMap as map
 use Rattle.cfi_object.specs.declared.register_names.RegisterNames.TheVariants.{X86_64}
 use Rattle.cfi_programs.specs.JsonLines.{escaped, json_addresses, json_function, json_head, json_number, json_rule, json_section, separated}
-use Rattle.cfi_programs.specs.Lines.{reason_line, refusal_in}
+use Rattle.cfi_programs.specs.Lines.{reason_behind, reason_line, refusal_in}
 use Rattle.cfi_programs.specs.RowLines.{rules_by}
 use Rattle.cfi_programs.specs.declared.style.Format.TheVariants.{Json}
 use Rattle.cfi_programs.proofs.Computing.{computing}
@@ -20,7 +20,7 @@ row_of start end cfa args_size = record { start_address = start; end_address = e
 -- ---- a row
 
 before_the_rules : json_head X86_64 (row_of 0x1001 0x1004 (cfas.RegisterAndOffset (record { 0 = 7 }) (pos 16)) 0) ≡
-    codes "{\"start\":\"0x1001\",\"end\":\"0x1004\",\"cfa\":\"rsp+16\",\"args\":0,\"rules\":{"
+    codes "\"start\":\"0x1001\",\"end\":\"0x1004\",\"cfa\":\"rsp+16\",\"args\":0,\"rules\":{"
 unfolding computing
 before_the_rules = refl
 
@@ -73,3 +73,7 @@ refused = refl
 
 no_address : reason_line Json (codes "no address") 1 ≡ record { text = codes "{\"error\":\"no address\"}" ++ 10 ∷ []; status = 1 }
 no_address = refl
+
+-- the end of an object that has begun
+no_address_behind : reason_behind Json [] (codes "no address") ≡ record { text = codes "\"error\":\"no address\"}" ++ 10 ∷ []; status = 1 }
+no_address_behind = refl

@@ -10,6 +10,7 @@ use Rattle.cfi_entry.specs.Fdes.{Fde, end_of}
 use Rattle.cfi_object.specs.RegisterNames.{register_text}
 use Rattle.cfi_object.specs.declared.register_names.RegisterNames.{RegisterNames}
 use Rattle.cfi_programs.specs.Lines.{address_text}
+use Rattle.cfi_programs.specs.FunctionLines.{function_text}
 
 -- ---- what only some entries have
 
@@ -78,9 +79,11 @@ fde_addresses fde =
     codes " cie=" ++ address_text fde.cie.offset ++ codes " " ++ address_text fde.initial
     ++ codes " " ++ address_text (end_of fde)
 
-abbrev pub fde_line : Fde → List ℕ
-fde_line fde =
-    fde_head fde.offset fde.length ++ (fde_addresses fde ++ (lsda_text fde.lsda ++ 10 ∷ []))
+-- with the name of the function that begins at its first address, where there is one
+abbrev pub fde_line : Option (List ℕ) → Fde → List ℕ
+fde_line function fde =
+    fde_head fde.offset fde.length
+    ++ (fde_addresses fde ++ (lsda_text fde.lsda ++ (function_text function ++ 10 ∷ [])))
 
 -- of which no more could be read
 abbrev pub partial_fde_line : ℕ → ℕ → List ℕ

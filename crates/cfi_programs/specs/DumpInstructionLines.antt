@@ -2,20 +2,24 @@
 -- the section has them.
 --     shown instruction      the name, one for all sizes of an operand; the registers, which come
 --         first; the other operand
---     instruction_line names instruction      its line
---     instructions_text names readings      a line for each, and after the last one the error with
---         which they end
-use Rattle.std.specs.Prelude.{ℕ, ℤ, List, [], ◌∷◌, ◌++◌, codes}
+--     instruction_line names at instruction      its line, where it moves to this address
+--     instructions_text names factor size at readings      a line for each, and after the last one
+--         the error with which they end, from this address on
+use Rattle.std.specs.Prelude.{ℕ, ℤ, ◌*◌, ◌%◌, ◌^◌, List, [], ◌∷◌, ◌++◌, codes, Option, Some, None}
+use Rattle.std.specs.Prelude.{Bool, true, false, Result, Ok, Err, if◌then◌else◌}
+use Rattle.std.specs.Result.{result_ok}
 use Rattle.std.specs.Fmt.{decimal, signed_decimal}
 use Rattle.cfi_read_core.specs.declared.common.Register.{Register}
+use Rattle.cfi_read_core.specs.declared.error.Error.{Error}
 use Rattle.cfi_read_core.specs.declared.instruction.CallFrameInstruction.TheVariants as variant
 use Rattle.cfi_read_core.specs.declared.instruction.UnwindExpression.{UnwindExpression}
+use Rattle.cfi_read_core.specs.Addresses.{checked_sum}
 use Rattle.cfi_read_core.specs.ReadFunctions.{Readings}
 use Rattle.cfi_parts.specs.Instructions.{Instruction}
 use Rattle.cfi_object.specs.RegisterNames.{register_text}
 use Rattle.cfi_object.specs.declared.register_names.RegisterNames.{RegisterNames}
 use Rattle.cfi_programs.specs.Lines.{address_text}
-use Rattle.cfi_programs.specs.ReadingTexts.{readings_text}
+use Rattle.cfi_programs.specs.ReadingTexts.{refusal_text}
 use Rattle.cfi_programs.specs.RowLines.{expression_text}
 use Rattle.cfi_programs.specs.declared.style.Format.TheVariants.{Text as AsText}
 
@@ -96,6 +100,37 @@ shown (variant.ArgsSize size) =
 shown variant.NegateRaState = shown_as (codes "DW_CFA_AARCH64_negate_ra_state") [] []
 shown variant.Nop = shown_as (codes "DW_CFA_nop") [] []
 
+-- ---- the address at which the instructions are
+
+-- an advance is a number of code alignment factors; the product wraps
+abbrev pub advanced : ℕ → ℕ → ℕ → ℕ → Option ℕ
+advanced factor size at delta = result_ok (checked_sum at (delta * factor % 2 ^ 64) size)
+
+-- after an instruction, by the code alignment factor and the size of an address: none in a CIE, and
+-- none behind a move that has no room
+abbrev pub moved : ℕ → ℕ → Option ℕ → Instruction → Option ℕ
+moved factor size None instruction = None
+moved factor size (Some at) (variant.SetLoc address) = Some address
+moved factor size (Some at) (variant.AdvanceLoc delta) = advanced factor size at delta
+moved factor size (Some at) _ = Some at
+
+-- an error in the place of an instruction moves nothing
+abbrev pub item_moved : ℕ → ℕ → Option ℕ → Result Instruction Error → Option ℕ
+item_moved factor size at (Ok instruction) = moved factor size at instruction
+item_moved factor size at (Err e) = at
+
+abbrev pub is_advance : Instruction → Bool
+is_advance (variant.AdvanceLoc delta) = true
+is_advance _ = false
+
+-- the address to which DW_CFA_advance_loc moves; that of DW_CFA_set_loc is its operand
+abbrev pub target : Option ℕ → Instruction → Option ℕ
+target at instruction = if is_advance instruction then at else None
+
+abbrev pub target_text : Option ℕ → List ℕ
+target_text None = []
+target_text (Some address) = codes " to=" ++ address_text address
+
 -- ---- the lines
 
 abbrev pub registers_text : RegisterNames → List RegisterOperand → List ℕ
@@ -103,10 +138,22 @@ registers_text names [] = []
 registers_text names (operand ∷ operands) =
     operand.label ++ register_text names operand.register ++ registers_text names operands
 
-abbrev pub instruction_line : RegisterNames → Instruction → List ℕ
-instruction_line names instruction =
+abbrev pub instruction_line : RegisterNames → Option ℕ → Instruction → List ℕ
+instruction_line names at instruction =
     let words = shown instruction in
-    codes "  " ++ words.name ++ registers_text names words.registers ++ words.value ++ 10 ∷ []
+    codes "  " ++ words.name ++ registers_text names words.registers ++ words.value
+    ++ target_text (target at instruction) ++ 10 ∷ []
 
-abbrev pub instructions_text : RegisterNames → Readings Instruction → List ℕ
-instructions_text names readings = readings_text AsText (instruction_line names) readings
+-- each behind the address to which it moves
+abbrev pub instruction_lines :
+    RegisterNames → ℕ → ℕ → Option ℕ → List Instruction → List ℕ
+instruction_lines names factor size at [] = []
+instruction_lines names factor size at (instruction ∷ instructions) =
+    let next = moved factor size at instruction in
+    instruction_line names next instruction
+    ++ instruction_lines names factor size next instructions
+
+unfoldable pub instructions_text :
+    RegisterNames → ℕ → ℕ → Option ℕ → Readings Instruction → List ℕ
+instructions_text names factor size at readings =
+    instruction_lines names factor size at readings.values ++ refusal_text AsText readings.refusal

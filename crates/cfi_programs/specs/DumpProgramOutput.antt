@@ -20,7 +20,7 @@ use Rattle.cfi_programs.specs.ReadingTexts.{readings_text}
 
 -- the form of the lines
 abbrev pub format_of : Printed → Format
-format_of printing.Entries = AsText
+format_of (printing.Entries functions) = AsText
 format_of (printing.Rows asked) = asked.format
 
 abbrev pub style_of : RegisterNames → AskedRows → Style
@@ -30,7 +30,8 @@ style_of names asked = record { names = names; format = asked.format }
 
 -- an entry with its instructions and rows; or the rows of an FDE
 abbrev pub printed_entry : RegisterNames → Printed → Section → Entry → List ℕ
-printed_entry names printing.Entries section entry = entry_text names section entry
+printed_entry names (printing.Entries functions) section entry =
+    entry_text names (name_in functions.now) section entry
 printed_entry names (printing.Rows asked) section entry =
     entry_rows_text (style_of names asked) (name_in asked.functions.now) asked.address section entry
 

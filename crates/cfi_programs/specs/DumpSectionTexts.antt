@@ -1,9 +1,9 @@
 -- What is printed of a section.
 --     fde_rows section fde      the rows of an FDE, and the refusals among them, in order
 --     lines style answers      a line for each
---     entry_text names section entry      an entry and its instructions, and after those of an FDE
---         its rows
-use Rattle.std.specs.Prelude.{ℕ, Some, List, [], ◌∷◌, ◌++◌, Result, Ok, Err}
+--     entry_text names function section entry      an entry and its instructions, and after those
+--         of an FDE its rows; with the names of functions, by their addresses
+use Rattle.std.specs.Prelude.{ℕ, Option, Some, None, List, [], ◌∷◌, ◌++◌, Result, Ok, Err}
 use Rattle.cfi_read_core.specs.declared.error.Error.{Error}
 use Rattle.cfi_state.specs.MachineSettings.{Setting}
 use Rattle.cfi_state.specs.Program.{in_fde}
@@ -47,19 +47,28 @@ lines style (answer ∷ answers) = (answer_line style answer).text ++ lines styl
 -- a CIE and its instructions
 abbrev pub cie_text : RegisterNames → Section → Cie → List ℕ
 cie_text names section cie =
-    cie_line names cie ++ instructions_text names (cie_instructions section cie)
+    cie_line names cie
+    ++ instructions_text names cie.code_alignment_factor cie.address_size None
+    (cie_instructions section cie)
+
+-- the instructions of an FDE, from its first address on
+abbrev pub fde_instructions_text : RegisterNames → Section → Fde → List ℕ
+fde_instructions_text names section fde =
+    instructions_text names fde.cie.code_alignment_factor fde.cie.address_size (Some fde.initial)
+    (fde_instructions section fde)
 
 -- an FDE, its instructions and its rows; or what was read of it, and the error of the rest
-abbrev pub fde_text : RegisterNames → Section → PartialFde → Result Fde Error → List ℕ
-fde_text names section partial (Ok fde) =
-    fde_line fde
-    ++ (instructions_text names (fde_instructions section fde)
+abbrev pub fde_text :
+    RegisterNames → (ℕ → Option (List ℕ)) → Section → PartialFde → Result Fde Error → List ℕ
+fde_text names function section partial (Ok fde) =
+    fde_line (function fde.initial) fde
+    ++ (fde_instructions_text names section fde
     ++ lines (text_style names) (fde_rows section fde))
-fde_text names section partial (Err error) =
+fde_text names function section partial (Err error) =
     partial_fde_line partial.prefix.offset partial.prefix.length ++ (refusal_line error).text
 
 -- an FDE is read with the CIE to which it points
-abbrev pub entry_text : RegisterNames → Section → Entry → List ℕ
-entry_text names section (CieEntry cie) = cie_text names section cie
-entry_text names section (FdeEntry partial) =
-    fde_text names section partial (read_fde section partial)
+abbrev pub entry_text : RegisterNames → (ℕ → Option (List ℕ)) → Section → Entry → List ℕ
+entry_text names function section (CieEntry cie) = cie_text names section cie
+entry_text names function section (FdeEntry partial) =
+    fde_text names function section partial (read_fde section partial)

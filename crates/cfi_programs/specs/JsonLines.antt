@@ -2,6 +2,7 @@
 --     json_number n      a number
 --     escaped text      the characters of a string
 --     json_row names row      a row
+--     json_members names row      its members, and the brace after them
 --     json_addresses start end, json_function name      an FDE
 --     json_section name      the name of a section
 use Rattle.std.specs.Prelude.{ℕ, ◌/◌, ◌%◌, ◌^◌, Bool, true, false, ◌==◌, List, [], ◌∷◌, ◌++◌}
@@ -60,12 +61,15 @@ json_rules names parts = separated true (rules_by (json_rule names) 65536 0 (get
 -- what comes before the rules
 abbrev pub json_head : RegisterNames → Row ℕ → List ℕ
 json_head names row =
-    codes "{\"start\":\"" ++ address_text row.start_address ++ codes "\",\"end\":\""
+    codes "\"start\":\"" ++ address_text row.start_address ++ codes "\",\"end\":\""
     ++ address_text row.end_address ++ codes "\",\"cfa\":\"" ++ cfa_text names row.parts.cfa
     ++ codes "\",\"args\":" ++ json_number row.parts.args_size ++ codes ",\"rules\":{"
 
+abbrev pub json_members : RegisterNames → Row ℕ → List ℕ
+json_members names row = (json_head names row ++ json_rules names row.parts) ++ codes "}}"
+
 abbrev pub json_row : RegisterNames → Row ℕ → List ℕ
-json_row names row = (json_head names row ++ json_rules names row.parts) ++ codes "}}"
+json_row names row = codes "{" ++ json_members names row
 
 -- ---- an FDE
 

@@ -52,3 +52,13 @@ refused_line format name = line (error_in format (codes "refused ") name) 1
 
 abbrev pub refusal_in : Format → Error → Line
 refusal_in format error = refused_line format (name_of error)
+
+-- ---- behind what was asked for, with which an object of JSON has begun
+
+-- why there is no answer; in text behind another text
+abbrev pub error_behind : Format → List ℕ → List ℕ → List ℕ
+error_behind Text before reason = before ++ reason
+error_behind Json before reason = codes "\"error\":\"" ++ (reason ++ codes "\"}")
+
+abbrev pub reason_behind : Format → List ℕ → List ℕ → Line
+reason_behind format before reason = line (error_behind format before reason) 1

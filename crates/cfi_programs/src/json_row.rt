@@ -1,7 +1,7 @@
 //! The line of a row in JSON.
 ghost use Rattle.std.specs.Prelude.{◌≡◌, ◌≤◌, ◌++◌, [], ◌∷◌, OnOk};
-ghost use Rattle.cfi_programs.specs.JsonLines.{json_head, json_member, json_row, json_rule};
-ghost use Rattle.cfi_programs.specs.JsonLines.{json_rules, separated};
+ghost use Rattle.cfi_programs.specs.JsonLines.{json_head, json_member, json_members, json_row};
+ghost use Rattle.cfi_programs.specs.JsonLines.{json_rule, json_rules, separated};
 ghost use Rattle.cfi_programs.specs.WriterOutput.{Writes, WritesBehind};
 
 use crate::json::push_number;
@@ -13,7 +13,7 @@ use gimli_cfi::{ArrayLike, Register, RegisterRule, UnwindTableRow};
 use std::io::Write;
 use std::{fmt, io};
 
-/// Writes the row as an object on a line, its registers in ascending order.
+/// Writes the row as an object on a line.
 pub(crate) fn write_json_row<W: Write, A: ArrayLike<Item = (Register, RegisterRule<usize>)>>(
     output: &mut W,
     names: RegisterNames,
@@ -21,6 +21,20 @@ pub(crate) fn write_json_row<W: Write, A: ArrayLike<Item = (Register, RegisterRu
 ) -> io::Result<()>
     ensures { Writes (W.contents output.old) (W.contents output.new) result
         (json_row names row.now ++ 10 ∷ []) }
+{
+    write_text(output, b"{")?;
+    write_json_members(output, names, row)
+}
+
+/// Writes the members of the row's object, its registers in ascending order, and the end of the
+/// line.
+pub(crate) fn write_json_members<W: Write, A: ArrayLike<Item = (Register, RegisterRule<usize>)>>(
+    output: &mut W,
+    names: RegisterNames,
+    row: &UnwindTableRow<usize, A>,
+) -> io::Result<()>
+    ensures { Writes (W.contents output.old) (W.contents output.new) result
+        (json_members names row.now ++ 10 ∷ []) }
 {
     let mut text = Text::new();
     push_head(&mut text, names, row)?;
@@ -37,7 +51,7 @@ fn push_head<A: ArrayLike<Item = (Register, RegisterRule<usize>)>>(
 ) -> fmt::Result
     ensures { OnOk result (text.new.items ≡ text.old.items ++ json_head names row.now) }
 {
-    push(text, b"{\"start\":\"")?;
+    push(text, b"\"start\":\"")?;
     push_address(text, row.start_address())?;
     push(text, b"\",\"end\":\"")?;
     push_address(text, row.end_address())?;

@@ -1,6 +1,7 @@
 //! Writes lines, and the lines that say why there is no answer.
 ghost use Rattle.std.specs.Prelude.{◌≡◌, ◌++◌, [], ◌∷◌, Some, IfSome};
-ghost use Rattle.cfi_programs.specs.Lines.{address_text, error_in, reason_line};
+ghost use Rattle.cfi_programs.specs.Lines.{address_text, error_behind, error_in, reason_behind};
+ghost use Rattle.cfi_programs.specs.Lines.{reason_line};
 ghost use Rattle.cfi_programs.specs.Lines.{refusal_in, refusal_line, refused_line};
 ghost use Rattle.cfi_programs.specs.Lines.{wrong_hexadecimal, wrong_input, wrong_words};
 ghost use Rattle.cfi_programs.specs.WriterOutput.{Writes, Prints};
@@ -144,6 +145,38 @@ fn write_error<W: Write>(
     match format {
         Format::Text => write_between(output, before, reason, b"\n"),
         Format::Json => write_between(output, b"{\"error\":\"", reason, b"\"}\n"),
+    }
+}
+
+/// Prints why there is no answer, behind what was asked for, and returns the status 1: in text
+/// after another, in JSON as the end of an object that has begun.
+pub fn write_reason_behind<W: Write>(
+    output: &mut W,
+    format: Format,
+    before: &[u8],
+    reason: &str,
+) -> io::Result<u8>
+    ensures { Prints (reason_behind format before.now reason.now)
+        (W.contents output.old) (W.contents output.new) result }
+{
+    write_error_behind(output, format, before, reason)?;
+    Ok(1)
+}
+
+/// Writes the end of the line that says why there is no answer.
+fn write_error_behind<W: Write>(
+    output: &mut W,
+    format: Format,
+    before: &[u8],
+    reason: &str,
+) -> io::Result<()>
+    ensures { Writes (W.contents output.old) (W.contents output.new) result
+        (error_behind format before.now reason.now ++ 10 ∷ []) }
+{
+    let reason = reason.as_bytes();
+    match format {
+        Format::Text => write_between(output, before, reason, b"\n"),
+        Format::Json => write_between(output, b"\"error\":\"", reason, b"\"}\n"),
     }
 }
 

@@ -11,14 +11,15 @@ ghost use Rattle.cfi_object.specs.RegisterNames.{register_text};
 ghost use Rattle.cfi_object.specs.declared.register_names.RegisterNames.TheVariants.{X86_64};
 ghost use Rattle.cfi_programs.specs.KeptRules.{AreKept, kept_rules};
 ghost use Rattle.cfi_programs.specs.WriterOutput.{Prints, Writes, WritesBehind};
-ghost use Rattle.cfi_programs.specs.AnswerLines.{answer_line, row_in, text_style};
+ghost use Rattle.cfi_programs.specs.AnswerLines.{answer_behind, answer_line, row_behind, row_in};
+ghost use Rattle.cfi_programs.specs.AnswerLines.{text_style};
 ghost use Rattle.cfi_programs.specs.RowLines.{cfa_text, expression_text};
 ghost use Rattle.cfi_programs.specs.RowLines.{offset_text, parts_rules, row_head};
 ghost use Rattle.cfi_programs.specs.RowLines.{row_text, rule_text, ruled, rules_by};
 
-use crate::json_row::write_json_row;
+use crate::json_row::{write_json_members, write_json_row};
 use crate::kept_rules::KeptRules;
-use crate::lines::{write_refusal_in, write_text};
+use crate::lines::{write_reason_behind, write_refusal_in, write_text};
 use crate::style::{Format, Style};
 use crate::text::{Text, push, push_address, push_decimal, push_signed};
 use cfi_object::register_names::RegisterNames;
@@ -327,6 +328,40 @@ pub fn write_answer<W: Write, A: ArrayLike<Item = (Register, RegisterRule<usize>
             Ok(0)
         }
         Err(error) => write_refusal_in(output, style.format, error),
+    }
+}
+
+/// Prints the end of the line of an answer, behind what was asked for, and returns the status: 0
+/// for a row, 1 for an error. In JSON it is the end of an object that has begun.
+pub fn write_answer_behind<W: Write, A: ArrayLike<Item = (Register, RegisterRule<usize>)>>(
+    output: &mut W,
+    style: Style,
+    answer: Result<&UnwindTableRow<usize, A>, Error>,
+) -> io::Result<u8>
+    ensures { Prints (answer_behind style (map_ok (λ row. row.now) answer.entry))
+        (W.contents output.old) (W.contents output.new) result }
+{
+    match answer {
+        Ok(row) => {
+            write_row_behind(output, style, row)?;
+            Ok(0)
+        }
+        Err(error) => write_reason_behind(output, style.format, b"refused ", error.name()),
+    }
+}
+
+/// Writes the end of the line of a row, its registers in ascending order.
+fn write_row_behind<W: Write, A: ArrayLike<Item = (Register, RegisterRule<usize>)>>(
+    output: &mut W,
+    style: Style,
+    row: &UnwindTableRow<usize, A>,
+) -> io::Result<()>
+    ensures { Writes (W.contents output.old) (W.contents output.new) result
+        (row_behind style.format style.names row.now ++ 10 ∷ []) }
+{
+    match style.format {
+        Format::Text => write_row(output, style.names, row),
+        Format::Json => write_json_members(output, style.names, row),
     }
 }
 

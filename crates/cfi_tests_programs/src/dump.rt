@@ -44,10 +44,10 @@ const THREE_ROWS_PRINTED: &str = "cie 0x0 length=16 version=4 size=8 code=1 data
   DW_CFA_def_cfa register=r7 offset=8
   DW_CFA_offset register=r16 factored_offset=1
 fde 0x14 length=28 cie=0x0 0x1000 0x1020
-  DW_CFA_advance_loc delta=1
+  DW_CFA_advance_loc delta=1 to=0x1001
   DW_CFA_def_cfa_offset offset=16
   DW_CFA_offset register=r6 factored_offset=2
-  DW_CFA_advance_loc delta=3
+  DW_CFA_advance_loc delta=3 to=0x1004
   DW_CFA_def_cfa_register register=r6
 0x1000 0x1001 cfa=r7+8 args=0 r16=offset(-8)
 0x1001 0x1004 cfa=r7+16 args=0 r6=offset(-16) r16=offset(-8)
@@ -77,9 +77,9 @@ const REFUSED_PRINTED: &str = "cie 0x0 length=16 version=4 size=8 code=1 data=-8
   DW_CFA_def_cfa register=r7 offset=8
   DW_CFA_offset register=r16 factored_offset=1
 fde 0x14 length=23 cie=0x0 0x1000 0x1020
-  DW_CFA_advance_loc delta=1
+  DW_CFA_advance_loc delta=1 to=0x1001
   DW_CFA_restore_state
-  DW_CFA_advance_loc delta=2
+  DW_CFA_advance_loc delta=2 to=0x1003
 0x1000 0x1001 cfa=r7+8 args=0 r16=offset(-8)
 refused PopWithEmptyStack
 0x1001 0x1003 cfa=r7+8 args=0 r16=offset(-8)
@@ -155,10 +155,9 @@ fn expect(
     Ok(())
 }
 
-/// Compares what is printed of a section, and the status.
+/// Compares what is printed of the entries of a section, and the status.
 fn prints(
     rt: &(impl Abort + AllocGlobal),
-    printed: Printed<'_>,
     words: &SectionWords,
     digits: &str,
     text: &str,
@@ -167,20 +166,21 @@ fn prints(
     let names = RegisterNames::Numbers;
     let mut output = Vec::new(rt.alloc());
     let source = words.source(bytes.as_slice(), &[]);
-    let status = print_source(rt.alloc(), names, printed, &source, &mut output)?;
+    let functions = FunctionNames::none(rt.alloc());
+    let entries = Printed::Entries(&functions);
+    let status = print_source(rt.alloc(), names, entries, &source, &mut output)?;
     expect(rt, output.as_slice(), status, text)
 }
 
 #[test]
 fn entries_and_rows(rt: HostRuntime) -> Result<(), Fail> {
-    let entries = Printed::Entries;
-    prints(&rt, entries, &debug_frame(), THREE_ROWS, THREE_ROWS_PRINTED)?;
-    prints(&rt, entries, &debug_frame(), REFUSED, REFUSED_PRINTED)?;
+    prints(&rt, &debug_frame(), THREE_ROWS, THREE_ROWS_PRINTED)?;
+    prints(&rt, &debug_frame(), REFUSED, REFUSED_PRINTED)?;
     let of_letters = SectionWords {
         section: Some(0x2000),
         ..eh_frame()
     };
-    prints(&rt, entries, &of_letters, LETTERS, LETTERS_PRINTED)
+    prints(&rt, &of_letters, LETTERS, LETTERS_PRINTED)
 }
 
 #[test]
@@ -189,13 +189,7 @@ fn each_instruction(rt: HostRuntime) -> Result<(), Fail> {
         vendor: Vendor::AArch64,
         ..debug_frame()
     };
-    prints(
-        &rt,
-        Printed::Entries,
-        &of_aarch64,
-        INSTRUCTIONS,
-        INSTRUCTIONS_PRINTED,
-    )
+    prints(&rt, &of_aarch64, INSTRUCTIONS, INSTRUCTIONS_PRINTED)
 }
 
 #[test]
@@ -216,16 +210,15 @@ fn an_empty_section(rt: HostRuntime) -> Result<(), Fail> {
         address_size: AddressSize::new(4),
         ..eh_frame()
     };
-    prints(&rt, Printed::Entries, &big_endian, "", "")
+    prints(&rt, &big_endian, "", "")
 }
 
 #[test]
 fn entries_that_are_refused(rt: HostRuntime) -> Result<(), Fail> {
-    let entries = Printed::Entries;
     let cut = "refused UnexpectedEof\n";
-    prints(&rt, entries, &debug_frame(), "0500", cut)?;
+    prints(&rt, &debug_frame(), "0500", cut)?;
     let no_cie = "fde 0x0 length=4\nrefused NotCieId\n";
-    prints(&rt, entries, &eh_frame(), "04000000 04000000", no_cie)
+    prints(&rt, &eh_frame(), "04000000 04000000", no_cie)
 }
 
 /// Addresses, and the rows of the FDEs that contain them; of all FDEs, where there is no address.

@@ -1,6 +1,7 @@
 //! The lines of entries.
 ghost use Rattle.std.specs.Prelude.{◌≡◌, ◌++◌, [], ◌∷◌, Some, IfSome};
 ghost use Rattle.std.specs.Option.{option_map};
+ghost use Rattle.cfi_elf.specs.FunctionNames.{name_in};
 ghost use Rattle.cfi_entry.specs.EntryViews.{cie_view};
 ghost use Rattle.cfi_unwind.specs.FdeViews.{fde_view};
 ghost use Rattle.cfi_programs.specs.WriterOutput.{Writes};
@@ -12,7 +13,10 @@ ghost use Rattle.cfi_programs.specs.DumpEntryLines.{fde_addresses, fde_head, fde
 ghost use Rattle.cfi_programs.specs.DumpEntryLines.{partial_fde_line};
 ghost use Rattle.cfi_programs.specs.DumpEntryLines.{personality_text, signal_text, target_text};
 
+use crate::dump::function_line::end_line;
 use crate::lines::{Address, write_part};
+use crate::style::Format;
+use cfi_elf::FunctionNames;
 use cfi_object::register_names::RegisterNames;
 use gimli_cfi::{CommonInformationEntry, DwEhPe, FrameDescriptionEntry, Pointer, Reader};
 use std::fmt::{Display, Formatter};
@@ -199,18 +203,26 @@ fn write_cie_augmentation<R: Reader<Offset = usize>, W: Write>(
     )
 }
 
-/// Writes the line of an FDE: its fields, its addresses from the first up to the end, and its LSDA.
+/// Writes the line of an FDE: its fields, its addresses from the first up to the end, its LSDA, and
+/// the name of the function that begins at the first address.
 pub fn write_fde<R: Reader<Offset = usize>, W: Write>(
     output: &mut W,
+    functions: &FunctionNames<'_>,
     fde: &FrameDescriptionEntry<R>,
 ) -> io::Result<()>
-    ensures { Writes (W.contents output.old) (W.contents output.new) result
-        (fde_line (fde_view R.position (λ n. n) fde.now)) }
+    ensures { let read = fde_view R.position (λ n. n) fde.now in
+        Writes (W.contents output.old) (W.contents output.new) result
+        (fde_line (name_in functions.now read.initial) read) }
 {
     write_fde_head(output, fde)?;
     write_fde_addresses(output, fde)?;
     let lsda = Lsda(fde.lsda());
-    write_part(output, format_args!("{lsda}\n"))
+    write_part(output, format_args!("{lsda}"))?;
+    end_line(
+        output,
+        Format::Text,
+        functions.name_at(fde.initial_address()),
+    )
 }
 
 /// Writes the offset and the length of an FDE.

@@ -1,10 +1,13 @@
 //! The lines of call frame instructions.
 ghost use Rattle.std.specs.Prelude.{◌≡◌, Some, IfSome};
+ghost use Rattle.cfi_read_core.specs.AddressSizes.{size_in_bytes};
 ghost use Rattle.cfi_parts.specs.InstructionIterators.{instruction_reader};
 ghost use Rattle.cfi_parts.specs.InstructionReaders.{instructions_left};
 ghost use Rattle.cfi_programs.specs.WriterOutput.{Writes};
 ghost use Rattle.cfi_programs.specs.ReadingTexts.{item_text};
-ghost use Rattle.cfi_programs.specs.DumpInstructionLines.{instruction_line, instructions_text};
+ghost use Rattle.cfi_programs.specs.DumpInstructionLines.{instruction_line, target, target_text};
+ghost use Rattle.cfi_programs.specs.DumpInstructionLines.{advanced, instructions_text, item_moved};
+ghost use Rattle.cfi_programs.specs.DumpInstructionLines.{moved};
 ghost use Rattle.cfi_programs.specs.DumpInstructionLines.{dest_and_src, expression_operand, of};
 ghost use Rattle.cfi_programs.specs.DumpInstructionLines.{factored_operand, registers_text, shown};
 ghost use Rattle.cfi_programs.specs.DumpInstructionLines.{signed_factored_operand};
@@ -14,6 +17,7 @@ use crate::dump::section::write_refused;
 use crate::lines::write_part;
 use crate::style::Format;
 use cfi_object::register_names::RegisterNames;
+use cfi_read_core::address::{AddressSize, ReaderAddress};
 use gimli_cfi::{
     CallFrameInstruction as Instruction, CallFrameInstructionIter, Reader, Register, Result,
     UnwindExpression,
@@ -193,6 +197,21 @@ impl Display for Value {
     }
 }
 
+/// The address to which an advance moves, where there is one.
+#[derive(Clone, Copy)]
+struct MovedTo(Option<u64>);
+
+impl Display for MovedTo {
+    ghost output = { λ to. Some (target_text to.0) };
+
+    fn fmt<W: fmt::Write>(&self, f: &mut Formatter<W>) -> fmt::Result {
+        match self.0 {
+            Some(address) => write!(f, " to=0x{address:x}"),
+            None => Ok(()),
+        }
+    }
+}
+
 /// Returns the instruction's name in DWARF, one for all sizes of an operand.
 fn dwarf_name(instruction: &Instruction<usize>) -> &'static str
     ensures { result.now ≡ (shown instruction.now).name }
@@ -225,49 +244,114 @@ fn dwarf_name(instruction: &Instruction<usize>) -> &'static str
     }
 }
 
-/// Writes a line for each instruction that is left; and after the last one the line of the error
-/// with which they end, if there is one.
+/// Returns the address after an instruction, or after an error in its place, by the code alignment
+/// factor and the size of an address; `None` if there is none before it, or none that has room.
+fn moved(
+    factor: u64,
+    size: AddressSize,
+    at: Option<u64>,
+    instruction: Result<Instruction<usize>>,
+) -> Option<u64>
+    ensures { result ≡ item_moved factor (size_in_bytes size) at instruction }
+{
+    match instruction {
+        Ok(instruction) => moved_by(factor, size, at, instruction),
+        Err(_) => at,
+    }
+}
+
+/// Returns the address after an instruction.
+fn moved_by(
+    factor: u64,
+    size: AddressSize,
+    at: Option<u64>,
+    instruction: Instruction<usize>,
+) -> Option<u64>
+    ensures { result ≡ moved factor (size_in_bytes size) at instruction }
+{
+    let Some(from) = at else {
+        return None;
+    };
+    match instruction {
+        Instruction::SetLoc { address } => Some(address),
+        Instruction::AdvanceLoc { delta } => advanced(factor, size, from, delta),
+        _ => Some(from),
+    }
+}
+
+/// Returns the address after an advance.
+fn advanced(factor: u64, size: AddressSize, address: u64, delta: u32) -> Option<u64>
+    ensures { result ≡ advanced factor (size_in_bytes size) address delta }
+{
+    let distance = u64::from(delta).wrapping_mul(factor);
+    match address.add_sized(distance, size.bytes()) {
+        Ok(sum) => Some(sum),
+        Err(_) => None,
+    }
+}
+
+/// Returns the address to which the instruction moves, if it is an advance.
+fn target(at: Option<u64>, instruction: Instruction<usize>) -> Option<u64>
+    ensures { result ≡ target at instruction }
+{
+    match instruction {
+        Instruction::AdvanceLoc { .. } => at,
+        _ => None,
+    }
+}
+
+/// Writes a line for each instruction that is left, by the code alignment factor and the size of an
+/// address from an address on; and after the last one the line of the error with which they end, if
+/// there is one.
 pub fn write_instructions<R: Reader<Offset = usize>, W: Write>(
     output: &mut W,
     names: RegisterNames,
+    factor: u64,
+    size: AddressSize,
+    start: Option<u64>,
     instructions: CallFrameInstructionIter<'_, R>,
 ) -> io::Result<()>
     ensures { let left = instructions_left (instruction_reader R.position instructions.entry) in
         Writes (W.contents output.old) (W.contents output.new) result
-        (instructions_text names left) }
+        (instructions_text names factor (size_in_bytes size) start left) }
 {
+    let mut at = start;
     for instruction in instructions {
-        write_item(output, names, instruction)?;
+        at = moved(factor, size, at, instruction);
+        write_item(output, names, at, instruction)?;
     }
     Ok(())
 }
 
-/// Writes the line of an instruction, or of the error in its place.
+/// Writes the line of an instruction that moves to this address, or of the error in its place.
 fn write_item<W: Write>(
     output: &mut W,
     names: RegisterNames,
+    at: Option<u64>,
     instruction: Result<Instruction<usize>>,
 ) -> io::Result<()>
     ensures { Writes (W.contents output.old) (W.contents output.new) result
-        (item_text Format.Text (instruction_line names) instruction) }
+        (item_text Format.Text (instruction_line names at) instruction) }
 {
     match instruction {
-        Ok(instruction) => write_instruction(output, names, instruction),
+        Ok(instruction) => write_instruction(output, names, at, instruction),
         Err(error) => write_refused(output, Format::Text, error),
     }
 }
 
-/// Writes the line of an instruction.
+/// Writes the line of an instruction that moves to this address.
 fn write_instruction<W: Write>(
     output: &mut W,
     names: RegisterNames,
+    at: Option<u64>,
     instruction: Instruction<usize>,
 ) -> io::Result<()>
     ensures { Writes (W.contents output.old) (W.contents output.new) result
-        (instruction_line names instruction) }
+        (instruction_line names at instruction) }
 {
     let name = dwarf_name(&instruction);
     let registers = Registers(names, instruction);
     let value = Value(instruction);
-    write_part(output, format_args!("  {name}{registers}{value}\n"))
+    let to = MovedTo(target(at, instruction));
+    write_part(output, format_args!("  {name}{registers}{value}{to}\n"))
 }

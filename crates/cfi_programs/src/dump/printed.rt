@@ -20,8 +20,9 @@ pub struct AskedRows<'names> {
 /// What is printed of the section.
 #[derive(Clone, Copy)]
 pub enum Printed<'names> {
-    /// Each entry and its instructions, and after those of each FDE its rows, as lines of text.
-    Entries,
+    /// Each entry and its instructions, and after those of each FDE its rows, as lines of text;
+    /// with the names of the functions, by the first addresses of FDEs.
+    Entries(&'names FunctionNames<'names>),
     /// For each FDE a line with its addresses and the name of the function that begins there, and
     /// its rows.
     Rows(AskedRows<'names>),
@@ -34,7 +35,7 @@ impl Printed<'_> {
     {
         match self {
             Printed::Rows(asked) => asked.format,
-            Printed::Entries => Format::Text,
+            Printed::Entries(_) => Format::Text,
         }
     }
 }

@@ -6,9 +6,9 @@ ghost use Rattle.cfi_state.specs.FdeAnswers.{IsStateAfter};
 ghost use Rattle.cfi_state.specs.AcceptedInstructions.{at_program};
 ghost use Rattle.cfi_state.specs.Program.{Program};
 ghost use Rattle.cfi_state.specs.UnwindTableStates.{answers_to_come};
-ghost use Rattle.cfi_entry.specs.EntryInstructions.{fde_instructions};
 ghost use Rattle.cfi_entry.specs.EntryViews.{IsCieOf, cie_view};
 ghost use Rattle.cfi_entry.specs.Sections.{section_of};
+ghost use Rattle.cfi_elf.specs.FunctionNames.{name_in};
 ghost use Rattle.cfi_unwind.specs.CachedCie.{IsCacheOf};
 ghost use Rattle.cfi_unwind.specs.FdeViews.{HasCieOf, IsFdeOf, fde_view};
 ghost use Rattle.cfi_unwind.specs.WalkViews.{IsEntryOf, IsPartialOf, cie_or_fde_view};
@@ -19,8 +19,8 @@ ghost use Rattle.cfi_programs.specs.AnswerLines.{text_style};
 ghost use Rattle.cfi_programs.specs.Lines.{refusal_in, refusal_line};
 ghost use Rattle.cfi_programs.specs.WriterOutput.{Writes};
 ghost use Rattle.cfi_programs.specs.DumpEntryLines.{fde_line, partial_fde_line};
-ghost use Rattle.cfi_programs.specs.DumpInstructionLines.{instructions_text};
-ghost use Rattle.cfi_programs.specs.DumpSectionTexts.{cie_text, entry_text, fde_rows, fde_text};
+ghost use Rattle.cfi_programs.specs.DumpSectionTexts.{cie_text, entry_text};
+ghost use Rattle.cfi_programs.specs.DumpSectionTexts.{fde_instructions_text, fde_rows, fde_text};
 ghost use Rattle.cfi_programs.specs.DumpSectionTexts.{lines};
 ghost use Rattle.cfi_programs.specs.ReadingTexts.{item_text};
 ghost use Rattle.cfi_programs.specs.DumpProgramOutput.{format_of, printed_entry, printed_text};
@@ -34,6 +34,8 @@ use crate::lines::{write_refusal_in, write_text};
 use crate::row_line::{FULL_OF_LINES, write_answer, write_apart, write_out};
 use crate::style::{Format, Style};
 use crate::text::Text;
+use cfi_elf::FunctionNames;
+use cfi_entry::cie::address_size_of;
 use cfi_object::register_names::RegisterNames;
 use gimli_cfi::{
     _UnwindSectionPrivate, BaseAddresses, CieCache, CieOrFde, CommonInformationEntry, Error,
@@ -91,7 +93,9 @@ fn write_printed<R: Reader<Offset = usize>, S: UnwindSection<R>, W: Write>(
     ensures cies { IsCacheOf R.position (λ n. n) (S.view section.now) bases.now cies.new }
 {
     match printed {
-        Printed::Entries => write_entry(output, room, cies, names, section, bases, context, entry),
+        Printed::Entries(functions) => write_entry(
+            output, room, cies, names, functions, section, bases, context, entry,
+        ),
         Printed::Rows(asked) => {
             let format = asked.format;
             let style = Style { names, format };
@@ -108,6 +112,7 @@ fn write_entry<R: Reader<Offset = usize>, S: UnwindSection<R>, W: Write>(
     room: &mut LineRoom,
     cies: &mut CieCache<R>,
     names: RegisterNames,
+    functions: &FunctionNames<'_>,
     section: &S,
     bases: &BaseAddresses,
     context: &mut UnwindContext<usize>,
@@ -118,13 +123,14 @@ fn write_entry<R: Reader<Offset = usize>, S: UnwindSection<R>, W: Write>(
     ensures written { let found = map_ok (cie_or_fde_view R.position (λ n. n)) entry.entry in
         Writes (W.contents output.old) (W.contents output.new) result
         (item_text Format.Text
-        (λ e. entry_text names (section_of (S.view section.now) bases.now) e) found) }
+        (λ e. entry_text names (name_in functions.now)
+        (section_of (S.view section.now) bases.now) e) found) }
     ensures cies { IsCacheOf R.position (λ n. n) (S.view section.now) bases.now cies.new }
 {
     match entry {
         Ok(CieOrFde::Cie(cie)) => write_whole_cie(output, names, section, bases, &cie),
         Ok(CieOrFde::Fde(partial)) => write_fde_and_rows(
-            output, room, cies, names, section, bases, context, &partial,
+            output, room, cies, names, functions, section, bases, context, &partial,
         ),
         Err(error) => write_refused(output, Format::Text, error),
     }
@@ -153,7 +159,16 @@ fn write_whole_cie<R: Reader<Offset = usize>, S: UnwindSection<R>, W: Write>(
         (cie_text names (section_of (S.view section.now) bases.now) read) }
 {
     write_cie(output, names, cie)?;
-    write_instructions(output, names, cie.instructions(section, bases))
+    let factor = cie.code_alignment_factor();
+    let instructions = cie.instructions(section, bases);
+    write_instructions(
+        output,
+        names,
+        factor,
+        address_size_of(cie),
+        None,
+        instructions,
+    )
 }
 
 /// Writes the lines of the FDE, of its instructions and of its rows; or, where it can't be read
@@ -163,6 +178,7 @@ fn write_fde_and_rows<R: Reader<Offset = usize>, S: UnwindSection<R>, W: Write>(
     room: &mut LineRoom,
     cies: &mut CieCache<R>,
     names: RegisterNames,
+    functions: &FunctionNames<'_>,
     section: &S,
     bases: &BaseAddresses,
     context: &mut UnwindContext<usize>,
@@ -173,11 +189,15 @@ fn write_fde_and_rows<R: Reader<Offset = usize>, S: UnwindSection<R>, W: Write>(
     ensures written { let from = section_of (S.view section.now) bases.now in
         let found = partial_view R.position (λ n. n) partial.now in
         Writes (W.contents output.old) (W.contents output.new) result
-        (fde_text names from found (read_fde from found)) }
+        (fde_text names (name_in functions.now) from found (read_fde from found)) }
     ensures cies { IsCacheOf R.position (λ n. n) (S.view section.now) bases.now cies.new }
 {
     match whole(cies, section, bases, partial) {
-        Ok(fde) => write_whole_fde(output, room, names, section, bases, context, &fde),
+        Ok(fde) => {
+            write_whole_fde(
+                output, room, names, functions, section, bases, context, &fde,
+            )
+        }
         Err(error) => write_refused_fde(output, partial.offset(), partial.entry_len(), error),
     }
 }
@@ -187,6 +207,7 @@ fn write_whole_fde<R: Reader<Offset = usize>, S: UnwindSection<R>, W: Write>(
     output: &mut W,
     room: &mut LineRoom,
     names: RegisterNames,
+    functions: &FunctionNames<'_>,
     section: &S,
     bases: &BaseAddresses,
     context: &mut UnwindContext<usize>,
@@ -196,15 +217,43 @@ fn write_whole_fde<R: Reader<Offset = usize>, S: UnwindSection<R>, W: Write>(
     requires cie { HasCieOf R.position (S.view section.now).position fde.now }
     ensures { let from = section_of (S.view section.now) bases.now in
         let read = fde_view R.position (λ n. n) fde.now in
-        let instructions = instructions_text names (fde_instructions from read) in
+        let instructions = fde_instructions_text names from read in
         Writes (W.contents output.old) (W.contents output.new) result
-        (fde_line read ++ (instructions ++ lines (text_style names) (fde_rows from read))) }
+        (fde_line (name_in functions.now read.initial) read
+        ++ (instructions ++ lines (text_style names) (fde_rows from read))) }
 {
-    write_fde(output, fde)?;
-    write_instructions(output, names, fde.instructions(section, bases))?;
+    write_fde(output, functions, fde)?;
+    write_fde_instructions(output, names, section, bases, fde)?;
     let format = Format::Text;
     let style = Style { names, format };
     write_rows(output, room, style, section, bases, context, fde)
+}
+
+/// Writes the lines of an FDE's instructions.
+fn write_fde_instructions<R: Reader<Offset = usize>, S: UnwindSection<R>, W: Write>(
+    output: &mut W,
+    names: RegisterNames,
+    section: &S,
+    bases: &BaseAddresses,
+    fde: &FrameDescriptionEntry<R>,
+) -> io::Result<()>
+    requires own { IsFdeOf R.position (S.view section.now).position fde.now }
+    ensures { let read = fde_view R.position (λ n. n) fde.now in
+        Writes (W.contents output.old) (W.contents output.new) result
+        (fde_instructions_text names (section_of (S.view section.now) bases.now) read) }
+{
+    let cie = fde.cie();
+    let factor = cie.code_alignment_factor();
+    let start = Some(fde.initial_address());
+    let instructions = fde.instructions(section, bases);
+    write_instructions(
+        output,
+        names,
+        factor,
+        address_size_of(cie),
+        start,
+        instructions,
+    )
 }
 
 /// Writes what is known of an FDE that can't be read whole, and why it can't.

@@ -65,13 +65,13 @@ cie 0x0 length=20 version=1 size=8 code=1 data=-8 return=ra addresses=0x1b
   DW_CFA_offset register=ra factored_offset=1
   DW_CFA_nop
   DW_CFA_nop
-fde 0x18 length=28 cie=0x0 0x4000b0 0x4000b6
-  DW_CFA_advance_loc delta=1
+fde 0x18 length=28 cie=0x0 0x4000b0 0x4000b6 pushes
+  DW_CFA_advance_loc delta=1 to=0x4000b1
   DW_CFA_def_cfa_offset offset=16
   DW_CFA_offset register=rbp factored_offset=2
-  DW_CFA_advance_loc delta=3
+  DW_CFA_advance_loc delta=3 to=0x4000b4
   DW_CFA_def_cfa_register register=rbp
-  DW_CFA_advance_loc delta=1
+  DW_CFA_advance_loc delta=1 to=0x4000b5
   DW_CFA_def_cfa register=rsp offset=8
   DW_CFA_nop
   DW_CFA_nop
@@ -90,28 +90,35 @@ cie 0x0 length=20 version=1 size=8 code=1 data=-8 return=ra
   DW_CFA_nop
   DW_CFA_nop
   DW_CFA_nop
-fde 0x18 length=20 cie=0x0 0x4000b6 0x4000b8
+fde 0x18 length=20 cie=0x0 0x4000b6 0x4000b8 waits
 0x4000b6 0x4000b8 cfa=rsp+8 args=0 ra=offset(-8)
 ";
 
-/// The first and the last row of `pushes` by its name, the one of `waits`, and what has none.
+/// The first and the last row of `pushes` by its name, once with a version as `nm -D` prints it,
+/// the one of `waits`, and what has none.
 const WORDS: [&str; 7] = [
-    "pushes", "pushes+5", "0x4000b7", "4194486", "0x4000b8", "waits+2", "sleeps",
+    "pushes",
+    "pushes@@V1+5",
+    "0X4000b7",
+    "4194486",
+    "0x4000b8",
+    "waits+2",
+    "sleeps@V1",
 ];
 
-const FOUND_ROWS: &str = "0x4000b0 0x4000b1 cfa=rsp+8 args=0 ra=offset(-8)
-0x4000b5 0x4000b6 cfa=rsp+8 args=0 rbp=offset(-16) ra=offset(-8)
-0x4000b6 0x4000b8 cfa=rsp+8 args=0 ra=offset(-8)
-0x4000b6 0x4000b8 cfa=rsp+8 args=0 ra=offset(-8)
+const FOUND_ROWS: &str = "pushes 0x4000b0: 0x4000b0 0x4000b1 cfa=rsp+8 args=0 ra=offset(-8)
+pushes@@V1+5 0x4000b5: 0x4000b5 0x4000b6 cfa=rsp+8 args=0 rbp=offset(-16) ra=offset(-8)
+0X4000b7: 0x4000b6 0x4000b8 cfa=rsp+8 args=0 ra=offset(-8)
+4194486: 0x4000b6 0x4000b8 cfa=rsp+8 args=0 ra=offset(-8)
 ";
 
-const ROWS_OF_WORDS: &str = "0x4000b0 0x4000b1 cfa=rsp+8 args=0 ra=offset(-8)
-0x4000b5 0x4000b6 cfa=rsp+8 args=0 rbp=offset(-16) ra=offset(-8)
-0x4000b6 0x4000b8 cfa=rsp+8 args=0 ra=offset(-8)
-0x4000b6 0x4000b8 cfa=rsp+8 args=0 ra=offset(-8)
-refused NoUnwindInfoForAddress
-refused NoUnwindInfoForAddress
-no address
+const ROWS_OF_WORDS: &str = "pushes 0x4000b0: 0x4000b0 0x4000b1 cfa=rsp+8 args=0 ra=offset(-8)
+pushes@@V1+5 0x4000b5: 0x4000b5 0x4000b6 cfa=rsp+8 args=0 rbp=offset(-16) ra=offset(-8)
+0X4000b7: 0x4000b6 0x4000b8 cfa=rsp+8 args=0 ra=offset(-8)
+4194486: 0x4000b6 0x4000b8 cfa=rsp+8 args=0 ra=offset(-8)
+0x4000b8: refused NoUnwindInfoForAddress
+waits+2 0x4000b8: refused NoUnwindInfoForAddress
+sleeps@V1: no address
 ";
 
 /// The same as lines of JSON.
@@ -132,17 +139,24 @@ const ALL_ROWS_JSON: &str = "{\"section\":\".eh_frame\"}
 ";
 
 const ROWS_OF_WORDS_JSON: &str = "\
-{\"start\":\"0x4000b0\",\"end\":\"0x4000b1\",\"cfa\":\"rsp+8\",\"args\":0,\
+{\"asked\":\"pushes\",\"address\":\"0x4000b0\",\
+\"start\":\"0x4000b0\",\"end\":\"0x4000b1\",\"cfa\":\"rsp+8\",\"args\":0,\
 \"rules\":{\"ra\":\"offset(-8)\"}}
-{\"start\":\"0x4000b5\",\"end\":\"0x4000b6\",\"cfa\":\"rsp+8\",\"args\":0,\
+{\"asked\":\"pushes@@V1+5\",\"address\":\"0x4000b5\",\
+\"start\":\"0x4000b5\",\"end\":\"0x4000b6\",\"cfa\":\"rsp+8\",\"args\":0,\
 \"rules\":{\"rbp\":\"offset(-16)\",\"ra\":\"offset(-8)\"}}
-{\"start\":\"0x4000b6\",\"end\":\"0x4000b8\",\"cfa\":\"rsp+8\",\"args\":0,\
+{\"asked\":\"0X4000b7\",\"address\":\"0x4000b7\",\
+\"start\":\"0x4000b6\",\"end\":\"0x4000b8\",\"cfa\":\"rsp+8\",\"args\":0,\
 \"rules\":{\"ra\":\"offset(-8)\"}}
-{\"start\":\"0x4000b6\",\"end\":\"0x4000b8\",\"cfa\":\"rsp+8\",\"args\":0,\
+{\"asked\":\"4194486\",\"address\":\"0x4000b6\",\
+\"start\":\"0x4000b6\",\"end\":\"0x4000b8\",\"cfa\":\"rsp+8\",\"args\":0,\
 \"rules\":{\"ra\":\"offset(-8)\"}}
-{\"error\":\"NoUnwindInfoForAddress\"}
-{\"error\":\"NoUnwindInfoForAddress\"}
-{\"error\":\"no address\"}
+{\"asked\":\"0x4000b8\",\"address\":\"0x4000b8\",\
+\"error\":\"NoUnwindInfoForAddress\"}
+{\"asked\":\"waits+2\",\"address\":\"0x4000b8\",\
+\"error\":\"NoUnwindInfoForAddress\"}
+{\"asked\":\"sleeps@V1\",\
+\"error\":\"no address\"}
 ";
 
 const TABLE: &str = ".eh_frame

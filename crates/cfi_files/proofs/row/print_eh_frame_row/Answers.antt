@@ -3,7 +3,7 @@ use Rattle.cfi_read_core.specs.declared.error.Error.{Error}
 use Rattle.cfi_state.specs.Row.{Row}
 use Rattle.gimli_cfi.specs.EhFrameHdr.{HeaderSection}
 use Rattle.gimli_cfi.specs.SectionSources.{GivenSection, IsGivenRow, IsRowIn, given_header, given_section, source_view}
-use Rattle.cfi_programs.specs.AnswerLines.{answer_line}
+use Rattle.cfi_programs.specs.AnswerLines.{answer_behind}
 use Rattle.cfi_programs.specs.WriterOutput.{PrintsSome}
 use Rattle.cfi_files.specs.Found.{part_view}
 use Rattle.cfi_files.specs.RowOutputs.{IsByTable, IsRowByTableOrScan}
@@ -19,9 +19,9 @@ returns-in_default g c =
 
 pub returns-in-Ok : goal.returns-in-Ok
 returns-in-Ok g c =
-    subst (λ header. PrintsSome (λ line. IsRowByTableOrScan c.args.style (source_view c.args.frames.now) header (part_view c.args.debug_frame) c.args.address line) (g.W.Write.contents c.args.output.now) (g.W.Write.contents c.write_answer.new.output) c.write_answer.result)
+    subst (λ header. PrintsSome (λ line. IsRowByTableOrScan c.args.style (source_view c.args.frames.now) header (part_view c.args.debug_frame) c.args.address line) (g.W.Write.contents c.args.output.now) (g.W.Write.contents c.write_answer_behind.new.output) c.write_answer_behind.result)
     c.in-Some.ensures
-    (answer_line c.args.style (Ok c.in-Ok.row.now), c.write_answer.ensures, (Ok c.in-Ok.row.now, by_table (source_view c.args.frames.now) _ _ _ c.in-Some.ensures c.in-Ok.ensures.row, refl))
+    (answer_behind c.args.style (Ok c.in-Ok.row.now), c.write_answer_behind.ensures, (Ok c.in-Ok.row.now, by_table (source_view c.args.frames.now) _ _ _ c.in-Some.ensures c.in-Ok.ensures.row, refl))
 
 pub returns-in-Err : goal.returns-in-Err
 returns-in-Err g c =

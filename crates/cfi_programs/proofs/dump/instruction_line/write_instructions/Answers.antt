@@ -1,4 +1,5 @@
 use Rattle.std.proofs.Common.{◌≡◌, ap, sym, subst}
+use Rattle.cfi_read_core.specs.AddressSizes.{size_in_bytes}
 use Rattle.cfi_read_core.specs.ReadFunctions.{Readings}
 use Rattle.cfi_parts.specs.Instructions.{Instruction}
 use Rattle.cfi_parts.specs.InstructionReaders.{instructions_left}
@@ -17,17 +18,17 @@ loop-instruction-init g c =
     record {
       can_next = tt;
       is_finite = tt;
-      given = subst (λ (left : Readings Instruction). IsGiven old old (instructions_text c.args.names left) (instructions_text c.args.names all)) (sym same) (given_first old (instructions_text c.args.names all));
+      given = subst (λ (left : Readings Instruction). IsGiven old old (instructions_text c.args.names c.args.factor (size_in_bytes c.args.size) c.args.start left) (instructions_text c.args.names c.args.factor (size_in_bytes c.args.size) c.args.start all)) (sym same) (given_first old (instructions_text c.args.names c.args.factor (size_in_bytes c.args.size) c.args.start all));
     }
 
 pub returns-in_err-write_item : goal.returns-in_err-write_item
 returns-in_err-write_item g c =
-    let left = to_write c.args.names _ _ _ _ c.loop-instruction.invariant.given _ _ c.in-Some.ensures.steps in
+    let left = to_write c.args.names c.args.factor (size_in_bytes c.args.size) _ _ _ _ _ c.loop-instruction.invariant.given _ _ _ c.moved-at.ensures c.in-Some.ensures.steps in
     writes_refused _ _ _ _ c.from_residual.ensures.0 (beginning_then _ _ _ _ _ _ left c.in_err-write_item.ensures)
 
 pub loop-instruction-preserved : goal.loop-instruction-preserved
 loop-instruction-preserved g c =
-    let left = to_write c.args.names _ _ _ _ c.loop-instruction.invariant.given _ _ c.in-Some.ensures.steps in
+    let left = to_write c.args.names c.args.factor (size_in_bytes c.args.size) _ _ _ _ _ c.loop-instruction.invariant.given _ _ _ c.moved-at.ensures c.in-Some.ensures.steps in
     record {
       can_next = tt;
       is_finite = tt;
@@ -35,4 +36,4 @@ loop-instruction-preserved g c =
     }
 
 pub returns : goal.returns
-returns g c = all_written c.args.names _ _ _ _ c.loop-instruction.invariant.given c.in-None.ensures.steps.0
+returns g c = all_written c.args.names c.args.factor (size_in_bytes c.args.size) _ _ _ _ _ c.loop-instruction.invariant.given c.in-None.ensures.steps.0

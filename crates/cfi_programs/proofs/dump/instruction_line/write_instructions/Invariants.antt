@@ -1,3 +1,4 @@
+use Rattle.cfi_read_core.specs.AddressSizes.{size_in_bytes}
 use Rattle.cfi_parts.specs.InstructionReaders.{instructions_left}
 use Rattle.cfi_parts.specs.InstructionIterators.{instruction_reader}
 use Rattle.cfi_programs.proofs.WrittenLemmas.{IsGiven}
@@ -11,6 +12,6 @@ invariant-loop-instruction g l =
       can_next : (goal.iterator-loop-instruction g).can_next l.instruction-iterator;
       is_finite : (goal.iterator-loop-instruction g).is_finite l.instruction-iterator;
       given : IsGiven (g.W.Write.contents l.initial.output) (g.W.Write.contents l.output)
-          (instructions_text l.names (instructions_left (instruction_reader g.R.Reader.position l.instruction-iterator)))
-          (instructions_text l.names (instructions_left (instruction_reader g.R.Reader.position l.fn.instructions)));
+          (instructions_text l.names l.factor (size_in_bytes l.size) l.at (instructions_left (instruction_reader g.R.Reader.position l.instruction-iterator)))
+          (instructions_text l.names l.factor (size_in_bytes l.size) l.fn.start (instructions_left (instruction_reader g.R.Reader.position l.fn.instructions)));
     }

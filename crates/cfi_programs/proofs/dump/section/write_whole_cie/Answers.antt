@@ -1,3 +1,4 @@
+use Rattle.std.proofs.Common.{None}
 use Rattle.cfi_entry.specs.EntryInstructions.{cie_instructions}
 use Rattle.cfi_entry.specs.EntryViews.{cie_view}
 use Rattle.cfi_entry.specs.Sections.{section_of}
@@ -11,10 +12,10 @@ pub returns-in_err-write_cie : goal.returns-in_err-write_cie
 returns-in_err-write_cie g c =
     let cie = cie_view g.R.Reader.position (λ n. n) c.args.cie.now in
     let all = cie_instructions (section_of (g.S._UnwindSectionPrivate.view c.args.section.now) c.args.bases.now) cie in
-    first_refused _ _ _ (cie_line c.args.names cie) (instructions_text c.args.names all) c.from_residual.ensures.0 c.in_err-write_cie.ensures
+    first_refused _ _ _ (cie_line c.args.names cie) (instructions_text c.args.names cie.code_alignment_factor cie.address_size None all) c.from_residual.ensures.0 c.in_err-write_cie.ensures
 
 pub returns : goal.returns
 returns g c =
     let cie = cie_view g.R.Reader.position (λ n. n) c.args.cie.now in
     let all = cie_instructions (section_of (g.S._UnwindSectionPrivate.view c.args.section.now) c.args.bases.now) cie in
-    last_written _ _ _ _ (cie_line c.args.names cie) (instructions_text c.args.names all) c.in_ok-write_cie.ensures (as_read _ _ _ c.args.names _ all c.instructions.ensures.left c.write_instructions.ensures)
+    last_written _ _ _ _ (cie_line c.args.names cie) (instructions_text c.args.names cie.code_alignment_factor cie.address_size None all) c.in_ok-write_cie.ensures (as_read c.args.names cie.code_alignment_factor cie.address_size None _ all c.instructions-instructions.ensures.left _ _ _ (rw (c.code_alignment_factor-factor.ensures, c.address_size_of.ensures) at c.write_instructions.ensures))

@@ -1,12 +1,10 @@
 use Rattle.std.proofs.Common.{◌++◌}
-use Rattle.cfi_entry.specs.EntryInstructions.{fde_instructions}
+use Rattle.cfi_elf.specs.FunctionNames.{name_in}
 use Rattle.cfi_entry.specs.Sections.{section_of}
 use Rattle.cfi_unwind.specs.FdeViews.{fde_view}
 use Rattle.cfi_programs.specs.DumpEntryLines.{fde_line}
-use Rattle.cfi_programs.specs.DumpInstructionLines.{instructions_text}
 use Rattle.cfi_programs.specs.AnswerLines.{text_style}
-use Rattle.cfi_programs.specs.DumpSectionTexts.{fde_rows, lines}
-use Rattle.cfi_programs.proofs.DumpInstructionsWritten.{begun_as_read, given_as_read}
+use Rattle.cfi_programs.specs.DumpSectionTexts.{fde_instructions_text, fde_rows, lines}
 use Rattle.cfi_programs.proofs.DumpSectionWritten.{first_refused}
 use Rattle.cfi_programs.proofs.WrittenLemmas.{beginning_then, given_first, given_then, writes_last, writes_refused}
 use Rattle.cfi_programs.proofs.dump.section.write_whole_fde.Goals as goal
@@ -15,24 +13,27 @@ pub returns-in_err-write_fde : goal.returns-in_err-write_fde
 returns-in_err-write_fde g c =
     let section = section_of (g.S._UnwindSectionPrivate.view c.args.section.now) c.args.bases.now in
     let fde = fde_view g.R.Reader.position (λ n. n) c.args.fde.now in
-    first_refused _ _ _ (fde_line fde) (instructions_text c.args.names (fde_instructions section fde) ++ lines (text_style c.args.names) (fde_rows section fde)) c.from_residual.ensures.0 c.in_err-write_fde.ensures
+    let line = fde_line (name_in c.args.functions.now fde.initial) fde in
+    first_refused _ _ _ line (fde_instructions_text c.args.names section fde ++ lines (text_style c.args.names) (fde_rows section fde)) c.from_residual.ensures.0 c.in_err-write_fde.ensures
 
-pub returns-in_err-write_instructions : goal.returns-in_err-write_instructions
-returns-in_err-write_instructions g c =
+pub returns-in_err-write_fde_instructions : goal.returns-in_err-write_fde_instructions
+returns-in_err-write_fde_instructions g c =
     let section = section_of (g.S._UnwindSectionPrivate.view c.args.section.now) c.args.bases.now in
     let fde = fde_view g.R.Reader.position (λ n. n) c.args.fde.now in
-    let all = fde_instructions section fde in
+    let line = fde_line (name_in c.args.functions.now fde.initial) fde in
+    let instructions = fde_instructions_text c.args.names section fde in
     let rows = lines (text_style c.args.names) (fde_rows section fde) in
-    let behind_fde = given_then _ _ _ (fde_line fde) (instructions_text c.args.names all ++ rows) _ (given_first (g.W.Write.contents c.args.output.now) (fde_line fde ++ (instructions_text c.args.names all ++ rows))) c.in_ok-write_fde.ensures in
-    writes_refused _ _ _ _ c.from_residual-in_err-write_instructions.ensures.0
-    (beginning_then _ _ _ (instructions_text c.args.names all) rows _ behind_fde (begun_as_read _ _ c.args.names _ all c.instructions.ensures.left c.in_err-write_instructions.ensures))
+    let behind_fde = given_then _ _ _ line (instructions ++ rows) _ (given_first (g.W.Write.contents c.args.output.now) (line ++ (instructions ++ rows))) c.in_ok-write_fde.ensures in
+    writes_refused _ _ _ _ c.from_residual-in_err-write_fde_instructions.ensures.0
+    (beginning_then _ _ _ instructions rows _ behind_fde c.in_err-write_fde_instructions.ensures)
 
 pub returns : goal.returns
 returns g c =
     let section = section_of (g.S._UnwindSectionPrivate.view c.args.section.now) c.args.bases.now in
     let fde = fde_view g.R.Reader.position (λ n. n) c.args.fde.now in
-    let all = fde_instructions section fde in
+    let line = fde_line (name_in c.args.functions.now fde.initial) fde in
+    let instructions = fde_instructions_text c.args.names section fde in
     let rows = lines (text_style c.args.names) (fde_rows section fde) in
-    let behind_fde = given_then _ _ _ (fde_line fde) (instructions_text c.args.names all ++ rows) _ (given_first (g.W.Write.contents c.args.output.now) (fde_line fde ++ (instructions_text c.args.names all ++ rows))) c.in_ok-write_fde.ensures in
-    let behind_instructions = given_then _ _ _ (instructions_text c.args.names all) rows _ behind_fde (given_as_read _ _ c.args.names _ all c.instructions.ensures.left c.in_ok-write_instructions.ensures) in
+    let behind_fde = given_then _ _ _ line (instructions ++ rows) _ (given_first (g.W.Write.contents c.args.output.now) (line ++ (instructions ++ rows))) c.in_ok-write_fde.ensures in
+    let behind_instructions = given_then _ _ _ instructions rows _ behind_fde c.in_ok-write_fde_instructions.ensures in
     writes_last _ _ _ _ _ _ behind_instructions c.write_rows.ensures
