@@ -2,25 +2,44 @@
 """Writes the files of ../data that are made of calls and calls.o: copies with other numbers, profiles, and core files.
 
 The profiles have the form of perf record (perf.data-file-format.txt), little-endian, for x86-64. Each has one event whose
-samples have the thread, the time, the registers rbp, rsp and rip, and a part of the stack. Files are named below
+samples have the thread, the time, the registers rbp, rsp and rip, and a part of the stack, or their calls alone. Files are named below
 /proc/self/cwd, which is the folder of the process that reads the profile. So are those of the core files, which have the
 notes of Linux for x86-64.
 """
 import struct
 from pathlib import Path
 
-MMAP2, SAMPLE = 10, 9
+MMAP, LOST, SAMPLE, MMAP2, LOST_SAMPLES = 1, 2, 9, 10, 13
 IP, TID, TIME, CALLCHAIN, REGISTERS, STACK = 1, 2, 4, 1 << 5, 1 << 12, 1 << 13
 RBP_RSP_RIP = 7 << 6
-USER, OWN_BUILD, SIZED_BUILD = 2, 1 << 14, 1 << 15
+KERNEL, USER, OWN_BUILD, SIZED_BUILD = 1, 2, 1 << 14, 1 << 15
+CONTEXT_KERNEL, CONTEXT_USER = 2**64 - 128, 2**64 - 512
 PROCESS, FOLDER = 7, b"/proc/self/cwd/"
 
 # The addresses of calls.s: what each call returns to, and the instruction in inner behind its prologue.
 IN_INNER, IN_OUTER, IN_START = 0x4000C6, 0x4000C0, 0x4000B5
 
 
-def record(kind, body, flags=0):
-    return struct.pack("<IHH", kind, USER | flags, 8 + len(body)) + body
+def record(kind, body, flags=0, mode=USER):
+    return struct.pack("<IHH", kind, mode | flags, 8 + len(body)) + body
+
+
+def kernel_mapping(address, length, offset, name):
+    """Code of the kernel."""
+    name += b"\0"
+    body = struct.pack("<iI3Q", -1, 0, address, length, offset) + name.ljust(-(-len(name) // 8) * 8, b"\0")
+    return record(MMAP, body + struct.pack("<2iQ", -1, 0, 0), mode=KERNEL)
+
+
+def lost(kind, time, *numbers):
+    return record(kind, struct.pack(f"<{len(numbers)}Q2IQ", *numbers, PROCESS, PROCESS, time))
+
+
+def called(time, mode, chain):
+    """A sample without registers and stack."""
+    address = next(entry for entry in chain if entry < CONTEXT_USER)
+    body = struct.pack("<Q2IQ", address, PROCESS, PROCESS, time) + struct.pack(f"<Q{len(chain)}Q", len(chain), *chain)
+    return record(SAMPLE, body, mode=mode)
 
 
 def mapping(time, address, name, build=b""):
@@ -47,8 +66,7 @@ def sample(thread, time, registers, stack):
     return record(SAMPLE, body)
 
 
-def profile(*records, builds=b""):
-    fields = IP | TID | TIME | CALLCHAIN | REGISTERS | STACK
+def profile(*records, builds=b"", fields=IP | TID | TIME | CALLCHAIN | REGISTERS | STACK):
     # Of cpu-clock, a sample each nanosecond; the other records have their thread and time too (sample_id_all).
     event = struct.pack("<2I5Q", 1, 96, 0, 1, fields, 0, 1 << 18).ljust(80, b"\0")
     event += struct.pack("<Q2I", RBP_RSP_RIP, 64, 0) + struct.pack("<2Q", 0, 0)
@@ -106,6 +124,23 @@ of_another_build = profile(
     mapping(1_000_001_000, 0x400000, b"built"),
     sample(7, 1_000_002_000, (0x7020, 0x7000, 0x400122), [1, 2, 3, 0x40011C, 0x7FE0, 0x400111, 0]),
     builds=listed(b"built", BUILD[::-1]),
+)
+
+# Of calls alone, in the kernel and one of its modules among them, and of what was lost.
+of_chains = profile(
+    kernel_mapping(0xFFFFFFFF81000000, 0x1000000, 0xFFFFFFFF81000000, b"[kernel.kallsyms]_text"),
+    kernel_mapping(0xFFFFFFFFC0000000, 0x10000, 0, b"[nf_tables]"),
+    mapping(1_000_001_000, 0x400000, b"calls"),
+    called(
+        1_000_002_000,
+        KERNEL,
+        [CONTEXT_KERNEL, 0xFFFFFFFFC0000123, 0xFFFFFFFF81000130, CONTEXT_USER, IN_INNER, IN_OUTER, IN_START],
+    ),
+    called(1_000_003_000, USER, [CONTEXT_USER, IN_INNER, IN_OUTER, IN_START, 0x12345]),
+    lost(LOST, 1_000_004_000, 0, 3),
+    lost(LOST_SAMPLES, 1_000_005_000, 5),
+    lost(LOST, 1_000_006_000, 0, 4),
+    fields=IP | TID | TIME | CALLCHAIN,
 )
 
 # ---- core files
@@ -216,6 +251,7 @@ struct.pack_into("<H", foreign, 18, 8)
 (data / "large.perf").write_bytes(of_large)
 (data / "builds.perf").write_bytes(of_builds)
 (data / "rebuilt.perf").write_bytes(of_another_build)
+(data / "chains.perf").write_bytes(of_chains)
 (data / "threads.core").write_bytes(of_threads)
 (data / "cut.core").write_bytes(cut_off)
 (data / "builds.core").write_bytes(of_mapped_builds)

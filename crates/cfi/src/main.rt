@@ -135,7 +135,7 @@ fn print_stacks<S: System, W: Write>(
         listing file.now line)
         (W.contents output.old) (W.contents output.new) result }
 {
-    let opener = ProfileOpener { system };
+    let opener = ProfileOpener { system, path: file };
     match system.open(file) {
         Some(mut input) => list_profile(system.alloc(), listing, &opener, &mut input, output),
         None => Ok(WRONG),
@@ -153,7 +153,7 @@ fn print_threads<S: System, W: Write>(
         raw file.now line)
         (W.contents output.old) (W.contents output.new) result }
 {
-    let opener = ProfileOpener { system };
+    let opener = ProfileOpener { system, path: file };
     match system.open(file) {
         Some(mut input) => print_core(system.alloc(), raw, &opener, &mut input, output),
         None => Ok(WRONG),

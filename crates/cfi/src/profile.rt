@@ -10,6 +10,8 @@ use std::str;
 pub struct ProfileOpener<'s, S> {
     /// The system.
     pub system: &'s S,
+    /// The path of the profile, or of the core file.
+    pub path: &'s str,
 }
 
 impl<S: System> Opener for ProfileOpener<'_, S> {
@@ -45,5 +47,13 @@ impl<S: System> Opener for ProfileOpener<'_, S> {
 
     fn tell_missing(&self, name: &[u8]) {
         self.system.tell_missing(name);
+    }
+
+    fn tell_without_stacks(&self) {
+        self.system.tell_without_stacks(self.path);
+    }
+
+    fn tell_lost(&self, records: u64, samples: u64) {
+        self.system.tell_lost(self.path, records, samples);
     }
 }

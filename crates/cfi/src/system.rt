@@ -58,6 +58,15 @@ pub trait System {
     /// found, as `cfi: FILE: SENTENCE`.
     fn tell_missing(&self, name: &[u8]);
 
+    /// Says on standard error that the profile at this path was recorded without copies of stacks,
+    /// as `cfi: FILE: SENTENCE`.
+    fn tell_without_stacks(&self, path: &str);
+
+    /// Says on standard error how many records and how many samples of the profile at this path
+    /// were lost, as `cfi: FILE: lost NUMBER records` and `cfi: FILE: lost NUMBER samples`. A
+    /// number that is 0 isn't told.
+    fn tell_lost(&self, path: &str, records: u64, samples: u64);
+
     /// Prints clap's text: help on standard output and a mistake on standard error. Fails where it
     /// can't be written.
     fn print_error(&self, error: &Error) -> io::Result<()>;
@@ -151,6 +160,22 @@ impl<P: Env + Files + Print + Eprint + AllocGlobal> System for Host<'_, P> {
     fn tell_missing(&self, name: &[u8]) {
         let name = str::from_utf8(name).unwrap_or("a file");
         let _ = eprintln!(self.rt; "cfi: {name}: no file of the build that ran is here");
+    }
+
+    fn tell_without_stacks(&self, path: &str) {
+        let _ = eprintln!(self.rt;
+            "cfi: {path}: recorded without copies of stacks; frames are perf's call chains: \
+             record with --call-graph dwarf for unwound stacks"
+        );
+    }
+
+    fn tell_lost(&self, path: &str, records: u64, samples: u64) {
+        if records != 0 {
+            let _ = eprintln!(self.rt; "cfi: {path}: lost {records} records");
+        }
+        if samples != 0 {
+            let _ = eprintln!(self.rt; "cfi: {path}: lost {samples} samples");
+        }
     }
 
     fn print_error(&self, error: &Error) -> io::Result<()> {

@@ -1,8 +1,10 @@
 pub mod BuildSteps
+pub mod ChainSteps
 pub mod Chains
 pub mod EntrySteps
 pub mod EventSteps
 pub mod ItemReads
+pub mod LostSums
 pub mod RecordSteps
 mod Registers
 mod Worked

@@ -11,14 +11,15 @@ use Rattle.cfi_perf.specs.Layouts.{sample_format, sample_id_all, chosen, attribu
 use Rattle.cfi_perf.specs.EventNames.{behind_others, described, described_name, description, generic_name}
 use Rattle.cfi_perf.specs.EventTables.{EventTable, event_of_id}
 use Rattle.cfi_perf.specs.FileHeaders.{byte_order, file_section, feature_bits, header_fields, file_header}
-use Rattle.cfi_perf.specs.Samples.{UserRegisters, register_of, thread, sample_numbers, processor, later_numbers, group_values, single_value, call_chain, raw_data, branch_stack, passed_lists, registers, copied_stack, stack, user_state, sample}
-use Rattle.cfi_perf.specs.Events.{Mapping, own_build_id, MappingEvent, ProgramEvent, ForkEvent, SampleEvent, OtherEvent, mapped_range, mapping, mapping2, program, fork}
+use Rattle.cfi_perf.specs.CallChains.{PERF_CONTEXT_KERNEL, PERF_CONTEXT_USER}
+use Rattle.cfi_perf.specs.Samples.{Sample, UserRegisters, kernel_frames, user_frames, register_of, thread, sample_numbers, processor, later_numbers, group_values, single_value, call_chain, raw_data, branch_stack, lists, registers, copied_stack, stack, user_state, sample}
+use Rattle.cfi_perf.specs.Events.{LostEvent, lost, lost_samples, Mapping, own_build_id, MappingEvent, ProgramEvent, ForkEvent, SampleEvent, OtherEvent, mapped_range, mapping, mapping2, program, fork}
 use Rattle.cfi_perf.specs.Records.{record_header, split_record, id_of, id_up_to, with_build_id, sample_id_time, without_id, record_of, first_record, records_up_to, records_of}
 use Rattle.cfi_perf.specs.Profiles.{EventSection, Profile, events_by, profile, architecture, build_ids, descriptions, event_table, machine_by, profile_records}
 
 -- to name it on an `unfolding` line is to open all these
 unfoldable computing : ℕ
-unfolding unsigned items entries sample_format sample_id_all chosen attribute event file_section feature_bits header_fields file_header thread sample_numbers processor later_numbers group_values single_value call_chain raw_data branch_stack passed_lists registers copied_stack stack user_state sample mapped_range mapping mapping2 program fork record_header split_record sample_id_time without_id record_of first_record id_up_to records_up_to behind_others described description events_by profile architecture descriptions build_ids event_table header_text lib.Count.ones
+unfolding unsigned items entries sample_format sample_id_all chosen attribute event file_section feature_bits header_fields file_header thread sample_numbers processor later_numbers group_values single_value call_chain raw_data branch_stack lists registers copied_stack stack user_state sample mapped_range mapping mapping2 program fork lost lost_samples record_header split_record sample_id_time without_id record_of first_record id_up_to records_up_to behind_others described description events_by profile architecture descriptions build_ids event_table header_text lib.Count.ones
 computing = 0
 
 -- the bytes of hexadecimal text, whose letters are small
@@ -152,7 +153,7 @@ abbrev little_registers : UserRegisters
 little_registers = record { abi = 2; mask = 0x181; values = hex (codes "1100000000000000fe7f0000000000002301400000000000"); big_endian = false }
 
 little_sample_read : records_of (worked_table false) false little_sample ≡ record {
-  records = record { time = 99; event = SampleEvent (record { pid = 7; tid = 8; ip = 0x400123; cpu = None; period = 1; event = codes "cpu-clock"; user = record { registers = Some little_registers; stack = hex (codes "a0a1a2a3a4a5a6a7") } }) } ∷ [];
+  records = record { time = 99; event = SampleEvent (record { pid = 7; tid = 8; ip = 0x400123; cpu = None; period = 1; event = codes "cpu-clock"; in_kernel = false; call_chain = Some (0x400124 ∷ []); copies_stack = true; user = record { registers = Some little_registers; stack = hex (codes "a0a1a2a3a4a5a6a7") } }) } ∷ [];
   error = None;
 }
 unfolding computing
@@ -189,7 +190,7 @@ abbrev big_registers : UserRegisters
 big_registers = record { abi = 2; mask = 0x181; values = hex (codes "00000000000000110000000000007ffe0000000000400123"); big_endian = true }
 
 big_sample_read : records_of (worked_table true) true big_sample ≡ record {
-  records = record { time = 99; event = SampleEvent (record { pid = 7; tid = 8; ip = 0x400123; cpu = None; period = 1; event = codes "cpu-clock"; user = record { registers = Some big_registers; stack = hex (codes "a0a1a2a3a4a5a6a7") } }) } ∷ [];
+  records = record { time = 99; event = SampleEvent (record { pid = 7; tid = 8; ip = 0x400123; cpu = None; period = 1; event = codes "cpu-clock"; in_kernel = false; call_chain = Some (0x400124 ∷ []); copies_stack = true; user = record { registers = Some big_registers; stack = hex (codes "a0a1a2a3a4a5a6a7") } }) } ∷ [];
   error = None;
 }
 unfolding computing
@@ -217,9 +218,18 @@ unfolding computing
 mapped_code = refl
 
 -- PERF_RECORD_LOST has a time; a record of perf has none
-two_others : records_of (worked_table false) false (hex (codes "02000000000028000100000000000000010000000000000007000000070000000e000000000000004400000000000800")) ≡ record { records = record { time = 14; event = OtherEvent } ∷ record { time = 0; event = OtherEvent } ∷ []; error = None }
+two_others : records_of (worked_table false) false (hex (codes "02000000000028000100000000000000010000000000000007000000070000000e000000000000004400000000000800")) ≡ record { records = record { time = 14; event = LostEvent (record { records = 1; samples = 0 }) } ∷ record { time = 0; event = OtherEvent } ∷ []; error = None }
 unfolding computing
 two_others = refl
+
+-- PERF_RECORD_LOST_SAMPLES
+three_lost : records_of (worked_table false) false (hex (codes "0d00000000002000030000000000000007000000070000000e00000000000000")) ≡ record { records = record { time = 14; event = LostEvent (record { records = 0; samples = 3 }) } ∷ []; error = None }
+unfolding computing
+three_lost = refl
+
+lost_without_a_count : records_of (worked_table false) false (hex (codes "0d000000000018000700000007000000")) ≡ record { records = []; error = Some RecordCut }
+unfolding computing
+lost_without_a_count = refl
 
 -- four bytes of trace behind PERF_RECORD_AUXTRACE
 passed_trace : records_of (worked_table false) false (hex (codes "470000000000300004000000000000000000000000000000000000000000000000000000000000000000000000000000010203044400000000000800")) ≡ record { records = record { time = 0; event = OtherEvent } ∷ record { time = 0; event = OtherEvent } ∷ []; error = None }
@@ -294,6 +304,50 @@ its_parts : profile (worked_profile 0x48).bytes ≡ Ok (record { bytes = (worked
 unfolding computing
 its_parts = refl
 
+-- ---- a call chain, as perf record left it with -g
+
+-- perf script prints six frames of [kernel.kallsyms], ffffffff821e870b to ffffffff81000130, and 7f6bc33282ad
+abbrev chained : Sample
+chained = record {
+  pid = 11732;
+  tid = 11732;
+  ip = 0xffffffff821e870b;
+  cpu = None;
+  period = 2000000;
+  event = codes "cpu-clock";
+  in_kernel = true;
+  call_chain = Some (PERF_CONTEXT_KERNEL ∷ 0xffffffff821e870b ∷ 0xffffffff81d335fc ∷ 0xffffffff816b82eb ∷ 0xffffffff816b8f46 ∷ 0xffffffff821ecc51 ∷ 0xffffffff81000130 ∷ PERF_CONTEXT_USER ∷ 0x7f6bc33282ad ∷ []);
+  copies_stack = false;
+  user = record { registers = None; stack = [] };
+}
+
+abbrev chained_table : EventTable
+chained_table = record (worked_table false) { first = record { layout = record worked_layout { sample_type = 0x127 }; name = codes "cpu-clock" } }
+
+its_call_chain : records_of chained_table false (hex (codes "09000000010078000b871e82ffffffffd42d0000d42d0000b28ab064c800000080841e0000000000090000000000000080ffffffffffffff0b871e82fffffffffc35d381ffffffffeb826b81ffffffff468f6b81ffffffff51cc1e82ffffffff30010081ffffffff00feffffffffffffad8232c36b7f0000")) ≡ record { records = record { time = 860682750642; event = SampleEvent chained } ∷ []; error = None }
+unfolding computing
+its_call_chain = refl
+
+in_the_kernel : kernel_frames chained ≡ 0xffffffff821e870b ∷ 0xffffffff81d335fc ∷ 0xffffffff816b82eb ∷ 0xffffffff816b8f46 ∷ 0xffffffff821ecc51 ∷ 0xffffffff81000130 ∷ []
+in_the_kernel = refl
+
+behind_the_kernel : user_frames chained ≡ 0x7f6bc33282ad ∷ []
+behind_the_kernel = refl
+
+-- without a call chain, as by perf record alone
+its_instruction_alone : kernel_frames (record chained { call_chain = None }) ≡ 0xffffffff821e870b ∷ []
+its_instruction_alone = refl
+
+not_in_user_space : user_frames (record chained { call_chain = None }) ≡ []
+not_in_user_space = refl
+
+in_user_space : user_frames (record chained { call_chain = None; in_kernel = false; ip = 0x558894193173 }) ≡ 0x558894193173 ∷ []
+in_user_space = refl
+
+-- those of a guest (PERF_CONTEXT_GUEST, -2048) are neither
+of_a_guest : user_frames (record chained { call_chain = Some (1 ∷ 0xfffffffffffff800 ∷ 2 ∷ PERF_CONTEXT_USER ∷ 3 ∷ []) }) ≡ 1 ∷ 3 ∷ []
+of_a_guest = refl
+
 -- ---- two events, as perf record left them with -e cpu-clock/call-graph=dwarf,stack-size=8/ -e page-faults --sample-cpu
 
 abbrev two_attrs : List ℕ
@@ -350,7 +404,7 @@ an_unknown_id = refl
 
 -- perf script prints it as `verylongprogram 17261/17261 [002]  2384.958796:          3 page-faults:`
 a_fault : records_of two false (hex (codes "0900000002003800d60000000000000070ebefe86e7f00006d4300006d43000065349f4a2b02000002000000000000000300000000000000")) ≡ record {
-  records = record { time = 2384958796901; event = SampleEvent (record { pid = 17261; tid = 17261; ip = 0x7f6ee8efeb70; cpu = Some 2; period = 3; event = codes "page-faults"; user = record { registers = None; stack = [] } }) } ∷ [];
+  records = record { time = 2384958796901; event = SampleEvent (record { pid = 17261; tid = 17261; ip = 0x7f6ee8efeb70; cpu = Some 2; period = 3; event = codes "page-faults"; in_kernel = false; call_chain = None; copies_stack = false; user = record { registers = None; stack = [] } }) } ∷ [];
   error = None;
 }
 unfolding computing

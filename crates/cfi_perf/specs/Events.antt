@@ -16,7 +16,9 @@ use Rattle.cfi_perf.specs.declared.record.Event.TheVariants.{Sample as SampleOfC
 use Rattle.cfi_perf.specs.declared.record.Event.TheVariants.{Other as OtherOfCode}
 use Rattle.cfi_perf.specs.declared.record.Mapping.{Mapping as MappingFields}
 use Rattle.cfi_perf.specs.declared.record.Program.{Program as ProgramFields}
+use Rattle.cfi_perf.specs.declared.record.Event.TheVariants.{Lost as LostOfCode}
 use Rattle.cfi_perf.specs.declared.record.Fork.{Fork}
+use Rattle.cfi_perf.specs.declared.record.Lost.{Lost}
 use Rattle.cfi_perf.specs.declared.record_fields.MappedRange.{MappedRange}
 use Rattle.cfi_perf.specs.Results.{and_then, or_error, or_missing, before_zero, read_from}
 use Rattle.cfi_perf.specs.Layouts.{has_any}
@@ -44,6 +46,7 @@ pub data Event : Type 0 where
   ProgramEvent : Program → Event
   ForkEvent : Fork → Event
   SampleEvent : Sample → Event
+  LostEvent : Lost → Event
   OtherEvent : Event
 
 pub record Record : Type 0 where
@@ -70,6 +73,7 @@ event_view (MappingOfCode m) = MappingEvent (mapping_view m)
 event_view (ProgramOfCode p) = ProgramEvent (program_view p)
 event_view (ForkOfCode f) = ForkEvent f
 event_view (SampleOfCode s) = SampleEvent (sample_view s)
+event_view (LostOfCode l) = LostEvent l
 event_view OtherOfCode = OtherEvent
 
 abbrev pub record_view : RecordOfCode → Record
@@ -149,3 +153,18 @@ fork = do
   tid ← unsigned w32
   parent_tid ← unsigned w32
   give (record { pid = pid; parent = parent; tid = tid; parent_tid = parent_tid })
+
+-- ---- what was lost
+
+-- PERF_RECORD_LOST: the event's id, and how many records
+unfoldable pub lost : Read Lost
+lost = do
+  id ← unsigned w64
+  count ← unsigned w64
+  give (record { records = count; samples = 0 })
+
+-- PERF_RECORD_LOST_SAMPLES: how many samples
+unfoldable pub lost_samples : Read Lost
+lost_samples = do
+  count ← unsigned w64
+  give (record { records = 0; samples = count })

@@ -4,7 +4,9 @@ pub mod FileHeaders
 pub mod Layouts
 pub mod EventNames
 pub mod EventTables
+pub mod CallChains
 pub mod Samples
 pub mod Events
 pub mod Records
+pub mod Recordings
 pub mod Profiles

@@ -1,7 +1,8 @@
 -- Samples, field by field (perf_event_open(2), PERF_RECORD_SAMPLE).
 use Rattle.std.specs.Prelude.{ℕ, ◌+◌, ◌*◌, ◌^◌, ◌/◌, ◌%◌, Bool, not, List, [], drop, take, Option}
 use Rattle.std.specs.Prelude.{Some, None, Result, Ok, Err, count_ones, bit_and, option_map, ◌==◌}
-use Rattle.std.specs.Prelude.{if◌then◌else◌}
+use Rattle.std.specs.Prelude.{◌&&◌, ◌∷◌, if◌then◌else◌}
+use Rattle.std.specs.Option.{option_map_or}
 use Rattle.std.specs.Int.{w32, w64}
 use Rattle.cfi_read_core.specs.ByteOrder.{is_big}
 use Rattle.cfi_read_core.specs.ReadFunctions.{Read, ◌>>=◌, give}
@@ -15,6 +16,8 @@ use Rattle.cfi_perf.specs.declared.sample_fields.SampleNumbers.{SampleNumbers}
 use Rattle.cfi_perf.specs.declared.sample_fields.LaterNumbers.{LaterNumbers}
 use Rattle.cfi_perf.specs.declared.sample_fields.TimedSample.{TimedSample as TimedSampleOfCode}
 use Rattle.cfi_perf.specs.EventTables.{ProfileEvent}
+use Rattle.cfi_perf.specs.CallChains.{PERF_CONTEXT_KERNEL, PERF_CONTEXT_USER, chain_view}
+use Rattle.cfi_perf.specs.CallChains.{in_context, numbers_of}
 use Rattle.cfi_perf.specs.Results.{items, read_from}
 use Rattle.cfi_perf.specs.Layouts.{has, has_any, PERF_SAMPLE_IP, PERF_SAMPLE_TID, PERF_SAMPLE_TIME}
 use Rattle.cfi_perf.specs.Layouts.{PERF_SAMPLE_ADDR, PERF_SAMPLE_READ, PERF_SAMPLE_CALLCHAIN}
@@ -44,6 +47,9 @@ pub record Sample : Type 0 where
   pub cpu : Option ℕ
   pub period : ℕ
   pub event : List ℕ  -- the name of its event
+  pub in_kernel : Bool  -- whether its instruction is the kernel's
+  pub call_chain : Option (List ℕ)
+  pub copies_stack : Bool  -- whether its event has registers and a copy of the stack
   pub user : UserState
 
 -- the value in a result
@@ -85,8 +91,25 @@ sample_view sample = record {
   cpu = sample.cpu;
   period = sample.period;
   event = sample.event.now;
+  in_kernel = sample.in_kernel;
+  call_chain = option_map chain_view sample.call_chain;
+  copies_stack = sample.copies_stack;
   user = user_view sample.user;
 }
+
+-- ---- the frames that a sample itself has
+
+-- those of its call chain in a context, or else of its instruction, if that is there
+abbrev pub frames_in : ℕ → Bool → Sample → List ℕ
+frames_in context is_there s =
+    option_map_or (in_context context PERF_CONTEXT_USER) s.call_chain
+    (if is_there then s.ip ∷ [] else [])
+
+abbrev pub kernel_frames : Sample → List ℕ
+kernel_frames s = frames_in PERF_CONTEXT_KERNEL s.in_kernel s
+
+abbrev pub user_frames : Sample → List ℕ
+user_frames s = frames_in PERF_CONTEXT_USER (not s.in_kernel) s
 
 -- ---- fields that a sample may have
 
@@ -139,7 +162,7 @@ later_numbers layout = do
   period ← period_of layout
   give (record { cpu = cpu; period = period })
 
--- ---- the fields up to the registers, of which nothing is kept
+-- ---- the lists up to the registers, of which the call chain is kept
 
 -- one count, or several under PERF_FORMAT_GROUP (8): each value has an id (PERF_FORMAT_ID, 4) and a
 -- count of lost samples (PERF_FORMAT_LOST, 16) if these are chosen; the times (1 and 2) stand once
@@ -165,11 +188,14 @@ read_values layout =
     else give tt
 
 -- a count, and as many numbers
-unfoldable pub call_chain : Read Unit
+unfoldable pub call_chain : Read (List ℕ)
 call_chain = do
   count ← unsigned w64
   addresses ← items count 8
-  give tt
+  λ source. give (numbers_of source.big_endian addresses) source
+
+abbrev pub call_chain_if : Bool → Read (Option (List ℕ))
+call_chain_if is_there = if is_there then call_chain >>= (λ chain. give (Some chain)) else give None
 
 -- a size, and as many bytes
 unfoldable pub raw_data : Read Unit
@@ -193,14 +219,14 @@ branch_stack chosen = do
 abbrev pub passed_if : Bool → Read Unit → Read Unit
 passed_if is_there read = if is_there then read else give tt
 
-unfoldable pub passed_lists : EventLayout → Read Unit
-passed_lists layout = do
+unfoldable pub lists : EventLayout → Read (Option (List ℕ))
+lists layout = do
   values ← read_values layout
-  chain ← passed_if (has PERF_SAMPLE_CALLCHAIN layout) call_chain
+  chain ← call_chain_if (has PERF_SAMPLE_CALLCHAIN layout)
   raw ← passed_if (has PERF_SAMPLE_RAW layout) raw_data
   branches ← passed_if (has PERF_SAMPLE_BRANCH_STACK layout)
       (branch_stack layout.branch_sample_type)
-  give tt
+  give chain
 
 -- ---- registers and stack
 
@@ -264,11 +290,19 @@ pub record TimedSample : Type 0 where
 abbrev pub timed_view : TimedSampleOfCode → TimedSample
 timed_view timed = record { time = timed.time; sample = sample_view timed.sample }
 
-unfoldable pub sample : ProfileEvent → Read TimedSample
-sample event = do
+abbrev pub copies_stack : EventLayout → Bool
+copies_stack layout = has PERF_SAMPLE_REGS_USER layout && has PERF_SAMPLE_STACK_USER layout
+
+-- PERF_RECORD_MISC_CPUMODE_MASK is 7, and PERF_RECORD_MISC_KERNEL 1
+abbrev pub is_in_kernel : ℕ → Bool
+is_in_kernel misc = bit_and misc 0x7 == 1
+
+-- by the `misc` of its record
+unfoldable pub sample : ProfileEvent → ℕ → Read TimedSample
+sample event misc = do
   numbers ← sample_numbers event.layout
   later ← later_numbers event.layout
-  lists ← passed_lists event.layout
+  chain ← lists event.layout
   user ← user_state event.layout
   give (record {
     time = numbers.time;
@@ -279,6 +313,9 @@ sample event = do
       cpu = later.cpu;
       period = later.period;
       event = event.name;
+      in_kernel = is_in_kernel misc;
+      call_chain = chain;
+      copies_stack = copies_stack event.layout;
       user = user;
     };
   })

@@ -6,12 +6,14 @@
 //! `tools/perf/Documentation/perf.data-file-format.txt`.
 //!
 //! `profile` reads the file header, `attribute` what the events' samples have in them, `records`
-//! iterates over the records, `event_table` and `event_names` find the event of each, `record` and
-//! `sample` have what a record says. Nothing is allocated or copied.
+//! iterates over the records, `event_table` and `event_names` find the event of each, `record`,
+//! `sample` and `call_chain` have what a record says. `recording` says what all records together
+//! tell of the recording. Nothing is allocated or copied.
 
 pub mod attribute;
 mod build_ids;
 mod bytes;
+pub mod call_chain;
 pub mod error;
 mod event_names;
 mod event_table;
@@ -19,13 +21,16 @@ mod file_header;
 pub mod profile;
 pub mod record;
 mod record_fields;
+pub mod recording;
 pub mod records;
 pub mod sample;
 mod sample_fields;
 
 pub use attribute::EventLayout;
+pub use call_chain::{Addresses, CallChain};
 pub use error::PerfError;
 pub use profile::Profile;
-pub use record::{Event, Fork, Mapping, Program, Record};
+pub use record::{Event, Fork, Lost, Mapping, Program, Record};
+pub use recording::{lacks_stacks, lost_in};
 pub use records::Records;
 pub use sample::{Sample, UserRegisters, UserState};

@@ -24,6 +24,8 @@ pub enum Event<'input> {
     Fork(Fork),
     /// A sample (`PERF_RECORD_SAMPLE`).
     Sample(Sample<'input>),
+    /// Records were lost (`PERF_RECORD_LOST`), or samples (`PERF_RECORD_LOST_SAMPLES`).
+    Lost(Lost),
     /// Another record.
     Other,
 }
@@ -73,6 +75,15 @@ pub struct Fork {
     pub tid: u32,
     /// The thread that made it.
     pub parent_tid: u32,
+}
+
+/// What was lost, because it was written faster than perf read it.
+#[derive(Clone, Copy, Debug, PartialEq, Eq)]
+pub struct Lost {
+    /// How many records.
+    pub records: u64,
+    /// How many samples.
+    pub samples: u64,
 }
 
 impl Clone for Record<'_> {

@@ -3,14 +3,14 @@ ghost use Rattle.std.specs.Prelude.{◌≡◌, option_map};
 ghost use Rattle.cfi_read_core.specs.ReaderCalls.{ReadsValue, map_ok};
 ghost use Rattle.cfi_read_core.specs.ByteOrder.{is_big};
 ghost use Rattle.cfi_perf.specs.Events.{fork, mapped_range, mapping, mapping2, mapping_view};
-ghost use Rattle.cfi_perf.specs.Events.{own_build_id};
+ghost use Rattle.cfi_perf.specs.Events.{lost, lost_samples, own_build_id};
 ghost use Rattle.cfi_perf.specs.Events.{program, program_view};
 
 use crate::attribute::has_any;
 use crate::build_ids::{count_at, counted_id};
 use crate::bytes::{before_zero, bytes_from};
 use crate::error::PerfError;
-use crate::record::{Fork, Mapping, Program};
+use crate::record::{Fork, Lost, Mapping, Program};
 use crate::sample_fields::read_thread;
 use cfi_read_core::{EndianSlice, Reader, Result, RunTimeEndian};
 
@@ -156,5 +156,30 @@ pub(crate) fn read_fork<R: Reader>(input: &mut R) -> Result<Fork>
         parent,
         tid,
         parent_tid,
+    })
+}
+
+/// Reads the fields of `PERF_RECORD_LOST`.
+#[tactic(auto, unfolding(crate::specs::Events::lost))]
+pub(crate) fn read_lost<R: Reader>(input: &mut R) -> Result<Lost>
+    ensures { ReadsValue R.position lost input.old result input.new }
+{
+    let _id = input.read_u64()?;
+    let records = input.read_u64()?;
+    Ok(Lost {
+        records,
+        samples: 0,
+    })
+}
+
+/// Reads the fields of `PERF_RECORD_LOST_SAMPLES`.
+#[tactic(auto, unfolding(crate::specs::Events::lost_samples))]
+pub(crate) fn read_lost_samples<R: Reader>(input: &mut R) -> Result<Lost>
+    ensures { ReadsValue R.position lost_samples input.old result input.new }
+{
+    let samples = input.read_u64()?;
+    Ok(Lost {
+        records: 0,
+        samples,
     })
 }

@@ -7,7 +7,9 @@ ghost use Rattle.cfi_perf.specs.EventTables.{event_view as event_of_table};
 ghost use Rattle.cfi_perf.specs.Events.{event_view, mapping_view, record_view};
 ghost use Rattle.cfi_perf.specs.Records.{Meets, after_record, event_of, first_record};
 ghost use Rattle.cfi_perf.specs.Records.{no_records, until_cut};
-ghost use Rattle.cfi_perf.specs.Records.{first_view, fork_event, framed_view, mapping_event};
+ghost use Rattle.cfi_perf.specs.Events.{lost, lost_samples};
+ghost use Rattle.cfi_perf.specs.Records.{first_view, fork_event, framed_view, lost_event};
+ghost use Rattle.cfi_perf.specs.Records.{mapping_event};
 ghost use Rattle.cfi_perf.specs.Records.{record_header, record_of, records_left, records_of};
 ghost use Rattle.cfi_perf.specs.Records.{sample_id_size, sample_id_time, sample_in, split_id};
 ghost use Rattle.cfi_perf.specs.Records.{sample_of, split_record, without_id, without_id_by};
@@ -19,12 +21,14 @@ use crate::bytes::{bytes_from, first_bytes, part};
 use crate::error::PerfError;
 use crate::event_table::{EventTable, ProfileEvent};
 use crate::record::{Event, Mapping, Record};
-use crate::record_fields::{mapping, mapping2, program, read_fork};
+use crate::record_fields::{mapping, mapping2, program, read_fork, read_lost, read_lost_samples};
 use crate::sample_fields::{read_number_if, read_sample};
 use cfi_read_core::{EndianSlice, Reader, RunTimeEndian};
 use std::alloc::AllocError;
 
 const PERF_RECORD_MMAP: u32 = 1;
+
+const PERF_RECORD_LOST: u32 = 2;
 
 const PERF_RECORD_COMM: u32 = 3;
 
@@ -33,6 +37,8 @@ const PERF_RECORD_FORK: u32 = 7;
 const PERF_RECORD_SAMPLE: u32 = 9;
 
 const PERF_RECORD_MMAP2: u32 = 10;
+
+const PERF_RECORD_LOST_SAMPLES: u32 = 13;
 
 /// The first type of the records that perf itself writes.
 const PERF_RECORD_USER_TYPE_START: u32 = 64;
@@ -271,7 +277,7 @@ fn record_of<'input>(
         ≡ record_of (table_view events.now) (is_big endian) header.now body.now }
 {
     if header.kind == PERF_RECORD_SAMPLE {
-        return sample_of(events.event_of_sample(body), endian, body);
+        return sample_of(events.event_of_sample(body), endian, header.misc, body);
     }
     if header.kind == PERF_RECORD_COMPRESSED || header.kind == PERF_RECORD_COMPRESSED2 {
         return Err(PerfError::Compressed);
@@ -288,13 +294,14 @@ fn record_of<'input>(
 fn sample_of<'input>(
     event: Option<ProfileEvent<'input>>,
     endian: RunTimeEndian,
+    misc: u16,
     body: &'input [u8],
 ) -> Result<Record<'input>, PerfError>
     ensures { map_ok record_view result
-        ≡ sample_of (option_map event_of_table event.entry) (is_big endian) body.now }
+        ≡ sample_of (option_map event_of_table event.entry) (is_big endian) misc body.now }
 {
     match event {
-        Some(event) => sample_record(&event, endian, body),
+        Some(event) => sample_record(&event, endian, misc, body),
         None => Ok(Record {
             time: 0,
             event: Event::Other,
@@ -306,13 +313,14 @@ fn sample_of<'input>(
 fn sample_record<'input>(
     event: &ProfileEvent<'input>,
     endian: RunTimeEndian,
+    misc: u16,
     body: &'input [u8],
 ) -> Result<Record<'input>, PerfError>
     ensures { map_ok record_view result
-        ≡ sample_in (event_of_table event.now) (is_big endian) body.now }
+        ≡ sample_in (event_of_table event.now) (is_big endian) misc body.now }
 {
     let mut input = EndianSlice::new(body, endian);
-    match read_sample(event, &mut input) {
+    match read_sample(event, misc, &mut input) {
         Ok(timed) => Ok(Record {
             time: timed.time,
             event: Event::Sample(timed.sample),
@@ -336,12 +344,14 @@ fn event_of<'input>(
             let mapped = mapping(endian, header.misc, fields)?;
             Ok(mapping_event(events, endian, mapped))
         }
+        PERF_RECORD_LOST => lost_event(endian, fields),
         PERF_RECORD_COMM => Ok(Event::Program(program(endian, header.misc, fields)?)),
         PERF_RECORD_FORK => fork_event(endian, fields),
         PERF_RECORD_MMAP2 => {
             let mapped = mapping2(endian, header.misc, fields)?;
             Ok(mapping_event(events, endian, mapped))
         }
+        PERF_RECORD_LOST_SAMPLES => lost_samples_event(endian, fields),
         _ => Ok(Event::Other),
     }
 }
@@ -365,6 +375,28 @@ fn fork_event(endian: RunTimeEndian, fields: &[u8]) -> Result<Event<'_>, PerfErr
     let mut input = EndianSlice::new(fields, endian);
     match read_fork(&mut input) {
         Ok(fork) => Ok(Event::Fork(fork)),
+        Err(_) => Err(PerfError::RecordCut),
+    }
+}
+
+/// Returns the event of lost records. Fails with `RecordCut`.
+fn lost_event(endian: RunTimeEndian, fields: &[u8]) -> Result<Event<'_>, PerfError>
+    ensures { map_ok event_view result ≡ lost_event (is_big endian) lost fields.now }
+{
+    let mut input = EndianSlice::new(fields, endian);
+    match read_lost(&mut input) {
+        Ok(lost) => Ok(Event::Lost(lost)),
+        Err(_) => Err(PerfError::RecordCut),
+    }
+}
+
+/// Returns the event of lost samples. Fails with `RecordCut`.
+fn lost_samples_event(endian: RunTimeEndian, fields: &[u8]) -> Result<Event<'_>, PerfError>
+    ensures { map_ok event_view result ≡ lost_event (is_big endian) lost_samples fields.now }
+{
+    let mut input = EndianSlice::new(fields, endian);
+    match read_lost_samples(&mut input) {
+        Ok(lost) => Ok(Event::Lost(lost)),
         Err(_) => Err(PerfError::RecordCut),
     }
 }

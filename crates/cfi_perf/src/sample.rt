@@ -2,6 +2,7 @@
 ghost use Rattle.std.specs.Prelude.{◌≡◌, ◌*◌, ⊤, count_ones, length};
 
 use crate::bytes::bytes_from;
+use crate::call_chain::{Addresses, CallChain, PERF_CONTEXT_KERNEL, PERF_CONTEXT_USER};
 use cfi_read_core::{EndianSlice, Reader, RunTimeEndian};
 use std::alloc::AllocError;
 
@@ -21,8 +22,44 @@ pub struct Sample<'input> {
     /// The name of its event, as `perf record` left it (`HEADER_EVENT_DESC`); else the kernel's
     /// name of an event of the processor's or its own, or `unknown`.
     pub event: &'input [u8],
+    /// Whether its instruction is the kernel's (`PERF_RECORD_MISC_KERNEL`).
+    pub in_kernel: bool,
+    /// The calls that led to the instruction (`PERF_SAMPLE_CALLCHAIN`). `None` where its event
+    /// doesn't record them.
+    pub call_chain: Option<CallChain<'input>>,
+    /// Whether its event records the registers and a copy of the stack of user space
+    /// (`PERF_SAMPLE_REGS_USER`, `PERF_SAMPLE_STACK_USER`). A sample may still have neither.
+    pub copies_stack: bool,
     /// The registers and the stack of user space.
     pub user: UserState<'input>,
+}
+
+impl<'input> Sample<'input> {
+    ghost use Rattle.cfi_perf.specs.CallChains.{addresses_left};
+    ghost use Rattle.cfi_perf.specs.Samples.{kernel_frames, sample_view, user_frames};
+
+    /// The addresses of the kernel's frames: those of the call chain, or of the instruction where
+    /// there is no call chain and it is the kernel's.
+    pub fn kernel_frames(&self) -> Addresses<'input>
+        ensures { addresses_left result ≡ kernel_frames (sample_view self.now) }
+    {
+        match self.call_chain {
+            Some(chain) => chain.addresses(PERF_CONTEXT_KERNEL),
+            None => Addresses::alone(if self.in_kernel { Some(self.ip) } else { None }),
+        }
+    }
+
+    /// The addresses of the frames of user space: those of the call chain, which has none where
+    /// stacks are copied, or of the instruction where there is no call chain and it isn't the
+    /// kernel's.
+    pub fn user_frames(&self) -> Addresses<'input>
+        ensures { addresses_left result ≡ user_frames (sample_view self.now) }
+    {
+        match self.call_chain {
+            Some(chain) => chain.addresses(PERF_CONTEXT_USER),
+            None => Addresses::alone(if self.in_kernel { None } else { Some(self.ip) }),
+        }
+    }
 }
 
 /// What a sample has of user space: its registers, and a copy of its stack.

@@ -3,10 +3,12 @@ ghost use Rattle.std.specs.Prelude.{◌≡◌, option_map};
 ghost use Rattle.cfi_read_core.specs.ByteOrder.{is_big};
 ghost use Rattle.cfi_read_core.specs.ReaderCalls.{ReadsBy, ReadsValue};
 ghost use Rattle.cfi_read_core.specs.SliceReaders.{slice_position};
-ghost use Rattle.cfi_perf.specs.Samples.{branch_size, branch_stack, call_chain, copied_stack};
+ghost use Rattle.cfi_perf.specs.CallChains.{chain_view};
+ghost use Rattle.cfi_perf.specs.Samples.{branch_size, branch_stack, call_chain, call_chain_if};
+ghost use Rattle.cfi_perf.specs.Samples.{copied_stack, copies_stack, is_in_kernel, lists};
 ghost use Rattle.cfi_perf.specs.EventTables.{event_view};
 ghost use Rattle.cfi_perf.specs.Samples.{group_values, later_numbers, number_if, passed_if};
-ghost use Rattle.cfi_perf.specs.Samples.{passed_lists, period_of, processor, processor_if};
+ghost use Rattle.cfi_perf.specs.Samples.{period_of, processor, processor_if};
 ghost use Rattle.cfi_perf.specs.Samples.{raw_data, read_values, registers};
 ghost use Rattle.cfi_perf.specs.Samples.{registers_by, registers_view, sample, sample_numbers};
 ghost use Rattle.cfi_perf.specs.Samples.{single_value, stack, stack_of_size, thread, thread_if};
@@ -20,6 +22,7 @@ use crate::attribute::{
     PERF_SAMPLE_STREAM_ID, PERF_SAMPLE_TID, PERF_SAMPLE_TIME, has_any,
 };
 use crate::bytes::{Input, first_bytes, read_items};
+use crate::call_chain::CallChain;
 use crate::event_table::ProfileEvent;
 use crate::sample::{Sample, UserRegisters, UserState};
 use cfi_read_core::{Reader, Result};
@@ -31,6 +34,11 @@ const FORMAT_TIMES: u64 = 1 << 0 | 1 << 1;
 
 /// `PERF_FORMAT_ID` and `PERF_FORMAT_LOST`.
 const FORMAT_OF_EACH: u64 = 1 << 2 | 1 << 4;
+
+/// `PERF_RECORD_MISC_CPUMODE_MASK`.
+const PROCESSOR_MODE: u64 = 7;
+
+const PERF_RECORD_MISC_KERNEL: u64 = 1;
 
 const PERF_SAMPLE_BRANCH_HW_INDEX: u64 = 1 << 17;
 
@@ -65,19 +73,20 @@ pub(crate) struct TimedSample<'input> {
     pub(crate) sample: Sample<'input>,
 }
 
-/// Reads a sample. Fails where its fields go past the end.
+/// Reads a sample, whose record has this `misc`. Fails where its fields go past the end.
 #[tactic(auto, unfolding(crate::specs::Samples::sample))]
 pub(crate) fn read_sample<'input>(
     event: &ProfileEvent<'input>,
+    misc: u16,
     input: &mut Input<'input>,
 ) -> Result<TimedSample<'input>>
-    ensures { ReadsBy (slice_position is_big) timed_view (sample (event_view event.now))
+    ensures { ReadsBy (slice_position is_big) timed_view (sample (event_view event.now) misc)
         input.old result input.new }
 {
     let layout = &event.layout;
     let numbers = read_sample_numbers(layout, input)?;
     let later = read_later_numbers(layout, input)?;
-    pass_lists(layout, input)?;
+    let call_chain = read_lists(layout, input)?;
     let user = read_user_state(layout, input)?;
     Ok(TimedSample {
         time: numbers.time,
@@ -88,9 +97,26 @@ pub(crate) fn read_sample<'input>(
             cpu: later.cpu,
             period: later.period,
             event: event.name,
+            in_kernel: is_in_kernel(misc),
+            call_chain,
+            copies_stack: copies_stack(layout),
             user,
         },
     })
+}
+
+/// Whether the instruction of a sample is the kernel's, by the `misc` of its record.
+fn is_in_kernel(misc: u16) -> bool
+    ensures { result ≡ is_in_kernel misc }
+{
+    u64::from(misc) & PROCESSOR_MODE == PERF_RECORD_MISC_KERNEL
+}
+
+/// Whether samples have registers and a copy of the stack.
+fn copies_stack(layout: &EventLayout) -> bool
+    ensures { result ≡ copies_stack layout.now }
+{
+    layout.has(PERF_SAMPLE_REGS_USER) && layout.has(PERF_SAMPLE_STACK_USER)
 }
 
 /// Reads a number of eight bytes where there is one, or else gives 0.
@@ -180,17 +206,21 @@ fn read_period<R: Reader>(layout: &EventLayout, input: &mut R) -> Result<u64>
     }
 }
 
-/// Passes what a sample has of counts, calls, raw data and branches.
-#[tactic(auto, unfolding(crate::specs::Samples::passed_lists))]
-fn pass_lists(layout: &EventLayout, input: &mut Input<'_>) -> Result<()>
-    ensures { ReadsValue (slice_position is_big) (passed_lists layout.now)
+/// Reads the call chain, and passes what a sample has of counts, raw data and branches.
+#[tactic(auto, unfolding(crate::specs::Samples::lists))]
+fn read_lists<'input>(
+    layout: &EventLayout,
+    input: &mut Input<'input>,
+) -> Result<Option<CallChain<'input>>>
+    ensures { ReadsBy (slice_position is_big) (option_map chain_view) (lists layout.now)
         input.old result input.new }
 {
     pass_values(layout, input)?;
-    pass_call_chain(layout.has(PERF_SAMPLE_CALLCHAIN), input)?;
+    let chain = read_call_chain_if(layout.has(PERF_SAMPLE_CALLCHAIN), input)?;
     pass_raw_data(layout.has(PERF_SAMPLE_RAW), input)?;
     let branches = layout.has(PERF_SAMPLE_BRANCH_STACK);
-    pass_branch_stack(branches, layout.branch_sample_type, input)
+    pass_branch_stack(branches, layout.branch_sample_type, input)?;
+    Ok(chain)
 }
 
 /// Passes the counts of the sample's event or of its group, if they are there.
@@ -232,18 +262,29 @@ fn pass_single_value(format: u64, input: &mut Input<'_>) -> Result<()>
     Ok(())
 }
 
-/// Passes the calls that the kernel recorded.
-#[tactic(auto, unfolding(crate::specs::Samples::call_chain))]
-fn pass_call_chain(is_there: bool, input: &mut Input<'_>) -> Result<()>
-    ensures { ReadsValue (slice_position is_big) (passed_if is_there call_chain)
+/// Reads the calls that the kernel recorded, where the sample has them.
+fn read_call_chain_if<'input>(
+    is_there: bool,
+    input: &mut Input<'input>,
+) -> Result<Option<CallChain<'input>>>
+    ensures { ReadsBy (slice_position is_big) (option_map chain_view) (call_chain_if is_there)
         input.old result input.new }
 {
     if !is_there {
-        return Ok(());
+        return Ok(None);
     }
+    let chain = read_call_chain(input)?;
+    Ok(Some(chain))
+}
+
+/// Reads the calls that the kernel recorded.
+#[tactic(auto, unfolding(crate::specs::Samples::call_chain))]
+fn read_call_chain<'input>(input: &mut Input<'input>) -> Result<CallChain<'input>>
+    ensures { ReadsBy (slice_position is_big) chain_view call_chain input.old result input.new }
+{
     let count = input.read_u64()?;
-    let _addresses = read_items(count, 8, input)?;
-    Ok(())
+    let entries = read_items(count, 8, input)?;
+    Ok(CallChain::new(entries, input.endian()))
 }
 
 /// Passes the raw data, if they are there.

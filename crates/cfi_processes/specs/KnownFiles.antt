@@ -6,9 +6,13 @@
 --     mapped_at list a      the mapping that has an address
 --     site_of files list a      where an address is: the place in the file, the function and the
 --         file's name
+--     kernel_site files list a      where an address of the kernel is, of which this is mapped
+--     chain_site is_kernel files list a      where an address of a call chain is: of the kernel, or
+--         of a process
 --     modules_in files list      the modules of what is mapped, each with the number of its file
-use Rattle.std.specs.Prelude.{ℕ, List, Option, Some, None, find, option_map, slice_get}
-use Rattle.std.specs.List.{filter_map}
+use Rattle.std.specs.Prelude.{ℕ, Bool, List, Option, Some, None, codes, find, nat_eq, option_map}
+use Rattle.std.specs.Prelude.{slice_get, if◌then◌else◌}
+use Rattle.std.specs.List.{filter_map, starts_with}
 use Rattle.std.specs.Option.{option_and_then}
 use Rattle.cfi_compiled.specs.CompiledTables.{TableContents}
 use Rattle.cfi_processes.specs.declared.mappings.MappedCode.{MappedCode}
@@ -70,6 +74,28 @@ site_at files a (Some mapped) = site_in mapped a (file_of files mapped)
 
 abbrev pub site_of : List KnownFile → List MappedCode → ℕ → Site
 site_of files list a = site_at files a (mapped_at list a)
+
+-- ---- the kernel
+
+abbrev pub kernel_image : List ℕ
+kernel_image = codes "[kernel.kallsyms]"
+
+-- the mapping of the kernel itself is named after this and a symbol (`[kernel.kallsyms]_text`)
+abbrev pub kernel_name : List ℕ → List ℕ
+kernel_name name = if starts_with nat_eq name kernel_image then kernel_image else name
+
+-- by its address; its functions aren't known
+abbrev pub kernel_site : List KnownFile → List MappedCode → ℕ → Site
+kernel_site files list a =
+    record {
+      place = a;
+      function = None;
+      file = option_map kernel_name (site_of files list a).file;
+    }
+
+abbrev pub chain_site : Bool → List KnownFile → List MappedCode → ℕ → Site
+chain_site is_kernel files list a =
+    if is_kernel then kernel_site files list a else site_of files list a
 
 -- ---- modules
 

@@ -13,8 +13,8 @@ use Rattle.std.specs.Str.{bytes_eq}
 use Rattle.cfi_read_core.specs.SliceReaders.{EndianSlice}
 use Rattle.cfi_read_core.specs.declared.endianity.RunTimeEndian.{RunTimeEndian}
 use Rattle.cfi_step.specs.declared.module.LoadedModule.{LoadedModule}
-use Rattle.cfi_perf.specs.Events.{Event, Mapping, Record, ForkEvent, MappingEvent, OtherEvent}
-use Rattle.cfi_perf.specs.Events.{ProgramEvent, SampleEvent}
+use Rattle.cfi_perf.specs.Events.{Event, Mapping, Record, ForkEvent, LostEvent, MappingEvent}
+use Rattle.cfi_perf.specs.Events.{OtherEvent, ProgramEvent, SampleEvent}
 use Rattle.cfi_processes.specs.declared.mappings.MappedCode.{MappedCode}
 use Rattle.cfi_processes.specs.declared.profile_files.ProfileFile.{ProfileFile}
 use Rattle.cfi_processes.specs.declared.replay.Replay.{Replay}
@@ -37,6 +37,7 @@ code_file (MappingEvent m) = if m.is_executable then Some (mapped_file m) else N
 code_file (ProgramEvent p) = None
 code_file (ForkEvent f) = None
 code_file (SampleEvent s) = None
+code_file (LostEvent l) = None
 code_file OtherEvent = None
 
 abbrev pub is_among : List Wanted → Wanted → Bool
@@ -72,6 +73,7 @@ change_of files (MappingEvent m) = Some (mapped m.pid (mapped_code files m))
 change_of files (ProgramEvent p) = if p.is_exec then Some (executed p.pid) else None
 change_of files (ForkEvent f) = Some (forked f.pid f.parent)
 change_of files (SampleEvent s) = None
+change_of files (LostEvent l) = None
 change_of files OtherEvent = None
 
 abbrev pub changed : Option Change → (ℕ → List MappedCode) → ℕ → List MappedCode

@@ -6,8 +6,8 @@
 use Rattle.std.specs.Prelude.{ℕ, List, Option, Some, option_map, ◌==◌, if◌then◌else◌}
 use Rattle.std.specs.Ordering.{nat_cmp}
 use Rattle.std.specs.BTreeMap.{get}
-use Rattle.cfi_perf.specs.Events.{Event, ForkEvent, MappingEvent, OtherEvent, ProgramEvent}
-use Rattle.cfi_perf.specs.Events.{SampleEvent}
+use Rattle.cfi_perf.specs.Events.{Event, ForkEvent, LostEvent, MappingEvent, OtherEvent}
+use Rattle.cfi_perf.specs.Events.{ProgramEvent, SampleEvent}
 use Rattle.cfi_processes.specs.declared.names.Name.{Name}
 use Rattle.cfi_processes.specs.declared.threads.Threads.{Threads}
 
@@ -26,4 +26,5 @@ names_after (ProgramEvent p) before t = given p.tid (Some p.name) before t
 names_after (ForkEvent f) before t = given f.tid (before f.parent_tid) before t
 names_after (MappingEvent m) before t = before t
 names_after (SampleEvent s) before t = before t
+names_after (LostEvent l) before t = before t
 names_after OtherEvent before t = before t

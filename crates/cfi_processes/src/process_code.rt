@@ -3,7 +3,8 @@ ghost use Rattle.std.specs.Prelude.{◌≡◌, ◌++◌, IfOk, IfSome, OnOk, Som
 ghost use Rattle.std.specs.Option.{option_and_then};
 ghost use Rattle.cfi_elf.specs.FunctionPlaces.{place_view};
 ghost use Rattle.cfi_processes.specs.FileFunctions.{function_in};
-ghost use Rattle.cfi_processes.specs.KnownFiles.{file_of, known_view, mapped_at};
+ghost use Rattle.cfi_processes.specs.KnownFiles.{file_of, kernel_name, kernel_site, known_view};
+ghost use Rattle.cfi_processes.specs.KnownFiles.{chain_site, mapped_at};
 ghost use Rattle.cfi_processes.specs.KnownFiles.{module_at, module_in, modules_in};
 ghost use Rattle.cfi_processes.specs.KnownFiles.{nowhere, site_in, site_of};
 ghost use Rattle.cfi_processes.specs.FileModules.{AreOfFiles, IsOfFile, IsOfFiles};
@@ -18,6 +19,12 @@ use cfi_elf::FunctionPlace;
 use cfi_step::LoadedModule;
 use gimli_cfi::{EndianSlice, RunTimeEndian};
 use std::alloc::AllocError;
+
+/// What profiles name the kernel's own code.
+const KERNEL_IMAGE: &[u8] = b"[kernel.kallsyms]";
+
+/// The process that the kernel's own code and its modules are mapped into, -1.
+pub const KERNEL: u32 = u32::MAX;
 
 /// A module of a profile's file.
 pub type FileModule<'a, 'run> = LoadedModule<'a, EndianSlice<'run, RunTimeEndian>>;
@@ -66,6 +73,34 @@ impl<'a, 'files, 'run> ProcessCode<'a, 'files, 'run> {
                 ..place_in(file, mapped, address)
             },
             None => nowhere(address),
+        }
+    }
+
+    /// Where an address of the kernel is, if this is what is mapped into `KERNEL`: in its own code
+    /// or in which module of it, by its address. Its functions aren't known.
+    pub fn kernel_site(&self, address: u64) -> Site<'run>
+        requires { AreInOrder 0 self.now.mappings.now }
+        ensures { site_view result
+            ≡ kernel_site (map known_view self.now.files.now) self.now.mappings.now address }
+    {
+        Site {
+            place: address,
+            function: None,
+            file: kernel_name_of(self.place(address).file),
+        }
+    }
+
+    /// Where an address of a call chain is: of the kernel, as `kernel_site`, or of the process, as
+    /// `site`.
+    pub fn chain_site(&self, is_kernel: bool, address: u64) -> Site<'run>
+        requires { AreInOrder 0 self.now.mappings.now }
+        ensures { site_view result ≡ chain_site is_kernel
+            (map known_view self.now.files.now) self.now.mappings.now address }
+    {
+        if is_kernel {
+            self.kernel_site(address)
+        } else {
+            self.site(address)
         }
     }
 
@@ -144,6 +179,29 @@ impl<'a, 'files, 'run> ProcessCode<'a, 'files, 'run> {
     {
         let number = mapped.object?;
         module_in(self.files.get(number)?, number, mapped)
+    }
+}
+
+/// The name of the kernel, or of the module of it that is mapped, if anything is.
+fn kernel_name_of(file: Option<Name<'_>>) -> Option<Name<'_>>
+    ensures { option_map (λ name. name.bytes.now) result
+        ≡ option_map kernel_name (option_map (λ name. name.bytes.now) file.entry) }
+{
+    match file {
+        Some(name) => Some(kernel_name(name)),
+        None => None,
+    }
+}
+
+/// The name of the kernel itself, without the symbol after which its mapping is named; that of a
+/// module as it is.
+fn kernel_name(name: Name<'_>) -> Name<'_>
+    ensures { result.bytes.now ≡ kernel_name name.entry.bytes.now }
+{
+    if name.bytes.starts_with(KERNEL_IMAGE) {
+        Name::new(KERNEL_IMAGE)
+    } else {
+        name
     }
 }
 

@@ -50,6 +50,14 @@ pub trait Opener {
 
     /// Says that for the file with this name none of the build that ran was found.
     fn tell_missing(&self, name: &[u8]);
+
+    /// Says that the profile was recorded without copies of stacks, and how it is recorded with
+    /// them.
+    fn tell_without_stacks(&self);
+
+    /// Says how many of the profile's records were lost, and how many of its samples. One of these
+    /// numbers may be 0.
+    fn tell_lost(&self, records: u64, samples: u64);
 }
 
 /// A file of a profile, as it was opened.

@@ -73,6 +73,7 @@ impl<'a, 'run, 'names> Replay<'a, 'run, 'names> {
             Event::Program(program) => self.run(&program),
             Event::Fork(fork) => self.fork(&fork),
             Event::Sample(sample) => self.load(sample.pid),
+            Event::Lost(_) => Ok(()),
             Event::Other => Ok(()),
         }
     }

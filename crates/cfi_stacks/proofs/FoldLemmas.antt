@@ -8,7 +8,7 @@ use Rattle.cfi_flame.specs.FoldedCounts.{AreCounted, CountsMore, IsNotAdded, cou
 use Rattle.cfi_flame.specs.FoldedStacks.{Stack}
 use Rattle.cfi_flame.proofs.CountLemmas.{counted_here}
 use Rattle.cfi_perf.specs.declared.error.PerfError.{PerfError}
-use Rattle.cfi_perf.specs.Events.{Event, Record, ForkEvent, MappingEvent, OtherEvent, ProgramEvent, SampleEvent}
+use Rattle.cfi_perf.specs.Events.{Event, Record, ForkEvent, LostEvent, MappingEvent, OtherEvent, ProgramEvent, SampleEvent}
 use Rattle.cfi_perf.specs.Samples.{Sample}
 use Rattle.cfi_programs.specs.Runs.{out_of_memory}
 use Rattle.cfi_programs.specs.WriterOutput.{PrintsSome}
@@ -18,7 +18,7 @@ use Rattle.cfi_processes.specs.declared.registers.SampleMachine.{SampleMachine}
 use Rattle.cfi_processes.specs.KnownFiles.{KnownFile}
 use Rattle.cfi_stacks.specs.FoldedTexts.{frame_name, names_text}
 use Rattle.cfi_stacks.specs.Foldings.{IsFollowed, IsNotFollowed}
-use Rattle.cfi_stacks.specs.ProfileOutputs.{AreFolded, AreSamples, IsFolded, IsFoldedText, IsSampleOf, IsUnfolded, Known, ended, known_after, nothing_known, weight}
+use Rattle.cfi_stacks.specs.ProfileOutputs.{AreFolded, AreSamples, IsFolded, IsFoldedText, IsSampleOf, IsUnfolded, Known, ended, in_kernel_of, known_after, nothing_known, weight}
 use Rattle.cfi_stacks.proofs.RunLemmas.{IsKnownAfter}
 
 -- one more part of a text, and then the others
@@ -53,6 +53,7 @@ module _ (by_period : Bool) (machine : SampleMachine) (files : List KnownFile) w
   sample_before before time (ProgramEvent p) samples is = is
   sample_before before time (ForkEvent f) samples is = is
   sample_before before time (SampleEvent s) samples is = is
+  sample_before before time (LostEvent l) samples is = is
   sample_before before time OtherEvent samples is = is
 
   -- With the samples of any further records those of the first are those of all.
@@ -122,7 +123,7 @@ module _ (by_period : Bool) (machine : SampleMachine) (files : List KnownFile) w
 
   -- ---- a sample
 
-  pub sample_added : {T E : Type 0} (known : Known) (time : ℕ) (s : Sample) (text : List ℕ) (count : ℕ) (old new : List Stack) (r : Result T E) → IsFoldedText machine files (known.mapped s.pid) (known.names s.tid) s text
+  pub sample_added : {T E : Type 0} (known : Known) (time : ℕ) (s : Sample) (text : List ℕ) (count : ℕ) (old new : List Stack) (r : Result T E) → IsFoldedText machine files (in_kernel_of files known) (known.mapped s.pid) (known.names s.tid) s text
       → count ≡ weight by_period s → OnOk r (CountsMore text count old new) → OnOk r (IsFollowed by_period machine files known time (SampleEvent s) old new)
   sample_added known time s text count old new (Ok done) is counts more = (
     record { frames = text; count = count } ∷ [],
@@ -131,7 +132,7 @@ module _ (by_period : Bool) (machine : SampleMachine) (files : List KnownFile) w
   )
   sample_added known time s text count old new (Err e) is counts more = tt
 
-  pub sample_refused : {T : Type 0} (known : Known) (time : ℕ) (s : Sample) (text : List ℕ) (count : ℕ) (old : List Stack) (r : Result T FoldedError) → IsFoldedText machine files (known.mapped s.pid) (known.names s.tid) s text
+  pub sample_refused : {T : Type 0} (known : Known) (time : ℕ) (s : Sample) (text : List ℕ) (count : ℕ) (old : List Stack) (r : Result T FoldedError) → IsFoldedText machine files (in_kernel_of files known) (known.mapped s.pid) (known.names s.tid) s text
       → count ≡ weight by_period s → IfErr r (IsNotAdded text count old) → IfErr r (IsNotFollowed by_period machine files known time (SampleEvent s) old)
   sample_refused known time s text count old (Ok done) is counts h = tt
   sample_refused known time s text count old (Err OutOfMemory) is counts h = tt

@@ -2,6 +2,7 @@ mod RoomLemmas
 mod RunLemmas
 mod FoldLemmas
 mod StackLemmas
+mod ChainLemmas
 mod ReadLemmas
 mod ThreadLemmas
 mod CoreLemmas

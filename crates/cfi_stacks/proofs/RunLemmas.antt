@@ -6,7 +6,7 @@ use Rattle.std.specs.Io.KnownBytes.{Appends}
 use Rattle.std.specs.Result.{IsErr}
 use Rattle.cfi_perf.specs.declared.error.PerfError.{PerfError}
 use Rattle.cfi_perf.specs.declared.record.Record.{Record as RecordOfCode}
-use Rattle.cfi_perf.specs.Events.{Event, Record, record_view, ForkEvent, MappingEvent, OtherEvent, ProgramEvent, SampleEvent}
+use Rattle.cfi_perf.specs.Events.{Event, Record, record_view, ForkEvent, LostEvent, MappingEvent, OtherEvent, ProgramEvent, SampleEvent}
 use Rattle.cfi_programs.specs.Runs.{out_of_memory}
 use Rattle.cfi_programs.specs.WriterOutput.{IsBeginning, Prints, PrintsSome}
 use Rattle.cfi_programs.proofs.WrittenLemmas.{appends_then, beginning_then, none_yet, writes_refused}
@@ -39,6 +39,7 @@ module _ (raw : Bool) (machine : SampleMachine) (files : List KnownFile) where
   text_before before time (ProgramEvent p) text is = is
   text_before before time (ForkEvent f) text is = is
   text_before before time (SampleEvent s) text is = is
+  text_before before time (LostEvent l) text is = is
   text_before before time OtherEvent text is = is
 
   -- With the texts of any further records the text of the first is that of all.

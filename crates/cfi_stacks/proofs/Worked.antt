@@ -2,11 +2,19 @@
 use Rattle.std.proofs.Common.{◌≡◌, ℕ, List, [], ◌∷◌, ◌++◌, Option, Some, None, codes, map, refl, false, true}
 use Rattle.std.specs.Fmt.{digits}
 use Rattle.cfi_perf.specs.Samples.{Sample}
+use Rattle.cfi_read_core.specs.declared.error.Error.TheVariants.{NoUnwindInfoForAddress}
+use Rattle.cfi_expression.specs.declared.error.FrameError.TheVariants.{NoRow}
+use Rattle.cfi_step.specs.declared.walk.End.TheVariants.{Failed}
+use Rattle.cfi_processes.specs.declared.mappings.MappedCode.{MappedCode}
+use Rattle.cfi_processes.specs.KnownFiles.{KnownFile, kernel_site}
+use Rattle.cfi_stacks.specs.FoldedTexts.{chain_names}
+use Rattle.cfi_stacks.specs.ProfileOutputs.{chain_text}
+use Rattle.cfi_stacks.specs.Reasons.{reason_line, reason_of}
 use Rattle.cfi_stacks.specs.Signals.{signal_name}
 use Rattle.cfi_stacks.specs.StackTexts.{core_frame_line, head_line, thread_line, thread_text, time_text}
 
 abbrev of_thread : ℕ → Option ℕ → ℕ → List ℕ → Sample
-of_thread tid cpu period event = record { pid = 17261; tid = tid; ip = 0; cpu = cpu; period = period; event = event; user = record { registers = None; stack = [] } }
+of_thread tid cpu period event = record { pid = 17261; tid = tid; ip = 0; cpu = cpu; period = period; event = event; in_kernel = false; call_chain = None; copies_stack = true; user = record { registers = None; stack = [] } }
 
 with_cpu : head_line (Some (codes "verylongprogram")) 2384958796901 (of_thread 17261 (Some 2) 3 (codes "page-faults"))
     ≡ codes "verylongprogram 17261/17261 [002]  2384.958796:          3 page-faults:" ++ 10 ∷ []
@@ -36,6 +44,30 @@ large_numbers = refl
 late : time_text 123456789012345678 ≡ codes "123456789.012345"
 unfolding digits
 late = refl
+
+-- ---- frames of the kernel, as perf script --kallsyms=/dev/null prints them of crates/cfi/data/chains.perf, and of a copy with another address
+
+abbrev kernel_file : KnownFile
+kernel_file = record { name = codes "[kernel.kallsyms]_text"; build_id = None; functions = None; code = None }
+
+abbrev kernel_code : MappedCode
+kernel_code = record { start = 0xffffffff81000000; end = 0xffffffff82000000; offset = 0xffffffff81000000; object = Some 0 }
+
+of_the_kernel : chain_text false (kernel_site (kernel_file ∷ []) (kernel_code ∷ [])) (0xffffffff81000130 ∷ []) ≡ codes "\tffffffff81000130 [unknown] ([kernel.kallsyms])" ++ 10 ∷ []
+unfolding digits
+of_the_kernel = refl
+
+where_nothing_is : chain_text false (kernel_site (kernel_file ∷ []) (kernel_code ∷ [])) (0xffffffffb0000123 ∷ []) ≡ codes "\tffffffffb0000123 [unknown] ([unknown])" ++ 10 ∷ []
+unfolding digits
+where_nothing_is = refl
+
+folded_kernel : chain_names (kernel_site (kernel_file ∷ []) (kernel_code ∷ [])) (0xffffffff81000130 ∷ 0xffffffffb0000123 ∷ []) ≡ codes ";[unknown];[[kernel.kallsyms]]"
+folded_kernel = refl
+
+-- ---- reasons
+
+without_a_row : reason_line (reason_of (Failed (NoRow NoUnwindInfoForAddress))) ≡ codes "# the call frames have no row for this address (NoRow NoUnwindInfoForAddress)" ++ 10 ∷ []
+without_a_row = refl
 
 -- ---- core files
 

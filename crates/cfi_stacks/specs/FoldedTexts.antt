@@ -2,12 +2,14 @@
 -- semicolons.
 --     harmless byte      what stands for a byte of a name: a semicolon is a colon
 --     site_name site      the name of a frame's function, or that of its file in brackets
---     folded_text files list name tid result room      the stack of a walk
+--     folded_text in_kernel files list name s result room      the stack of a sample: of a walk, or
+--         of its call chain, and the frames of the kernel
 use Rattle.std.specs.Prelude.{ℕ, ◌==◌, List, [], ◌∷◌, ◌++◌, Option, Some, None, Result, Ok, Err}
 use Rattle.std.specs.Prelude.{codes, drop, map, take, if◌then◌else◌}
 use Rattle.cfi_flame.specs.FoldedStacks.{last_part}
 use Rattle.cfi_elf.specs.FunctionPlaces.{Place}
 use Rattle.cfi_programs.specs.FunctionLines.{shown}
+use Rattle.cfi_perf.specs.Samples.{Sample, kernel_frames, user_frames}
 use Rattle.cfi_step.specs.declared.walk.StackFrame.{StackFrame}
 use Rattle.cfi_step.specs.declared.walk.Walk.{Walk}
 use Rattle.cfi_step.specs.Steps.{row_address}
@@ -65,9 +67,23 @@ abbrev pub walk_names :
 walk_names files list (Ok walk) room = names_text files list (take walk.count room)
 walk_names files list (Err why) room = []
 
+-- the addresses of a call chain, where they are
+abbrev pub chain_names : (ℕ → Site) → List ℕ → List ℕ
+chain_names site_at [] = []
+chain_names site_at (a ∷ addresses) =
+    chain_names site_at addresses ++ (codes ";" ++ site_name (site_at a))
+
+-- those of the call chain where the event copies no stacks
+abbrev pub user_names :
+    List KnownFile → List MappedCode → Sample → Result Walk NoFrames → List StackFrame → List ℕ
+user_names files list s result room =
+    if s.copies_stack then walk_names files list result room
+    else chain_names (site_of files list) (user_frames s)
+
 -- as far as it was found
 abbrev pub folded_text :
-    List KnownFile → List MappedCode → Option (List ℕ) → ℕ → Result Walk NoFrames →
-    List StackFrame → List ℕ
-folded_text files list name tid result room =
-    thread_name tid name ++ walk_names files list result room
+    (ℕ → Site) → List KnownFile → List MappedCode → Option (List ℕ) → Sample →
+    Result Walk NoFrames → List StackFrame → List ℕ
+folded_text in_kernel files list name s result room =
+    thread_name s.tid name
+    ++ (user_names files list s result room ++ chain_names in_kernel (kernel_frames s))

@@ -1,6 +1,8 @@
 -- Which output is right for a profile.
 --     stack_text raw files list frames      the lines of frames, where this is mapped
---     IsStackText raw machine files list name time sample text      the text of a sample's stack
+--     chain_text raw site_at addresses      those of a call chain's addresses
+--     IsStackText raw machine files in_kernel list name time s text      the text of a sample's
+--         stack
 --     AreStacks raw machine files before records text      the texts of the samples, in the order
 --         of the records
 --     IsPrinted .. records error line      these, and then the error that ended the records; or a
@@ -27,7 +29,7 @@ use Rattle.cfi_perf.specs.ErrorNames.{name_of_perf}
 use Rattle.cfi_perf.specs.Events.{Event, Record, SampleEvent, record_view}
 use Rattle.cfi_perf.specs.Profiles.{Profile, architecture, profile, profile_records}
 use Rattle.cfi_perf.specs.Records.{Records}
-use Rattle.cfi_perf.specs.Samples.{Sample}
+use Rattle.cfi_perf.specs.Samples.{Sample, kernel_frames, user_frames}
 use Rattle.cfi_programs.specs.Lines.{Line, line, wrong_input}
 use Rattle.cfi_programs.specs.Runs.{out_of_memory}
 use Rattle.cfi_step.specs.declared.module.LoadedModule.{LoadedModule}
@@ -38,10 +40,11 @@ use Rattle.cfi_processes.specs.declared.mappings.MappedCode.{MappedCode}
 use Rattle.cfi_processes.specs.declared.registers.SampleMachine.{SampleMachine}
 use Rattle.cfi_processes.specs.declared.replay.Replay.{Replay}
 use Rattle.cfi_processes.specs.declared.sample_stack.NoFrames.{NoFrames}
-use Rattle.cfi_processes.specs.KnownFiles.{KnownFile, modules_in, site_of}
+use Rattle.cfi_processes.specs.KnownFiles.{KnownFile, kernel_site, modules_in, site_of}
 use Rattle.cfi_processes.specs.Modules.{module_view}
 use Rattle.cfi_processes.specs.OpenedFiles.{AreFilesOf, AreOpened, Opened}
 use Rattle.cfi_processes.specs.Registers.{machine_named}
+use Rattle.cfi_processes.specs.Sites.{Site}
 use Rattle.cfi_processes.specs.Replays.{after, named, replayed, wanted_of}
 use Rattle.cfi_processes.specs.ThreadNames.{names_after}
 use Rattle.cfi_processes.specs.Wanted.{FilePlace, Wanted}
@@ -74,12 +77,31 @@ walk_text raw files list (Ok walk) room =
     stack_text raw files list (take walk.count room) ++ reason_line (reason_of walk.end)
 walk_text raw files list (Err why) room = reason_line (Some (reason_without why))
 
+-- the addresses of a call chain, where they are
+abbrev pub chain_text : Bool → (ℕ → Site) → List ℕ → List ℕ
+chain_text raw site_at addresses = flat_map (λ a. site_line raw (site_at a)) addresses
+
+-- those of the call chain where the event copies no stacks
+abbrev pub user_text :
+    Bool → List KnownFile → List MappedCode → Sample → Result Walk NoFrames → List StackFrame →
+    List ℕ
+user_text raw files list s result room =
+    if s.copies_stack then walk_text raw files list result room
+    else chain_text raw (site_of files list) (user_frames s)
+
+-- the kernel's, and those of user space
+abbrev pub frames_text :
+    Bool → (ℕ → Site) → List KnownFile → List MappedCode → Sample → Result Walk NoFrames →
+    List StackFrame → List ℕ
+frames_text raw in_kernel files list s result room =
+    chain_text raw in_kernel (kernel_frames s) ++ user_text raw files list s result room
+
 -- behind the line of the thread and the event, and before an empty line
 abbrev pub sample_text :
-    Bool → List KnownFile → List MappedCode → Option (List ℕ) → ℕ → Sample →
+    Bool → (ℕ → Site) → List KnownFile → List MappedCode → Option (List ℕ) → ℕ → Sample →
     Result Walk NoFrames → List StackFrame → List ℕ
-sample_text raw files list name time s result room =
-    head_line name time s ++ (walk_text raw files list result room ++ 10 ∷ [])
+sample_text raw in_kernel files list name time s result room =
+    head_line name time s ++ (frames_text raw in_kernel files list s result room ++ 10 ∷ [])
 
 -- ---- what is known before a record
 
@@ -97,6 +119,10 @@ known_after files event before = record {
 -- by what a replay of the code has followed
 abbrev pub known_in : Replay → Known
 known_in replay = record { mapped = replayed replay; names = named replay }
+
+-- where an address of the kernel is, which is mapped in the process -1
+abbrev pub in_kernel_of : List KnownFile → Known → ℕ → Site
+in_kernel_of files known = kernel_site files (known.mapped 0xffffffff)
 
 -- before the first record
 abbrev pub nothing_known : Known
@@ -130,13 +156,13 @@ IsOfFrames machine files list s text_of text =
 
 module _ (raw : Bool) (machine : SampleMachine) (files : List KnownFile) where
   abbrev pub IsStackText :
-      List MappedCode → Option (List ℕ) → ℕ → Sample → List ℕ → Type 0
-  IsStackText list name time s text =
-      IsOfFrames machine files list s (sample_text raw files list name time s) text
+      (ℕ → Site) → List MappedCode → Option (List ℕ) → ℕ → Sample → List ℕ → Type 0
+  IsStackText in_kernel list name time s text =
+      IsOfFrames machine files list s (sample_text raw in_kernel files list name time s) text
 
   abbrev pub IsTextOf : Known → ℕ → Event → List ℕ → Type 0
   IsTextOf before time (SampleEvent s) text =
-      IsStackText (before.mapped s.pid) (before.names s.tid) time s text
+      IsStackText (in_kernel_of files before) (before.mapped s.pid) (before.names s.tid) time s text
   IsTextOf before time _ text = text ≡ []
 
   abbrev pub AreStacks : Known → List Record → List ℕ → Type 0
@@ -149,15 +175,17 @@ abbrev pub weight : Bool → Sample → ℕ
 weight by_period s = if by_period then (if s.period == 0 then 1 else s.period) else 1
 
 abbrev pub IsFoldedText :
-    SampleMachine → List KnownFile → List MappedCode → Option (List ℕ) → Sample → List ℕ → Type 0
-IsFoldedText machine files list name s text =
-    IsOfFrames machine files list s (folded_text files list name s.tid) text
+    SampleMachine → List KnownFile → (ℕ → Site) → List MappedCode → Option (List ℕ) → Sample →
+    List ℕ → Type 0
+IsFoldedText machine files in_kernel list name s text =
+    IsOfFrames machine files list s (folded_text in_kernel files list name s) text
 
 module _ (by_period : Bool) (machine : SampleMachine) (files : List KnownFile) where
   abbrev pub IsSampleOf : Known → ℕ → Event → List Stack → Type 0
   IsSampleOf before time (SampleEvent s) samples =
       (text : List ℕ)
-      × IsFoldedText machine files (before.mapped s.pid) (before.names s.tid) s text
+      × IsFoldedText machine files (in_kernel_of files before) (before.mapped s.pid)
+      (before.names s.tid) s text
       × (samples ≡ record { frames = text; count = weight by_period s } ∷ [])
   IsSampleOf before time _ samples = samples ≡ []
 

@@ -26,46 +26,67 @@ use Rattle.cfi_processes.specs.declared.sample_stack.NoFrames.TheVariants.{NoPro
 use Rattle.cfi_processes.specs.declared.sample_stack.NoFrames.TheVariants.{NoStackPointer}
 use Rattle.cfi_stacks.specs.declared.reasons.Reason.{Reason as ReasonOfCode}
 
--- the name of a variant, and the error of the call frames that it carries
+-- the name of a variant, what it says in words, and the error of the call frames that it carries
 pub record Reason : Type 0 where
   pub name : List ℕ
+  pub words : List ℕ
   pub error : Option Error
 
 abbrev pub reason_view : ReasonOfCode → Reason
-reason_view reason = record { name = reason.name.now; error = reason.error }
+reason_view reason =
+    record { name = reason.name.now; words = reason.words.now; error = reason.error }
 
-abbrev pub named : List ℕ → Reason
-named name = record { name = name; error = None }
+abbrev pub named : List ℕ → List ℕ → Reason
+named name words = record { name = name; words = words; error = None }
 
-abbrev pub carrying : List ℕ → Error → Reason
-carrying name error = record { name = name; error = Some error }
+abbrev pub carrying : List ℕ → List ℕ → Error → Reason
+carrying name words error = record { name = name; words = words; error = Some error }
 
 abbrev pub reason_of_error : FrameError → Reason
-reason_of_error (NoRow error) = carrying (codes "NoRow") error
-reason_of_error (Unreadable error) = carrying (codes "Unreadable") error
-reason_of_error (UnsupportedOperation opcode) = named (codes "UnsupportedOperation")
-reason_of_error (UnsupportedSize size) = named (codes "UnsupportedSize")
-reason_of_error (UnknownRegister register) = named (codes "UnknownRegister")
-reason_of_error (UnreadableMemory address) = named (codes "UnreadableMemory")
-reason_of_error NotEnoughStackItems = named (codes "NotEnoughStackItems")
-reason_of_error StackFull = named (codes "StackFull")
-reason_of_error DivisionByZero = named (codes "DivisionByZero")
-reason_of_error (BadBranchTarget distance) = named (codes "BadBranchTarget")
-reason_of_error TooManyIterations = named (codes "TooManyIterations")
-reason_of_error ArchitecturalRule = named (codes "ArchitecturalRule")
+reason_of_error (NoRow error) =
+    carrying (codes "NoRow") (codes "the call frames have no row for this address") error
+reason_of_error (Unreadable error) =
+    carrying (codes "Unreadable") (codes "the call frames can't be read") error
+reason_of_error (UnsupportedOperation opcode) =
+    named (codes "UnsupportedOperation") (codes "an expression has an unsupported operation")
+reason_of_error (UnsupportedSize size) =
+    named (codes "UnsupportedSize") (codes "an expression reads a number of an unsupported size")
+reason_of_error (UnknownRegister register) =
+    named (codes "UnknownRegister") (codes "a needed register isn't known")
+reason_of_error (UnreadableMemory address) =
+    named (codes "UnreadableMemory") (codes "needed memory isn't there")
+reason_of_error NotEnoughStackItems =
+    named (codes "NotEnoughStackItems") (codes "an expression takes more than it has")
+reason_of_error StackFull =
+    named (codes "StackFull") (codes "an expression needs more room than there is")
+reason_of_error DivisionByZero =
+    named (codes "DivisionByZero") (codes "an expression divides by zero")
+reason_of_error (BadBranchTarget distance) =
+    named (codes "BadBranchTarget") (codes "an expression branches out of itself")
+reason_of_error TooManyIterations =
+    named (codes "TooManyIterations") (codes "an expression has too many steps")
+reason_of_error ArchitecturalRule =
+    named (codes "ArchitecturalRule") (codes "the rule is architectural")
 
 abbrev pub reason_of : End → Option Reason
 reason_of Outermost = None
-reason_of NoModule = Some (named (codes "NoModule"))
+reason_of NoModule =
+    Some (named (codes "NoModule") (codes "no file with call frames is mapped here"))
 reason_of (Failed error) = Some (reason_of_error error)
-reason_of NotRising = Some (named (codes "NotRising"))
-reason_of NoRoom = Some (named (codes "NoRoom"))
+reason_of NotRising =
+    Some (named (codes "NotRising") (codes "the caller's frame isn't above this one"))
+reason_of NoRoom =
+    Some (named (codes "NoRoom") (codes "there are more frames than can be kept"))
 
 abbrev pub reason_without : NoFrames → Reason
-reason_without NoRegisters = named (codes "NoRegisters")
-reason_without (OtherAbi abi) = named (codes "OtherAbi")
-reason_without NoProgramCounter = named (codes "NoProgramCounter")
-reason_without NoStackPointer = named (codes "NoStackPointer")
+reason_without NoRegisters =
+    named (codes "NoRegisters") (codes "the sample has no registers of user space")
+reason_without (OtherAbi abi) =
+    named (codes "OtherAbi") (codes "the registers aren't those of a 64-bit program")
+reason_without NoProgramCounter =
+    named (codes "NoProgramCounter") (codes "the program counter isn't known")
+reason_without NoStackPointer =
+    named (codes "NoStackPointer") (codes "the stack pointer isn't known")
 
 -- ---- its line
 
@@ -75,4 +96,6 @@ error_text (Some error) = codes " " ++ name_of error
 
 abbrev pub reason_line : Option Reason → List ℕ
 reason_line None = []
-reason_line (Some reason) = codes "# " ++ reason.name ++ error_text reason.error ++ 10 ∷ []
+reason_line (Some reason) =
+    codes "# " ++ reason.words ++ codes " (" ++ reason.name ++ error_text reason.error
+    ++ codes ")" ++ 10 ∷ []

@@ -1,15 +1,19 @@
 //! The folded stack of a sample.
 ghost use Rattle.std.specs.Prelude.{◌≡◌, ◌≤◌, ◌++◌, IfOk, None, OnOk, codes, length, map};
 ghost use Rattle.std.specs.Prelude.{option_map};
-ghost use Rattle.cfi_processes.specs.KnownFiles.{known_view};
+ghost use Rattle.cfi_perf.specs.CallChains.{addresses_left};
+ghost use Rattle.cfi_perf.specs.Samples.{sample_view};
+ghost use Rattle.cfi_processes.specs.KnownFiles.{chain_site, kernel_site, known_view};
 ghost use Rattle.cfi_processes.specs.Mappings.{AreInOrder};
 ghost use Rattle.cfi_processes.specs.Sites.{site_view};
 ghost use Rattle.cfi_processes.specs.ThreadNames.{bytes_of};
-ghost use Rattle.cfi_stacks.specs.FoldedTexts.{base_name, file_name, folded_text, frame_name};
+ghost use Rattle.cfi_stacks.specs.FoldedTexts.{base_name, chain_names, file_name, folded_text};
+ghost use Rattle.cfi_stacks.specs.FoldedTexts.{frame_name, user_names};
 ghost use Rattle.cfi_stacks.specs.FoldedTexts.{harmless, joined, names_text, site_name};
 ghost use Rattle.cfi_stacks.specs.FoldedTexts.{thread_name, walk_names};
 
 use cfi_flame::folded::last_part;
+use cfi_perf::{Addresses, Sample};
 use cfi_processes::names::is_printable;
 use cfi_processes::process_code::ProcessCode;
 use cfi_processes::sample_stack::NoFrames;
@@ -18,31 +22,128 @@ use cfi_step::{StackFrame, Walk, row_address};
 use itoa::Buffer;
 use std::alloc::AllocError;
 
-/// Appends the folded stack of what was found of a sample's: the thread, and the functions from the
-/// outermost one in, each behind a semicolon.
+/// Appends the folded stack of a sample: the thread, and the functions from the outermost one in,
+/// each behind a semicolon, those of user space before the kernel's.
+///
+/// The functions of user space are those of the frames that were found, or of the call chain where
+/// the sample's event copies no stacks. `kernel` is what is mapped as code of the kernel, and
+/// `addresses` is room for those of a call chain.
 ///
 /// A frame without a function has the name of its file in brackets, without the folders, or
 /// `[unknown]`. A semicolon in a name becomes a colon, a space in a thread's an underscore, and a
 /// byte that isn't printable ASCII a question mark. Fails where memory is refused.
 pub fn push_stack(
     line: &mut Vec<u8>,
+    addresses: &mut Vec<u64>,
+    kernel: &ProcessCode<'_, '_, '_>,
     code: &ProcessCode<'_, '_, '_>,
     name: Option<Name<'_>>,
-    tid: u32,
+    sample: &Sample<'_>,
+    found: Result<Walk, NoFrames>,
+    frames: &[StackFrame],
+) -> Result<(), AllocError>
+    requires kernel { AreInOrder 0 kernel.now.mappings.now }
+    requires order { AreInOrder 0 code.now.mappings.now }
+    requires count { IfOk found (λ walk. walk.count ≤ length frames.now) }
+    ensures { OnOk result (line.new.items ≡ line.old.items ++ folded_text
+        (kernel_site (map known_view kernel.now.files.now) kernel.now.mappings.now)
+        (map known_view code.now.files.now) code.now.mappings.now
+        (bytes_of name.entry) (sample_view sample.now) found frames.now) }
+{
+    push_thread(line, sample.tid, name)?;
+    push_user_names(line, addresses, code, sample, found, frames)?;
+    push_chain(line, addresses, true, kernel, sample.kernel_frames())
+}
+
+/// Appends the functions of user space.
+fn push_user_names(
+    line: &mut Vec<u8>,
+    addresses: &mut Vec<u64>,
+    code: &ProcessCode<'_, '_, '_>,
+    sample: &Sample<'_>,
     found: Result<Walk, NoFrames>,
     frames: &[StackFrame],
 ) -> Result<(), AllocError>
     requires order { AreInOrder 0 code.now.mappings.now }
     requires count { IfOk found (λ walk. walk.count ≤ length frames.now) }
     ensures { OnOk result (line.new.items ≡ line.old.items
-        ++ folded_text (map known_view code.now.files.now) code.now.mappings.now
-        (bytes_of name.entry) tid found frames.now) }
+        ++ user_names (map known_view code.now.files.now) code.now.mappings.now
+        (sample_view sample.now) found frames.now) }
 {
-    push_thread(line, tid, name)?;
+    if sample.copies_stack {
+        push_walk(line, code, found, frames)
+    } else {
+        push_chain(line, addresses, false, code, sample.user_frames())
+    }
+}
+
+/// Appends the functions of the frames that were found.
+fn push_walk(
+    line: &mut Vec<u8>,
+    code: &ProcessCode<'_, '_, '_>,
+    found: Result<Walk, NoFrames>,
+    frames: &[StackFrame],
+) -> Result<(), AllocError>
+    requires order { AreInOrder 0 code.now.mappings.now }
+    requires count { IfOk found (λ walk. walk.count ≤ length frames.now) }
+    ensures { OnOk result (line.new.items ≡ line.old.items
+        ++ walk_names (map known_view code.now.files.now) code.now.mappings.now
+        found frames.now) }
+{
     match found {
         Ok(walk) => push_names(line, code, &frames[..walk.count]),
         Err(_) => Ok(()),
     }
+}
+
+/// Appends the functions of a call chain: of the kernel, whose code this is, or of the process.
+fn push_chain(
+    line: &mut Vec<u8>,
+    room: &mut Vec<u64>,
+    is_kernel: bool,
+    code: &ProcessCode<'_, '_, '_>,
+    addresses: Addresses<'_>,
+) -> Result<(), AllocError>
+    requires { AreInOrder 0 code.now.mappings.now }
+    ensures { OnOk result (line.new.items ≡ line.old.items ++ chain_names
+        (chain_site is_kernel (map known_view code.now.files.now) code.now.mappings.now)
+        (addresses_left addresses.entry)) }
+{
+    collect(room, addresses)?;
+    push_addresses(line, is_kernel, code, room.as_slice())
+}
+
+/// Makes these the addresses.
+fn collect(room: &mut Vec<u64>, addresses: Addresses<'_>) -> Result<(), AllocError>
+    ensures { OnOk result (room.new.items ≡ addresses_left addresses.entry) }
+{
+    room.clear();
+    for address in addresses {
+        room.push(address)?;
+    }
+    Ok(())
+}
+
+/// Appends the functions of the addresses, of which the first is the innermost.
+fn push_addresses(
+    line: &mut Vec<u8>,
+    is_kernel: bool,
+    code: &ProcessCode<'_, '_, '_>,
+    addresses: &[u64],
+) -> Result<(), AllocError>
+    requires { AreInOrder 0 code.now.mappings.now }
+    ensures { OnOk result (line.new.items ≡ line.old.items ++ chain_names
+        (chain_site is_kernel (map known_view code.now.files.now) code.now.mappings.now)
+        addresses.now) }
+{
+    let mut left = addresses.len();
+    while left > 0 {
+        left -= 1;
+        line.extend_from_slice(b";")?;
+        let site = code.chain_site(is_kernel, addresses[left]);
+        push_site(line, site)?;
+    }
+    Ok(())
 }
 
 /// Appends the name of a thread. One without has `:TID`, but for the idle thread, 0, which is

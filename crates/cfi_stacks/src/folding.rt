@@ -8,7 +8,7 @@ ghost use Rattle.cfi_perf.specs.Samples.{sample_view};
 ghost use Rattle.cfi_programs.specs.Runs.{out_of_memory};
 ghost use Rattle.cfi_programs.specs.WriterOutput.{Prints, PrintsSome};
 ghost use Rattle.cfi_processes.specs.FileModules.{AreOfFiles};
-ghost use Rattle.cfi_processes.specs.KnownFiles.{known_view, modules_in};
+ghost use Rattle.cfi_processes.specs.KnownFiles.{kernel_site, known_view, modules_in};
 ghost use Rattle.cfi_processes.specs.Mappings.{AreInOrder};
 ghost use Rattle.cfi_processes.specs.Modules.{module_view};
 ghost use Rattle.cfi_processes.specs.Replays.{AreModulesFor, HasOwnModules, files_in, files_of};
@@ -25,7 +25,7 @@ use crate::sample_text::{REGISTERS, Room};
 use cfi_flame::{FoldedError, StackCounts};
 use cfi_perf::{Event, PerfError, Record, Sample};
 use cfi_processes::Name;
-use cfi_processes::process_code::{FileModule, ProcessCode};
+use cfi_processes::process_code::{FileModule, KERNEL, ProcessCode};
 use cfi_processes::profile_files::ProfileFile;
 use cfi_processes::registers::SampleMachine;
 use cfi_processes::replay::Replay;
@@ -139,9 +139,11 @@ fn fold_followed(
 {
     match item.event {
         Event::Sample(sample) => {
+            let kernel = replay.code(KERNEL);
             let code = replay.code(sample.pid);
             let name = replay.name(sample.tid);
-            match fold_sample(machine, &code, replay.modules(), name, &sample, room, line) {
+            let modules = replay.modules();
+            match fold_sample(machine, &kernel, &code, modules, name, &sample, room, line) {
                 Ok(()) => counts.add(alloc, line.as_slice(), weight(by_period, &sample)),
                 Err(_) => Err(FoldedError::OutOfMemory),
             }
@@ -168,6 +170,7 @@ fn weight(by_period: bool, sample: &Sample<'_>) -> u64
 /// no room for the stack.
 fn fold_sample(
     machine: SampleMachine,
+    kernel: &ProcessCode<'_, '_, '_>,
     code: &ProcessCode<'_, '_, '_>,
     modules: &[FileModule<'_, '_>],
     name: Option<Name<'_>>,
@@ -175,12 +178,14 @@ fn fold_sample(
     room: &mut Room,
     line: &mut Vec<u8>,
 ) -> Result<(), AllocError>
+    requires kernel { AreInOrder 0 kernel.now.mappings.now }
     requires order { AreInOrder 0 code.now.mappings.now }
     requires modules { map module_view modules.now
         ≡ modules_in (map known_view code.now.files.now) code.now.mappings.now }
     requires files { AreOfFiles code.now.files.now modules.now }
     requires cached { IsRoomFor code.now.files.now room.old }
     ensures folded { OnOk result (IsFoldedText machine (map known_view code.now.files.now)
+        (kernel_site (map known_view kernel.now.files.now) kernel.now.mappings.now)
         code.now.mappings.now (bytes_of name.entry) (sample_view sample.now) line.new.items) }
     ensures cached { IsRoomFor code.now.files.now room.new }
 {
@@ -202,7 +207,8 @@ fn fold_sample(
         frames,
     );
     line.clear();
-    push_stack(line, code, name, sample.tid, found, frames)
+    let addresses = &mut room.addresses;
+    push_stack(line, addresses, kernel, code, name, sample, found, frames)
 }
 
 /// Prints the folded stacks, and then the error that ended the records, and returns the status.

@@ -25,7 +25,8 @@ use crate::folding::print_folded;
 use crate::listing::Listing;
 use crate::sample_text::{Room, print_sample};
 use cfi_object::input::{InputError, read_all};
-use cfi_perf::{Event, PerfError, Profile, Record, Records};
+use cfi_perf::{Event, PerfError, Profile, Record, Records, lacks_stacks, lost_in};
+use cfi_processes::process_code::KERNEL;
 use cfi_processes::profile_files::{
     OpenedFile, Opener, ProfileFile, mapped_files, profile_files, read_files,
 };
@@ -42,11 +43,16 @@ use std::io::{Read, Write};
 /// order of their times, or folded.
 ///
 /// For each sample there is a line with the thread, its name, the processor, the time, the period
-/// and the event, a line for each frame, where there is a reason for which the last frame isn't the
-/// outermost one a line with it, and an empty line. The line of a frame has its place in a file,
-/// the function and the file; if the listing is raw, it has no function, and none is looked up.
+/// and the event, a line for each frame of the kernel and of user space, where there is a reason
+/// for which the last frame isn't the outermost one a line with it, and an empty line. The line of
+/// a frame has its place in a file, the function and the file; if the listing is raw, it has no
+/// function, and none is looked up.
 /// Folded stacks are counted (`Listing::Folded`), and their lines, the stack, a space and the
 /// number, are printed in the order of their bytes (`folded_text` says what names become).
+///
+/// The frames of the kernel are those of the call chain, and so are those of user space where the
+/// sample's event copies no stacks; where no sample's does, the opener says so before the first
+/// stack. Behind the last one it says how many records and samples were lost, if any were.
 ///
 /// The files of code are opened by the names that the profile has for them, and where it has a
 /// file's build, only a file of that build is taken (`cfi_processes::profile_files::read_files`).
@@ -215,8 +221,34 @@ fn read_records<'run>(
     Ok(FoundRecords { list, error: None })
 }
 
-/// Opens the files of the records, and prints the stacks.
+/// Prints the stacks of the records. Says before them if there are no copies of stacks, and behind
+/// them what was lost.
 fn print_sorted<O: Opener, W: Write>(
+    alloc: Global,
+    listing: Listing,
+    opener: &O,
+    machine: SampleMachine,
+    records: &[Record<'_>],
+    error: Option<PerfError>,
+    output: &mut W,
+) -> io::Result<u8>
+    ensures { PrintsSome (λ line. IsOfSorted listing (O.may_open opener.now) O.File.remaining
+        machine (map record_view records.now) error line ⊎ (line ≡ out_of_memory))
+        (W.contents output.old) (W.contents output.new) result }
+{
+    if lacks_stacks(records) {
+        opener.tell_without_stacks();
+    }
+    let printed = print_mapped(alloc, listing, opener, machine, records, error, output);
+    let lost = lost_in(records);
+    if lost.records != 0 || lost.samples != 0 {
+        opener.tell_lost(lost.records, lost.samples);
+    }
+    printed
+}
+
+/// Opens the files of the records, and prints the stacks.
+fn print_mapped<O: Opener, W: Write>(
     alloc: Global,
     listing: Listing,
     opener: &O,
@@ -393,17 +425,22 @@ fn print_followed<W: Write>(
     ensures cached { IsRoomFor (files_of replay.now) room.new }
 {
     match item.event {
-        Event::Sample(sample) => print_sample(
-            raw,
-            machine,
-            &replay.code(sample.pid),
-            replay.modules(),
-            replay.name(sample.tid),
-            item.time,
-            &sample,
-            room,
-            output,
-        ),
+        Event::Sample(sample) => {
+            let kernel = replay.code(KERNEL);
+            let code = replay.code(sample.pid);
+            print_sample(
+                raw,
+                machine,
+                &kernel,
+                &code,
+                replay.modules(),
+                replay.name(sample.tid),
+                item.time,
+                &sample,
+                room,
+                output,
+            )
+        }
         _ => Ok(()),
     }
 }

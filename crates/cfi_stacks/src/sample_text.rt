@@ -4,17 +4,20 @@ ghost use Rattle.cfi_perf.specs.Samples.{sample_view};
 ghost use Rattle.cfi_programs.specs.WriterOutput.{Writes};
 ghost use Rattle.cfi_step.specs.CachedRows.{AreEmpty};
 ghost use Rattle.cfi_processes.specs.FileModules.{AreOfFiles};
-ghost use Rattle.cfi_processes.specs.KnownFiles.{known_view, modules_in, site_of};
+ghost use Rattle.cfi_perf.specs.CallChains.{addresses_left};
+ghost use Rattle.cfi_processes.specs.KnownFiles.{chain_site, kernel_site, known_view, modules_in};
+ghost use Rattle.cfi_processes.specs.KnownFiles.{site_of};
 ghost use Rattle.cfi_processes.specs.Mappings.{AreInOrder};
 ghost use Rattle.cfi_processes.specs.Modules.{module_view};
 ghost use Rattle.cfi_processes.specs.ThreadNames.{bytes_of};
-ghost use Rattle.cfi_stacks.specs.ProfileOutputs.{IsStackText, sample_text, stack_text, walk_text};
+ghost use Rattle.cfi_stacks.specs.ProfileOutputs.{IsStackText, chain_text, frames_text};
+ghost use Rattle.cfi_stacks.specs.ProfileOutputs.{sample_text, stack_text, user_text, walk_text};
 ghost use Rattle.cfi_stacks.specs.Rooms.{IsRoomFor};
 ghost use Rattle.cfi_stacks.specs.StackTexts.{site_line};
 
 use crate::reasons::{reason_of, reason_without, write_reason};
 use crate::stack_lines::{LineRoom, write_head, write_site_line};
-use cfi_perf::Sample;
+use cfi_perf::{Addresses, Sample};
 use cfi_processes::Name;
 use cfi_processes::process_code::{FileModule, ProcessCode};
 use cfi_processes::registers::SampleMachine;
@@ -49,6 +52,8 @@ pub struct Room {
     pub(crate) context: UnwindContext<usize>,
     pub(crate) frames: Vec<StackFrame>,
     pub(crate) cache: Vec<CachedRow>,
+    /// Those of a call chain.
+    pub(crate) addresses: Vec<u64>,
     pub(crate) line: LineRoom,
 }
 
@@ -71,6 +76,7 @@ impl Room {
                 context,
                 frames,
                 cache,
+                addresses: Vec::new(alloc),
                 line: LineRoom::new(),
             }),
             Err(_) => Err(Error::OutOfMemory),
@@ -89,15 +95,19 @@ fn empty_rows(alloc: Global) -> Result<Vec<CachedRow>, AllocError>
     Ok(rows)
 }
 
-/// Prints the stack of a sample: a line with its thread, time and event, a line for each frame, the
-/// reason why there are no more if the last one isn't the outermost, and an empty line.
+/// Prints the stack of a sample: a line with its thread, time and event, a line for each frame of
+/// the kernel and of user space, the reason why there are no more if the last one isn't the
+/// outermost, and an empty line.
 ///
-/// If it is `raw`, the lines have no functions. The modules are those of what is mapped. The rows
+/// If it is `raw`, the lines have no functions. `kernel` is what is mapped as code of the kernel
+/// (`KERNEL`). The frames of user space are those of the call chain where the sample's event copies
+/// no stacks. The modules are those of what is mapped. The rows
 /// that the room keeps are those of the files, in whichever process they were found. There is room
 /// for `FRAMES` frames. Does not allocate.
 pub fn print_sample<W: Write>(
     raw: bool,
     machine: SampleMachine,
+    kernel: &ProcessCode<'_, '_, '_>,
     code: &ProcessCode<'_, '_, '_>,
     modules: &[FileModule<'_, '_>],
     name: Option<Name<'_>>,
@@ -106,6 +116,7 @@ pub fn print_sample<W: Write>(
     room: &mut Room,
     output: &mut W,
 ) -> io::Result<()>
+    requires kernel { AreInOrder 0 kernel.now.mappings.now }
     requires order { AreInOrder 0 code.now.mappings.now }
     requires modules { map module_view modules.now
         ≡ modules_in (map known_view code.now.files.now) code.now.mappings.now }
@@ -113,8 +124,9 @@ pub fn print_sample<W: Write>(
     requires cached { IsRoomFor code.now.files.now room.old }
     ensures printed { (text : List ℕ)
         × Writes (W.contents output.old) (W.contents output.new) result text
-        × IsStackText raw machine (map known_view code.now.files.now) code.now.mappings.now
-        (bytes_of name.entry) time (sample_view sample.now) text }
+        × IsStackText raw machine (map known_view code.now.files.now)
+        (kernel_site (map known_view kernel.now.files.now) kernel.now.mappings.now)
+        code.now.mappings.now (bytes_of name.entry) time (sample_view sample.now) text }
     ensures cached { IsRoomFor code.now.files.now room.new }
 {
     let Ok(modules) = Modules::new(modules) else {
@@ -136,6 +148,7 @@ pub fn print_sample<W: Write>(
     );
     print_found(
         raw,
+        kernel,
         code,
         name,
         time,
@@ -150,6 +163,7 @@ pub fn print_sample<W: Write>(
 /// Prints what was found of a sample's stack.
 fn print_found<W: Write>(
     raw: bool,
+    kernel: &ProcessCode<'_, '_, '_>,
     code: &ProcessCode<'_, '_, '_>,
     name: Option<Name<'_>>,
     time: u64,
@@ -159,15 +173,89 @@ fn print_found<W: Write>(
     room: &mut LineRoom,
     output: &mut W,
 ) -> io::Result<()>
+    requires kernel { AreInOrder 0 kernel.now.mappings.now }
     requires order { AreInOrder 0 code.now.mappings.now }
     requires count { IfOk found (λ walk. walk.count ≤ length frames.now) }
     ensures { Writes (W.contents output.old) (W.contents output.new) result
-        (sample_text raw (map known_view code.now.files.now) code.now.mappings.now
+        (sample_text raw
+        (kernel_site (map known_view kernel.now.files.now) kernel.now.mappings.now)
+        (map known_view code.now.files.now) code.now.mappings.now
         (bytes_of name.entry) time (sample_view sample.now) found frames.now) }
 {
     write_head(output, name, time, sample)?;
-    print_walk(raw, code, found, frames, room, output)?;
+    print_all_frames(raw, kernel, code, sample, found, frames, room, output)?;
     write_text(output, b"\n")
+}
+
+/// Prints the frames of the kernel, and those of user space.
+fn print_all_frames<W: Write>(
+    raw: bool,
+    kernel: &ProcessCode<'_, '_, '_>,
+    code: &ProcessCode<'_, '_, '_>,
+    sample: &Sample<'_>,
+    found: Result<Walk, NoFrames>,
+    frames: &[StackFrame],
+    room: &mut LineRoom,
+    output: &mut W,
+) -> io::Result<()>
+    requires kernel { AreInOrder 0 kernel.now.mappings.now }
+    requires order { AreInOrder 0 code.now.mappings.now }
+    requires count { IfOk found (λ walk. walk.count ≤ length frames.now) }
+    ensures { Writes (W.contents output.old) (W.contents output.new) result
+        (frames_text raw
+        (kernel_site (map known_view kernel.now.files.now) kernel.now.mappings.now)
+        (map known_view code.now.files.now) code.now.mappings.now
+        (sample_view sample.now) found frames.now) }
+{
+    print_chain(raw, true, kernel, sample.kernel_frames(), room, output)?;
+    print_user_frames(raw, code, sample, found, frames, room, output)
+}
+
+/// Prints the frames of user space: those that were found in the copy of the stack, or those of the
+/// call chain where the sample's event copies no stacks.
+fn print_user_frames<W: Write>(
+    raw: bool,
+    code: &ProcessCode<'_, '_, '_>,
+    sample: &Sample<'_>,
+    found: Result<Walk, NoFrames>,
+    frames: &[StackFrame],
+    room: &mut LineRoom,
+    output: &mut W,
+) -> io::Result<()>
+    requires order { AreInOrder 0 code.now.mappings.now }
+    requires count { IfOk found (λ walk. walk.count ≤ length frames.now) }
+    ensures { Writes (W.contents output.old) (W.contents output.new) result
+        (user_text raw (map known_view code.now.files.now) code.now.mappings.now
+        (sample_view sample.now) found frames.now) }
+{
+    if sample.copies_stack {
+        print_walk(raw, code, found, frames, room, output)
+    } else {
+        print_chain(raw, false, code, sample.user_frames(), room, output)
+    }
+}
+
+/// Prints a line for each address of a call chain: of the kernel, whose code this is, or of the
+/// process. A caller's is its return address itself, as `perf script` prints it.
+fn print_chain<W: Write>(
+    raw: bool,
+    is_kernel: bool,
+    code: &ProcessCode<'_, '_, '_>,
+    addresses: Addresses<'_>,
+    room: &mut LineRoom,
+    output: &mut W,
+) -> io::Result<()>
+    requires { AreInOrder 0 code.now.mappings.now }
+    ensures { Writes (W.contents output.old) (W.contents output.new) result
+        (chain_text raw
+        (chain_site is_kernel (map known_view code.now.files.now) code.now.mappings.now)
+        (addresses_left addresses.entry)) }
+{
+    for address in addresses {
+        let site = code.chain_site(is_kernel, address);
+        write_site_line(output, raw, site, room)?;
+    }
+    Ok(())
 }
 
 /// Prints the frames of a walk and why there are no more, or why there are none.

@@ -63,6 +63,7 @@ fn line(record: &Record<'_>) -> Line {
         Event::Program(found) => (record.time, 3, found.pid, 0, found.name.len()),
         Event::Fork(found) => (record.time, 7, found.pid, 0, 0),
         Event::Sample(found) => (record.time, 9, found.pid, found.ip, found.user.stack.len()),
+        Event::Lost(found) => (record.time, 2, 0, found.records, 0),
         Event::Other => (record.time, 0, 0, 0, 0),
     }
 }

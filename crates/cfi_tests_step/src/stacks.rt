@@ -1,6 +1,7 @@
 //! The stacks of a profile of two samples in one file, and those of two events of which each says
 //! something else. The expected lines are those of
-//! `perf script --no-inline -F comm,pid,tid,cpu,time,period,event,ip,sym,symoff,dso`, but for those
+//! `perf script --kallsyms=/dev/null --no-inline` with
+//! `-F comm,pid,tid,cpu,time,period,event,ip,sym,symoff,dso`, but for those
 //! that begin with `#`, and that perf leaves spaces before names of events and behind them, and
 //! appends `:HG` to the event of the first profile, which has no names.
 ghost use Rattle.std.specs.Prelude.{⊤};
@@ -55,35 +56,35 @@ const PROFILE: &str = "\
     36340000";
 
 const STACKS: &str = ":7     7/7         1.000001:          1 cpu-clock:
-# NoRegisters
+# the sample has no registers of user space (NoRegisters)
 
 :8     7/8         1.000002:          1 cpu-clock:
 \t              b4 pushes+0x4 (/usr/pushes)
 \t              b4 pushes+0x4 (/usr/pushes)
 \t            8fff [unknown] ([unknown])
-# NoModule
+# no file with call frames is mapped here (NoModule)
 
 ";
 
 /// The same where the file can't be opened.
 const WITHOUT_FILE: &str = ":7     7/7         1.000001:          1 cpu-clock:
-# NoRegisters
+# the sample has no registers of user space (NoRegisters)
 
 :8     7/8         1.000002:          1 cpu-clock:
 \t              b4 [unknown] (/usr/pushes)
-# NoModule
+# no file with call frames is mapped here (NoModule)
 
 ";
 
 /// The same by `--raw`: as perf without `sym,symoff`.
 const RAW: &str = ":7     7/7         1.000001:          1 cpu-clock:
-# NoRegisters
+# the sample has no registers of user space (NoRegisters)
 
 :8     7/8         1.000002:          1 cpu-clock:
 \t              b4 (/usr/pushes)
 \t              b4 (/usr/pushes)
 \t            8fff ([unknown])
-# NoModule
+# no file with call frames is mapped here (NoModule)
 
 ";
 
@@ -133,29 +134,45 @@ const TWO_EVENTS: &str = "\
     00000000d700000000000000";
 
 const OF_TWO_EVENTS: &str = "verylongprogram 17261/17261 [002]  2384.958796:          3 page-faults:
-# NoRegisters
+\t    7f6ee8efeb70 [unknown] ([unknown])
 
 verylongprogram 17261/17261 [002]  2384.958948:     250000 cpu-clock/call-graph=dwarf,stack-size=8/:
+\tffffffff816ec0e8 [unknown] ([unknown])
+\tffffffff816ecf3e [unknown] ([unknown])
+\tffffffff816eeb96 [unknown] ([unknown])
+\tffffffff816eff16 [unknown] ([unknown])
+\tffffffff816d24f8 [unknown] ([unknown])
+\tffffffff816d29cd [unknown] ([unknown])
+\tffffffff8225aa01 [unknown] ([unknown])
+\tffffffff81000130 [unknown] ([unknown])
 \t    7f6ee8f04b1d [unknown] ([unknown])
-# NoModule
+# no file with call frames is mapped here (NoModule)
 
 verylongprogram 17261/17263 [003]  2385.023653:          1 page-faults:
-# NoRegisters
+\t    7f6ee8df68ea [unknown] ([unknown])
 
 verylongprogram 17261/17263 [003]  2385.023898:     250000 cpu-clock/call-graph=dwarf,stack-size=8/:
 \t    55de2c47d1bd [unknown] ([unknown])
-# NoModule
+# no file with call frames is mapped here (NoModule)
 
 ";
 
 /// The same cut within the record of the thread: the names of the events, which stand at the end,
 /// are lost.
 const CUT: &str = "verylongprogram 17261/17261 [002]  2384.958796:          3 page-faults:
-# NoRegisters
+\t    7f6ee8efeb70 [unknown] ([unknown])
 
 verylongprogram 17261/17261 [002]  2384.958948:     250000 cpu-clock:
+\tffffffff816ec0e8 [unknown] ([unknown])
+\tffffffff816ecf3e [unknown] ([unknown])
+\tffffffff816eeb96 [unknown] ([unknown])
+\tffffffff816eff16 [unknown] ([unknown])
+\tffffffff816d24f8 [unknown] ([unknown])
+\tffffffff816d29cd [unknown] ([unknown])
+\tffffffff8225aa01 [unknown] ([unknown])
+\tffffffff81000130 [unknown] ([unknown])
 \t    7f6ee8f04b1d [unknown] ([unknown])
-# NoModule
+# no file with call frames is mapped here (NoModule)
 
 refused DataOutOfBounds
 ";
@@ -193,6 +210,10 @@ impl<'a> Opener for OneFile<'a> {
     }
 
     fn tell_missing(&self, _name: &[u8]) {}
+
+    fn tell_without_stacks(&self) {}
+
+    fn tell_lost(&self, _records: u64, _samples: u64) {}
 }
 
 /// Compares what is printed of a profile, where the file has this name, and the status.

@@ -1,11 +1,16 @@
-use Rattle.std.proofs.Common.{map, take}
-use Rattle.cfi_processes.specs.KnownFiles.{known_view}
+use Rattle.std.proofs.Common.{◌++◌, map}
+use Rattle.cfi_perf.specs.Samples.{kernel_frames, sample_view}
+use Rattle.cfi_processes.specs.KnownFiles.{kernel_site, known_view}
 use Rattle.cfi_processes.specs.ThreadNames.{bytes_of}
-use Rattle.cfi_stacks.specs.FoldedTexts.{names_text, thread_name}
+use Rattle.cfi_stacks.specs.FoldedTexts.{chain_names, thread_name, user_names}
 use Rattle.cfi_stacks.proofs.FoldLemmas.{then_more}
 use Rattle.cfi_stacks.proofs.folded_text.push_stack.Goals as goal
 
-pub returns-in-Ok : goal.returns-in-Ok
-returns-in-Ok c =
-    rw c.in-Ok.is (then_more c.push_names.result c.push_names.new.line.items c.args.line.now.items c.push_thread.new.line.items (thread_name c.args.tid (bytes_of c.args.name))
-    (names_text (map known_view c.args.code.now.files.now) c.args.code.now.mappings.now (take c.in-Ok.walk.count c.args.frames.now)) c.in_ok-push_thread.ensures c.push_names.ensures)
+pub returns : goal.returns
+returns c =
+    let s = sample_view c.args.sample.now in
+    let user = user_names (map known_view c.args.code.now.files.now) c.args.code.now.mappings.now s c.args.found c.args.frames.now in
+    let in_kernel = kernel_site (map known_view c.args.kernel.now.files.now) c.args.kernel.now.mappings.now in
+    let kernel = chain_names in_kernel (kernel_frames s) in
+    then_more c.push_chain.result c.push_chain.new.line.items c.args.line.now.items c.push_thread.new.line.items (thread_name s.tid (bytes_of c.args.name)) (user ++ kernel) c.in_ok-push_thread.ensures
+    (then_more c.push_chain.result c.push_chain.new.line.items c.push_thread.new.line.items c.push_user_names.new.line.items user kernel c.in_ok-push_user_names.ensures (rw c.kernel_frames.ensures at c.push_chain.ensures))

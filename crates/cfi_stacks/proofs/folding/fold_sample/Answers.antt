@@ -1,7 +1,8 @@
 use Rattle.std.proofs.Common.{◌∙◌, ◌++◌, ℕ, List, ap, length, map, rules}
 use Rattle.std.proofs.lemmas.Result.{on_ok_weaker}
 use Rattle.cfi_step.specs.ModuleLists.{module_list}
-use Rattle.cfi_processes.specs.KnownFiles.{known_view}
+use Rattle.cfi_perf.specs.Samples.{sample_view}
+use Rattle.cfi_processes.specs.KnownFiles.{kernel_site, known_view}
 use Rattle.cfi_processes.specs.Modules.{module_view}
 use Rattle.cfi_processes.specs.ThreadNames.{bytes_of}
 use Rattle.cfi_processes.proofs.CodeLemmas.{modules_sorted}
@@ -15,7 +16,8 @@ unreachable-requires c =
 
 pub returns-clause-folded : goal.returns-clause-folded
 returns-clause-folded c =
-    let text = folded_text (map known_view c.args.code.now.files.now) c.args.code.now.mappings.now (bytes_of c.args.name) c.args.sample.now.tid c.unwind_sample-found.result c.unwind_sample-found.new.frames in
+    let in_kernel = kernel_site (map known_view c.args.kernel.now.files.now) c.args.kernel.now.mappings.now in
+    let text = folded_text in_kernel (map known_view c.args.code.now.files.now) c.args.code.now.mappings.now (bytes_of c.args.name) (sample_view c.args.sample.now) c.unwind_sample-found.result c.unwind_sample-found.new.frames in
     on_ok_weaker c.push_stack.result (λ pushed. (
       module_list c.in-Ok.modules,
       _,

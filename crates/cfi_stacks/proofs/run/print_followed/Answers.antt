@@ -5,16 +5,16 @@ use Rattle.cfi_stacks.proofs.run.print_followed.Goals as goal
 
 pub print_sample-requires-clause-files : goal.print_sample-requires-clause-files
 print_sample-requires-clause-files g c =
-    still_of_files c.args.replay.now.files.now c.code.result.files.now c.args.replay.now.modules.items c.modules.result.now c.code.ensures.files c.modules.ensures c.requires.own
+    still_of_files c.args.replay.now.files.now c.code-code.result.files.now c.args.replay.now.modules.items c.modules.result.now c.code-code.ensures.files c.modules.ensures c.requires.own
 
 pub print_sample-requires-clause-cached : goal.print_sample-requires-clause-cached
-print_sample-requires-clause-cached g c = still_room_for c.args.replay.now.files.now c.code.result.files.now c.args.room.now c.code.ensures.files c.requires.cached
+print_sample-requires-clause-cached g c = still_room_for c.args.replay.now.files.now c.code-code.result.files.now c.args.room.now c.code-code.ensures.files c.requires.cached
 
 pub returns-in-Sample-clause-cached : goal.returns-in-Sample-clause-cached
-returns-in-Sample-clause-cached g c = still_room_for c.code.result.files.now c.args.replay.now.files.now c.print_sample.new.room (sym c.code.ensures.files) c.print_sample.ensures.cached
+returns-in-Sample-clause-cached g c = still_room_for c.code-code.result.files.now c.args.replay.now.files.now c.print_sample.new.room (sym c.code-code.ensures.files) c.print_sample.ensures.cached
 
 pub returns-in-Sample-clause-printed : goal.returns-in-Sample-clause-printed
 returns-in-Sample-clause-printed g c =
     let printed = c.print_sample.ensures.printed in
-    let of_replay = rw (c.code.ensures.files, c.code.ensures.mappings, c.name.ensures) at printed.2 in
+    let of_replay = rw (c.code-kernel.ensures.files, c.code-kernel.ensures.mappings, c.code-code.ensures.files, c.code-code.ensures.mappings, c.name.ensures) at printed.2 in
     (printed.0, printed.1, rw c.in-Sample.is of_replay)

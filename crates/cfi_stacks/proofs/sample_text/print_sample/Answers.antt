@@ -1,7 +1,7 @@
 use Rattle.std.proofs.Common.{◌∙◌, ap, length, map, refl, rules}
 use Rattle.cfi_perf.specs.Samples.{sample_view}
 use Rattle.cfi_step.specs.ModuleLists.{module_list}
-use Rattle.cfi_processes.specs.KnownFiles.{known_view}
+use Rattle.cfi_processes.specs.KnownFiles.{kernel_site, known_view}
 use Rattle.cfi_processes.specs.Modules.{module_view}
 use Rattle.cfi_processes.specs.ThreadNames.{bytes_of}
 use Rattle.cfi_processes.proofs.CodeLemmas.{modules_sorted}
@@ -15,7 +15,7 @@ unreachable-requires g c =
 
 pub returns-clause-printed : goal.returns-clause-printed
 returns-clause-printed g c = (
-  sample_text c.args.raw (map known_view c.args.code.now.files.now) c.args.code.now.mappings.now (bytes_of c.args.name) c.args.time (sample_view c.args.sample.now) c.unwind_sample-found.result c.unwind_sample-found.new.frames,
+  sample_text c.args.raw (kernel_site (map known_view c.args.kernel.now.files.now) c.args.kernel.now.mappings.now) (map known_view c.args.code.now.files.now) c.args.code.now.mappings.now (bytes_of c.args.name) c.args.time (sample_view c.args.sample.now) c.unwind_sample-found.result c.unwind_sample-found.new.frames,
   c.print_found.ensures,
   (
     module_list c.in-Ok.modules,

@@ -1,0 +1,30 @@
+use Rattle.std.proofs.Common.{◌∙◌, ℕ, ap, map}
+use Rattle.std.specs.List.{flat_map}
+use Rattle.cfi_programs.proofs.WrittenLemmas.{beginning_then, given_all, given_then, writes_refused}
+use Rattle.cfi_perf.specs.CallChains.{addresses_left}
+use Rattle.cfi_processes.specs.KnownFiles.{chain_site, known_view}
+use Rattle.cfi_processes.specs.Sites.{Site, site_view}
+use Rattle.cfi_stacks.specs.StackTexts.{site_line}
+use Rattle.cfi_stacks.proofs.ChainLemmas.{line_then, no_line}
+use Rattle.cfi_stacks.proofs.sample_text.print_chain.Goals as goal
+
+pub returns-in_err-write_site_line : goal.returns-in_err-write_site_line
+returns-in_err-write_site_line g c =
+    let site_at = chain_site c.args.is_kernel (map known_view c.args.code.now.files.now) c.args.code.now.mappings.now in
+    let text : ℕ → _ = λ a. site_line c.args.raw (site_at a) in
+    let line = site_line c.args.raw (site_view c.chain_site-site.result) in
+    let to_write = line_then text _ _ _ _ c.in-Some.address line _ c.in-Some.ensures.steps (ap (site_line c.args.raw) c.chain_site-site.ensures) c.loop-address.invariant in
+    writes_refused _ _ _ _ c.from_residual.ensures.0 (beginning_then _ _ _ line _ _ to_write c.in_err-write_site_line.ensures)
+
+pub loop-address-preserved : goal.loop-address-preserved
+loop-address-preserved g c =
+    let site_at = chain_site c.args.is_kernel (map known_view c.args.code.now.files.now) c.args.code.now.mappings.now in
+    let text : ℕ → _ = λ a. site_line c.args.raw (site_at a) in
+    let line = site_line c.args.raw (site_view c.chain_site-site.result) in
+    let to_write = line_then text _ _ _ _ c.in-Some.address line _ c.in-Some.ensures.steps (ap (site_line c.args.raw) c.chain_site-site.ensures) c.loop-address.invariant in
+    given_then _ _ _ line _ _ to_write c.in_ok-write_site_line.ensures
+
+pub returns : goal.returns
+returns g c =
+    let site_at = chain_site c.args.is_kernel (map known_view c.args.code.now.files.now) c.args.code.now.mappings.now in
+    given_all _ _ _ _ c.loop-address.invariant (no_line (λ a. site_line c.args.raw (site_at a)) _ c.in-None.ensures.steps.0)
