@@ -4,6 +4,7 @@ ghost use Rattle.std.specs.List.{count_by};
 ghost use Rattle.cfi_programs.specs.WriterOutput.{Writes};
 ghost use Rattle.cfi_files.specs.Findings.{ChecksSome, has_table, is_faithful};
 ghost use Rattle.cfi.specs.Findings.{greatest_status, tally_in, tally_object, tally_text};
+ghost use Rattle.cfi.specs.Openings.{of_any_kind, path_of};
 ghost use Rattle.cfi.specs.Process.{IsCheck, WritesChecks, disk_of};
 
 use crate::system::System;
@@ -20,6 +21,21 @@ pub const WRONG: u8 = 2;
 
 /// The number of files above which the progress of a check is shown.
 const MANY: usize = 20;
+
+/// Opens the file that a command names, `-` for standard input. Where it can't be opened, the
+/// reason is printed on standard error, and there is none.
+pub fn open_named<S: System>(system: &S, name: &str) -> Option<S::File>
+    ensures { S.may_open system.now of_any_kind (path_of name.now) result }
+{
+    system.open(path_of(name))
+}
+
+/// Returns the path of a file that a command names: for `-` that of standard input.
+fn path_of(name: &str) -> &str
+    ensures { result.now ≡ path_of name.now }
+{
+    if name == "-" { "/dev/stdin" } else { name }
+}
 
 /// Checks the files in their order, prints a line for each, and returns what was found. A file that
 /// can't be opened has its line on standard error, where progress is shown if there are many.
@@ -62,7 +78,7 @@ fn check_one<S: System, W: Write>(
         file.now finding line)
         (W.contents output.old) (W.contents output.new) result }
 {
-    match system.open(file) {
+    match open_named(system, file) {
         Some(mut input) => check_file(system.alloc(), format, file, &mut input, output),
         None => Ok(Finding::Unreadable),
     }
