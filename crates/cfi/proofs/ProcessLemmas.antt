@@ -27,13 +27,13 @@ use Rattle.cfi.specs.CommandLine.{Asked, cfi_app}
 use Rattle.cfi.specs.Forms.{format_names}
 use Rattle.cfi.specs.declared.files.CheckStyle.{CheckStyle}
 use Rattle.cfi.specs.declared.flames.Summary.{Summary}
-use Rattle.cfi.specs.FlameOutputs.{path_of}
+use Rattle.cfi.specs.Openings.{FileKind, of_any_kind, path_of}
 use Rattle.cfi.specs.FlameOutputs.{IsOwed as IsOwedOfFolded}
 use Rattle.cfi.specs.Findings.{greatest_status, tally_in}
 use Rattle.cfi.specs.Words.{asked}
 use Rattle.cfi_programs.specs.declared.style.Format.{Format}
 use Rattle.cfi.specs.Tasks.{of_request, task_for}
-use Rattle.cfi.specs.Process.{AreChecks, AreStacks, AreTallied, AreThreads, Checks, ChecksStyled, Disk, Ends, IsAnswer, IsAnswerTo, IsCheck, IsCheckOf, IsPrint, IsStatusAfter, IsStatusOf, IsSummary, MayOpenAt, PrintsRun, WritesChecks, disk_of, kept, no_checks, nothing, tallied, tally_line, with_check}
+use Rattle.cfi.specs.Process.{AreChecks, AreStacks, AreTallied, AreThreads, Checks, ChecksStyled, Disk, Ends, IsAnswer, IsAnswerTo, IsCheck, IsCheckOf, IsPrint, IsStatusAfter, IsStatusOf, IsSummary, MayOpenAt, MayOpenNamed, PrintsRun, WritesChecks, disk_of, kept, no_checks, nothing, tallied, tally_line, with_check}
 
 -- ---- checks one after the other
 
@@ -59,7 +59,7 @@ checks_then disk style (name ∷ names) others first second (finding, printed, m
 -- ---- whatever the path, there is something to which it is opened
 
 abbrev pub Opens : Disk → Type 0
-Opens disk = (name : Text) → (opened : Option disk.Handle) × disk.MayOpen name opened
+Opens disk = (name : Text) → (opened : Option disk.Handle) × disk.MayOpen of_any_kind name opened
 
 left_is : (known : Option (List ℕ)) → AreLeft known (unwrap_or known [])
 left_is None = tt
@@ -83,7 +83,7 @@ some_check_of disk style name (Some file) = (
 
 some_check : (disk : Disk) (style : CheckStyle) → Opens disk → (name : Text) → (finding : Finding) × (printed : Line) × IsCheck disk style name finding printed
 some_check disk style opens name =
-    let (opened, may) = opens name in
+    let (opened, may) = opens (path_of name) in
     let (finding, printed, is) = some_check_of disk style name opened in
     (finding, printed, (opened, may, is))
 
@@ -169,39 +169,39 @@ names_after files i d h = names_cut files (i + 1) ∙ ap (λ front. front ++ map
 
 -- ---- a file that was opened, or not
 
-pub printed_of : {E : Type 0} (disk : Disk) (name : Text) (request : Request) (file : disk.Handle) (old new : Option (List ℕ)) (r : Result ℕ E) → disk.MayOpen name (Some file) →
+pub printed_of : {E : Type 0} (disk : Disk) (name : Text) (request : Request) (file : disk.Handle) (old new : Option (List ℕ)) (r : Result ℕ E) → MayOpenNamed disk name (Some file) →
     PrintsOwed request (disk.bytes_of file) old new r → PrintsSome (λ line. IsPrint disk name (of_request request) line) old new r
 printed_of disk name request file old new r may (bytes, left, (printed, prints, owed)) = (printed, prints, (Some file, may, (request, bytes, refl, left, owed)))
 
-pub nothing_printed : (E : Type 0) (disk : Disk) (name : Text) (request : Request) (old : Option (List ℕ)) → disk.MayOpen name None → PrintsSome {E = E} (λ line. IsPrint disk name (of_request request) line) old old (Ok 2)
+pub nothing_printed : (E : Type 0) (disk : Disk) (name : Text) (request : Request) (old : Option (List ℕ)) → MayOpenNamed disk name None → PrintsSome {E = E} (λ line. IsPrint disk name (of_request request) line) old old (Ok 2)
 nothing_printed E disk name request old may = (nothing, (none_yet old, refl), (None, may, refl))
 
-pub checked_of : {E : Type 0} (disk : Disk) (style : CheckStyle) (name : Text) (file : disk.Handle) (old new : Option (List ℕ)) (r : Result Finding E) → disk.MayOpen name (Some file) →
+pub checked_of : {E : Type 0} (disk : Disk) (style : CheckStyle) (name : Text) (file : disk.Handle) (old new : Option (List ℕ)) (r : Result Finding E) → MayOpenNamed disk name (Some file) →
     ChecksStyled style name (disk.bytes_of file) old new r → ChecksSome (λ finding line. IsCheck disk style name finding line) old new r
 checked_of disk style name file old new r may (bytes, left, (finding, printed, writes, found, is)) = (finding, printed, writes, found, (Some file, may, (bytes, left, is)))
 
-pub unreadable : (E : Type 0) (disk : Disk) (style : CheckStyle) (name : Text) (old : Option (List ℕ)) → disk.MayOpen name None → ChecksSome {E = E} (λ finding line. IsCheck disk style name finding line) old old (Ok Unreadable)
+pub unreadable : (E : Type 0) (disk : Disk) (style : CheckStyle) (name : Text) (old : Option (List ℕ)) → MayOpenNamed disk name None → ChecksSome {E = E} (λ finding line. IsCheck disk style name finding line) old old (Ok Unreadable)
 unreadable E disk style name old may = (Unreadable, nothing, none_yet old, refl, (None, may, (refl, refl)))
 
-pub stacks_of : {E : Type 0} (disk : Disk) (listing : Listing) (name : Text) (file : disk.Handle) (old new : Option (List ℕ)) (r : Result ℕ E) → disk.MayOpen name (Some file) →
+pub stacks_of : {E : Type 0} (disk : Disk) (listing : Listing) (name : Text) (file : disk.Handle) (old new : Option (List ℕ)) (r : Result ℕ E) → MayOpenNamed disk name (Some file) →
     ((bytes : List ℕ) × AreLeft (disk.bytes_of file) bytes × PrintsSome (λ line. IsOwedOfProfile listing (MayOpenAt disk) disk.bytes_of bytes line) old new r) → PrintsSome (λ line. AreStacks disk listing name line) old new r
 stacks_of disk listing name file old new r may (bytes, left, (printed, prints, owed)) = (printed, prints, (Some file, may, (bytes, left, owed)))
 
-pub no_stacks : (E : Type 0) (disk : Disk) (listing : Listing) (name : Text) (old : Option (List ℕ)) → disk.MayOpen name None → PrintsSome {E = E} (λ line. AreStacks disk listing name line) old old (Ok 2)
+pub no_stacks : (E : Type 0) (disk : Disk) (listing : Listing) (name : Text) (old : Option (List ℕ)) → MayOpenNamed disk name None → PrintsSome {E = E} (λ line. AreStacks disk listing name line) old old (Ok 2)
 no_stacks E disk listing name old may = (nothing, (none_yet old, refl), (None, may, refl))
 
-pub threads_of : {E : Type 0} (disk : Disk) (raw : Bool) (name : Text) (file : disk.Handle) (old new : Option (List ℕ)) (r : Result ℕ E) → disk.MayOpen name (Some file) →
+pub threads_of : {E : Type 0} (disk : Disk) (raw : Bool) (name : Text) (file : disk.Handle) (old new : Option (List ℕ)) (r : Result ℕ E) → MayOpenNamed disk name (Some file) →
     ((bytes : List ℕ) × AreLeft (disk.bytes_of file) bytes × PrintsSome (λ line. IsOwedOfCore raw (MayOpenAt disk) disk.bytes_of bytes line) old new r) → PrintsSome (λ line. AreThreads disk raw name line) old new r
 threads_of disk raw name file old new r may (bytes, left, (printed, prints, owed)) = (printed, prints, (Some file, may, (bytes, left, owed)))
 
-pub no_threads : (E : Type 0) (disk : Disk) (raw : Bool) (name : Text) (old : Option (List ℕ)) → disk.MayOpen name None → PrintsSome {E = E} (λ line. AreThreads disk raw name line) old old (Ok 2)
+pub no_threads : (E : Type 0) (disk : Disk) (raw : Bool) (name : Text) (old : Option (List ℕ)) → MayOpenNamed disk name None → PrintsSome {E = E} (λ line. AreThreads disk raw name line) old old (Ok 2)
 no_threads E disk raw name old may = (nothing, (none_yet old, refl), (None, may, refl))
 
-pub summary_is : {E : Type 0} (disk : Disk) (summary : Summary) (name : Text) (file : disk.Handle) (old new : Option (List ℕ)) (r : Result ℕ E) → disk.MayOpen (path_of name) (Some file) →
+pub summary_is : {E : Type 0} (disk : Disk) (summary : Summary) (name : Text) (file : disk.Handle) (old new : Option (List ℕ)) (r : Result ℕ E) → MayOpenNamed disk name (Some file) →
     ((bytes : List ℕ) × AreLeft (disk.bytes_of file) bytes × PrintsSome (λ line. IsOwedOfFolded summary bytes line) old new r) → PrintsSome (λ line. IsSummary disk summary name line) old new r
 summary_is disk summary name file old new r may (bytes, left, (printed, prints, owed)) = (printed, prints, (Some file, may, (bytes, left, owed)))
 
-pub no_summary : (E : Type 0) (disk : Disk) (summary : Summary) (name : Text) (old : Option (List ℕ)) → disk.MayOpen (path_of name) None → PrintsSome {E = E} (λ line. IsSummary disk summary name line) old old (Ok 2)
+pub no_summary : (E : Type 0) (disk : Disk) (summary : Summary) (name : Text) (old : Option (List ℕ)) → MayOpenNamed disk name None → PrintsSome {E = E} (λ line. IsSummary disk summary name line) old old (Ok 2)
 no_summary E disk summary name old may = (nothing, (none_yet old, refl), (None, may, refl))
 
 -- ---- the line that counts
@@ -272,17 +272,17 @@ pub wordless : (disk : Disk) (old : Option (List ℕ)) → PrintsRun disk None o
 wordless disk old = (nothing, refl, ([], none_yet old, inl (refl, refl)))
 
 -- what is right by the bytes that are left of each file is right by its bytes
-pub same_stacks : {Handle E : Type 0} (may_open : Text → Option Handle → Type 0) (left known : Handle → Option (List ℕ)) → ((file : Handle) → left file ≡ known file) → (listing : Listing) (name : Text) (old new : Option (List ℕ)) (r : Result ℕ E) →
+pub same_stacks : {Handle E : Type 0} (may_open : FileKind → Text → Option Handle → Type 0) (left known : Handle → Option (List ℕ)) → ((file : Handle) → left file ≡ known file) → (listing : Listing) (name : Text) (old new : Option (List ℕ)) (r : Result ℕ E) →
     PrintsSome (λ line. AreStacks (disk_of may_open left) listing name line) old new r → PrintsSome (λ line. AreStacks (disk_of may_open known) listing name line) old new r
 same_stacks {Handle = Handle} may_open left known same listing name old new r =
     subst (λ (bytes_of : Handle → Option (List ℕ)). PrintsSome (λ line. AreStacks (disk_of may_open bytes_of) listing name line) old new r) (λ i file. same file i)
 
-pub same_threads : {Handle E : Type 0} (may_open : Text → Option Handle → Type 0) (left known : Handle → Option (List ℕ)) → ((file : Handle) → left file ≡ known file) → (raw : Bool) (name : Text) (old new : Option (List ℕ)) (r : Result ℕ E) →
+pub same_threads : {Handle E : Type 0} (may_open : FileKind → Text → Option Handle → Type 0) (left known : Handle → Option (List ℕ)) → ((file : Handle) → left file ≡ known file) → (raw : Bool) (name : Text) (old new : Option (List ℕ)) (r : Result ℕ E) →
     PrintsSome (λ line. AreThreads (disk_of may_open left) raw name line) old new r → PrintsSome (λ line. AreThreads (disk_of may_open known) raw name line) old new r
 same_threads {Handle = Handle} may_open left known same raw name old new r =
     subst (λ (bytes_of : Handle → Option (List ℕ)). PrintsSome (λ line. AreThreads (disk_of may_open bytes_of) raw name line) old new r) (λ i file. same file i)
 
-pub same_summary : {Handle E : Type 0} (may_open : Text → Option Handle → Type 0) (left known : Handle → Option (List ℕ)) → ((file : Handle) → left file ≡ known file) → (summary : Summary) (name : Text) (old new : Option (List ℕ)) (r : Result ℕ E) →
+pub same_summary : {Handle E : Type 0} (may_open : FileKind → Text → Option Handle → Type 0) (left known : Handle → Option (List ℕ)) → ((file : Handle) → left file ≡ known file) → (summary : Summary) (name : Text) (old new : Option (List ℕ)) (r : Result ℕ E) →
     PrintsSome (λ line. IsSummary (disk_of may_open left) summary name line) old new r → PrintsSome (λ line. IsSummary (disk_of may_open known) summary name line) old new r
 same_summary {Handle = Handle} may_open left known same summary name old new r =
     subst (λ (bytes_of : Handle → Option (List ℕ)). PrintsSome (λ line. IsSummary (disk_of may_open bytes_of) summary name line) old new r) (λ i file. same file i)

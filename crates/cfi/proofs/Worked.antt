@@ -10,6 +10,7 @@ use Rattle.cfi_programs.specs.declared.style.Format.TheVariants as form
 use Rattle.cfi.specs.CommandLine.{cfi_app, check, dump, flame, fold, report, row, rows, stack, unwind}
 use Rattle.cfi.specs.Findings.{tally_in}
 use Rattle.cfi.specs.Forms.{LongOption, any_text, raw}
+use Rattle.cfi.specs.Openings.{path_of}
 use Rattle.cfi.specs.Words.{asked, given, nothing}
 
 two_addresses : asked (codes "cfi" ∷ codes "row" ∷ codes "a" ∷ codes "0x10" ∷ codes "main+4" ∷ []) ≡ Some (row false form.Text (codes "a") (codes "0x10" ∷ codes "main+4" ∷ []))
@@ -165,3 +166,10 @@ one_report = refl
 counted_object : tally_in form.Json 3 2 1 ≡ codes "{\"files\":3,\"tables\":2,\"faithful\":1}"
 unfolding digits
 counted_object = refl
+
+-- a hyphen alone is standard input
+standard_input : path_of (codes "-") ≡ codes "/dev/stdin"
+standard_input = refl
+
+a_file_of_that_name : path_of (codes "./-") ≡ codes "./-"
+a_file_of_that_name = refl

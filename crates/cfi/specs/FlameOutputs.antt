@@ -1,9 +1,7 @@
 -- What is printed for folded stacks: their flame graph, or their report.
---     path_of name      where the file of a name is opened
 --     IsOwed summary text printed      the output for the bytes of a file
-use Rattle.std.specs.Prelude.{◌≡◌, ◌⊎◌, ℕ, List, ◌++◌, codes, map, if◌then◌else◌}
+use Rattle.std.specs.Prelude.{◌≡◌, ◌⊎◌, ℕ, List, ◌++◌, codes, map}
 use Rattle.std.specs.Fmt.{decimal}
-use Rattle.std.specs.Str.{bytes_eq}
 use Rattle.cfi_flame.specs.Flames.{IsOfPlain, IsPlainRefused}
 use Rattle.cfi_flame.specs.FoldedStacks.{plain}
 use Rattle.cfi_flame.specs.Reports.{IsReport, IsReportRefused}
@@ -13,10 +11,6 @@ use Rattle.cfi_flame.specs.declared.folded.FoldedError.TheVariants.{NoSamples, T
 use Rattle.cfi_programs.specs.Lines.{Line, line, wrong_input}
 use Rattle.cfi.specs.declared.flames.Summary.{Summary}
 use Rattle.cfi.specs.declared.flames.Summary.TheVariants.{FlameGraph, Report}
-
--- a hyphen stands for standard input
-abbrev pub path_of : List ℕ → List ℕ
-path_of name = if bytes_eq name (codes "-") then codes "/dev/stdin" else name
 
 -- with the number of the line that isn't folded, from 1
 abbrev pub refusal : FoldedError → Line

@@ -3,5 +3,6 @@ pub mod CommandLine
 pub mod Findings
 pub mod Words
 pub mod Tasks
+pub mod Openings
 pub mod FlameOutputs
 pub mod Process

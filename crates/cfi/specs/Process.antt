@@ -27,7 +27,7 @@ use Rattle.cfi_stacks.specs.ProfileOutputs.{IsListingOwed as IsOwedOfProfile}
 use Rattle.cfi_stacks.specs.declared.listing.Listing.{Listing}
 use Rattle.cfi.specs.CommandLine.{Asked, cfi_app}
 use Rattle.cfi.specs.Forms.{format_names}
-use Rattle.cfi.specs.FlameOutputs.{path_of}
+use Rattle.cfi.specs.Openings.{FileKind, of_any_kind, path_of, regular}
 use Rattle.cfi.specs.FlameOutputs.{IsOwed as IsOwedOfFolded}
 use Rattle.cfi.specs.declared.files.CheckStyle.{CheckStyle}
 use Rattle.cfi.specs.declared.flames.Summary.{Summary}
@@ -38,17 +38,23 @@ use Rattle.cfi.specs.Tasks.{OfRequest, Task, check, flame, of_request, print, re
 use Rattle.cfi.specs.Tasks.{task_for, unwind}
 use Rattle.cfi.specs.Words.{asked}
 
--- The files of a system: what a path may be opened to, or none where it can't be opened, and the
--- bytes of an open file, where they are known.
+-- The files of a system: what a path may be opened to, where files of any kind are opened or
+-- regular ones alone, or none where it can't be opened; and the bytes of an open file, where they
+-- are known.
 pub record Disk : Type 1 where
   pub Handle : Type 0
-  pub MayOpen : Text → Option Handle → Type 0
+  pub MayOpen : FileKind → Text → Option Handle → Type 0
   pub bytes_of : Handle → Option (List ℕ)
 
 abbrev pub disk_of :
-    {Handle : Type 0} → (Text → Option Handle → Type 0) → (Handle → Option (List ℕ)) → Disk
+    {Handle : Type 0} → (FileKind → Text → Option Handle → Type 0) →
+    (Handle → Option (List ℕ)) → Disk
 disk_of {Handle} may_open bytes_of =
     record { Handle = Handle; MayOpen = may_open; bytes_of = bytes_of }
+
+-- a file that the words name, of any kind
+abbrev pub MayOpenNamed : (disk : Disk) → Text → Option disk.Handle → Type 0
+MayOpenNamed disk name opened = disk.MayOpen of_any_kind (path_of name) opened
 
 -- nothing is written, and the status is 2
 abbrev pub nothing : Line
@@ -65,7 +71,8 @@ IsPrintOf disk what (Some file) printed =
 
 abbrev pub IsPrint : Disk → Text → OfRequest → Line → Type 0
 IsPrint disk name what printed =
-    (opened : Option disk.Handle) × disk.MayOpen name opened × IsPrintOf disk what opened printed
+    (opened : Option disk.Handle) × MayOpenNamed disk name opened
+    × IsPrintOf disk what opened printed
 
 -- ---- what checks of files find
 
@@ -88,7 +95,7 @@ IsCheckOf disk style name (Some file) finding printed =
 
 abbrev pub IsCheck : Disk → CheckStyle → Text → Finding → Line → Type 0
 IsCheck disk style name finding printed =
-    (opened : Option disk.Handle) × disk.MayOpen name opened
+    (opened : Option disk.Handle) × MayOpenNamed disk name opened
     × IsCheckOf disk style name opened finding printed
 
 -- what was found in several files, and their lines
@@ -132,11 +139,11 @@ AreTallied disk style names printed =
 -- the files that it names; none is opened by a name that isn't UTF-8, or if the file isn't a
 -- regular one. A copy of a build, and its debug file, are at paths of their own
 abbrev pub MayOpenAt : (disk : Disk) → FilePlace → Option disk.Handle → Type 0
-MayOpenAt disk (at_path name) opened = IsNone opened ⊎ disk.MayOpen name opened
+MayOpenAt disk (at_path name) opened = IsNone opened ⊎ disk.MayOpen regular name opened
 MayOpenAt disk (copy_of build) opened =
-    IsNone opened ⊎ ((path : Text) × disk.MayOpen path opened)
+    IsNone opened ⊎ ((path : Text) × disk.MayOpen regular path opened)
 MayOpenAt disk (debug_of build) opened =
-    IsNone opened ⊎ ((path : Text) × disk.MayOpen path opened)
+    IsNone opened ⊎ ((path : Text) × disk.MayOpen regular path opened)
 
 abbrev pub AreStacksOf : (disk : Disk) → Listing → Option disk.Handle → Line → Type 0
 AreStacksOf disk listing None printed = printed ≡ nothing
@@ -146,7 +153,7 @@ AreStacksOf disk listing (Some file) printed =
 
 abbrev pub AreStacks : Disk → Listing → Text → Line → Type 0
 AreStacks disk listing name printed =
-    (opened : Option disk.Handle) × disk.MayOpen name opened
+    (opened : Option disk.Handle) × MayOpenNamed disk name opened
     × AreStacksOf disk listing opened printed
 
 abbrev pub AreThreadsOf : (disk : Disk) → Bool → Option disk.Handle → Line → Type 0
@@ -157,7 +164,8 @@ AreThreadsOf disk raw (Some file) printed =
 
 abbrev pub AreThreads : Disk → Bool → Text → Line → Type 0
 AreThreads disk raw name printed =
-    (opened : Option disk.Handle) × disk.MayOpen name opened × AreThreadsOf disk raw opened printed
+    (opened : Option disk.Handle) × MayOpenNamed disk name opened
+    × AreThreadsOf disk raw opened printed
 
 -- ---- what is printed of folded stacks
 
@@ -168,7 +176,7 @@ IsSummaryOf disk summary (Some file) printed =
 
 abbrev pub IsSummary : Disk → Summary → Text → Line → Type 0
 IsSummary disk summary name printed =
-    (opened : Option disk.Handle) × disk.MayOpen (path_of name) opened
+    (opened : Option disk.Handle) × MayOpenNamed disk name opened
     × IsSummaryOf disk summary opened printed
 
 -- ---- a run

@@ -4,6 +4,7 @@ ghost use Rattle.std.specs.List.{count_by};
 ghost use Rattle.cfi_programs.specs.WriterOutput.{Writes};
 ghost use Rattle.cfi_files.specs.Findings.{ChecksSome, has_table, is_faithful};
 ghost use Rattle.cfi.specs.Findings.{greatest_status, tally_in, tally_object, tally_text};
+ghost use Rattle.cfi.specs.Openings.{of_any_kind, path_of};
 ghost use Rattle.cfi.specs.Process.{ChecksStyled, IsCheck, WritesChecks, disk_of};
 
 use crate::system::System;
@@ -30,6 +31,21 @@ pub struct CheckStyle {
     pub format: Format,
     /// Whether a file with a faithful table has no line.
     pub quiet: bool,
+}
+
+/// Opens the file that a command names, `-` for standard input. Where it can't be opened, the
+/// reason is printed on standard error, and there is none.
+pub fn open_named<S: System>(system: &S, name: &str) -> Option<S::File>
+    ensures { S.may_open system.now of_any_kind (path_of name.now) result }
+{
+    system.open(path_of(name))
+}
+
+/// Returns the path of a file that a command names: for `-` that of standard input.
+fn path_of(name: &str) -> &str
+    ensures { result.now ≡ path_of name.now }
+{
+    if name == "-" { "/dev/stdin" } else { name }
 }
 
 /// Checks the files in their order, prints their lines, and returns what was found. A file that
@@ -73,7 +89,7 @@ fn check_one<S: System, W: Write>(
         file.now finding line)
         (W.contents output.old) (W.contents output.new) result }
 {
-    match system.open(file) {
+    match open_named(system, file) {
         Some(mut input) => check_input(system.alloc(), style, file, &mut input, output),
         None => Ok(Finding::Unreadable),
     }

@@ -1,13 +1,16 @@
 //! What is printed of folded stacks that a reader gives: their flame graph, or their report.
-ghost use Rattle.std.specs.Prelude.{◌≡◌, ℕ, List, IfErr, IfOk};
+ghost use Rattle.std.specs.Prelude.{◌≡◌, ℕ, List, IfErr, IfOk, MatchResult};
 ghost use Rattle.cfi_object.specs.FileParts.{AreLeft};
+ghost use Rattle.cfi_inputs.specs.Refusals.{input_refusal};
 ghost use Rattle.cfi_programs.specs.WriterOutput.{Prints, PrintsSome};
 ghost use Rattle.cfi.specs.FlameOutputs.{IsMade, IsOutput, IsOwed, IsUnmade, made_line, refusal};
 
 use cfi_flame::{FoldedError, flame_of, report_of};
+use cfi_inputs::write_input_refusal;
 use cfi_object::InputError;
 use cfi_object::input::read_all;
-use cfi_programs::lines::{write_part, write_text, write_wrong_input};
+use cfi_programs::lines::{write_part, write_text};
+use cfi_programs::style::Format;
 use std::alloc::Global;
 use std::io;
 use std::io::{Read, Write};
@@ -43,10 +46,26 @@ pub fn print_folded<R: Read, W: Write>(
         × PrintsSome (λ line. IsOwed summary bytes line)
         (W.contents output.old) (W.contents output.new) result }
 {
-    match read_all(alloc, input) {
+    let read = read_all(alloc, input);
+    print_read(alloc, summary, read, output)
+}
+
+/// Prints this summary of the folded stacks that were read, or why they weren't.
+fn print_read<W: Write>(
+    alloc: Global,
+    summary: Summary,
+    read: Result<Vec<u8>, InputError>,
+    output: &mut W,
+) -> io::Result<u8>
+    ensures { MatchResult read
+        (λ text. PrintsSome (λ line. IsOutput summary text.items line)
+        (W.contents output.old) (W.contents output.new) result)
+        (λ error. Prints (input_refusal Format.Text error)
+        (W.contents output.old) (W.contents output.new) result) }
+{
+    match read {
         Ok(text) => print_made(alloc, summary, text.as_slice(), output),
-        Err(InputError::OutOfMemory) => write_folded_refusal(output, FoldedError::OutOfMemory),
-        Err(_) => write_wrong_input(output),
+        Err(error) => write_input_refusal(output, Format::Text, error),
     }
 }
 

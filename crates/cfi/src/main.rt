@@ -7,7 +7,6 @@ ghost use Rattle.std.specs.Io.KnownBytes.{Keeps};
 ghost use Rattle.clap.specs.Words.{kind_of};
 ghost use Rattle.cfi_programs.specs.WriterOutput.{PrintsSome};
 ghost use Rattle.cfi.specs.CommandLine.{command_view};
-ghost use Rattle.cfi.specs.FlameOutputs.{path_of};
 ghost use Rattle.cfi.specs.Process.{AreStacks, AreTallied, AreThreads, IsAnswer, IsPrint};
 ghost use Rattle.cfi.specs.Process.{IsStatusAfter, IsStatusOf, IsSummary, PrintsRun, disk_of};
 ghost use Rattle.cfi.specs.Tasks.{of_request, task_for};
@@ -23,7 +22,9 @@ use cfi_files::{Request, run_on_file};
 use cfi_stacks::{Listing, list_profile, print_core};
 use clap::Error;
 use command::{Command, command_of};
-use files::{CheckStyle, WRONG, check_files, count_findings, greatest_status, write_tally};
+use files::{
+    CheckStyle, WRONG, check_files, count_findings, greatest_status, open_named, write_tally,
+};
 use flames::{Summary, print_folded};
 use profile::ProfileOpener;
 use std::alloc::AllocGlobal;
@@ -118,7 +119,7 @@ fn print_file<S: System, W: Write>(
         file.now (of_request request.entry) line)
         (W.contents output.old) (W.contents output.new) result }
 {
-    match system.open(file) {
+    match open_named(system, file) {
         Some(mut input) => run_on_file(system.alloc(), request, &mut input, output),
         None => Ok(WRONG),
     }
@@ -136,7 +137,7 @@ fn print_stacks<S: System, W: Write>(
         (W.contents output.old) (W.contents output.new) result }
 {
     let opener = ProfileOpener { system, path: file };
-    match system.open(file) {
+    match open_named(system, file) {
         Some(mut input) => list_profile(system.alloc(), listing, &opener, &mut input, output),
         None => Ok(WRONG),
     }
@@ -154,13 +155,13 @@ fn print_threads<S: System, W: Write>(
         (W.contents output.old) (W.contents output.new) result }
 {
     let opener = ProfileOpener { system, path: file };
-    match system.open(file) {
+    match open_named(system, file) {
         Some(mut input) => print_core(system.alloc(), raw, &opener, &mut input, output),
         None => Ok(WRONG),
     }
 }
 
-/// Opens the file of folded stacks, `-` for standard input, and prints this summary of them.
+/// Opens the file of folded stacks, and prints this summary of them.
 fn print_summary<S: System, W: Write>(
     system: &S,
     summary: Summary,
@@ -171,17 +172,10 @@ fn print_summary<S: System, W: Write>(
         summary file.now line)
         (W.contents output.old) (W.contents output.new) result }
 {
-    match system.open(path_of(file)) {
+    match open_named(system, file) {
         Some(mut input) => print_folded(system.alloc(), summary, &mut input, output),
         None => Ok(WRONG),
     }
-}
-
-/// Returns the path of a file of folded stacks: for `-` that of standard input.
-fn path_of(file: &str) -> &str
-    ensures { result.now ≡ path_of file.now }
-{
-    if file == "-" { "/dev/stdin" } else { file }
 }
 
 /// Checks the files, prints how many there are, and returns the greatest status.

@@ -36,13 +36,13 @@ impl<S: System> Opener for ProfileOpener<'_, S> {
     }
 
     fn open_copy(&self, build: &[u8]) -> Option<S::File> {
-        let path = self.system.copy_path(build)?;
-        self.system.find_regular(path.as_str())
+        let copy = self.system.copy_path(build)?;
+        self.system.find_regular(copy.as_str())
     }
 
     fn open_debug(&self, build: &[u8]) -> Option<S::File> {
-        let path = self.system.debug_path(build)?;
-        self.system.find_regular(path.as_str())
+        let debug = self.system.debug_path(build)?;
+        self.system.find_regular(debug.as_str())
     }
 
     fn tell_missing(&self, name: &[u8]) {

@@ -1,8 +1,10 @@
 //! What a run has of the system: its words, the files that they name, and standard error.
 ghost use Rattle.std.specs.Prelude.{◌≡◌, ◌≢◌, ℕ, ⊤, List, Option, None, IfErr, IfOk, length, map};
 ghost use Rattle.std.specs.Prelude.{option_map, refl, string_bytes};
+ghost use Rattle.cfi.specs.Openings.{FileKind, of_any_kind, regular};
 
-use cfi_object::input::{copy_part, read_all};
+use cfi_inputs::{Beginning, read_as};
+use cfi_object::input::copy_part;
 use cfi_object::{FileInput, InputError};
 use clap::Error;
 use std::alloc::{AllocGlobal, Global};
@@ -10,6 +12,9 @@ use std::fs::File;
 use std::io::{Read, Seek, SeekFrom};
 use std::rt::{Env, Files};
 use std::{env, fs, io, str};
+
+/// The error of Linux for a directory where a file is wanted.
+const EISDIR: i32 = 21;
 
 /// What a run has of the system. Whatever it gives, `run` prints what is right for it.
 pub trait System {
@@ -21,30 +26,32 @@ pub trait System {
     /// be had.
     ghost has_words: { Self → Option (List (List ℕ)) → Type 0 };
 
-    /// What a path may be opened to; none where it can't be opened.
-    ghost may_open: { Self → List ℕ → Option Self.File → Type 0 };
+    /// What a path may be opened to, where files of any kind are opened or regular ones alone;
+    /// none where it can't be opened.
+    ghost may_open: { Self → FileKind → List ℕ → Option Self.File → Type 0 };
 
     /// The memory of the run.
     fn alloc(&self) -> Global;
 
     /// Returns the words of the process, of which the first is its name; `None` where one of them
-    /// isn't UTF-8, or memory is refused.
+    /// isn't UTF-8, which is told on standard error, or memory is refused.
     fn words(&self) -> Option<Vec<String>>
         ensures { has_words self.now (option_map (λ words. map string_bytes words.items) result) };
 
-    /// Opens the file at a path. Where it can't be opened, the reason is printed on standard error,
-    /// as `cfi: FILE: SENTENCE`, and there is none.
+    /// Opens the file at a path, a pipe or a device too. Where it can't be opened, or is a
+    /// directory, the reason is printed on standard error, as `cfi: FILE: SENTENCE`, and there is
+    /// none.
     fn open(&self, path: &str) -> Option<Self::File>
-        ensures { may_open self.now path.now result };
+        ensures { may_open self.now of_any_kind path.now result };
 
     /// Opens the file at a path, if it is a regular one. Where it can't be opened, the reason is
     /// printed on standard error, as `open` does.
     fn open_regular(&self, path: &str) -> Option<Self::File>
-        ensures { may_open self.now path.now result };
+        ensures { may_open self.now regular path.now result };
 
     /// Opens the file at a path, if it is a regular one. Prints nothing.
     fn find_regular(&self, path: &str) -> Option<Self::File>
-        ensures { may_open self.now path.now result };
+        ensures { may_open self.now regular path.now result };
 
     /// Returns the path at which `perf record` keeps a copy of the file of this build. `None` where
     /// there is no such path, or memory is refused.
@@ -79,7 +86,7 @@ pub trait System {
 
     /// Whatever the path, there is something that it may be opened to.
     ghost opens: { (system : Self) (path : List ℕ)
-        → (opened : Option Self.File) × may_open system path opened };
+        → (opened : Option Self.File) × may_open system of_any_kind path opened };
 
     /// Of each file, and at any time, the bytes that it has left as a reader are those that it has
     /// by parts. Of a file whose reads move on neither may be known.
@@ -107,18 +114,26 @@ impl<P: Env + Files + Print + Eprint + AllocGlobal> System for Host<'_, P> {
 
     ghost has_words = { λ _ _. ⊤ };
 
-    ghost may_open = { λ _ _ _. ⊤ };
+    ghost may_open = { λ _ _ _ _. ⊤ };
 
     fn alloc(&self) -> Global {
         self.rt.alloc()
     }
 
     fn words(&self) -> Option<Vec<String>> {
-        env::args(self.rt).ok()?.collect(self.rt.alloc()).ok()
+        match env::args(self.rt) {
+            Ok(words) => words.collect(self.rt.alloc()).ok(),
+            Err(error) => {
+                if error.kind() == io::ErrorKind::InvalidData {
+                    let _ = eprintln!(self.rt; "cfi: an argument isn't UTF-8");
+                }
+                None
+            }
+        }
     }
 
     fn open(&self, path: &str) -> Option<HostFile<P::File>> {
-        match File::open(self.rt, path) {
+        match open_file(self.rt, path) {
             Ok(file) => Some(HostFile { file, bytes: None }),
             Err(error) => {
                 self.clear_progress();
@@ -239,14 +254,24 @@ impl<F: Read + Seek> FileInput for HostFile<F> {
 }
 
 impl<F: Read> HostFile<F> {
-    /// Reads the file to its end, and returns how many bytes it has.
+    /// Reads the file to its end, and returns how many bytes it has; of one that doesn't begin as
+    /// an ELF file, which may have no end, as `/dev/zero`, the first bytes alone.
     fn read_whole(&mut self, alloc: Global) -> Result<u64, InputError>
         ensures { IfErr result (λ e. e ≢ InputError.NotHexadecimal) }
     {
-        let bytes = read_all(alloc, &mut self.file)?;
+        let bytes = read_as(alloc, Beginning::Elf, &mut self.file)?;
         let length = bytes.len() as u64;
         self.bytes = Some(bytes);
         Ok(length)
+    }
+}
+
+/// Opens the file at a path. Fails as `File::open`, and for a directory with its error (`EISDIR`).
+fn open_file<P: Files>(rt: &P, path: &str) -> io::Result<P::File> {
+    // Linux opens a directory too, and then refuses each read.
+    match fs::metadata(rt, path) {
+        Ok(metadata) if metadata.is_dir() => Err(io::Error::from_raw_os_error(EISDIR)),
+        _ => File::open(rt, path),
     }
 }
 

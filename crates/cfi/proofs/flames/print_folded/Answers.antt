@@ -1,23 +1,26 @@
 use Rattle.std.proofs.Common.{ℕ, List, inl, inr, refl}
-use Rattle.cfi_flame.specs.declared.folded.FoldedError.TheVariants.{OutOfMemory}
-use Rattle.cfi_programs.specs.Lines.{wrong_input}
+use Rattle.cfi_flame.specs.declared.folded.FoldedError.TheVariants as folded
+use Rattle.cfi_object.specs.declared.input.InputError.{InputError}
+use Rattle.cfi_object.specs.declared.input.InputError.TheVariants.{Unreadable, NotHexadecimal, OutOfMemory}
+use Rattle.cfi_inputs.specs.Refusals.{input_refusal}
+use Rattle.cfi_programs.specs.declared.style.Format.TheVariants.{Text}
+use Rattle.cfi.proofs.FlameLemmas.{owed_of_read}
 use Rattle.cfi.specs.declared.flames.Summary.{Summary}
 use Rattle.cfi.specs.declared.flames.Summary.TheVariants.{FlameGraph, Report}
-use Rattle.cfi.specs.FlameOutputs.{IsUnmade, refusal}
-use Rattle.cfi.proofs.FlameLemmas.{for_input, owed_of}
+use Rattle.cfi.specs.FlameOutputs.{IsOutput, IsOwed, IsUnmade}
 use Rattle.cfi.proofs.flames.print_folded.Goals as goal
 
-pub returns-in-Ok : goal.returns-in-Ok
-returns-in-Ok g c = (c.in-Ok.text.items, c.in-Ok.ensures.all, owed_of c.args.summary c.as_slice.result.now c.in-Ok.text.items _ _ c.print_made.result c.as_slice.ensures.value c.print_made.ensures)
-
 -- memory may always be refused
-by_memory : (summary : Summary) (text : List ℕ) → IsUnmade summary text OutOfMemory
+by_memory : (summary : Summary) (text : List ℕ) → IsUnmade summary text folded.OutOfMemory
 by_memory FlameGraph text = inl (tt {0})
 by_memory Report text = inl (tt {0})
 
-pub returns-in-Err-OutOfMemory : goal.returns-in-Err-OutOfMemory
-returns-in-Err-OutOfMemory g c =
-    for_input (g.R.Read.remaining c.args.input.now) _ (λ bytes. (refusal OutOfMemory, c.write_folded_refusal.ensures, inl (inr (OutOfMemory, by_memory c.args.summary bytes, refl))))
+unread : (summary : Summary) (bytes : List ℕ) (error : InputError) → IsOwed summary bytes (input_refusal Text error)
+unread summary bytes Unreadable = inr refl
+unread summary bytes NotHexadecimal = inr refl
+unread summary bytes OutOfMemory = inl (inr (folded.OutOfMemory, by_memory summary bytes, refl))
 
-pub returns-in-Err : goal.returns-in-Err
-returns-in-Err g c = for_input (g.R.Read.remaining c.args.input.now) _ (λ bytes. (wrong_input, c.write_wrong_input.ensures, inr refl))
+pub returns : goal.returns
+returns g c =
+    owed_of_read (λ text. text.items) (g.R.Read.remaining c.args.input.now) (IsOutput c.args.summary) (IsOwed c.args.summary)
+    (g.W.Write.contents c.args.output.now) _ c.print_read.result c.read_all-read.result (λ bytes line is. inl is) (unread c.args.summary) c.read_all-read.ensures.all c.print_read.ensures

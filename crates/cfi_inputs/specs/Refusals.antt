@@ -1,0 +1,12 @@
+-- The line that says why an input wasn't read.
+use Rattle.std.specs.Prelude.{codes}
+use Rattle.cfi_object.specs.declared.input.InputError.{InputError}
+use Rattle.cfi_object.specs.declared.input.InputError.TheVariants as input_errors
+use Rattle.cfi_read_core.specs.declared.error.Error.TheVariants.{OutOfMemory}
+use Rattle.cfi_programs.specs.Lines.{Line, reason_line, refusal_in}
+use Rattle.cfi_programs.specs.declared.style.Format.{Format}
+
+-- memory is refused, or it can't be read
+abbrev pub input_refusal : Format → InputError → Line
+input_refusal format input_errors.OutOfMemory = refusal_in format OutOfMemory
+input_refusal format _ = reason_line format (codes "wrong input") 2

@@ -1,0 +1,8 @@
+//! The inputs of programs: how far one is read, and what is printed where it isn't.
+#![tactic(auto)]
+
+pub mod beginnings;
+pub mod refusals;
+
+pub use beginnings::{Beginning, read_as};
+pub use refusals::write_input_refusal;

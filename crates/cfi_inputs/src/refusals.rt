@@ -1,0 +1,26 @@
+//! The line that says why an input wasn't read.
+ghost use Rattle.cfi_programs.specs.WriterOutput.{Prints};
+ghost use Rattle.cfi_inputs.specs.Refusals.{input_refusal};
+
+use cfi_object::InputError;
+use cfi_programs::lines::{write_reason, write_refusal_in};
+use cfi_programs::style::Format;
+use gimli_cfi::Error;
+use std::io;
+use std::io::Write;
+
+/// Prints that an input wasn't read, and returns the status: `refused OutOfMemory` and 1 where
+/// memory was refused, and else `wrong input` and 2.
+pub fn write_input_refusal<W: Write>(
+    output: &mut W,
+    format: Format,
+    error: InputError,
+) -> io::Result<u8>
+    ensures { Prints (input_refusal format error)
+        (W.contents output.old) (W.contents output.new) result }
+{
+    match error {
+        InputError::OutOfMemory => write_refusal_in(output, format, Error::OutOfMemory),
+        _ => write_reason(output, format, "wrong input", 2),
+    }
+}
