@@ -1,5 +1,5 @@
 /* Unwinds its own stack, by cfi_step again and again and by one call of cfi_unwind, and prints the frames of both beside those of
- * backtrace() of glibc: on x86-64 Linux, and on AArch64 Linux, where it has only been tested under qemu (examples/aarch64).
+ * backtrace() of glibc: on x86-64 Linux, and on AArch64 Linux, where an earlier form has been tested under qemu (examples/aarch64).
  *
  * dl_iterate_phdr has the program headers of the program and its libraries, of which cfi_module_of_headers makes modules (see
  * process.h). One context is used for all frames. */

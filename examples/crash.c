@@ -1,5 +1,5 @@
 /* Prints its own stack where it crashes, from the handler of the signal: crash by a null pointer, crash overflow by endless calls.
- * Then the signal ends it, as without a handler. On x86-64 Linux, and on AArch64 Linux.
+ * Then the signal ends it, as without a handler. On x86-64 Linux; on AArch64 Linux it hasn't been tried.
  *
  * All that allocates or locks is done at the start: the context, and the modules (those that are loaded later aren't known). The
  * handler has a stack of its own, since that of the thread may be used up. It calls cfi_unwind and write alone. */

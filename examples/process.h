@@ -1,5 +1,5 @@
 /* What the examples share: the modules of the own process, the stack of its first thread, and the registers of a signal's context,
- * by DWARF's numbers: on x86-64 Linux, and on AArch64 Linux, where it has only been tested under qemu (examples/aarch64).
+ * by DWARF's numbers: on x86-64 Linux, and on AArch64 Linux, where it hasn't been tried.
  * Include it first, after defining _GNU_SOURCE. */
 #ifndef PROCESS_H
 #define PROCESS_H

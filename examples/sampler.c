@@ -1,5 +1,6 @@
 /* Samples its own stack while it works, and at the end prints how often each stack was seen, in the lines of a flame graph: the
- * functions from the outermost to the innermost one, and the count. On x86-64 Linux, and on AArch64 Linux; of one thread.
+ * functions from the outermost to the innermost one, and the count. On x86-64 Linux, of one thread; on AArch64 Linux it
+ * hasn't been tried.
  *
  * A timer sends SIGPROF after each millisecond of processor time. The handler calls cfi_unwind, which neither allocates nor locks,
  * with a context that nothing else uses, and writes the frames into memory that was there before. Names are looked up at the end.
