@@ -163,13 +163,24 @@ fn prints(
     text: &str,
 ) -> Result<(), Fail> {
     let bytes = bytes_of(rt.alloc(), digits)?;
-    let names = RegisterNames::Numbers;
     let mut output = Vec::new(rt.alloc());
-    let source = words.source(bytes.as_slice(), &[]);
     let functions = FunctionNames::none(rt.alloc());
-    let entries = Printed::Entries(&functions);
-    let status = print_source(rt.alloc(), names, entries, &source, &mut output)?;
+    let status = print_entries(rt, words, bytes.as_slice(), &functions, &mut output)?;
     expect(rt, output.as_slice(), status, text)
+}
+
+/// Prints the entries of a section, with the names of these functions.
+fn print_entries(
+    rt: &(impl Abort + AllocGlobal),
+    words: &SectionWords,
+    bytes: &[u8],
+    functions: &FunctionNames<'_>,
+    output: &mut Vec<u8>,
+) -> Result<u8, Fail> {
+    let names = RegisterNames::Numbers;
+    let source = words.source(bytes, &[]);
+    let entries = Printed::Entries(functions);
+    Ok(print_source(rt.alloc(), names, entries, &source, output)?)
 }
 
 #[test]
