@@ -63,12 +63,12 @@ fn prints_after(
 }
 
 /// The first 4,096 bytes, the section headers, their names, `.eh_frame`, its header,
-/// `.debug_frame`, and for rows the symbols and their names.
+/// `.debug_frame`, the symbols and their names.
 #[test]
 fn parts(rt: HostRuntime) -> Result<(), Fail> {
     let bytes = spread(rt.alloc(), 0x20)?;
     let bytes = bytes.as_slice();
-    prints_after(&rt, Printed::Dump, bytes, 6, DUMP)?;
+    prints_after(&rt, Printed::Dump, bytes, 8, DUMP)?;
     prints_after(&rt, Printed::Rows(None, Format::Text), bytes, 8, ALL_ROWS)
 }
 
@@ -127,13 +127,13 @@ fn counted(alloc: Global, printed: Printed<'_>, bytes: &[u8]) -> Result<(usize, 
 
 /// Of the 9,312 bytes of the file of `parts` only those of its parts are read: 4,096; 8 section
 /// headers of 64; 70 of their names; 56, 20 and 48 of `.eh_frame`, its header and `.debug_frame`;
-/// and for rows 168 of the symbols and 57 of their names.
+/// and 168 of the symbols and 57 of their names.
 #[test]
 fn bytes_that_are_read(rt: HostRuntime) -> Result<(), Fail> {
     let bytes = spread(rt.alloc(), 0x20)?;
     let bytes = bytes.as_slice();
     let dump = counted(rt.alloc(), Printed::Dump, bytes)?;
     let rows = counted(rt.alloc(), Printed::Rows(None, Format::Text), bytes)?;
-    assert_eq!(rt; (bytes.len(), dump, rows), (9_312, (6, 4_802), (8, 5_027)));
+    assert_eq!(rt; (bytes.len(), dump, rows), (9_312, (8, 5_027), (8, 5_027)));
     Ok(())
 }
