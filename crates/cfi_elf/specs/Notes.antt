@@ -43,7 +43,8 @@ note_header big bytes =
       n_type = value (codes "n_type");
     }
 
--- n bytes with those that pad them to a multiple of four
+-- n bytes with those that pad them to a multiple of four, as Linux and GNU's linkers write notes in
+-- files of 64 bits too, where the System V ABI has words of eight bytes
 abbrev pub padded : ℕ → ℕ
 padded n = (n + 3) / 4 * 4
 

@@ -105,7 +105,8 @@ relocations file has_addend bytes =
 -- ---- addresses
 
 -- of a section in memory (SHF_ALLOC is 2): its offset in the file, or the file's length for one
--- without bytes (SHT_NOBITS is 8). In any other, places are told by their offsets
+-- without bytes (SHT_NOBITS is 8), so that all of these share one address. In any other, places are
+-- told by their offsets
 abbrev pub section_base : File → SectionHeader → ℕ
 section_base file header =
     if bit_and header.sh_flags 2 == 0 then 0
@@ -116,7 +117,9 @@ abbrev pub base_of : File → Option SectionHeader → ℕ
 base_of file None = 0
 base_of file (Some header) = section_base file header
 
--- of a symbol: in its section by st_value, if it has one (SHN_XINDEX is 0xffff)
+-- of a symbol: in its section by st_value, if it has one (SHN_XINDEX is 0xffff); of one without a
+-- section, as of an absolute (SHN_ABS) or a common one (SHN_COMMON, whose st_value is an alignment:
+-- no call frames refer to one), st_value itself
 unfoldable pub symbol_place : File → List ℕ → Symbol → Result ℕ ElfError
 symbol_place file table s =
     if s.st_shndx == 0xffff then Err ExtendedSectionIndex
@@ -132,7 +135,9 @@ symbol_at file table symbols index =
 
 -- ---- one relocation
 
--- what stands at the place then: by the symbol and the addend, what stood there, and the address
+-- what stands at the place then: by the symbol and the addend, what stood there, and the address.
+-- What stood there is added to or subtracted from only by types of RISC-V, whose relocations have
+-- an addend of their own
 abbrev pub relocated_number : Formula → ℕ → ℕ → ℕ → ℕ
 relocated_number Unchanged value stored place = stored
 relocated_number Absolute value stored place = value

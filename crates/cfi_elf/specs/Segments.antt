@@ -53,7 +53,8 @@ is_loaded_at address header =
     && (nat_le header.p_vaddr address
     && nat_lt address (header.p_vaddr + header.p_filesz))
 
--- where a segment begins in the file as it is mapped, by whole pages of 4 KiB
+-- where a segment begins in the file as it is mapped, by whole pages of 4 KiB (kernels of AArch64
+-- may have larger pages: a mapping that begins before this page is none of the segment)
 abbrev pub page_offset : ProgramHeader → ℕ
 page_offset header = header.p_offset - header.p_offset % 4096
 

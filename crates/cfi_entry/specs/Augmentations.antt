@@ -1,4 +1,5 @@
--- Augmentation strings and their data (LSB Core, "Augmentation String Format").
+-- Augmentation strings and their data (LSB Core, "Augmentation String Format": z, L, P, R; GCC
+-- writes S; B is of the DWARF for the Arm 64-bit Architecture).
 use Rattle.std.specs.Prelude.{ℕ, Bool, true, false, not, Option, Some, None, List, [], ◌∷◌, ◌==◌}
 use Rattle.std.specs.Prelude.{if◌then◌else◌}
 use Rattle.cfi_read_core.specs.declared.error.Error.TheVariants.{UnknownAugmentation}

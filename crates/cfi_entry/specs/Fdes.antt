@@ -30,7 +30,8 @@ pub record Fde : Type 0 where
 
 -- ---- the addresses
 
--- the initial address, and how many addresses there are
+-- the initial address, and how many addresses there are; by an indirect encoding (LSB Core,
+-- DW_EH_PE_indirect) the address of the pointer stands for the initial one, as in gimli
 abbrev pub addresses : Section → ℕ → Option ℕ → Read (ℕ × ℕ)
 addresses section size None = do
   initial ← address size

@@ -34,7 +34,8 @@ known registers r = slice_index_or registers r None
 abbrev pub register_in : Frame → Register → Result ℕ FrameError
 register_in frame r = ok_or (known frame.registers r.0) (UnknownRegister r)
 
--- a number is as wide as an address at most
+-- a number has 1, 2, 4 or 8 bytes, and is as wide as an address at most; a size of 3, 5, 6 or 7,
+-- which DW_OP_deref_size may have (DWARF 5 section 2.5.1.3), is refused
 abbrev pub number_at : Frame → ℕ → ℕ → Result ℕ FrameError
 number_at frame a size =
     if is_sized size && nat_le size frame.size then ok_or (frame.memory a size) (UnreadableMemory a)

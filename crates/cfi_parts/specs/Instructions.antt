@@ -96,7 +96,8 @@ state_and_others c =
     ∷ (0x2e, unsigned_leb128 >>= λ n. give (variant.ArgsSize n))
     ∷ []
 
--- the rules of registers (section 6.4.2.3), with an offset from the CFA and without
+-- the rules of registers (section 6.4.2.3), with an offset from the CFA and without; 0x2f is GNU's
+-- DW_CFA_GNU_negative_offset_extended
 abbrev pub offset_rules : List (ℕ × Read Instruction)
 offset_rules =
     (0x05, register_and unsigned_leb128 variant.Offset)

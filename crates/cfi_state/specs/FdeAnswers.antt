@@ -56,6 +56,8 @@ module _ {T : Type 0} where
       (location_of setting (followed_by program instruction))) ∷ []
       else []
 
+  -- those of an FDE: an instruction that is refused gives its error and is passed over; one that
+  -- can't be read ends the instructions with its error, and the last row comes after it
   abbrev pub answers_of :
       Setting → Program T → List (CallFrameInstruction T) → Option Error
       → List (Result (Row T) Error)
@@ -79,6 +81,8 @@ module _ {T : Type 0} where
       option_or (refusal setting program instruction)
       (first_refusal setting (followed_by program instruction) rest)
 
+  -- of a CIE, whose first refusal ends all rows: that of an instruction, of what can't be read, or
+  -- of the end
   abbrev pub cie_refusal : Setting → Readings (CallFrameInstruction T) → Option Error
   cie_refusal setting reads =
       option_or (first_refusal setting (in_cie []) reads.values)

@@ -45,7 +45,8 @@ distinct_numbers (first ∷ rest) =
     else first ∷ distinct_numbers rest
 
 module _ {T : Type 0} where
-  -- the whole of the CFA: an expression, or `None` where a register and an offset are written
+  -- the whole of the CFA: an expression, or within it `None` where a register and an offset are
+  -- written; `None` itself where the CFA isn't written whole
   abbrev pub written_cfa : Action T → Option (Option (UnwindExpression T))
   written_cfa (defines_cfa register offset) = Some None
   written_cfa (defines_cfa_expression expression) = Some (Some expression)
@@ -98,6 +99,8 @@ module _ {T : Type 0} where
   cfa_from None register offset = cfa.RegisterAndOffset register offset
   cfa_from (Some expression) register offset = cfa.Expression expression
 
+  -- the CFA that the last writers give; where none does it is register 0 plus 0, with which every
+  -- row begins (the standard has no such value, and no producer leaves it)
   abbrev pub final_cfa : Setting → List (CallFrameInstruction T) → CfaRule T
   final_cfa setting list =
       cfa_from

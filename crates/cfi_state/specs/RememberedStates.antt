@@ -1,5 +1,7 @@
 -- Remembered and restored stretches of a list of call frame instructions (DWARF 5, section
--- 6.4.2.4).
+-- 6.4.2.4). A row is remembered whole: the standard speaks of the rules of registers; the CFA and
+-- the size of arguments (DW_CFA_GNU_args_size) are restored too. A CIE's instructions and those of
+-- an FDE are one list, so a pair may begin in the CIE.
 --     matches      the restore_state at one index belongs to the remember_state at another
 --     is_struck      the instruction is not a move, and lies within such a pair or at an end of it
 --     survivors      the instructions that are not struck

@@ -1,5 +1,5 @@
--- Rows that are kept for the next walk of a stack, each by its file and its address in the file
--- (DWARF 5 section 6.4.1).
+-- Rows (DWARF 5 section 6.4.1) that are kept for the next walk of a stack, each by its file and its
+-- address in the file. Keeping them is this library's own: the standard has no such thing.
 --     holds_row slot, slot_view slot      whether a slot holds a row, and what it holds
 --     AreEmpty cache      no slot holds a row
 --     AreAlike m n      if modules have one number of a file, they have the same call frames

@@ -95,8 +95,10 @@ module _ (frame : Frame) (section : Position) (abi : Abi) where
     by_rule the_cfa k rule.Architectural = Err ArchitecturalRule
     by_rule the_cfa k (rule.Constant n) = Ok (Some n)
 
-    -- a register without a rule keeps its value, and the stack pointer of the caller is the CFA:
-    -- what ABIs take in place of the standard's "undefined"
+    -- A register without a rule keeps its value, and the stack pointer of the caller is the CFA.
+    -- The standard calls it undefined, if the ABI says nothing else (section 6.4.1): ABIs have
+    -- calls preserve some registers, and debuggers show the others so too. A caller's value of a
+    -- register that calls needn't preserve may then be an older one.
     abbrev pub without_rule : ℕ → ℕ → Result (Option ℕ) FrameError
     without_rule the_cfa k =
         if k == abi.stack_pointer.0 then Ok (Some the_cfa) else Ok (known frame.registers k)

@@ -34,13 +34,14 @@ pub record State : Type 0 where
   pub registers : List (Option ℕ)
   pub caller : List (Option ℕ)
 
--- the frame of the caller has a higher CFA, except across a signal, whose handler may have a stack
--- of its own, and except the outermost one, which may have no bytes on the stack
+-- the CFA of a frame is higher than that of the frame that it called, except across a signal, whose
+-- handler may have a stack of its own; of the innermost frame, which called none, nothing is asked
 abbrev pub rises_above : Option ℕ → Bool → ℕ → Bool
 rises_above None is_interrupted the_cfa = true
 rises_above (Some callee) is_interrupted the_cfa = is_interrupted || nat_lt callee the_cfa
 
--- the step that was made, or the end of the walk
+-- the step that was made, or the end of the walk; of the outermost frame, which may have no bytes
+-- on the stack, nothing is asked
 abbrev pub checked : Start → Result Caller FrameError → Result Caller End
 checked at (Ok c) =
     if is_none c.pc || rises_above at.callee_cfa at.is_interrupted c.cfa

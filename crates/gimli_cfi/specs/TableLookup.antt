@@ -36,7 +36,9 @@ fde_by_row header table eh_frame section a k =
     fde_by_target header section eh_frame a (target_of header table k)
 
 -- What a search in the rows gives for an address, of_row being what a row gives: the error for a
--- format that can't be searched, the error of the start of a row, or what a boundary row gives.
+-- format that can't be searched, the error of the start of any row of the table, or what a boundary
+-- row gives. LSB's table is sorted; here nothing of its order is assumed, so it may have several
+-- boundary rows, and any of these answers may come. Of a sorted table there is one.
 abbrev pub SearchedBy :
     {A : Type 0} → Option ℕ → (ℕ → Result ℕ Error) → Table → ℕ → (ℕ → Result A Error) →
     Result A Error → Type 0
