@@ -84,3 +84,10 @@ none_left f size bytes index up =
     let n : length (map f (entries size bytes)) ≡ length bytes / size = length-map (entries size bytes) f ∙ length-map-range_with_len (entry_at size bytes) 0 (length bytes / size) in
     let few = div-le_self (length bytes) size in
     drop_all index (map f (entries size bytes)) (omega (arith, n, few, up))
+
+-- the same of what comes of the entries
+pub none_left_of : {A B : Type 0} (g : A → B) (f : List ℕ → A) (size : ℕ) (bytes : List ℕ) (index : ℕ) → length bytes ≤ index → drop index (map g (map f (entries size bytes))) ≡ []
+none_left_of g f size bytes index up =
+    let n : length (map g (map f (entries size bytes))) ≡ length bytes / size = length-map (map f (entries size bytes)) g ∙ (length-map (entries size bytes) f ∙ length-map-range_with_len (entry_at size bytes) 0 (length bytes / size)) in
+    let few = div-le_self (length bytes) size in
+    drop_all index (map g (map f (entries size bytes))) (omega (arith, n, few, up))

@@ -16,6 +16,7 @@ use Rattle.cfi_elf.specs.ElfFiles.{File, class_of_file}
 use Rattle.cfi_elf.specs.Sections.{Section, address_of, by_type, contents, debug_frame, first_section_header, header_named, is_named, name_at, name_section, names_at, or_by_first, section_address, section_count, section_headers, section_named, section_names, section_of, section_table, unless_compressed}
 use Rattle.cfi_elf.specs.Segments.{address_of_offset, bytes_after, eh_frame_hdr_segment, loaded_bytes, program_table, segment_bytes, segment_count, segment_of, wanted_segment}
 use Rattle.cfi_elf.specs.Symbols.{is_function_at}
+use Rattle.cfi_elf.specs.FunctionEntries.{function_descriptors, has_descriptors}
 use Rattle.cfi_elf.specs.SymbolTables.{Function, SymbolTable, function_at, function_of, is_symbol_named, symbol_address, symbol_section, symbol_table, symbols, symbols_in, symbols_of}
 use Rattle.cfi_elf.specs.FunctionNames.{best_name, function_name, function_place, functions_in, named_functions, place_among}
 use Rattle.cfi_elf.proofs.SameResults.{Same, is_not_read, same_err, same_first_by, same_if, same_if_found, same_ok, same_or_missing, same_then}
@@ -163,9 +164,13 @@ module _ {bytes : List ℕ} (file : File) (of : IsImageOf file.image bytes) wher
 
   -- ---- symbols
 
+  pub same_function_descriptors : Same (function_descriptors file) (function_descriptors all)
+  unfolding function_descriptors
+  same_function_descriptors = same_if (has_descriptors file) (same_section_named (codes ".opd")) (same_ok None)
+
   same_symbols_in : (table : List ℕ) (header : SectionHeader) → Same (symbols_in file table header) (symbols_in all table header)
   unfolding symbols_in
-  same_symbols_in table header = same_then (same_contents header) (λ bytes. same_then (same_names_at table header.sh_link) (λ names. same_ok _))
+  same_symbols_in table header = same_then (same_contents header) (λ bytes. same_then (same_names_at table header.sh_link) (λ names. same_then same_function_descriptors (λ descriptors. same_ok _)))
 
   same_symbols_of : (table : List ℕ) (found : Option SectionHeader) → Same (symbols_of file table found) (symbols_of all table found)
   same_symbols_of table None = same_ok _

@@ -13,6 +13,7 @@ pub mod FoundSections
 pub mod Segments
 pub mod SegmentLists
 pub mod Notes
+pub mod FunctionEntries
 pub mod Symbols
 pub mod SymbolTables
 pub mod BestNames
