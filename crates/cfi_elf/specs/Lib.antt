@@ -16,6 +16,7 @@ pub mod Notes
 pub mod FunctionEntries
 pub mod Symbols
 pub mod SymbolTables
+pub mod SymbolAddresses
 pub mod BestNames
 pub mod FunctionPlaces
 pub mod FunctionNames

@@ -59,6 +59,8 @@ pub enum ElfError {
     /// Bytes are needed that no part of the image has. Carries where in the file they begin, and
     /// how many they are.
     NotRead { offset: u64, size: u64 },
+    /// Memory for a list is refused.
+    OutOfMemory,
 }
 
 impl fmt::Display for ElfError {
@@ -104,6 +106,7 @@ impl ElfError {
             ElfError::NoRelocationSymbol(_) => "NoRelocationSymbol",
             ElfError::ExtendedSectionIndex => "ExtendedSectionIndex",
             ElfError::NotRead { .. } => "NotRead",
+            ElfError::OutOfMemory => "OutOfMemory",
         }
     }
 
@@ -155,6 +158,7 @@ impl ElfError {
             ElfError::NoRelocationSymbol(_) => "a relocation has no symbol at index ",
             ElfError::ExtendedSectionIndex => "the section of a symbol has an extended index",
             ElfError::NotRead { .. } => "bytes of the file have not been read",
+            ElfError::OutOfMemory => "memory is refused",
         }
     }
 }

@@ -29,6 +29,7 @@ mod section_header;
 mod sections;
 pub mod segments;
 mod symbol;
+mod symbol_addresses;
 mod symbols;
 
 pub use elf_file::{ElfFile, Section};

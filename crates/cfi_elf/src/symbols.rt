@@ -19,7 +19,7 @@ use crate::section_header::SectionHeader;
 use crate::sections::name_at;
 use crate::symbol::{Symbol, parse_symbol, symbol_size};
 
-const SHN_UNDEF: u16 = 0;
+pub(crate) const SHN_UNDEF: u16 = 0;
 
 /// A function that a symbol names.
 #[derive(Clone, Copy, Debug)]
