@@ -1,6 +1,7 @@
 //! Why a file can't be read.
-ghost use Rattle.std.specs.Prelude.{◌≡◌};
+ghost use Rattle.std.specs.Prelude.{◌≡◌, Some};
 ghost use Rattle.cfi_elf.specs.ErrorNames.{name_of_elf};
+ghost use Rattle.cfi_elf.specs.ErrorTexts.{number_of_elf, sentence_of_elf, text_of_elf};
 
 use std::fmt;
 
@@ -64,6 +65,8 @@ pub enum ElfError {
 }
 
 impl fmt::Display for ElfError {
+    ghost output = { λ error. Some (text_of_elf error) };
+
     fn fmt<W: fmt::Write>(&self, f: &mut fmt::Formatter<W>) -> fmt::Result {
         let sentence = self.sentence();
         match self.number() {
@@ -111,7 +114,9 @@ impl ElfError {
     }
 
     /// The value that the error carries, if any.
-    fn number(&self) -> Option<u32> {
+    fn number(&self) -> Option<u32>
+        ensures { result ≡ number_of_elf self.now }
+    {
         match *self {
             ElfError::UnknownClass(byte) | ElfError::UnknownDataEncoding(byte) => Some(u32::from(
                 byte,
@@ -129,7 +134,9 @@ impl ElfError {
     }
 
     /// The sentence, up to the value if there is one.
-    fn sentence(&self) -> &'static str {
+    fn sentence(&self) -> &'static str
+        ensures { result.now ≡ sentence_of_elf self.now }
+    {
         match self {
             ElfError::NotElf => "not an ELF file",
             ElfError::HeaderCut => "the file ends in its header",
