@@ -38,13 +38,13 @@ module _ (fde : Fde) (section : Section) where
   any : is_asked_for None (of_addresses 0x1000 0x10) ≡ true
   any = refl
 
-  the_last : is_asked_for (Some 0x100f) (of_addresses 0x1000 0x10) ≡ true
+  the_last : is_asked_for (Some (0x2000 ∷ 0x100f ∷ [])) (of_addresses 0x1000 0x10) ≡ true
   the_last = refl
 
-  the_one_after : fde_rows_text (text_style X86_64) nameless (Some 0x1010) section (Ok (of_addresses 0x1000 0x10)) ≡ []
+  the_one_after : fde_rows_text (text_style X86_64) nameless (Some (0x1010 ∷ [])) section (Ok (of_addresses 0x1000 0x10)) ≡ []
   the_one_after = refl
 
-  unread : fde_rows_text (text_style X86_64) nameless (Some 0x1010) section (Err UnknownAugmentation) ≡ codes "refused UnknownAugmentation" ++ 10 ∷ []
+  unread : fde_rows_text (text_style X86_64) nameless (Some (0x1010 ∷ [])) section (Err UnknownAugmentation) ≡ codes "refused UnknownAugmentation" ++ 10 ∷ []
   unread = refl
 
 -- ---- instructions

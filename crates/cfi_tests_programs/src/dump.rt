@@ -232,12 +232,13 @@ fn entries_that_are_refused(rt: HostRuntime) -> Result<(), Fail> {
     prints(&rt, &eh_frame(), "04000000 04000000", no_cie)
 }
 
-/// Addresses, and the rows of the FDEs that contain them; of all FDEs, where there is no address.
-const ADDRESSES: [(Option<u64>, &str); 4] = [
+/// Addresses, and the rows of the FDEs that contain one of them; of all FDEs, where none are given.
+const ADDRESSES: [(Option<&[u64]>, &str); 5] = [
     (None, THREE_ROWS_ALONE),
-    (Some(0x1000), THREE_ROWS_ALONE),
-    (Some(0x101f), THREE_ROWS_ALONE),
-    (Some(0x1020), ""),
+    (Some(&[0x1000]), THREE_ROWS_ALONE),
+    (Some(&[0x1020, 0x101f]), THREE_ROWS_ALONE),
+    (Some(&[0x1020]), ""),
+    (Some(&[]), ""),
 ];
 
 /// Lines of text, with registers by number.
@@ -251,7 +252,7 @@ fn prints_rows(
     rt: &(impl Abort + AllocGlobal),
     style: Style,
     digits: &str,
-    address: Option<u64>,
+    addresses: Option<&[u64]>,
     functions: &FunctionNames<'_>,
     text: &str,
 ) -> Result<(), Fail> {
@@ -259,7 +260,7 @@ fn prints_rows(
     let source = debug_frame().source(bytes.as_slice(), &[]);
     let Style { names, format } = style;
     let asked = AskedRows {
-        address,
+        addresses,
         functions,
         format,
     };
@@ -272,8 +273,8 @@ fn prints_rows(
 #[test]
 fn rows_of_fdes(rt: HostRuntime) -> Result<(), Fail> {
     let functions = FunctionNames::none(rt.alloc());
-    for (address, text) in &ADDRESSES {
-        prints_rows(&rt, PLAIN, THREE_ROWS, *address, &functions, text)?;
+    for (addresses, text) in &ADDRESSES {
+        prints_rows(&rt, PLAIN, THREE_ROWS, *addresses, &functions, text)?;
     }
     Ok(())
 }
