@@ -1,4 +1,5 @@
 mod RoomLemmas
+mod ChosenLemmas
 mod RunLemmas
 mod FoldLemmas
 mod StackLemmas
