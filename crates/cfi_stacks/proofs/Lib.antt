@@ -4,6 +4,7 @@ mod RunLemmas
 mod FoldLemmas
 mod StackLemmas
 mod ChainLemmas
+mod ObjectLemmas
 mod ReadLemmas
 mod ThreadLemmas
 mod CoreLemmas
