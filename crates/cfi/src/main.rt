@@ -19,7 +19,8 @@ mod system;
 mod task;
 
 use cfi_files::{Request, run_on_file};
-use cfi_stacks::{Listing, list_profile, print_core};
+use cfi_programs::style::Format;
+use cfi_stacks::{Choice, Listing, ThreadListing, list_profile, print_core};
 use clap::Error;
 use command::{Command, command_of};
 use files::{
@@ -138,7 +139,14 @@ fn print_stacks<S: System, W: Write>(
 {
     let opener = ProfileOpener { system, path: file };
     match open_named(system, file) {
-        Some(mut input) => list_profile(system.alloc(), listing, &opener, &mut input, output),
+        Some(mut input) => list_profile(
+            system.alloc(),
+            listing,
+            &Choice::all(),
+            &opener,
+            &mut input,
+            output,
+        ),
         None => Ok(WRONG),
     }
 }
@@ -156,7 +164,17 @@ fn print_threads<S: System, W: Write>(
 {
     let opener = ProfileOpener { system, path: file };
     match open_named(system, file) {
-        Some(mut input) => print_core(system.alloc(), raw, &opener, &mut input, output),
+        Some(mut input) => print_core(
+            system.alloc(),
+            ThreadListing {
+                raw,
+                format: Format::Text,
+                thread: None,
+            },
+            &opener,
+            &mut input,
+            output,
+        ),
         None => Ok(WRONG),
     }
 }
