@@ -2,9 +2,9 @@
 --     path_below root name      where a file of this name is, below a root if there is one
 --     copy_path folders home build      where `perf record` keeps a copy of the file of a build
 --     debug_path folders build      where the debug file of the file of a build is
-use Rattle.std.specs.Prelude.{ℕ, ◌==◌, Bool, false, List, ◌++◌, Option, Some, None, codes, drop}
-use Rattle.std.specs.Prelude.{option_map, slice_get, take, unwrap_or, if◌then◌else◌}
-use Rattle.std.specs.Option.{option_map_or}
+use Rattle.std.specs.Prelude.{ℕ, Bool, List, ◌++◌, Option, Some, None, codes, drop, option_map}
+use Rattle.std.specs.Prelude.{take, unwrap_or, if◌then◌else◌}
+use Rattle.std.specs.Str.{bytes_eq}
 use Rattle.clap.specs.Words.{Text}
 use Rattle.hex.specs.Hex.{encode_lower}
 use Rattle.cfi.specs.declared.folders.Folders.{Folders as FoldersOfCode}
@@ -22,7 +22,7 @@ folders_view folders = record {
 -- ---- a file at a path
 
 abbrev pub is_absolute : Text → Bool
-is_absolute name = option_map_or (λ c. c == 47) (slice_get name 0) false
+is_absolute name = bytes_eq (take 1 name) (codes "/")
 
 -- an absolute path is one below the root
 abbrev pub path_below : Option Text → Text → Text
