@@ -14,7 +14,7 @@
 --     IsListed listing choice .. records error line      either of these
 --     IsOutput listing choice may_open remaining bytes line      the output of a profile of these
 --         bytes, whose files may be opened so
-use Rattle.std.specs.Prelude.{◌≡◌, ◌⊎◌, ◌<◌, ◌^◌, ℕ, ◌==◌, Bool, true, List, [], ◌∷◌, ◌++◌, Option}
+use Rattle.std.specs.Prelude.{◌≡◌, ◌⊎◌, ◌<◌, ◌^◌, ℕ, ◌==◌, Bool, true, false, List, [], ◌∷◌, ◌++◌, Option}
 use Rattle.std.specs.Prelude.{Some, None, Result, Ok, Err, codes, map, take, unwrap_or}
 use Rattle.std.specs.Prelude.{if◌then◌else◌}
 use Rattle.std.specs.List.{filter, flat_map}
@@ -63,8 +63,7 @@ use Rattle.cfi_stacks.specs.declared.listing.StackStyle.{StackStyle}
 use Rattle.cfi_stacks.specs.Choices.{Choice, chooses, everything, limited}
 use Rattle.cfi_stacks.specs.FoldedTexts.{folded_text}
 use Rattle.cfi_stacks.specs.Reasons.{Reason, reason_line, reason_of, reason_without}
-use Rattle.cfi_stacks.specs.StackObjects.{in_format, kernel_object, listed, object_end, sample_head}
-use Rattle.cfi_stacks.specs.StackObjects.{user_object}
+use Rattle.cfi_stacks.specs.StackObjects.{in_format, listed, object_end, sample_frame, sample_head}
 use Rattle.cfi_stacks.specs.StackTexts.{head_line, site_line}
 
 -- ---- a sample
@@ -113,16 +112,15 @@ sample_text raw in_kernel files list name time s result room =
 -- ---- a sample as an object of JSON
 
 -- behind a comma each
-abbrev pub chain_objects : (Site → List ℕ) → (ℕ → Site) → List ℕ → List ℕ
-chain_objects object_of site_at addresses =
-    flat_map (λ a. codes "," ++ object_of (site_at a)) addresses
+abbrev pub chain_objects : Bool → Bool → (ℕ → Site) → List ℕ → List ℕ
+chain_objects raw is_kernel site_at addresses =
+    flat_map (λ a. codes "," ++ sample_frame raw is_kernel (site_at a)) addresses
 
-abbrev pub stack_objects :
-    Bool → List KnownFile → List MappedCode → List StackFrame → List ℕ
+abbrev pub stack_objects : Bool → List KnownFile → List MappedCode → List StackFrame → List ℕ
 stack_objects raw files list frames =
     flat_map
     (λ frame.
-    codes "," ++ user_object raw (site_of files list (row_address frame.pc frame.is_interrupted)))
+    codes "," ++ sample_frame raw false (site_of files list (row_address frame.pc frame.is_interrupted)))
     frames
 
 abbrev pub walk_objects :
@@ -135,14 +133,14 @@ abbrev pub user_objects :
     List ℕ
 user_objects raw files list s result room =
     if s.copies_stack then walk_objects raw files list result room
-    else chain_objects (user_object raw) (site_of files list) (user_frames s)
+    else chain_objects raw false (site_of files list) (user_frames s)
 
 -- the kernel's, and those of user space
 abbrev pub all_objects :
     Bool → (ℕ → Site) → List KnownFile → List MappedCode → Sample → Result Walk NoFrames →
     List StackFrame → List ℕ
 all_objects raw in_kernel files list s result room =
-    chain_objects (kernel_object raw) in_kernel (kernel_frames s)
+    chain_objects raw true in_kernel (kernel_frames s)
     ++ user_objects raw files list s result room
 
 -- why the walk has no more frames, or none

@@ -10,7 +10,7 @@ use Rattle.std.specs.Prelude.{codes, map, if◌then◌else◌}
 use Rattle.std.specs.Fmt.{decimal}
 use Rattle.cfi_elf.specs.FunctionPlaces.{Place}
 use Rattle.cfi_perf.specs.Samples.{Sample}
-use Rattle.cfi_processes.specs.Sites.{Site, without_function}
+use Rattle.cfi_processes.specs.Sites.{Site}
 use Rattle.cfi_programs.specs.declared.style.Format.{Format}
 use Rattle.cfi_programs.specs.declared.style.Format.TheVariants.{Text, Json}
 use Rattle.cfi_programs.specs.FunctionLines.{shown}
@@ -55,25 +55,17 @@ frame_object raw before site after =
 abbrev pub comma : Bool → List ℕ
 comma is_first = if is_first then [] else codes ","
 
-abbrev pub user_object : Bool → Site → List ℕ
-user_object raw site = frame_object raw (codes "{") site (codes "}")
+abbrev pub closing : Bool → List ℕ
+closing is_kernel = if is_kernel then codes ",\"kernel\":true}" else codes "}"
 
-abbrev pub kernel_object : Bool → Site → List ℕ
-kernel_object raw site = frame_object raw (codes "{") site (codes ",\"kernel\":true}")
-
-abbrev pub chain_object : Bool → Bool → Site → List ℕ
-chain_object raw is_kernel site =
-    if is_kernel then kernel_object raw site else user_object raw site
+abbrev pub sample_frame : Bool → Bool → Site → List ℕ
+sample_frame raw is_kernel site = frame_object raw (codes "{") site (closing is_kernel)
 
 abbrev pub address_member : ℕ → List ℕ
 address_member a = codes "{\"address\":\"" ++ address_text a ++ codes "\","
 
 abbrev pub core_object : Bool → ℕ → Site → List ℕ
 core_object raw a site = frame_object raw (address_member a) site (codes "}")
-
--- raw: the function isn't looked up
-abbrev pub shown_site : Bool → Site → Site
-shown_site raw site = if raw then without_function site else site
 
 abbrev pub is_nil : {A : Type 0} → List A → Bool
 is_nil [] = true

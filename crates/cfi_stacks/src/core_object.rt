@@ -11,8 +11,8 @@ ghost use Rattle.cfi_stacks.specs.StackObjects.{address_member, comma, core_obje
 ghost use Rattle.cfi_stacks.specs.StackObjects.{process_member, signal_members};
 ghost use Rattle.cfi_stacks.specs.StackObjects.{signal_name_member, thread_head, tid_members};
 
-use crate::object_lines::{write_comma, write_frame_object, write_named, write_object_end};
-use crate::sample_object::{reason_for, shown_site};
+use crate::object_lines::{write_code_object, write_named, write_object_end};
+use crate::sample_object::reason_for;
 use crate::signals::signal_name;
 use cfi_cores::CoreThread;
 use cfi_processes::Name;
@@ -177,8 +177,7 @@ fn write_core_frame<W: Write>(
         (site_of (map known_view code.now.files.now) code.now.mappings.now address)) }
 {
     let mut before = Text::new();
-    push_address_member(&mut before, address)?;
-    write_comma(output, is_first)?;
+    push_opening(&mut before, is_first, address)?;
     write_frame_object(
         output,
         raw,
@@ -186,6 +185,23 @@ fn write_core_frame<W: Write>(
         shown_site(raw, code, address),
         b"}",
     )
+}
+
+/// Appends the beginning of the object of a frame, with its address, behind a comma unless it is the
+/// first. Fails where there is no room.
+fn push_opening(text: &mut Text, is_first: bool, address: u64) -> fmt::Result
+    ensures { OnOk result
+        (text.new.items ≡ text.old.items ++ (comma is_first ++ address_member address)) }
+{
+    push_comma(text, is_first)?;
+    push_address_member(text, address)
+}
+
+/// Appends a comma, unless what comes is the first of all. Fails where there is no room.
+fn push_comma(text: &mut Text, is_first: bool) -> fmt::Result
+    ensures { OnOk result (text.new.items ≡ text.old.items ++ comma is_first) }
+{
+    if is_first { Ok(()) } else { push(text, b",") }
 }
 
 /// Appends the beginning of the object of a frame, with its address. Fails where there is no room.

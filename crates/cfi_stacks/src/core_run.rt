@@ -278,19 +278,20 @@ fn print_threads<W: Write>(
     let name = shown_name(core.name);
     let threads = core.threads.as_slice();
     for thread in threads {
-        if is_asked_for(listing, thread) {
-            print_thread(
-                listing,
-                core.machine,
-                &process,
-                code.modules.as_slice(),
-                &memory,
-                name,
-                thread,
-                &mut room,
-                output,
-            )?;
+        if !is_asked_for(listing, thread) {
+            continue;
         }
+        print_thread(
+            listing,
+            core.machine,
+            &process,
+            code.modules.as_slice(),
+            &memory,
+            name,
+            thread,
+            &mut room,
+            output,
+        )?;
     }
     write_end(output, listing.format, core.error)
 }

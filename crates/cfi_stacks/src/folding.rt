@@ -112,21 +112,22 @@ fn fold_in(
         if left == Some(0) {
             return Ok(counts);
         }
-        if !is_left_out(choice, &replay, record) {
-            match replay.follow(record) {
-                Ok(()) => fold_followed(
-                    alloc,
-                    by_period,
-                    machine,
-                    &replay,
-                    record,
-                    &mut room,
-                    &mut line,
-                    &mut counts,
-                )?,
-                Err(_) => return Err(FoldedError::OutOfMemory),
-            }
-            left = left_after(left, record);
+        if is_left_out(choice, &replay, record) {
+            continue;
+        }
+        left = left_after(left, record);
+        match replay.follow(record) {
+            Ok(()) => fold_followed(
+                alloc,
+                by_period,
+                machine,
+                &replay,
+                record,
+                &mut room,
+                &mut line,
+                &mut counts,
+            )?,
+            Err(_) => return Err(FoldedError::OutOfMemory),
         }
     }
     Ok(counts)

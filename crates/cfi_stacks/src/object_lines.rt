@@ -1,18 +1,21 @@
 //! The frames of a stack as objects of JSON (RFC 8259).
-ghost use Rattle.std.specs.Prelude.{◌≡◌, ◌++◌, OnOk, codes, map, option_map};
+ghost use Rattle.std.specs.Prelude.{◌≡◌, ◌++◌, OnOk, Some, codes, map, option_map};
 ghost use Rattle.cfi_elf.specs.FunctionPlaces.{place_view};
+ghost use Rattle.cfi_processes.specs.KnownFiles.{known_view, site_of};
+ghost use Rattle.cfi_processes.specs.Mappings.{AreInOrder};
 ghost use Rattle.cfi_processes.specs.Sites.{site_view};
 ghost use Rattle.cfi_programs.specs.FunctionLines.{shown};
 ghost use Rattle.cfi_programs.specs.JsonLines.{escaped};
 ghost use Rattle.cfi_programs.specs.WriterOutput.{Writes};
 ghost use Rattle.cfi_stacks.specs.Reasons.{reason_view};
-ghost use Rattle.cfi_stacks.specs.StackObjects.{comma, end_member, file_member, frame_object};
+ghost use Rattle.cfi_stacks.specs.StackObjects.{end_member, file_member, frame_object};
 ghost use Rattle.cfi_stacks.specs.StackObjects.{function_in, function_members, object_end};
 ghost use Rattle.cfi_stacks.specs.StackObjects.{offset_member, place_member};
 
 use crate::names::shown;
 use crate::reasons::Reason;
 use cfi_elf::FunctionPlace;
+use cfi_processes::process_code::ProcessCode;
 use cfi_processes::{Name, Site};
 use cfi_programs::json::{push_number, write_escaped};
 use cfi_programs::lines::{write_between, write_text};
@@ -34,28 +37,31 @@ pub(crate) fn write_frame_object<W: Write>(
 {
     write_text(output, before)?;
     write_place_member(output, site.place)?;
-    write_function_members(output, function_in(raw, site.function))?;
+    write_function_members(output, raw, site.function)?;
     write_file_member(output, site.file)?;
     write_text(output, after)
 }
 
-/// Writes a comma, unless what comes is the first of all.
-pub(crate) fn write_comma<W: Write>(output: &mut W, is_first: bool) -> io::Result<()>
-    ensures { Writes (W.contents output.old) (W.contents output.new) result (comma is_first) }
+/// Writes the frame at an address between the beginning and the end of its object, as
+/// `write_frame_object` does. If it is `raw`, no function is looked up.
+pub(crate) fn write_code_object<W: Write>(
+    output: &mut W,
+    raw: bool,
+    before: &[u8],
+    code: &ProcessCode<'_, '_, '_>,
+    address: u64,
+    after: &[u8],
+) -> io::Result<()>
+    requires { AreInOrder 0 code.now.mappings.now }
+    ensures { Writes (W.contents output.old) (W.contents output.new) result
+        (frame_object raw before.now
+        (site_of (map known_view code.now.files.now) code.now.mappings.now address) after.now) }
 {
-    if is_first {
-        Ok(())
+    if raw {
+        write_frame_object(output, raw, before, code.place(address), after)
     } else {
-        write_text(output, b",")
+        write_frame_object(output, raw, before, code.site(address), after)
     }
-}
-
-/// The function, unless it is left out.
-fn function_in(raw: bool, place: Option<FunctionPlace<'_>>) -> Option<FunctionPlace<'_>>
-    ensures { option_map place_view result
-        ≡ function_in raw (option_map place_view place.entry) }
-{
-    if raw { None } else { place }
 }
 
 /// Writes the place in a file.
@@ -76,14 +82,19 @@ fn push_place_member(text: &mut Text, place: u64) -> fmt::Result
     push(text, b"\"")
 }
 
-/// Writes the name of a function and how far into it an address is, if it is known.
+/// Writes the name of a function and how far into it an address is, if it is known and the frame
+/// isn't `raw`.
 fn write_function_members<W: Write>(
     output: &mut W,
+    raw: bool,
     place: Option<FunctionPlace<'_>>,
 ) -> io::Result<()>
     ensures { Writes (W.contents output.old) (W.contents output.new) result
-        (function_members (option_map place_view place.entry)) }
+        (function_members (function_in raw (option_map place_view place.entry))) }
 {
+    if raw {
+        return Ok(());
+    }
     match place {
         None => Ok(()),
         Some(place) => write_function(output, place),

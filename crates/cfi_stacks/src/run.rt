@@ -453,12 +453,13 @@ fn print_in<W: Write>(
         if left == Some(0) {
             return write_end(output, style.format, error);
         }
-        if !is_left_out(choice, &replay, record) {
-            match replay.follow(record) {
-                Ok(()) => print_followed(style, machine, &replay, record, &mut room, output)?,
-                Err(_) => return write_refusal_in(output, style.format, Error::OutOfMemory),
-            }
-            left = left_after(left, record);
+        if is_left_out(choice, &replay, record) {
+            continue;
+        }
+        left = left_after(left, record);
+        match replay.follow(record) {
+            Ok(()) => print_followed(style, machine, &replay, record, &mut room, output)?,
+            Err(_) => return write_refusal_in(output, style.format, Error::OutOfMemory),
         }
     }
     write_end(output, style.format, error)

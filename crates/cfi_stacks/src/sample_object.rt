@@ -1,10 +1,9 @@
 //! A sample's stack as an object of JSON (RFC 8259).
-ghost use Rattle.std.specs.Prelude.{◌≡◌, ◌≤◌, ◌++◌, IfOk, OnOk, length, map, not, option_map};
+ghost use Rattle.std.specs.Prelude.{◌≡◌, ◌≤◌, ◌++◌, IfOk, OnOk, codes, length, map, not, option_map};
 ghost use Rattle.cfi_perf.specs.CallChains.{addresses_left};
 ghost use Rattle.cfi_perf.specs.Samples.{kernel_frames, sample_view};
-ghost use Rattle.cfi_processes.specs.KnownFiles.{chain_site, kernel_site, known_view, site_of};
+ghost use Rattle.cfi_processes.specs.KnownFiles.{chain_site, kernel_site, known_view};
 ghost use Rattle.cfi_processes.specs.Mappings.{AreInOrder};
-ghost use Rattle.cfi_processes.specs.Sites.{site_view};
 ghost use Rattle.cfi_processes.specs.ThreadNames.{bytes_of};
 ghost use Rattle.cfi_programs.specs.JsonLines.{separated};
 ghost use Rattle.cfi_programs.specs.WriterOutput.{Writes};
@@ -12,17 +11,18 @@ ghost use Rattle.cfi_stacks.specs.ProfileOutputs.{all_objects, chain_objects, re
 ghost use Rattle.cfi_stacks.specs.ProfileOutputs.{sample_object, sample_reason, stack_objects};
 ghost use Rattle.cfi_stacks.specs.ProfileOutputs.{user_objects, walk_objects};
 ghost use Rattle.cfi_stacks.specs.Reasons.{reason_view};
-ghost use Rattle.cfi_stacks.specs.StackObjects.{chain_object, comm_text, comma, cpu_member, listed};
+ghost use Rattle.cfi_stacks.specs.StackObjects.{closing, comm_text, comma, cpu_member, is_nil, listed};
 ghost use Rattle.cfi_stacks.specs.StackObjects.{nanoseconds_text, number_members, sample_head};
-ghost use Rattle.cfi_stacks.specs.StackObjects.{is_nil, shown_site, user_object};
 
-use crate::object_lines::{write_comma, write_frame_object, write_object_end, write_string};
+use crate::object_lines::{
+    write_code_object, write_comma, write_frame_object, write_object_end, write_string,
+};
 use crate::reasons::{Reason, reason_of, reason_without};
 use crate::stack_lines::{push_filled, write_without_name};
 use cfi_perf::{Addresses, Sample};
+use cfi_processes::Name;
 use cfi_processes::process_code::ProcessCode;
 use cfi_processes::sample_stack::NoFrames;
-use cfi_processes::{Name, Site};
 use cfi_programs::json::push_number;
 use cfi_programs::lines::write_text;
 use cfi_programs::text::{Text, push, push_decimal};
@@ -230,41 +230,10 @@ fn write_frames<W: Write>(
     let mut is_first = is_first;
     for frame in frames {
         let address = row_address(frame.pc, frame.is_interrupted);
-        write_user_frame(output, is_first, raw, shown_site(raw, code, address))?;
+        write_code_object(output, raw, opening(is_first), code, address, b"}")?;
         is_first = false;
     }
     Ok(())
-}
-
-/// Where the code at an address is; if it is `raw`, its function isn't looked up.
-pub(crate) fn shown_site<'run>(
-    raw: bool,
-    code: &ProcessCode<'_, '_, 'run>,
-    address: u64,
-) -> Site<'run>
-    requires { AreInOrder 0 code.now.mappings.now }
-    ensures { site_view result ≡ shown_site raw
-        (site_of (map known_view code.now.files.now) code.now.mappings.now address) }
-{
-    if raw {
-        code.place(address)
-    } else {
-        code.site(address)
-    }
-}
-
-/// Writes a frame of user space, behind a comma unless it is the first of all.
-fn write_user_frame<W: Write>(
-    output: &mut W,
-    is_first: bool,
-    raw: bool,
-    site: Site<'_>,
-) -> io::Result<()>
-    ensures { Writes (W.contents output.old) (W.contents output.new) result
-        (comma is_first ++ user_object raw (site_view site.entry)) }
-{
-    write_comma(output, is_first)?;
-    write_frame_object(output, raw, b"{", site, b"}")
 }
 
 /// Writes the frames of a call chain, behind a comma each, but for the one that is the first of all:
@@ -279,35 +248,34 @@ fn write_chain<W: Write>(
 ) -> io::Result<()>
     requires { AreInOrder 0 code.now.mappings.now }
     ensures { Writes (W.contents output.old) (W.contents output.new) result
-        (separated is_first (chain_objects (chain_object raw is_kernel)
+        (separated is_first (chain_objects raw is_kernel
         (chain_site is_kernel (map known_view code.now.files.now) code.now.mappings.now)
         (addresses_left addresses.entry))) }
 {
     let mut is_first = is_first;
     for address in addresses {
         let site = code.chain_site(is_kernel, address);
-        write_chain_frame(output, is_first, raw, is_kernel, site)?;
+        write_frame_object(output, raw, opening(is_first), site, closing(is_kernel))?;
         is_first = false;
     }
     Ok(())
 }
 
-/// Writes a frame of a call chain, behind a comma unless it is the first of all.
-fn write_chain_frame<W: Write>(
-    output: &mut W,
-    is_first: bool,
-    raw: bool,
-    is_kernel: bool,
-    site: Site<'_>,
-) -> io::Result<()>
-    ensures { Writes (W.contents output.old) (W.contents output.new) result
-        (comma is_first ++ chain_object raw is_kernel (site_view site.entry)) }
+/// The beginning of the object of a frame, behind a comma unless it is the first of all.
+fn opening(is_first: bool) -> &'static [u8]
+    ensures { result.now ≡ comma is_first ++ codes "{" }
 {
-    write_comma(output, is_first)?;
+    if is_first { b"{" } else { b",{" }
+}
+
+/// The end of the object of a frame.
+fn closing(is_kernel: bool) -> &'static [u8]
+    ensures { result.now ≡ closing is_kernel }
+{
     if is_kernel {
-        write_frame_object(output, raw, b"{", site, b",\"kernel\":true}")
+        b",\"kernel\":true}"
     } else {
-        write_frame_object(output, raw, b"{", site, b"}")
+        b"}"
     }
 }
 

@@ -7,7 +7,7 @@
 ghost use Rattle.std.specs.Prelude.{⊤};
 
 use cfi_processes::Opener;
-use cfi_stacks::unwind_profile;
+use cfi_stacks::{Choice, Listing, list_profile, unwind_profile};
 use cfi_tests_bytes::bytes_of;
 use std::process::Abort;
 use std::test::Fail;
@@ -86,6 +86,50 @@ const RAW: &str = ":7     7/7         1.000001:          1 cpu-clock:
 \t            8fff ([unknown])
 # no file with call frames is mapped here (NoModule)
 
+";
+
+/// The second sample alone.
+const SECOND: &str = ":8     7/8         1.000002:          1 cpu-clock:
+\t              b4 pushes+0x4 (/usr/pushes)
+\t              b4 pushes+0x4 (/usr/pushes)
+\t            8fff [unknown] ([unknown])
+# no file with call frames is mapped here (NoModule)
+
+";
+
+/// The first sample alone.
+const FIRST: &str = ":7     7/7         1.000001:          1 cpu-clock:
+# the sample has no registers of user space (NoRegisters)
+
+";
+
+/// Both as objects of JSON, by the form that docs/PROGRAMS.md has.
+const OBJECTS: &str = "\
+    {\"comm\":\":7\",\"pid\":7,\"tid\":7,\"time\":\"1.000001999\",\"period\":1,\"event\":\"cpu-clock\",\
+    \"frames\":[],\"end\":\"NoRegisters\"}
+{\"comm\":\":8\",\"pid\":7,\"tid\":8,\"time\":\"1.000002000\",\"period\":1,\"event\":\"cpu-clock\",\
+    \"frames\":[{\"place\":\"0xb4\",\"function\":\"pushes\",\"offset\":4,\"file\":\"/usr/pushes\"},\
+    {\"place\":\"0xb4\",\"function\":\"pushes\",\"offset\":4,\"file\":\"/usr/pushes\"},\
+    {\"place\":\"0x8fff\"}],\"end\":\"NoModule\"}
+";
+
+/// The first two samples of the two events, without functions.
+const OBJECTS_OF_TWO_EVENTS: &str = "\
+    {\"comm\":\"verylongprogram\",\"pid\":17261,\"tid\":17261,\"cpu\":2,\
+    \"time\":\"2384.958796901\",\"period\":3,\"event\":\"page-faults\",\
+    \"frames\":[{\"place\":\"0x7f6ee8efeb70\"}]}
+{\"comm\":\"verylongprogram\",\"pid\":17261,\"tid\":17261,\"cpu\":2,\
+    \"time\":\"2384.958948529\",\"period\":250000,\
+    \"event\":\"cpu-clock/call-graph=dwarf,stack-size=8/\",\
+    \"frames\":[{\"place\":\"0xffffffff816ec0e8\",\"kernel\":true},\
+    {\"place\":\"0xffffffff816ecf3e\",\"kernel\":true},\
+    {\"place\":\"0xffffffff816eeb96\",\"kernel\":true},\
+    {\"place\":\"0xffffffff816eff16\",\"kernel\":true},\
+    {\"place\":\"0xffffffff816d24f8\",\"kernel\":true},\
+    {\"place\":\"0xffffffff816d29cd\",\"kernel\":true},\
+    {\"place\":\"0xffffffff8225aa01\",\"kernel\":true},\
+    {\"place\":\"0xffffffff81000130\",\"kernel\":true},\
+    {\"place\":\"0x7f6ee8f04b1d\"}],\"end\":\"NoModule\"}
 ";
 
 /// Of `perf record -e cpu-clock/call-graph=dwarf,stack-size=8/ -e page-faults --sample-cpu`: the
@@ -269,4 +313,155 @@ fn two_events(rt: HostRuntime) -> Result<(), Fail> {
     )?;
     let cut = profile.as_slice().get(..930).unwrap_or_default();
     prints(&rt, false, cut, b"/usr/pushes", CUT, 1)
+}
+
+/// Compares what is listed of a profile whose file is there, and the status.
+fn lists(
+    rt: &(impl Abort + AllocGlobal),
+    listing: Listing,
+    choice: &Choice<'_>,
+    profile: &[u8],
+    text: &str,
+    status: u8,
+) -> Result<(), Fail> {
+    let bytes = bytes_of(rt.alloc(), FILE)?;
+    let opener = OneFile {
+        name: b"/usr/pushes",
+        bytes: bytes.as_slice(),
+    };
+    let mut output = Vec::new(rt.alloc());
+    let input = &mut &*profile;
+    let printed = list_profile(rt.alloc(), listing, choice, &opener, input, &mut output)?;
+    assert_eq!(rt;
+        (str::from_utf8(output.as_slice()), printed),
+        (Ok(text), status)
+    );
+    Ok(())
+}
+
+#[test]
+fn objects(rt: HostRuntime) -> Result<(), Fail> {
+    let profile = bytes_of(rt.alloc(), PROFILE)?;
+    let all = Choice::all();
+    lists(
+        &rt,
+        Listing::Json(false),
+        &all,
+        profile.as_slice(),
+        OBJECTS,
+        0,
+    )?;
+    let two = Choice {
+        limit: Some(2),
+        ..all
+    };
+    let events = bytes_of(rt.alloc(), TWO_EVENTS)?;
+    let of_two = OBJECTS_OF_TWO_EVENTS;
+    lists(&rt, Listing::Json(true), &two, events.as_slice(), of_two, 0)?;
+    let refusal = "{\"error\":\"NotPerf\"}\n";
+    lists(&rt, Listing::Json(false), &all, b"PERFILE1", refusal, 1)
+}
+
+#[test]
+fn chosen_samples(rt: HostRuntime) -> Result<(), Fail> {
+    let profile = bytes_of(rt.alloc(), PROFILE)?;
+    let all = Choice::all();
+    let choices = [
+        (
+            Choice {
+                tid: Some(8),
+                ..all
+            },
+            SECOND,
+        ),
+        (
+            Choice {
+                comm: Some(":8"),
+                ..all
+            },
+            SECOND,
+        ),
+        (
+            Choice {
+                from: Some(1_000_002_000),
+                ..all
+            },
+            SECOND,
+        ),
+        (
+            Choice {
+                until: Some(1_000_001_999),
+                ..all
+            },
+            FIRST,
+        ),
+        (
+            Choice {
+                limit: Some(1),
+                ..all
+            },
+            FIRST,
+        ),
+        (
+            Choice {
+                pid: Some(7),
+                event: Some("cpu-clock"),
+                limit: Some(2),
+                ..all
+            },
+            STACKS,
+        ),
+        (
+            Choice {
+                tid: Some(8),
+                limit: Some(1),
+                ..all
+            },
+            SECOND,
+        ),
+        (
+            Choice {
+                pid: Some(8),
+                ..all
+            },
+            "",
+        ),
+        (
+            Choice {
+                event: Some("cpu"),
+                ..all
+            },
+            "",
+        ),
+        (
+            Choice {
+                limit: Some(0),
+                ..all
+            },
+            "",
+        ),
+    ];
+    for (choice, text) in &choices {
+        lists(
+            &rt,
+            Listing::Frames(false),
+            choice,
+            profile.as_slice(),
+            text,
+            0,
+        )?;
+    }
+    let second = Choice {
+        tid: Some(8),
+        ..all
+    };
+    let folded = ":8;[unknown];pushes;pushes 1\n";
+    lists(
+        &rt,
+        Listing::Folded(false),
+        &second,
+        profile.as_slice(),
+        folded,
+        0,
+    )
 }

@@ -5,7 +5,7 @@ use Rattle.cfi_processes.specs.KnownFiles.{kernel_site, known_view}
 use Rattle.cfi_processes.specs.ThreadNames.{bytes_of}
 use Rattle.cfi_stacks.specs.ProfileOutputs.{frames_text}
 use Rattle.cfi_stacks.specs.StackTexts.{head_line}
-use Rattle.cfi_stacks.proofs.sample_text.print_found.Goals as goal
+use Rattle.cfi_stacks.proofs.sample_text.print_lines.Goals as goal
 
 pub returns-in_err-write_head : goal.returns-in_err-write_head
 returns-in_err-write_head g c =

@@ -4,7 +4,7 @@ use Rattle.cfi_processes.specs.KnownFiles.{known_view}
 use Rattle.cfi_processes.specs.ThreadNames.{bytes_of}
 use Rattle.cfi_stacks.specs.CoreOutputs.{core_walk_text}
 use Rattle.cfi_stacks.specs.StackTexts.{thread_line}
-use Rattle.cfi_stacks.proofs.core_text.print_found.Goals as goal
+use Rattle.cfi_stacks.proofs.core_text.print_lines.Goals as goal
 
 pub returns-in_err-write_thread : goal.returns-in_err-write_thread
 returns-in_err-write_thread g c =
