@@ -1,6 +1,7 @@
 -- What comes of the chosen samples of records, one record behind the other.
-use Rattle.std.proofs.Common.{◌≡◌, ◌∙◌, ◌&&◌, ◌-◌, ℕ, suc, zero, Bool, true, false, not, cond, true≢false, List, [], ◌∷◌, ◌++◌, Option, Some, None, take, refl, sym, ap, subst, append_assoc, append-nil}
+use Rattle.std.proofs.Common.{◌≡◌, ◌∙◌, ◌&&◌, ◌-◌, ℕ, suc, zero, Bool, true, false, not, cond, true≢false, List, [], ◌∷◌, ◌++◌, Option, Some, None, take, refl, sym, ap, subst, append_assoc, append-nil, arith, nat_eq}
 use Rattle.std.proofs.Math.Seq.{take-nil}
+use Rattle.std.specs.Option.{option_eq}
 use Rattle.cfi_perf.specs.Events.{Event, Record, ForkEvent, LostEvent, MappingEvent, OtherEvent, ProgramEvent, SampleEvent}
 use Rattle.cfi_processes.specs.KnownFiles.{KnownFile}
 use Rattle.cfi_processes.specs.Replays.{after}
@@ -17,10 +18,18 @@ IsKnownAfter files event before now =
 follows : (files : List KnownFile) (event : Event) (before now : Known) → IsKnownAfter files event before now → now ≡ known_after files event before
 follows files event before now is_after = λ i. record { mapped = λ pid. is_after.0 pid i; names = λ tid. is_after.1 tid i }
 
+-- whether no more may be printed
+full : (left : Option ℕ) → option_eq nat_eq left (Some 0) ≡ true → left ≡ Some 0
+full None is = absurd (true≢false (sym is))
+full (Some n) is = ap Some (grind arith)
+
 -- none is left of no more
 limited_none : {A : Type 0} (left : Option ℕ) → limited {A = A} left [] ≡ []
 limited_none None = refl
 limited_none (Some n) = take-nil n
+
+less_one : (n : ℕ) → suc n - 1 ≡ n
+less_one n = omega arith
 
 -- a list without its first item, if that isn't kept
 dropped : {X : Type 0} (b : Bool) (x : X) (xs : List X) → not (b && true) ≡ true → cond b (x ∷ xs) xs ≡ xs
@@ -71,18 +80,18 @@ module _ (files : List KnownFile) (choice : Choice) {A : Type 0} (IsOf : KnownSa
   with_first it samples text found (first, others, is, none, whole) are =
       (first, found, is, are, ap (λ (front : List A). front ++ found) (whole ∙ ap (λ (rest : List A). first ++ rest) none ∙ append-nil first))
 
-  within : (left : Option ℕ) (it : KnownSample) (samples : List KnownSample) (text found : List A) → (left ≡ Some 0 → ⊥) → AreOfAll IsOf (it ∷ []) text
+  within : (left : Option ℕ) (it : KnownSample) (samples : List KnownSample) (text found : List A) → option_eq nat_eq left (Some 0) ≡ false → AreOfAll IsOf (it ∷ []) text
       → AreOfAll IsOf (limited (left_after left (SampleEvent it.sample)) samples) found → AreOfAll IsOf (limited left (it ∷ samples)) (text ++ found)
   within None it samples text found some is are = with_first it samples text found is are
-  within (Some zero) it samples text found some is are = absurd (some refl)
-  within (Some (suc n)) it samples text found some is are = with_first it (take n samples) text found is are
+  within (Some zero) it samples text found some is are = absurd (true≢false some)
+  within (Some (suc n)) it samples text found some is are = with_first it (take n samples) text found is (subst (λ (k : ℕ). AreOfAll IsOf (take k samples) found) (less_one n) are)
 
-  kept : (b : Bool) (left : Option ℕ) (it : KnownSample) (more : List KnownSample) (text found : List A) → not (b && true) ≡ false → (left ≡ Some 0 → ⊥) → AreOfAll IsOf (it ∷ []) text
+  kept : (b : Bool) (left : Option ℕ) (it : KnownSample) (more : List KnownSample) (text found : List A) → not (b && true) ≡ false → option_eq nat_eq left (Some 0) ≡ false → AreOfAll IsOf (it ∷ []) text
       → AreOfAll IsOf (limited (left_after left (SampleEvent it.sample)) more) found → AreOfAll IsOf (limited left (cond b (it ∷ more) more)) (text ++ found)
   kept true left it more text found inside some is are = within left it more text found some is are
   kept false left it more text found inside some is are = absurd (true≢false inside)
 
-  followed : (before : Known) (time : ℕ) (event : Event) (left : Option ℕ) (text : List A) (rest : List Record) (found : List A) → is_left_out choice before time event ≡ false → (left ≡ Some 0 → ⊥)
+  followed : (before : Known) (time : ℕ) (event : Event) (left : Option ℕ) (text : List A) (rest : List Record) (found : List A) → is_left_out choice before time event ≡ false → option_eq nat_eq left (Some 0) ≡ false
       → AreOfAll IsOf (sample_at (known_after files event before) time event) text → AreLeft (left_after left event) (known_after files event before) rest found
       → AreLeft left before (record { time = time; event = event } ∷ rest) (text ++ found)
   followed before time (SampleEvent s) left text rest found inside some is are =
@@ -93,7 +102,7 @@ module _ (files : List KnownFile) (choice : Choice) {A : Type 0} (IsOf : KnownSa
   followed before time (LostEvent l) left text rest found inside some is are = subst (λ (front : List A). AreLeft left before (record { time = time; event = LostEvent l } ∷ rest) (front ++ found)) (sym is) are
   followed before time OtherEvent left text rest found inside some is are = subst (λ (front : List A). AreLeft left before (record { time = time; event = OtherEvent } ∷ rest) (front ++ found)) (sym is) are
 
-  pub one_more : (first all : List Record) (r : Record) (left : Option ℕ) (before now : Known) (front text : List A) → all ≡ first ++ r ∷ [] → is_left_out choice before r.time r.event ≡ false → (left ≡ Some 0 → ⊥)
+  pub one_more : (first all : List Record) (r : Record) (left : Option ℕ) (before now : Known) (front text : List A) → all ≡ first ++ r ∷ [] → is_left_out choice before r.time r.event ≡ false → option_eq nat_eq left (Some 0) ≡ false
       → GoesOn first left before front → IsKnownAfter files r.event before now → AreOfAll IsOf (sample_at now r.time r.event) text → GoesOn all (left_after left r.event) now (front ++ text)
   one_more first all r left before now front text is_all inside some so is_after is = subst (λ (records : List Record). GoesOn records (left_after left r.event) now (front ++ text)) (sym is_all) (record {
     goes_on = λ rest found are.
@@ -114,7 +123,7 @@ module _ (files : List KnownFile) (choice : Choice) {A : Type 0} (IsOf : KnownSa
       (subst (λ (found : List A). AreAll (first ++ []) found) (append-nil front) (so.goes_on [] [] (subst (λ (samples : List KnownSample). AreOfAll IsOf samples []) (sym (limited_none left)) refl)))
 
   -- no more may be printed: it is what comes of all
-  pub so_many : (first rest : List Record) (left : Option ℕ) (now : Known) (front : List A) → left ≡ Some 0 → GoesOn first left now front → AreAll (first ++ rest) front
-  so_many first rest left now front full so =
+  pub so_many : (first rest : List Record) (left : Option ℕ) (now : Known) (front : List A) → option_eq nat_eq left (Some 0) ≡ true → GoesOn first left now front → AreAll (first ++ rest) front
+  so_many first rest left now front none so =
       subst (λ (found : List A). AreAll (first ++ rest) found) (append-nil front)
-      (so.goes_on rest [] (subst (λ (n : Option ℕ). AreOfAll IsOf (limited n (chosen_of choice files now rest)) []) (sym full) refl))
+      (so.goes_on rest [] (subst (λ (n : Option ℕ). AreOfAll IsOf (limited n (chosen_of choice files now rest)) []) (sym (full left none)) refl))

@@ -1,5 +1,6 @@
 -- The samples of the records of a profile, counted by their folded stacks.
-use Rattle.std.proofs.Common.{◌≡◌, ◌∙◌, ◌⊎◌, ℕ, ◌+◌, ◌<◌, ◌≤◌, ◌^◌, Bool, List, [], ◌∷◌, ◌++◌, Option, None, Result, Ok, Err, OnOk, IfErr, length, get_or, take, drop, map, codes, add-one, refl, sym, ap, subst, inl, inr, append_assoc, append-nil, arith, unwrap_or, true, false}
+use Rattle.std.proofs.Common.{◌≡◌, ◌∙◌, ◌⊎◌, ℕ, ◌+◌, ◌<◌, ◌≤◌, ◌^◌, Bool, List, [], ◌∷◌, ◌++◌, Option, None, Result, Ok, Err, OnOk, IfErr, length, get_or, take, drop, map, codes, add-one, refl, sym, ap, subst, inl, inr, append_assoc, append-nil, arith, unwrap_or, true, false, nat_eq}
+use Rattle.std.specs.Option.{option_eq}
 use Rattle.std.proofs.Math.Seq.{drop-cons}
 use Rattle.std.proofs.lemmas.List.{take-append-drop}
 use Rattle.std.specs.List.{flat_map}
@@ -63,7 +64,7 @@ module _ (by_period : Bool) (machine : SampleMachine) (files : List KnownFile) (
   pub one_left_out : (first all : List Record) (r : Record) (left : Option ℕ) (now : Known) (counts : List Stack) → all ≡ first ++ r ∷ [] → is_left_out choice now r.time r.event ≡ true → SoFar first left now counts → SoFar all left now counts
   one_left_out first all r left now counts is_all out (samples, so, are) = (samples, one_passed files choice (IsSampleOf by_period machine files) first all r left now samples is_all out so, are)
 
-  pub one_so_far : (first all : List Record) (r : Record) (left : Option ℕ) (before now : Known) (old new : List Stack) → all ≡ first ++ r ∷ [] → is_left_out choice before r.time r.event ≡ false → (left ≡ Some 0 → ⊥) → SoFar first left before old
+  pub one_so_far : (first all : List Record) (r : Record) (left : Option ℕ) (before now : Known) (old new : List Stack) → all ≡ first ++ r ∷ [] → is_left_out choice before r.time r.event ≡ false → option_eq nat_eq left (Some 0) ≡ false → SoFar first left before old
       → IsKnownAfter files r.event before now → IsFollowed by_period machine files now r.time r.event old new → SoFar all (left_after left r.event) now new
   one_so_far first all r left before now old new is_all inside some (front, so, are) is_after (samples, is, adds) = (
     front ++ samples,
@@ -72,7 +73,7 @@ module _ (by_period : Bool) (machine : SampleMachine) (files : List KnownFile) (
   )
 
   pub refused_so_far : (n : ℕ) (records : List Record) (r : Record) (left : Option ℕ) (before now : Known) (old : List Stack) (error : FoldedError) → take (n + 1) records ≡ take n records ++ r ∷ [] → is_left_out choice before r.time r.event ≡ false
-      → (left ≡ Some 0 → ⊥) → SoFar (take n records) left before old → IsKnownAfter files r.event before now → IsNotFollowed by_period machine files now r.time r.event old error → IsUnfolded by_period machine files choice records error
+      → option_eq nat_eq left (Some 0) ≡ false → SoFar (take n records) left before old → IsKnownAfter files r.event before now → IsNotFollowed by_period machine files now r.time r.event old error → IsUnfolded by_period machine files choice records error
   refused_so_far n records r left before now old OutOfMemory is_next inside some so is_after h = tt
   refused_so_far n records r left before now old (NotFolded number) is_next inside some so is_after h = h
   refused_so_far n records r left before now old NoSamples is_next inside some so is_after h = h
@@ -92,7 +93,7 @@ module _ (by_period : Bool) (machine : SampleMachine) (files : List KnownFile) (
   )
 
   -- no more are counted
-  pub many_so_far : (n : ℕ) (records : List Record) (left : Option ℕ) (now : Known) (counts : List Stack) → left ≡ Some 0 → SoFar (take n records) left now counts → AreFolded by_period machine files choice records counts
+  pub many_so_far : (n : ℕ) (records : List Record) (left : Option ℕ) (now : Known) (counts : List Stack) → option_eq nat_eq left (Some 0) ≡ true → SoFar (take n records) left now counts → AreFolded by_period machine files choice records counts
   many_so_far n records left now counts full (samples, so, are) = (
     samples,
     subst (λ (of : List Record). AreSamples by_period machine files choice of samples) (take-append-drop n records)

@@ -1,5 +1,6 @@
 -- The stacks of the chosen samples of a profile, one after the other.
-use Rattle.std.proofs.Common.{◌≡◌, ◌∙◌, ℕ, ◌+◌, ◌<◌, ◌≤◌, List, [], ◌∷◌, ◌++◌, Option, Some, None, Result, Ok, Err, IfOk, length, get_or, take, drop, map, refl, sym, ap, subst, inl, inr, append_assoc, append-nil, add-one, true, false}
+use Rattle.std.proofs.Common.{◌≡◌, ◌∙◌, ℕ, ◌+◌, ◌<◌, ◌≤◌, List, [], ◌∷◌, ◌++◌, Option, Some, None, Result, Ok, Err, IfOk, length, get_or, take, drop, map, refl, sym, ap, subst, inl, inr, append_assoc, append-nil, add-one, true, false, nat_eq}
+use Rattle.std.specs.Option.{option_eq}
 use Rattle.std.proofs.Math.Seq.{take-suc}
 use Rattle.std.proofs.lemmas.List.{get_or-map, length-map, take-append-drop, take_all}
 use Rattle.std.specs.Io.KnownBytes.{Appends}
@@ -46,7 +47,7 @@ module _ (style : StackStyle) (machine : SampleMachine) (files : List KnownFile)
       → Followed first left now old new → Followed all left now old new
   one_left_out first all r left now old new is_all out (front, given, so) = (front, given, one_passed files choice (IsTextOf style machine files) first all r left now front is_all out so)
 
-  pub one_followed : (first all : List Record) (r : Record) (left : Option ℕ) (before now : Known) (old mid new : Option (List ℕ)) (text : List ℕ) → all ≡ first ++ r ∷ [] → is_left_out choice before r.time r.event ≡ false → (left ≡ Some 0 → ⊥)
+  pub one_followed : (first all : List Record) (r : Record) (left : Option ℕ) (before now : Known) (old mid new : Option (List ℕ)) (text : List ℕ) → all ≡ first ++ r ∷ [] → is_left_out choice before r.time r.event ≡ false → option_eq nat_eq left (Some 0) ≡ false
       → Followed first left before old mid → IsKnownAfter files r.event before now → AreTexts style machine files now r.time r.event text → Appends mid new text → Followed all (left_after left r.event) now old new
   one_followed first all r left before now old mid new text is_all inside some (front, given, so) is_after is more = (
     front ++ text,
@@ -64,7 +65,7 @@ module _ (style : StackStyle) (machine : SampleMachine) (files : List KnownFile)
 
   -- the text of the next record was begun
   pub broken : {E : Type 0} (n : ℕ) (records : List Record) (r : Record) (left : Option ℕ) (before now : Known) (old mid new : Option (List ℕ)) (error : Option PerfError) (result : Result ℕ E) (text : List ℕ) → IsErr result
-      → take (n + 1) records ≡ take n records ++ r ∷ [] → is_left_out choice before r.time r.event ≡ false → (left ≡ Some 0 → ⊥) → Followed (take n records) left before old mid → IsKnownAfter files r.event before now
+      → take (n + 1) records ≡ take n records ++ r ∷ [] → is_left_out choice before r.time r.event ≡ false → option_eq nat_eq left (Some 0) ≡ false → Followed (take n records) left before old mid → IsKnownAfter files r.event before now
       → AreTexts style machine files now r.time r.event text → ((begun : List ℕ) × Appends mid new begun × IsBeginning begun text) → PrintsSome (λ line. IsPrinted style machine files choice records error line) old new result
   broken n records r left before now old mid new error result text err is_next inside some (front, given, so) is_after is begun =
       let end : List ℕ = (no_memory style.format).text in
@@ -96,7 +97,7 @@ module _ (style : StackStyle) (machine : SampleMachine) (files : List KnownFile)
       (subst (λ (of : List Record). AreStacks style machine files choice of front) all (so_far files choice (IsTextOf style machine files) first left now front so)) prints
 
   -- no more may be printed
-  pub printed_many : {E : Type 0} (n : ℕ) (records : List Record) (left : Option ℕ) (now : Known) (old mid new : Option (List ℕ)) (error : Option PerfError) (r : Result ℕ E) → left ≡ Some 0 → Followed (take n records) left now old mid
+  pub printed_many : {E : Type 0} (n : ℕ) (records : List Record) (left : Option ℕ) (now : Known) (old mid new : Option (List ℕ)) (error : Option PerfError) (r : Result ℕ E) → option_eq nat_eq left (Some 0) ≡ true → Followed (take n records) left now old mid
       → Prints (ended style.format [] error) mid new r → PrintsSome (λ line. IsPrinted style machine files choice records error line) old new r
   printed_many n records left now old mid new error r full (front, given, so) prints =
       ended_with records old mid new error r front given

@@ -1,4 +1,4 @@
-use Rattle.std.proofs.Common.{◌≡◌, ◌∙◌, ◌+◌, ◌∷◌, ◌++◌, [], List, ap, ap₂, get_or, map, subst, take}
+use Rattle.std.proofs.Common.{◌≡◌, ◌∙◌, ◌+◌, ◌∷◌, ◌++◌, [], List, ap, ap₂, get_or, map, subst, sym, take}
 use Rattle.cfi_cores.specs.CoreFiles.{core_view}
 use Rattle.cfi_cores.specs.CoreMemories.{memory_view}
 use Rattle.cfi_cores.specs.declared.thread.CoreThread.{CoreThread as ThreadOfCode}
@@ -10,7 +10,7 @@ use Rattle.cfi_processes.specs.ThreadNames.{bytes_of}
 use Rattle.cfi_stacks.specs.CoreOutputs.{mappings_of, memory_of}
 use Rattle.cfi_stacks.proofs.CoreRunLemmas.{text_there}
 use Rattle.cfi_stacks.proofs.RoomLemmas.{room_for_all}
-use Rattle.cfi_stacks.proofs.ThreadLemmas.{Printed, all_threads, broken, next_thread, none_printed, one_printed, printed}
+use Rattle.cfi_stacks.proofs.ThreadLemmas.{Printed, all_threads, broken, next_thread, none_printed, one_passed, one_printed, printed}
 use Rattle.cfi_stacks.proofs.core_run.print_threads.Goals as goal
 
 no_thread : ThreadOfCode
@@ -44,7 +44,7 @@ loop-thread-preserved g c =
     let lent : memory_view c.new-memory.result ≡ record { dumped = core.segments; mapped = windows } =
     c.new-memory.ensures ∙ ap₂ (λ (dumped lent : List CoreSegment). record { dumped = map segment_view dumped; mapped = map segment_view lent }) c.as_slice-2.ensures.value c.as_slice-3.ensures.value in (
       one_printed c.args.listing files memory core (take i (map thread_view threads)) (take (i + 1) (map thread_view threads)) (thread_view t) _ _ _ text
-          (next_thread thread_view threads i no_thread c.loop-thread-test.true) c.loop-thread.invariant.0
+          (next_thread thread_view threads i no_thread c.loop-thread-test.true) (sym c.is_asked_for.ensures ∙ c.if-is_asked_for.false) c.loop-thread.invariant.0
           (text_there c.args.listing core.machine files c.as_slice.result.now (mappings_of files core.segments core.mapped) (memory_view c.new-memory.result) (record { dumped = core.segments; mapped = windows }) (bytes_of c.shown_name-name.result) core.name (thread_view t) text mapped lent c.shown_name-name.ensures is) written,
       c.in_ok-print_thread.ensures.cached,
     )
@@ -65,6 +65,20 @@ returns-in_err-print_thread g c =
     let lent : memory_view c.new-memory.result ≡ record { dumped = core.segments; mapped = windows } =
     c.new-memory.ensures ∙ ap₂ (λ (dumped lent : List CoreSegment). record { dumped = map segment_view dumped; mapped = map segment_view lent }) c.as_slice-2.ensures.value c.as_slice-3.ensures.value in
     broken c.args.listing files memory core i (thread_view t) _ _ _ c.from_residual.result text c.from_residual.ensures.0
-    (subst (λ (ts : List CoreThread). take (i + 1) ts ≡ take i ts ++ thread_view t ∷ []) all (next_thread thread_view threads i no_thread c.loop-thread-test.true))
+    (subst (λ (ts : List CoreThread). take (i + 1) ts ≡ take i ts ++ thread_view t ∷ []) all (next_thread thread_view threads i no_thread c.loop-thread-test.true)) (sym c.is_asked_for.ensures ∙ c.if-is_asked_for.false)
     (subst (λ (ts : List CoreThread). Printed c.args.listing files memory core (take i ts) (g.W.Write.contents c.args.output.now) (g.W.Write.contents c.loop-thread.output)) all c.loop-thread.invariant.0)
     (text_there c.args.listing core.machine files c.as_slice.result.now (mappings_of files core.segments core.mapped) (memory_view c.new-memory.result) (record { dumped = core.segments; mapped = windows }) (bytes_of c.shown_name-name.result) core.name (thread_view t) text mapped lent c.shown_name-name.ensures is) begun
+
+pub loop-thread-preserved-then-is_asked_for : goal.loop-thread-preserved-then-is_asked_for
+unfolding no_thread
+loop-thread-preserved-then-is_asked_for g c =
+    let core = core_view c.args.core.now in
+    let files = map known_view c.args.files.now in
+    let memory = memory_of core (map segment_view c.args.code.now.windows.items) in
+    let threads = c.as_slice-threads.result.now in
+    let i = c.loop-thread.thread-index in
+    let t = get_or threads i no_thread in (
+      one_passed c.args.listing files memory core (take i (map thread_view threads)) (take (i + 1) (map thread_view threads)) (thread_view t) _ _
+          (next_thread thread_view threads i no_thread c.loop-thread-test.true) (sym c.is_asked_for.ensures ∙ c.if-is_asked_for.true) c.loop-thread.invariant.0,
+      c.loop-thread.invariant.1,
+    )
