@@ -178,13 +178,7 @@ fn write_core_frame<W: Write>(
 {
     let mut before = Text::new();
     push_opening(&mut before, is_first, address)?;
-    write_frame_object(
-        output,
-        raw,
-        before.as_slice(),
-        shown_site(raw, code, address),
-        b"}",
-    )
+    write_code_object(output, raw, before.as_slice(), code, address, b"}")
 }
 
 /// Appends the beginning of the object of a frame, with its address, behind a comma unless it is the

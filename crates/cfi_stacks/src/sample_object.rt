@@ -14,9 +14,7 @@ ghost use Rattle.cfi_stacks.specs.Reasons.{reason_view};
 ghost use Rattle.cfi_stacks.specs.StackObjects.{closing, comm_text, comma, cpu_member, is_nil, listed};
 ghost use Rattle.cfi_stacks.specs.StackObjects.{nanoseconds_text, number_members, sample_head};
 
-use crate::object_lines::{
-    write_code_object, write_comma, write_frame_object, write_object_end, write_string,
-};
+use crate::object_lines::{write_code_object, write_frame_object, write_object_end, write_string};
 use crate::reasons::{Reason, reason_of, reason_without};
 use crate::stack_lines::{push_filled, write_without_name};
 use cfi_perf::{Addresses, Sample};
