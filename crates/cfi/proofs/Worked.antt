@@ -231,11 +231,11 @@ below_a_root = refl
 no_absolute_path : path_below (Some (codes "/mnt")) (codes "[vdso]") ≡ codes "[vdso]"
 no_absolute_path = refl
 
-a_copy : copy_path no_folders (codes "/home") (1 ∷ 171 ∷ 35 ∷ []) ≡ codes "/home/.debug/.build-id/01/ab23/elf"
+a_copy : copy_path no_folders (codes "/h") (1 ∷ 171 ∷ 35 ∷ []) ≡ codes "/h/.debug/.build-id/01/ab23/elf"
 unfolding encode_with
 a_copy = refl
 
-a_copy_below_a_root : copy_path (record no_folders { symfs = Some (codes "/mnt") }) (codes "/home") (1 ∷ 171 ∷ []) ≡ codes "/mnt/.debug/.build-id/01/ab/elf"
+a_copy_below_a_root : copy_path (record no_folders { symfs = Some (codes "/mnt") }) (codes "/h") (1 ∷ 171 ∷ []) ≡ codes "/mnt/.debug/.build-id/01/ab/elf"
 unfolding encode_with
 a_copy_below_a_root = refl
 

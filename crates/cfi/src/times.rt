@@ -13,8 +13,8 @@ pub struct Times {
     pub until: Option<u64>,
 }
 
-/// Parses `FROM,UNTIL`, of which each may be empty: seconds, and behind a dot at most nine decimals.
-/// `None` for other texts, and where a time isn't below 2^64 nanoseconds.
+/// Parses `FROM,UNTIL`, of which each may be empty: seconds, and behind a dot at most nine
+/// decimals. `None` for other texts, and where a time isn't below 2^64 nanoseconds.
 pub fn times_of(text: &str) -> Option<Times>
     ensures { result ≡ times_of text.now }
 {
