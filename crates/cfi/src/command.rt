@@ -484,16 +484,8 @@ fn with_samples<'w>(
             "NAME",
             "Takes the samples of the threads with this name alone",
         ))?
-        .arg(number_option(
-            alloc,
-            "pid",
-            "Takes the samples of this process alone",
-        ))?
-        .arg(number_option(
-            alloc,
-            "tid",
-            "Takes the samples of this thread alone",
-        ))?
+        .arg(number_option(alloc, "pid", "Takes the samples of this process alone"))?
+        .arg(number_option(alloc, "tid", "Takes the samples of this thread alone"))?
         .arg(text_option(
             alloc,
             "event",
