@@ -22,7 +22,10 @@ use Rattle.cfi_files.specs.declared.finding.Finding.TheVariants.{Unreadable}
 use Rattle.cfi_files.specs.declared.request.Request.{Request}
 use Rattle.cfi_stacks.specs.CoreOutputs.{IsOwed as IsOwedOfCore}
 use Rattle.cfi_stacks.specs.ProfileOutputs.{IsListingOwed as IsOwedOfProfile}
+use Rattle.cfi_stacks.specs.Choices.{Choice}
 use Rattle.cfi_stacks.specs.declared.listing.Listing.{Listing}
+use Rattle.cfi_stacks.specs.declared.listing.ThreadListing.{ThreadListing}
+use Rattle.cfi.specs.Folders.{Folders}
 use Rattle.cfi.specs.CommandLine.{Asked, cfi_app}
 use Rattle.cfi.specs.Forms.{format_names}
 use Rattle.cfi.specs.declared.files.CheckStyle.{CheckStyle}
@@ -183,19 +186,19 @@ checked_of disk style name file old new r may (bytes, left, (finding, printed, w
 pub unreadable : (E : Type 0) (disk : Disk) (style : CheckStyle) (name : Text) (old : Option (List ℕ)) → MayOpenNamed disk name None → ChecksSome {E = E} (λ finding line. IsCheck disk style name finding line) old old (Ok Unreadable)
 unreadable E disk style name old may = (Unreadable, nothing, none_yet old, refl, (None, may, (refl, refl)))
 
-pub stacks_of : {E : Type 0} (disk : Disk) (listing : Listing) (name : Text) (file : disk.Handle) (old new : Option (List ℕ)) (r : Result ℕ E) → MayOpenNamed disk name (Some file) →
-    ((bytes : List ℕ) × AreLeft (disk.bytes_of file) bytes × PrintsSome (λ line. IsOwedOfProfile listing (MayOpenAt disk) disk.bytes_of bytes line) old new r) → PrintsSome (λ line. AreStacks disk listing name line) old new r
-stacks_of disk listing name file old new r may (bytes, left, (printed, prints, owed)) = (printed, prints, (Some file, may, (bytes, left, owed)))
+pub stacks_of : {E : Type 0} (disk : Disk) (listing : Listing) (choice : Choice) (folders : Folders) (name : Text) (file : disk.Handle) (old new : Option (List ℕ)) (r : Result ℕ E) → MayOpenNamed disk name (Some file) →
+    ((bytes : List ℕ) × AreLeft (disk.bytes_of file) bytes × PrintsSome (λ line. IsOwedOfProfile listing choice (MayOpenAt disk folders) disk.bytes_of bytes line) old new r) → PrintsSome (λ line. AreStacks disk listing choice folders name line) old new r
+stacks_of disk listing choice folders name file old new r may (bytes, left, (printed, prints, owed)) = (printed, prints, (Some file, may, (bytes, left, owed)))
 
-pub no_stacks : (E : Type 0) (disk : Disk) (listing : Listing) (name : Text) (old : Option (List ℕ)) → MayOpenNamed disk name None → PrintsSome {E = E} (λ line. AreStacks disk listing name line) old old (Ok 2)
-no_stacks E disk listing name old may = (nothing, (none_yet old, refl), (None, may, refl))
+pub no_stacks : (E : Type 0) (disk : Disk) (listing : Listing) (choice : Choice) (folders : Folders) (name : Text) (old : Option (List ℕ)) → MayOpenNamed disk name None → PrintsSome {E = E} (λ line. AreStacks disk listing choice folders name line) old old (Ok 2)
+no_stacks E disk listing choice folders name old may = (nothing, (none_yet old, refl), (None, may, refl))
 
-pub threads_of : {E : Type 0} (disk : Disk) (raw : Bool) (name : Text) (file : disk.Handle) (old new : Option (List ℕ)) (r : Result ℕ E) → MayOpenNamed disk name (Some file) →
-    ((bytes : List ℕ) × AreLeft (disk.bytes_of file) bytes × PrintsSome (λ line. IsOwedOfCore raw (MayOpenAt disk) disk.bytes_of bytes line) old new r) → PrintsSome (λ line. AreThreads disk raw name line) old new r
-threads_of disk raw name file old new r may (bytes, left, (printed, prints, owed)) = (printed, prints, (Some file, may, (bytes, left, owed)))
+pub threads_of : {E : Type 0} (disk : Disk) (listing : ThreadListing) (folders : Folders) (name : Text) (file : disk.Handle) (old new : Option (List ℕ)) (r : Result ℕ E) → MayOpenNamed disk name (Some file) →
+    ((bytes : List ℕ) × AreLeft (disk.bytes_of file) bytes × PrintsSome (λ line. IsOwedOfCore listing (MayOpenAt disk folders) disk.bytes_of bytes line) old new r) → PrintsSome (λ line. AreThreads disk listing folders name line) old new r
+threads_of disk listing folders name file old new r may (bytes, left, (printed, prints, owed)) = (printed, prints, (Some file, may, (bytes, left, owed)))
 
-pub no_threads : (E : Type 0) (disk : Disk) (raw : Bool) (name : Text) (old : Option (List ℕ)) → MayOpenNamed disk name None → PrintsSome {E = E} (λ line. AreThreads disk raw name line) old old (Ok 2)
-no_threads E disk raw name old may = (nothing, (none_yet old, refl), (None, may, refl))
+pub no_threads : (E : Type 0) (disk : Disk) (listing : ThreadListing) (folders : Folders) (name : Text) (old : Option (List ℕ)) → MayOpenNamed disk name None → PrintsSome {E = E} (λ line. AreThreads disk listing folders name line) old old (Ok 2)
+no_threads E disk listing folders name old may = (nothing, (none_yet old, refl), (None, may, refl))
 
 pub summary_is : {E : Type 0} (disk : Disk) (summary : Summary) (name : Text) (file : disk.Handle) (old new : Option (List ℕ)) (r : Result ℕ E) → MayOpenNamed disk name (Some file) →
     ((bytes : List ℕ) × AreLeft (disk.bytes_of file) bytes × PrintsSome (λ line. IsOwedOfFolded summary bytes line) old new r) → PrintsSome (λ line. IsSummary disk summary name line) old new r
@@ -272,15 +275,15 @@ pub wordless : (disk : Disk) (old : Option (List ℕ)) → PrintsRun disk None o
 wordless disk old = (nothing, refl, ([], none_yet old, inl (refl, refl)))
 
 -- what is right by the bytes that are left of each file is right by its bytes
-pub same_stacks : {Handle E : Type 0} (may_open : FileKind → Text → Option Handle → Type 0) (left known : Handle → Option (List ℕ)) → ((file : Handle) → left file ≡ known file) → (listing : Listing) (name : Text) (old new : Option (List ℕ)) (r : Result ℕ E) →
-    PrintsSome (λ line. AreStacks (disk_of may_open left) listing name line) old new r → PrintsSome (λ line. AreStacks (disk_of may_open known) listing name line) old new r
-same_stacks {Handle = Handle} may_open left known same listing name old new r =
-    subst (λ (bytes_of : Handle → Option (List ℕ)). PrintsSome (λ line. AreStacks (disk_of may_open bytes_of) listing name line) old new r) (λ i file. same file i)
+pub same_stacks : {Handle E : Type 0} (may_open : FileKind → Text → Option Handle → Type 0) (left known : Handle → Option (List ℕ)) → ((file : Handle) → left file ≡ known file) → (listing : Listing) (choice : Choice) (folders : Folders) (name : Text) (old new : Option (List ℕ)) (r : Result ℕ E) →
+    PrintsSome (λ line. AreStacks (disk_of may_open left) listing choice folders name line) old new r → PrintsSome (λ line. AreStacks (disk_of may_open known) listing choice folders name line) old new r
+same_stacks {Handle = Handle} may_open left known same listing choice folders name old new r =
+    subst (λ (bytes_of : Handle → Option (List ℕ)). PrintsSome (λ line. AreStacks (disk_of may_open bytes_of) listing choice folders name line) old new r) (λ i file. same file i)
 
-pub same_threads : {Handle E : Type 0} (may_open : FileKind → Text → Option Handle → Type 0) (left known : Handle → Option (List ℕ)) → ((file : Handle) → left file ≡ known file) → (raw : Bool) (name : Text) (old new : Option (List ℕ)) (r : Result ℕ E) →
-    PrintsSome (λ line. AreThreads (disk_of may_open left) raw name line) old new r → PrintsSome (λ line. AreThreads (disk_of may_open known) raw name line) old new r
-same_threads {Handle = Handle} may_open left known same raw name old new r =
-    subst (λ (bytes_of : Handle → Option (List ℕ)). PrintsSome (λ line. AreThreads (disk_of may_open bytes_of) raw name line) old new r) (λ i file. same file i)
+pub same_threads : {Handle E : Type 0} (may_open : FileKind → Text → Option Handle → Type 0) (left known : Handle → Option (List ℕ)) → ((file : Handle) → left file ≡ known file) → (listing : ThreadListing) (folders : Folders) (name : Text) (old new : Option (List ℕ)) (r : Result ℕ E) →
+    PrintsSome (λ line. AreThreads (disk_of may_open left) listing folders name line) old new r → PrintsSome (λ line. AreThreads (disk_of may_open known) listing folders name line) old new r
+same_threads {Handle = Handle} may_open left known same listing folders name old new r =
+    subst (λ (bytes_of : Handle → Option (List ℕ)). PrintsSome (λ line. AreThreads (disk_of may_open bytes_of) listing folders name line) old new r) (λ i file. same file i)
 
 pub same_summary : {Handle E : Type 0} (may_open : FileKind → Text → Option Handle → Type 0) (left known : Handle → Option (List ℕ)) → ((file : Handle) → left file ≡ known file) → (summary : Summary) (name : Text) (old new : Option (List ℕ)) (r : Result ℕ E) →
     PrintsSome (λ line. IsSummary (disk_of may_open left) summary name line) old new r → PrintsSome (λ line. IsSummary (disk_of may_open known) summary name line) old new r

@@ -1,4 +1,5 @@
 use Rattle.std.proofs.Common.{ℕ}
+use Rattle.cfi.specs.Folders.{folders_view}
 use Rattle.cfi.specs.Process.{disk_of}
 use Rattle.cfi.proofs.ProcessLemmas.{no_threads, same_threads, threads_of}
 use Rattle.cfi.proofs.print_threads.Goals as goal
@@ -8,10 +9,10 @@ returns-in-Some g c =
     let may_open = g.S.System.may_open c.args.system.now in
     let left = g.S.File.Read.remaining in
     let old = g.W.Write.contents c.args.output.now in
-    same_threads may_open left g.S.File.FileInput.bytes g.met.S.System.same_bytes c.args.raw c.args.file.now old _ c.print_core.result
-    (threads_of (disk_of may_open left) c.args.raw c.args.file.now _ old _ c.print_core.result
+    same_threads may_open left g.S.File.FileInput.bytes g.met.S.System.same_bytes c.args.listing (folders_view c.args.folders) c.args.file.now old _ c.print_core.result
+    (threads_of (disk_of may_open left) c.args.listing (folders_view c.args.folders) c.args.file.now _ old _ c.print_core.result
     c.in-Some.ensures c.print_core.ensures)
 
 pub returns-in-None : goal.returns-in-None
 returns-in-None g c =
-    no_threads ℕ (disk_of (g.S.System.may_open c.args.system.now) g.S.File.FileInput.bytes) c.args.raw c.args.file.now (g.W.Write.contents c.args.output.now) c.in-None.ensures
+    no_threads ℕ (disk_of (g.S.System.may_open c.args.system.now) g.S.File.FileInput.bytes) c.args.listing (folders_view c.args.folders) c.args.file.now (g.W.Write.contents c.args.output.now) c.in-None.ensures
