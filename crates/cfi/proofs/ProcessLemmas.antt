@@ -35,7 +35,7 @@ use Rattle.cfi.specs.FlameOutputs.{IsOwed as IsOwedOfFolded}
 use Rattle.cfi.specs.Findings.{greatest_status, tally_in}
 use Rattle.cfi.specs.Words.{asked}
 use Rattle.cfi_programs.specs.declared.style.Format.{Format}
-use Rattle.cfi.specs.Tasks.{of_request, task_for}
+use Rattle.cfi.specs.Tasks.{Task, no_times, of_request, task_for}
 use Rattle.cfi.specs.Process.{AreChecks, AreStacks, AreTallied, AreThreads, Checks, ChecksStyled, Disk, Ends, IsAnswer, IsAnswerTo, IsCheck, IsCheckOf, IsPrint, IsStatusAfter, IsStatusOf, IsSummary, MayOpenAt, MayOpenNamed, PrintsRun, WritesChecks, disk_of, kept, no_checks, nothing, tallied, tally_line, with_check}
 
 -- ---- checks one after the other
@@ -270,6 +270,10 @@ explained disk words (Some command) error old status kinds memory after =
 pub refused : (disk : Disk) (words : List Text) (error : Error) (old : Option (List ℕ)) (status : ℕ) → IsFault words error →
     (IsSome (asked words) → kind_of error ≡ OutOfMemory) → IsStatusAfter (kind_of error) status → PrintsRun disk (Some words) old old status
 refused disk words error old status kinds memory after = explained disk words (asked words) error old status kinds memory after
+
+-- where a text isn't two times
+pub no_times_told : (E : Type 0) (disk : Disk) (task : Task) (text : Text) (old : Option (List ℕ)) → no_times text ≡ task → PrintsSome {E = E} (λ line. IsAnswer disk task line) old old (Ok 2)
+no_times_told E disk task text old is = (nothing, (none_yet old, refl), subst (λ (what : Task). IsAnswer disk what nothing) is refl)
 
 pub wordless : (disk : Disk) (old : Option (List ℕ)) → PrintsRun disk None old old 2
 wordless disk old = (nothing, refl, ([], none_yet old, inl (refl, refl)))
