@@ -2,7 +2,7 @@
 -- of .eh_frame else, and beside a header.
 use Rattle.std.proofs.Common.{◌≡◌, ℕ, Bool, true, false, List, [], ◌∷◌, Result, Ok, Err, refl, codes}
 use Rattle.cfi_read_core.specs.declared.error.Error.{Error}
-use Rattle.cfi_read_core.specs.declared.error.Error.TheVariants.{OffsetOutOfBounds}
+use Rattle.cfi_read_core.specs.declared.error.Error.TheVariants.{NoUnwindInfoForAddress, OffsetOutOfBounds}
 use Rattle.cfi_entry.specs.Fdes.{Fde, end_of}
 use Rattle.cfi_entry.specs.Sections.{DebugFrame, EhFrame}
 use Rattle.cfi_unwind.specs.Scan.{chosen_fde}
@@ -10,9 +10,9 @@ use Rattle.gimli_cfi.proofs.Computing.{bytes, computing}
 use Rattle.cfi_c.specs.declared.stack.CfiModule.{CfiModule}
 use Rattle.cfi_c.specs.PassedStacks.{section_in}
 
--- a CIE of .debug_frame, and the FDE of 0x1000 to 0x1020
+-- a CIE of .debug_frame, which gives no size of an address, and the FDE of 0x1000 to 0x1020
 abbrev frames : List ℕ
-frames = bytes (codes "10000000 ffffffff 04000800 017810 0c0708 9001 1c000000 00000000 0010000000000000 2000000000000000 41 0e10 8602 43 0d06")
+frames = bytes (codes "10000000 ffffffff 0300 017810 0c0708 9001 0000 1c000000 00000000 0010000000000000 2000000000000000 41 0e10 8602 43 0d06")
 
 abbrev module_of : Bool → List ℕ → CfiModule
 module_of debug_frame header = record {
@@ -31,6 +31,11 @@ shown (Err e) = Err e
 debug_frame_chosen : shown (chosen_fde (section_in 8 (module_of true [])) 0x1002) ≡ Ok (20 ∷ 0x1000 ∷ 0x1020 ∷ [])
 unfolding computing
 debug_frame_chosen = refl
+
+-- of four bytes, 0x1000 is followed by a length of 0
+by_another_size : shown (chosen_fde (section_in 4 (module_of true [])) 0x1002) ≡ Err NoUnwindInfoForAddress
+unfolding computing
+by_another_size = refl
 
 -- in .eh_frame 0xffffffff is how far before it the CIE is
 same_bytes_of_eh_frame : shown (chosen_fde (section_in 8 (module_of false [])) 0x1002) ≡ Err (OffsetOutOfBounds 0xffffffff)
