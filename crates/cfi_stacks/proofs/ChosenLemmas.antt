@@ -24,7 +24,7 @@ full None is = absurd (true≢false (sym is))
 full (Some n) is = ap Some (grind arith)
 
 -- none is left of no more
-limited_none : {A : Type 0} (left : Option ℕ) → limited {A = A} left [] ≡ []
+pub limited_none : {A : Type 0} (left : Option ℕ) → limited {A = A} left [] ≡ []
 limited_none None = refl
 limited_none (Some n) = take-nil n
 

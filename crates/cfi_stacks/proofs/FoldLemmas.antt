@@ -1,5 +1,5 @@
 -- The samples of the records of a profile, counted by their folded stacks.
-use Rattle.std.proofs.Common.{◌≡◌, ◌∙◌, ◌⊎◌, ℕ, ◌+◌, ◌<◌, ◌≤◌, ◌^◌, Bool, List, [], ◌∷◌, ◌++◌, Option, None, Result, Ok, Err, OnOk, IfErr, length, get_or, take, drop, map, codes, add-one, refl, sym, ap, subst, inl, inr, append_assoc, append-nil, arith, unwrap_or, true, false, nat_eq}
+use Rattle.std.proofs.Common.{◌≡◌, ◌∙◌, ◌⊎◌, ℕ, ◌+◌, ◌<◌, ◌≤◌, ◌^◌, Bool, List, [], ◌∷◌, ◌++◌, Option, Some, None, Result, Ok, Err, OnOk, IfErr, length, get_or, take, drop, map, codes, add-one, refl, sym, ap, subst, inl, inr, append_assoc, append-nil, arith, unwrap_or, true, false, nat_eq}
 use Rattle.std.specs.Option.{option_eq}
 use Rattle.std.proofs.Math.Seq.{drop-cons}
 use Rattle.std.proofs.lemmas.List.{take-append-drop}
@@ -107,6 +107,7 @@ module _ (by_period : Bool) (machine : SampleMachine) (files : List KnownFile) (
   counts_printed records folded error old new r are (printed, prints, inl e) = (printed, prints, inl (folded, are, e))
   counts_printed records folded error old new r are (printed, prints, inr e) = (printed, prints, inr (OutOfMemory, tt, e))
 
+module _ (by_period : Bool) (machine : SampleMachine) (files : List KnownFile) where
   -- ---- a sample
 
   alone : (it : KnownSample) (stack : Stack) → IsSampleOf by_period machine files it (stack ∷ []) → AreOfAll (IsSampleOf by_period machine files) (it ∷ []) (stack ∷ [])

@@ -18,8 +18,8 @@ use Rattle.cfi_processes.specs.KnownFiles.{KnownFile}
 use Rattle.cfi_stacks.specs.declared.listing.StackStyle.{StackStyle}
 use Rattle.cfi_stacks.specs.Choices.{Choice}
 use Rattle.cfi_stacks.specs.Foldings.{AreTexts, is_left_out, left_after}
-use Rattle.cfi_stacks.specs.ProfileOutputs.{AreStacks, IsPrinted, IsTextOf, Known, ended, no_memory}
-use Rattle.cfi_stacks.proofs.ChosenLemmas.{GoesOn, IsKnownAfter, none_gone, one_more, one_passed, so_far, so_many}
+use Rattle.cfi_stacks.specs.ProfileOutputs.{AreOfAll, AreStacks, IsPrinted, IsTextOf, Known, KnownSample, ended, no_memory}
+use Rattle.cfi_stacks.proofs.ChosenLemmas.{GoesOn, IsKnownAfter, limited_none, none_gone, one_more, one_passed, so_far, so_many}
 
 -- a text, and the error that ended the records behind it
 pub behind : (format : Format) (front : List ℕ) (error : Option PerfError) → record { text = front ++ (ended format [] error).text; status = (ended format [] error).status } ≡ ended format front error
@@ -62,6 +62,10 @@ module _ (style : StackStyle) (machine : SampleMachine) (files : List KnownFile)
     (last_written old mid new r front (no_memory style.format).text given written, status),
     inr (n, front, so_far files choice (IsTextOf style machine files) (take n records) left now front so, refl),
   )
+
+  -- or before all of them
+  pub before_all : (records : List Record) (error : Option PerfError) → IsPrinted style machine files choice records error (no_memory style.format)
+  before_all records error = inr (0, [], subst (λ (samples : List KnownSample). AreOfAll (IsTextOf style machine files) samples []) (sym (limited_none choice.limit)) refl, refl)
 
   -- the text of the next record was begun
   pub broken : {E : Type 0} (n : ℕ) (records : List Record) (r : Record) (left : Option ℕ) (before now : Known) (old mid new : Option (List ℕ)) (error : Option PerfError) (result : Result ℕ E) (text : List ℕ) → IsErr result

@@ -4,8 +4,8 @@
 --     with_vdso core opened      the files that were opened, and the vdso as the core has it
 --     mappings_of files segments mapped      what is mapped as code, with the files' numbers
 --     AreWindows opened mapped windows      what the files have of the memory, by its addresses
---     IsThreadText listing machine files list memory thread text      the text of a thread's stack, or
---         its object of JSON
+--     IsThreadText listing machine files list memory thread text      the text of a thread's stack,
+--         or its object of JSON
 --     asked_for listing threads      the threads that are printed
 --     IsPrinted listing files memory core line      their texts, and then the error that ended the
 --         notes
@@ -218,11 +218,13 @@ is_asked_for listing thread = option_map_or (λ tid. thread.tid == tid) listing.
 abbrev pub asked_for : ThreadListing → List CoreThread → List CoreThread
 asked_for listing threads = filter (is_asked_for listing) threads
 
--- of all notes none is of the thread that is asked for
+-- all notes were read, and none is of a thread that is printed
+abbrev pub lacks_any : ThreadListing → Core → Bool
+lacks_any listing core =
+    is_none core.error && not (list_any (is_asked_for listing) core.threads)
+
 abbrev pub lacks_thread : ThreadListing → Core → Bool
-lacks_thread listing core =
-    is_some listing.thread && is_none core.error
-    && not (list_any (is_asked_for listing) core.threads)
+lacks_thread listing core = is_some listing.thread && lacks_any listing core
 
 abbrev pub core_refusal : Format → CoreError → Line
 core_refusal format error = refused_line format (name_of_core error)

@@ -38,7 +38,8 @@ AddsAll samples old new = (all : List Stack) → AreCounted all old → AreCount
 module _ (by_period : Bool) (machine : SampleMachine) (files : List KnownFile) where
   abbrev pub IsFollowed : Known → ℕ → Event → List Stack → List Stack → Type 0
   IsFollowed known time event old new =
-      (samples : List Stack) × AreOfAll (IsSampleOf by_period machine files) (sample_at known time event) samples
+      (samples : List Stack)
+      × AreOfAll (IsSampleOf by_period machine files) (sample_at known time event) samples
       × AddsAll samples old new
 
   abbrev pub IsNotFollowed : Known → ℕ → Event → List Stack → FoldedError → Type 0
@@ -46,5 +47,6 @@ module _ (by_period : Bool) (machine : SampleMachine) (files : List KnownFile) w
   IsNotFollowed known time event old (NotFolded number) = ⊥
   IsNotFollowed known time event old NoSamples = ⊥
   IsNotFollowed known time event old TooManySamples =
-      (samples : List Stack) × AreOfAll (IsSampleOf by_period machine files) (sample_at known time event) samples
+      (samples : List Stack)
+      × AreOfAll (IsSampleOf by_period machine files) (sample_at known time event) samples
       × ((all : List Stack) → AreCounted all old → HasTooMany (all ++ samples))

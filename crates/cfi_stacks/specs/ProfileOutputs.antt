@@ -7,15 +7,15 @@
 --     AreStacks style machine files choice records text      the texts of these
 --     IsPrinted .. records error line      these, and then the error that ended the records; or a
 --         beginning of them, and that memory was refused
---     AreSamples by_period machine files choice records samples      the same samples by their folded
---         stacks
+--     AreSamples by_period machine files choice records samples      the same samples by their
+--         folded stacks
 --     IsFolded .. records error line      their folded stacks, and then that error; or that memory
 --         was refused, or that a stack has too many
 --     IsListed listing choice .. records error line      either of these
 --     IsOutput listing choice may_open remaining bytes line      the output of a profile of these
 --         bytes, whose files may be opened so
-use Rattle.std.specs.Prelude.{◌≡◌, ◌⊎◌, ◌<◌, ◌^◌, ℕ, ◌==◌, Bool, true, false, List, [], ◌∷◌, ◌++◌, Option}
-use Rattle.std.specs.Prelude.{Some, None, Result, Ok, Err, codes, map, take, unwrap_or}
+use Rattle.std.specs.Prelude.{◌≡◌, ◌⊎◌, ◌<◌, ◌^◌, ℕ, ◌==◌, Bool, true, false, List, [], ◌∷◌, ◌++◌}
+use Rattle.std.specs.Prelude.{Option, Some, None, Result, Ok, Err, codes, map, take, unwrap_or}
 use Rattle.std.specs.Prelude.{if◌then◌else◌}
 use Rattle.std.specs.List.{filter, flat_map}
 use Rattle.std.specs.List.Sorted.{IsSortedByKey, IsStableByKey}
@@ -120,7 +120,8 @@ abbrev pub stack_objects : Bool → List KnownFile → List MappedCode → List 
 stack_objects raw files list frames =
     flat_map
     (λ frame.
-    codes "," ++ sample_frame raw false (site_of files list (row_address frame.pc frame.is_interrupted)))
+    let address = row_address frame.pc frame.is_interrupted in
+    codes "," ++ sample_frame raw false (site_of files list address))
     frames
 
 abbrev pub walk_objects :
@@ -353,7 +354,8 @@ abbrev pub IsListed :
     Listing → Choice → SampleMachine → List KnownFile → List Record → Option PerfError → Line →
     Type 0
 IsListed (Frames raw) choice machine files records error printed =
-    IsPrinted (record { raw = raw; format = formats.Text }) machine files choice records error printed
+    IsPrinted (record { raw = raw; format = formats.Text }) machine files choice records error
+    printed
 IsListed (Json raw) choice machine files records error printed =
     IsPrinted (record { raw = raw; format = formats.Json }) machine files choice records error
     printed

@@ -5,8 +5,8 @@
 --     sample_head name time s      what comes before the frames of a sample
 --     thread_head tid signal name      what comes before those of a thread of a core file
 --     object_end reason      what comes behind them
-use Rattle.std.specs.Prelude.{ℕ, ◌/◌, ◌%◌, ◌==◌, Bool, true, false, List, [], ◌∷◌, ◌++◌, Option, Some, None}
-use Rattle.std.specs.Prelude.{codes, map, if◌then◌else◌}
+use Rattle.std.specs.Prelude.{ℕ, ◌/◌, ◌%◌, ◌==◌, Bool, true, false, List, [], ◌∷◌, ◌++◌, Option}
+use Rattle.std.specs.Prelude.{Some, None, codes, map, if◌then◌else◌}
 use Rattle.std.specs.Fmt.{decimal}
 use Rattle.cfi_elf.specs.FunctionPlaces.{Place}
 use Rattle.cfi_perf.specs.Samples.{Sample}
@@ -100,9 +100,14 @@ cpu_member (Some cpu) = codes ",\"cpu\":" ++ json_number cpu
 -- the process, the thread, the processor, the time and the period
 abbrev pub number_members : ℕ → Sample → List ℕ
 number_members time s =
-    codes "\",\"pid\":" ++ json_number s.pid ++ codes ",\"tid\":" ++ json_number s.tid
-    ++ cpu_member s.cpu ++ codes ",\"time\":\"" ++ nanoseconds_text time
-    ++ codes "\",\"period\":" ++ json_number s.period ++ codes ",\"event\":\""
+    codes "\",\"pid\":"
+    ++ (json_number s.pid
+    ++ (codes ",\"tid\":"
+    ++ (json_number s.tid
+    ++ (cpu_member s.cpu
+    ++ (codes ",\"time\":\""
+    ++ (nanoseconds_text time
+    ++ (codes "\",\"period\":" ++ (json_number s.period ++ codes ",\"event\":\""))))))))
 
 abbrev pub sample_head : Option (List ℕ) → ℕ → Sample → List ℕ
 sample_head name time s =

@@ -25,9 +25,9 @@ use cfi_step::{StackFrame, Walk, row_address};
 use std::io::Write;
 use std::{fmt, io};
 
-/// Writes what was found of a thread's stack as an object of JSON, in a line: its number, the signal
-/// that it got, the name of its process, the frames, and the name of the reason why there are no
-/// more, if the last one isn't the outermost.
+/// Writes what was found of a thread's stack as an object of JSON, in a line: its number, the
+/// signal that it got, the name of its process, the frames, and the name of the reason why there
+/// are no more, if the last one isn't the outermost.
 pub(crate) fn write_thread_object<W: Write>(
     output: &mut W,
     raw: bool,
@@ -181,8 +181,8 @@ fn write_core_frame<W: Write>(
     write_code_object(output, raw, before.as_slice(), code, address, b"}")
 }
 
-/// Appends the beginning of the object of a frame, with its address, behind a comma unless it is the
-/// first. Fails where there is no room.
+/// Appends the beginning of the object of a frame, with its address, behind a comma unless it is
+/// the first. Fails where there is no room.
 fn push_opening(text: &mut Text, is_first: bool, address: u64) -> fmt::Result
     ensures { OnOk result
         (text.new.items ≡ text.old.items ++ (comma is_first ++ address_member address)) }

@@ -1,5 +1,6 @@
 //! The stacks of a core file that a reader gives.
 ghost use Rattle.std.specs.Prelude.{◌≡◌, ◌⊎◌, ℕ, [], List, map, option_map};
+ghost use Rattle.std.specs.List.{list_any};
 ghost use Rattle.cfi_cores.specs.CoreSegments.{AreInOrder, segment_view};
 ghost use Rattle.cfi_cores.specs.CoreFiles.{core_view};
 ghost use Rattle.cfi_cores.specs.CoreThreads.{thread_view};
@@ -14,7 +15,8 @@ ghost use Rattle.cfi_processes.specs.Wanted.{wanted_view};
 ghost use Rattle.cfi_programs.specs.WriterOutput.{Prints, PrintsSome};
 ghost use Rattle.cfi_stacks.specs.CoreOutputs.{IsOfCore, IsOfFiles, IsOfOpened, IsOfWanted};
 ghost use Rattle.cfi_stacks.specs.CoreOutputs.{IsOutput, IsOwed, IsPrinted, core_refusal, ended};
-ghost use Rattle.cfi_stacks.specs.CoreOutputs.{is_asked_for, lacks_thread, mappings_of, memory_of};
+ghost use Rattle.cfi_stacks.specs.CoreOutputs.{is_asked_for, lacks_any, lacks_thread, mappings_of};
+ghost use Rattle.cfi_stacks.specs.CoreOutputs.{memory_of};
 ghost use Rattle.cfi_stacks.specs.CoreOutputs.{with_vdso};
 ghost use Rattle.cfi_stacks.specs.ProfileOutputs.{no_memory};
 ghost use Rattle.cfi_stacks.specs.Rooms.{KeepsNoRows};
@@ -36,23 +38,24 @@ use std::alloc::Global;
 use std::io;
 use std::io::{Read, Write};
 
-/// Reads the core file to its end, and prints the stack of each thread, in the order of its notes, or
-/// only that of the thread that the listing names.
+/// Reads the core file to its end, and prints the stack of each thread, in the order of its notes,
+/// or only that of the thread that the listing names.
 ///
 /// For each there is a line with the thread, the signal that it got and the name of the process, a
 /// line for each frame, where there is a reason for which the last frame isn't the outermost one a
 /// line with it, and an empty line. The line of a frame has its address in the process, its place
 /// in a file, the function and the file; if it is `raw`, it has no function, and none is looked up.
-/// With `Format::Json` there is a line for each thread instead, an object with the same, and what is
-/// printed below in place of stacks is the member `error` of one (`write_reason`).
+/// With `Format::Json` there is a line for each thread instead, an object with the same, and what
+/// is printed below in place of stacks is the member `error` of one (`write_reason`).
 /// The files of code are opened by the names that the core file has for them, and where it has the
 /// build of one, only a file of that build is taken (`cfi_processes::profile_files::read_files`);
 /// what it doesn't have of their memory is read in them. The vdso is read in the core file.
 ///
 /// Status 0: all threads are printed. Status 1: the core file, or the rest of its notes, can't be
 /// read, which prints `refused` and the name of the error; no note is of the thread that is asked
-/// for, which prints `no thread`; or memory is refused. Status 2: the input can't be read, which prints `wrong input`. Fails where the output can't be written: then a
-/// beginning has been written.
+/// for, which prints `no thread`; or memory is refused. Status 2: the input can't be read, which
+/// prints `wrong input`. Fails where the output can't be written: then a beginning has been
+/// written.
 ///
 /// Allocates for the input, the files and what is mapped. Unwinding and printing don't allocate.
 pub fn print_core<O: Opener, R: Read, W: Write>(
@@ -81,12 +84,27 @@ pub fn print_core<O: Opener, R: Read, W: Write>(
 fn lacks_thread(listing: ThreadListing, core: &Core<'_>) -> bool
     ensures { result ≡ lacks_thread listing (core_view core.now) }
 {
-    listing.thread.is_some()
-        && core.error.is_none()
-        && !core
-            .threads
-            .iter()
-            .any(|thread| is_asked_for(listing, thread))
+    match listing.thread {
+        None => false,
+        Some(_) => lacks_any(listing, core),
+    }
+}
+
+/// Whether all notes were read, and none is of a thread that is printed.
+fn lacks_any(listing: ThreadListing, core: &Core<'_>) -> bool
+    ensures { result ≡ lacks_any listing (core_view core.now) }
+{
+    match core.error {
+        None => !has_asked_for(listing, core.threads.as_slice()),
+        Some(_) => false,
+    }
+}
+
+/// Whether one of the threads is printed.
+fn has_asked_for(listing: ThreadListing, threads: &[CoreThread<'_>]) -> bool
+    ensures { result ≡ list_any (is_asked_for listing) (map thread_view threads.now) }
+{
+    threads.iter().any(|thread| is_asked_for(listing, thread))
 }
 
 /// Whether a thread is one that is printed.
@@ -209,8 +227,9 @@ fn print_by_files<W: Write>(
     output: &mut W,
 ) -> io::Result<u8>
     requires { AreInOrder core.now.segments.items }
-    ensures { PrintsSome (λ line. IsOfFiles listing (core_view core.now) (map opened_view opened.now)
-        (map known_view files.now) line ⊎ (line ≡ no_memory listing.format))
+    ensures { PrintsSome (λ line. IsOfFiles listing (core_view core.now)
+        (map opened_view opened.now) (map known_view files.now) line
+        ⊎ (line ≡ no_memory listing.format))
         (W.contents output.old) (W.contents output.new) result }
 {
     match core_code(alloc, core, opened, files) {

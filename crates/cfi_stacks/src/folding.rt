@@ -84,8 +84,8 @@ fn fold_records(
     }
 }
 
-/// Counts the samples of the records in this room. Neither a sample that isn't chosen nor one behind
-/// the limit is unwound.
+/// Counts the samples of the records in this room. Neither a sample that isn't chosen nor one
+/// behind the limit is unwound.
 fn fold_in(
     alloc: Global,
     by_period: bool,
@@ -236,7 +236,8 @@ fn write_counts<W: Write>(
     error: Option<PerfError>,
     output: &mut W,
 ) -> io::Result<u8>
-    ensures { PrintsSome (λ line. (line ≡ ended Text (flat_map line_text (counted_in counts.now)) error)
+    ensures { PrintsSome (λ line.
+        (line ≡ ended Text (flat_map line_text (counted_in counts.now)) error)
         ⊎ (line ≡ out_of_memory)) (W.contents output.old) (W.contents output.new) result }
 {
     let mut text = Vec::new(alloc);
@@ -248,7 +249,8 @@ fn write_counts<W: Write>(
 
 /// Prints the lines of folded stacks, and then the error that ended the records.
 fn write_folded<W: Write>(text: &[u8], error: Option<PerfError>, output: &mut W) -> io::Result<u8>
-    ensures { Prints (ended Text text.now error) (W.contents output.old) (W.contents output.new) result }
+    ensures { Prints (ended Text text.now error)
+        (W.contents output.old) (W.contents output.new) result }
 {
     write_text(output, text)?;
     write_end(output, Format::Text, error)

@@ -5,8 +5,8 @@
 //! `folding` counts the samples by their folded stacks, whose text `folded_text` makes. `core_run`
 //! prints the stacks of a core file, `core_text` that of a thread (`signals`, `core_frames`), whose
 //! frames `thread_stack` writes; `core_files` has what the files of a core say of its process.
-//! `choice` says which samples are printed. `sample_object` and `core_object` write stacks as objects
-//! of JSON (`object_lines`).
+//! `choice` says which samples are printed. `sample_object` and `core_object` write stacks as
+//! objects of JSON (`object_lines`).
 #![tactic(auto)]
 
 pub mod choice;

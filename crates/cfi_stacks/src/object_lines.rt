@@ -23,8 +23,8 @@ use cfi_programs::text::{Text, push, push_address};
 use std::io::Write;
 use std::{fmt, io};
 
-/// Writes a frame between the beginning and the end of its object: its place in a file, the function
-/// and how far into it that is, unless it is `raw`, and the file.
+/// Writes a frame between the beginning and the end of its object: its place in a file, the
+/// function and how far into it that is, unless it is `raw`, and the file.
 pub(crate) fn write_frame_object<W: Write>(
     output: &mut W,
     raw: bool,

@@ -42,17 +42,17 @@ use std::alloc::{AllocError, Global};
 use std::io;
 use std::io::{Read, Write};
 
-/// Reads the profile to its end, and prints the stacks of the samples that are chosen: one after the
-/// other, in the order of their times, or folded. What other samples stand between is neither
-/// unwound nor printed.
+/// Reads the profile to its end, and prints the stacks of the samples that are chosen: one after
+/// the other, in the order of their times, or folded. Other samples are neither unwound nor
+/// printed.
 ///
 /// For each sample there is a line with the thread, its name, the processor, the time, the period
 /// and the event, a line for each frame of the kernel and of user space, where there is a reason
 /// for which the last frame isn't the outermost one a line with it, and an empty line. The line of
 /// a frame has its place in a file, the function and the file; if the listing is raw, it has no
 /// function, and none is looked up.
-/// With `Listing::Json` there is a line for each sample instead, an object with the same, and what is
-/// printed below in place of stacks is the member `error` of one (`write_reason`).
+/// With `Listing::Json` there is a line for each sample instead, an object with the same, and what
+/// is printed below in place of stacks is the member `error` of one (`write_reason`).
 /// Folded stacks are counted (`Listing::Folded`), and their lines, the stack, a space and the
 /// number, are printed in the order of their bytes (`folded_text` says what names become).
 ///
@@ -356,8 +356,9 @@ fn print_opened<W: Write>(
     error: Option<PerfError>,
     output: &mut W,
 ) -> io::Result<u8>
-    ensures { PrintsSome (λ line. IsOfOpened listing (choice_view choice.now) machine (map opened_view opened.now)
-        (map record_view records.now) error line ⊎ (line ≡ no_memory (format_of listing)))
+    ensures { PrintsSome (λ line. IsOfOpened listing (choice_view choice.now) machine
+        (map opened_view opened.now) (map record_view records.now) error line
+        ⊎ (line ≡ no_memory (format_of listing)))
         (W.contents output.old) (W.contents output.new) result }
 {
     match profile_files(alloc, opened) {
@@ -386,8 +387,8 @@ fn print_listing<W: Write>(
     error: Option<PerfError>,
     output: &mut W,
 ) -> io::Result<u8>
-    ensures { PrintsSome (λ line. IsListed listing (choice_view choice.now) machine (map known_view files.now)
-        (map record_view records.now) error line)
+    ensures { PrintsSome (λ line. IsListed listing (choice_view choice.now) machine
+        (map known_view files.now) (map record_view records.now) error line)
         (W.contents output.old) (W.contents output.new) result }
 {
     let format = listing.format();
@@ -427,8 +428,8 @@ fn print_stacks<W: Write>(
     }
 }
 
-/// Prints the stacks of the records in this room, and then the error that ended the records. Neither
-/// a sample that isn't chosen nor one behind the limit is unwound.
+/// Prints the stacks of the records in this room, and then the error that ended the records.
+/// Neither a sample that isn't chosen nor one behind the limit is unwound.
 fn print_in<W: Write>(
     alloc: Global,
     style: StackStyle,

@@ -1,5 +1,6 @@
 //! A sample's stack as an object of JSON (RFC 8259).
-ghost use Rattle.std.specs.Prelude.{◌≡◌, ◌≤◌, ◌++◌, IfOk, OnOk, codes, length, map, not, option_map};
+ghost use Rattle.std.specs.Prelude.{◌≡◌, ◌≤◌, ◌++◌, IfOk, OnOk, codes, length, map, not};
+ghost use Rattle.std.specs.Prelude.{option_map};
 ghost use Rattle.cfi_perf.specs.CallChains.{addresses_left};
 ghost use Rattle.cfi_perf.specs.Samples.{kernel_frames, sample_view};
 ghost use Rattle.cfi_processes.specs.KnownFiles.{chain_site, kernel_site, known_view};
@@ -11,7 +12,8 @@ ghost use Rattle.cfi_stacks.specs.ProfileOutputs.{all_objects, chain_objects, re
 ghost use Rattle.cfi_stacks.specs.ProfileOutputs.{sample_object, sample_reason, stack_objects};
 ghost use Rattle.cfi_stacks.specs.ProfileOutputs.{user_objects, walk_objects};
 ghost use Rattle.cfi_stacks.specs.Reasons.{reason_view};
-ghost use Rattle.cfi_stacks.specs.StackObjects.{closing, comm_text, comma, cpu_member, is_nil, listed};
+ghost use Rattle.cfi_stacks.specs.StackObjects.{closing, comm_text, comma, cpu_member, is_nil};
+ghost use Rattle.cfi_stacks.specs.StackObjects.{listed};
 ghost use Rattle.cfi_stacks.specs.StackObjects.{nanoseconds_text, number_members, sample_head};
 
 use crate::object_lines::{write_code_object, write_frame_object, write_object_end, write_string};
@@ -124,8 +126,8 @@ fn push_cpu_member(text: &mut Text, cpu: Option<u32>) -> fmt::Result
     }
 }
 
-/// Appends a time in nanoseconds as seconds, with nine digits behind the point. Fails where there is
-/// no room.
+/// Appends a time in nanoseconds as seconds, with nine digits behind the point. Fails where there
+/// is no room.
 fn push_nanoseconds(text: &mut Text, time: u64) -> fmt::Result
     ensures { OnOk result (text.new.items ≡ text.old.items ++ nanoseconds_text time) }
 {
@@ -234,8 +236,8 @@ fn write_frames<W: Write>(
     Ok(())
 }
 
-/// Writes the frames of a call chain, behind a comma each, but for the one that is the first of all:
-/// of the kernel, whose code this is, or of the process.
+/// Writes the frames of a call chain, behind a comma each, but for the one that is the first of
+/// all: of the kernel, whose code this is, or of the process.
 fn write_chain<W: Write>(
     output: &mut W,
     is_first: bool,

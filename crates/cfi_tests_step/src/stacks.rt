@@ -362,106 +362,63 @@ fn objects(rt: HostRuntime) -> Result<(), Fail> {
     lists(&rt, Listing::Json(false), &all, b"PERFILE1", refusal, 1)
 }
 
+/// A name, the process, the thread, the first and the last time and the limit, an event, and what
+/// is printed.
+type Chosen = (
+    Option<&'static str>,
+    [Option<u64>; 5],
+    Option<&'static str>,
+    &'static str,
+);
+
+const CHOSEN: [Chosen; 10] = [
+    (None, [None, Some(8), None, None, None], None, SECOND),
+    (Some(":8"), [None, None, None, None, None], None, SECOND),
+    (
+        None,
+        [None, None, Some(1_000_002_000), None, None],
+        None,
+        SECOND,
+    ),
+    (
+        None,
+        [None, None, None, Some(1_000_001_999), None],
+        None,
+        FIRST,
+    ),
+    (None, [None, None, None, None, Some(1)], None, FIRST),
+    (
+        None,
+        [Some(7), None, None, None, Some(2)],
+        Some("cpu-clock"),
+        STACKS,
+    ),
+    (None, [None, Some(8), None, None, Some(1)], None, SECOND),
+    (None, [Some(8), None, None, None, None], None, ""),
+    (None, [None, None, None, None, None], Some("cpu"), ""),
+    (None, [None, None, None, None, Some(0)], None, ""),
+];
+
 #[test]
 fn chosen_samples(rt: HostRuntime) -> Result<(), Fail> {
     let profile = bytes_of(rt.alloc(), PROFILE)?;
-    let all = Choice::all();
-    let choices = [
-        (
-            Choice {
-                tid: Some(8),
-                ..all
-            },
-            SECOND,
-        ),
-        (
-            Choice {
-                comm: Some(":8"),
-                ..all
-            },
-            SECOND,
-        ),
-        (
-            Choice {
-                from: Some(1_000_002_000),
-                ..all
-            },
-            SECOND,
-        ),
-        (
-            Choice {
-                until: Some(1_000_001_999),
-                ..all
-            },
-            FIRST,
-        ),
-        (
-            Choice {
-                limit: Some(1),
-                ..all
-            },
-            FIRST,
-        ),
-        (
-            Choice {
-                pid: Some(7),
-                event: Some("cpu-clock"),
-                limit: Some(2),
-                ..all
-            },
-            STACKS,
-        ),
-        (
-            Choice {
-                tid: Some(8),
-                limit: Some(1),
-                ..all
-            },
-            SECOND,
-        ),
-        (
-            Choice {
-                pid: Some(8),
-                ..all
-            },
-            "",
-        ),
-        (
-            Choice {
-                event: Some("cpu"),
-                ..all
-            },
-            "",
-        ),
-        (
-            Choice {
-                limit: Some(0),
-                ..all
-            },
-            "",
-        ),
-    ];
-    for (choice, text) in &choices {
-        lists(
-            &rt,
-            Listing::Frames(false),
-            choice,
-            profile.as_slice(),
-            text,
-            0,
-        )?;
+    let profile = profile.as_slice();
+    for row in &CHOSEN {
+        let choice = Choice {
+            comm: row.0,
+            pid: row.1[0],
+            tid: row.1[1],
+            from: row.1[2],
+            until: row.1[3],
+            event: row.2,
+            limit: row.1[4],
+        };
+        lists(&rt, Listing::Frames(false), &choice, profile, row.3, 0)?;
     }
     let second = Choice {
         tid: Some(8),
-        ..all
+        ..Choice::all()
     };
     let folded = ":8;[unknown];pushes;pushes 1\n";
-    lists(
-        &rt,
-        Listing::Folded(false),
-        &second,
-        profile.as_slice(),
-        folded,
-        0,
-    )
+    lists(&rt, Listing::Folded(false), &second, profile, folded, 0)
 }

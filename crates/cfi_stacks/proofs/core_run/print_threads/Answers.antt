@@ -5,6 +5,7 @@ use Rattle.cfi_cores.specs.declared.thread.CoreThread.{CoreThread as ThreadOfCod
 use Rattle.cfi_cores.specs.declared.segments.CoreSegment.{CoreSegment}
 use Rattle.cfi_cores.specs.CoreSegments.{segment_view}
 use Rattle.cfi_cores.specs.CoreThreads.{CoreThread, thread_view}
+use Rattle.cfi_processes.specs.FileModules.{AreOfFiles}
 use Rattle.cfi_processes.specs.KnownFiles.{known_view}
 use Rattle.cfi_processes.specs.ThreadNames.{bytes_of}
 use Rattle.cfi_stacks.specs.CoreOutputs.{mappings_of, memory_of}
@@ -44,7 +45,7 @@ loop-thread-preserved g c =
     let lent : memory_view c.new-memory.result ≡ record { dumped = core.segments; mapped = windows } =
     c.new-memory.ensures ∙ ap₂ (λ (dumped lent : List CoreSegment). record { dumped = map segment_view dumped; mapped = map segment_view lent }) c.as_slice-2.ensures.value c.as_slice-3.ensures.value in (
       one_printed c.args.listing files memory core (take i (map thread_view threads)) (take (i + 1) (map thread_view threads)) (thread_view t) _ _ _ text
-          (next_thread thread_view threads i no_thread c.loop-thread-test.true) (sym c.is_asked_for.ensures ∙ c.if-is_asked_for.false) c.loop-thread.invariant.0
+          (next_thread thread_view threads i no_thread c.loop-thread-test.true) (sym c.is_asked_for.ensures ∙ c.if-not-is_asked_for.false) c.loop-thread.invariant.0
           (text_there c.args.listing core.machine files c.as_slice.result.now (mappings_of files core.segments core.mapped) (memory_view c.new-memory.result) (record { dumped = core.segments; mapped = windows }) (bytes_of c.shown_name-name.result) core.name (thread_view t) text mapped lent c.shown_name-name.ensures is) written,
       c.in_ok-print_thread.ensures.cached,
     )
@@ -65,13 +66,13 @@ returns-in_err-print_thread g c =
     let lent : memory_view c.new-memory.result ≡ record { dumped = core.segments; mapped = windows } =
     c.new-memory.ensures ∙ ap₂ (λ (dumped lent : List CoreSegment). record { dumped = map segment_view dumped; mapped = map segment_view lent }) c.as_slice-2.ensures.value c.as_slice-3.ensures.value in
     broken c.args.listing files memory core i (thread_view t) _ _ _ c.from_residual.result text c.from_residual.ensures.0
-    (subst (λ (ts : List CoreThread). take (i + 1) ts ≡ take i ts ++ thread_view t ∷ []) all (next_thread thread_view threads i no_thread c.loop-thread-test.true)) (sym c.is_asked_for.ensures ∙ c.if-is_asked_for.false)
+    (subst (λ (ts : List CoreThread). take (i + 1) ts ≡ take i ts ++ thread_view t ∷ []) all (next_thread thread_view threads i no_thread c.loop-thread-test.true)) (sym c.is_asked_for.ensures ∙ c.if-not-is_asked_for.false)
     (subst (λ (ts : List CoreThread). Printed c.args.listing files memory core (take i ts) (g.W.Write.contents c.args.output.now) (g.W.Write.contents c.loop-thread.output)) all c.loop-thread.invariant.0)
     (text_there c.args.listing core.machine files c.as_slice.result.now (mappings_of files core.segments core.mapped) (memory_view c.new-memory.result) (record { dumped = core.segments; mapped = windows }) (bytes_of c.shown_name-name.result) core.name (thread_view t) text mapped lent c.shown_name-name.ensures is) begun
 
-pub loop-thread-preserved-then-is_asked_for : goal.loop-thread-preserved-then-is_asked_for
+pub loop-thread-preserved-then-not-is_asked_for : goal.loop-thread-preserved-then-not-is_asked_for
 unfolding no_thread
-loop-thread-preserved-then-is_asked_for g c =
+loop-thread-preserved-then-not-is_asked_for g c =
     let core = core_view c.args.core.now in
     let files = map known_view c.args.files.now in
     let memory = memory_of core (map segment_view c.args.code.now.windows.items) in
@@ -79,6 +80,9 @@ loop-thread-preserved-then-is_asked_for g c =
     let i = c.loop-thread.thread-index in
     let t = get_or threads i no_thread in (
       one_passed c.args.listing files memory core (take i (map thread_view threads)) (take (i + 1) (map thread_view threads)) (thread_view t) _ _
-          (next_thread thread_view threads i no_thread c.loop-thread-test.true) (sym c.is_asked_for.ensures ∙ c.if-is_asked_for.true) c.loop-thread.invariant.0,
+          (next_thread thread_view threads i no_thread c.loop-thread-test.true) (sym c.is_asked_for.ensures ∙ c.if-not-is_asked_for.true) c.loop-thread.invariant.0,
       c.loop-thread.invariant.1,
     )
+
+pub print_thread-requires-clause-files : goal.print_thread-requires-clause-files
+print_thread-requires-clause-files g c = subst (AreOfFiles c.args.files.now) (sym c.as_slice-in-loop-thread.ensures.value) c.requires.files

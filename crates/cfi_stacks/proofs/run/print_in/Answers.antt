@@ -25,7 +25,7 @@ returns-in-Err g c =
 
 pub returns : goal.returns
 returns g c =
-    printed c.args.style c.args.machine (map known_view c.args.files.now) (choice_view c.args.choice.now) _ (map record_view c.args.records.now) _ _ _ _ _ c.args.error _ (all_records c.args.records.now c.loop-record.record-index c.loop-record-test.false) c.loop-record.invariant.1 c.write_end.ensures
+    printed c.args.style c.args.machine (map known_view c.args.files.now) (choice_view c.args.choice.now) _ (map record_view c.args.records.now) _ _ _ _ _ c.args.error _ (all_records c.args.records.now c.loop-record.record-index c.loop-record-test.false) c.loop-record.invariant.1 c.write_end-2.ensures
 
 pub returns-then-eq : goal.returns-then-eq
 returns-then-eq g c =

@@ -26,4 +26,4 @@ returns g c =
     let user = user_objects c.args.raw (map known_view c.args.code.now.files.now) c.args.code.now.mappings.now s c.args.found c.args.frames.now in
     rw (two_lists object (kernel_frames s) user)
     (last_written _ _ _ _ (separated true (flat_map (led object) (kernel_frames s))) (separated (not (not (is_nil (kernel_frames s)))) user) (rw c.kernel_frames.ensures at c.in_ok-write_chain.ensures)
-    (rw c.has_kernel_frames.ensures at c.write_user_frames.ensures))
+    (rw c.has_kernel_frames-is_first.ensures at c.write_user_frames.ensures))
