@@ -8,7 +8,7 @@ use Rattle.cfi_processes.specs.Replays.{after}
 use Rattle.cfi_processes.specs.ThreadNames.{names_after}
 use Rattle.cfi_stacks.specs.Choices.{Choice, limited}
 use Rattle.cfi_stacks.specs.Foldings.{is_left_out, left_after}
-use Rattle.cfi_stacks.specs.ProfileOutputs.{AreOfAll, Known, KnownSample, chosen, chosen_of, is_chosen, known_after, nothing_known, sample_at}
+use Rattle.cfi_stacks.specs.ProfileOutputs.{AreOfAll, Known, KnownSample, chosen, chosen_of, is_chosen, known_after, sample_at}
 
 -- what is known was known before, but for what the event says
 abbrev pub IsKnownAfter : List KnownFile → Event → Known → Known → Type 0

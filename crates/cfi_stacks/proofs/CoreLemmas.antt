@@ -1,5 +1,5 @@
 -- What the files of a core have of its process, one mapping after the other.
-use Rattle.std.proofs.Common.{◌||◌, ◌≡◌, ◌∙◌, ℕ, ◌+◌, ◌<◌, ◌≤◌, ◌&&◌, Bool, true, false, List, [], ◌∷◌, ◌++◌, Bor, Option, Some, None, length, get_or, drop, map, option_map, cond, refl, sym, ap, subst, add-one, append-nil, append_assoc}
+use Rattle.std.proofs.Common.{◌||◌, ◌≡◌, ◌∙◌, ℕ, ◌+◌, ◌<◌, ◌≤◌, ◌&&◌, Bool, true, false, List, [], ◌∷◌, ◌++◌, Bor, Option, Some, None, length, get_or, drop, map, option_map, cond, refl, sym, ap, add-one, append_assoc}
 use Rattle.std.proofs.Math.Seq.{drop-cons}
 use Rattle.std.proofs.lemmas.List.{drop_all, map-append}
 use Rattle.std.specs.List.{cons_option, filter_map, find, fold, list_all, list_any}

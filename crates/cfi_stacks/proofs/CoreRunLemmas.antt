@@ -1,5 +1,5 @@
 -- What is right for a core file that was read.
-use Rattle.std.proofs.Common.{◌≡◌, ◌∙◌, ◌⊎◌, ℕ, Bool, List, Option, Result, Ok, Err, refl, sym, ap, subst, inl, inr}
+use Rattle.std.proofs.Common.{◌≡◌, ◌∙◌, ◌⊎◌, ℕ, List, Option, Result, Ok, Err, sym, ap, subst, inl, inr}
 use Rattle.cfi_programs.specs.Lines.{Line}
 use Rattle.cfi_programs.specs.WriterOutput.{PrintsSome}
 use Rattle.cfi_processes.specs.declared.mappings.MappedCode.{MappedCode}

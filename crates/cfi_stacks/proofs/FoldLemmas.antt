@@ -1,5 +1,5 @@
 -- The samples of the records of a profile, counted by their folded stacks.
-use Rattle.std.proofs.Common.{◌≡◌, ◌∙◌, ◌⊎◌, ℕ, ◌+◌, ◌<◌, ◌≤◌, ◌^◌, Bool, List, [], ◌∷◌, ◌++◌, Option, Some, None, Result, Ok, Err, OnOk, IfErr, length, get_or, take, drop, map, codes, add-one, refl, sym, ap, subst, inl, inr, append_assoc, append-nil, arith, unwrap_or, true, false, nat_eq}
+use Rattle.std.proofs.Common.{◌≡◌, ◌∙◌, ◌⊎◌, ℕ, ◌+◌, ◌<◌, ◌≤◌, ◌^◌, Bool, List, [], ◌∷◌, ◌++◌, Option, Some, None, Result, Ok, Err, OnOk, IfErr, length, get_or, take, drop, map, codes, add-one, refl, sym, ap, subst, inl, inr, append_assoc, arith, unwrap_or, true, false, nat_eq}
 use Rattle.std.specs.Option.{option_eq}
 use Rattle.std.proofs.Math.Seq.{drop-cons}
 use Rattle.std.proofs.lemmas.List.{take-append-drop}

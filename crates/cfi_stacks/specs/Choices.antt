@@ -4,7 +4,7 @@
 --     chooses choice name time s      whether a sample is all that is asked, at a time, of a thread
 --         with this name
 --     limited limit list      the first of a list, where there is a limit
-use Rattle.std.specs.Prelude.{ℕ, ◌≤◌, ◌==◌, ◌&&◌, Bool, true, List, Option, Some, None}
+use Rattle.std.specs.Prelude.{ℕ, ◌==◌, ◌&&◌, Bool, true, List, Option, Some, None}
 use Rattle.std.specs.Prelude.{nat_le, option_map, take}
 use Rattle.std.specs.Str.{bytes_eq}
 use Rattle.cfi_perf.specs.Samples.{Sample}
