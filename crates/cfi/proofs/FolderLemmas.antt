@@ -1,5 +1,5 @@
 -- The paths of files, as they are made.
-use Rattle.std.proofs.Common.{◌≡◌, ◌∙◌, ◌++◌, append_assoc, ℕ, List, Option, Some, None, Result, Ok, Err, IfOk, IfSome, ap, subst, sym}
+use Rattle.std.proofs.Common.{◌≡◌, ◌∙◌, ◌++◌, append_assoc, ℕ, List, Option, Result, Ok, Err, IfOk, IfSome, subst, sym}
 use Rattle.std.specs.Result.{result_ok}
 
 -- what was made, if anything was

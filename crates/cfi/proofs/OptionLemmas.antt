@@ -8,7 +8,7 @@ use Rattle.clap.specs.Simple.{filled}
 use Rattle.clap.specs.Kinds.{Kinds, or_else}
 use Rattle.clap.specs.ValueTests.{accepts}
 use Rattle.clap.specs.Faults.{long_fault, option_fault, use_fault}
-use Rattle.clap.specs.declared.builder.value_parser.ValueParser.TheVariants.{Names, Unsigned}
+use Rattle.clap.specs.declared.builder.value_parser.ValueParser.TheVariants.{Names}
 use Rattle.clap.specs.declared.builder.value_parser.Reading.TheVariants.{AsWritten}
 use Rattle.clap.specs.declared.error.kind.ErrorKind.TheVariants.{ArgumentConflict, InvalidValue, ValueValidation}
 use Rattle.clap.specs.declared.error.kind.ErrorKind.{ErrorKind}

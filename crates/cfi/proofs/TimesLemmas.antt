@@ -1,5 +1,5 @@
 -- The digits of a time, one part after the other.
-use Rattle.std.proofs.Common.{◌≡◌, ◌∙◌, ◌≤◌, ◌&&◌, ℕ, true, false, refl, sym, ap, ap₂, arith, cond, length, drop, nat_le, codes, List, [], ◌∷◌, ◌++◌, Option, Some, None}
+use Rattle.std.proofs.Common.{◌≡◌, ◌∙◌, ◌≤◌, ◌&&◌, ℕ, true, refl, ap, ap₂, arith, cond, length, drop, nat_le, codes, List, [], ◌∷◌, ◌++◌, Option, Some, None}
 use Rattle.std.specs.Option.{option_and_then}
 use Rattle.cfi_flame.specs.FoldedStacks.{number_from, number_of, with_digit}
 use Rattle.cfi.specs.Times.{nanoseconds}

@@ -1,7 +1,7 @@
 -- The times of `--time`, as perf-script(1) has them: `FROM,UNTIL`, in seconds.
 --     time_of text      a time in nanoseconds
 --     times_of text      two times, of which each may be left out
-use Rattle.std.specs.Prelude.{ℕ, ◌==◌, ◌&&◌, Bool, List, [], ◌∷◌, ◌++◌, Option, Some, None, codes}
+use Rattle.std.specs.Prelude.{ℕ, ◌==◌, ◌&&◌, Bool, [], ◌∷◌, ◌++◌, Option, Some, None, codes}
 use Rattle.std.specs.Prelude.{drop, length, nat_le, option_map, if◌then◌else◌}
 use Rattle.std.specs.List.{after_first, before_first, position_or_len}
 use Rattle.clap.specs.Words.{Text}

@@ -1,4 +1,4 @@
-use Rattle.std.proofs.Common.{◌≡◌, ◌∙◌, ◌++◌, IfSome, ap, codes, rules, string_bytes, subst}
+use Rattle.std.proofs.Common.{◌≡◌, ◌++◌, IfSome, codes, rules, string_bytes, subst}
 use Rattle.clap.specs.Words.{Text}
 use Rattle.cfi.specs.Folders.{build_path}
 use Rattle.cfi.proofs.folders.copy_path.Goals as goal

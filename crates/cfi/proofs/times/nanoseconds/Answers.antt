@@ -1,4 +1,4 @@
-use Rattle.std.proofs.Common.{◌≡◌, ◌∙◌, ◌≤◌, ℕ, true, sym, Option, Some, None, arith, drop, length, nat_le, rules}
+use Rattle.std.proofs.Common.{◌≡◌, ◌∙◌, sym, Some, None, rules}
 use Rattle.cfi_flame.specs.FoldedStacks.{number_from}
 use Rattle.cfi.proofs.TimesLemmas.{all_parts, by_parts, no_first, no_second, zeros}
 use Rattle.cfi.proofs.times.nanoseconds.Goals as goal
