@@ -1,5 +1,5 @@
 -- The address of a function, by the value of its symbol and the machine.
---     function_descriptors file      the section of the descriptors of functions, if the file has one
+--     function_descriptors file      the section of the descriptors of functions, if there is one
 --     entry_of file descriptors s      the address of the first instruction of the function that a
 --         symbol is, or the value of any other symbol
 --     located file descriptors s      the symbol with that for its value
@@ -17,8 +17,8 @@ abbrev pub is_arm : File → Bool
 is_arm file = file.header.kind.e_machine == 40
 
 -- The symbol of a function is that of its descriptor (64-bit PowerPC ELF ABI 1.9, section 3.2.5,
--- "Function Descriptors"). Descriptors are in `.opd`, which files of the ELF V2 ABI don't have; those
--- of a relocatable file (ET_REL is 1) have no addresses yet.
+-- "Function Descriptors"). Descriptors are in `.opd`, which files of the ELF V2 ABI don't have;
+-- those of a relocatable file (ET_REL is 1) have no addresses yet.
 abbrev pub has_descriptors : File → Bool
 has_descriptors file =
     (file.header.kind.e_machine == 21) && not (file.header.kind.e_type == 1)

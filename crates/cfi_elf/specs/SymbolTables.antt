@@ -18,8 +18,8 @@ use Rattle.cfi_elf.specs.Sections.{Section, contents, name_at, names_at, section
 use Rattle.cfi_elf.specs.Sections.{section_table, section_view}
 use Rattle.cfi_elf.specs.Symbols.{is_function_at}
 
--- The bytes of the symbols, the string table with their names, and the section of the descriptors of
--- functions, where there is one.
+-- The bytes of the symbols, the string table with their names, and the section of the descriptors
+-- of functions, where there is one.
 pub record SymbolTable : Type 0 where
   pub bytes : List ℕ
   pub names : List ℕ

@@ -8,9 +8,9 @@ use Rattle.cfi_object.specs.declared.register_names.RegisterNames.TheVariants.{R
 use Rattle.cfi_object.specs.declared.register_names.RegisterNames.TheVariants.{PowerPc64, Mips}
 use Rattle.cfi_object.specs.declared.register_names.RegisterNames.TheVariants.{Sparc, M68k}
 
--- those of the machine: EM_SPARC is 2, EM_386 is 3, EM_68K is 4, EM_MIPS is 8, EM_SPARC32PLUS is 18,
--- EM_PPC64 is 21, EM_S390 is 22, EM_ARM is 40, EM_SPARCV9 is 43, EM_X86_64 is 62, EM_AARCH64 is 183
--- and EM_RISCV is 243
+-- those of the machine: EM_SPARC is 2, EM_386 is 3, EM_68K is 4, EM_MIPS is 8, EM_SPARC32PLUS is
+-- 18, EM_PPC64 is 21, EM_S390 is 22, EM_ARM is 40, EM_SPARCV9 is 43, EM_X86_64 is 62, EM_AARCH64 is
+-- 183 and EM_RISCV is 243
 abbrev pub register_names_of : ℕ → RegisterNames
 register_names_of e_machine =
     if e_machine == 2 then Sparc

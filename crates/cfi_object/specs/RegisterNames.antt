@@ -1,7 +1,8 @@
 -- The names of registers, by the tables of DWARF register numbers in the ABIs of the machines: the
 -- System V psABIs of x86-64 and of the Intel386, DWARF for the Arm 64-bit Architecture, DWARF for
 -- the Arm Architecture, the RISC-V psABI, the s390x psABI, and the 64-bit ELF V2 ABI of Power; for
--- MIPS, SPARC and m68k by the numbers of their ABIs' registers, which GCC's and elfutils' tables have.
+-- MIPS, SPARC and m68k by the numbers of their ABIs' registers, which GCC's and elfutils' tables
+-- have.
 --     register_text names number      the name of the register with a DWARF number; r and the
 --         number where it has none
 use Rattle.std.specs.Prelude.{ℕ, ◌+◌, ◌-◌, ◌&&◌, List, [], ◌∷◌, ◌++◌, Option, Some, None, get_or}

@@ -6,7 +6,7 @@ ghost use Rattle.cfi_object.specs.MachineNames.{names_in, register_names_of};
 use crate::register_names::RegisterNames;
 use cfi_elf::ElfFile;
 use cfi_elf::constants::{
-    EM_386, EM_68K, EM_AARCH64, EM_ARM, EM_MIPS, EM_PPC64, EM_RISCV, EM_S390, EM_SPARC,
+    EM_68K, EM_386, EM_AARCH64, EM_ARM, EM_MIPS, EM_PPC64, EM_RISCV, EM_S390, EM_SPARC,
     EM_SPARC32PLUS, EM_SPARCV9, EM_X86_64,
 };
 

@@ -11,22 +11,18 @@ use crate::number_in;
 use cfi_elf::{ElfError, ElfFile};
 use std::alloc::Global;
 
-/// The addresses that the word names: a number, as `crate::number_in` reads it; the name of symbols,
-/// or where no symbol has it of a section; or such a name, a plus sign and a number of bytes behind
-/// what it names. Where neither a symbol nor a section has a name with an `@`, what stands before
-/// the first one is the name of symbols: so `nm -D` prints a symbol with its version. No version is
-/// compared. The addresses of symbols are in the order of the symbols, each once.
+/// The addresses that the word names: a number, as `crate::number_in` reads it; the name of
+/// symbols, or where no symbol has it of a section; or such a name, a plus sign and a number of
+/// bytes behind what it names. Where neither a symbol nor a section has a name with an `@`, what
+/// stands before the first one is the name of symbols: so `nm -D` prints a symbol with its version.
+/// No version is compared. The addresses of symbols are in the order of the symbols, each once.
 ///
 /// There are none where neither a symbol nor a section has the name, what is behind the plus sign
 /// is no number, or no sum is below 2^64. The first plus sign ends the name.
 ///
-/// Fails as `ElfFile::symbol_addresses` and `ElfFile::section_address`, unless the word is a number;
-/// with `OutOfMemory`. Allocates the list.
-pub fn target_addresses(
-    alloc: Global,
-    file: &ElfFile<'_>,
-    word: &str,
-) -> Result<Vec<u64>, ElfError>
+/// Fails as `ElfFile::symbol_addresses` and `ElfFile::section_address`, unless the word is a
+/// number; with `OutOfMemory`. Allocates the list.
+pub fn target_addresses(alloc: Global, file: &ElfFile<'_>, word: &str) -> Result<Vec<u64>, ElfError>
     ensures ok { IfOk result (λ found. target_addresses (file_view file.now) word.now
         ≡ Ok found.items) }
     ensures err { IfErr result (λ e.
@@ -51,11 +47,7 @@ fn alone(alloc: Global, address: u64) -> Result<Vec<u64>, ElfError>
 }
 
 /// The addresses of what has a name, or behind it.
-fn addresses_by_name(
-    alloc: Global,
-    file: &ElfFile<'_>,
-    word: &str,
-) -> Result<Vec<u64>, ElfError>
+fn addresses_by_name(alloc: Global, file: &ElfFile<'_>, word: &str) -> Result<Vec<u64>, ElfError>
     ensures ok { IfOk result (λ found. addresses_by_name (file_view file.now) word.now
         ≡ Ok found.items) }
     ensures err { IfErr result (λ e.
@@ -129,11 +121,7 @@ fn addresses_named(alloc: Global, file: &ElfFile<'_>, name: &str) -> Result<Vec<
 /// The addresses of the symbols or the section of this name, or else of the symbols without the
 /// version.
 #[tactic(auto, unfolding(crate::specs::Targets::with_version_or_not))]
-fn with_version_or_not(
-    alloc: Global,
-    file: &ElfFile<'_>,
-    name: &str,
-) -> Result<Vec<u64>, ElfError>
+fn with_version_or_not(alloc: Global, file: &ElfFile<'_>, name: &str) -> Result<Vec<u64>, ElfError>
     ensures ok { IfOk result (λ found. with_version_or_not (file_view file.now) name.now
         ≡ Ok found.items) }
     ensures err { IfErr result (λ e.
@@ -175,11 +163,7 @@ fn symbols_named(alloc: Global, file: &ElfFile<'_>, name: &str) -> Result<Vec<u6
 
 /// The addresses of the symbols of this name, or else of the section.
 #[tactic(auto, unfolding(crate::specs::Targets::symbols_or_section))]
-fn symbols_or_section(
-    alloc: Global,
-    file: &ElfFile<'_>,
-    name: &[u8],
-) -> Result<Vec<u64>, ElfError>
+fn symbols_or_section(alloc: Global, file: &ElfFile<'_>, name: &[u8]) -> Result<Vec<u64>, ElfError>
     ensures ok { IfOk result (λ found. symbols_or_section (file_view file.now) name.now
         ≡ Ok found.items) }
     ensures err { IfErr result (λ e.
@@ -195,11 +179,7 @@ fn symbols_or_section(
 
 /// The address of the section of this name, alone in a list.
 #[tactic(auto, unfolding(crate::specs::Targets::section_addresses))]
-fn section_addresses(
-    alloc: Global,
-    file: &ElfFile<'_>,
-    name: &[u8],
-) -> Result<Vec<u64>, ElfError>
+fn section_addresses(alloc: Global, file: &ElfFile<'_>, name: &[u8]) -> Result<Vec<u64>, ElfError>
     ensures ok { IfOk result (λ found. section_addresses (file_view file.now) name.now
         ≡ Ok found.items) }
     ensures err { IfErr result (λ e.

@@ -51,7 +51,8 @@ pub(crate) fn write_entry_rows<R: Reader<Offset = usize>, S: UnwindSection<R>, W
         let function = name_in asked.entry.functions.now in
         Writes (W.contents output.old) (W.contents output.new) result
         (item_text style.format (λ e. entry_rows_text style function
-        (given_addresses asked.entry.addresses) (section_of (S.view section.now) bases.now) e) found) }
+        (given_addresses asked.entry.addresses)
+        (section_of (S.view section.now) bases.now) e) found) }
     ensures cies { IsCacheOf R.position (λ n. n) (S.view section.now) bases.now cies.new }
 {
     match entry {
