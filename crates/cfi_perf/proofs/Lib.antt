@@ -6,5 +6,6 @@ pub mod EventSteps
 pub mod ItemReads
 pub mod LostSums
 pub mod RecordSteps
+pub mod WindowSteps
 mod Registers
 mod Worked

@@ -10,3 +10,4 @@ pub mod Events
 pub mod Records
 pub mod Recordings
 pub mod Profiles
+pub mod Windows

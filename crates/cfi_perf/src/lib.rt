@@ -25,6 +25,7 @@ pub mod recording;
 pub mod records;
 pub mod sample;
 mod sample_fields;
+pub mod windows;
 
 pub use attribute::EventLayout;
 pub use call_chain::{Addresses, CallChain};
@@ -34,3 +35,4 @@ pub use record::{Event, Fork, Lost, Mapping, Program, Record};
 pub use recording::{lacks_stacks, lost_in};
 pub use records::Records;
 pub use sample::{Sample, UserRegisters, UserState};
+pub use windows::RecordWalk;
