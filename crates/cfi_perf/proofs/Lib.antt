@@ -6,6 +6,7 @@ pub mod EventSteps
 pub mod ItemReads
 pub mod LostSums
 pub mod RecordSteps
+pub mod PlaceLemmas
 pub mod WindowSteps
 mod Registers
 mod Worked

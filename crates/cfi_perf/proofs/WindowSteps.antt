@@ -13,9 +13,9 @@ use Rattle.cfi_perf.specs.declared.error.PerfError.{PerfError}
 use Rattle.cfi_perf.specs.declared.error.PerfError.TheVariants.{RecordCut, RecordSize}
 use Rattle.cfi_perf.specs.declared.records.RecordHeader.{RecordHeader}
 use Rattle.cfi_perf.specs.Results.{and_then, or_error, or_missing, part, read_from}
-use Rattle.cfi_perf.specs.Records.{First, Framed, after_record, first_record, record_header, record_of, split_record}
+use Rattle.cfi_perf.specs.Records.{First, Framed, after_record, first_record, record_header, record_of, split_record, without_id}
 use Rattle.cfi_perf.specs.EventTables.{EventTable}
-use Rattle.cfi_perf.specs.Events.{Record}
+use Rattle.cfi_perf.specs.Events.{OtherEvent, Record}
 use Rattle.cfi_perf.specs.Windows.{IsWindow, first_of}
 use Rattle.cfi_perf.proofs.Chains.{gave, not_error, not_missing, not_refused}
 use Rattle.cfi_perf.proofs.RecordSteps.{no_more_after, part_fits, sized, with_body, with_frame, with_header, with_others}
@@ -271,3 +271,16 @@ some_bytes bytes left all some = ne_eqb (length bytes) 0 (λ none. some (sym all
 
 pub window_length : (window others : List ℕ) (left : ℕ) → IsWindow window others left → length (window ++ others) ≡ left
 window_length window others left of = length-append window others ∙ of.all
+
+-- ---- a record behind which a trace may be says nothing
+
+of_trace : (events : EventTable) (big : Bool) (header : RecordHeader) (body : List ℕ) (r : Record) → record_of events big (record header { kind = 71 }) body ≡ Ok r → r.event ≡ OtherEvent
+unfolding record_of
+of_trace events big header body r is =
+    let time = gave (without_id events big 71 body) (λ found. Ok (record { time = found.time; event = OtherEvent })) r is in
+    let same : record { time = time.value.time; event = OtherEvent } ≡ r = let e = time.gives in cc in
+    sym (ap (λ (r : Record). r.event) same)
+
+pub trace_tells_nothing : (events : EventTable) (big : Bool) (header : RecordHeader) (body : List ℕ) (r : Record) → header.kind ≡ 71 → Ok r ≡ record_of events big header body → r.event ≡ OtherEvent
+trace_tells_nothing events big header body r kind is =
+    of_trace events big header body r (ap (λ (k : ℕ). record_of events big (record header { kind = k }) body) (sym kind) ∙ sym is)

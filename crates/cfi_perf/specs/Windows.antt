@@ -5,7 +5,7 @@
 --     records_in walk bytes      those that a walk of the code finds in the bytes that it has left
 --     record_alone walk bytes      the record that these bytes are
 --     framed_in, first_in      what the code finds in a window, of all bytes
-use Rattle.std.specs.Prelude.{◌≡◌, ◌≤◌, ℕ, ◌+◌, ◌-◌, List, drop, length, min, Option, Some}
+use Rattle.std.specs.Prelude.{◌≡◌, ◌⊎◌, ◌≤◌, ℕ, ◌+◌, ◌-◌, List, drop, length, min, Option, Some}
 use Rattle.std.specs.Prelude.{Result, Ok}
 use Rattle.cfi_read_core.specs.ByteOrder.{is_big}
 use Rattle.cfi_read_core.specs.ReaderCalls.{map_ok}
@@ -14,7 +14,7 @@ use Rattle.cfi_perf.specs.declared.windows.RecordWalk.{RecordWalk}
 use Rattle.cfi_perf.specs.declared.windows.FramedIn.{FramedIn}
 use Rattle.cfi_perf.specs.declared.windows.FirstIn.{FirstIn}
 use Rattle.cfi_perf.specs.EventTables.{table_view}
-use Rattle.cfi_perf.specs.Events.{Record, record_view}
+use Rattle.cfi_perf.specs.Events.{OtherEvent, Record, record_view}
 use Rattle.cfi_perf.specs.Records.{First, Framed, Records, first_record, records_of, until_cut}
 
 -- The size of a record is a number of 16 bits (struct perf_event_header).
@@ -58,3 +58,9 @@ record_alone walk bytes =
 abbrev pub IsAlone : RecordWalk → List ℕ → Result (Option Record) PerfError → Type 0
 IsAlone walk bytes (Ok (Some r)) = record_alone walk bytes ≡ Ok r
 IsAlone walk bytes _ = Unit {0}
+
+-- that the bytes that were passed are among the first of these, but for records that say nothing:
+-- behind those may be a trace
+abbrev pub IsWithin : ℕ → ℕ → Result (Option Record) PerfError → Type 0
+IsWithin count window (Ok (Some r)) = (r.event ≡ OtherEvent) ⊎ (count ≤ window)
+IsWithin count window _ = Unit {0}

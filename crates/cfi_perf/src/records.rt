@@ -191,7 +191,7 @@ pub(crate) struct WithoutId<'input> {
 
 /// Reads the first record of these bytes.
 #[tactic(auto, unfolding(crate::specs::Records::first_record))]
-fn first_record<'input>(
+pub(crate) fn first_record<'input>(
     events: &EventTable<'input>,
     endian: RunTimeEndian,
     bytes: &'input [u8],

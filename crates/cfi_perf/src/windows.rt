@@ -1,21 +1,23 @@
 //! The records of a profile whose bytes are read by parts: each by a window, the bytes that the
 //! caller has of those that are left.
-ghost use Rattle.std.specs.Prelude.{◌≡◌, ◌≤◌, ◌-◌, ◌+◌, ◌++◌, ℕ, List, IfOk, drop, length, map};
+ghost use Rattle.std.specs.Prelude.{◌≡◌, ◌⊎◌, ◌≤◌, ◌-◌, ◌+◌, ◌++◌, ℕ, List, IfOk, drop, length, map};
 ghost use Rattle.std.specs.Prelude.{max, min, option_map, take};
 ghost use Rattle.cfi_read_core.specs.ByteOrder.{is_big};
 ghost use Rattle.cfi_read_core.specs.ReaderCalls.{map_ok};
 ghost use Rattle.cfi_perf.specs.EventTables.{table_view};
-ghost use Rattle.cfi_perf.specs.Events.{record_view};
+ghost use Rattle.cfi_perf.specs.Events.{OtherEvent, record_view};
 ghost use Rattle.cfi_perf.specs.Records.{Meets, after_record, first_record, no_records};
-ghost use Rattle.cfi_perf.specs.Records.{split_record, until_cut};
-ghost use Rattle.cfi_perf.specs.Windows.{IsAlone, IsWindow, bytes_left, first_in, framed_in};
-ghost use Rattle.cfi_perf.specs.Windows.{passed, place_in, records_in};
+ghost use Rattle.cfi_perf.specs.Records.{records_of, split_record, until_cut};
+ghost use Rattle.cfi_perf.specs.Windows.{IsAlone, IsWindow, IsWithin, bytes_left, first_in, framed_in};
+ghost use Rattle.cfi_perf.specs.Windows.{passed, place_in, record_alone, records_in};
 
 use crate::bytes::part;
 use crate::error::PerfError;
 use crate::event_table::EventTable;
 use crate::record::Record;
-use crate::records::{PERF_RECORD_AUXTRACE, RecordHeader, read_record_header, record_of};
+use crate::records::{
+    PERF_RECORD_AUXTRACE, RecordHeader, first_record, read_record_header, record_of,
+};
 use cfi_read_core::{EndianSlice, Reader, RunTimeEndian};
 
 /// The greatest size of a record, in bytes.
@@ -46,7 +48,10 @@ impl<'input> RecordWalk<'input> {
         left: u64,
         is_cut: bool,
     ) -> Self
-        ensures { bytes_left result ≡ left }
+        ensures records { (bytes : List ℕ) → records_in result bytes ≡ until_cut is_cut
+            (records_of (table_view events.entry) (is_big endian) bytes) }
+        ensures left { bytes_left result ≡ left }
+        ensures place { place_in result ≡ end - left }
     {
         RecordWalk {
             events,
@@ -83,8 +88,8 @@ impl<'input> RecordWalk<'input> {
     }
 
     /// Returns the next record, by a window that begins at its place, or `None` at the end. The
-    /// bytes that `left` is less by are the record's own, with those of a trace behind it, which
-    /// needn't be in the window.
+    /// bytes that `left` is less by are the record's own: they are all in the window, but of an
+    /// `Event::Other`, behind which may be a trace.
     ///
     /// Fails as `Records::next` does. Does not allocate.
     pub fn next<'w>(&mut self, window: &'w [u8]) -> Result<Option<Record<'w>>, PerfError>
@@ -96,6 +101,8 @@ impl<'input> RecordWalk<'input> {
             (records_in self.new (drop (passed self.old self.new) (window.now ++ others))) }
         ensures alone { (others : List ℕ) → IsWindow window.now others (bytes_left self.old)
             → IsAlone self.old (take (passed self.old self.new) (window.now ++ others))
+            (map_ok (option_map record_view) result) }
+        ensures within { IsWithin (passed self.old self.new) (length window.now)
             (map_ok (option_map record_view) result) }
         ensures fewer { bytes_left self.new ≤ bytes_left self.old }
     {
@@ -117,6 +124,21 @@ impl<'input> RecordWalk<'input> {
                 self.is_cut = false;
                 Err(error)
             }
+        }
+    }
+
+    /// Reads a record again that `next` has returned, by its own bytes alone.
+    ///
+    /// Of other bytes it is their first record, and fails as `Records::next` does. Does not
+    /// allocate.
+    pub fn read_again<'w>(&self, bytes: &'w [u8]) -> Result<Record<'w>, PerfError>
+    where
+        'input: 'w,
+        ensures { map_ok record_view result ≡ record_alone self.now bytes.now }
+    {
+        match first_record(&self.events, self.endian, bytes) {
+            Ok(found) => Ok(found.first),
+            Err(error) => Err(error),
         }
     }
 }
@@ -154,9 +176,11 @@ fn first_in_window<'w>(
     window: &'w [u8],
     left: u64,
 ) -> Result<FirstIn<'w>, PerfError>
-    ensures { (others : List ℕ) → IsWindow window.now others left
+    ensures first { (others : List ℕ) → IsWindow window.now others left
         → map_ok (first_in (window.now ++ others)) result
         ≡ first_record (table_view events.now) (is_big endian) (window.now ++ others) }
+    ensures within { IfOk result (λ found.
+        ((record_view found.first).event ≡ OtherEvent) ⊎ (found.size ≤ length window.now)) }
 {
     let found = split_window(endian, window, left)?;
     let first = record_of(events, endian, &found.header, found.body)?;
@@ -168,9 +192,11 @@ fn first_in_window<'w>(
 
 /// Splits the first record off the bytes that are left, by a window of them.
 fn split_window(endian: RunTimeEndian, window: &[u8], left: u64) -> Result<FramedIn<'_>, PerfError>
-    ensures { (others : List ℕ) → IsWindow window.now others left
+    ensures framed { (others : List ℕ) → IsWindow window.now others left
         → map_ok (framed_in (window.now ++ others)) result
         ≡ split_record (is_big endian) (window.now ++ others) }
+    ensures within { IfOk result (λ found.
+        (found.header.kind ≡ 71) ⊎ (found.size ≤ length window.now)) }
 {
     let mut input = EndianSlice::new(window, endian);
     let Ok(header) = read_record_header(&mut input) else {
@@ -203,6 +229,7 @@ fn trace_size(
         → map_ok (λ size. drop size others) result
         ≡ after_record (is_big endian) header.now body.now others }
     ensures within { IfOk result (λ size. size ≤ behind) }
+    ensures none { IfOk result (λ size. (header.now.kind ≡ 71) ⊎ (size ≡ 0)) }
 {
     if header.kind != PERF_RECORD_AUXTRACE {
         return Ok(0);

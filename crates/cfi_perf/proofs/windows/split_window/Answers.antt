@@ -7,25 +7,25 @@ use Rattle.cfi_perf.proofs.RecordSteps.{with_others}
 use Rattle.cfi_perf.proofs.WindowSteps.{behind_length, cut_body, cut_header, cut_trace, framed, small_size}
 use Rattle.cfi_perf.proofs.windows.split_window.Goals as goal
 
-pub returns-in_default : goal.returns-in_default
-returns-in_default c others of =
+pub returns-in_default-clause-framed : goal.returns-in_default-clause-framed
+returns-in_default-clause-framed c others of =
     let is : read_from (is_big c.args.endian) c.args.window.now record_header ≡ Err c.in_default.field-0 = search rules in
     cut_header (is_big c.args.endian) c.args.window.now others c.args.left of c.in_default.field-0 is
 
-pub returns-then-size-lt8 : goal.returns-then-size-lt8
-returns-then-size-lt8 c others of =
+pub returns-then-size-lt8-clause-framed : goal.returns-then-size-lt8-clause-framed
+returns-then-size-lt8-clause-framed c others of =
     let is : read_from (is_big c.args.endian) c.args.window.now record_header ≡ Ok c.in-Ok.header = search rules in
     small_size (is_big c.args.endian) c.args.window.now others c.args.left of c.in-Ok.header is (omega arith)
 
-pub returns-in_default-part : goal.returns-in_default-part
-returns-in_default-part c others of =
+pub returns-in_default-part-clause-framed : goal.returns-in_default-part-clause-framed
+returns-in_default-part-clause-framed c others of =
     let is : read_from (is_big c.args.endian) c.args.window.now record_header ≡ Ok c.in-Ok.header = search rules in
     let fits : c.in-Ok.header.size < 65536 = search rules in
     let none : part c.args.window.now 8 (c.in-Ok.header.size - 8) ≡ None = search rules in
     cut_body (is_big c.args.endian) c.args.window.now others c.args.left of c.in-Ok.header is (omega arith) fits none
 
-pub returns-in_err-trace : goal.returns-in_err-trace
-returns-in_err-trace c others of =
+pub returns-in_err-trace-clause-framed : goal.returns-in_err-trace-clause-framed
+returns-in_err-trace-clause-framed c others of =
     let big = is_big c.args.endian in
     let window = c.args.window.now in
     let header = c.in-Ok.header in
@@ -37,8 +37,8 @@ returns-in_err-trace c others of =
     let p = err_from_is_err_and c.from_residual.result c.from_residual.ensures.1 in
     rw (p.1, p.2) (cut_trace big window others c.args.left of header is (omega arith) fits c.in-Some.body.now some c.in_err-trace.field-0.0 (c.in_err-trace.ensures.others (drop header.size (window ++ others)) behind))
 
-pub returns : goal.returns
-returns c others of =
+pub returns-clause-framed : goal.returns-clause-framed
+returns-clause-framed c others of =
     let big = is_big c.args.endian in
     let window = c.args.window.now in
     let header = c.in-Ok.header in

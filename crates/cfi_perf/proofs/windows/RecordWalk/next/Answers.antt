@@ -36,7 +36,7 @@ returns-in-Ok-clause-met c others of =
     let big = is_big walk.endian in
     let all = window_length _ _ _ of in
     let rest : walk.left - size ≡ c.saturating_sub-self.result = omega arith in
-    first_left events big walk.is_cut bytes (first_in bytes c.in-Ok.found) (some_bytes bytes walk.left all c.if-self-eq0.false) (c.in-Ok.ensures others of)
+    first_left events big walk.is_cut bytes (first_in bytes c.in-Ok.found) (some_bytes bytes walk.left all c.if-self-eq0.false) (c.in-Ok.ensures.first others of)
     ∙ (ap (λ (l : List ℕ). with_first (record_view c.in-Ok.found.first) (left events big walk.is_cut l)) (drop_passed walk.left size bytes all)
     ∙ ap (λ (n : ℕ). with_first (record_view c.in-Ok.found.first) (left events big walk.is_cut (drop (walk.left - n) bytes))) rest)
 
@@ -48,13 +48,13 @@ returns-in-Ok-clause-alone c others of =
     let all = window_length _ _ _ of in
     let rest : walk.left - size ≡ c.saturating_sub-self.result = omega arith in
     let ends : drop size bytes ≡ drop (walk.left - c.saturating_sub-self.result) bytes = drop_passed walk.left size bytes all ∙ ap (λ (n : ℕ). drop (walk.left - n) bytes) rest in
-    first_alone (is_big walk.endian) bytes (walk.left - c.saturating_sub-self.result) (table_view walk.events) (first_in bytes c.in-Ok.found) (c.in-Ok.ensures others of) ends
+    first_alone (is_big walk.endian) bytes (walk.left - c.saturating_sub-self.result) (table_view walk.events) (first_in bytes c.in-Ok.found) (c.in-Ok.ensures.first others of) ends
 
 pub returns-in-Err-clause-met : goal.returns-in-Err-clause-met
 returns-in-Err-clause-met c others of =
     let walk = c.args.self.now in
     let bytes = c.args.window.now ++ others in
     let all = window_length _ _ _ of in (
-      error_left (table_view walk.events) (is_big walk.endian) walk.is_cut bytes c.in-Err.error c.end_error-error.result (some_bytes bytes walk.left all c.if-self-eq0.false) (c.in-Err.ensures others of) c.end_error-error.ensures,
+      error_left (table_view walk.events) (is_big walk.endian) walk.is_cut bytes c.in-Err.error c.end_error-error.result (some_bytes bytes walk.left all c.if-self-eq0.false) (c.in-Err.ensures.first others of) c.end_error-error.ensures,
       none_left (table_view walk.events) (is_big walk.endian) false (drop (walk.left - 0) bytes) (no_bytes_left (walk.left - 0) bytes (omega (arith, all))) refl,
     )
