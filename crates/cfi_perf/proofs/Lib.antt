@@ -3,6 +3,7 @@ pub mod ChainSteps
 pub mod Chains
 pub mod EntrySteps
 pub mod EventSteps
+pub mod IndexSteps
 pub mod ItemReads
 pub mod LostSums
 pub mod RecordSteps

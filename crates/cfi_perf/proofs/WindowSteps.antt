@@ -29,7 +29,7 @@ number_read w s place fits = rw fits refl
 
 -- ---- a part of the beginning is one of the whole
 
-front_range : (front others : List ℕ) (i j : ℕ) → j ≤ length front → i ≤ j → slice_range (front ++ others) i j ≡ slice_range front i j
+pub front_range : (front others : List ℕ) (i j : ℕ) → j ≤ length front → i ≤ j → slice_range (front ++ others) i j ≡ slice_range front i j
 front_range front others i j h under =
     ap (λ (l : List ℕ). take (j - i) l) (drop-append-le i front others (omega arith))
     ∙ take-append-le (j - i) (drop i front) others (omega (arith, length-drop i front))

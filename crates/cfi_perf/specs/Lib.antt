@@ -11,3 +11,4 @@ pub mod Records
 pub mod Recordings
 pub mod Profiles
 pub mod Windows
+pub mod Indexes
