@@ -1,5 +1,5 @@
 -- One more record of an index.
-use Rattle.std.proofs.Common.{◌≡◌, ◌≢◌, ◌⊎◌, ◌≤◌, ◌+◌, ◌-◌, ◌∙◌, ℕ, List, [], ◌∷◌, ◌++◌, Result, Ok, Err, OnOk, refl, sym, ap, subst, length, take, drop, arith, ⊎_elim, length-append}
+use Rattle.std.proofs.Common.{◌≡◌, ◌≤◌, ◌+◌, ◌-◌, ◌∙◌, ℕ, List, [], ◌∷◌, ◌++◌, Result, Ok, Err, OnOk, refl, sym, ap, subst, length, take, drop, arith, ⊎_elim, length-append}
 use Rattle.std.specs.Prelude.{slice_range}
 use Rattle.std.proofs.Math.Seq.{drop-append_seam, take-length}
 use Rattle.cfi_perf.specs.declared.index.PlaceKind.{PlaceKind}
@@ -13,7 +13,7 @@ use Rattle.cfi_perf.specs.declared.sample.Sample.{Sample as SampleOfCode}
 use Rattle.cfi_perf.specs.declared.windows.RecordWalk.{RecordWalk}
 use Rattle.cfi_perf.specs.declared.error.PerfError.{PerfError}
 use Rattle.cfi_perf.specs.Events.{Event, OtherEvent, Record, event_view, record_view}
-use Rattle.cfi_perf.specs.Indexes.{AreAt, AreIndexed, IsAt, IsKeptIn, IsOfBytes, record_by, record_in}
+use Rattle.cfi_perf.specs.Indexes.{AreAt, AreIndexed, IsAt, IsKeptIn, IsOfBytes, record_by}
 use Rattle.cfi_perf.specs.Windows.{record_alone}
 use Rattle.cfi_perf.proofs.WindowSteps.{front_range}
 

@@ -9,5 +9,6 @@ pub mod LostSums
 pub mod RecordSteps
 pub mod PlaceLemmas
 pub mod WindowSteps
+pub mod SortSteps
 mod Registers
 mod Worked

@@ -1,5 +1,5 @@
 -- Where the records of a profile are among its bytes.
-use Rattle.std.proofs.Common.{◌≡◌, ◌∙◌, ◌+◌, ◌-◌, ℕ, List, Result, Ok, length, take, drop, ap, sym, arith, min, refl, subst, cond, ◌<◌, ◌≤◌, ⊎_elim}
+use Rattle.std.proofs.Common.{◌≡◌, ◌∙◌, ◌+◌, ◌-◌, ℕ, List, Result, Ok, length, take, drop, ap, sym, arith, min, subst, ◌<◌, ◌≤◌, ⊎_elim}
 use Rattle.std.specs.Prelude.{nat_lt}
 use Rattle.std.proofs.lemmas.List.{length-drop, length-take, nil_from_length, take_min}
 use Rattle.std.proofs.lemmas.Bool.{cases_lt}

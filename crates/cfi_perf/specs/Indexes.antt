@@ -1,11 +1,15 @@
 -- The records of a profile whose samples stay in the file.
---     record_in walk all kept place      the record at a place: of the bytes that all records have in
---         the file, or of those that were kept
+--     record_in walk all kept place      the record at a place: among the bytes of all records, which
+--         are in the file, or among those that were kept
 --     AreIndexed walk all index records      the places of an index are those of these records, in
 --         this order
+--     AreIndexedSorted walk all index records      they are those of these records by time
 --     IsOfBytes walk all record offset bytes      a record is the one that these bytes are, which
 --         are those at the offset; or it says nothing
-use Rattle.std.specs.Prelude.{◌≡◌, ◌⊎◌, ◌≤◌, ℕ, ◌+◌, List, [], ◌∷◌, map, length, slice_range, Result, Ok}
+use Rattle.std.specs.Prelude.{◌≡◌, ◌⊎◌, ◌≤◌, ℕ, ◌+◌, List, [], ◌∷◌, length, slice_range, Result}
+use Rattle.std.specs.Prelude.{Ok}
+use Rattle.std.specs.List.Sorted.{IsSortedByKey, IsStableByKey}
+use Rattle.std.specs.Ordering.{nat_cmp}
 use Rattle.cfi_perf.specs.declared.error.PerfError.{PerfError}
 use Rattle.cfi_perf.specs.declared.index.PlaceKind.{PlaceKind}
 use Rattle.cfi_perf.specs.declared.index.PlaceKind.TheVariants.{InFile, Kept, Nothing}
@@ -62,3 +66,15 @@ IsOfBytes walk all r offset bytes =
     (r.event ≡ OtherEvent)
     ⊎ ((record_alone walk bytes ≡ Ok r)
     × (slice_range all offset (offset + length bytes) ≡ bytes))
+
+-- ---- in the order of their times
+
+-- those of one time stay in their order
+pub record IsInTimeOrder (records sorted : List Record) : Type 0 where
+  pub by_time : IsSortedByKey (λ r. r.time) nat_cmp sorted
+  pub stable : IsStableByKey (λ r. r.time) nat_cmp records sorted
+
+-- that the places of an index are those of these records, sorted
+abbrev pub AreIndexedSorted : RecordWalk → List ℕ → RecordIndex → List Record → Type 0
+AreIndexedSorted walk all index records =
+    (sorted : List Record) × AreIndexed walk all index sorted × IsInTimeOrder records sorted

@@ -4,7 +4,8 @@ ghost use Rattle.std.specs.Prelude.{◌≡◌, ◌∷◌, ◌++◌, ℕ, [], Lis
 ghost use Rattle.cfi_perf.specs.declared.windows.RecordWalk.{RecordWalk};
 ghost use Rattle.cfi_perf.specs.Events.{Record as RecordOfProfile};
 ghost use Rattle.cfi_perf.specs.Events.{record_view};
-ghost use Rattle.cfi_perf.specs.Indexes.{AreIndexed, IsOfBytes, kept_of, places_of};
+ghost use Rattle.cfi_perf.specs.Indexes.{AreIndexed, AreIndexedSorted, IsOfBytes, kept_of};
+ghost use Rattle.cfi_perf.specs.Indexes.{places_of};
 
 use crate::record::{Event, Record};
 use std::alloc::{AllocError, Global};
@@ -81,6 +82,16 @@ impl RecordIndex {
             Event::Other => self.push_place(item.time, offset, bytes, PlaceKind::Nothing),
             _ => self.keep(item.time, bytes),
         }
+    }
+
+    /// Sorts the places by time; those of one time stay in their order. Fails where memory is
+    /// refused.
+    pub fn sort_by_time(&mut self) -> Result<(), AllocError>
+        ensures { OnOk result ((walk : RecordWalk) (all : List ℕ) (records : List RecordOfProfile)
+            → AreIndexed walk all self.old records → AreIndexedSorted walk all self.new records) }
+    {
+        self.places.sort_by_key(|place| place.time)?;
+        Ok(())
     }
 
     /// Adds a place.

@@ -9,6 +9,9 @@
 //! iterates over the records, `event_table` and `event_names` find the event of each, `record`,
 //! `sample` and `call_chain` have what a record says. `recording` says what all records together
 //! tell of the recording. Nothing is allocated or copied.
+//!
+//! Of a profile that is read by parts, `windows` reads each record by the bytes that the caller has
+//! of it, and `index` keeps where each is; only the index allocates.
 
 pub mod attribute;
 mod build_ids;

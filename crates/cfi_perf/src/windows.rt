@@ -1,15 +1,15 @@
 //! The records of a profile whose bytes are read by parts: each by a window, the bytes that the
 //! caller has of those that are left.
-ghost use Rattle.std.specs.Prelude.{◌≡◌, ◌⊎◌, ◌≤◌, ◌-◌, ◌+◌, ◌++◌, ℕ, List, IfOk, drop, length, map};
-ghost use Rattle.std.specs.Prelude.{max, min, option_map, take};
+ghost use Rattle.std.specs.Prelude.{◌≡◌, ◌⊎◌, ◌≤◌, ◌-◌, ◌++◌, ℕ, List, IfOk, Some, drop};
+ghost use Rattle.std.specs.Prelude.{length, min, option_map, take};
 ghost use Rattle.cfi_read_core.specs.ByteOrder.{is_big};
 ghost use Rattle.cfi_read_core.specs.ReaderCalls.{map_ok};
 ghost use Rattle.cfi_perf.specs.EventTables.{table_view};
 ghost use Rattle.cfi_perf.specs.Events.{OtherEvent, record_view};
 ghost use Rattle.cfi_perf.specs.Records.{Meets, after_record, first_record, no_records};
 ghost use Rattle.cfi_perf.specs.Records.{records_of, split_record, until_cut};
-ghost use Rattle.cfi_perf.specs.Windows.{IsAlone, IsWindow, IsWithin, bytes_left, first_in, framed_in};
-ghost use Rattle.cfi_perf.specs.Windows.{passed, place_in, record_alone, records_in};
+ghost use Rattle.cfi_perf.specs.Windows.{IsAlone, IsWindow, IsWithin, bytes_left, first_in};
+ghost use Rattle.cfi_perf.specs.Windows.{framed_in, passed, place_in, record_alone, records_in};
 
 use crate::bytes::part;
 use crate::error::PerfError;

@@ -1,4 +1,4 @@
-use Rattle.std.proofs.Common.{◌≡◌, ◌∙◌, ap, arith}
+use Rattle.std.proofs.Common.{◌∙◌, ap, arith}
 use Rattle.cfi_read_core.specs.ByteOrder.{is_big}
 use Rattle.cfi_perf.specs.EventTables.{EventTable}
 use Rattle.cfi_perf.specs.Records.{records_of, until_cut}
