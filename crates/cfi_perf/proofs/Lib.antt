@@ -9,6 +9,7 @@ pub mod LostSums
 pub mod RecordSteps
 pub mod PlaceLemmas
 pub mod WindowSteps
+pub mod SameEvents
 pub mod SortSteps
 mod Registers
 mod Worked

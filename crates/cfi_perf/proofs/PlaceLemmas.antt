@@ -57,4 +57,4 @@ records_placed bytes p is =
     let endian = gave (byte_order bytes) (λ endian. and_then (file_header endian bytes) (λ header. and_then (events_by endian bytes header) (λ events. Ok (made bytes endian header events)))) p is in
     let header = gave (file_header endian.value bytes) (λ header. and_then (events_by endian.value bytes header) (λ events. Ok (made bytes endian.value header events))) p endian.gives in
     let events = gave (events_by endian.value bytes header.value) (λ events. Ok (made bytes endian.value header.value events)) p header.gives in
-    placed_of bytes endian.value header.value events.value p (found_made events.gives)
+    placed_of bytes endian.value header.value events.value p (found_made {x = made bytes endian.value header.value events.value} events.gives)

@@ -118,8 +118,12 @@ impl RecordIndex {
     /// Keeps the bytes of a record, and adds their place.
     fn keep(&mut self, time: u64, bytes: &[u8]) -> Result<(), AllocError>
         ensures places { OnOk result (self.new.places.items ≡ self.old.places.items
-            ++ record { time = time; offset = length self.old.kept.items; size = length bytes.now;
-            kind = PlaceKind.Kept } ∷ []) }
+            ++ record {
+              time = time;
+              offset = length self.old.kept.items;
+              size = length bytes.now;
+              kind = PlaceKind.Kept;
+            } ∷ []) }
         ensures kept { OnOk result (self.new.kept.items ≡ self.old.kept.items ++ bytes.now) }
     {
         let offset = self.kept.len() as u64;
