@@ -1,5 +1,5 @@
 -- One more record of an index.
-use Rattle.std.proofs.Common.{◌≡◌, ◌≤◌, ◌+◌, ◌-◌, ◌∙◌, ℕ, List, [], ◌∷◌, ◌++◌, Result, Ok, Err, OnOk, refl, sym, ap, subst, length, take, drop, arith, ⊎_elim, length-append}
+use Rattle.std.proofs.Common.{append-nil, ◌≡◌, ◌≤◌, ◌+◌, ◌-◌, ◌∙◌, ℕ, List, [], ◌∷◌, ◌++◌, Result, Ok, Err, OnOk, refl, sym, ap, subst, length, take, drop, arith, ⊎_elim, length-append}
 use Rattle.std.specs.Prelude.{slice_range}
 use Rattle.std.proofs.Math.Seq.{drop-append_seam, take-length}
 use Rattle.cfi_perf.specs.declared.index.PlaceKind.{PlaceKind}
@@ -13,7 +13,7 @@ use Rattle.cfi_perf.specs.declared.sample.Sample.{Sample as SampleOfCode}
 use Rattle.cfi_perf.specs.declared.windows.RecordWalk.{RecordWalk}
 use Rattle.cfi_perf.specs.declared.error.PerfError.{PerfError}
 use Rattle.cfi_perf.specs.Events.{Event, OtherEvent, Record, event_view, record_view}
-use Rattle.cfi_perf.specs.Indexes.{AreAt, AreIndexed, IsAt, IsKeptIn, IsOfBytes, record_by}
+use Rattle.cfi_perf.specs.Indexes.{kept_bytes, AreAt, AreIndexed, IsAt, IsKeptIn, IsOfBytes, record_by}
 use Rattle.cfi_perf.specs.Windows.{record_alone}
 use Rattle.cfi_perf.proofs.WindowSteps.{front_range}
 
@@ -92,6 +92,22 @@ other_by_view (events.Sample s) is = absurd (cc)
 other_by_view (events.Lost l) is = absurd (cc)
 other_by_view events.Other is = refl
 
+-- ---- what is kept
+
+pub kept_of_sample : (e : EventOfCode) (s : SampleOfCode) (bytes : List ℕ) → e ≡ events.Sample s → kept_bytes (event_view e) bytes ≡ []
+kept_of_sample e s bytes is = ap (λ (e : EventOfCode). kept_bytes (event_view e) bytes) is
+
+pub kept_of_other : (e : EventOfCode) (bytes : List ℕ) → e ≡ events.Other → kept_bytes (event_view e) bytes ≡ []
+kept_of_other e bytes is = ap (λ (e : EventOfCode). kept_bytes (event_view e) bytes) is
+
+pub kept_otherwise : (e : EventOfCode) (bytes : List ℕ) → ((s : SampleOfCode) → e ≡ events.Sample s → ⊥) → (e ≡ events.Other → ⊥) → kept_bytes (event_view e) bytes ≡ bytes
+kept_otherwise (events.Mapping m) bytes sample other = refl
+kept_otherwise (events.Program p) bytes sample other = refl
+kept_otherwise (events.Fork f) bytes sample other = refl
+kept_otherwise (events.Sample s) bytes sample other = absurd (sample s refl)
+kept_otherwise (events.Lost l) bytes sample other = refl
+kept_otherwise events.Other bytes sample other = absurd (other refl)
+
 abbrev Adds : RecordIndex → RecordIndex → Record → ℕ → List ℕ → Type 0
 Adds old new r offset bytes =
     (walk : RecordWalk) (all : List ℕ) (records : List Record) → AreIndexed walk all old records → IsOfBytes walk all r offset bytes → AreIndexed walk all new (records ++ r ∷ [])
@@ -118,3 +134,11 @@ module _ (old new : RecordIndex) (item : RecordOfCode) (offset : ℕ) (bytes : L
         λ walk all records are of. added walk all (old.kept.items ++ bytes) new.kept.items old.places.items new.places.items records _ (record_view item) same more
         (more_kept walk all old.kept.items bytes old.places.items records are) (kept_at walk all old.kept.items (record_view item) offset bytes of (λ none. some (other_by_view item.event none)))
     kept_added (Err e) some more same = tt
+
+    pub none_kept : (r : Result T E) → kept_bytes (event_view item.event) bytes ≡ [] → OnOk r (new.kept.items ≡ old.kept.items) → OnOk r (new.kept.items ≡ old.kept.items ++ kept_bytes (event_view item.event) bytes)
+    none_kept (Ok x) none same = same ∙ (sym (append-nil old.kept.items) ∙ ap (λ (l : List ℕ). old.kept.items ++ l) (sym none))
+    none_kept (Err e) none same = tt
+
+    pub all_kept : (r : Result T E) → kept_bytes (event_view item.event) bytes ≡ bytes → OnOk r (new.kept.items ≡ old.kept.items ++ bytes) → OnOk r (new.kept.items ≡ old.kept.items ++ kept_bytes (event_view item.event) bytes)
+    all_kept (Ok x) every more = more ∙ ap (λ (l : List ℕ). old.kept.items ++ l) (sym every)
+    all_kept (Err e) every more = tt

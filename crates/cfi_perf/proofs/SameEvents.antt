@@ -11,7 +11,7 @@ use Rattle.cfi_perf.specs.declared.error.PerfError.{PerfError}
 use Rattle.cfi_perf.specs.declared.error.PerfError.TheVariants.{Compressed}
 use Rattle.cfi_perf.specs.declared.records.RecordHeader.{RecordHeader}
 use Rattle.cfi_perf.specs.Layouts.{has, PERF_SAMPLE_IDENTIFIER}
-use Rattle.cfi_perf.specs.EventTables.{EventTable, ProfileEvent, event_by, event_of_id, event_of_sample, first_with_id, has_id, id_place, layout_of_other, layout_or_first, numbered_event, numbers_in, tells_id}
+use Rattle.cfi_perf.specs.EventTables.{EventTable, ProfileEvent, event_by, event_of_id, event_of_sample, first_with_id, id_place, layout_of_other, layout_or_first, numbered_event, numbers_in, tells_id}
 use Rattle.cfi_perf.specs.Events.{Record}
 use Rattle.cfi_perf.specs.Records.{First, Records, WithoutId, event_of, first_record, no_records, record_of, records_of, records_up_to, records_with, sample_of, split_record, without_id, without_id_by}
 use Rattle.cfi_perf.specs.Results.{and_then, part, read_from}

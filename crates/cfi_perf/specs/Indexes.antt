@@ -1,6 +1,6 @@
 -- The records of a profile whose samples stay in the file.
---     record_in walk all kept place      the record at a place: among the bytes of all records, which
---         are in the file, or among those that were kept
+--     record_in walk all kept place      the record at a place: of the bytes of all records, which
+--         are in the file, or of those that were kept
 --     AreIndexed walk all index records      the places of an index are those of these records, in
 --         this order
 --     AreIndexedSorted walk all index records      they are those of these records by time
@@ -16,7 +16,7 @@ use Rattle.cfi_perf.specs.declared.index.PlaceKind.TheVariants.{InFile, Kept, No
 use Rattle.cfi_perf.specs.declared.index.RecordIndex.{RecordIndex}
 use Rattle.cfi_perf.specs.declared.index.RecordPlace.{RecordPlace}
 use Rattle.cfi_perf.specs.declared.windows.RecordWalk.{RecordWalk}
-use Rattle.cfi_perf.specs.Events.{OtherEvent, Record}
+use Rattle.cfi_perf.specs.Events.{Event, OtherEvent, Record, SampleEvent}
 use Rattle.cfi_perf.specs.Windows.{record_alone}
 
 abbrev pub bytes_at : RecordPlace → List ℕ → List ℕ
@@ -60,6 +60,12 @@ AreIndexed walk all index records =
     AreAt walk all index.kept.items index.places.items records
 
 -- ---- one more
+
+-- what is kept of a record: nothing of a sample, nor of one that says nothing
+abbrev pub kept_bytes : Event → List ℕ → List ℕ
+kept_bytes (SampleEvent s) bytes = []
+kept_bytes OtherEvent bytes = []
+kept_bytes _ bytes = bytes
 
 abbrev pub IsOfBytes : RecordWalk → List ℕ → Record → ℕ → List ℕ → Type 0
 IsOfBytes walk all r offset bytes =

@@ -4,8 +4,8 @@ ghost use Rattle.std.specs.Prelude.{◌≡◌, ◌∷◌, ◌++◌, ℕ, [], Lis
 ghost use Rattle.cfi_perf.specs.declared.windows.RecordWalk.{RecordWalk};
 ghost use Rattle.cfi_perf.specs.Events.{Record as RecordOfProfile};
 ghost use Rattle.cfi_perf.specs.Events.{record_view};
-ghost use Rattle.cfi_perf.specs.Indexes.{AreIndexed, AreIndexedSorted, IsOfBytes, kept_of};
-ghost use Rattle.cfi_perf.specs.Indexes.{places_of};
+ghost use Rattle.cfi_perf.specs.Indexes.{AreIndexed, AreIndexedSorted, IsOfBytes, kept_bytes};
+ghost use Rattle.cfi_perf.specs.Indexes.{kept_of, places_of};
 
 use crate::record::{Event, Record};
 use std::alloc::{AllocError, Global};
@@ -44,7 +44,8 @@ pub struct RecordIndex {
 impl RecordIndex {
     /// There are none. Does not allocate.
     pub fn new(alloc: Global) -> Self
-        ensures { (walk : RecordWalk) (all : List ℕ) → AreIndexed walk all result [] }
+        ensures indexed { (walk : RecordWalk) (all : List ℕ) → AreIndexed walk all result [] }
+        ensures kept { kept_of result ≡ [] }
     {
         RecordIndex {
             places: Vec::new(alloc),
@@ -72,10 +73,12 @@ impl RecordIndex {
     ///
     /// Fails where memory is refused.
     pub fn push(&mut self, item: &Record<'_>, offset: u64, bytes: &[u8]) -> Result<(), AllocError>
-        ensures { OnOk result ((walk : RecordWalk) (all : List ℕ) (records : List RecordOfProfile)
-            → AreIndexed walk all self.old records
+        ensures indexed { OnOk result ((walk : RecordWalk) (all : List ℕ)
+            (records : List RecordOfProfile) → AreIndexed walk all self.old records
             → IsOfBytes walk all (record_view item.now) offset bytes.now
             → AreIndexed walk all self.new (records ++ record_view item.now ∷ [])) }
+        ensures kept { OnOk result (kept_of self.new
+            ≡ kept_of self.old ++ kept_bytes (record_view item.now).event bytes.now) }
     {
         match item.event {
             Event::Sample(_) => self.push_place(item.time, offset, bytes, PlaceKind::InFile),
@@ -87,8 +90,10 @@ impl RecordIndex {
     /// Sorts the places by time; those of one time stay in their order. Fails where memory is
     /// refused.
     pub fn sort_by_time(&mut self) -> Result<(), AllocError>
-        ensures { OnOk result ((walk : RecordWalk) (all : List ℕ) (records : List RecordOfProfile)
-            → AreIndexed walk all self.old records → AreIndexedSorted walk all self.new records) }
+        ensures indexed { OnOk result ((walk : RecordWalk) (all : List ℕ)
+            (records : List RecordOfProfile) → AreIndexed walk all self.old records
+            → AreIndexedSorted walk all self.new records) }
+        ensures kept { kept_of self.new ≡ kept_of self.old }
     {
         self.places.sort_by_key(|place| place.time)?;
         Ok(())

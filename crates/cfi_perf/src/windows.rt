@@ -105,6 +105,8 @@ impl<'input> RecordWalk<'input> {
         ensures within { IsWithin (passed self.old self.new) (length window.now)
             (map_ok (option_map record_view) result) }
         ensures fewer { bytes_left self.new ≤ bytes_left self.old }
+        ensures same { (bytes : List ℕ)
+            → record_alone self.new bytes ≡ record_alone self.old bytes }
     {
         if self.left == 0 {
             if self.is_cut {
