@@ -19,6 +19,7 @@ use Rattle.cfi_elf.specs.declared.error.ElfError.TheVariants as elf
 use Rattle.cfi_elf.specs.ElfFiles.{File}
 use Rattle.cfi_programs.specs.Lines.{Line, reason_behind}
 use Rattle.cfi_programs.specs.AnswerLines.{answer_behind}
+use Rattle.cfi_programs.specs.Wordings.{Wording, of_section}
 use Rattle.cfi_programs.specs.declared.style.Format.{Format}
 use Rattle.cfi_programs.specs.declared.style.Style.{Style}
 use Rattle.cfi_object.specs.Targets.{target_addresses}
@@ -40,7 +41,12 @@ no_frames format = reason_behind format [] (codes "no call frames")
 abbrev pub no_place : Format → Line
 no_place format = reason_behind format [] (codes "no address")
 
--- ---- in a section, where the unwind has room for 192 rules and 4 rows
+-- ---- in a section, whose expressions are in words
+
+abbrev pub wording_in : Style → GivenSection → Wording
+wording_in style frames = of_section style (given_section frames)
+
+-- ---- the row, where the unwind has room for 192 rules and 4 rows
 
 -- by a scan
 abbrev pub IsScanned : GivenSection → ℕ → Result (Row ℕ) Error → Type 0
@@ -58,7 +64,7 @@ IsByTable frames header address answer =
 abbrev pub IsPartRow : Style → Result GivenSection ElfError → ℕ → Line → Type 0
 IsPartRow style (Ok frames) address printed =
     (answer : Result (Row ℕ) Error) × IsScanned frames address answer
-    × (printed ≡ answer_behind style answer)
+    × (printed ≡ answer_behind (wording_in style frames) answer)
 IsPartRow style (Err e) address printed = printed ≡ no_row_of style.format e
 
 -- the line where there is no .debug_frame
@@ -75,9 +81,11 @@ OtherwiseIn style debug_frame error address printed =
     ⊎ ((error ≢ NoUnwindInfoForAddress) × (printed ≡ no_row_for style.format error))
 
 abbrev pub IsAnswered :
-    Style → Option (Result GivenSection ElfError) → ℕ → Result (Row ℕ) Error → Line → Type 0
-IsAnswered style debug_frame address (Ok row) printed = printed ≡ answer_behind style (Ok row)
-IsAnswered style debug_frame address (Err error) printed =
+    Style → GivenSection → Option (Result GivenSection ElfError) → ℕ → Result (Row ℕ) Error →
+    Line → Type 0
+IsAnswered style frames debug_frame address (Ok row) printed =
+    printed ≡ answer_behind (wording_in style frames) (Ok row)
+IsAnswered style frames debug_frame address (Err error) printed =
     OtherwiseIn style debug_frame error address printed
 
 -- by a scan of .eh_frame
@@ -85,14 +93,14 @@ abbrev pub IsRowOr :
     Style → GivenSection → Option (Result GivenSection ElfError) → ℕ → Line → Type 0
 IsRowOr style frames debug_frame address printed =
     (answer : Result (Row ℕ) Error) × IsScanned frames address answer
-    × IsAnswered style debug_frame address answer printed
+    × IsAnswered style frames debug_frame address answer printed
 
 -- the row to which the table leads, or by a scan where it leads to none
 abbrev pub IsTableRowOr :
     Style → GivenSection → Option (Result GivenSection ElfError) → ℕ → Result (Row ℕ) Error →
     Line → Type 0
 IsTableRowOr style frames debug_frame address (Ok row) printed =
-    printed ≡ answer_behind style (Ok row)
+    printed ≡ answer_behind (wording_in style frames) (Ok row)
 IsTableRowOr style frames debug_frame address (Err e) printed =
     IsRowOr style frames debug_frame address printed
 

@@ -19,7 +19,7 @@ use crate::sections::{debug_frame_part, eh_frame_part};
 use cfi_elf::{ElfError, ElfFile};
 use cfi_object::target::target_addresses;
 use cfi_programs::lines::write_reason_behind;
-use cfi_programs::row_line::write_answer_behind;
+use cfi_programs::row_words::write_answer_behind;
 use cfi_programs::style::{Format, Style};
 use gimli_cfi::{Error, SectionSource, UnwindContext};
 use std::alloc::Global;
@@ -323,7 +323,7 @@ fn print_eh_frame_row<W: Write>(
         return print_scanned_row(style, frames, debug_frame, address, context, output);
     };
     match frames.row(context, address) {
-        Ok(row) => write_answer_behind(output, style, Ok(row)),
+        Ok(row) => write_answer_behind(output, style, frames, Ok(row)),
         Err(_) => print_scanned_row(style, frames, debug_frame, address, context, output),
     }
 }
@@ -342,7 +342,7 @@ fn print_scanned_row<W: Write>(
         (W.contents output.old) (W.contents output.new) result }
 {
     match frames.row_by_scan(context, address) {
-        Ok(row) => write_answer_behind(output, style, Ok(row)),
+        Ok(row) => write_answer_behind(output, style, frames, Ok(row)),
         Err(error) => print_otherwise(style, debug_frame, error, address, context, output),
     }
 }
@@ -383,7 +383,7 @@ fn print_part_row<W: Write>(
     match part {
         Ok(frames) => {
             let row = frames.row_by_scan(context, address);
-            write_answer_behind(output, style, row)
+            write_answer_behind(output, style, &frames, row)
         }
         Err(error) => write_no_row_of(output, style.format, error),
     }

@@ -16,6 +16,7 @@ use Rattle.cfi_unwind.specs.Scan.{read_fde}
 use Rattle.cfi_programs.specs.Lines.{address_text, refusal_in}
 use Rattle.cfi_programs.specs.FunctionLines.{function_text}
 use Rattle.cfi_programs.specs.JsonLines.{json_addresses, json_function}
+use Rattle.cfi_programs.specs.Wordings.{of_section}
 use Rattle.cfi_programs.specs.DumpSectionTexts.{fde_rows, lines}
 use Rattle.cfi_programs.specs.declared.style.Format.{Format}
 use Rattle.cfi_programs.specs.declared.style.Format.TheVariants.{Text as AsText, Json}
@@ -60,7 +61,8 @@ abbrev pub fde_rows_text :
     Style → (ℕ → Option (List ℕ)) → Option (List ℕ) → Section → Result Fde Error → List ℕ
 fde_rows_text style function addresses section (Ok fde) =
     if is_asked_for addresses fde
-    then addresses_line style.format function fde ++ lines style (fde_rows section fde)
+    then addresses_line style.format function fde
+    ++ lines (of_section style section) (fde_rows section fde)
     else []
 fde_rows_text style function addresses section (Err error) = (refusal_in style.format error).text
 

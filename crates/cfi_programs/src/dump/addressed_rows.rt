@@ -16,6 +16,7 @@ ghost use Rattle.cfi_programs.specs.DumpRowTexts.{addresses_in, addresses_line, 
 ghost use Rattle.cfi_programs.specs.DumpRowTexts.{contains_any, function_in, given_addresses};
 ghost use Rattle.cfi_programs.specs.DumpRowTexts.{entry_rows_text, fde_rows_text, is_asked_for};
 ghost use Rattle.cfi_programs.specs.ReadingTexts.{item_text};
+ghost use Rattle.cfi_programs.specs.Wordings.{of_section};
 
 use crate::dump::function_line::{end_line, push_end};
 use crate::dump::printed::AskedRows;
@@ -107,7 +108,8 @@ fn write_if_asked_for<R: Reader<Offset = usize>, S: UnwindSection<R>, W: Write>(
     requires own { IsFdeOf R.position (S.view section.now).position fde.now }
     requires cie { HasCieOf R.position (S.view section.now).position fde.now }
     ensures { let read = fde_view R.position (λ n. n) fde.now in
-        let rows = lines style (fde_rows (section_of (S.view section.now) bases.now) read) in
+        let from = section_of (S.view section.now) bases.now in
+        let rows = lines (of_section style from) (fde_rows from read) in
         Writes (W.contents output.old) (W.contents output.new) result
         (if is_asked_for (given_addresses asked.entry.addresses) read
         then addresses_line style.format (name_in asked.entry.functions.now) read ++ rows else []) }
@@ -171,7 +173,8 @@ fn write_addressed_rows<R: Reader<Offset = usize>, S: UnwindSection<R>, W: Write
     requires own { IsFdeOf R.position (S.view section.now).position fde.now }
     requires cie { HasCieOf R.position (S.view section.now).position fde.now }
     ensures { let read = fde_view R.position (λ n. n) fde.now in
-        let rows = lines style (fde_rows (section_of (S.view section.now) bases.now) read) in
+        let from = section_of (S.view section.now) bases.now in
+        let rows = lines (of_section style from) (fde_rows from read) in
         Writes (W.contents output.old) (W.contents output.new) result
         (addresses_line style.format (name_in functions.now) read ++ rows) }
 {

@@ -1,6 +1,6 @@
 use Rattle.cfi_programs.proofs.WrittenLemmas.{appends_then, writes_refused}
 use Rattle.cfi_programs.proofs.DumpSectionWritten.{first_refused, last_written}
-use Rattle.cfi_programs.proofs.row_line.write_apart.Goals as goal
+use Rattle.cfi_programs.proofs.row_words.write_apart.Goals as goal
 
 pub returns-in_err-write_out-clause-written : goal.returns-in_err-write_out-clause-written
 returns-in_err-write_out-clause-written g c = first_refused _ _ _ c.args.text.now.items _ c.from_residual.ensures.0 c.in_err-write_out.ensures.written
