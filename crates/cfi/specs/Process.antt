@@ -4,7 +4,7 @@
 --     IsOutput disk words printed      the output for the words of the process
 --     PrintsRun disk words old new status      what a run writes, and its status
 use Rattle.std.specs.Prelude.{◌≡◌, ◌⊎◌, ◌&&◌, ℕ, Bool, List, [], ◌∷◌, ◌++◌, length, Option, Some}
-use Rattle.std.specs.Prelude.{None, Result, Vec, IsNone, MatchResult, IfOk, map}
+use Rattle.std.specs.Prelude.{None, Result, Vec, IsNone, MatchResult, IfOk, codes, map}
 use Rattle.std.specs.Prelude.{if◌then◌else◌}
 use Rattle.std.specs.Borrow.{Bor}
 use Rattle.std.specs.List.{count_by}
@@ -21,7 +21,7 @@ use Rattle.cfi_files.specs.Findings.{ChecksSome, has_table, is_faithful}
 use Rattle.cfi_files.specs.declared.finding.Finding.{Finding}
 use Rattle.cfi_files.specs.declared.finding.Finding.TheVariants.{Unreadable}
 use Rattle.cfi_files.specs.declared.request.Request.{Request}
-use Rattle.cfi_processes.specs.Wanted.{FilePlace, at_path, copy_of, debug_of}
+use Rattle.cfi_processes.specs.Wanted.{FilePlace, at_path, copy_of, debug_of, kernel_symbols}
 use Rattle.cfi_stacks.specs.CoreOutputs.{IsOwed as IsOwedOfCore}
 use Rattle.cfi_stacks.specs.ProfileOutputs.{IsListingOwed as IsOwedOfProfile}
 use Rattle.cfi_stacks.specs.declared.listing.Listing.{Listing}
@@ -137,13 +137,15 @@ AreTallied disk style names printed =
 -- ---- what is printed of a profile, and of a core file
 
 -- the files that it names; none is opened by a name that isn't UTF-8, or if the file isn't a
--- regular one. A copy of a build, and its debug file, are at paths of their own
+-- regular one. A copy of a build, and its debug file, are at paths of their own, and so are the
+-- kernel's symbols
 abbrev pub MayOpenAt : (disk : Disk) → FilePlace → Option disk.Handle → Type 0
 MayOpenAt disk (at_path name) opened = IsNone opened ⊎ disk.MayOpen regular name opened
 MayOpenAt disk (copy_of build) opened =
     IsNone opened ⊎ ((path : Text) × disk.MayOpen regular path opened)
 MayOpenAt disk (debug_of build) opened =
     IsNone opened ⊎ ((path : Text) × disk.MayOpen regular path opened)
+MayOpenAt disk kernel_symbols opened = disk.MayOpen regular (codes "/proc/kallsyms") opened
 
 abbrev pub AreStacksOf : (disk : Disk) → Listing → Option disk.Handle → Line → Type 0
 AreStacksOf disk listing None printed = printed ≡ nothing

@@ -5,6 +5,9 @@ use crate::system::System;
 use cfi_processes::Opener;
 use std::str;
 
+/// Where Linux tells the symbols of the kernel that runs (proc(5)).
+const KERNEL_SYMBOLS: &str = "/proc/kallsyms";
+
 /// The files of a system, by the names that a profile has for them.
 #[derive(Drop)]
 pub struct ProfileOpener<'s, S> {
@@ -43,6 +46,10 @@ impl<S: System> Opener for ProfileOpener<'_, S> {
     fn open_debug(&self, build: &[u8]) -> Option<S::File> {
         let debug = self.system.debug_path(build)?;
         self.system.find_regular(debug.as_str())
+    }
+
+    fn open_kernel_symbols(&self) -> Option<S::File> {
+        self.system.find_regular(KERNEL_SYMBOLS)
     }
 
     fn tell_missing(&self, name: &[u8]) {

@@ -8,6 +8,8 @@ pub mod SampleStacks
 pub mod Names
 pub mod ThreadNames
 pub mod Sites
+pub mod KernelSymbols
+pub mod KernelNames
 pub mod FileFunctions
 pub mod KnownFiles
 pub mod FileModules

@@ -7,17 +7,20 @@
 --     AreOpened .. files opened      these files
 --     AreFilesOf opened files      what they are as files of a profile
 use Rattle.std.specs.Prelude.{◌≡◌, ◌⊎◌, ℕ, Bool, true, false, not, ◌&&◌, List, [], ◌∷◌, Option}
-use Rattle.std.specs.Prelude.{Some, None, IfSome, Vec, codes, nat_eq, option_map, if◌then◌else◌}
+use Rattle.std.specs.Prelude.{Some, None, IfSome, Vec, codes, drop, length, nat_eq, option_map}
+use Rattle.std.specs.Prelude.{if◌then◌else◌}
 use Rattle.std.specs.List.{starts_with}
 use Rattle.std.specs.Option.{option_and_then}
 use Rattle.cfi_compiled.specs.CompiledTables.{TableContents, IsCompiled}
 use Rattle.cfi_entry.specs.Sections.{Section}
 use Rattle.cfi_processes.specs.declared.profile_files.OpenedFile.{OpenedFile}
 use Rattle.cfi_processes.specs.FileFunctions.{Functions, functions_of}
+use Rattle.cfi_processes.specs.KernelNames.{KernelText}
+use Rattle.cfi_processes.specs.KernelSymbols.{is_kernel_name, kernel_image}
 use Rattle.cfi_processes.specs.KnownFiles.{KnownCode, KnownFile}
 use Rattle.cfi_processes.specs.Objects.{Object, has_table, object_of}
 use Rattle.cfi_processes.specs.Wanted.{FilePlace, Wanted, at_path, copy_of, debug_of, has_build}
-use Rattle.cfi_processes.specs.Wanted.{id_of}
+use Rattle.cfi_processes.specs.Wanted.{id_of, kernel_symbols}
 
 pub record Opened : Type 0 where
   pub name : List ℕ
@@ -90,10 +93,15 @@ module _ {Handle : Type 0} (may_open : FilePlace → Option Handle → Type 0)
   IsFound name (Some build) bytes =
       (found : Option (List ℕ)) × IsBuild build (at_path name) found × IsOrCopy build found bytes
 
+  -- of the kernel, what it tells of its symbols
+  abbrev pub IsSymbolsIf : Bool → Option (List ℕ) → Type 0
+  IsSymbolsIf true bytes = IsRead kernel_symbols bytes
+  IsSymbolsIf false bytes = bytes ≡ None
+
   -- files are opened where the name is one of a file
   abbrev pub IsContents : Wanted → Option (List ℕ) → Type 0
   IsContents file bytes =
-      ((is_file_name file.name ≡ false) × (bytes ≡ None))
+      ((is_file_name file.name ≡ false) × IsSymbolsIf (is_kernel_name file.name) bytes)
       ⊎ ((is_file_name file.name ≡ true) × IsFound file.name file.build_id bytes)
 
   -- of a build only a debug file of it
@@ -130,10 +138,18 @@ IsCodeOf (Some object) code =
 abbrev pub functions_in : Opened → Option Functions
 functions_in opened = option_and_then (λ bytes. functions_of bytes opened.debug) opened.bytes
 
+-- those of the kernel itself, with the symbol after which its mapping is named
+abbrev pub kernel_text : List ℕ → List ℕ → KernelText
+kernel_text name text = record { text = text; symbol = drop (length kernel_image) name }
+
+abbrev pub kernel_of : Opened → Option KernelText
+kernel_of opened =
+    if is_kernel_name opened.name then option_map (kernel_text opened.name) opened.bytes else None
+
 abbrev pub IsFileOf : Opened → KnownFile → Type 0
 IsFileOf opened file =
     (file.name ≡ opened.name) × (file.build_id ≡ opened.build_id)
-    × (file.functions ≡ functions_in opened)
+    × (file.functions ≡ functions_in opened) × (file.kernel ≡ kernel_of opened)
     × IsCodeOf (option_and_then object_of opened.bytes) file.code
 
 abbrev pub AreFilesOf : List Opened → List KnownFile → Type 0

@@ -31,11 +31,13 @@ same_id (Some a) (Some b) = bytes_eq a b
 abbrev pub is_same : Wanted → Wanted → Bool
 is_same a b = bytes_eq a.name b.name && same_id a.build_id b.build_id
 
--- at a path, where the recorder keeps a copy of each build, or where debug files are
+-- at a path, where the recorder keeps a copy of each build, where debug files are, or where the
+-- kernel tells its symbols
 pub data FilePlace : Type 0 where
   at_path : List ℕ → FilePlace
   copy_of : List ℕ → FilePlace
   debug_of : List ℕ → FilePlace
+  kernel_symbols : FilePlace
 
 -- ---- the build of a file
 

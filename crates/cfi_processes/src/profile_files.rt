@@ -2,23 +2,32 @@
 ghost use Rattle.std.specs.Prelude.{◌≡◌, Option, Some, IfOk, OnOk, map, option_map};
 ghost use Rattle.cfi_perf.specs.Events.{mapping_view, record_view};
 ghost use Rattle.cfi_processes.specs.FileFunctions.{functions_view};
+ghost use Rattle.cfi_perf.specs.CallChains.{addresses_left};
+ghost use Rattle.cfi_processes.specs.KernelNames.{kernel_view};
 ghost use Rattle.cfi_processes.specs.KnownFiles.{code_view, known_view};
 ghost use Rattle.cfi_processes.specs.Objects.{object_of};
 ghost use Rattle.cfi_processes.specs.OpenedFiles.{AreFilesOf, AreOpened, IsBuild, IsBuildOf};
 ghost use Rattle.cfi_processes.specs.OpenedFiles.{IsCodeOf, IsContents, IsDebug, IsDebugOf};
 ghost use Rattle.cfi_processes.specs.OpenedFiles.{IsFileOf, IsFound, functions_in};
-ghost use Rattle.cfi_processes.specs.OpenedFiles.{IsReadOf, IsReading, bytes_view, if_built};
+ghost use Rattle.cfi_processes.specs.OpenedFiles.{IsReadOf, IsReading, IsSymbolsIf, bytes_view};
+ghost use Rattle.cfi_processes.specs.OpenedFiles.{if_built, kernel_of, kernel_text};
 ghost use Rattle.cfi_processes.specs.OpenedFiles.{is_file_name, opened_view};
-ghost use Rattle.cfi_processes.specs.Replays.{code_file, is_among, is_of, wanted_of, with_file};
-ghost use Rattle.cfi_processes.specs.Wanted.{FilePlace, at_path, copy_of, debug_of, wanted_view};
+ghost use Rattle.cfi_processes.specs.Replays.{code_file, has_kernel, has_kernel_frames, has_some};
+ghost use Rattle.cfi_processes.specs.Replays.{is_among, is_code_file, is_of, wanted_in, wanted_of};
+ghost use Rattle.cfi_processes.specs.Replays.{with_file};
+ghost use Rattle.cfi_processes.specs.Wanted.{FilePlace, at_path, copy_of, debug_of};
+ghost use Rattle.cfi_processes.specs.Wanted.{kernel_symbols, wanted_view};
 
 use crate::file_code::FileCode;
 use crate::file_functions::FileFunctions;
+use crate::kernel_names::KernelNames;
+use crate::kernel_symbols::{KERNEL_IMAGE, is_kernel_name};
 use crate::names::Name;
 use crate::objects::Object;
 use crate::wanted::{WantedFile, has_build, id_of, same_id};
+use cfi_elf::bytes::bytes_from;
 use cfi_object::input::{InputError, read_all};
-use cfi_perf::{Event, Mapping, Record};
+use cfi_perf::{Addresses, Event, Mapping, Record};
 use std::alloc::{AllocError, Global};
 use std::io::Read;
 
@@ -48,6 +57,11 @@ pub trait Opener {
     fn open_debug(&self, build: &[u8]) -> Option<Self::File>
         ensures { may_open self.now (debug_of build.now) result };
 
+    /// Opens what the kernel tells of its symbols (`/proc/kallsyms`, proc(5)); `None` where it
+    /// can't be opened. Says nothing.
+    fn open_kernel_symbols(&self) -> Option<Self::File>
+        ensures { may_open self.now kernel_symbols result };
+
     /// Says that for the file with this name none of the build that ran was found.
     fn tell_missing(&self, name: &[u8]);
 
@@ -68,7 +82,8 @@ pub struct OpenedFile<'run> {
     /// The identification of its build, if it is known.
     pub build_id: Option<&'run [u8]>,
     /// Its bytes; `None` where it can't be opened or read, or the name is none of a file; where the
-    /// build is known, also where no file of it was found.
+    /// build is known, also where no file of it was found. Of the kernel, what it tells of its
+    /// symbols.
     pub bytes: Option<Vec<u8>>,
     /// The bytes of its debug file; `None` where it can't be opened or read, or is of another
     /// build.
@@ -86,6 +101,8 @@ pub struct ProfileFile<'run> {
     pub functions: Option<FileFunctions<'run>>,
     /// Its code; `None` where it can't be opened or read, is no ELF file, or has no `.eh_frame`.
     pub code: Option<FileCode<'run>>,
+    /// The symbols of the kernel that runs, if it is the kernel itself, and they can be read.
+    pub kernel: Option<KernelNames<'run>>,
 }
 
 impl ProfileFile<'_> {
@@ -99,7 +116,7 @@ impl ProfileFile<'_> {
 }
 
 /// The files that the executable mappings among the records are of, each once, in the order of the
-/// records. Fails where memory is refused.
+/// records; and the kernel, if samples have frames of it. Fails where memory is refused.
 pub fn mapped_files<'run>(
     alloc: Global,
     records: &[Record<'run>],
@@ -107,11 +124,48 @@ pub fn mapped_files<'run>(
     ensures { IfOk result (λ files. map wanted_view files.items
         ≡ wanted_of (map record_view records.now)) }
 {
+    mapped_in(alloc, has_kernel(records), records)
+}
+
+/// The same, where samples have frames of the kernel or none has.
+fn mapped_in<'run>(
+    alloc: Global,
+    in_kernel: bool,
+    records: &[Record<'run>],
+) -> Result<Vec<WantedFile<'run>>, AllocError>
+    ensures { IfOk result (λ files. map wanted_view files.items
+        ≡ wanted_in in_kernel (map record_view records.now)) }
+{
     let mut files = Vec::new(alloc);
     for record in records {
-        push_file(&mut files, code_file(record))?;
+        push_file(&mut files, code_file(in_kernel, record))?;
     }
     Ok(files)
+}
+
+/// Whether a sample has frames of the kernel.
+fn has_kernel(records: &[Record<'_>]) -> bool
+    ensures { result ≡ has_kernel (map record_view records.now) }
+{
+    records.iter().any(|record| has_kernel_frames(record))
+}
+
+/// Whether a record is a sample that has frames of the kernel.
+fn has_kernel_frames(item: &Record<'_>) -> bool
+    ensures { result ≡ has_kernel_frames (record_view item.now).event }
+{
+    match item.event {
+        Event::Sample(sample) => has_address(sample.kernel_frames()),
+        _ => false,
+    }
+}
+
+/// Whether a call chain has an address left.
+fn has_address(addresses: Addresses<'_>) -> bool
+    ensures { result ≡ has_some (addresses_left addresses.entry) }
+{
+    let mut addresses = addresses;
+    addresses.next().is_some()
 }
 
 /// Appends a file, unless it is there. Fails where memory is refused.
@@ -133,17 +187,25 @@ pub fn push_file<'run>(
     }
 }
 
-/// The file that a record says is mapped as code.
-fn code_file<'run>(item: &Record<'run>) -> Option<WantedFile<'run>>
-    ensures { option_map wanted_view result ≡ code_file (record_view item.now).event }
+/// The file that a record says is mapped as code; the kernel itself only if samples have frames of
+/// it.
+fn code_file<'run>(in_kernel: bool, item: &Record<'run>) -> Option<WantedFile<'run>>
+    ensures { option_map wanted_view result ≡ code_file in_kernel (record_view item.now).event }
 {
     match item.event {
-        Event::Mapping(mapping) if mapping.is_executable => Some(WantedFile {
+        Event::Mapping(mapping) if is_code_file(in_kernel, &mapping) => Some(WantedFile {
             name: mapping.name,
             build_id: mapping.build_id,
         }),
         _ => None,
     }
+}
+
+/// Whether a file is mapped as code that samples may have frames of.
+fn is_code_file(in_kernel: bool, mapping: &Mapping<'_>) -> bool
+    ensures { result ≡ is_code_file in_kernel (mapping_view mapping.now) }
+{
+    mapping.is_executable && (in_kernel || !is_kernel_name(mapping.name))
 }
 
 /// Whether the file is one of these.
@@ -218,11 +280,27 @@ fn read_file<O: Opener>(
         (wanted_view file.now) (bytes_view bytes)) }
 {
     if !is_file_name(file.name) {
-        return Ok(None);
+        return read_symbols(alloc, opener, is_kernel_name(file.name));
     }
     match file.build_id {
         Some(build) => read_found(alloc, opener, file.name, build),
         None => read_opened(alloc, opener.open(file.name)),
+    }
+}
+
+/// Reads what the kernel tells of its symbols, if these are wanted.
+fn read_symbols<O: Opener>(
+    alloc: Global,
+    opener: &O,
+    is_kernel: bool,
+) -> Result<Option<Vec<u8>>, AllocError>
+    ensures { IfOk result (λ bytes. IsSymbolsIf (O.may_open opener.now) O.File.remaining
+        is_kernel (bytes_view bytes)) }
+{
+    if is_kernel {
+        read_opened(alloc, opener.open_kernel_symbols())
+    } else {
+        Ok(None)
     }
 }
 
@@ -353,12 +431,43 @@ fn profile_file<'opened>(
         Some(bytes) => code_of(alloc, bytes.as_slice())?,
         None => None,
     };
+    let kernel = kernel_of(alloc, opened)?;
     Ok(ProfileFile {
         name: Name::new(opened.name),
         build_id: opened.build_id,
         functions,
         code,
+        kernel,
     })
+}
+
+/// The symbols of the kernel, if the file is the kernel itself.
+fn kernel_of<'opened>(
+    alloc: Global,
+    opened: &'opened OpenedFile<'_>,
+) -> Result<Option<KernelNames<'opened>>, AllocError>
+    ensures { IfOk result (λ names. option_map kernel_view names
+        ≡ kernel_of (opened_view opened.now)) }
+{
+    if !is_kernel_name(opened.name) {
+        return Ok(None);
+    }
+    match &opened.bytes {
+        Some(bytes) => Ok(Some(names_in(alloc, opened.name, bytes.as_slice())?)),
+        None => Ok(None),
+    }
+}
+
+/// The symbols of a text, with that after which the kernel's mapping is named.
+fn names_in<'opened>(
+    alloc: Global,
+    name: &'opened [u8],
+    text: &'opened [u8],
+) -> Result<KernelNames<'opened>, AllocError>
+    ensures { IfOk result (λ names. kernel_view names
+        ≡ kernel_text name.entry.now text.entry.now) }
+{
+    KernelNames::of(alloc, text, bytes_from(name, KERNEL_IMAGE.len() as u64))
 }
 
 /// The functions of a file that was opened.

@@ -209,6 +209,10 @@ impl<'a> Opener for OneFile<'a> {
         None
     }
 
+    fn open_kernel_symbols(&self) -> Option<&'a [u8]> {
+        None
+    }
+
     fn tell_missing(&self, _name: &[u8]) {}
 
     fn tell_without_stacks(&self) {}
