@@ -21,7 +21,9 @@ use Rattle.cfi_files.specs.Findings.{ChecksSome, has_table, is_faithful}
 use Rattle.cfi_files.specs.declared.finding.Finding.{Finding}
 use Rattle.cfi_files.specs.declared.finding.Finding.TheVariants.{Unreadable}
 use Rattle.cfi_files.specs.declared.request.Request.{Request}
-use Rattle.cfi_processes.specs.Wanted.{FilePlace, at_path, copy_of, debug_of, kernel_symbols}
+use Rattle.cfi_processes.specs.CodeMaps.{map_name}
+use Rattle.cfi_processes.specs.Wanted.{FilePlace, at_path, code_map, copy_of, debug_of}
+use Rattle.cfi_processes.specs.Wanted.{kernel_symbols}
 use Rattle.cfi_stacks.specs.CoreOutputs.{IsOwed as IsOwedOfCore}
 use Rattle.cfi_stacks.specs.ProfileOutputs.{IsListingOwed as IsOwedOfProfile}
 use Rattle.cfi_stacks.specs.declared.listing.Listing.{Listing}
@@ -138,7 +140,7 @@ AreTallied disk style names printed =
 
 -- the files that it names; none is opened by a name that isn't UTF-8, or if the file isn't a
 -- regular one. A copy of a build, and its debug file, are at paths of their own, and so are the
--- kernel's symbols
+-- kernel's symbols, and the functions of code that a process made
 abbrev pub MayOpenAt : (disk : Disk) → FilePlace → Option disk.Handle → Type 0
 MayOpenAt disk (at_path name) opened = IsNone opened ⊎ disk.MayOpen regular name opened
 MayOpenAt disk (copy_of build) opened =
@@ -146,6 +148,8 @@ MayOpenAt disk (copy_of build) opened =
 MayOpenAt disk (debug_of build) opened =
     IsNone opened ⊎ ((path : Text) × disk.MayOpen regular path opened)
 MayOpenAt disk kernel_symbols opened = disk.MayOpen regular (codes "/proc/kallsyms") opened
+MayOpenAt disk (code_map pid) opened =
+    IsNone opened ⊎ disk.MayOpen regular (map_name pid) opened
 
 abbrev pub AreStacksOf : (disk : Disk) → Listing → Option disk.Handle → Line → Type 0
 AreStacksOf disk listing None printed = printed ≡ nothing

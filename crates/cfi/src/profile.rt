@@ -3,6 +3,7 @@ ghost use Rattle.cfi.specs.Process.{MayOpenAt, disk_of};
 
 use crate::system::System;
 use cfi_processes::Opener;
+use cfi_processes::code_map::map_name;
 use std::str;
 
 /// Where Linux tells the symbols of the kernel that runs (proc(5)).
@@ -50,6 +51,11 @@ impl<S: System> Opener for ProfileOpener<'_, S> {
 
     fn open_kernel_symbols(&self) -> Option<S::File> {
         self.system.find_regular(KERNEL_SYMBOLS)
+    }
+
+    fn open_code_map(&self, process: u32) -> Option<S::File> {
+        let path = map_name(self.system.alloc(), process).ok()?;
+        self.system.find_regular(path.as_str())
     }
 
     fn tell_missing(&self, name: &[u8]) {

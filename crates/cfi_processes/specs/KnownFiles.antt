@@ -20,9 +20,12 @@ use Rattle.cfi_compiled.specs.CompiledTables.{TableContents}
 use Rattle.cfi_processes.specs.declared.mappings.MappedCode.{MappedCode}
 use Rattle.cfi_processes.specs.declared.file_code.FileCode.{FileCode}
 use Rattle.cfi_processes.specs.declared.profile_files.ProfileFile.{ProfileFile}
+use Rattle.cfi_processes.specs.CodeMaps.{CodeMapText, function_at}
+use Rattle.cfi_processes.specs.CodeMapViews.{map_view}
 use Rattle.cfi_processes.specs.FileFunctions.{Functions, function_in, functions_view}
 use Rattle.cfi_processes.specs.KernelNames.{KernelText, is_kernel_of, kernel_view}
-use Rattle.cfi_processes.specs.KernelSymbols.{Symbol, is_kernel_name, kernel_image, symbol_at}
+use Rattle.cfi_processes.specs.KernelSymbols.{is_kernel_name, kernel_image, symbol_at}
+use Rattle.cfi_processes.specs.TextSymbols.{Symbol}
 use Rattle.cfi_processes.specs.Mappings.{has_byte_at, place_in}
 use Rattle.cfi_processes.specs.Modules.{Module}
 use Rattle.cfi_processes.specs.Objects.{Object, module_of, object_view}
@@ -44,6 +47,8 @@ pub record KnownFile : Type 0 where
   pub functions : Option Functions
   pub code : Option KnownCode
   pub kernel : Option KernelText
+  pub process : Option ℕ
+  pub code_map : Option CodeMapText
 
 abbrev pub known_view : ProfileFile → KnownFile
 known_view file = record {
@@ -52,6 +57,8 @@ known_view file = record {
   functions = option_map functions_view file.functions;
   code = option_map code_view file.code;
   kernel = option_map kernel_view file.kernel;
+  process = file.process;
+  code_map = option_map map_view file.code_map;
 }
 
 -- ---- what is mapped at an address
@@ -66,14 +73,24 @@ file_of files mapped = option_and_then (slice_get files) mapped.object
 abbrev pub nowhere : ℕ → Site
 nowhere a = record { place = a; function = None; file = None }
 
+-- in memory by its address, and by what its process tells of it
+abbrev pub map_site : CodeMapText → ℕ → Site
+map_site m a = record { place = a; function = function_at m.text a; file = Some m.name }
+
+abbrev pub file_site : MappedCode → ℕ → KnownFile → Site
+file_site mapped a file = record {
+  place = (place_in mapped a).offset;
+  function = option_and_then (function_in mapped a) file.functions;
+  file = Some file.name;
+}
+
+abbrev pub site_by : Option CodeMapText → MappedCode → ℕ → KnownFile → Site
+site_by None mapped a file = file_site mapped a file
+site_by (Some m) mapped a file = map_site m a
+
 abbrev pub site_in : MappedCode → ℕ → Option KnownFile → Site
 site_in mapped a None = nowhere a
-site_in mapped a (Some file) =
-    record {
-      place = (place_in mapped a).offset;
-      function = option_and_then (function_in mapped a) file.functions;
-      file = Some file.name;
-    }
+site_in mapped a (Some file) = site_by file.code_map mapped a file
 
 abbrev pub site_at : List KnownFile → ℕ → Option MappedCode → Site
 site_at files a None = nowhere a

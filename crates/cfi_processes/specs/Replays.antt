@@ -1,6 +1,7 @@
 -- What the records of a profile say of processes, one after the other.
 --     wanted_of records      the files that executable mappings are of, each once, in the order of
---         the records, and the kernel where samples have frames of it
+--         the records, and the kernel where samples have frames of it; memory that is no file's for
+--         each process
 --     after files event before      what is mapped in each process after a record
 --     replayed replay      what is mapped in each process, for a replay of the code
 --     named replay      the name of each thread, for a replay of the code
@@ -23,18 +24,24 @@ use Rattle.cfi_processes.specs.declared.profile_files.ProfileFile.{ProfileFile}
 use Rattle.cfi_processes.specs.declared.replay.Replay.{Replay}
 use Rattle.cfi_processes.specs.Histories.{Change, executed, forked, mapped, mappings_after}
 use Rattle.cfi_processes.specs.FileModules.{AreOfFiles}
+use Rattle.cfi_processes.specs.CodeMaps.{is_memory_name}
 use Rattle.cfi_processes.specs.KernelSymbols.{is_kernel_name}
 use Rattle.cfi_processes.specs.KnownFiles.{KnownFile, known_view, modules_in}
 use Rattle.cfi_processes.specs.Modules.{module_view}
 use Rattle.cfi_processes.specs.Processes.{mappings_of}
 use Rattle.cfi_processes.specs.ThreadNames.{name_of}
-use Rattle.cfi_processes.specs.Wanted.{Wanted, is_same, same_id}
+use Rattle.cfi_processes.specs.Wanted.{Wanted, is_same, same_id, same_process}
 
 -- ---- the files
 
+-- the process that may make code there
+abbrev pub process_of : Mapping → Option ℕ
+process_of m = if is_memory_name m.name then Some m.pid else None
+
 -- the file that is mapped as code
 abbrev pub mapped_file : Mapping → Wanted
-mapped_file m = record { name = m.name; build_id = m.build_id }
+mapped_file m =
+    record { name = m.name; build_id = m.build_id; process = process_of m }
 
 abbrev pub has_some : List ℕ → Bool
 has_some [] = false
@@ -75,7 +82,9 @@ abbrev pub wanted_of : List Record → List Wanted
 wanted_of records = wanted_in (has_kernel records) records
 
 abbrev pub is_of : Mapping → KnownFile → Bool
-is_of m file = bytes_eq file.name m.name && same_id file.build_id m.build_id
+is_of m file =
+    bytes_eq file.name m.name && same_id file.build_id m.build_id
+    && same_process file.process (process_of m)
 
 -- which of the files is mapped; none where it isn't mapped as code
 abbrev pub object_of : List KnownFile → Mapping → Option ℕ

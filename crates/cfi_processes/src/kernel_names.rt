@@ -1,11 +1,11 @@
 //! The symbols of the kernel that runs, by their addresses.
-ghost use Rattle.std.specs.Prelude.{◌≡◌, ℕ, codes, map};
-ghost use Rattle.std.specs.List.Sorted.{IsNonDecreasingBy};
-ghost use Rattle.cfi_processes.specs.KernelSymbols.{address_of, nearest_among, symbol_at};
-ghost use Rattle.cfi_processes.specs.KernelSymbols.{symbol_view};
+ghost use Rattle.std.specs.Prelude.{◌≡◌, ℕ, codes};
+ghost use Rattle.cfi_processes.specs.KernelSymbols.{address_of, symbol_at};
+ghost use Rattle.cfi_processes.specs.SortedSymbols.{nearest_in};
 
-use crate::kernel_symbols::{KernelSymbol, address_among, symbols_of};
+use crate::kernel_symbols::{address_among, symbols_of};
 use crate::mappings::MappedCode;
+use crate::text_symbols::{SortedSymbols, TextSymbol};
 use std::alloc::{AllocError, Global};
 
 /// The symbols of the kernel that runs, sorted by their addresses.
@@ -19,19 +19,18 @@ pub struct KernelNames<'run> {
     code_end: Option<u64>,
     /// Where the data ends, `_edata`.
     data_end: Option<u64>,
-    symbols: Vec<KernelSymbol<'run>>,
+    symbols: SortedSymbols<'run>,
     ghost begins: { start ≡ address_of text.now symbol.now },
     ghost ends: { code_end ≡ address_of text.now (codes "_etext") },
     ghost ends_with_data: { data_end ≡ address_of text.now (codes "_edata") },
-    ghost sorted: { IsNonDecreasingBy (λ symbol. symbol.address) symbols.items },
-    ghost placed: { (address : ℕ)
-        → nearest_among (map symbol_view symbols.items) address ≡ symbol_at text.now address },
+    ghost placed: { (address : ℕ) → nearest_in symbols address ≡ symbol_at text.now address },
 }
 
 impl<'run> KernelNames<'run> {
     ghost use Rattle.std.specs.Prelude.{◌≡◌, IfOk, option_map};
     ghost use Rattle.cfi_processes.specs.KernelNames.{is_kernel_of, is_where, kernel_view};
-    ghost use Rattle.cfi_processes.specs.KernelSymbols.{symbol_at, symbol_view};
+    ghost use Rattle.cfi_processes.specs.KernelSymbols.{symbol_at};
+    ghost use Rattle.cfi_processes.specs.TextSymbols.{symbol_view};
 
     /// The symbols of a text, and the name of that after which the kernel's mapping is named. Fails
     /// where memory is refused. Allocates: the symbols are sorted once.
@@ -43,19 +42,18 @@ impl<'run> KernelNames<'run> {
         ensures { IfOk result (λ names. kernel_view names
             ≡ record { text = text.entry.now; symbol = symbol.entry.now }) }
     {
-        let mut symbols = symbols_of(alloc, text)?;
+        let symbols = symbols_of(alloc, text)?;
         let list = symbols.as_slice();
         let start = address_among(list, symbol);
         let code_end = address_among(list, b"_etext");
         let data_end = address_among(list, b"_edata");
-        symbols.sort_by_key(|symbol| symbol.address)?;
         Ok(KernelNames {
             text,
             symbol,
             start,
             code_end,
             data_end,
-            symbols,
+            symbols: SortedSymbols::of(symbols)?,
         })
     }
 
@@ -72,19 +70,10 @@ impl<'run> KernelNames<'run> {
 
     /// The last symbol of those that begin at the address, or else nearest before it. Found by
     /// halving; does not allocate.
-    pub fn symbol_at(&self, address: u64) -> Option<KernelSymbol<'run>>
+    pub fn symbol_at(&self, address: u64) -> Option<TextSymbol<'run>>
         ensures { option_map symbol_view result ≡ symbol_at (kernel_view self.now).text address }
     {
-        let count = self
-            .symbols
-            .partition_point(|symbol| symbol.address <= address);
-        if count == 0 {
-            return None;
-        }
-        match self.symbols.get(count - 1) {
-            Some(symbol) => Some(*symbol),
-            None => None,
-        }
+        self.symbols.nearest(address)
     }
 
     /// Whether a symbol is at this place, and not at 0, which stands for an address that isn't

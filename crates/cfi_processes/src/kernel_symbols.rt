@@ -1,14 +1,13 @@
 //! The symbols of the kernel, as it tells them (`/proc/kallsyms`, proc(5)).
 ghost use Rattle.std.specs.Prelude.{◌≡◌, IfOk, map, option_map};
 ghost use Rattle.std.specs.List.{filter_map};
-ghost use Rattle.cfi_processes.specs.KernelSymbols.{address_among, address_if, digit_of};
-ghost use Rattle.cfi_processes.specs.KernelSymbols.{is_data_type, is_function_type, is_kernel_name};
-ghost use Rattle.cfi_processes.specs.KernelSymbols.{kind_by, kind_of, lines_of, number_of};
-ghost use Rattle.cfi_processes.specs.KernelSymbols.{parts_at, parts_view, symbol_from};
-ghost use Rattle.cfi_processes.specs.KernelSymbols.{symbol_named, symbol_of, symbol_typed};
-ghost use Rattle.cfi_processes.specs.KernelSymbols.{symbol_view, symbols_of, with_digit};
+ghost use Rattle.cfi_processes.specs.KernelSymbols.{address_among, address_if, is_data_type};
+ghost use Rattle.cfi_processes.specs.KernelSymbols.{is_function_type, is_kernel_name, kind_by};
+ghost use Rattle.cfi_processes.specs.KernelSymbols.{kind_of, symbol_from, symbol_named, symbol_of};
+ghost use Rattle.cfi_processes.specs.KernelSymbols.{symbol_typed, symbols_of};
+ghost use Rattle.cfi_processes.specs.TextSymbols.{parts_at, parts_view, symbol_view};
 
-use cfi_elf::bytes::bytes_from;
+use crate::text_symbols::{Parts, TextSymbol, lines_of, number_of, parts_at};
 use std::alloc::{AllocError, Global};
 
 /// What profiles name the kernel's own code.
@@ -22,52 +21,23 @@ pub fn is_kernel_name(name: &[u8]) -> bool
     name.starts_with(KERNEL_IMAGE)
 }
 
-/// A symbol of the kernel, or of a module of it.
-#[derive(Clone, Copy, Debug)]
-pub struct KernelSymbol<'run> {
-    /// Where it begins.
-    pub address: u64,
-    /// Whether it is a function, and no data.
-    pub is_function: bool,
-    /// The name.
-    pub name: &'run [u8],
-    /// The module that has it, in brackets; `None` for the kernel itself.
-    pub owner: Option<&'run [u8]>,
-}
-
-/// Two parts of a text, with one byte between them.
-#[derive(Clone, Copy)]
-pub struct Parts<'run> {
-    /// What is before the byte.
-    pub front: &'run [u8],
-    /// What is behind it.
-    pub rest: &'run [u8],
-}
-
 /// The symbols of a text, in the order of its lines. Fails where memory is refused.
 #[tactic(auto, unfolding(crate::specs::KernelSymbols::symbols_of))]
 pub fn symbols_of<'run>(
     alloc: Global,
     text: &'run [u8],
-) -> Result<Vec<KernelSymbol<'run>>, AllocError>
+) -> Result<Vec<TextSymbol<'run>>, AllocError>
     ensures { IfOk result (λ symbols. map symbol_view symbols.items ≡ symbols_of text.now) }
 {
     let lines = lines_of(alloc, text)?;
     symbols_on(alloc, lines.as_slice())
 }
 
-/// The lines of a text.
-fn lines_of<'run>(alloc: Global, text: &'run [u8]) -> Result<Vec<&'run [u8]>, AllocError>
-    ensures { IfOk result (λ lines. map (λ line. line.now) lines.items ≡ lines_of text.now) }
-{
-    text.split(|byte| *byte == b'\n').collect(alloc)
-}
-
 /// The symbols of these lines.
 fn symbols_on<'run>(
     alloc: Global,
     lines: &[&'run [u8]],
-) -> Result<Vec<KernelSymbol<'run>>, AllocError>
+) -> Result<Vec<TextSymbol<'run>>, AllocError>
     ensures { IfOk result (λ symbols. map symbol_view symbols.items
         ≡ filter_map symbol_of (map (λ line. line.now) lines.now)) }
 {
@@ -82,14 +52,14 @@ fn symbols_on<'run>(
 
 /// The symbol of a line; `None` where it isn't a number, a type and a name, or the type is neither
 /// that of a function nor of data.
-fn symbol_of(line: &[u8]) -> Option<KernelSymbol<'_>>
+fn symbol_of(line: &[u8]) -> Option<TextSymbol<'_>>
     ensures { option_map symbol_view result ≡ symbol_of line.now }
 {
     symbol_from(parts_at(line, b' ')?)
 }
 
 /// The symbol of a line of which the first part is its address.
-fn symbol_from(line: Parts<'_>) -> Option<KernelSymbol<'_>>
+fn symbol_from(line: Parts<'_>) -> Option<TextSymbol<'_>>
     ensures { option_map symbol_view result ≡ symbol_from (parts_view line.entry) }
 {
     let address = number_of(line.front)?;
@@ -97,7 +67,7 @@ fn symbol_from(line: Parts<'_>) -> Option<KernelSymbol<'_>>
 }
 
 /// The symbol at an address, with its type as the first of these parts.
-fn symbol_typed(address: u64, parts: Parts<'_>) -> Option<KernelSymbol<'_>>
+fn symbol_typed(address: u64, parts: Parts<'_>) -> Option<TextSymbol<'_>>
     ensures { option_map symbol_view result ≡ symbol_typed address (parts_view parts.entry) }
 {
     let is_function = kind_of(parts.front)?;
@@ -105,77 +75,25 @@ fn symbol_typed(address: u64, parts: Parts<'_>) -> Option<KernelSymbol<'_>>
 }
 
 /// The symbol with this name, or with the name and the module that are before and behind a tab.
-fn symbol_named(address: u64, is_function: bool, name: &[u8]) -> KernelSymbol<'_>
+fn symbol_named(address: u64, is_function: bool, name: &[u8]) -> TextSymbol<'_>
     ensures { symbol_view result
         ≡ symbol_named address is_function name.entry.now (parts_at 9 name.entry.now) }
 {
     match parts_at(name, b'\t') {
-        Some(parts) => KernelSymbol {
+        Some(parts) => TextSymbol {
             address,
+            size: 0,
             is_function,
             name: parts.front,
             owner: Some(parts.rest),
         },
-        None => KernelSymbol {
+        None => TextSymbol {
             address,
+            size: 0,
             is_function,
             name,
             owner: None,
         },
-    }
-}
-
-/// What is before the first byte of this value, and what is behind it.
-fn parts_at(text: &[u8], byte: u8) -> Option<Parts<'_>>
-    ensures { option_map parts_view result ≡ parts_at byte text.now }
-{
-    match text.iter().position(|c| *c == byte) {
-        Some(place) => Some(Parts {
-            front: &text[..place],
-            rest: bytes_from(text, place as u64 + 1),
-        }),
-        None => None,
-    }
-}
-
-/// The number of one hexadecimal digit or more; `None` where it isn't below 2^64.
-fn number_of(digits: &[u8]) -> Option<u64>
-    ensures { result ≡ number_of digits.now }
-{
-    if digits.is_empty() {
-        return None;
-    }
-    let mut number = 0;
-    for digit in digits {
-        number = with_digit(number, *digit)?;
-    }
-    Some(number)
-}
-
-/// The number with one more digit; `None` where it is no digit or the number 2^64 or more.
-fn with_digit(number: u64, digit: u8) -> Option<u64>
-    ensures { result ≡ with_digit number digit }
-{
-    let value = digit_of(digit)?;
-    if number < 0x1000_0000_0000_0000 {
-        Some(number * 16 + value)
-    } else {
-        None
-    }
-}
-
-/// The value of a hexadecimal digit.
-fn digit_of(digit: u8) -> Option<u64>
-    ensures { result ≡ digit_of digit }
-{
-    if b'0' <= digit && digit <= b'9' {
-        Some((digit - b'0') as u64)
-    } else if b'a' <= digit && digit <= b'f' {
-        Some((digit - b'a') as u64 + 10)
-    } else if b'A' <= digit && digit <= b'F' {
-        Some((digit - b'A') as u64 + 10)
-    } else {
-        None
     }
 }
 
@@ -219,7 +137,7 @@ fn is_data_type(letter: u8) -> bool
 }
 
 /// The address of the first symbol of the kernel itself with this name. Does not allocate.
-pub fn address_among(symbols: &[KernelSymbol<'_>], name: &[u8]) -> Option<u64>
+pub fn address_among(symbols: &[TextSymbol<'_>], name: &[u8]) -> Option<u64>
     ensures { result ≡ address_among (map symbol_view symbols.now) name.now }
 {
     for symbol in symbols {
@@ -231,7 +149,7 @@ pub fn address_among(symbols: &[KernelSymbol<'_>], name: &[u8]) -> Option<u64>
 }
 
 /// The address of a symbol, if it is one of the kernel itself with this name.
-fn address_if(symbol: &KernelSymbol<'_>, name: &[u8]) -> Option<u64>
+fn address_if(symbol: &TextSymbol<'_>, name: &[u8]) -> Option<u64>
     ensures { result ≡ address_if name.now (symbol_view symbol.now) }
 {
     if symbol.owner.is_none() && symbol.name == name {

@@ -9,6 +9,7 @@
 //! over any memory, and `sample_stack` those of a sample.
 #![tactic(auto)]
 
+pub mod code_map;
 pub mod file_code;
 pub mod file_functions;
 pub mod kernel_names;
@@ -23,6 +24,7 @@ pub mod registers;
 pub mod replay;
 pub mod sample_stack;
 pub mod stack_walk;
+pub mod text_symbols;
 pub mod threads;
 pub mod wanted;
 

@@ -3,10 +3,11 @@ ghost use Rattle.std.specs.Prelude.{◌≡◌, ◌++◌, IfOk, IfSome, OnOk, Som
 ghost use Rattle.std.specs.Option.{option_and_then};
 ghost use Rattle.cfi_elf.specs.FunctionPlaces.{place_view};
 ghost use Rattle.cfi_processes.specs.FileFunctions.{function_in};
+ghost use Rattle.cfi_processes.specs.CodeMapViews.{map_view};
 ghost use Rattle.cfi_processes.specs.KernelNames.{kernel_view};
-ghost use Rattle.cfi_processes.specs.KernelSymbols.{symbol_view};
-ghost use Rattle.cfi_processes.specs.KnownFiles.{chain_site, file_of, function_by, is_in};
-ghost use Rattle.cfi_processes.specs.KnownFiles.{is_owner, kernel_name, kernel_names};
+ghost use Rattle.cfi_processes.specs.TextSymbols.{symbol_view};
+ghost use Rattle.cfi_processes.specs.KnownFiles.{chain_site, file_of, file_site, function_by};
+ghost use Rattle.cfi_processes.specs.KnownFiles.{is_in, is_owner, kernel_name, kernel_names};
 ghost use Rattle.cfi_processes.specs.KnownFiles.{kernel_site, kernel_symbol, known_view};
 ghost use Rattle.cfi_processes.specs.KnownFiles.{mapped_at, names_if, names_of};
 ghost use Rattle.cfi_processes.specs.KnownFiles.{module_at, module_in, modules_in};
@@ -16,11 +17,13 @@ ghost use Rattle.cfi_processes.specs.Mappings.{AreInOrder, has_byte_at};
 ghost use Rattle.cfi_processes.specs.Modules.{module_view};
 ghost use Rattle.cfi_processes.specs.Sites.{site_view, without_function};
 
+use crate::code_map::CodeMap;
 use crate::kernel_names::KernelNames;
-use crate::kernel_symbols::{KERNEL_IMAGE, KernelSymbol};
+use crate::kernel_symbols::KERNEL_IMAGE;
 use crate::mappings::MappedCode;
 use crate::names::Name;
 use crate::profile_files::ProfileFile;
+use crate::text_symbols::TextSymbol;
 use cfi_elf::FunctionPlace;
 use cfi_step::LoadedModule;
 use gimli_cfi::{EndianSlice, RunTimeEndian};
@@ -35,11 +38,13 @@ pub type FileModule<'a, 'run> = LoadedModule<'a, EndianSlice<'run, RunTimeEndian
 /// Where the code of a frame is, as far as it is known.
 #[derive(Clone, Copy, Debug)]
 pub struct Site<'run> {
-    /// The place in the file; where no file is mapped, the address.
+    /// The place in the file; where no file is mapped, and in code that a process made, the
+    /// address.
     pub place: u64,
     /// The function whose bytes have the address.
     pub function: Option<FunctionPlace<'run>>,
-    /// The name of the file that is mapped there.
+    /// The name of the file that is mapped there, or of that in which the process tells the
+    /// functions of code that it made.
     pub file: Option<Name<'run>>,
 }
 
@@ -71,10 +76,7 @@ impl<'a, 'files, 'run> ProcessCode<'a, 'files, 'run> {
             (file_of (map known_view self.now.files.now) mapped.now) }
     {
         match self.file_of(mapped) {
-            Some(file) => Site {
-                function: function_in(file, mapped, address),
-                ..place_in(file, mapped, address)
-            },
+            Some(file) => site_by(file, mapped, address),
             None => nowhere(address),
         }
     }
@@ -96,7 +98,7 @@ impl<'a, 'files, 'run> ProcessCode<'a, 'files, 'run> {
     }
 
     /// The symbol of the kernel by which an address is.
-    fn kernel_symbol(&self, address: u64) -> Option<KernelSymbol<'run>>
+    fn kernel_symbol(&self, address: u64) -> Option<TextSymbol<'run>>
         ensures { option_map symbol_view result ≡ kernel_symbol
             (map known_view self.now.files.now) self.now.mappings.now address }
     {
@@ -162,7 +164,7 @@ impl<'a, 'files, 'run> ProcessCode<'a, 'files, 'run> {
             (file_of (map known_view self.now.files.now) mapped.now)) }
     {
         match self.file_of(mapped) {
-            Some(file) => place_in(file, mapped, address),
+            Some(file) => place_by(file, mapped, address),
             None => nowhere(address),
         }
     }
@@ -265,7 +267,7 @@ fn names_if<'files, 'run>(
 fn function_by<'run>(
     file: Option<Name<'_>>,
     address: u64,
-    symbol: Option<KernelSymbol<'run>>,
+    symbol: Option<TextSymbol<'run>>,
 ) -> Option<FunctionPlace<'run>>
     ensures { option_map place_view result ≡ option_and_then
         (function_by (option_map (λ name. name.bytes.now) file.entry) address)
@@ -287,7 +289,7 @@ fn function_by<'run>(
 }
 
 /// Whether the symbol is a function of the file.
-fn is_in(file: Option<Name<'_>>, symbol: &KernelSymbol<'_>) -> bool
+fn is_in(file: Option<Name<'_>>, symbol: &TextSymbol<'_>) -> bool
     ensures { result ≡ is_in (option_map (λ name. name.bytes.now) file.entry)
         (symbol_view symbol.now) }
 {
@@ -318,10 +320,54 @@ fn nowhere<'run>(address: u64) -> Site<'run>
     }
 }
 
+/// Where an address is that the file is mapped at, or the memory.
+fn site_by<'run>(file: &ProfileFile<'run>, mapped: &MappedCode, address: u64) -> Site<'run>
+    ensures { site_view result
+        ≡ site_in mapped.now address (Some (known_view file.now)) }
+{
+    match &file.code_map {
+        Some(map) => map_site(map, map.function_at(address), address),
+        None => Site {
+            function: function_in(file, mapped, address),
+            ..place_in(file, mapped, address)
+        },
+    }
+}
+
+/// The same without the function.
+fn place_by<'run>(file: &ProfileFile<'run>, mapped: &MappedCode, address: u64) -> Site<'run>
+    ensures { site_view result
+        ≡ without_function (site_in mapped.now address (Some (known_view file.now))) }
+{
+    match &file.code_map {
+        Some(map) => map_site(map, None, address),
+        None => place_in(file, mapped, address),
+    }
+}
+
+/// Where an address is in code that a process made, with this function.
+fn map_site<'run>(
+    map: &CodeMap<'run>,
+    function: Option<FunctionPlace<'run>>,
+    address: u64,
+) -> Site<'run>
+    ensures { site_view result ≡ record {
+      place = address;
+      function = option_map place_view function.entry;
+      file = Some (map_view map.now).name;
+    } }
+{
+    Site {
+        place: address,
+        function,
+        file: Some(map.name),
+    }
+}
+
 /// Where an address is that the file is mapped at, without the function.
 fn place_in<'run>(file: &ProfileFile<'run>, mapped: &MappedCode, address: u64) -> Site<'run>
     ensures { site_view result
-        ≡ without_function (site_in mapped.now address (Some (known_view file.now))) }
+        ≡ without_function (file_site mapped.now address (known_view file.now)) }
 {
     Site {
         place: mapped

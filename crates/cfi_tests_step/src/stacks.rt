@@ -213,6 +213,10 @@ impl<'a> Opener for OneFile<'a> {
         None
     }
 
+    fn open_code_map(&self, _process: u32) -> Option<&'a [u8]> {
+        None
+    }
+
     fn tell_missing(&self, _name: &[u8]) {}
 
     fn tell_without_stacks(&self) {}

@@ -1,5 +1,6 @@
 use Rattle.std.proofs.Common.{◌≡◌, drop, map}
-use Rattle.cfi_processes.specs.KernelSymbols.{address_among, symbol_view}
+use Rattle.cfi_processes.specs.KernelSymbols.{address_among}
+use Rattle.cfi_processes.specs.TextSymbols.{symbol_view}
 use Rattle.cfi_processes.proofs.kernel_symbols.address_among.Given as goal
 
 abbrev pub invariant-loop-symbol : goal.invariant-loop-symbol

@@ -1,6 +1,7 @@
 use Rattle.std.proofs.Common.{◌≡◌, ◌++◌, drop, map}
 use Rattle.std.specs.List.{filter_map}
-use Rattle.cfi_processes.specs.KernelSymbols.{symbol_of, symbol_view}
+use Rattle.cfi_processes.specs.KernelSymbols.{symbol_of}
+use Rattle.cfi_processes.specs.TextSymbols.{symbol_view}
 use Rattle.cfi_processes.proofs.kernel_symbols.symbols_on.Given as goal
 
 abbrev pub invariant-loop-line : goal.invariant-loop-line

@@ -1,8 +1,8 @@
-use Rattle.std.proofs.Common.{option_map, ◌-◌, ◌<◌, ◌≤◌, length, nat_le, sym, ap, ◌∙◌, arith, rules}
+use Rattle.std.proofs.Common.{◌-◌, ◌<◌, ◌≤◌, length, nat_le, sym, arith, rules}
 use Rattle.std.proofs.lemmas.Bool.{leb-true, leb-false, ltb-true}
 use Rattle.std.proofs.lemmas.List.Sorted.{IsPartitionedBy-leb, IsPartitionPoint-from_clause}
 use Rattle.cfi_processes.proofs.SymbolLemmas.{nearest_here, none_begins}
-use Rattle.cfi_processes.proofs.kernel_names.KernelNames.symbol_at.Goals as goal
+use Rattle.cfi_processes.proofs.text_symbols.SortedSymbols.nearest.Goals as goal
 
 pub returns-then-count-eq0 : goal.returns-then-count-eq0
 returns-then-count-eq0 c =
@@ -12,7 +12,6 @@ returns-then-count-eq0 c =
     let split = rw c.deref.ensures.value at c.partition_point-count.ensures.partitioned in
     let point = IsPartitionPoint-from_clause (λ s. nat_le s.address a) symbols k split (IsPartitionedBy-leb (λ s. s.address) symbols a c.args.self.now.sorted) (λ b r f k. search rules) in
     none_begins symbols a k (λ j d less inside. leb-true _ _ (point.0 j d (omega arith) less)) (λ j d up inside. leb-false _ _ (point.1 j d up inside)) c.if-count-eq0.true
-    ∙ c.args.self.now.placed a
 
 pub returns-in-Some : goal.returns-in-Some
 returns-in-Some c =
@@ -27,4 +26,3 @@ returns-in-Some c =
     let some : 0 < k = omega (arith, c.if-count-eq0.false) in
     let inside : k ≤ length symbols = omega (arith, last, some) in
     nearest_here symbols a k (λ j d less inside. leb-true _ _ (point.0 j d (omega arith) less)) (λ j d up inside. leb-false _ _ (point.1 j d up inside)) x some inside lookup.1 c.args.self.now.sorted
-    ∙ c.args.self.now.placed a

@@ -2,8 +2,8 @@ use Rattle.std.proofs.Common.{◌∙◌, ℕ, ◌+◌, List, Option, Some, drop,
 use borrow.Author.Tests.{tests}
 use Rattle.std.proofs.lemmas.Iterator.{YieldsList-from_slice}
 use Rattle.std.proofs.lemmas.Iterator.Search.{position_from_yields_List}
-use Rattle.cfi_processes.specs.KernelSymbols.{Parts}
-use Rattle.cfi_processes.proofs.kernel_symbols.parts_at.Goals as goal
+use Rattle.cfi_processes.specs.TextSymbols.{Parts}
+use Rattle.cfi_processes.proofs.text_symbols.parts_at.Goals as goal
 
 pub returns-in-Some : goal.returns-in-Some
 returns-in-Some c =
