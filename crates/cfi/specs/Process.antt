@@ -4,7 +4,7 @@
 --     IsOutput disk words printed      the output for the words of the process
 --     PrintsRun disk words old new status      what a run writes, and its status
 use Rattle.std.specs.Prelude.{◌≡◌, ◌⊎◌, ◌&&◌, ℕ, Bool, List, [], ◌∷◌, ◌++◌, length, Option, Some}
-use Rattle.std.specs.Prelude.{None, Result, Vec, IsNone, MatchResult, IfOk, map}
+use Rattle.std.specs.Prelude.{None, Result, Vec, IsNone, MatchResult, IfOk, codes, map}
 use Rattle.std.specs.Prelude.{if◌then◌else◌}
 use Rattle.std.specs.Borrow.{Bor}
 use Rattle.std.specs.List.{count_by}
@@ -21,7 +21,9 @@ use Rattle.cfi_files.specs.Findings.{ChecksSome, has_table, is_faithful}
 use Rattle.cfi_files.specs.declared.finding.Finding.{Finding}
 use Rattle.cfi_files.specs.declared.finding.Finding.TheVariants.{Unreadable}
 use Rattle.cfi_files.specs.declared.request.Request.{Request}
-use Rattle.cfi_processes.specs.Wanted.{FilePlace, at_path, copy_of, debug_of}
+use Rattle.cfi_processes.specs.CodeMaps.{map_name}
+use Rattle.cfi_processes.specs.Wanted.{FilePlace, at_path, code_map, copy_of, debug_of}
+use Rattle.cfi_processes.specs.Wanted.{kernel_symbols}
 use Rattle.cfi_stacks.specs.CoreOutputs.{IsOwed as IsOwedOfCore}
 use Rattle.cfi_stacks.specs.ProfileOutputs.{IsListingOwed as IsOwedOfProfile}
 use Rattle.cfi_stacks.specs.Choices.{Choice}
@@ -140,7 +142,8 @@ AreTallied disk style names printed =
 -- ---- what is printed of a profile, and of a core file
 
 -- the files that it names, in these folders; none is opened by a name that isn't UTF-8, or if the
--- file isn't a regular one. Copies of builds are below the home folder, whatever that is
+-- file isn't a regular one. Copies of builds are below the home folder, whatever that is. The
+-- kernel's symbols, and the functions of code that a process made, are those of the system that runs
 abbrev pub MayOpenAt : (disk : Disk) → Folders → FilePlace → Option disk.Handle → Type 0
 MayOpenAt disk folders (at_path name) opened =
     IsNone opened ⊎ disk.MayOpen regular (path_below folders.symfs name) opened
@@ -148,6 +151,10 @@ MayOpenAt disk folders (copy_of build) opened =
     IsNone opened ⊎ ((home : Text) × disk.MayOpen regular (copy_path folders home build) opened)
 MayOpenAt disk folders (debug_of build) opened =
     IsNone opened ⊎ disk.MayOpen regular (debug_path folders build) opened
+MayOpenAt disk folders kernel_symbols opened =
+    disk.MayOpen regular (codes "/proc/kallsyms") opened
+MayOpenAt disk folders (code_map pid) opened =
+    IsNone opened ⊎ disk.MayOpen regular (map_name pid) opened
 
 abbrev pub AreStacksOf :
     (disk : Disk) → Listing → Choice → Folders → Option disk.Handle → Line → Type 0

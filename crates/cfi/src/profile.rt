@@ -6,8 +6,12 @@ ghost use Rattle.cfi.specs.Process.{MayOpenAt, disk_of};
 use crate::folders::{Folders, copy_path, debug_path, path_below};
 use crate::system::System;
 use cfi_processes::Opener;
+use cfi_processes::code_map::map_name;
 use std::alloc::Global;
 use std::str;
+
+/// Where Linux tells the symbols of the kernel that runs (proc(5)).
+const KERNEL_SYMBOLS: &str = "/proc/kallsyms";
 
 /// The files of a system, by the names that a profile has for them.
 #[derive(Drop)]
@@ -64,6 +68,15 @@ impl<S: System> Opener for ProfileOpener<'_, S> {
     fn open_debug(&self, build: &[u8]) -> Option<S::File> {
         let debug = debug_path(self.system.alloc(), self.folders, build)?;
         self.system.find_regular(debug.as_str())
+    }
+
+    fn open_kernel_symbols(&self) -> Option<S::File> {
+        self.system.find_regular(KERNEL_SYMBOLS)
+    }
+
+    fn open_code_map(&self, process: u32) -> Option<S::File> {
+        let path = map_name(self.system.alloc(), process).ok()?;
+        self.system.find_regular(path.as_str())
     }
 
     fn tell_missing(&self, name: &[u8]) {

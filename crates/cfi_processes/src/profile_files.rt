@@ -1,24 +1,37 @@
 //! The files that a profile's mappings name.
 ghost use Rattle.std.specs.Prelude.{◌≡◌, Option, Some, IfOk, OnOk, map, option_map};
+ghost use Rattle.std.specs.Prelude.{string_bytes};
 ghost use Rattle.cfi_perf.specs.Events.{mapping_view, record_view};
 ghost use Rattle.cfi_processes.specs.FileFunctions.{functions_view};
+ghost use Rattle.cfi_perf.specs.CallChains.{addresses_left};
+ghost use Rattle.cfi_processes.specs.CodeMapViews.{map_view};
+ghost use Rattle.cfi_processes.specs.CodeMaps.{map_name};
+ghost use Rattle.cfi_processes.specs.KernelNames.{kernel_view};
 ghost use Rattle.cfi_processes.specs.KnownFiles.{code_view, known_view};
 ghost use Rattle.cfi_processes.specs.Objects.{object_of};
 ghost use Rattle.cfi_processes.specs.OpenedFiles.{AreFilesOf, AreOpened, IsBuild, IsBuildOf};
 ghost use Rattle.cfi_processes.specs.OpenedFiles.{IsCodeOf, IsContents, IsDebug, IsDebugOf};
 ghost use Rattle.cfi_processes.specs.OpenedFiles.{IsFileOf, IsFound, functions_in};
-ghost use Rattle.cfi_processes.specs.OpenedFiles.{IsReadOf, IsReading, bytes_view, if_built};
+ghost use Rattle.cfi_processes.specs.OpenedFiles.{IsReadOf, IsReading, IsTold, bytes_view};
+ghost use Rattle.cfi_processes.specs.OpenedFiles.{if_built, kernel_of, kernel_text, map_by, map_of};
 ghost use Rattle.cfi_processes.specs.OpenedFiles.{is_file_name, opened_view};
-ghost use Rattle.cfi_processes.specs.Replays.{code_file, is_among, is_of, wanted_of, with_file};
-ghost use Rattle.cfi_processes.specs.Wanted.{FilePlace, at_path, copy_of, debug_of, wanted_view};
+ghost use Rattle.cfi_processes.specs.Replays.{code_file, has_kernel, has_kernel_frames, has_some};
+ghost use Rattle.cfi_processes.specs.Replays.{is_among, is_code_file, is_of, wanted_in, wanted_of};
+ghost use Rattle.cfi_processes.specs.Replays.{process_of, with_file};
+ghost use Rattle.cfi_processes.specs.Wanted.{FilePlace, at_path, code_map, copy_of, debug_of};
+ghost use Rattle.cfi_processes.specs.Wanted.{kernel_symbols, wanted_view};
 
+use crate::code_map::{CodeMap, is_memory_name, map_name};
 use crate::file_code::FileCode;
 use crate::file_functions::FileFunctions;
+use crate::kernel_names::KernelNames;
+use crate::kernel_symbols::{KERNEL_IMAGE, is_kernel_name};
 use crate::names::Name;
 use crate::objects::Object;
-use crate::wanted::{WantedFile, has_build, id_of, same_id};
+use crate::wanted::{WantedFile, has_build, id_of, same_id, same_process};
+use cfi_elf::bytes::bytes_from;
 use cfi_object::input::{InputError, read_all};
-use cfi_perf::{Event, Mapping, Record};
+use cfi_perf::{Addresses, Event, Mapping, Record};
 use std::alloc::{AllocError, Global};
 use std::io::Read;
 
@@ -48,6 +61,16 @@ pub trait Opener {
     fn open_debug(&self, build: &[u8]) -> Option<Self::File>
         ensures { may_open self.now (debug_of build.now) result };
 
+    /// Opens what the kernel tells of its symbols (`/proc/kallsyms`, proc(5)); `None` where it
+    /// can't be opened. Says nothing.
+    fn open_kernel_symbols(&self) -> Option<Self::File>
+        ensures { may_open self.now kernel_symbols result };
+
+    /// Opens what a process tells of the functions of code that it made (`/tmp/perf-PID.map`);
+    /// `None` where it can't be opened. Says nothing.
+    fn open_code_map(&self, process: u32) -> Option<Self::File>
+        ensures { may_open self.now (code_map process) result };
+
     /// Says that for the file with this name none of the build that ran was found.
     fn tell_missing(&self, name: &[u8]);
 
@@ -68,11 +91,16 @@ pub struct OpenedFile<'run> {
     /// The identification of its build, if it is known.
     pub build_id: Option<&'run [u8]>,
     /// Its bytes; `None` where it can't be opened or read, or the name is none of a file; where the
-    /// build is known, also where no file of it was found.
+    /// build is known, also where no file of it was found. Of the kernel, what it tells of its
+    /// symbols; of memory of a process, what that tells of its code.
     pub bytes: Option<Vec<u8>>,
     /// The bytes of its debug file; `None` where it can't be opened or read, or is of another
     /// build.
     pub debug: Option<Vec<u8>>,
+    /// The process whose memory it is, where it is no file's.
+    pub process: Option<u32>,
+    /// The path of the file in which that process tells the functions of code that it made.
+    pub map_name: Option<String>,
 }
 
 /// A file of a profile: its name, and its functions and its code if it could be read.
@@ -86,20 +114,28 @@ pub struct ProfileFile<'run> {
     pub functions: Option<FileFunctions<'run>>,
     /// Its code; `None` where it can't be opened or read, is no ELF file, or has no `.eh_frame`.
     pub code: Option<FileCode<'run>>,
+    /// The symbols of the kernel that runs, if it is the kernel itself, and they can be read.
+    pub kernel: Option<KernelNames<'run>>,
+    /// The process whose memory it is, where it is no file's.
+    pub process: Option<u32>,
+    /// The functions of code that this process made, if they can be read.
+    pub code_map: Option<CodeMap<'run>>,
 }
 
 impl ProfileFile<'_> {
-    /// Returns whether this is the file that is mapped: it has its name, and its build if that is
-    /// known. Does not allocate.
+    /// Returns whether this is the file that is mapped: it has its name, its build if that is
+    /// known, and where it is memory its process. Does not allocate.
     pub fn is_of(&self, mapping: &Mapping<'_>) -> bool
         ensures { result ≡ is_of (mapping_view mapping.now) (known_view self.now) }
     {
-        self.name.bytes() == mapping.name && same_id(self.build_id, mapping.build_id)
+        self.name.bytes() == mapping.name
+            && same_id(self.build_id, mapping.build_id)
+            && same_process(self.process, process_of(mapping))
     }
 }
 
 /// The files that the executable mappings among the records are of, each once, in the order of the
-/// records. Fails where memory is refused.
+/// records; and the kernel, if samples have frames of it. Fails where memory is refused.
 pub fn mapped_files<'run>(
     alloc: Global,
     records: &[Record<'run>],
@@ -107,11 +143,48 @@ pub fn mapped_files<'run>(
     ensures { IfOk result (λ files. map wanted_view files.items
         ≡ wanted_of (map record_view records.now)) }
 {
+    mapped_in(alloc, has_kernel(records), records)
+}
+
+/// The same, where samples have frames of the kernel or none has.
+fn mapped_in<'run>(
+    alloc: Global,
+    in_kernel: bool,
+    records: &[Record<'run>],
+) -> Result<Vec<WantedFile<'run>>, AllocError>
+    ensures { IfOk result (λ files. map wanted_view files.items
+        ≡ wanted_in in_kernel (map record_view records.now)) }
+{
     let mut files = Vec::new(alloc);
     for record in records {
-        push_file(&mut files, code_file(record))?;
+        push_file(&mut files, code_file(in_kernel, record))?;
     }
     Ok(files)
+}
+
+/// Whether a sample has frames of the kernel.
+fn has_kernel(records: &[Record<'_>]) -> bool
+    ensures { result ≡ has_kernel (map record_view records.now) }
+{
+    records.iter().any(|record| has_kernel_frames(record))
+}
+
+/// Whether a record is a sample that has frames of the kernel.
+fn has_kernel_frames(item: &Record<'_>) -> bool
+    ensures { result ≡ has_kernel_frames (record_view item.now).event }
+{
+    match item.event {
+        Event::Sample(sample) => has_address(sample.kernel_frames()),
+        _ => false,
+    }
+}
+
+/// Whether a call chain has an address left.
+fn has_address(addresses: Addresses<'_>) -> bool
+    ensures { result ≡ has_some (addresses_left addresses.entry) }
+{
+    let mut addresses = addresses;
+    addresses.next().is_some()
 }
 
 /// Appends a file, unless it is there. Fails where memory is refused.
@@ -133,17 +206,37 @@ pub fn push_file<'run>(
     }
 }
 
-/// The file that a record says is mapped as code.
-fn code_file<'run>(item: &Record<'run>) -> Option<WantedFile<'run>>
-    ensures { option_map wanted_view result ≡ code_file (record_view item.now).event }
+/// The file that a record says is mapped as code; the kernel itself only if samples have frames of
+/// it.
+fn code_file<'run>(in_kernel: bool, item: &Record<'run>) -> Option<WantedFile<'run>>
+    ensures { option_map wanted_view result ≡ code_file in_kernel (record_view item.now).event }
 {
     match item.event {
-        Event::Mapping(mapping) if mapping.is_executable => Some(WantedFile {
+        Event::Mapping(mapping) if is_code_file(in_kernel, &mapping) => Some(WantedFile {
             name: mapping.name,
             build_id: mapping.build_id,
+            process: process_of(&mapping),
         }),
         _ => None,
     }
+}
+
+/// The process that may make code where this is mapped: its memory is no file's.
+fn process_of(mapping: &Mapping<'_>) -> Option<u32>
+    ensures { result ≡ process_of (mapping_view mapping.now) }
+{
+    if is_memory_name(mapping.name) {
+        Some(mapping.pid)
+    } else {
+        None
+    }
+}
+
+/// Whether a file is mapped as code that samples may have frames of.
+fn is_code_file(in_kernel: bool, mapping: &Mapping<'_>) -> bool
+    ensures { result ≡ is_code_file in_kernel (mapping_view mapping.now) }
+{
+    mapping.is_executable && (in_kernel || !is_kernel_name(mapping.name))
 }
 
 /// Whether the file is one of these.
@@ -168,14 +261,27 @@ pub fn read_files<'run, O: Opener>(
     for file in files {
         let bytes = read_file(alloc, opener, file)?;
         let debug = read_debug(alloc, opener, &bytes)?;
+        let map_name = map_name_of(alloc, file.process)?;
         opened.push(OpenedFile {
             name: file.name,
             build_id: file.build_id,
             bytes,
             debug,
+            process: file.process,
+            map_name,
         })?;
     }
     Ok(opened)
+}
+
+/// The path of the file in which a process tells the functions of code that it made.
+fn map_name_of(alloc: Global, process: Option<u32>) -> Result<Option<String>, AllocError>
+    ensures { IfOk result (λ name. option_map string_bytes name ≡ option_map map_name process) }
+{
+    match process {
+        Some(process) => Ok(Some(map_name(alloc, process)?)),
+        None => Ok(None),
+    }
 }
 
 /// Reads the debug file of a file of these bytes.
@@ -218,11 +324,30 @@ fn read_file<O: Opener>(
         (wanted_view file.now) (bytes_view bytes)) }
 {
     if !is_file_name(file.name) {
-        return Ok(None);
+        return read_told(alloc, opener, is_kernel_name(file.name), file.process);
     }
     match file.build_id {
         Some(build) => read_found(alloc, opener, file.name, build),
         None => read_opened(alloc, opener.open(file.name)),
+    }
+}
+
+/// Reads what the kernel tells of its symbols, or a process of code that it made.
+fn read_told<O: Opener>(
+    alloc: Global,
+    opener: &O,
+    is_kernel: bool,
+    process: Option<u32>,
+) -> Result<Option<Vec<u8>>, AllocError>
+    ensures { IfOk result (λ bytes. IsTold (O.may_open opener.now) O.File.remaining
+        is_kernel process (bytes_view bytes)) }
+{
+    if is_kernel {
+        return read_opened(alloc, opener.open_kernel_symbols());
+    }
+    match process {
+        Some(process) => read_opened(alloc, opener.open_code_map(process)),
+        None => Ok(None),
     }
 }
 
@@ -353,12 +478,74 @@ fn profile_file<'opened>(
         Some(bytes) => code_of(alloc, bytes.as_slice())?,
         None => None,
     };
+    let kernel = kernel_of(alloc, opened)?;
+    let code_map = map_of(alloc, opened)?;
     Ok(ProfileFile {
         name: Name::new(opened.name),
         build_id: opened.build_id,
         functions,
         code,
+        kernel,
+        process: opened.process,
+        code_map,
     })
+}
+
+/// The functions of code that a process made, if this is its memory.
+fn map_of<'opened>(
+    alloc: Global,
+    opened: &'opened OpenedFile<'_>,
+) -> Result<Option<CodeMap<'opened>>, AllocError>
+    ensures { IfOk result (λ found. option_map map_view found ≡ map_of (opened_view opened.now)) }
+{
+    match &opened.map_name {
+        Some(name) => map_by(alloc, slice_of(&opened.bytes), name.as_bytes()),
+        None => Ok(None),
+    }
+}
+
+/// The functions that are told in a text with this path, if it could be read.
+fn map_by<'opened>(
+    alloc: Global,
+    text: Option<&'opened [u8]>,
+    name: &'opened [u8],
+) -> Result<Option<CodeMap<'opened>>, AllocError>
+    ensures { IfOk result (λ found. option_map map_view found
+        ≡ map_by (option_map (λ text. text.now) text.entry) name.entry.now) }
+{
+    match text {
+        Some(text) => Ok(Some(CodeMap::of(alloc, name, text)?)),
+        None => Ok(None),
+    }
+}
+
+/// The symbols of the kernel, if the file is the kernel itself.
+fn kernel_of<'opened>(
+    alloc: Global,
+    opened: &'opened OpenedFile<'_>,
+) -> Result<Option<KernelNames<'opened>>, AllocError>
+    ensures { IfOk result (λ names. option_map kernel_view names
+        ≡ kernel_of (opened_view opened.now)) }
+{
+    if !is_kernel_name(opened.name) {
+        return Ok(None);
+    }
+    match &opened.bytes {
+        Some(bytes) => Ok(Some(names_in(alloc, opened.name, bytes.as_slice())?)),
+        None => Ok(None),
+    }
+}
+
+/// The symbols of a text, with that after which the kernel's mapping is named.
+fn names_in<'opened>(
+    alloc: Global,
+    name: &'opened [u8],
+    text: &'opened [u8],
+) -> Result<KernelNames<'opened>, AllocError>
+    ensures { IfOk result (λ names. kernel_view names
+        ≡ kernel_text name.entry.now text.entry.now) }
+{
+    KernelNames::of(alloc, text, bytes_from(name, KERNEL_IMAGE.len() as u64))
 }
 
 /// The functions of a file that was opened.

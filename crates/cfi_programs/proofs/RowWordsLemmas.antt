@@ -46,7 +46,7 @@ row_in_turn say names row old new r h =
     let rules = rules_saying say names row.parts in
     let frame = frame_saying say names row.parts.cfa row.parts.args_size in
     let head : head_saying say names row ≡ a ++ frame =
-        append_assoc ((a ++ codes " cfa=") ++ c) (codes " args=") d ∙ append_assoc (a ++ codes " cfa=") c (codes " args=" ++ d) ∙ append_assoc a (codes " cfa=") (c ++ (codes " args=" ++ d)) in
+    append_assoc ((a ++ codes " cfa=") ++ c) (codes " args=") d ∙ append_assoc (a ++ codes " cfa=") c (codes " args=" ++ d) ∙ append_assoc a (codes " cfa=") (c ++ (codes " args=" ++ d)) in
     subst P (sym (append_assoc (head_saying say names row) rules (10 ∷ []) ∙ ap (λ xs. xs ++ (rules ++ 10 ∷ [])) head ∙ append_assoc a frame (rules ++ 10 ∷ []))) h
 
 -- ---- rows without expressions
@@ -101,9 +101,9 @@ plain_rules (pair ∷ pairs) plain register =
     elim (cases_lt pair.0.0 register) [
       | inl above ↦ ap expression_at (get_behind pair pairs register above) ∙ others
       | inr low ↦ elim (cases_lt register pair.0.0) [
-          | inl below ↦ ap expression_at (get_apart pair pairs register (λ e. omega (arith, e))) ∙ others
-          | inr high ↦
-              let same : pair.0.0 ≡ register = omega arith in
-              subst (λ r. expression_at (get (rules_of (pair ∷ pairs)) r) ≡ None) same (ap expression_at (get_first pair pairs) ∙ plain.0)
-        ]
+        | inl below ↦ ap expression_at (get_apart pair pairs register (λ e. omega (arith, e))) ∙ others
+        | inr high ↦
+            let same : pair.0.0 ≡ register = omega arith in
+            subst (λ r. expression_at (get (rules_of (pair ∷ pairs)) r) ≡ None) same (ap expression_at (get_first pair pairs) ∙ plain.0)
+      ]
     ]

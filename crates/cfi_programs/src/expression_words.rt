@@ -75,11 +75,7 @@ impl Display for Comma {
     ghost output = { λ it. Some (comma it.0) };
 
     fn fmt<W: fmt::Write>(&self, f: &mut Formatter<W>) -> fmt::Result {
-        if self.0 {
-            Ok(())
-        } else {
-            f.write_str(", ")
-        }
+        if self.0 { Ok(()) } else { f.write_str(", ") }
     }
 }
 

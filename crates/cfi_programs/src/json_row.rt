@@ -32,12 +32,7 @@ pub(crate) fn write_json_row<
     S: UnwindSection<R>,
     W: Write,
     A: ArrayLike<Item = (Register, RegisterRule<usize>)>,
->(
-    output: &mut W,
-    style: Style,
-    section: &S,
-    row: &UnwindTableRow<usize, A>,
-) -> io::Result<()>
+>(output: &mut W, style: Style, section: &S, row: &UnwindTableRow<usize, A>) -> io::Result<()>
     ensures { let from = S.view section.now in
         let wording = worded style from.address_size from.position in
         Writes (W.contents output.old) (W.contents output.new) result
@@ -54,12 +49,7 @@ pub(crate) fn write_json_members<
     S: UnwindSection<R>,
     W: Write,
     A: ArrayLike<Item = (Register, RegisterRule<usize>)>,
->(
-    output: &mut W,
-    style: Style,
-    section: &S,
-    row: &UnwindTableRow<usize, A>,
-) -> io::Result<()>
+>(output: &mut W, style: Style, section: &S, row: &UnwindTableRow<usize, A>) -> io::Result<()>
     ensures { let from = S.view section.now in
         let wording = worded style from.address_size from.position in
         Writes (W.contents output.old) (W.contents output.new) result
@@ -77,12 +67,7 @@ fn write_head<
     S: UnwindSection<R>,
     W: Write,
     A: ArrayLike<Item = (Register, RegisterRule<usize>)>,
->(
-    output: &mut W,
-    style: Style,
-    section: &S,
-    row: &UnwindTableRow<usize, A>,
-) -> io::Result<()>
+>(output: &mut W, style: Style, section: &S, row: &UnwindTableRow<usize, A>) -> io::Result<()>
     ensures { let from = S.view section.now in
         let wording = worded style from.address_size from.position in
         Writes (W.contents output.old) (W.contents output.new) result

@@ -123,12 +123,7 @@ fn write_row_behind<
     S: UnwindSection<R>,
     W: Write,
     A: ArrayLike<Item = (Register, RegisterRule<usize>)>,
->(
-    output: &mut W,
-    style: Style,
-    section: &S,
-    row: &UnwindTableRow<usize, A>,
-) -> io::Result<()>
+>(output: &mut W, style: Style, section: &S, row: &UnwindTableRow<usize, A>) -> io::Result<()>
     ensures { let from = S.view section.now in
         let wording = worded style from.address_size from.position in
         Writes (W.contents output.old) (W.contents output.new) result
@@ -146,12 +141,7 @@ fn write_row_in<
     S: UnwindSection<R>,
     W: Write,
     A: ArrayLike<Item = (Register, RegisterRule<usize>)>,
->(
-    output: &mut W,
-    style: Style,
-    section: &S,
-    row: &UnwindTableRow<usize, A>,
-) -> io::Result<()>
+>(output: &mut W, style: Style, section: &S, row: &UnwindTableRow<usize, A>) -> io::Result<()>
     ensures { let from = S.view section.now in
         let wording = worded style from.address_size from.position in
         Writes (W.contents output.old) (W.contents output.new) result
@@ -181,13 +171,7 @@ fn write_row<
         (row_saying say names row.now ++ 10 ∷ []) }
 {
     write_addresses(output, row.start_address(), row.end_address())?;
-    write_frame(
-        output,
-        names,
-        section,
-        *row.cfa(),
-        row.saved_args_size(),
-    )?;
+    write_frame(output, names, section, *row.cfa(), row.saved_args_size())?;
     write_rules(output, names, section, row)?;
     write_text(output, b"\n")
 }

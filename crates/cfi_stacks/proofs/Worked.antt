@@ -48,7 +48,7 @@ late = refl
 -- ---- frames of the kernel, as perf script --kallsyms=/dev/null prints them of crates/cfi/data/chains.perf, and of a copy with another address
 
 abbrev kernel_file : KnownFile
-kernel_file = record { name = codes "[kernel.kallsyms]_text"; build_id = None; functions = None; code = None }
+kernel_file = record { name = codes "[kernel.kallsyms]_text"; build_id = None; functions = None; code = None; kernel = None; process = None; code_map = None }
 
 abbrev kernel_code : MappedCode
 kernel_code = record { start = 0xffffffff81000000; end = 0xffffffff82000000; offset = 0xffffffff81000000; object = Some 0 }

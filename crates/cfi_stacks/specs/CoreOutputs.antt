@@ -146,7 +146,12 @@ is_file_of_code segments m = is_code segments m && not (bytes_eq m.name vdso_nam
 abbrev pub code_file : List CoreSegment → List CoreMapping → CoreMapping → Option Wanted
 code_file segments mapped m =
     if is_file_of_code segments m
-    then Some (record { name = m.name; build_id = build_of segments mapped m.name }) else None
+    then Some (record {
+      name = m.name;
+      build_id = build_of segments mapped m.name;
+      process = None;
+    })
+    else None
 
 -- each once, in the order of the mappings
 abbrev pub code_files : List CoreSegment → List CoreMapping → List Wanted
@@ -181,6 +186,8 @@ vdso_file core =
       build_id = build_of core.segments core.mapped vdso_name;
       bytes = Some image;
       debug = None;
+      process = None;
+      map_name = None;
     }) (image_of core.segments core.mapped vdso_name)
 
 abbrev pub and_file : List Opened → Option Opened → List Opened

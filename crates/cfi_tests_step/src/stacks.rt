@@ -253,6 +253,14 @@ impl<'a> Opener for OneFile<'a> {
         None
     }
 
+    fn open_kernel_symbols(&self) -> Option<&'a [u8]> {
+        None
+    }
+
+    fn open_code_map(&self, _process: u32) -> Option<&'a [u8]> {
+        None
+    }
+
     fn tell_missing(&self, _name: &[u8]) {}
 
     fn tell_without_stacks(&self) {}

@@ -15,5 +15,5 @@ returns-in_err-write_byte g c =
 
 pub returns : goal.returns
 returns g c =
-    last_written _ _ _ _ (codes " 0x") ((byte_text c.args.first) ++ (hexadecimal (bytes_left (g.R.Reader.position c.args.input.now)))) c.in_ok-write_text.ensures 
+    last_written _ _ _ _ (codes " 0x") ((byte_text c.args.first) ++ (hexadecimal (bytes_left (g.R.Reader.position c.args.input.now)))) c.in_ok-write_text.ensures
     (last_written _ _ _ _ (byte_text c.args.first) (hexadecimal (bytes_left (g.R.Reader.position c.args.input.now))) c.in_ok-write_byte.ensures c.write_hexadecimal.ensures)

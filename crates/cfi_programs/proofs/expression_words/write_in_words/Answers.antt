@@ -19,5 +19,5 @@ returns-in_err-write_inside g c =
 pub returns : goal.returns
 returns g c =
     let from = g.S._UnwindSectionPrivate.view c.args.section.now in
-    last_written _ _ _ _ (codes "expr(") ((words_in c.args.names from.address_size from.position (read_at from.position (expression_bytes c.args.expression))) ++ (codes ")")) c.in_ok-write_text.ensures 
+    last_written _ _ _ _ (codes "expr(") ((words_in c.args.names from.address_size from.position (read_at from.position (expression_bytes c.args.expression))) ++ (codes ")")) c.in_ok-write_text.ensures
     (last_written _ _ _ _ (words_in c.args.names from.address_size from.position (read_at from.position (expression_bytes c.args.expression))) (codes ")") c.in_ok-write_inside.ensures c.write_text-2.ensures)

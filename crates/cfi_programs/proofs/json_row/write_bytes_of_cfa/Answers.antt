@@ -17,5 +17,5 @@ returns-in_err-write_bytes_of g c =
 pub returns : goal.returns
 returns g c =
     let from = g.S._UnwindSectionPrivate.view c.args.section.now in
-    last_written _ _ _ _ (codes ",\"cfa_bytes\":\"") ((hexadecimal_of from.position c.args.expression) ++ (codes "\"")) c.in_ok-write_text.ensures 
+    last_written _ _ _ _ (codes ",\"cfa_bytes\":\"") ((hexadecimal_of from.position c.args.expression) ++ (codes "\"")) c.in_ok-write_text.ensures
     (last_written _ _ _ _ (hexadecimal_of from.position c.args.expression) (codes "\"") c.in_ok-write_bytes_of.ensures c.write_text-2.ensures)

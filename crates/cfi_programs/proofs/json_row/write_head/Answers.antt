@@ -24,5 +24,5 @@ returns g c =
     let from = g.S._UnwindSectionPrivate.view c.args.section.now in
     let wording = worded c.args.style from.address_size from.position in
     let row = c.args.row.now in
-    last_written _ _ _ _ (start_member row.start_address ++ end_member row.end_address) ((json_cfa wording row.parts.cfa) ++ (codes ",\"args\":" ++ json_number row.parts.args_size ++ codes ",\"rules\":{")) (rw (c.start_address.ensures, c.end_address.ensures) at c.in_ok-write_addresses.ensures) 
+    last_written _ _ _ _ (start_member row.start_address ++ end_member row.end_address) ((json_cfa wording row.parts.cfa) ++ (codes ",\"args\":" ++ json_number row.parts.args_size ++ codes ",\"rules\":{")) (rw (c.start_address.ensures, c.end_address.ensures) at c.in_ok-write_addresses.ensures)
     (last_written _ _ _ _ (json_cfa wording row.parts.cfa) (codes ",\"args\":" ++ json_number row.parts.args_size ++ codes ",\"rules\":{") (rw (c.cfa.ensures) at c.in_ok-write_json_cfa.ensures) (rw (c.saved_args_size.ensures) at c.write_args_size.ensures))

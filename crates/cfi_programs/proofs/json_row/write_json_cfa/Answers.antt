@@ -30,6 +30,6 @@ pub returns : goal.returns
 returns g c =
     let from = g.S._UnwindSectionPrivate.view c.args.section.now in
     let wording = worded c.args.style from.address_size from.position in
-    last_written _ _ _ _ (codes "\"cfa\":\"") ((cfa_saying wording.words wording.names c.args.cfa) ++ ((codes "\"") ++ (cfa_bytes wording c.args.cfa))) c.in_ok-write_text.ensures 
-    (last_written _ _ _ _ (cfa_saying wording.words wording.names c.args.cfa) ((codes "\"") ++ (cfa_bytes wording c.args.cfa)) c.in_ok-write_cfa.ensures 
+    last_written _ _ _ _ (codes "\"cfa\":\"") ((cfa_saying wording.words wording.names c.args.cfa) ++ ((codes "\"") ++ (cfa_bytes wording c.args.cfa))) c.in_ok-write_text.ensures
+    (last_written _ _ _ _ (cfa_saying wording.words wording.names c.args.cfa) ((codes "\"") ++ (cfa_bytes wording c.args.cfa)) c.in_ok-write_cfa.ensures
     (last_written _ _ _ _ (codes "\"") (cfa_bytes wording c.args.cfa) c.in_ok-write_text-2.ensures c.write_cfa_bytes.ensures))

@@ -38,6 +38,6 @@ returns g c =
     let wording = worded c.args.style from.address_size from.position in
     let row = c.args.row.now in
     ended _ _ _ (json_head wording row) (json_rules wording row.parts) (json_bytes wording row.parts) (codes "}") (10 ∷ [])
-    (last_written _ _ _ _ (json_head wording row) ((json_rules wording row.parts) ++ ((json_bytes wording row.parts) ++ (codes "}" ++ 10 ∷ []))) c.in_ok-write_head.ensures 
-    (last_written _ _ _ _ (json_rules wording row.parts) ((json_bytes wording row.parts) ++ (codes "}" ++ 10 ∷ [])) c.in_ok-write_members.ensures 
+    (last_written _ _ _ _ (json_head wording row) ((json_rules wording row.parts) ++ ((json_bytes wording row.parts) ++ (codes "}" ++ 10 ∷ []))) c.in_ok-write_head.ensures
+    (last_written _ _ _ _ (json_rules wording row.parts) ((json_bytes wording row.parts) ++ (codes "}" ++ 10 ∷ [])) c.in_ok-write_members.ensures
     (last_written _ _ _ _ (json_bytes wording row.parts) (codes "}" ++ 10 ∷ []) c.in_ok-write_bytes.ensures c.write_text.ensures)))

@@ -22,5 +22,5 @@ pub returns : goal.returns
 returns g c =
     let from = g.S._UnwindSectionPrivate.view c.args.section.now in
     let wording = worded c.args.style from.address_size from.position in
-    last_written _ _ _ _ (codes "\"" ++ register_text c.args.style.names c.args.register.0 ++ codes "\":\"") ((rule_saying wording.words wording.names c.args.rule) ++ (codes "\"")) c.in_ok-write_name.ensures 
+    last_written _ _ _ _ (codes "\"" ++ register_text c.args.style.names c.args.register.0 ++ codes "\":\"") ((rule_saying wording.words wording.names c.args.rule) ++ (codes "\"")) c.in_ok-write_name.ensures
     (last_written _ _ _ _ (rule_saying wording.words wording.names c.args.rule) (codes "\"") c.in_ok-write_rule.ensures c.write_text.ensures)

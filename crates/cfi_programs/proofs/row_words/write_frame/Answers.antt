@@ -22,5 +22,5 @@ pub returns : goal.returns
 returns g c =
     let from = g.S._UnwindSectionPrivate.view c.args.section.now in
     let say = in_words c.args.names from.address_size from.position in
-    last_written _ _ _ _ (codes " cfa=") ((cfa_saying say c.args.names c.args.cfa) ++ (codes " args=" ++ decimal c.args.args_size)) c.in_ok-write_text.ensures 
+    last_written _ _ _ _ (codes " cfa=") ((cfa_saying say c.args.names c.args.cfa) ++ (codes " args=" ++ decimal c.args.args_size)) c.in_ok-write_text.ensures
     (last_written _ _ _ _ (cfa_saying say c.args.names c.args.cfa) (codes " args=" ++ decimal c.args.args_size) c.in_ok-write_cfa.ensures c.write_args_size.ensures)

@@ -39,6 +39,6 @@ returns g c =
     let say = in_words c.args.names from.address_size from.position in
     let row = c.args.row.now in
     row_in_turn say c.args.names row _ _ _
-    (last_written _ _ _ _ (address_text row.start_address ++ codes " " ++ address_text row.end_address) ((frame_saying say c.args.names row.parts.cfa row.parts.args_size) ++ ((rules_saying say c.args.names row.parts) ++ (10 ∷ []))) (rw (c.start_address.ensures, c.end_address.ensures) at c.in_ok-write_addresses.ensures) 
-    (last_written _ _ _ _ (frame_saying say c.args.names row.parts.cfa row.parts.args_size) ((rules_saying say c.args.names row.parts) ++ (10 ∷ [])) (rw (c.cfa.ensures, c.saved_args_size.ensures) at c.in_ok-write_frame.ensures) 
+    (last_written _ _ _ _ (address_text row.start_address ++ codes " " ++ address_text row.end_address) ((frame_saying say c.args.names row.parts.cfa row.parts.args_size) ++ ((rules_saying say c.args.names row.parts) ++ (10 ∷ []))) (rw (c.start_address.ensures, c.end_address.ensures) at c.in_ok-write_addresses.ensures)
+    (last_written _ _ _ _ (frame_saying say c.args.names row.parts.cfa row.parts.args_size) ((rules_saying say c.args.names row.parts) ++ (10 ∷ [])) (rw (c.cfa.ensures, c.saved_args_size.ensures) at c.in_ok-write_frame.ensures)
     (last_written _ _ _ _ (rules_saying say c.args.names row.parts) (10 ∷ []) c.in_ok-write_rules.ensures c.write_text.ensures)))

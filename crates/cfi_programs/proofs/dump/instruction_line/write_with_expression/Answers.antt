@@ -18,5 +18,5 @@ returns-in_err-write_operand g c =
 pub returns : goal.returns
 returns g c =
     let from = g.S._UnwindSectionPrivate.view c.args.section.now in
-    last_written _ _ _ _ (instruction_head c.args.names c.args.instruction) ((codes " expression=" ++ in_words c.args.names from.address_size from.position c.args.expression) ++ (target_text (target c.args.at c.args.instruction) ++ 10 ∷ [])) c.in_ok-write_head.ensures 
+    last_written _ _ _ _ (instruction_head c.args.names c.args.instruction) ((codes " expression=" ++ in_words c.args.names from.address_size from.position c.args.expression) ++ (target_text (target c.args.at c.args.instruction) ++ 10 ∷ [])) c.in_ok-write_head.ensures
     (last_written _ _ _ _ (codes " expression=" ++ in_words c.args.names from.address_size from.position c.args.expression) (target_text (target c.args.at c.args.instruction) ++ 10 ∷ []) c.in_ok-write_operand.ensures c.write_end.ensures)
