@@ -21,7 +21,8 @@ use crate::core_files::{CoreCode, code_files, core_code, push_vdso};
 use crate::core_text::print_thread;
 use crate::sample_text::Room;
 use cfi_cores::{Core, CoreError, CoreMemory, read_core};
-use cfi_object::input::{InputError, read_all};
+use cfi_object::input::{FileInput, InputError};
+use cfi_object::parts::read_whole;
 use cfi_processes::Name;
 use cfi_processes::process_code::ProcessCode;
 use cfi_processes::profile_files::{OpenedFile, Opener, ProfileFile, profile_files, read_files};
@@ -30,9 +31,9 @@ use cfi_programs::lines::{write_part, write_refusal, write_wrong_input};
 use gimli_cfi::Error;
 use std::alloc::Global;
 use std::io;
-use std::io::{Read, Write};
+use std::io::Write;
 
-/// Reads the core file to its end, and prints the stack of each thread, in the order of its notes.
+/// Reads the core file whole, and prints the stack of each thread, in the order of its notes.
 ///
 /// For each there is a line with the thread, the signal that it got and the name of the process, a
 /// line for each frame, where there is a reason for which the last frame isn't the outermost one a
@@ -48,18 +49,18 @@ use std::io::{Read, Write};
 /// beginning has been written.
 ///
 /// Allocates for the input, the files and what is mapped. Unwinding and printing don't allocate.
-pub fn print_core<O: Opener, R: Read, W: Write>(
+pub fn print_core<O: Opener, I: FileInput, W: Write>(
     alloc: Global,
     raw: bool,
     opener: &O,
-    input: &mut R,
+    input: &mut I,
     output: &mut W,
 ) -> io::Result<u8>
-    ensures { (bytes : List ℕ) × AreLeft (R.remaining input.old) bytes
+    ensures { (bytes : List ℕ) × AreLeft (I.bytes input.old) bytes
         × PrintsSome (λ line. IsOwed raw (O.may_open opener.now) O.File.remaining bytes line)
         (W.contents output.old) (W.contents output.new) result }
 {
-    match read_all(alloc, input) {
+    match read_whole(alloc, input) {
         Ok(bytes) => print_bytes(alloc, raw, opener, bytes.as_slice(), output),
         Err(InputError::OutOfMemory) => write_refusal(output, Error::OutOfMemory),
         Err(_) => write_wrong_input(output),
