@@ -90,4 +90,6 @@ impl<S: System> Opener for ProfileOpener<'_, S> {
     fn tell_lost(&self, records: u64, samples: u64) {
         self.system.tell_lost(self.path, records, samples);
     }
+
+    ghost same_bytes = { λ file. S.same_bytes file };
 }

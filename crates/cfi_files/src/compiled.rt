@@ -20,8 +20,8 @@ use cfi_programs::lines::{Address, write_part, write_refusal, write_text};
 use cfi_programs::row_line::{HasRules, number_behind};
 use cfi_programs::row_words::{write_frame, write_rules};
 use gimli_cfi::{
-    _UnwindSectionPrivate, BaseAddresses, CallFrameSection, Error, Reader, Register, RegisterRule, SectionSource,
-    UnwindSection,
+    _UnwindSectionPrivate, BaseAddresses, CallFrameSection, Error, Reader, Register, RegisterRule,
+    SectionSource, UnwindSection,
 };
 use std::alloc::Global;
 use std::io;

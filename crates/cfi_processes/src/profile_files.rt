@@ -30,7 +30,8 @@ use crate::names::Name;
 use crate::objects::Object;
 use crate::wanted::{WantedFile, has_build, id_of, same_id, same_process};
 use cfi_elf::bytes::bytes_from;
-use cfi_object::input::{InputError, read_all};
+use cfi_object::input::{FileInput, InputError, read_all};
+use cfi_object::parts::read_whole;
 use cfi_perf::{Addresses, Event, Mapping, Record};
 use std::alloc::{AllocError, Global};
 use std::io::Read;
@@ -38,7 +39,7 @@ use std::io::Read;
 /// Opens files by the names that a profile has for them.
 pub trait Opener {
     /// An open file.
-    type File: Read + Drop;
+    type File: FileInput + Read + Drop;
 
     /// What may be opened at a place; none where nothing can be opened.
     ghost may_open: { Self → FilePlace → Option Self.File → Type 0 };
@@ -81,6 +82,9 @@ pub trait Opener {
     /// Says how many of the profile's records were lost, and how many of its samples. One of these
     /// numbers may be 0.
     fn tell_lost(&self, records: u64, samples: u64);
+
+    /// Of each file the bytes that it has left as a reader are those that it has by parts.
+    ghost same_bytes: { (file : Self.File) → Self.File.remaining file ≡ Self.File.bytes file };
 }
 
 /// A file of a profile, as it was opened.
@@ -309,7 +313,7 @@ fn read_debug_of<O: Opener>(
         (option_map (λ build. build.now) build.entry) (bytes_view debug)) }
 {
     match build {
-        Some(build) => read_build(alloc, build, opener.open_debug(build)),
+        Some(build) => read_build::<O>(alloc, build, opener.open_debug(build)),
         None => Ok(None),
     }
 }
@@ -328,7 +332,7 @@ fn read_file<O: Opener>(
     }
     match file.build_id {
         Some(build) => read_found(alloc, opener, file.name, build),
-        None => read_opened(alloc, opener.open(file.name)),
+        None => read_opened::<O>(alloc, opener.open(file.name)),
     }
 }
 
@@ -343,10 +347,10 @@ fn read_told<O: Opener>(
         is_kernel process (bytes_view bytes)) }
 {
     if is_kernel {
-        return read_opened(alloc, opener.open_kernel_symbols());
+        return read_text(alloc, opener.open_kernel_symbols());
     }
     match process {
-        Some(process) => read_opened(alloc, opener.open_code_map(process)),
+        Some(process) => read_text(alloc, opener.open_code_map(process)),
         None => Ok(None),
     }
 }
@@ -361,7 +365,7 @@ fn read_found<O: Opener>(
     ensures { IfOk result (λ bytes. IsFound (O.may_open opener.now) O.File.remaining name.now
         (Some build.now) (bytes_view bytes)) }
 {
-    let found = read_build(alloc, build, opener.find(name))?;
+    let found = read_build::<O>(alloc, build, opener.find(name))?;
     match found {
         Some(bytes) => Ok(Some(bytes)),
         None => read_copy(alloc, opener, name, build),
@@ -378,7 +382,7 @@ fn read_copy<O: Opener>(
     ensures { IfOk result (λ bytes. IsBuild (O.may_open opener.now) O.File.remaining build.now
         (copy_of build.now) (bytes_view bytes)) }
 {
-    let bytes = read_build(alloc, build, opener.open_copy(build))?;
+    let bytes = read_build::<O>(alloc, build, opener.open_copy(build))?;
     if bytes.is_none() {
         opener.tell_missing(name);
     }
@@ -386,15 +390,15 @@ fn read_copy<O: Opener>(
 }
 
 /// Reads a file that was opened, if it is of the build.
-fn read_build<R: Read + Drop>(
+fn read_build<O: Opener>(
     alloc: Global,
     build: &[u8],
-    opened: Option<R>,
+    opened: Option<O::File>,
 ) -> Result<Option<Vec<u8>>, AllocError>
-    ensures { IfOk result (λ bytes. IsBuildOf R.remaining build.now opened
+    ensures { IfOk result (λ bytes. IsBuildOf O.File.remaining build.now opened
         (bytes_view bytes)) }
 {
-    let bytes = read_opened(alloc, opened)?;
+    let bytes = read_opened::<O>(alloc, opened)?;
     Ok(if_built(build, bytes))
 }
 
@@ -415,23 +419,48 @@ fn if_built(build: &[u8], bytes: Option<Vec<u8>>) -> Option<Vec<u8>>
 }
 
 /// Reads a file that was opened, if it was.
-fn read_opened<R: Read + Drop>(
+fn read_opened<O: Opener>(
+    alloc: Global,
+    opened: Option<O::File>,
+) -> Result<Option<Vec<u8>>, AllocError>
+    ensures { IfOk result (λ bytes. IsReadOf O.File.remaining opened (bytes_view bytes)) }
+{
+    match opened {
+        Some(mut file) => read_input(alloc, &mut file),
+        None => Ok(None),
+    }
+}
+
+/// Reads a text that was opened to its end, if it was. The system makes such texts up as they are
+/// read, so they have no length before.
+fn read_text<R: Read + Drop>(
     alloc: Global,
     opened: Option<R>,
 ) -> Result<Option<Vec<u8>>, AllocError>
     ensures { IfOk result (λ bytes. IsReadOf R.remaining opened (bytes_view bytes)) }
 {
     match opened {
-        Some(mut file) => read_whole(alloc, &mut file),
+        Some(mut text) => read_to_end(alloc, &mut text),
         None => Ok(None),
     }
 }
 
-/// Reads a file to its end; `None` where it can't be read.
-fn read_whole<R: Read>(alloc: Global, file: &mut R) -> Result<Option<Vec<u8>>, AllocError>
-    ensures { IfOk result (λ bytes. IsReading (R.remaining file.old) (bytes_view bytes)) }
+/// Reads a text to its end; `None` where it can't be read.
+fn read_to_end<R: Read>(alloc: Global, text: &mut R) -> Result<Option<Vec<u8>>, AllocError>
+    ensures { IfOk result (λ bytes. IsReading (R.remaining text.old) (bytes_view bytes)) }
 {
-    match read_all(alloc, file) {
+    match read_all(alloc, text) {
+        Ok(bytes) => Ok(Some(bytes)),
+        Err(InputError::OutOfMemory) => Err(AllocError),
+        Err(_) => Ok(None),
+    }
+}
+
+/// Reads all bytes of a file; `None` where it can't be read.
+fn read_input<I: FileInput>(alloc: Global, file: &mut I) -> Result<Option<Vec<u8>>, AllocError>
+    ensures { IfOk result (λ bytes. IsReading (I.bytes file.old) (bytes_view bytes)) }
+{
+    match read_whole(alloc, file) {
         Ok(bytes) => Ok(Some(bytes)),
         Err(InputError::OutOfMemory) => Err(AllocError),
         Err(_) => Ok(None),

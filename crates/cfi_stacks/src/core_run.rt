@@ -26,7 +26,8 @@ use crate::core_text::print_thread;
 use crate::listing::ThreadListing;
 use crate::sample_text::Room;
 use cfi_cores::{Core, CoreError, CoreMemory, CoreThread, read_core};
-use cfi_object::input::{InputError, read_all};
+use cfi_object::input::{FileInput, InputError};
+use cfi_object::parts::read_whole;
 use cfi_processes::Name;
 use cfi_processes::process_code::ProcessCode;
 use cfi_processes::profile_files::{OpenedFile, Opener, ProfileFile, profile_files, read_files};
@@ -36,10 +37,10 @@ use cfi_programs::style::Format;
 use gimli_cfi::Error;
 use std::alloc::Global;
 use std::io;
-use std::io::{Read, Write};
+use std::io::Write;
 
-/// Reads the core file to its end, and prints the stack of each thread, in the order of its notes,
-/// or only that of the thread that the listing names.
+/// Reads the core file whole, and prints the stack of each thread, in the order of its notes, or
+/// only that of the thread that the listing names.
 ///
 /// For each there is a line with the thread, the signal that it got and the name of the process, a
 /// line for each frame, where there is a reason for which the last frame isn't the outermost one a
@@ -58,18 +59,18 @@ use std::io::{Read, Write};
 /// written.
 ///
 /// Allocates for the input, the files and what is mapped. Unwinding and printing don't allocate.
-pub fn print_core<O: Opener, R: Read, W: Write>(
+pub fn print_core<O: Opener, I: FileInput, W: Write>(
     alloc: Global,
     listing: ThreadListing,
     opener: &O,
-    input: &mut R,
+    input: &mut I,
     output: &mut W,
 ) -> io::Result<u8>
-    ensures { (bytes : List ℕ) × AreLeft (R.remaining input.old) bytes
+    ensures { (bytes : List ℕ) × AreLeft (I.bytes input.old) bytes
         × PrintsSome (λ line. IsOwed listing (O.may_open opener.now) O.File.remaining bytes line)
         (W.contents output.old) (W.contents output.new) result }
 {
-    match read_all(alloc, input) {
+    match read_whole(alloc, input) {
         Ok(bytes) => print_bytes(alloc, listing, opener, bytes.as_slice(), output),
         Err(InputError::OutOfMemory) => write_refusal_in(
             output,

@@ -4,7 +4,7 @@
 //! `-F comm,pid,tid,cpu,time,period,event,ip,sym,symoff,dso`, but for those
 //! that begin with `#`, and that perf leaves spaces before names of events and behind them, and
 //! appends `:HG` to the event of the first profile, which has no names.
-ghost use Rattle.std.specs.Prelude.{⊤};
+ghost use Rattle.std.specs.Prelude.{⊤, refl};
 
 use cfi_processes::Opener;
 use cfi_stacks::{Choice, Listing, list_profile, unwind_profile};
@@ -266,6 +266,8 @@ impl<'a> Opener for OneFile<'a> {
     fn tell_without_stacks(&self) {}
 
     fn tell_lost(&self, _records: u64, _samples: u64) {}
+
+    ghost same_bytes = { λ _. refl };
 }
 
 /// Compares what is printed of a profile, where the file has this name, and the status.

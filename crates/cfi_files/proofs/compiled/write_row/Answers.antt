@@ -35,6 +35,6 @@ returns g c =
     let from = g.S._UnwindSectionPrivate.view c.args.section.now in
     let say = in_words c.args.names from.address_size from.position in
     let parts = parts_kept c.args.row.now in
-    last_written _ _ _ _ (address_text c.args.start) ((frame_saying say c.args.names parts.cfa parts.args_size) ++ ((rules_saying say c.args.names parts) ++ (10 ∷ []))) c.in_ok-write_start.ensures 
-    (last_written _ _ _ _ (frame_saying say c.args.names parts.cfa parts.args_size) ((rules_saying say c.args.names parts) ++ (10 ∷ [])) (rw (c.cfa.ensures, c.saved_args_size.ensures) at c.in_ok-write_frame.ensures) 
+    last_written _ _ _ _ (address_text c.args.start) ((frame_saying say c.args.names parts.cfa parts.args_size) ++ ((rules_saying say c.args.names parts) ++ (10 ∷ []))) c.in_ok-write_start.ensures
+    (last_written _ _ _ _ (frame_saying say c.args.names parts.cfa parts.args_size) ((rules_saying say c.args.names parts) ++ (10 ∷ [])) (rw (c.cfa.ensures, c.saved_args_size.ensures) at c.in_ok-write_frame.ensures)
     (last_written _ _ _ _ (rules_saying say c.args.names parts) (10 ∷ []) c.in_ok-write_rules.ensures c.write_text.ensures))
