@@ -75,8 +75,8 @@ impl<S: System> Opener for ProfileOpener<'_, S> {
     }
 
     fn open_code_map(&self, process: u32) -> Option<S::File> {
-        let path = map_name(self.system.alloc(), process).ok()?;
-        self.system.find_regular(path.as_str())
+        let map = map_name(self.system.alloc(), process).ok()?;
+        self.system.find_regular(map.as_str())
     }
 
     fn tell_missing(&self, name: &[u8]) {
