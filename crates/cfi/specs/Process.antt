@@ -143,7 +143,8 @@ AreTallied disk style names printed =
 
 -- the files that it names, in these folders; none is opened by a name that isn't UTF-8, or if the
 -- file isn't a regular one. Copies of builds are below the home folder, whatever that is. The
--- kernel's symbols, and the functions of code that a process made, are those of the system that runs
+-- kernel's symbols, and the functions of code that a process made, are those of the system that
+-- runs
 abbrev pub MayOpenAt : (disk : Disk) → Folders → FilePlace → Option disk.Handle → Type 0
 MayOpenAt disk folders (at_path name) opened =
     IsNone opened ⊎ disk.MayOpen regular (path_below folders.symfs name) opened

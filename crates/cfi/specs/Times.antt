@@ -1,4 +1,4 @@
--- The times of `--time`, as perf-script(1) has them: `FROM,UNTIL`, in seconds.
+-- The times of `--time`, one range of the form that perf-script(1) has: `FROM,UNTIL`, in seconds.
 --     time_of text      a time in nanoseconds
 --     times_of text      two times, of which each may be left out
 use Rattle.std.specs.Prelude.{ℕ, ◌==◌, ◌&&◌, Bool, [], ◌∷◌, ◌++◌, Option, Some, None, codes}

@@ -146,8 +146,12 @@ impl<P: Env + Files + Print + Eprint + AllocGlobal> System for Host<'_, P> {
     fn open_regular(&self, path: &str) -> Option<HostFile<P::File>> {
         // Opening a pipe would wait for another process.
         match fs::metadata(self.rt, path) {
-            Ok(metadata) if !metadata.is_file() => None,
-            _ => self.open(path),
+            Ok(metadata) if metadata.is_file() => self.open(path),
+            Ok(_) => None,
+            Err(error) => {
+                let _ = eprintln!(self.rt; "cfi: {path}: {error}");
+                None
+            }
         }
     }
 

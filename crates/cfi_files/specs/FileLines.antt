@@ -14,7 +14,7 @@ use Rattle.cfi_programs.specs.declared.style.Format.TheVariants.{Text, Json}
 
 abbrev pub advice_on : ElfError → List ℕ
 advice_on Compressed = codes "; objcopy --decompress-debug-sections decompresses it"
-advice_on Core = codes "; cfi stack prints its stacks"
+advice_on Core = codes "; cfi stack reads core files"
 advice_on _ = []
 
 -- between the two; in JSON they are two members

@@ -80,7 +80,7 @@ fn advice_on(error: ElfError) -> &'static str
 {
     match error {
         ElfError::Compressed => "; objcopy --decompress-debug-sections decompresses it",
-        ElfError::Core => "; cfi stack prints its stacks",
+        ElfError::Core => "; cfi stack reads core files",
         _ => "",
     }
 }

@@ -3,8 +3,8 @@
 --     shown instruction      the name, one for all sizes of an operand; the registers, which come
 --         first; the other operand, if it is no expression
 --     instruction_line wording at instruction      its line, where it moves to this address
---     instructions_text wording factor size at readings      a line for each, and after the last one
---         the error with which they end, from this address on
+--     instructions_text wording factor size at readings      a line for each, and after the last
+--         one the error with which they end, from this address on
 use Rattle.std.specs.Prelude.{ℕ, ℤ, ◌*◌, ◌%◌, ◌^◌, List, [], ◌∷◌, ◌++◌, codes, Option, Some, None}
 use Rattle.std.specs.Prelude.{Bool, true, false, Result, Ok, Err, if◌then◌else◌}
 use Rattle.std.specs.Result.{result_ok}

@@ -1,6 +1,6 @@
 -- An expression in words: the name and the operand of each of its operations in order.
---     in_words names size section expression      an expression of the section, where an address has
---         this size
+--     in_words names size section expression      an expression of the section, where an address
+--         has this size
 --     hexadecimal_of section expression      its bytes
 use Rattle.std.specs.Prelude.{ℕ, zero, suc, ◌-◌, ◌/◌, ◌%◌, Bool, true, false, List, [], ◌∷◌, ◌++◌}
 use Rattle.std.specs.Prelude.{Option, Some, None, Result, Ok, Err, codes, flat_map, ◌==◌}

@@ -1,11 +1,11 @@
--- The operations of DWARF expressions as they are encoded (DWARF 5 sections 2.5.1, 2.6.1 and 7.7.1):
--- for each section a table, from the opcode to the name and the form of the operand. Operations with
--- a block, with another entry or with an offset in a section, none of which a call frame may have
--- (section 6.4.2) or means anything there, are in no table.
+-- The operations of DWARF expressions as they are encoded (DWARF 5 sections 2.5.1, 2.6.1 and
+-- 7.7.1): for each section a table, from the opcode to the name and the form of the operand.
+-- Operations with a block, a type, an entry or an offset of another section are in no table: call
+-- frames may not have them, or they mean nothing there (section 6.4.2).
 --     entry_of opcode      its name, and the form of its operand
 --     operation size      the read of an operation, where an address has this size
-use Rattle.std.specs.Prelude.{ℕ, ◌-◌, ℤ, List, [], ◌∷◌, ◌++◌, Option, Some, None, nat_lt, ◌==◌, codes}
-use Rattle.std.specs.Prelude.{if◌then◌else◌}
+use Rattle.std.specs.Prelude.{ℕ, ◌-◌, ℤ, List, [], ◌∷◌, ◌++◌, Option, Some, None, nat_lt, ◌==◌}
+use Rattle.std.specs.Prelude.{codes, if◌then◌else◌}
 use Rattle.std.specs.Fmt.{decimal}
 use Rattle.std.specs.Int.{w8, w16, w32, w64}
 use Rattle.cfi_read_core.specs.declared.common.Register.{Register}
@@ -37,8 +37,8 @@ abbrev pub found : ℕ → List (ℕ × Entry) → Entry → Entry
 found opcode [] other = other
 found opcode (row ∷ rows) other = if row.0 == opcode then row.1 else found opcode rows other
 
--- register values (section 2.5.1.2), objects and frames (section 2.5.1.3), the one that does nothing
--- (section 2.5.1.6), and what names a place (sections 2.6.1.1 and 2.6.1.2)
+-- register values (section 2.5.1.2), objects and frames (section 2.5.1.3), the one that does
+-- nothing (section 2.5.1.6), and what names a place (sections 2.6.1.1 and 2.6.1.2)
 abbrev pub others : List (ℕ × Entry)
 others =
     (0x90, made (codes "DW_OP_regx") form.Register)

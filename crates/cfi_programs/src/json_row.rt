@@ -3,8 +3,8 @@ ghost use Rattle.std.specs.Prelude.{◌≡◌, ◌≤◌, ◌++◌, [], ◌∷�
 ghost use Rattle.std.specs.FinMap as map;
 ghost use Rattle.cfi_programs.specs.JsonLines.{bytes_member, cfa_bytes, json_bytes, json_cfa};
 ghost use Rattle.cfi_programs.specs.JsonLines.{json_head, json_member, json_members, json_number};
-ghost use Rattle.cfi_programs.specs.JsonLines.{end_member, json_row, json_rule, json_rules, opening, separated};
-ghost use Rattle.cfi_programs.specs.JsonLines.{start_member};
+ghost use Rattle.cfi_programs.specs.JsonLines.{end_member, json_row, json_rule, json_rules};
+ghost use Rattle.cfi_programs.specs.JsonLines.{opening, separated, start_member};
 ghost use Rattle.cfi_programs.specs.RowLines.{expression_at};
 ghost use Rattle.cfi_object.specs.RegisterNames.{register_text};
 ghost use Rattle.cfi_programs.specs.ExpressionWords.{hexadecimal_of};

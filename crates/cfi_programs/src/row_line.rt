@@ -332,7 +332,8 @@ pub(crate) fn push_next<A: ArrayLike<Item = (Register, RegisterRule<usize>)>>(
     ensures kept { AreKept names kept.new }
     ensures pushed { IfOk result (λ pushed. pushed ≡ true → text.new.items ≡ text.old.items
         ++ (plain_line names (map_ok (λ row. row.now) answer.entry)).text) }
-    ensures plain { IfOk result (λ pushed. pushed ≡ true → IfOk answer.entry (λ row. IsPlain row.now)) }
+    ensures plain { IfOk result (λ pushed. pushed ≡ true →
+        IfOk answer.entry (λ row. IsPlain row.now)) }
     ensures left { IfOk result (λ pushed. pushed ≡ false → text.new.items ≡ text.old.items) }
 {
     let Ok(row) = answer else {

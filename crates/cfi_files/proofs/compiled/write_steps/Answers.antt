@@ -5,8 +5,11 @@ use Rattle.cfi_compiled.specs.TableSteps.{step_view, steps_left}
 use Rattle.cfi_files.specs.CompiledTexts.{step_text, steps_text}
 use Rattle.cfi_programs.specs.Wordings.{text_style, worded}
 use Rattle.cfi_files.proofs.CompiledWritten.{none_left, one_more}
-use Rattle.cfi_programs.proofs.WrittenLemmas.{IsGiven, beginning_then, given_all, given_then, writes_refused}
+use Rattle.cfi_programs.proofs.WrittenLemmas.{IsGiven, beginning_then, given_all, given_first, given_then, writes_refused}
 use Rattle.cfi_files.proofs.compiled.write_steps.Goals as goal
+
+pub loop-step-init : goal.loop-step-init
+loop-step-init g c = (tt, tt, rw (c.into_iter-step-iterator.ensures.into_iter_gives, c.iter-step-items.ensures.steps) (given_first _ _))
 
 pub loop-step-preserved : goal.loop-step-preserved
 loop-step-preserved g c =
